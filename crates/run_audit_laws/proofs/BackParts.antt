@@ -1,6 +1,7 @@
 -- What a piece of work in the background makes of a device beside its history: a half write is open behind it where it says so, and only there.
 use Rattle.std.proofs.Common.{◌≡◌, ℕ, zero, suc, Bool, true, false, List, [], ◌∷◌, Option, Some, None, refl, sym, ap, subst, ◌∙◌, if◌then◌else◌}
-use Rattle.std.specs.Prelude.{◌||◌, ◌&&◌, is_some}
+use Rattle.std.specs.Prelude.{◌||◌, is_some}
+use Rattle.std.proofs.lemmas.Bool.{and_parts}
 use Rattle.ckd_types.specs.declared.paths.Side.{Side}
 use Rattle.ckd_types.specs.declared.paths.Side.TheVariants.{A, B}
 use Rattle.ckd_types.specs.declared.record.Track.{Track}
@@ -49,7 +50,7 @@ use Rattle.device_defs.specs.Owed.{begun, hear, waiting_count}
 use Rattle.device_defs.specs.Store as store
 use Rattle.device_defs.specs.Store.{OfBackground, frame_at, is_lost, is_loose, level_at, owed_at, patch_at, plain_at, takes_b, tracks_of, with_frame, with_stale}
 use Rattle.device_defs.specs.Writing as W
-use Rattle.device_defs.specs.Writing.{firm_first, first_a, write_first}
+use Rattle.device_defs.specs.Writing.{firm_first, write_first}
 use Rattle.device_laws.proofs.Had.{Had, had_ask, had_done, had_if, had_read, had_tell, had_then, had_try, had_weaker, had_write}
 use Rattle.device_laws.proofs.PlainEvents.{had_both}
 use Rattle.device_laws.proofs.PlainLosses.{Worked, walks_first, work_on}
@@ -121,10 +122,6 @@ b_told s t fault down =
     (λ level. had_read (λ r. second_told (I.read_counted s (is_some r)) fault (λ fails. down level fails) r))
     (λ _. had_done (λ some fails. absurd (let none : false ≡ true = some in cc)))
 
-level_up : (up stale : Bool) → (up && stale) ≡ true → up ≡ true
-level_up true stale is = refl
-level_up false stale is = absurd (cc)
-
 first_told : (t : ℕ) (s : MarksStore) → IsAlone s → (r : Option Bool) → Had (first_read by_plain t s r) (λ z k. ToldDown z k)
 first_told t s alone (Some r) = had_done (λ some fails. absurd (let none : false ≡ true = fails in cc))
 first_told t s alone None = had_then failed (λ z _ v. b_told z t (Some A) v) where
@@ -132,7 +129,7 @@ first_told t s alone None = had_then failed (λ z _ v. b_told z t (Some A) v) wh
   failed =
       had_if s.paired
       (λ _. had_weaker (told_down (tracks_of s) (side_lost by_plain s A None) (lost_down s)) (λ z _ v level fails. v))
-      (λ single. had_done (λ level fails. absurd (let both : true ≡ false = sym (level_up s.b.up _ level) ∙ alone single in cc)))
+      (λ single. had_done (λ level fails. absurd (let both : true ≡ false = sym (and_parts s.b.up _ level).0 ∙ alone single in cc)))
 
 bytes_told : (s : MarksStore) (t : ℕ) → IsAlone s → Had (level_bytes by_plain s t) (λ z k. ToldDown z k)
 unfolding I.level_bytes

@@ -33,8 +33,7 @@ use Rattle.std.proofs.Common.{
   inr,
 }
 use Rattle.std.specs.Prelude.{◌||◌, ◌&&◌, ◌⊎◌, Ok, Err, nat_lt, option_map}
-use Rattle.std.proofs.lemmas.Bool.{eq-eqb, ne_eqb}
-use Rattle.std.proofs.lemmas.Bool.Decides.{nat_tests}
+use Rattle.std.proofs.lemmas.Bool.{eq-eqb, ne_eqb, lt-ltb, and_from}
 use Rattle.deck_plan.specs.declared.event.EventLine.{EventLine}
 use Rattle.deck_plan.specs.declared.event.EventLine.TheVariants as wanted
 use Rattle.loss_model.specs.declared.Loss.TheVariants as losses
@@ -87,7 +86,7 @@ use Rattle.run_audit_laws.proofs.Leading.{EventLeads, one_leads, then_some}
 use Rattle.run_audit_laws.proofs.LossDevices.{IsLoss, cache_acts, lost_acts, number_behind}
 use Rattle.run_audit_laws.proofs.Orders.{IsOrder, refused_leads}
 use Rattle.run_audit_laws.proofs.ResetDevices.{audited_by}
-use Rattle.run_audit_laws.proofs.Saying.{both, same_loose, same_number}
+use Rattle.run_audit_laws.proofs.Saying.{same_loose, same_number}
 use Rattle.run_audit_laws.proofs.Ties.{Tie, ties}
 
 -- What is told of a device
@@ -192,9 +191,6 @@ module _ (low : ℕ) (a : AuditedDevice) (least_is : low ≤ a.number) (rest : L
 
 -- The lines, one device after another
 
-above : (d n : ℕ) → d < n → nat_lt d n ≡ true
-above d n lt = grind (arith, nat_tests, lt)
-
 abbrev due_by : Option ℕ → Due
 due_by None = Next
 due_by (Some d) = Losses d
@@ -228,8 +224,8 @@ module _ (later : List EventLine) where
         let s = at (done ++ a ∷ rest) due in
         ap or_history (then_some (A.device_in (done ++ a ∷ rest) a.number) a (loss_made s (loss_line a)) (found_here low a le rest done b))
         ∙ ap (λ (c : Bool). or_history (if c then Some (act_made s a CfwLost (Losses a.number)) else None))
-        (both (A.has_loose a) (says (loss_line a) (loss_line a)) some
-        (both (a.number == a.number) _ (same_number a.number)
+        (and_from (A.has_loose a) (says (loss_line a) (loss_line a)) some
+        (and_from (a.number == a.number) _ (same_number a.number)
         (same_loose (let id = next_number (state_of a).number in loose.Lost (length (state_of a).loose) (id / 256 ∷ id % 256 ∷ [])))))
         ∙ ap (λ (l : List AuditedDevice). Ok (at l (Losses a.number)))
         (put_here low a le rest done (record a { history = acted a.history CfwLost }) refl b)
@@ -247,7 +243,7 @@ module _ (later : List EventLine) where
         (outline_here low a le rest done b)
         ∙ ap (λ (c : Bool). if (c && true) || false
         then or_history (order_made (at (done ++ a ∷ rest) (Losses d)) (loss_line a) wanted.FailCache) else Err Place)
-        (above d a.number (omega (arith, lt, le)))
+        (lt-ltb d a.number (omega (arith, lt, le)))
         ∙ made (Losses d)
 
   abbrev order_line : ReportLine

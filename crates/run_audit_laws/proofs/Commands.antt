@@ -24,6 +24,7 @@ use Rattle.std.proofs.Common.{
 }
 use Rattle.std.proofs.lemmas.List.{map-append}
 use Rattle.std.specs.Prelude.{◌&&◌}
+use Rattle.std.proofs.lemmas.Bool.{and_from}
 use Rattle.deck_plan.specs.declared.event.EventLine.{EventLine}
 use Rattle.ckd_types.specs.declared.channel.CommandEnd.{CommandEnd}
 use Rattle.ckd_types.specs.declared.sense.Sense.{Sense}
@@ -66,9 +67,10 @@ use Rattle.run_audit_laws.specs.Standing.{LeadsBy}
 use Rattle.run_audit_laws.specs.Steps.{IsCheckSense, NoLoss, Reaches, act_line, over_told, over_if, acted_to}
 use Rattle.run_audit_laws.proofs.EndLines.{IsTidy, check_lead, plain_lead}
 use Rattle.run_audit_laws.proofs.Leading.{leads_on, one_leads}
-use Rattle.run_audit_laws.proofs.Saying.{both, same_number}
+use Rattle.run_audit_laws.proofs.Saying.{same_number}
 use Rattle.run_audit_laws.proofs.Tidy.{end_is_tidy}
 use Rattle.run_audit_laws.proofs.Work.{at_work, end_of, hardens_lead, loosen_judged, tail_leads}
+use Rattle.device_laws.proofs.DeviceEnds.{all_acted-append}
 
 -- The plain device's end of a command
 
@@ -98,10 +100,6 @@ one_runs : (o : OpenEntry) (h : History) (act : Act) → StillRuns o h → Still
 one_runs o h act s =
     subst (λ (r : Option OpenEntry). StillRuns o (acted_in h act r)) (sym s.running)
     (record { entry = _; running = refl; path = s.path; ordinal = s.ordinal })
-
-one_act_more : (h : History) (acts : List Act) (act : Act) → all_acted h (acts ++ act ∷ []) ≡ acted (all_acted h acts) act
-one_act_more h [] act = refl
-one_act_more h (x ∷ acts) act = one_act_more (acted h x) acts act
 
 pub still_runs : (o : OpenEntry) (acts : List Act) (h : History) → StillRuns o h → StillRuns o (all_acted h acts)
 still_runs o [] h s = s
@@ -194,8 +192,8 @@ module _ (xs : List AuditedDevice) (w : EventLine) (later : List EventLine) (a :
 
     same_place : ((o.path == o.path) && (a.number == a.number) && (o.ordinal == o.ordinal)) ≡ true
     same_place =
-        both ((o.path == o.path) && (a.number == a.number)) (o.ordinal == o.ordinal)
-        (both (o.path == o.path) (a.number == a.number) (same_number o.path) (same_number a.number)) (same_number o.ordinal)
+        and_from ((o.path == o.path) && (a.number == a.number)) (o.ordinal == o.ordinal)
+        (and_from (o.path == o.path) (a.number == a.number) (same_number o.path) (same_number a.number)) (same_number o.ordinal)
 
     not_of_work : (ended : HowOver) → is_of_work true (worker_of w) (over_told a o ended) ≡ false
     not_of_work ended = ap (λ (k : Option ℕ). is_of_work true k (over_told a o ended)) is_work
@@ -204,13 +202,13 @@ module _ (xs : List AuditedDevice) (w : EventLine) (later : List EventLine) (a :
     full_wanted line is =
         let same : over_told a o how.Full ≡ line = cc in
         subst (λ (l : ReportLine). ((is_over l l ≡ true) × (says l l ≡ true)) × (is_of_work true (worker_of w) l ≡ false)) same
-        ((same_place, both ((o.path == o.path) && (a.number == a.number) && (o.ordinal == o.ordinal)) true same_place refl), not_of_work how.Full)
+        ((same_place, and_from ((o.path == o.path) && (a.number == a.number) && (o.ordinal == o.ordinal)) true same_place refl), not_of_work how.Full)
 
     checked_wanted : Wanted (Some (over_told a o how.Checked))
     checked_wanted line is =
         let same : over_told a o how.Checked ≡ line = cc in
         subst (λ (l : ReportLine). ((is_over l l ≡ true) × (says l l ≡ true)) × (is_of_work true (worker_of w) l ≡ false)) same
-        ((same_place, both ((o.path == o.path) && (a.number == a.number) && (o.ordinal == o.ordinal)) true same_place refl), not_of_work how.Checked)
+        ((same_place, and_from ((o.path == o.path) && (a.number == a.number) && (o.ordinal == o.ordinal)) true same_place refl), not_of_work how.Checked)
 
     if_wanted : (over : Bool) → Wanted (over_if over (over_told a o how.Full))
     if_wanted true = full_wanted
@@ -270,7 +268,7 @@ module _ (xs : List AuditedDevice) (w : EventLine) (later : List EventLine) (a :
         (append_assoc (ended_lines o.path a.number o.ordinal p) act_lines (act_line a.number (Loosen t) ∷ []))
         (subst (λ (h : History). LeadsBy from ((ended_lines o.path a.number o.ordinal p ++ act_lines) ++ act_line a.number (Loosen t) ∷ [])
         (at_work xs w later a.number is_work a has (record a { history = h; half = Closed }) (Behind false (Ended p))))
-        (sym (one_act_more a.history acts (Loosen t)))
+        (sym (all_acted-append a.history acts (Loosen t)))
         (leads_on from s (at_work xs w later a.number is_work a has (record a { history = acted (all_acted a.history acts) (Loosen t); half = Closed })
         (Behind false (Ended p))) (ended_lines o.path a.number o.ordinal p ++ act_lines) (act_line a.number (Loosen t) ∷ []) plain_acts_lead
         (one_leads s (at_work xs w later a.number is_work a has (record a { history = acted (all_acted a.history acts) (Loosen t); half = Closed })
@@ -284,7 +282,7 @@ module _ (xs : List AuditedDevice) (w : EventLine) (later : List EventLine) (a :
     loose_wanted true line is =
         let same : over_told a o how.Full ≡ line = cc in
         subst (λ (l : ReportLine). ((is_over l l ≡ true) × (says l l ≡ true)) × (is_of_work false (worker_of w) l ≡ false)) same
-        ((same_place, both ((o.path == o.path) && (a.number == a.number) && (o.ordinal == o.ordinal)) true same_place refl), loose_not_of_work how.Full)
+        ((same_place, and_from ((o.path == o.path) && (a.number == a.number) && (o.ordinal == o.ordinal)) true same_place refl), loose_not_of_work how.Full)
     loose_wanted false line is = absurd (let none_is : None ≡ Some line = is in cc)
 
     loose_over : (t : ℕ) → over_by (acted_to a (acts ++ Loosen t ∷ [])) (Ended p) (all_acted a.history (acts ++ Loosen t ∷ [])).running

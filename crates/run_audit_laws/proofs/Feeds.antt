@@ -288,11 +288,6 @@ unfolding text_of
 text_whole line h =
     let w = whole line h in both_whole (keyword_text (key_of line)) (all_spaced (words_of line)) w.first (spaced_whole (words_of line) w.others)
 
--- lines without one
-pub not_feed : (b : Bool) → not b ≡ true → b ≡ false
-not_feed true h = absurd (cc)
-not_feed false h = refl
-
 abbrev pub AreWhole : List (List ℕ) → Type 0
 AreWhole [] = Unit {0}
 AreWhole (x ∷ xs) = (is_whole x ≡ true) × AreWhole xs

@@ -36,37 +36,7 @@ use Rattle.track_image.specs.Image.{Image}
 use Rattle.device_outside.specs.Interaction.{Interaction, Done, and_then}
 use Rattle.device_outside.specs.Keeper.{reply}
 use Rattle.device_outside.specs.Pool as O
-use Rattle.device_outside.specs.Pool.{
-  AnswerTo,
-  Call,
-  DropFrame,
-  Frame,
-  FreeSlot,
-  NextNotice,
-  Pool,
-  SetClean,
-  SetModified,
-  TellWaiting,
-  Touch,
-  WantFrame,
-  WantSlot,
-  after,
-  all_waiting,
-  answer,
-  cache_failed,
-  cache_repaired,
-  evicted,
-  frames_wanted,
-  grants,
-  in_front,
-  is_listed,
-  is_of,
-  less_frame,
-  power_lost,
-  store_failed,
-  store_repaired,
-  without,
-}
+use Rattle.device_outside.specs.Pool.{AnswerTo, Call, DropFrame, Frame, FreeSlot, NextNotice, Pool, SetClean, SetModified, TellWaiting, Touch, WantFrame, WantSlot, after, all_waiting, answer, evicted, frames_wanted, grants, in_front, is_listed, is_of, less_frame, without}
 use Rattle.device_outside.specs.Told as Heard
 use Rattle.device_outside.specs.Told.{Calls, Told, calls_of, hold, read_counted, read_fails, write_counted, write_fails}
 use Rattle.device_defs.specs.Command.{command}

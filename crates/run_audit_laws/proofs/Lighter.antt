@@ -2,6 +2,7 @@
 use Rattle.std.proofs.Common.{◌≡◌, ◌≢◌, ◌<◌, ◌≤◌, ◌+◌, ◌*◌, ◌==◌, ℕ, zero, suc, Bool, true, false, List, [], ◌∷◌, Option, Some, None, is_some, length, get_or, set, refl, sym, ap, subst, ◌∙◌, arith, eqb-true}
 use Rattle.std.proofs.lemmas.List.{get_or-set_other}
 use Rattle.std.specs.Prelude.{◌&&◌, ◌||◌, if◌then◌else◌, not}
+use Rattle.std.proofs.lemmas.Bool.{or_left, or_right, and_right}
 use Rattle.ckd_types.specs.declared.paths.Side.{Side}
 use Rattle.ckd_types.specs.declared.paths.Side.TheVariants.{A, B}
 use Rattle.track_image.specs.Image.{Image}
@@ -14,19 +15,20 @@ use Rattle.device_defs.specs.Background.{copied, copies_to, copy_by, copy_read, 
 use Rattle.device_defs.specs.Contents.{by_plain}
 use Rattle.device_defs.specs.Effects.{hardened}
 use Rattle.device_defs.specs.Image as I
-use Rattle.device_defs.specs.Image.{Got, filled, first_read, level_bytes, read_b, second_read}
+use Rattle.device_defs.specs.Image.{Got, first_read, level_bytes, read_b, second_read}
 use Rattle.device_defs.specs.Losses.{call_failed, slot_in, stale_everywhere}
 use Rattle.device_defs.specs.Marks.{MarksStore}
 use Rattle.device_defs.specs.Store as store
-use Rattle.device_defs.specs.Store.{OfBackground, frame_at, half_is, is_lost, is_loose, level_at, patch_at, some_up, stale_at, takes_b, tracks_of, with_frame, with_loose, with_patch, with_stale}
+use Rattle.device_defs.specs.Store.{OfBackground, frame_at, half_is, is_lost, is_loose, level_at, patch_at, stale_at, takes_b, tracks_of, with_frame, with_patch, with_stale}
 use Rattle.device_defs.specs.Writing as W
-use Rattle.device_defs.specs.Writing.{alone_b, cleaned, firm_first, first_a, half_opened, opened, slot_freed, taken_a, taken_b, write_done, write_first}
+use Rattle.device_defs.specs.Writing.{alone_b, cleaned, firm_first, first_a, opened, slot_freed, taken_a, taken_b, write_done, write_first}
 use Rattle.device_laws.proofs.FramesKept.{none_at}
 use Rattle.device_laws.proofs.Had.{Had, had_ask, had_done, had_if, had_read, had_tell, had_then, had_try, had_weaker, had_write}
 use Rattle.device_laws.proofs.KeptEvents.{always_any}
 use Rattle.device_laws.proofs.PlainEvents.{had_always}
 use Rattle.subsystem_defs.specs.Lines.{stops}
 use Rattle.run_audit_laws.proofs.Weights.{copies, due_by, left, modified_by, one, sides, spot_at, sum, sum_least, sum_less, weight, weight_at, whole_weight, works}
+use Rattle.device_laws.proofs.Unlost.{clear}
 
 -- Less is left
 
@@ -157,11 +159,6 @@ near_taken s t =
     let z = with_stale s A t false in
     near_if s (with_stale z B t true) z t s.b.up (near_on s z (with_stale z B t true) t (near_stale_a s t false) (near_stale_b z t true)) (near_stale_a s t false)
 
-pub false_at : (l : List Bool) (t : ℕ) → get_or (set l t false) t false ≡ false
-false_at [] t = refl
-false_at (x ∷ l) zero = refl
-false_at (x ∷ l) (suc t) = false_at l t
-
 pub some_at : (l : List (Option Bool)) (t : ℕ) (x : Bool) → is_some (get_or l t None) ≡ true → get_or (set l t (Some x)) t None ≡ Some x
 some_at [] t x e = absurd (cc)
 some_at (y ∷ l) zero x e = refl
@@ -207,7 +204,7 @@ firm_so s t =
     had_if (is_loose s t)
     (λ _. had_tell (had_done (
       near_on s (hardened s t) (stale_everywhere (hardened s t) t) t (near_firm s t) (near_everywhere (hardened s t) t),
-      ap (λ (l : List Bool). get_or l t false) (everywhere_loose (hardened s t) t) ∙ false_at s.loose t,
+      ap (λ (l : List Bool). get_or l t false) (everywhere_loose (hardened s t) t) ∙ clear s.loose t,
     )))
     (λ e. had_done (near_self s t, e))
 
@@ -237,17 +234,13 @@ taken_if s y z t false f g = g
 
 taken_level : (s : MarksStore) (t : ℕ) → stale_at (taken_a s t).a t ≡ false
 taken_level s t =
-    let z = with_stale s A t false in taken_if s (with_stale z B t true) z t s.b.up (false_at s.a.stale t) (false_at s.a.stale t)
+    let z = with_stale s A t false in taken_if s (with_stale z B t true) z t s.b.up (clear s.a.stale t) (clear s.a.stale t)
 
 taken_loose : (s : MarksStore) (t : ℕ) → (taken_a s t).loose ≡ s.loose
 taken_loose s t = by_up s.b.up where
   by_up : (b : Bool) → (if b then with_stale (with_stale s A t false) B t true else with_stale s A t false).loose ≡ s.loose
   by_up true = refl
   by_up false = refl
-
-off_right : (b c : Bool) → c ≡ false → (b && c) ≡ false
-off_right true c e = e
-off_right false c e = refl
 
 some_sides : (a k : Bool) → a ≡ true → 1 ≤ one a + one k
 some_sides true k e = omega arith
@@ -268,7 +261,7 @@ takes_same s z t n = ap (λ (x : Bool). x && not z.held) n.b ∙ ap (λ (x : Boo
 took_by : (s : MarksStore) (t : ℕ) (b : Bool) → takes_b s ≡ b → s.a.up ≡ true → Takes s t (taken_a s t) (W.wrote (if b then Opened else Whole) None)
 took_by s t true is up = record {
   near = near_taken s t;
-  level = off_right (taken_a s t).a.up (stale_at (taken_a s t).a t) (taken_level s t);
+  level = and_right (taken_a s t).a.up (stale_at (taken_a s t).a t) (taken_level s t);
   both = both_sides s.a.up (takes_b s) up is;
 }
 took_by s t false is up =
@@ -330,7 +323,7 @@ alone_so s t down is true =
         others = (near_stale_b s t false).others;
       };
       none = no_copies_b z.a.up (stale_at z.a t) (z.b.up && not (stale_at z.b t)) (takes_b z) (stale_at z.b t) (z.a.up && not (stale_at z.a t)) down
-          (false_at s.b.stale t);
+          (clear s.b.stale t);
       some = some_sides_b s.a.up (takes_b s) is;
       loose = refl;
     })
@@ -657,14 +650,6 @@ copied_b false stale true false true e = absurd (cc)
 copied_b false stale true false false e = absurd (cc)
 copied_b false stale false b_stale held e = absurd (cc)
 
-pub or_on : (x y : Bool) → x ≡ true → (x || y) ≡ true
-or_on true y e = refl
-or_on false y e = absurd (cc)
-
-pub or_on_right : (x y : Bool) → y ≡ true → (x || y) ≡ true
-or_on_right true y e = refl
-or_on_right false y e = e
-
 -- the track is as it was but for its copy
 copy_lower : (s z : MarksStore) (t : ℕ) → s.half ≡ None → t < tracks_of s → Near s z t → works (spot_at z t) ≡ works (spot_at s t) → copies (spot_at s t) ≡ true →
     copies (spot_at z t) ≡ false → Lower s z
@@ -687,13 +672,13 @@ IsCopied s t B = (takes_b s && stale_at s.b t && level_at s.a t) ≡ true
 copied_lower : (s : MarksStore) (t : ℕ) (side : Side) → s.half ≡ None → t < tracks_of s → IsCopied s t side → Lower s (with_stale s side t false)
 copied_lower s t A whole lt is =
     let z = with_stale s A t false in
-    copy_lower s z t whole lt (near_stale_a s t false) refl (or_on (s.a.up && stale_at s.a t && level_at s.b t) _ is)
-    (ap (λ (b : Bool). copies (record (spot_at z t) { a_stale = b })) (false_at s.a.stale t)
+    copy_lower s z t whole lt (near_stale_a s t false) refl (or_left (s.a.up && stale_at s.a t && level_at s.b t) _ is)
+    (ap (λ (b : Bool). copies (record (spot_at z t) { a_stale = b })) (clear s.a.stale t)
     ∙ copied_a s.a.up (stale_at s.a t) s.b.up (stale_at s.b t) s.held is)
 copied_lower s t B whole lt is =
     let z = with_stale s B t false in
-    copy_lower s z t whole lt (near_stale_b s t false) refl (or_on_right _ (takes_b s && stale_at s.b t && level_at s.a t) is)
-    (ap (λ (b : Bool). copies (record (spot_at z t) { b_stale = b })) (false_at s.b.stale t)
+    copy_lower s z t whole lt (near_stale_b s t false) refl (or_right _ (takes_b s && stale_at s.b t && level_at s.a t) is)
+    (ap (λ (b : Bool). copies (record (spot_at z t) { b_stale = b })) (clear s.b.stale t)
     ∙ copied_b s.a.up (stale_at s.a t) s.b.up (stale_at s.b t) s.held is)
 
 lower_to : (s z y : MarksStore) → Same z y → Lower s z → Lower s y

@@ -35,7 +35,7 @@ use Rattle.subsystem_defs.specs.declared.event.Event.TheVariants as events
 use Rattle.subsystem_defs.specs.Deeds as E
 use Rattle.subsystem_defs.specs.Deeds.{Becomes, Ends, Repairs, device_in, on_device, order, repair}
 use Rattle.subsystem_defs.specs.Happening as H
-use Rattle.subsystem_defs.specs.Happening.{Happened as Happening, MarksDeed, becomes, happens, happens_by, quietly, replaced, replaced_at, replaced_by}
+use Rattle.subsystem_defs.specs.Happening.{MarksDeed, becomes, happens, happens_by, quietly, replaced, replaced_at, replaced_by}
 use Rattle.subsystem_defs.specs.Lines.{Asked, Once, Replace}
 use Rattle.subsystem_defs.specs.Refusals.{replace_fault, resume_fault, suspend_fault}
 use Rattle.subsystem_defs.specs.Subsystem.{Mounted, Subsystem, devices_of, mounted_in, unfailing, with_calls, with_mounted}

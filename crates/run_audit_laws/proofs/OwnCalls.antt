@@ -15,26 +15,11 @@ use Rattle.device_defs.specs.declared.usage.Usage.{Usage}
 use Rattle.device_defs.specs.Choosing as G
 use Rattle.device_defs.specs.Choosing.{slot_by, fast_by, may_be_fast, fast_or_through, choose_loose, choose_firm, choose}
 use Rattle.device_defs.specs.Image as I
-use Rattle.device_defs.specs.Image.{Got, Imaged, Has, ahead, delivered, filled, is_sequential, loaded, loads, missed, queued}
+use Rattle.device_defs.specs.Image.{Got, Has, ahead, delivered, filled, is_sequential, loaded, loads, missed, queued}
 use Rattle.device_defs.specs.Losses.{slot_in}
 use Rattle.device_defs.specs.Memory.{and_had, had_by, tried}
 use Rattle.device_defs.specs.Owed as O
-use Rattle.device_defs.specs.Owed.{
-  is_clean,
-  is_modified,
-  heard,
-  hear,
-  modified_told,
-  dropped_told,
-  freed_told,
-  settles_debt,
-  is_owed,
-  track_told,
-  all_told,
-  waiting_count,
-  waiting_told,
-  ended,
-}
+use Rattle.device_defs.specs.Owed.{is_clean, is_modified, heard, hear, dropped_told, freed_told, settles_debt, is_owed, track_told, all_told, waiting_count, waiting_told, ended}
 use Rattle.device_defs.specs.Store.{Store, no_debt, tracks_of, frame_at, patch_at, is_loose, owed_at, with_frame, with_owed}
 use Rattle.device_laws.proofs.Always as W
 use Rattle.device_laws.proofs.Always.{Always, Behind, always_ask, always_done, always_weaker}

@@ -47,60 +47,16 @@ use Rattle.device_defs.specs.Choosing.{provisionally_written}
 use Rattle.device_defs.specs.Contents.{Contents}
 use Rattle.device_defs.specs.Cutting.{origin_cut, half_cut}
 use Rattle.device_defs.specs.Editing as E
-use Rattle.device_defs.specs.Editing.{
-  another_loose,
-  effect,
-  whole,
-  at_once,
-  through_by,
-  through,
-  write_by,
-  written,
-  is_given,
-  clean_again,
-  unchosen,
-  write_chosen,
-  write,
-}
+use Rattle.device_defs.specs.Editing.{another_loose, whole, at_once, through_by, through, write_by, written, is_given, clean_again, unchosen, write_chosen, write}
 use Rattle.device_defs.specs.Effects.{hardened, loosened}
 use Rattle.device_defs.specs.Events.{with_loss, lost_by, losing}
 use Rattle.device_defs.specs.Image as I
-use Rattle.device_defs.specs.Image.{
-  Got,
-  Imaged,
-  first_fault,
-  read_side,
-  second_read,
-  read_b,
-  first_read,
-  level_bytes,
-  image_of,
-  is_sequential,
-  queued,
-  ahead,
-  filled,
-  missed,
-  miss,
-  hit,
-  clean_image,
-  image_by,
-  image,
-}
+use Rattle.device_defs.specs.Image.{Got, second_read, read_b, first_read, level_bytes, image_of, missed, miss, hit, clean_image, image_by, image}
 use Rattle.device_defs.specs.Losses as L
-use Rattle.device_defs.specs.Losses.{settled, stale_everywhere, framed_image, firm_told, all_firm_told, side_lost, call_failed, without_patch}
+use Rattle.device_defs.specs.Losses.{settled, framed_image, firm_told, all_firm_told, side_lost, call_failed}
 use Rattle.device_defs.specs.Owed.{is_clean}
 use Rattle.device_defs.specs.Second as D
-use Rattle.device_defs.specs.Second.{
-  half_image_of,
-  closed,
-  finished,
-  second_done,
-  cut_kept,
-  left_by,
-  second_absent,
-  second_by,
-  second_part,
-}
+use Rattle.device_defs.specs.Second.{half_image_of, closed, finished, second_done, cut_kept, left_by, second_by, second_part}
 use Rattle.device_defs.specs.Store.{
   Origin,
   OfCommand,
@@ -119,24 +75,7 @@ use Rattle.device_defs.specs.Store.{
   with_stale,
 }
 use Rattle.device_defs.specs.Writing as V
-use Rattle.device_defs.specs.Writing.{
-  wrote,
-  write_counted,
-  taken_a,
-  taken_b,
-  write_side,
-  firm_first,
-  unwritten,
-  alone_b,
-  failed_a,
-  first_a,
-  write_first,
-  tried_b,
-  write_second,
-  done_by,
-  write_done,
-  opened,
-}
+use Rattle.device_defs.specs.Writing.{write_counted, taken_a, firm_first, unwritten, alone_b, failed_a, first_a, write_first, tried_b, write_second, opened}
 use Rattle.deck_text.proofs.DeckAgain.{Each}
 use Rattle.device_laws.proofs.Based.{Base, cache_base, settled_base, side_base, stale_base, store_base, unpatched_base}
 use Rattle.run_audit_laws.proofs.OwnCalls.{

@@ -1,6 +1,7 @@
 -- The lines of a piece of work on a device of a run lead the audit from that device before it to that device behind it.
 use Rattle.std.proofs.Common.{◌≡◌, ◌<◌, ◌==◌, ◌++◌, ℕ, Bool, true, false, List, ◌∷◌, map, length, Option, Some, None, refl, sym, ap, subst, ◌∙◌, arith}
 use Rattle.std.specs.Prelude.{◌&&◌, not, option_map, IsSome}
+use Rattle.std.proofs.lemmas.Bool.{and_from}
 use Rattle.ckd_types.specs.declared.channel.CommandEnd.{CommandEnd}
 use Rattle.ckd_types.specs.Fixed.{Fixed}
 use Rattle.ckd_types.specs.Sense.{equipment_sense}
@@ -66,7 +67,7 @@ use Rattle.run_audit_laws.proofs.Enough.{end_is_other, part_fixed}
 use Rattle.run_audit_laws.proofs.Lossless.{none_lost}
 use Rattle.run_audit_laws.proofs.PieceLines.{acted_tells, checked_tells, ended_tells, lines_are}
 use Rattle.run_audit_laws.proofs.ResetDevices.{HasParts, audited_by}
-use Rattle.run_audit_laws.proofs.Saying.{both, same_number}
+use Rattle.run_audit_laws.proofs.Saying.{same_number}
 use Rattle.run_audit_laws.proofs.StepParts.{IsLeft, IsSecond, command_left, second_left}
 use Rattle.run_audit_laws.proofs.WorkEnds.{IsWork, MayEnd, MayTell, back_seconds, back_tells, behind_piece, checks_lead, ends_lead, halves_lead, of_back, of_run, of_settle, of_step, run_seconds, seconds_by, settle_seconds, settle_tells, step_seconds, tells_lead}
 
@@ -311,7 +312,7 @@ module _ (num : ℕ) (empty : PlainState) (x : MarksDevice) (f : Follows num emp
   }
 
   second_line : (t : ℕ) → ((x.store.device == x.store.device) && true) ≡ true
-  second_line t = both (x.store.device == x.store.device) true (same_number x.store.device) refl
+  second_line t = and_from (x.store.device == x.store.device) true (same_number x.store.device) refl
 
   second_comes : (h : store.HalfWrite (Unit {0})) → x.store.half ≡ Some h → (origin : Origin) → h.origin ≡ origin →
       (w : EventLine) (idle : Happened) → IsWork x.store.device w → (y : MarksDevice) (answer : SecondEnd) →
@@ -355,7 +356,7 @@ may_tell xs later a has w answer by_back so = back_tells so
 may_tell xs later a has w answer by_settle so = settle_tells so
 
 back_line : (n : ℕ) (d : BackDid) → is_back_line n (lines.Back n (back_answer d)) ≡ true
-back_line n d = both (n == n) (not (is_second (back_answer d))) (same_number n) (by_did d) where
+back_line n d = and_from (n == n) (not (is_second (back_answer d))) (same_number n) (by_did d) where
   by_did : (d : BackDid) → not (is_second (back_answer d)) ≡ true
   by_did dids.Nothing = refl
   by_did (dids.Recovered t) = refl

@@ -44,7 +44,7 @@ use Rattle.plain_defs.specs.PlainState.{PlainState}
 use Rattle.plain_defs.proofs.JournalLaws.{replay-append}
 use Rattle.device_defs.specs.Cutting.{counts_one_by, is_of_command}
 use Rattle.device_defs.specs.Marks.{MarksDevice}
-use Rattle.device_defs.specs.Store.{has_loose, is_loose}
+use Rattle.device_defs.specs.Store.{has_loose}
 use Rattle.device_defs.specs.Store as store
 use Rattle.device_laws.proofs.HistoryCuts.{MayTake, cut_entry, taken_state}
 use Rattle.device_laws.proofs.HistoryEnds.{running_is_open}

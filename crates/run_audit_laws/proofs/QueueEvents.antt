@@ -8,16 +8,16 @@ use Rattle.device_defs.specs.declared.answers.Did.{Did}
 use Rattle.device_defs.specs.declared.answers.Took.{Took}
 use Rattle.device_defs.specs.declared.answers.Took.TheVariants.{Opened, Unwritten, Whole}
 use Rattle.device_defs.specs.Background as G
-use Rattle.device_defs.specs.Background.{copied, copies_to, copy_by, copy_first, copy_read, destage_first, did, granted, other, recover, recover_first, recovered_bytes, recovered_image, saved, saved_by, stage, stage_first, staged_bytes, to_copy, to_destage, to_recover, work}
+use Rattle.device_defs.specs.Background.{copied, copies_to, copy_by, copy_first, copy_read, destage_first, other, recover, recover_first, recovered_bytes, saved, saved_by, stage, stage_first, staged_bytes, to_copy, to_destage, to_recover, work}
 use Rattle.device_defs.specs.Contents.{by_plain}
 use Rattle.device_defs.specs.Image as I
 use Rattle.device_defs.specs.Image.{Got}
 use Rattle.device_defs.specs.Losses.{settled}
 use Rattle.device_defs.specs.Marks.{MarksStore}
 use Rattle.device_defs.specs.Second as D
-use Rattle.device_defs.specs.Second.{closed, finished, half_image_of, left_by, second_by, second_done, second_part}
+use Rattle.device_defs.specs.Second.{closed, finished, half_image_of, left_by, second_done, second_part}
 use Rattle.device_defs.specs.Store as store
-use Rattle.device_defs.specs.Store.{HalfWrite, OfBackground, OfCommand, OfCut, Origin, frame_at, has_level, is_lost, takes_b, with_stale}
+use Rattle.device_defs.specs.Store.{HalfWrite, OfBackground, OfCommand, OfCut, Origin, frame_at, has_level, is_lost}
 use Rattle.device_defs.specs.Writing as W
 use Rattle.device_laws.proofs.Always.{always_ask, always_done, always_read, always_tell, always_then, always_try, always_write}
 use Rattle.device_laws.proofs.KeptEvents.{always_if}

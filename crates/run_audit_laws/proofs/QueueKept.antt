@@ -12,7 +12,7 @@ use Rattle.device_defs.specs.Device.{event_begun, quiet_event, with_store}
 use Rattle.device_defs.specs.Cutting as C
 use Rattle.device_defs.specs.Cutting.{half_cut, half_lost, loose_gone, origin_cut, power, powered_off, powerless, reset, reset_by}
 use Rattle.device_defs.specs.Orders as R
-use Rattle.device_defs.specs.Orders.{hold, join, lend, lent_to, replace, restore, resume, split, with_tracks}
+use Rattle.device_defs.specs.Orders.{lend, lent_to, replace, with_tracks}
 use Rattle.device_defs.specs.Start as S
 use Rattle.device_defs.specs.Start.{start}
 use Rattle.device_defs.specs.Owed.{waiting_count}

@@ -9,7 +9,7 @@ use Rattle.device_outside.specs.Interaction.{Interaction, Done, and_then}
 use Rattle.device_defs.specs.declared.usage.Usage.{Usage}
 use Rattle.device_defs.specs.Command as M
 use Rattle.ckd_chain.specs.Steps.{need_of}
-use Rattle.device_defs.specs.Command.{Went, Over, On, answered_by, came_of_write, came_out, command, command_at, command_by, follow, goes_on, look, looked, on_paths, on_tracks, went_by, went_on}
+use Rattle.device_defs.specs.Command.{Went, Over, On, answered_by, came_out, command, command_at, command_by, follow, goes_on, look, looked, on_tracks, went_by}
 use Rattle.device_defs.specs.Outcomes.{Turn, checks, ends_with, settles}
 use Rattle.device_defs.specs.Background.{work}
 use Rattle.plain_device.specs.Acted.{settled_act, paths_behind}

@@ -16,17 +16,17 @@ use Rattle.device_defs.specs.declared.usage.Usage.{Usage}
 use Rattle.device_defs.specs.Choosing.{provisionally_written}
 use Rattle.device_defs.specs.Contents.{by_plain}
 use Rattle.device_defs.specs.Editing as X
-use Rattle.device_defs.specs.Editing.{at_once, clean_again, is_given, through, through_by, unchosen, whole, write, write_by, write_chosen, written}
+use Rattle.device_defs.specs.Editing.{at_once, clean_again, through, through_by, unchosen, whole, write, write_by, write_chosen, written}
 use Rattle.device_defs.specs.Effects.{hardened, loosened}
 use Rattle.device_defs.specs.Image as I
-use Rattle.device_defs.specs.Image.{Got, Imaged, ahead, clean_image, first_read, image, image_by, is_sequential, level_bytes, miss, queued, read_b, second_read}
+use Rattle.device_defs.specs.Image.{ahead, first_read, image, image_by, is_sequential, level_bytes, miss, queued, read_b, second_read}
 use Rattle.device_defs.specs.Losses as L
 use Rattle.device_defs.specs.Losses.{all_firm_told, call_failed, down, over, settled, settled_but, side_lost, stale_everywhere}
 use Rattle.device_defs.specs.Marks.{MarksStore}
 use Rattle.device_defs.specs.Store as store
 use Rattle.device_defs.specs.Store.{Origin, has_level, is_loose, level_at, owed_at, takes_b, tracks_of, with_frame, with_stale}
 use Rattle.device_defs.specs.Writing as W
-use Rattle.device_defs.specs.Writing.{alone_b, failed_a, first_a, firm_first, opened, taken_a, tried_b, unwritten, write_done, write_first, write_second}
+use Rattle.device_defs.specs.Writing.{alone_b, first_a, firm_first, opened, taken_a, tried_b, unwritten, write_done, write_first, write_second}
 use Rattle.device_laws.proofs.Always.{Always, always_ask, always_done, always_read, always_tell, always_then, always_try, always_write}
 use Rattle.device_laws.proofs.KeptEvents.{always_if}
 use Rattle.device_laws.proofs.PoolWalks.{asks_always, choose_asks, done_asks, missed_asks}

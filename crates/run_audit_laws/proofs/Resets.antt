@@ -28,7 +28,7 @@ use Rattle.std.proofs.Common.{
   inr,
 }
 use Rattle.std.specs.Prelude.{◌||◌, ◌&&◌, ◌⊎◌, IfSome, Ok, Err}
-use Rattle.std.proofs.lemmas.Bool.{eqb-true, eq-eqb, ne_eqb}
+use Rattle.std.proofs.lemmas.Bool.{eqb-true, eq-eqb, ne_eqb, and_from}
 use Rattle.ckd_types.specs.Parameters.{is_provisional}
 use Rattle.deck_plan.specs.declared.event.EventLine.{EventLine}
 use Rattle.deck_plan.specs.declared.event.EventLine.TheVariants as wanted
@@ -80,7 +80,7 @@ use Rattle.subsystem_defs.specs.Beside.{acts_in, acts_running, has_power, new_it
 use Rattle.subsystem_defs.specs.Deeds as E
 use Rattle.subsystem_defs.specs.Deeds.{Asks, device_in, ends_by, ends_done, on_device}
 use Rattle.subsystem_defs.specs.Happening as H
-use Rattle.subsystem_defs.specs.Happening.{Happened, asks, behind_outcome, happens, happens_by, held_with, mounted_behind, told_to}
+use Rattle.subsystem_defs.specs.Happening.{Happened, asks, happens, happens_by, held_with, mounted_behind, told_to}
 use Rattle.subsystem_defs.specs.Lines.{Once}
 use Rattle.subsystem_defs.specs.Subsystem.{Mounted, Subsystem, devices_of, mounted_in, with_mounted}
 use Rattle.subsystem_laws.proofs.FoundDevices.{number_found}
@@ -91,7 +91,7 @@ use Rattle.run_audit_laws.proofs.Found.{found_one, mounted_too, outline_one, put
 use Rattle.run_audit_laws.proofs.Leading.{EventLeads, first_judged, one_leads, then_some}
 use Rattle.run_audit_laws.proofs.Quiet.{cut_acts, cut_items, no_power, none_loose, reset_acts}
 use Rattle.run_audit_laws.proofs.ResetDevices.{HasParts, audited_by, reset_half, reset_parts}
-use Rattle.run_audit_laws.proofs.Saying.{both, same_number}
+use Rattle.run_audit_laws.proofs.Saying.{same_number}
 
 -- What a command may edit, as the audit tests it
 
@@ -199,7 +199,7 @@ module _ (s : Subsystem) (plain : ArePlain s.mounted) (path n : ℕ) (x : MarksD
       (then_some _ (audited x) (reset_made from line path) (found_one (devices_of s) n x at) ∙ makes)
 
   is_reset_line : ((path == path) && (n == n)) ≡ true
-  is_reset_line = both (path == path) (n == n) (same_number path) (same_number n)
+  is_reset_line = and_from (path == path) (n == n) (same_number path) (same_number n)
 
   -- The reset of another path, or while nothing runs
 
@@ -283,7 +283,7 @@ module _ (s : Subsystem) (plain : ArePlain s.mounted) (path n : ℕ) (x : MarksD
         else if (length o.ends + 1 == length o.ends + 1) && is_next_legal (audited x) x.history.running then Some (cut_to 1) else None)
         (ne_eqb (length o.ends + 1) (length o.ends) far)
         ∙ ap (λ (b : Bool). if b then Some (cut_to 1) else None)
-        (both (length o.ends + 1 == length o.ends + 1) (is_next_legal (audited x) x.history.running) (same_number (length o.ends + 1)) is)
+        (and_from (length o.ends + 1 == length o.ends + 1) (is_next_legal (audited x) x.history.running) (same_number (length o.ends + 1)) is)
 
     few : (h : Option (store.HalfWrite (Unit {0}))) → (counts_one_by h ≡ 0) ⊎ (counts_one_by h ≡ 1)
     few (Some h) = by_test (is_of_command h.origin) where
@@ -306,8 +306,8 @@ module _ (s : Subsystem) (plain : ArePlain s.mounted) (path n : ℕ) (x : MarksD
         first_is over_line (cut_to more)
         (ap (λ (r : Option OpenEntry). may_reset path n (outline_of (audited x)) over_line (open_program r)) running
         ∙ ap (λ (b : Bool). if b then is_cut n (record { path = o.path; ordinal = o.ordinal }) over_line else false) own
-        ∙ both ((o.path == o.path) && (x.store.device == n)) (o.ordinal == o.ordinal)
-        (both (o.path == o.path) (x.store.device == n) (same_number o.path) (eq-eqb x.store.device n number_is)) (same_number o.ordinal))
+        ∙ and_from ((o.path == o.path) && (x.store.device == n)) (o.ordinal == o.ordinal)
+        (and_from (o.path == o.path) (x.store.device == n) (same_number o.path) (eq-eqb x.store.device n number_is)) (same_number o.ordinal))
         (then_some x.history.running o (λ (k : OpenEntry). M.cut_by from (audited x) k (length o.ends + more)) running ∙ cut_made)
 
     reset_judged : (t : AuditState) → passed (cut_to more) ≡ t → judged (cut_to more) (lines.Reset path n) ≡ Ok t

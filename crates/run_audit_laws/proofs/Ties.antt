@@ -42,7 +42,7 @@ use Rattle.device_defs.specs.Events.{background, lose, second}
 use Rattle.device_defs.specs.Marks.{MarksDevice}
 use Rattle.device_defs.specs.Orders.{hold, join, lend, replace, restore, resume, split}
 use Rattle.device_defs.specs.Start as S
-use Rattle.device_defs.specs.Start.{next_ordinal, start}
+use Rattle.device_defs.specs.Start.{start}
 use Rattle.device_laws.proofs.Always.{Always}
 use Rattle.device_laws.proofs.Based.{Any, Base, Based, based_any, kept}
 use Rattle.device_laws.proofs.BasedEvents.{background_based, base_in, command_based, lose_based, power_based, reset_body, second_based, with_one_loss}
@@ -56,30 +56,7 @@ use Rattle.subsystem_defs.specs.Decks as D
 use Rattle.subsystem_defs.specs.Decks.{opened, opened_device, run_of}
 use Rattle.subsystem_defs.specs.Deeds.{Asks, Becomes, Each, Ends, Lends, Repairs, deed, device_in, end_of, ends_done}
 use Rattle.subsystem_defs.specs.Happening as H
-use Rattle.subsystem_defs.specs.Happening.{
-  MarksDeed,
-  Talk,
-  asks,
-  becomes,
-  behind_outcome,
-  happens,
-  happens_by,
-  held_with,
-  is_lent_to,
-  joined,
-  lends,
-  mounted_behind,
-  quietly,
-  replaced,
-  replaced_at,
-  replaced_by,
-  restored_in,
-  sweep,
-  told_to,
-  unpaired,
-  unpaired_at,
-  unpaired_by,
-}
+use Rattle.subsystem_defs.specs.Happening.{MarksDeed, Talk, asks, becomes, behind_outcome, happens, happens_by, held_with, is_lent_to, joined, lends, mounted_behind, replaced, replaced_at, replaced_by, restored_in, sweep, told_to, unpaired, unpaired_at, unpaired_by}
 use Rattle.subsystem_defs.specs.Lines.{Asked, Logged, asked_by, last_behind, line_logged, run_lines}
 use Rattle.subsystem_defs.specs.Refusals as R
 use Rattle.subsystem_defs.specs.Refusals.{pair_fault, replace_fault, unpair_fault}

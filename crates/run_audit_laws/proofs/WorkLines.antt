@@ -3,6 +3,7 @@ use Rattle.std.proofs.Common.{◌≡◌, ◌==◌, ◌++◌, ℕ, zero, suc, Boo
 use Rattle.std.specs.Prelude.{◌||◌, is_some, IfSome, Ok}
 use Rattle.std.specs.List.{flat_map}
 use Rattle.std.proofs.lemmas.List.{append-nil}
+use Rattle.std.proofs.lemmas.Bool.{or_parts}
 use Rattle.deck_plan.specs.declared.event.EventLine.{EventLine}
 use Rattle.deck_plan.specs.declared.event.EventLine.TheVariants as wanted
 use Rattle.deck_text.specs.DeckLines.{DeckLines}
@@ -199,17 +200,13 @@ not_some : {X : Type 0} (o : Option X) → is_some o ≡ false → o ≡ None
 not_some (Some x) is = absurd (cc)
 not_some None is = refl
 
-neither_is : (a b : Bool) → (a || b) ≡ false → (a ≡ false) × (b ≡ false)
-neither_is true b is = absurd (cc)
-neither_is false b is = (refl, is)
-
 module _ (s : Subsystem) (plain : ArePlain s.mounted) (d : ℕ) where
   idle_goes : (x : MarksDevice) → device_in (devices_of s) d ≡ Some x → is_busy (mounted_in s.mounted d) ≡ false → LineGoes s (wanted.Run d)
   idle_goes x at idle =
       let m = mounted_too s.mounted d x at in
       let none : (is_some x.store.half || is_some x.history.running) ≡ false =
       sym (ap is_busy m.1 ∙ ap (λ (y : MarksDevice). is_some y.store.half || is_some y.history.running) m.2) ∙ idle in
-      let each = neither_is (is_some x.store.half) (is_some x.history.running) none in
+      let each = or_parts (is_some x.store.half) (is_some x.history.running) none in
       one_goes s (wanted.Run d) (quietly s s ends.Idle) (run_idle s d idle) refl
       (λ later. (
         stand s later,
