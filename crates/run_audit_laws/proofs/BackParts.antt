@@ -77,6 +77,7 @@ use Rattle.plain_defs.specs.History.{plain_of}
 use Rattle.run_audit_laws.specs.Standing.{audited, half_by}
 use Rattle.run_audit_laws.proofs.ResetDevices.{HasParts}
 use Rattle.run_audit_laws.proofs.StepParts.{ended_parts}
+use Rattle.run_audit_laws.proofs.Lighter.{any_had}
 
 -- Side A falls with its call, in a pair
 
@@ -96,14 +97,6 @@ lost_down s = ap (λ (x : _). x.a.up) (lost_same by_plain s A None)
 abbrev IsAlone : MarksStore → Type 0
 IsAlone s = s.paired ≡ false → s.b.up ≡ false
 
-any_told : (k : ℕ) (y : MarksStore) → Had (all_firm_told by_plain k y) (λ z (_ : Unit {0}). Unit {0})
-unfolding L.all_firm_told
-any_told zero y = had_done tt
-any_told (suc k) y = had_then (any_told k y) (λ z _ v. had_if (owed_at z k).firm (λ _. had_tell (had_done tt)) (λ _. had_done tt))
-
-any_failed : (y : MarksStore) (side : Side) (w : Option ℕ) → Had (call_failed by_plain y side w) (λ z (_ : Unit {0}). Unit {0})
-any_failed y side w = had_if y.paired (λ _. any_told (tracks_of y) (side_lost by_plain y side w)) (λ _. had_done tt)
-
 -- A fault is told of bytes that are had only where side A is down
 
 abbrev ToldDown : MarksStore → Got Bool → Type 0
@@ -113,7 +106,7 @@ second_told : (s : MarksStore) (fault : Option Side) → (is_some fault ≡ true
     Had (second_read by_plain fault s r) (λ z k. ToldDown z k)
 second_told s fault down (Some r) = had_done (λ some fails. down fails)
 second_told s fault down None =
-    had_then (any_failed s B None) (λ z _ _. had_done (λ some fails. absurd (let none : false ≡ true = some in cc)))
+    had_then (any_had s B None) (λ z _ _. had_done (λ some fails. absurd (let none : false ≡ true = some in cc)))
 
 b_told : (s : MarksStore) (t : ℕ) (fault : Option Side) → (level_at s.b t ≡ true → is_some fault ≡ true → AIsDown s) →
     Had (read_b by_plain s t fault) (λ z k. ToldDown z k)
@@ -153,7 +146,7 @@ OpensNot Opened = ⊥
 OpensNot Unwritten = Unit {0}
 
 alone_opens_not : (t : ℕ) (fault : Option Side) (first : Side) (s : MarksStore) (ok : Bool) → Had (W.alone_b by_plain t fault first s ok) (λ z w. OpensNot w.took)
-alone_opens_not t fault first s ok = had_if ok (λ _. had_done tt) (λ _. had_then (any_failed s B (Some t)) (λ z _ _. had_done tt))
+alone_opens_not t fault first s ok = had_if ok (λ _. had_done tt) (λ _. had_then (any_had s B (Some t)) (λ z _ _. had_done tt))
 
 down_opens_not : (s : MarksStore) (t : ℕ) (r : Bool) → AIsDown s → Had (write_first by_plain s t r) (λ z w. OpensNot w.took)
 unfolding W.write_first
@@ -166,11 +159,11 @@ unfolding W.write_first
 any_first s t r =
     had_if s.a.up
     (λ _. had_write (λ ok. had_if ok (λ _. had_done tt)
-    (λ _. had_then (any_failed (W.write_counted s ok) A (Some t)) (λ z _ _. had_if (takes_b (W.write_counted s ok))
-    (λ _. had_write (λ then_ok. had_if then_ok (λ _. had_done tt) (λ _. had_then (any_failed (W.write_counted z then_ok) B (Some t)) (λ k _ _. had_done tt))))
+    (λ _. had_then (any_had (W.write_counted s ok) A (Some t)) (λ z _ _. had_if (takes_b (W.write_counted s ok))
+    (λ _. had_write (λ then_ok. had_if then_ok (λ _. had_done tt) (λ _. had_then (any_had (W.write_counted z then_ok) B (Some t)) (λ k _ _. had_done tt))))
     (λ _. had_done tt)))))
     (λ _. had_if (takes_b s)
-    (λ _. had_write (λ ok. had_if ok (λ _. had_done tt) (λ _. had_then (any_failed (W.write_counted s ok) B (Some t)) (λ z _ _. had_done tt))))
+    (λ _. had_write (λ ok. had_if ok (λ _. had_done tt) (λ _. had_then (any_had (W.write_counted s ok) B (Some t)) (λ z _ _. had_done tt))))
     (λ _. had_done tt))
 
 opens_if : (s : MarksStore) (t : ℕ) (r : Bool) (fault : Option Side) → (is_some fault ≡ true → AIsDown s) →

@@ -588,7 +588,7 @@ same_least s z e =
 pub lower_on : (s z y : MarksStore) → left z ≤ left s → Lower z y → Lower s y
 lower_on s z y least lower = omega (arith, least, lower)
 
-work_on : (s z y : MarksStore) (a : Option Did) → left z ≤ left s → WorkSo z y a → WorkSo s y a
+pub work_on : (s z y : MarksStore) (a : Option Did) → left z ≤ left s → WorkSo z y a → WorkSo s y a
 work_on s z y (Some d) least h = λ goes. lower_on s z y least (h goes)
 work_on s z y None least h = h
 
