@@ -76,8 +76,26 @@ pub record Near (s z : MarksStore) (t : ℕ) : Type 0 where
   pub held : z.held ≡ s.held
   pub others : (q : ℕ) → q ≢ t → spot_at z q ≡ spot_at s q
 
+abbrev Around : Type 0
+Around = ℕ × (List ℕ × (Option (store.HalfWrite (Unit {0})) × (Bool × (Bool × Bool))))
+
+abbrev around : MarksStore → Around
+around s = (s.cylinders, (s.queue, (s.half, (s.a.up, (s.b.up, s.held)))))
+
+-- nothing but tracks
+pub near_by : {s z : MarksStore} {t : ℕ} → around z ≡ around s → ((q : ℕ) → q ≢ t → spot_at z q ≡ spot_at s q) → Near s z t
+near_by same others = record {
+  cylinders = ap (λ (k : Around). k.0) same;
+  queue = ap (λ (k : Around). k.1.0) same;
+  half = ap (λ (k : Around). k.1.1.0) same;
+  a = ap (λ (k : Around). k.1.1.1.0) same;
+  b = ap (λ (k : Around). k.1.1.1.1.0) same;
+  held = ap (λ (k : Around). k.1.1.1.1.1) same;
+  others = others;
+}
+
 pub near_self : (s : MarksStore) (t : ℕ) → Near s s t
-near_self s t = record { cylinders = refl; queue = refl; half = refl; a = refl; b = refl; held = refl; others = λ q ne. refl }
+near_self s t = near_by refl (λ q ne. refl)
 
 pub near_on : (s z y : MarksStore) (t : ℕ) → Near s z t → Near z y t → Near s y t
 near_on s z y t f g = record {
@@ -95,59 +113,19 @@ near_if s z y t true f g = f
 near_if s z y t false f g = g
 
 near_stale_a : (s : MarksStore) (t : ℕ) (v : Bool) → Near s (with_stale s A t v) t
-near_stale_a s t v = record {
-  cylinders = refl;
-  queue = refl;
-  half = refl;
-  a = refl;
-  b = refl;
-  held = refl;
-  others = λ q ne. ap (λ (x : Bool). record (spot_at s q) { a_stale = x }) (get_or-set_other s.a.stale t q v false ne);
-}
+near_stale_a s t v = near_by refl (λ q ne. ap (λ (x : Bool). record (spot_at s q) { a_stale = x }) (get_or-set_other s.a.stale t q v false ne))
 
 pub near_stale_b : (s : MarksStore) (t : ℕ) (v : Bool) → Near s (with_stale s B t v) t
-near_stale_b s t v = record {
-  cylinders = refl;
-  queue = refl;
-  half = refl;
-  a = refl;
-  b = refl;
-  held = refl;
-  others = λ q ne. ap (λ (x : Bool). record (spot_at s q) { b_stale = x }) (get_or-set_other s.b.stale t q v false ne);
-}
+near_stale_b s t v = near_by refl (λ q ne. ap (λ (x : Bool). record (spot_at s q) { b_stale = x }) (get_or-set_other s.b.stale t q v false ne))
 
 pub near_firm : (s : MarksStore) (t : ℕ) → Near s (hardened s t) t
-near_firm s t = record {
-  cylinders = refl;
-  queue = refl;
-  half = refl;
-  a = refl;
-  b = refl;
-  held = refl;
-  others = λ q ne. ap (λ (x : Bool). record (spot_at s q) { loose = x }) (get_or-set_other s.loose t q false false ne);
-}
+near_firm s t = near_by refl (λ q ne. ap (λ (x : Bool). record (spot_at s q) { loose = x }) (get_or-set_other s.loose t q false false ne))
 
 pub near_frame : (s : MarksStore) (t : ℕ) (f : Option Bool) → Near s (with_frame s t f) t
-near_frame s t f = record {
-  cylinders = refl;
-  queue = refl;
-  half = refl;
-  a = refl;
-  b = refl;
-  held = refl;
-  others = λ q ne. ap (λ (x : Option Bool). record (spot_at s q) { frame = x }) (get_or-set_other s.frames t q f None ne);
-}
+near_frame s t f = near_by refl (λ q ne. ap (λ (x : Option Bool). record (spot_at s q) { frame = x }) (get_or-set_other s.frames t q f None ne))
 
 pub near_bare : (s : MarksStore) (t : ℕ) → Near s (with_patch s t None) t
-near_bare s t = record {
-  cylinders = refl;
-  queue = refl;
-  half = refl;
-  a = refl;
-  b = refl;
-  held = refl;
-  others = λ q ne. ap (λ (x : Option (Unit {0})). record (spot_at s q) { patched = is_some x }) (get_or-set_other s.patches t q None None ne);
-}
+near_bare s t = near_by refl (λ q ne. ap (λ (x : Option (Unit {0})). record (spot_at s q) { patched = is_some x }) (get_or-set_other s.patches t q None None ne))
 
 pub near_everywhere : (s : MarksStore) (t : ℕ) → Near s (stale_everywhere s t) t
 near_everywhere s t =
@@ -291,7 +269,7 @@ first_so s t up r true = had_done (took_again (took_by (W.write_counted s true) 
     both = k.both;
   } where
     counted : Near s (W.write_counted s true) t
-    counted = record { cylinders = refl; queue = refl; half = refl; a = refl; b = refl; held = refl; others = λ q ne. refl }
+    counted = near_by refl (λ q ne. refl)
   again false k = record {
     near = near_on s (W.write_counted s true) (taken_a (W.write_counted s true) t) t counted k.near;
     none = k.none;
@@ -299,7 +277,7 @@ first_so s t up r true = had_done (took_again (took_by (W.write_counted s true) 
     loose = k.loose;
   } where
     counted : Near s (W.write_counted s true) t
-    counted = record { cylinders = refl; queue = refl; half = refl; a = refl; b = refl; held = refl; others = λ q ne. refl }
+    counted = near_by refl (λ q ne. refl)
 
   took_again : Takes (W.write_counted s true) t (taken_a (W.write_counted s true) t) (W.wrote (if takes_b s then Opened else Whole) None) →
       Takes s t (taken_a (W.write_counted s true) t) (W.wrote (if takes_b s then Opened else Whole) None)
@@ -313,15 +291,7 @@ alone_so s t down is true =
     let y = W.write_counted s true in
     let z = taken_b y t in
     had_done (record {
-      near = record {
-        cylinders = refl;
-        queue = refl;
-        half = refl;
-        a = refl;
-        b = refl;
-        held = refl;
-        others = (near_stale_b s t false).others;
-      };
+      near = near_by refl (near_stale_b s t false).others;
       none = no_copies_b z.a.up (stale_at z.a t) (z.b.up && not (stale_at z.b t)) (takes_b z) (stale_at z.b t) (z.a.up && not (stale_at z.a t)) down
           (clear s.b.stale t);
       some = some_sides_b s.a.up (takes_b s) is;

@@ -10,7 +10,7 @@ use Rattle.device_defs.specs.Marks.{MarksStore}
 use Rattle.device_defs.specs.Store.{frame_at, half_is, has_level, is_lost, is_loose, patch_at, with_lost}
 use Rattle.device_laws.proofs.FramesKept.{none_at}
 use Rattle.run_audit_laws.proofs.Weights.{Spot, modified_by, one, spot_at, weight, whole_weight, works}
-use Rattle.run_audit_laws.proofs.Lighter.{Near, half_off, half_on, near_firm, near_frame, near_self, some_at}
+use Rattle.run_audit_laws.proofs.Lighter.{Near, half_off, half_on, near_firm, near_frame, near_self, some_at, near_by}
 use Rattle.run_audit_laws.proofs.InOrder.{works_by}
 use Rattle.device_laws.proofs.Unlost.{clear}
 
@@ -50,15 +50,7 @@ settled_if s y z t false f g = g refl
 firm_settled : (s : MarksStore) (t : ℕ) → is_loose s t ≡ true → Settled s (hardened_by_loss s t) t
 firm_settled s t e = (
   record {
-    near = record {
-      cylinders = refl;
-      queue = refl;
-      half = refl;
-      a = refl;
-      b = refl;
-      held = refl;
-      others = (near_firm s t).others;
-    };
+    near = near_by refl (near_firm s t).others;
     a = refl;
     b = refl;
   },
@@ -69,15 +61,7 @@ lost_given : (s : MarksStore) (t : ℕ) (o : Option (Unit {0})) → patch_at s t
     Settled s (gives_up (with_lost s t) t (slot_in by_plain o)) t
 lost_given s t None e bare = (
   record {
-    near = record {
-      cylinders = refl;
-      queue = refl;
-      half = refl;
-      a = refl;
-      b = refl;
-      held = refl;
-      others = λ q ne. ap (λ (x : Bool). record (spot_at s q) { lost = x }) (get_or-set_other s.lost t q true false ne);
-    };
+    near = near_by refl (λ q ne. ap (λ (x : Bool). record (spot_at s q) { lost = x }) (get_or-set_other s.lost t q true false ne));
     a = refl;
     b = refl;
   },
@@ -85,17 +69,9 @@ lost_given s t None e bare = (
 )
 lost_given s t (Some p) e bare = (
   record {
-    near = record {
-      cylinders = refl;
-      queue = refl;
-      half = refl;
-      a = refl;
-      b = refl;
-      held = refl;
-      others = λ q ne.
-          ap (λ (x : Bool). record (spot_at s q) { lost = x; patched = is_some (get_or (set s.patches t None) q None) }) (get_or-set_other s.lost t q true false ne)
-          ∙ ap (λ (x : Option (Unit {0})). record (spot_at s q) { patched = is_some x }) (get_or-set_other s.patches t q None None ne);
-    };
+    near =
+        near_by refl (λ q ne. ap (λ (x : Bool). record (spot_at s q) { lost = x; patched = is_some (get_or (set s.patches t None) q None) }) (get_or-set_other s.lost t q true false ne)
+        ∙ ap (λ (x : Option (Unit {0})). record (spot_at s q) { patched = is_some x }) (get_or-set_other s.patches t q None None ne));
     a = refl;
     b = refl;
   },
@@ -111,15 +87,7 @@ frame_settled s t here off (Some m) is =
     kept true e firm = unchanged s t
     kept false e firm = (
       record {
-        near = record {
-          cylinders = refl;
-          queue = refl;
-          half = refl;
-          a = refl;
-          b = refl;
-          held = refl;
-          others = (near_frame s t (Some true)).others;
-        };
+        near = near_by refl (near_frame s t (Some true)).others;
         a = refl;
         b = refl;
       },

@@ -17,7 +17,7 @@ use Rattle.device_defs.specs.Writing as W
 use Rattle.device_defs.specs.Writing.{slot_freed, tried_b, write_done, write_second}
 use Rattle.device_laws.proofs.Had.{Had, had_ask, had_done, had_if, had_tell, had_then, had_weaker, had_write}
 use Rattle.run_audit_laws.proofs.Weights.{Spot, copies, modified_by, one, sides, spot_at, weight, weight_at, whole_weight, works}
-use Rattle.run_audit_laws.proofs.Lighter.{Bared, Lower, Near, as_least, clean_off, freed_so, half_off, half_on, idle, lower_all, near_bare, near_frame, near_on, near_self, near_stale_b, none_open, not_own, own_is, same_weight, whole_at}
+use Rattle.run_audit_laws.proofs.Lighter.{Bared, Lower, Near, as_least, clean_off, freed_so, half_off, half_on, idle, lower_all, near_bare, near_frame, near_on, near_self, near_stale_b, none_open, not_own, own_is, same_weight, whole_at, near_by}
 use Rattle.run_audit_laws.proofs.SecondLighter.{IsSafe, Made, Settles, fell, made_least, settled_so}
 use Rattle.device_laws.proofs.Unlost.{clear}
 
@@ -275,7 +275,7 @@ written_on s z y t f g = record { near = near_on s z y t f.near g.near; a = g.a 
 pub given_up : (s : MarksStore) (t : ℕ) (o : Option (Unit {0})) → Written s (L.gives_up s t (slot_in by_plain o)) t
 given_up s t None = record { near = near_self s t; a = refl; b = refl }
 given_up s t (Some p) = record {
-  near = record { cylinders = refl; queue = refl; half = refl; a = refl; b = refl; held = refl; others = (near_bare s t).others };
+  near = near_by refl (near_bare s t).others;
   a = refl;
   b = refl;
 }
@@ -350,7 +350,7 @@ module _ (s : MarksStore) (h : store.HalfWrite (Unit {0})) (is : s.half ≡ Some
       Had (D.second_done by_plain (closed y) h.track i origin) (λ v (_ : Bool). Lower s v)
   done_so y i (OfCommand bypass e) k firm =
       had_tell (finished_so y _ i bypass k
-      (record { near = record { cylinders = refl; queue = refl; half = refl; a = refl; b = refl; held = refl; others = λ q ne. refl }; a = refl; b = refl }) firm)
+      (record { near = near_by refl (λ q ne. refl); a = refl; b = refl }) firm)
   done_so y i (OfCut bypass) k firm = finished_so y (closed y) i bypass k (record { near = near_self (closed y) h.track; a = refl; b = refl }) firm
   done_so y i OfBackground k firm = finished_so y (closed y) i false k (record { near = near_self (closed y) h.track; a = refl; b = refl }) firm
 
