@@ -160,10 +160,6 @@ abbrev pub IsBelow : ℕ → List AuditedDevice → Type 0
 IsBelow low [] = Unit {0}
 IsBelow low (a ∷ all) = (a.number < low) × IsBelow low all
 
-pub below_more : (low more : ℕ) (all : List AuditedDevice) → low ≤ more → IsBelow low all → IsBelow more all
-below_more low more [] le b = tt
-below_more low more (a ∷ all) le b = let lt = b.0 in (omega (arith, lt, le), below_more low more all le b.1)
-
 pub below_one : (low : ℕ) (all : List AuditedDevice) (a : AuditedDevice) → IsBelow low all → low ≤ a.number → IsBelow (a.number + 1) (all ++ a ∷ [])
 below_one low [] a b le = (omega arith, tt)
 below_one low (x ∷ all) a b le = let lt = b.0 in (omega (arith, lt, le), below_one low all a b.1 le)
@@ -245,9 +241,6 @@ module _ (later : List EventLine) where
         then or_history (order_made (at (done ++ a ∷ rest) (Losses d)) (loss_line a) wanted.FailCache) else Err Place)
         (lt-ltb d a.number (omega (arith, lt, le)))
         ∙ made (Losses d)
-
-  abbrev order_line : ReportLine
-  order_line = lines.Order orders.FailCache answers.Done
 
   last_leads : (all : List AuditedDevice) (last : Option ℕ) →
       LeadsBy (at all (due_by last)) (lines.Order orders.FailCache answers.Done ∷ []) (record { devices = all; events = later; due = Next })

@@ -48,7 +48,7 @@ use Rattle.report_places.specs.declared.state.Did.TheVariants.{CheckEnded, Ended
 use Rattle.report_places.specs.declared.state.Due.TheVariants.{Behind, Next}
 use Rattle.report_places.specs.declared.state.HalfWrite.TheVariants.{Closed}
 use Rattle.report_places.specs.Place.{in_event, is_of_work, is_over, worker_of}
-use Rattle.report_places.specs.Same.{says}
+use Rattle.report_places.specs.Same.{says, is_same_over}
 use Rattle.deck_audit.specs.Device.{
   AuditedDevice,
   check_end,
@@ -108,9 +108,6 @@ still_runs o (act ∷ acts) h s = still_runs o acts (acted h act) (one_runs o h 
 module _ (xs : List AuditedDevice) (w : EventLine) (later : List EventLine) (a : AuditedDevice)
     (has : device_in xs a.number ≡ Some a) (is_work : worker_of w ≡ Some a.number) (o : OpenEntry) (running : a.history.running ≡ Some o)
     (plainly : IsPlain a.plans a.empty a.history) where
-  abbrev n : ℕ
-  n = a.number
-
   abbrev b : AuditedDevice
   b = record a { half = Closed }
 
@@ -198,20 +195,17 @@ module _ (xs : List AuditedDevice) (w : EventLine) (later : List EventLine) (a :
     not_of_work : (ended : HowOver) → is_of_work true (worker_of w) (over_told a o ended) ≡ false
     not_of_work ended = ap (λ (k : Option ℕ). is_of_work true k (over_told a o ended)) is_work
 
-    full_wanted : Wanted (Some (over_told a o how.Full))
-    full_wanted line is =
-        let same : over_told a o how.Full ≡ line = cc in
-        subst (λ (l : ReportLine). ((is_over l l ≡ true) × (says l l ≡ true)) × (is_of_work true (worker_of w) l ≡ false)) same
-        ((same_place, and_from ((o.path == o.path) && (a.number == a.number) && (o.ordinal == o.ordinal)) true same_place refl), not_of_work how.Full)
-
-    checked_wanted : Wanted (Some (over_told a o how.Checked))
-    checked_wanted line is =
-        let same : over_told a o how.Checked ≡ line = cc in
-        subst (λ (l : ReportLine). ((is_over l l ≡ true) × (says l l ≡ true)) × (is_of_work true (worker_of w) l ≡ false)) same
-        ((same_place, and_from ((o.path == o.path) && (a.number == a.number) && (o.ordinal == o.ordinal)) true same_place refl), not_of_work how.Checked)
+    is_wanted : (ended : HowOver) → is_over (over_told a o ended) (over_told a o ended) ≡ true → is_same_over ended ended ≡ true →
+        Wanted (Some (over_told a o ended))
+    is_wanted ended over same_ended line is =
+        let same : over_told a o ended ≡ line = cc in
+        subst (λ (l : ReportLine). ((is_over l l ≡ true) × (says l l ≡ true)) × (is_of_work true (worker_of w) l ≡ false)) same (
+          (over, and_from ((o.path == o.path) && (a.number == a.number) && (o.ordinal == o.ordinal)) (is_same_over ended ended) same_place same_ended),
+          not_of_work ended,
+        )
 
     if_wanted : (over : Bool) → Wanted (over_if over (over_told a o how.Full))
-    if_wanted true = full_wanted
+    if_wanted true = is_wanted how.Full same_place refl
     if_wanted false = λ line is. absurd (let none_is : None ≡ Some line = is in cc)
 
     runs : StillRuns o (all_acted a.history acts)
@@ -245,13 +239,10 @@ module _ (xs : List AuditedDevice) (w : EventLine) (later : List EventLine) (a :
         (Some (over_told a o how.Checked)))
     check_command_leads reads writes sense is =
         let e = check_end (words_of_open a o) p.index sense in
-        all_lead acts true (CheckEnded e) refl (Some (over_told a o how.Checked)) (checked_over e) checked_wanted
+        all_lead acts true (CheckEnded e) refl (Some (over_told a o how.Checked)) (checked_over e) (is_wanted how.Checked same_place refl)
         (ended_lines o.path a.number o.ordinal e ++ map (act_line a.number) acts) reads writes (check_acts_lead sense is)
 
     -- A track becomes loose
-
-    abbrev with_loosen : ℕ → List Act
-    with_loosen t = acts ++ Loosen t ∷ []
 
     loosen_acts_lead : (t : ℕ) → may_loosen (acted_to a acts) (all_acted a.history acts).running t ≡ true →
         LeadsBy (record { devices = xs; events = w ∷ later; due = Next })

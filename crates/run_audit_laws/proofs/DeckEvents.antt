@@ -41,9 +41,6 @@ OfNamed P (events.Resume d) = P d
 OfNamed P _ = Unit {0}
 
 module _ (devices : List DeviceLine) where
-  abbrev Declared : ℕ → Type 0
-  Declared d = is_declared devices d ≡ true
-
   declared_by : (b : Bool) (x d : ℕ) → ◌≡◌ {A = Result ℕ DeckWhy} (if b then Ok x else Err Number) (Ok d) → (x ≡ d) × (b ≡ true)
   declared_by true x d h = (let same : x ≡ d = cc in same, refl)
   declared_by false x d h = absurd (cc)

@@ -87,10 +87,6 @@ module _ (xs : List AuditedDevice) (w : EventLine) (later : List EventLine) (a :
   abbrev pub before_work : AuditState
   before_work = record { devices = xs; events = w ∷ later; due = Next }
 
-  -- with no half write
-  abbrev pub whole : AuditedDevice
-  whole = record a { half = Closed }
-
   abbrev at : Due → AuditState
   at due = at_work xs w later a.number is_work a has (record a { half = Closed }) due
 

@@ -122,24 +122,13 @@ module _ (n : ℕ) where
   long_whole : IsLong n → is_whole (decimal n) ≡ true
   long_whole h = decimal_whole n h
 
+index_whole : (text : List ℕ) (k : ℕ) → is_whole text ≡ true → not (slice_index text k == 10) ≡ true
+index_whole [] k h = refl
+index_whole (b ∷ text) zero h = (and_parts (not (b == 10)) (is_whole text) h).0
+index_whole (b ∷ text) (suc k) h = index_whole text k (and_parts (not (b == 10)) (is_whole text) h).1
+
 hex_digit : (k : ℕ) → not (slice_index upper_digits k == 10) ≡ true
-hex_digit zero = refl
-hex_digit (suc zero) = refl
-hex_digit (suc (suc zero)) = refl
-hex_digit (suc (suc (suc zero))) = refl
-hex_digit (suc (suc (suc (suc zero)))) = refl
-hex_digit (suc (suc (suc (suc (suc zero))))) = refl
-hex_digit (suc (suc (suc (suc (suc (suc zero)))))) = refl
-hex_digit (suc (suc (suc (suc (suc (suc (suc zero))))))) = refl
-hex_digit (suc (suc (suc (suc (suc (suc (suc (suc zero)))))))) = refl
-hex_digit (suc (suc (suc (suc (suc (suc (suc (suc (suc zero))))))))) = refl
-hex_digit (suc (suc (suc (suc (suc (suc (suc (suc (suc (suc zero)))))))))) = refl
-hex_digit (suc (suc (suc (suc (suc (suc (suc (suc (suc (suc (suc zero))))))))))) = refl
-hex_digit (suc (suc (suc (suc (suc (suc (suc (suc (suc (suc (suc (suc zero)))))))))))) = refl
-hex_digit (suc (suc (suc (suc (suc (suc (suc (suc (suc (suc (suc (suc (suc zero))))))))))))) = refl
-hex_digit (suc (suc (suc (suc (suc (suc (suc (suc (suc (suc (suc (suc (suc (suc zero)))))))))))))) = refl
-hex_digit (suc (suc (suc (suc (suc (suc (suc (suc (suc (suc (suc (suc (suc (suc (suc zero))))))))))))))) = refl
-hex_digit (suc (suc (suc (suc (suc (suc (suc (suc (suc (suc (suc (suc (suc (suc (suc (suc k)))))))))))))))) = refl
+hex_digit k = index_whole upper_digits k refl
 
 hex_whole : (bytes : List ℕ) → is_whole (encode_upper bytes) ≡ true
 unfolding encode_with

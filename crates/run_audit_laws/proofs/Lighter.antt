@@ -1,8 +1,8 @@
 -- What a device does by itself leaves less to do, unless its answer is one that stops.
-use Rattle.std.proofs.Common.{◌≡◌, ◌≢◌, ◌<◌, ◌≤◌, ◌+◌, ◌*◌, ◌==◌, ℕ, zero, suc, Bool, true, false, List, [], ◌∷◌, Option, Some, None, is_some, length, get_or, set, refl, sym, ap, subst, ◌∙◌, arith, eqb-true}
+use Rattle.std.proofs.Common.{◌≡◌, ◌≢◌, ◌<◌, ◌≤◌, ◌+◌, ◌*◌, ◌==◌, ℕ, zero, suc, Bool, true, false, List, [], ◌∷◌, Option, Some, None, is_some, length, get_or, set, refl, sym, ap, subst, ◌∙◌, arith}
 use Rattle.std.proofs.lemmas.List.{get_or-set_other}
 use Rattle.std.specs.Prelude.{◌&&◌, ◌||◌, if◌then◌else◌, not}
-use Rattle.std.proofs.lemmas.Bool.{or_left, or_right, and_right}
+use Rattle.std.proofs.lemmas.Bool.{or_left, or_right, and_right, ne_eqb}
 use Rattle.ckd_types.specs.declared.paths.Side.{Side}
 use Rattle.ckd_types.specs.declared.paths.Side.TheVariants.{A, B}
 use Rattle.track_image.specs.Image.{Image}
@@ -370,10 +370,7 @@ pub own_is : (t : ℕ) → (t == t) ≡ true
 own_is t = grind arith
 
 pub not_own : (t q : ℕ) → q ≢ t → (t == q) ≡ false
-not_own t q ne = by_test (t == q) refl where
-  by_test : (b : Bool) → (t == q) ≡ b → (t == q) ≡ false
-  by_test true is = absurd (ne (sym (eqb-true t q is)))
-  by_test false is = is
+not_own t q ne = ne_eqb t q (λ e. ne (sym e))
 
 opened_spot : (s : MarksStore) (t q : ℕ) → s.half ≡ None → q ≢ t → record (spot_at s q) { half = t == q } ≡ spot_at s q
 opened_spot s t q whole ne =

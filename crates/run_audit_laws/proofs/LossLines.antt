@@ -175,9 +175,6 @@ module _ (s : Subsystem) (plain : ArePlain s.mounted) (n : ℕ) (x : MarksDevice
       had_then (side_acts plainly.number plainly.empty x plainly.follows side)
       (λ y a g. had_done (record { loss = g.0; none = g.1; done = refl }))
 
-  abbrev from : List EventLine → AuditState
-  from later = stand s (wanted.FailVolume n side ∷ later)
-
   -- the acts of the device, and the line of the order
   acts_lead : (later : List EventLine) (m : Mounted) → m.device ≡ x → mounted_in s.mounted n ≡ Some m → (z : Mounted) (end : Option EventEnd) →
       IsSideLost plainly.empty x z.device end →

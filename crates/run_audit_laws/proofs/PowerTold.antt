@@ -116,9 +116,6 @@ next_differs n is = by_test (n == 65535) refl is where
   by_test false test same = omega (arith, same)
 
 module _ (x y : MarksDevice) (p : Plainly x) (f : Follows p.number p.empty y) (g : IsOff p.number p.empty x p.follows y) where
-  abbrev h : History
-  h = x.history
-
   abbrev more : ℕ
   more = counts_one_by x.store.half
 
@@ -275,9 +272,6 @@ module _ (x y : MarksDevice) (p : Plainly x) (f : Follows p.number p.empty y) (g
   -- None runs
 
   module _ (none : x.history.running ≡ None) where
-    abbrev begun : Bool
-    begun = is_started false x.history.items
-
     abbrev after : Bool → History
     after b = if b then record { items = x.history.items ++ items.Power ∷ []; running = None; waiting = [] } else x.history
 

@@ -9,15 +9,13 @@ use Rattle.ckd_types.specs.declared.paths.Owner.TheVariants as owners
 use Rattle.ckd_types.specs.declared.paths.Side.{Side}
 use Rattle.ckd_types.specs.declared.paths.Side.TheVariants.{A, B}
 use Rattle.ckd_rules.specs.Grouping.{is_same_owner}
-use Rattle.report_text.specs.declared.answers.HowOver.{HowOver}
-use Rattle.report_text.specs.declared.answers.HowOver.TheVariants as how
 use Rattle.report_text.specs.declared.answers.LooseAnswer.{LooseAnswer}
 use Rattle.report_text.specs.declared.answers.LooseAnswer.TheVariants as loose
 use Rattle.report_text.specs.declared.answers.StartAnswer.{StartAnswer}
 use Rattle.report_text.specs.declared.answers.StartAnswer.TheVariants as start
 use Rattle.report_text.specs.declared.order.Order.{Order}
 use Rattle.report_text.specs.declared.order.Order.TheVariants as orders
-use Rattle.report_places.specs.Same.{is_same_note, is_same_side, is_same_start, is_same_over, is_same_loose, is_same_order}
+use Rattle.report_places.specs.Same.{is_same_note, is_same_side, is_same_start, is_same_loose, is_same_order}
 
 pub same_number : (n : ℕ) → (n == n) ≡ true
 same_number n = eq-eqb n n refl
@@ -37,11 +35,6 @@ same_start start.Running = refl
 same_start (start.Secondary d) = same_number d
 same_start (start.Reserved o) = same_owner o
 same_start (start.Shut o) = same_owner o
-
-pub same_over : (h : HowOver) → is_same_over h h ≡ true
-same_over how.Full = refl
-same_over how.Checked = refl
-same_over (how.Cut n) = same_number n
 
 pub same_loose : (a : LooseAnswer) → is_same_loose a a ≡ true
 same_loose (loose.Harden t) = same_number t

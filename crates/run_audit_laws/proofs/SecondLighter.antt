@@ -158,9 +158,6 @@ stale_a true true up off = refl
 stale_a true false up off = absurd (cc)
 stale_a false stale up off = absurd (cc)
 
-off_right : (b : Bool) → (false && b) ≡ false
-off_right b = refl
-
 off_level : (a stale b b_stale : Bool) → stale ≡ true → b_stale ≡ true → ((a && not stale) || (b && not b_stale)) ≡ false
 off_level true true true true e f = refl
 off_level true true false true e f = refl

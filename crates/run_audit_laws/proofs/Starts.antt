@@ -119,7 +119,7 @@ all_not f g h (q ∷ l) = by_both (f q) (g q) (list_any f l) (list_all g l) (h q
   by_both true y z w e k = ap (λ (b : Bool). b && w) e
   by_both false y z w e k = ap (λ (b : Bool). b && w) e ∙ k
 
-choice_not : {X : Type 0} (a b : Bool) (x y : X) → b ≡ not a → (if a then x else y) ≡ (if b then y else x)
+pub choice_not : {X : Type 0} (a b : Bool) (x y : X) → b ≡ not a → (if a then x else y) ≡ (if b then y else x)
 choice_not true b x y e = sym (ap (λ (c : Bool). if c then y else x) e)
 choice_not false b x y e = sym (ap (λ (c : Bool). if c then y else x) e)
 
@@ -227,15 +227,6 @@ module _ (x : MarksDevice) (p : Plainly x) where
   answer_is path = lent_is path x.store.lent
 
 -- The line
-
-unchanged : (a : AuditedDevice) (path : ℕ) (answer : StartAnswer) → after_start a path answer ≡ (record a { history = (after_start a path answer).history })
-unchanged a path (answers.Accepted n) = refl
-unchanged a path (answers.Busy p) = refl
-unchanged a path answers.Done = refl
-unchanged a path answers.Running = refl
-unchanged a path (answers.Secondary d) = refl
-unchanged a path (answers.Reserved o) = refl
-unchanged a path (answers.Shut o) = refl
 
 refused_same : (a : AuditedDevice) (path : ℕ) (fault : StartFault) → after_start a path (start_refused fault) ≡ a
 refused_same a path (faults.Secondary of) = refl

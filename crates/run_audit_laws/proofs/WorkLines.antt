@@ -1,5 +1,5 @@
 -- The lines of STEP and RUN lead the audit on behind the run of a deck.
-use Rattle.std.proofs.Common.{◌≡◌, ◌++◌, ℕ, zero, suc, Bool, true, false, not, List, [], ◌∷◌, Option, Some, None, refl, sym, ap, subst, ◌∙◌, if◌then◌else◌}
+use Rattle.std.proofs.Common.{◌≡◌, ◌++◌, ℕ, zero, suc, Bool, true, false, List, [], ◌∷◌, Option, Some, None, refl, sym, ap, subst, ◌∙◌, if◌then◌else◌}
 use Rattle.std.specs.Prelude.{◌||◌, is_some, IfSome, Ok}
 use Rattle.std.specs.List.{flat_map}
 use Rattle.std.proofs.lemmas.List.{append-nil}
@@ -60,6 +60,8 @@ use Rattle.run_audit_laws.proofs.SettleEnds.{fits_behind, settle_over}
 use Rattle.run_audit_laws.proofs.StillLines.{some_device}
 use Rattle.run_audit_laws.proofs.WorkEnds.{left_by}
 use Rattle.run_audit_laws.proofs.Behind.{good_behind}
+use Rattle.run_audit_laws.proofs.Starts.{choice_not}
+use Rattle.subsystem_laws.proofs.WholeUnpairs.{not_some}
 
 -- The lines of one event
 
@@ -126,10 +128,6 @@ piece_of_run s plain d busy =
     subst (λ (k : ℕ). PieceGoes s k (wanted.Run k) (Run k) (happens s (events.Step k))) number
     (run_step_goes s x (own_place s d x at) (plain_of s plain d x at) (ap (λ (k : ℕ). is_busy (mounted_in s.mounted k)) number ∙ busy))
 
-flipped : (i b : Bool) (l k : List EventLine) → b ≡ not i → (if i then l else k) ≡ (if b then k else l)
-flipped true b l k is = sym (ap (λ (c : Bool). if c then k else l) is)
-flipped false b l k is = sym (ap (λ (c : Bool). if c then k else l) is)
-
 module _ (d : ℕ) (later : List EventLine) (k : ℕ) where
   abbrev ended : Subsystem → AuditState
   ended z = stand (last_behind z (steps k d z)) (left_run (last_behind z (steps k d z)) d later)
@@ -168,7 +166,7 @@ steps_lead (suc k) s plain d busy later =
     subst (λ (ts : List Logged). LeadsTowards (stand s (wanted.Run d ∷ later)) (flat_map lines_of ts) (stand (last_behind s ts)
     (left_run (last_behind s ts) d later))) (sym (one_step k d s busy))
     (more_steps d later k s h.behind (lines_of (logged (Run d) h)) (left_by (wanted.Run d) p.its (is_settled h.end) later)
-    (flipped (is_idle p.its) (is_busy (mounted_in h.behind.mounted d)) later (wanted.Run d ∷ later) p.busy)
+    (choice_not (is_idle p.its) (is_busy (mounted_in h.behind.mounted d)) later (wanted.Run d ∷ later) p.busy)
     (subst (λ (l : List ReportLine). LeadsTowards (stand s (wanted.Run d ∷ later)) l
     (stand h.behind (left_by (wanted.Run d) p.its (is_settled h.end) later))) (told_from s (Run d) h (event_from s (events.Step d))) (p.goes later))
     (λ more. steps_lead k h.behind (event_plain s plain (events.Step d) tt) d more later))
@@ -184,10 +182,6 @@ run_busy s d busy =
 run_idle : (s : Subsystem) (d : ℕ) → is_busy (mounted_in s.mounted d) ≡ false → line_logged s (Run d) ≡ logged (Run d) (quietly s s ends.Idle) ∷ []
 run_idle s d idle =
     run_logged_is s d ∙ ap (λ (b : Bool). if b then steps most_steps d s else logged (Run d) (quietly s s ends.Idle) ∷ []) idle
-
-not_some : {X : Type 0} (o : Option X) → is_some o ≡ false → o ≡ None
-not_some (Some x) is = absurd (cc)
-not_some None is = refl
 
 module _ (s : Subsystem) (plain : ArePlain s.mounted) (d : ℕ) where
   idle_goes : (x : MarksDevice) → device_in (devices_of s) d ≡ Some x → is_busy (mounted_in s.mounted d) ≡ false → LineGoes s (wanted.Run d)
