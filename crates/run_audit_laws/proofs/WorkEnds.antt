@@ -117,6 +117,15 @@ module _ (xs : List AuditedDevice) (later : List EventLine) (a : AuditedDevice) 
   its_outline f =
       ap (λ (k : Option Outline). holds k f) (outlined xs a.number ∙ ap (λ (k : Option AuditedDevice). option_map outline_of k) has)
 
+  -- where its outline may begin so
+  back_fits : (line : ReportLine) {h : HalfWrite} → a.half ≡ h → may_back (outline_of a) line h ≡ true →
+      holds (outline_in (outlines (record { devices = xs; events = later; due = Next })) a.number) (λ b. may_back b line b.half) ≡ true
+  back_fits line is so = its_outline (λ b. may_back b line b.half) ∙ ap (may_back (outline_of a) line) is ∙ so
+
+  step_fits : (idle line : ReportLine) {h : HalfWrite} → a.half ≡ h → may_step (outline_of a) idle line h ≡ true →
+      holds (outline_in (outlines (record { devices = xs; events = later; due = Next })) a.number) (λ b. may_step b idle line b.half) ≡ true
+  step_fits idle line is so = its_outline (λ b. may_step b idle line b.half) ∙ ap (may_step (outline_of a) idle line) is ∙ so
+
   pub makes : (w : EventLine) → IsWork a.number w → (line : ReportLine) →
       event_made (record { devices = xs; events = w ∷ later; due = Next }) line w ≡ work_made (record { devices = xs; events = w ∷ later; due = Next }) line a
   makes w of_step line = then_some (device_in xs a.number) a (work_made (before w) line) has
@@ -156,16 +165,10 @@ module _ (xs : List AuditedDevice) (later : List EventLine) (a : AuditedDevice) 
         its_outline (λ b. may_step b (lines.StepIdle a.number) (end_told e) b.half) ∙ first_end (lines.StepIdle a.number) e is
     end_stands w h run_ends is e =
         its_outline (λ b. may_step b (lines.RunIdle a.number) (end_told e) b.half) ∙ first_end (lines.RunIdle a.number) e is
-    end_stands w h step_seconds is e =
-        its_outline (λ b. may_step b (lines.StepIdle a.number) (end_told e) b.half)
-        ∙ ap (may_step (outline_of a) (lines.StepIdle a.number) (end_told e)) is ∙ second_end e
-    end_stands w h run_seconds is e =
-        its_outline (λ b. may_step b (lines.RunIdle a.number) (end_told e) b.half)
-        ∙ ap (may_step (outline_of a) (lines.RunIdle a.number) (end_told e)) is ∙ second_end e
-    end_stands w h back_seconds is e =
-        its_outline (λ b. may_back b (end_told e) b.half) ∙ ap (may_back (outline_of a) (end_told e)) is ∙ second_end e
-    end_stands w h settle_seconds is e =
-        its_outline (λ b. may_back b (end_told e) b.half) ∙ ap (may_back (outline_of a) (end_told e)) is ∙ second_end e
+    end_stands w h step_seconds is e = step_fits (lines.StepIdle a.number) (end_told e) is (second_end e)
+    end_stands w h run_seconds is e = step_fits (lines.RunIdle a.number) (end_told e) is (second_end e)
+    end_stands w h back_seconds is e = back_fits (end_told e) is (second_end e)
+    end_stands w h settle_seconds is e = back_fits (end_told e) is (second_end e)
 
     -- A command that ends
 
@@ -257,24 +260,16 @@ module _ (xs : List AuditedDevice) (later : List EventLine) (a : AuditedDevice) 
   second_stands : (w : EventLine) → IsWork a.number w → (answer : BackAnswer) → a.half ≡ half.OfBackground →
       is_second_line a.number (lines.Back a.number answer) ≡ true →
       in_event (outlines (record { devices = xs; events = w ∷ later; due = Next })) (lines.Back a.number answer) w ≡ true
-  second_stands w of_step answer is so =
-      its_outline (λ b. may_step b (lines.StepIdle a.number) (lines.Back a.number answer) b.half)
-      ∙ ap (may_step (outline_of a) (lines.StepIdle a.number) (lines.Back a.number answer)) is ∙ so
-  second_stands w of_run answer is so =
-      its_outline (λ b. may_step b (lines.RunIdle a.number) (lines.Back a.number answer) b.half)
-      ∙ ap (may_step (outline_of a) (lines.RunIdle a.number) (lines.Back a.number answer)) is ∙ so
-  second_stands w of_back answer is so =
-      its_outline (λ b. may_back b (lines.Back a.number answer) b.half) ∙ ap (may_back (outline_of a) (lines.Back a.number answer)) is ∙ so
-  second_stands w of_settle answer is so =
-      its_outline (λ b. may_back b (lines.Back a.number answer) b.half) ∙ ap (may_back (outline_of a) (lines.Back a.number answer)) is ∙ so
+  second_stands w of_step answer is so = step_fits (lines.StepIdle a.number) (lines.Back a.number answer) is so
+  second_stands w of_run answer is so = step_fits (lines.RunIdle a.number) (lines.Back a.number answer) is so
+  second_stands w of_back answer is so = back_fits (lines.Back a.number answer) is so
+  second_stands w of_settle answer is so = back_fits (lines.Back a.number answer) is so
 
   tells_stand : {w : EventLine} {answer : BackAnswer} {h : HalfWrite} → (k : MayTell w answer h) → a.half ≡ h →
       in_event (outlines (record { devices = xs; events = w ∷ later; due = Next })) (lines.Back a.number answer) w ≡ true
   tells_stand {w = w} {answer = answer} (seconds_by k so) is = second_stands w k answer is so
-  tells_stand {answer = answer} (back_tells so) is =
-      its_outline (λ b. may_back b (lines.Back a.number answer) b.half) ∙ ap (may_back (outline_of a) (lines.Back a.number answer)) is ∙ so
-  tells_stand {answer = answer} (settle_tells so) is =
-      its_outline (λ b. may_back b (lines.Back a.number answer) b.half) ∙ ap (may_back (outline_of a) (lines.Back a.number answer)) is ∙ so
+  tells_stand {answer = answer} (back_tells so) is = back_fits (lines.Back a.number answer) is so
+  tells_stand {answer = answer} (settle_tells so) is = back_fits (lines.Back a.number answer) is so
 
   pub tells_lead : (w : EventLine) (answer : BackAnswer) (h : HalfWrite) (k : MayTell w answer h) → a.half ≡ h → IsPlain a.plans a.empty a.history →
       (acts : List Act) → NoLoss acts → AreActs (state_of a) None acts → (reads writes : ℕ) →
