@@ -52,7 +52,7 @@ use Rattle.device_defs.specs.Store.{OfBackground, frame_at, is_lost, is_loose, l
 use Rattle.device_defs.specs.Writing as W
 use Rattle.device_defs.specs.Writing.{firm_first, write_first}
 use Rattle.device_laws.proofs.Had.{Had, had_ask, had_done, had_if, had_read, had_tell, had_then, had_try, had_weaker, had_write}
-use Rattle.device_laws.proofs.PlainEvents.{had_both}
+use Rattle.device_laws.proofs.PlainEvents.{had_both, had_always}
 use Rattle.device_laws.proofs.PlainLosses.{Worked, walks_first, work_on}
 use Rattle.device_laws.proofs.PlainTurns.{Follows}
 use Rattle.device_laws.proofs.PoolWalks.{asks_had, hear_asks}
@@ -78,6 +78,7 @@ use Rattle.run_audit_laws.specs.Standing.{audited, half_by}
 use Rattle.run_audit_laws.proofs.ResetDevices.{HasParts}
 use Rattle.run_audit_laws.proofs.StepParts.{ended_parts}
 use Rattle.run_audit_laws.proofs.Lighter.{any_had}
+use Rattle.device_laws.proofs.KeptEvents.{always_any}
 
 -- Side A falls with its call, in a pair
 
@@ -154,22 +155,10 @@ down_opens_not s t r is =
     had_if s.a.up (λ up. absurd (let both : true ≡ false = sym up ∙ is in cc))
     (λ _. had_if (takes_b s) (λ _. had_write (λ ok. alone_opens_not t None B (W.write_counted s ok) ok)) (λ _. had_done tt))
 
-any_first : (s : MarksStore) (t : ℕ) (r : Bool) → Had (write_first by_plain s t r) (λ z w. Unit {0})
-unfolding W.write_first
-any_first s t r =
-    had_if s.a.up
-    (λ _. had_write (λ ok. had_if ok (λ _. had_done tt)
-    (λ _. had_then (any_had (W.write_counted s ok) A (Some t)) (λ z _ _. had_if (takes_b (W.write_counted s ok))
-    (λ _. had_write (λ then_ok. had_if then_ok (λ _. had_done tt) (λ _. had_then (any_had (W.write_counted z then_ok) B (Some t)) (λ k _ _. had_done tt))))
-    (λ _. had_done tt)))))
-    (λ _. had_if (takes_b s)
-    (λ _. had_write (λ ok. had_if ok (λ _. had_done tt) (λ _. had_then (any_had (W.write_counted s ok) B (Some t)) (λ z _ _. had_done tt))))
-    (λ _. had_done tt))
-
 opens_if : (s : MarksStore) (t : ℕ) (r : Bool) (fault : Option Side) → (is_some fault ≡ true → AIsDown s) →
     Had (write_first by_plain s t r) (λ z w. is_some fault ≡ true → OpensNot w.took)
 opens_if s t r (Some side) down = had_weaker (down_opens_not s t r (down refl)) (λ z w h fails. h)
-opens_if s t r None down = had_weaker (any_first s t r) (λ z w h fails. absurd (let none : false ≡ true = fails in cc))
+opens_if s t r None down = had_weaker (had_always (always_any (write_first by_plain s t r))) (λ z w h fails. absurd (let none : false ≡ true = fails in cc))
 
 -- What is said of the work, and the half write behind it
 

@@ -92,8 +92,8 @@ pub own_tried : {R S A : Type 0} {T : ℕ → Type 0} {n : ℕ} {q : S → Optio
 own_tried s i e x = own_try (λ ok. own_if ok x (own_done e))
 
 -- one, and then another
-wants_then : {R S Z A B : Type 0} (T : ℕ → Type 0) (n : ℕ) (i : Interaction R Image S A) (f : S → A → Interaction R Image Z B) (p : S → A → Type 0) (q : Z → B → Type 0) → Wants T n i p →
-    ((s : S) (a : A) → p s a → Wants T n (f s a) q) → Wants T n (and_then i f) q
+wants_then : {R S Z A B : Type 0} (T : ℕ → Type 0) (n : ℕ) (i : Interaction R Image S A) (f : S → A → Interaction R Image Z B) (p : S → A → Type 0)
+    (q : Z → B → Type 0) → Wants T n i p → ((s : S) (a : A) → p s a → Wants T n (f s a) q) → Wants T n (and_then i f) q
 unfolding Wants
 wants_then T n (Done s a) f p q h g = g s a h
 wants_then T n (Try k) f p q h g = λ ok. wants_then T n (k ok) f p q (h ok) g
@@ -102,8 +102,8 @@ wants_then T n (Read side t k) f p q h g = λ got. wants_then T n (k got) f p q 
 wants_then T n (Write side t r k) f p q h g = λ ok. wants_then T n (k ok) f p q (h ok) g
 wants_then T n (Tell m k) f p q h g = λ r. wants_then T n (k r) f p q (h r) g
 
-pub own_then : {R S Z A B : Type 0} {T : ℕ → Type 0} {n : ℕ} {i : Interaction R Image S A} {f : S → A → Interaction R Image Z B} {p : S → A → Type 0} {q : Z → B → Type 0} → Own T n i p →
-    ((s : S) (a : A) → p s a → Own T n (f s a) q) → Own T n (and_then i f) q
+pub own_then : {R S Z A B : Type 0} {T : ℕ → Type 0} {n : ℕ} {i : Interaction R Image S A} {f : S → A → Interaction R Image Z B}
+    {p : S → A → Type 0} {q : Z → B → Type 0} → Own T n i p → ((s : S) (a : A) → p s a → Own T n (f s a) q) → Own T n (and_then i f) q
 own_then {T = T} {n = n} {i = i} {f = f} {p = p} {q = q} h g = record { holds = wants_then T n i f p q h.holds (λ s a e. (g s a e).holds) }
 
 -- one, and then another unless memory was lacking

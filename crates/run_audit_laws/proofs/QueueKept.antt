@@ -48,14 +48,30 @@ start_fits d path f = record { small = f.small; short = f.short }
 pub fits_kept : IsKept Fits AnyEvent
 fits_kept = record {
   started = λ d path n may fault f. start_fits d path f;
-  commanded = λ d o running whole f. λ t. fits_by d _ (at (stays_still (command_based by_plain d)) t).1 f (still (command_own Any d.store.device 64 room by_plain Any any_comes d (any_chain d.chain) (refl, f.short)) t);
-  seconded = λ d h is f. λ t. fits_by d _ (at (stays_still (second_based by_plain d)) t).1 f (still (second_own Any d.store.device 64 room by_plain d (refl, f.short)) t);
-  worked = λ d whole f. λ t. fits_by d _ (at (stays_still (background_based by_plain d)) t).1 f (still (background_own Any d.store.device 64 room by_plain d (any_queued d.store.queue) (refl, f.short)) t);
-  cut = λ d path f. λ t. fits_by d _ (at (stays_still (reset_body by_plain d path)) t).1 f (still (reset_own Any d.store.device 64 room by_plain d path (refl, f.short)) t);
-  lost_cache = λ d f. λ t. fits_by d _ (at (stays_still (lose_based by_plain d losses.Cache)) t).1 f (still (lose_own Any d.store.device 64 room by_plain d losses.Cache (refl, f.short)) t);
-  lost_store = λ d f. λ t. fits_by d _ (at (stays_still (lose_based by_plain d losses.Store)) t).1 f (still (lose_own Any d.store.device 64 room by_plain d losses.Store (refl, f.short)) t);
-  lost_side = λ d side fault f. λ t. fits_by d _ (at (stays_still (lose_based by_plain d (losses.Side side))) t).1 f (still (lose_own Any d.store.device 64 room by_plain d (losses.Side side) (refl, f.short)) t);
-  lost_power = λ d f. λ t. fits_by d _ (at (stays_still (power_based by_plain d)) t).1 f (still (power_own Any d.store.device 64 room by_plain d (refl, f.short)) t);
+  commanded = λ d o running whole f. λ t.
+      fits_by d _ (at (stays_still (command_based by_plain d)) t).1 f
+      (still (command_own Any d.store.device 64 room by_plain Any any_comes d (any_chain d.chain) (refl, f.short)) t);
+  seconded = λ d h is f. λ t.
+      fits_by d _ (at (stays_still (second_based by_plain d)) t).1 f
+      (still (second_own Any d.store.device 64 room by_plain d (refl, f.short)) t);
+  worked = λ d whole f. λ t.
+      fits_by d _ (at (stays_still (background_based by_plain d)) t).1 f
+      (still (background_own Any d.store.device 64 room by_plain d (any_queued d.store.queue) (refl, f.short)) t);
+  cut = λ d path f. λ t.
+      fits_by d _ (at (stays_still (reset_body by_plain d path)) t).1 f
+      (still (reset_own Any d.store.device 64 room by_plain d path (refl, f.short)) t);
+  lost_cache = λ d f. λ t.
+      fits_by d _ (at (stays_still (lose_based by_plain d losses.Cache)) t).1 f
+      (still (lose_own Any d.store.device 64 room by_plain d losses.Cache (refl, f.short)) t);
+  lost_store = λ d f. λ t.
+      fits_by d _ (at (stays_still (lose_based by_plain d losses.Store)) t).1 f
+      (still (lose_own Any d.store.device 64 room by_plain d losses.Store (refl, f.short)) t);
+  lost_side = λ d side fault f. λ t.
+      fits_by d _ (at (stays_still (lose_based by_plain d (losses.Side side))) t).1 f
+      (still (lose_own Any d.store.device 64 room by_plain d (losses.Side side) (refl, f.short)) t);
+  lost_power = λ d f. λ t.
+      fits_by d _ (at (stays_still (power_based by_plain d)) t).1 f
+      (still (power_own Any d.store.device 64 room by_plain d (refl, f.short)) t);
   held = λ d fault f. record { small = f.small; short = f.short };
   resumed = λ d fault f. record { small = f.small; short = f.short };
   replaced = λ d side fault f. replace_fits d side f;
