@@ -133,8 +133,9 @@ io_begins_none reads writes = record {
   by_outlines [] = refl
   by_outlines (a ∷ left) = refl
 
-harden_begins_none : (n t : ℕ) → BeginsNothing (lines.Loose n (loose.Harden t))
-harden_begins_none n t = record {
+loose_begins_none : (n : ℕ) (a : LooseAnswer) → ((s : List Outline) → is_loss s (lines.Loose n a) ≡ false) →
+    ((d : ℕ) → is_loss_of d (lines.Loose n a) ≡ false) → BeginsNothing (lines.Loose n a)
+loose_begins_none n a no_loss no_loss_of = record {
   ends = λ d o. refl;
   halves = λ d o. refl;
   seconds = λ d. refl;
@@ -145,35 +146,14 @@ harden_begins_none n t = record {
   resets = λ path d. refl;
   cuts = λ d o. refl;
   orders_are = λ o. refl;
-  losses = λ s. refl;
-  loss_of = λ d. refl;
+  losses = no_loss;
+  loss_of = no_loss_of;
   power = refl;
   totals = by_outlines;
 } where
-  by_outlines : (s : List Outline) → in_next s (lines.Loose n (loose.Harden t)) [] ≡ false
+  by_outlines : (s : List Outline) → in_next s (lines.Loose n a) [] ≡ false
   by_outlines [] = refl
-  by_outlines (a ∷ left) = refl
-
-loosen_begins_none : (n t : ℕ) → BeginsNothing (lines.Loose n (loose.Loosen t))
-loosen_begins_none n t = record {
-  ends = λ d o. refl;
-  halves = λ d o. refl;
-  seconds = λ d. refl;
-  backs = λ d. refl;
-  steps = λ d. refl;
-  runs = λ d. refl;
-  starts = λ path d. refl;
-  resets = λ path d. refl;
-  cuts = λ d o. refl;
-  orders_are = λ o. refl;
-  losses = λ s. refl;
-  loss_of = λ d. refl;
-  power = refl;
-  totals = by_outlines;
-} where
-  by_outlines : (s : List Outline) → in_next s (lines.Loose n (loose.Loosen t)) [] ≡ false
-  by_outlines [] = refl
-  by_outlines (a ∷ left) = refl
+  by_outlines (x ∷ left) = refl
 
 -- Every line
 
@@ -200,8 +180,8 @@ module _ (s : List Outline) (left : List EventLine) (calm : BeginsCalmly left) (
   refuted line b is = refuted_in line b left calm is
 
   loose_by : (n : ℕ) (a : LooseAnswer) → in_next s (lines.Loose n a) left ≡ true → is_of_work more w (lines.Loose n a) ≡ false
-  loose_by n (loose.Harden t) is = refuted (lines.Loose n (loose.Harden t)) (harden_begins_none n t) is
-  loose_by n (loose.Loosen t) is = refuted (lines.Loose n (loose.Loosen t)) (loosen_begins_none n t) is
+  loose_by n (loose.Harden t) is = refuted (lines.Loose n (loose.Harden t)) (loose_begins_none n (loose.Harden t) (λ s. refl) (λ d. refl)) is
+  loose_by n (loose.Loosen t) is = refuted (lines.Loose n (loose.Loosen t)) (loose_begins_none n (loose.Loosen t) (λ s. refl) (λ d. refl)) is
   loose_by n (loose.Lost count id) is = of_none (lines.Loose n (loose.Lost count id)) refl (λ d. refl) more w
 
   -- a line that comes next is none of the work before
