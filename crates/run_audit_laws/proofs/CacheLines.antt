@@ -68,12 +68,11 @@ use Rattle.report_auditor.specs.Verdict.{judged, or_history}
 use Rattle.run_report.specs.Beside.{id_of, loose_lines, loosed, of_each, over_lines}
 use Rattle.subsystem_defs.specs.Beside.{loose_count, told_act}
 use Rattle.subsystem_defs.specs.declared.end.EventEnd.TheVariants as ends
-use Rattle.subsystem_defs.specs.declared.end.OrderFault.TheVariants as faults
 use Rattle.subsystem_defs.specs.declared.event.Event.TheVariants as events
 use Rattle.subsystem_defs.specs.Deeds as E
-use Rattle.subsystem_defs.specs.Deeds.{Each, Ends}
+use Rattle.subsystem_defs.specs.Deeds.{Each}
 use Rattle.subsystem_defs.specs.Happening as H
-use Rattle.subsystem_defs.specs.Happening.{happens, happens_by, held_with, quietly, sweep, swept, told_to}
+use Rattle.subsystem_defs.specs.Happening.{happens, held_with, quietly, sweep, swept, told_to}
 use Rattle.subsystem_defs.specs.Lines.{Once}
 use Rattle.subsystem_defs.specs.Subsystem.{Mounted, Subsystem, devices_of}
 use Rattle.subsystem_laws.proofs.PlainRuns.{ArePlain, Plainly}
@@ -84,7 +83,7 @@ use Rattle.run_audit_laws.proofs.Found.{devices, outlined}
 use Rattle.run_audit_laws.proofs.KnownDevices.{count_is, has_is, known}
 use Rattle.run_audit_laws.proofs.Leading.{EventLeads, one_leads, then_some}
 use Rattle.run_audit_laws.proofs.LossDevices.{IsLoss, cache_acts, lost_acts, number_behind}
-use Rattle.run_audit_laws.proofs.Orders.{IsOrder, refused_leads}
+use Rattle.run_audit_laws.proofs.Orders.{IsOrder, down_or}
 use Rattle.run_audit_laws.proofs.ResetDevices.{audited_by}
 use Rattle.run_audit_laws.proofs.Saying.{same_loose, same_number}
 use Rattle.run_audit_laws.proofs.Ties.{Tie, ties}
@@ -316,8 +315,6 @@ module _ (s : Subsystem) (plain : ArePlain s.mounted) (rises : RisesFrom 0 (map 
 
   pub fail_cache_leads : EventLeads s wanted.FailCache (Once events.FailCache) (happens s events.FailCache)
   unfolding H.happens E.deed
-  fail_cache_leads = by_up (not s.pool.cache_up) where
-    by_up : (b : Bool) → EventLeads s wanted.FailCache (Once events.FailCache)
-        (happens_by s (if b then Ends (ends.Refused faults.Down) else Each (cache_failed s.pool) (λ x. lose by_plain x losses.Cache)))
-    by_up true = refused_leads s wanted.FailCache orders.FailCache (Once events.FailCache) fails_cache faults.Down
-    by_up false = cache_leads
+  fail_cache_leads =
+      down_or s wanted.FailCache orders.FailCache (Once events.FailCache) fails_cache (not s.pool.cache_up)
+      (Each (cache_failed s.pool) (λ x. lose by_plain x losses.Cache)) cache_leads
