@@ -212,9 +212,6 @@ module _ (xs : List AuditedDevice) (d : ℕ) (side : Side) (later : List EventLi
   abbrev waiting : List EventLine → AuditState
   waiting l = record { devices = xs; events = l; due = Behind more did }
 
-  abbrev target : AuditState
-  target = record { devices = ys; events = events.FailVolume d side ∷ later; due = Next }
-
   module _ (w : EventLine) (rest : List EventLine) (n : ℕ) (works : worker_of w ≡ Some n) (a : AuditedDevice) (has : device_in xs n ≡ Some a)
       (legal : is_legal did a ≡ true) where
     abbrev done : AuditedDevice

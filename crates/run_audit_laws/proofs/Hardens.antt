@@ -1,6 +1,7 @@
 -- A track that becomes firm behind the end of a command reads as one that became so before it.
 use Rattle.std.proofs.Common.{◌≡◌, ◌++◌, ℕ, Bool, true, false, not, List, [], ◌∷◌, Option, Some, None, refl, sym, ap, subst, ◌∙◌, if◌then◌else◌}
 use Rattle.std.specs.Prelude.{is_some, IfSome, option_map, ◌||◌, ◌&&◌}
+use Rattle.std.proofs.lemmas.Bool.{or_right}
 use Rattle.ckd_types.specs.declared.channel.CommandEnd.{CommandEnd}
 use Rattle.ckd_types.specs.Fixed.{Fixed}
 use Rattle.ckd_types.specs.Parameters.{is_provisional}
@@ -53,10 +54,6 @@ firmed k None = None
 
 -- A command that may edit its track may do so where fewer are loose
 
-or_true : (b : Bool) → (b || true) ≡ true
-or_true true = refl
-or_true false = refl
-
 legal_fewer : (p q : Part) (e : Option TrackEdit) → q.stance ≡ p.stance → ((t : ℕ) → is_loose p.state t ≡ false → is_loose q.state t ≡ false) →
     is_edit_legal p e ≡ true → is_edit_legal q e ≡ true
 legal_fewer p q None same fewer legal = refl
@@ -66,7 +63,7 @@ legal_fewer p q (Some e) same fewer legal = by_track (is_loose p.state e.track) 
   by_track true is =
       let own : is_provisional p.stance.extent ≡ true = sym (ap (λ (c : Bool). not c || is_provisional p.stance.extent) is) ∙ legal in
       ap (λ (z : Stance). not (is_loose q.state e.track) || is_provisional z.extent) same
-      ∙ ap (λ (c : Bool). not (is_loose q.state e.track) || c) own ∙ or_true (not (is_loose q.state e.track))
+      ∙ ap (λ (c : Bool). not (is_loose q.state e.track) || c) own ∙ or_right (not (is_loose q.state e.track)) true refl
 
 -- Where the program then is
 

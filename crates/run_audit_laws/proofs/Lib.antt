@@ -43,7 +43,7 @@ mod PowerTold
 mod PowerLines
 mod OwnCalls
 mod OwnParts
-mod NextTracks
+mod Seats
 mod OwnEvents
 mod FramesOwned
 mod FrameTracks
@@ -81,9 +81,6 @@ mod SecondLighter
 mod SecondWork
 mod BackEvents
 mod BackEnds
-mod Queues
-mod QueueEvents
-mod QueueRuns
 mod QueueKept
 mod SettleEnds
 mod InOrder

@@ -1,6 +1,7 @@
 -- The first line of an event isn't of the work before it, so lines that lead on from where that work is known to be done do so from where it isn't.
 use Rattle.std.proofs.Common.{◌≡◌, ◌==◌, ◌++◌, ℕ, Bool, true, false, not, List, [], ◌∷◌, Option, Some, None, refl, sym, ap, subst, ◌∙◌, if◌then◌else◌}
 use Rattle.std.specs.Prelude.{◌||◌, ◌&&◌, Result, Ok, Err}
+use Rattle.std.proofs.lemmas.Bool.{or_from, and_right}
 use Rattle.deck_plan.specs.declared.event.EventLine.{EventLine}
 use Rattle.deck_plan.specs.declared.event.EventLine.TheVariants as events
 use Rattle.report_text.specs.declared.answers.LooseAnswer.{LooseAnswer}
@@ -49,20 +50,13 @@ record BeginsNothing (line : ReportLine) : Type 0 where
   power : is_power_done line ≡ false
   totals : (s : List Outline) → in_next s line [] ≡ false
 
-neither : (a b : Bool) → a ≡ false → b ≡ false → (a || b) ≡ false
-neither a b e f = ap (λ (x : Bool). x || b) e ∙ f
-
-never_both : (a b : Bool) → b ≡ false → (a && b) ≡ false
-never_both true b e = e
-never_both false b e = refl
-
 never_holds : {T : Type 0} (o : Option T) (f : T → Bool) → ((x : T) → f x ≡ false) → holds o f ≡ false
 never_holds None f no_one = refl
 never_holds (Some x) f no_one = no_one x
 
 module _ (line : ReportLine) (b : BeginsNothing line) where
   in_no_steps : (a : Outline) (idle : ReportLine) → says idle line ≡ false → (r : Option OpenProgram) → in_steps a idle line r ≡ false
-  in_no_steps a idle no_idle (Some o) = neither (is_end a.number o line) (is_half a.number o line) (b.ends a.number o) (b.halves a.number o)
+  in_no_steps a idle no_idle (Some o) = or_from (is_end a.number o line) (is_half a.number o line) (b.ends a.number o) (b.halves a.number o)
   in_no_steps a idle no_idle None = no_idle
 
   no_second : (a : Outline) (r : Option OpenProgram) → second_of a line r ≡ false
@@ -89,7 +83,7 @@ module _ (line : ReportLine) (b : BeginsNothing line) where
   no_power_of : (a : Outline) (below : Bool) → below ≡ false → (r : Option OpenProgram) → in_power_of a line below r ≡ false
   no_power_of a below none (Some o) = b.cuts a.number o
   no_power_of a below none None =
-      neither (is_loss_of a.number line) (not a.loose && below) (b.loss_of a.number) (never_both (not a.loose) below none)
+      or_from (is_loss_of a.number line) (not a.loose && below) (b.loss_of a.number) (and_right (not a.loose) below none)
 
   no_power : (s : List Outline) → in_power line s ≡ false
   no_power [] = b.power
@@ -104,7 +98,7 @@ module _ (line : ReportLine) (b : BeginsNothing line) where
   begins_none s (events.Back d) calm = never_holds (outline_in s d) (λ a. may_back a line a.half) (λ a. no_back a a.half)
   begins_none s (events.Settle d) calm = never_holds (outline_in s d) (λ a. may_back a line a.half) (λ a. no_back a a.half)
   begins_none s (events.Reset path d) calm = never_holds (outline_in s d) (λ a. may_reset path d a line a.running) (λ a. no_reset path d a a.running)
-  begins_none s events.FailCache calm = neither (is_loss s line) (is_order orders.FailCache line) (b.losses s) (b.orders_are orders.FailCache)
+  begins_none s events.FailCache calm = or_from (is_loss s line) (is_order orders.FailCache line) (b.losses s) (b.orders_are orders.FailCache)
   begins_none s events.FailStore calm = b.orders_are orders.FailStore
   begins_none s (events.FailVolume d side) calm = absurd calm
   begins_none s events.RepairCache calm = b.orders_are orders.RepairCache
@@ -139,8 +133,9 @@ io_begins_none reads writes = record {
   by_outlines [] = refl
   by_outlines (a ∷ left) = refl
 
-harden_begins_none : (n t : ℕ) → BeginsNothing (lines.Loose n (loose.Harden t))
-harden_begins_none n t = record {
+loose_begins_none : (n : ℕ) (a : LooseAnswer) → ((s : List Outline) → is_loss s (lines.Loose n a) ≡ false) →
+    ((d : ℕ) → is_loss_of d (lines.Loose n a) ≡ false) → BeginsNothing (lines.Loose n a)
+loose_begins_none n a no_loss no_loss_of = record {
   ends = λ d o. refl;
   halves = λ d o. refl;
   seconds = λ d. refl;
@@ -151,35 +146,14 @@ harden_begins_none n t = record {
   resets = λ path d. refl;
   cuts = λ d o. refl;
   orders_are = λ o. refl;
-  losses = λ s. refl;
-  loss_of = λ d. refl;
+  losses = no_loss;
+  loss_of = no_loss_of;
   power = refl;
   totals = by_outlines;
 } where
-  by_outlines : (s : List Outline) → in_next s (lines.Loose n (loose.Harden t)) [] ≡ false
+  by_outlines : (s : List Outline) → in_next s (lines.Loose n a) [] ≡ false
   by_outlines [] = refl
-  by_outlines (a ∷ left) = refl
-
-loosen_begins_none : (n t : ℕ) → BeginsNothing (lines.Loose n (loose.Loosen t))
-loosen_begins_none n t = record {
-  ends = λ d o. refl;
-  halves = λ d o. refl;
-  seconds = λ d. refl;
-  backs = λ d. refl;
-  steps = λ d. refl;
-  runs = λ d. refl;
-  starts = λ path d. refl;
-  resets = λ path d. refl;
-  cuts = λ d o. refl;
-  orders_are = λ o. refl;
-  losses = λ s. refl;
-  loss_of = λ d. refl;
-  power = refl;
-  totals = by_outlines;
-} where
-  by_outlines : (s : List Outline) → in_next s (lines.Loose n (loose.Loosen t)) [] ≡ false
-  by_outlines [] = refl
-  by_outlines (a ∷ left) = refl
+  by_outlines (x ∷ left) = refl
 
 -- Every line
 
@@ -206,8 +180,8 @@ module _ (s : List Outline) (left : List EventLine) (calm : BeginsCalmly left) (
   refuted line b is = refuted_in line b left calm is
 
   loose_by : (n : ℕ) (a : LooseAnswer) → in_next s (lines.Loose n a) left ≡ true → is_of_work more w (lines.Loose n a) ≡ false
-  loose_by n (loose.Harden t) is = refuted (lines.Loose n (loose.Harden t)) (harden_begins_none n t) is
-  loose_by n (loose.Loosen t) is = refuted (lines.Loose n (loose.Loosen t)) (loosen_begins_none n t) is
+  loose_by n (loose.Harden t) is = refuted (lines.Loose n (loose.Harden t)) (loose_begins_none n (loose.Harden t) (λ s. refl) (λ d. refl)) is
+  loose_by n (loose.Loosen t) is = refuted (lines.Loose n (loose.Loosen t)) (loose_begins_none n (loose.Loosen t) (λ s. refl) (λ d. refl)) is
   loose_by n (loose.Lost count id) is = of_none (lines.Loose n (loose.Lost count id)) refl (λ d. refl) more w
 
   -- a line that comes next is none of the work before

@@ -3,7 +3,7 @@ use Rattle.std.proofs.Common.{◌≡◌, ◌≤◌, ◌+◌, ◌==◌, ◌++◌,
 use Rattle.std.specs.Prelude.{◌&&◌, All, codes, Ok, Err}
 use Rattle.std.specs.List.{flat_map}
 use Rattle.std.specs.Str.{bytes_eq}
-use Rattle.std.proofs.lemmas.Bool.{and_parts}
+use Rattle.std.proofs.lemmas.Bool.{and_parts, not-true}
 use Rattle.std.proofs.lemmas.List.{append-nil}
 use Rattle.std.proofs.lemmas.List.Elements.{All-head, All-tail}
 use Rattle.deck_text.specs.DeckLines.{DeckLines}
@@ -20,7 +20,7 @@ use Rattle.report_reading.specs.Reading.{line_of}
 use Rattle.report_auditor.specs.declared.status.AuditStatus.TheVariants.{Yes}
 use Rattle.report_auditor.specs.Verdict.{read_back}
 use Rattle.run_audit_laws.specs.Texts.{IsEnded, IsOwnReport, own_text}
-use Rattle.run_audit_laws.proofs.Feeds.{AreWhole, is_whole, not_feed, text_whole}
+use Rattle.run_audit_laws.proofs.Feeds.{AreWhole, is_whole, text_whole}
 use Rattle.run_audit_laws.proofs.DeckTexts.{read_has_none}
 use Rattle.run_audit_laws.proofs.RangedRuns.{report_is_in_range}
 use Rattle.run_audit_laws.proofs.Texts.{own_report_is_yes}
@@ -31,7 +31,7 @@ cut_one : (x rest : List ℕ) → is_whole x ≡ true → cut_lines (x ++ 10 ∷
 cut_one [] rest h = refl
 cut_one (b ∷ x) rest h =
     let p = and_parts (not (b == 10)) (is_whole x) h in
-    ap (λ (c : Bool). if c then [] ∷ cut_lines (x ++ 10 ∷ rest) else onto_first b (cut_lines (x ++ 10 ∷ rest))) (not_feed (b == 10) p.0)
+    ap (λ (c : Bool). if c then [] ∷ cut_lines (x ++ 10 ∷ rest) else onto_first b (cut_lines (x ++ 10 ∷ rest))) (not-true (b == 10) p.0)
     ∙ ap (onto_first b) (cut_one x rest p.1)
 
 -- lines that are ended, and what stands behind them

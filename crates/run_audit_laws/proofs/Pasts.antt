@@ -154,9 +154,6 @@ module _ (plans : Plans) (state : PlainState) (o : OpenEntry) (tidy : IsTidyOpen
   abbrev words : List Ccw
   words = program_of plans o.path o.ordinal
 
-  abbrev goes : Going
-  goes = going_of plans state o
-
   part_next : untold (part_of state o.path (program_of plans o.path o.ordinal) o.acts (suc (length o.ends))) ≡ next_part plans (going_of plans state o)
   part_next = step_more o.path words state o.acts (length o.ends) tidy
 

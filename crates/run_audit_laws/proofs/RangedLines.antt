@@ -47,7 +47,7 @@ use Rattle.run_audit_laws.proofs.RangedCommands.{EndIn, EventIn}
 use Rattle.run_audit_laws.proofs.RangedDevices.{Ranged, device_ranged, few_programs}
 use Rattle.run_audit_laws.proofs.RunEnds.{few_of}
 use Rattle.run_audit_laws.proofs.RangedEnds.{Answers, AnswersOnce, OrderIn}
-use Rattle.run_audit_laws.proofs.RangedSteps.{WorkAsked, WorkIn}
+use Rattle.run_audit_laws.proofs.RangedSteps.{WorkIn}
 use Rattle.run_audit_laws.proofs.RangedWork.{track_in_range}
 
 pub one : (line : ReportLine) → IsLine line → All IsLine (line ∷ [])
@@ -153,27 +153,27 @@ module _ (xs : List MarksDevice) (all : All Ranged xs) where
   path_in : (d : ℕ) → IfSome (running_in xs d) HasPath
   path_in d = running_path (device_in xs d) (device_ranged xs d all)
 
-  once_names : (end : EventEnd) (e : Event) → Names (Once e) → AnswersOnce e end → WorkAsked (Once e) end → Repairs e end → HasNames (told xs end (Once e))
-  once_names end (events.Start path d) n a o w = (n.0, n.1, a)
-  once_names end (events.Step d) n a o w = work_names d n (running_in xs d) (path_in d) (did.StepIdle d) n end a o
-  once_names end (events.Back d) n a o w = work_names d n (running_in xs d) (path_in d) (did.Back d back.Nothing) (n, tt) end a o
-  once_names end (events.Reset path d) n a o w = n
-  once_names end events.FailCache n a o w = (tt, a)
-  once_names end events.FailStore n a o w = (tt, a)
-  once_names end (events.FailVolume d side) n a o w = (n, a)
-  once_names end events.RepairCache n a o w = (tt, w)
-  once_names end events.RepairStore n a o w = (tt, w)
-  once_names end (events.Pair x y) n a o w = (n, a)
-  once_names end (events.Suspend x) n a o w = (n, a)
-  once_names end (events.Resume x) n a o w = (n, a)
-  once_names end events.Power n a o w = (tt, a)
+  once_names : (end : EventEnd) (e : Event) → Names (Once e) → AnswersOnce e end → Repairs e end → HasNames (told xs end (Once e))
+  once_names end (events.Start path d) n a w = (n.0, n.1, a)
+  once_names end (events.Step d) n a w = work_names d n (running_in xs d) (path_in d) (did.StepIdle d) n end a.0 a.1
+  once_names end (events.Back d) n a w = work_names d n (running_in xs d) (path_in d) (did.Back d back.Nothing) (n, tt) end a.0 a.1
+  once_names end (events.Reset path d) n a w = n
+  once_names end events.FailCache n a w = (tt, a)
+  once_names end events.FailStore n a w = (tt, a)
+  once_names end (events.FailVolume d side) n a w = (n, a)
+  once_names end events.RepairCache n a w = (tt, w)
+  once_names end events.RepairStore n a w = (tt, w)
+  once_names end (events.Pair x y) n a w = (n, a)
+  once_names end (events.Suspend x) n a w = (n, a)
+  once_names end (events.Resume x) n a w = (n, a)
+  once_names end events.Power n a w = (tt, a)
 
-  told_names : (end : EventEnd) (asked : Asked) → Names asked → Answers asked end → WorkAsked asked end → RepairsIn asked end → HasNames (told xs end asked)
-  told_names end (Once e) n a o w = once_names end e n a o w
-  told_names end (Replace d side) n a o w = (n, a)
-  told_names end (Unpair x) n a o w = (n, a)
-  told_names end (Run d) n a o w = work_names d n (running_in xs d) (path_in d) (did.RunIdle d) n end a o
-  told_names end (Settle d) n a o w = work_names d n (running_in xs d) (path_in d) (did.Back d back.Nothing) (n, tt) end a o
+  told_names : (end : EventEnd) (asked : Asked) → Names asked → Answers asked end → RepairsIn asked end → HasNames (told xs end asked)
+  told_names end (Once e) n a w = once_names end e n a w
+  told_names end (Replace d side) n a w = (n, a)
+  told_names end (Unpair x) n a w = (n, a)
+  told_names end (Run d) n a w = work_names d n (running_in xs d) (path_in d) (did.RunIdle d) n end a.0 a.1
+  told_names end (Settle d) n a w = work_names d n (running_in xs d) (path_in d) (did.Back d back.Nothing) (n, tt) end a.0 a.1
 
 -- Beside it
 
@@ -311,9 +311,9 @@ module _ (reads writes : ℕ) (few : IsLong reads × IsLong writes) (xs ys : Lis
       (All-append IsLine io (overs ++ last) io_known
       (All-append IsLine overs last (each_known over_lines overs_known xs ys before behind) (last_known h n))))
 
-  pub event_known : (end : EventEnd) (asked : Asked) → Names asked → Answers asked end → WorkAsked asked end → RepairsIn asked end →
+  pub event_known : (end : EventEnd) (asked : Asked) → Names asked → Answers asked end → RepairsIn asked end →
       All IsLine (event_lines asked end reads writes xs ys)
-  event_known end asked n a o w = by_asked asked (told_names xs before end asked n a o w) where
+  event_known end asked n a w = by_asked asked (told_names xs before end asked n a w) where
     by_asked : (asked : Asked) → HasNames (told xs end asked) → All IsLine (event_lines asked end reads writes xs ys)
     by_asked (Once (events.Start path d)) h = work_known (told xs end (Once (events.Start path d))) h
     by_asked (Once (events.Step d)) h = work_known (told xs end (Once (events.Step d))) h

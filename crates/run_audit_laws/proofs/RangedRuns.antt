@@ -59,7 +59,7 @@ use Rattle.run_audit_laws.proofs.NamedEvents.{Names, run_names}
 use Rattle.run_audit_laws.proofs.RangedDevices.{Ranged, device_ranged}
 use Rattle.run_audit_laws.proofs.RangedEnds.{Answers, AnswersSo, OrderIn, answers_go}
 use Rattle.run_audit_laws.proofs.RangedLines.{RepairsIn, event_known, one}
-use Rattle.run_audit_laws.proofs.RangedSteps.{WorkAsked, WorksSo, works_go, works_on}
+use Rattle.run_audit_laws.proofs.RangedSteps.{works_on}
 use Rattle.run_audit_laws.proofs.RangedWork.{WorksOn}
 
 -- The calls of an event
@@ -169,15 +169,6 @@ all_answer s (t ∷ ts) l g r =
     All-cons AnswersLogged t ts (g.0 (subst AllRanged l.0 (All-head BothRanged t ts r).0))
     (all_answer t.happened.behind ts l.1 g.1 (All-tail BothRanged t ts r))
 
-abbrev WorksLogged : Logged → Type 0
-WorksLogged t = WorkAsked t.asked t.happened.end
-
-all_work : (s : Subsystem) (ts : List Logged) → Linked s ts → Logs (λ s. Unit {0}) WorksSo s ts → All BothRanged ts → All WorksLogged ts
-all_work s [] l g r = All-nil WorksLogged
-all_work s (t ∷ ts) l g r =
-    All-cons WorksLogged t ts (g.0 (subst AllRanged l.0 (All-head BothRanged t ts r).0))
-    (all_work t.happened.behind ts l.1 g.1 (All-tail BothRanged t ts r))
-
 -- What a repair answers
 
 few_waiting : (k a b c : ℕ) → k ≤ 64 → a ≤ k * 15 → b ≤ c * 960 → a + b ≤ suc c * 960
@@ -234,7 +225,6 @@ pub record Shows (t : Logged) : Type 0 where
   pub names : NamesLogged t
   pub moves : MovesByTable t
   pub answers : AnswersLogged t
-  pub works : WorksLogged t
   pub waiting : TellsWaiting t
 
 one_known : (t : Logged) → Shows t → All IsLine (lines_of t)
@@ -242,12 +232,12 @@ one_known t k =
     let h = t.happened in
     let r = k.ranged in
     event_known h.reads h.writes (long_few h.reads h.writes (asked_calls h.reads h.writes t.asked h.before h.end r.0 k.moves)) (devices_of h.before)
-    (devices_of h.behind) r.0 r.1 h.end t.asked k.names k.answers k.works (repairs_in t r.0 k.few k.waiting)
+    (devices_of h.behind) r.0 r.1 h.end t.asked k.names k.answers (repairs_in t r.0 k.few k.waiting)
 
 all_known : (ts : List Logged) → All BothRanged ts → All IsFew ts → All NamesLogged ts → All MovesByTable ts → All AnswersLogged ts →
-    All WorksLogged ts → All TellsWaiting ts → All IsLine (flat_map lines_of ts)
-all_known [] r f n m a o w = All-nil IsLine
-all_known (t ∷ ts) r f n m a o w =
+    All TellsWaiting ts → All IsLine (flat_map lines_of ts)
+all_known [] r f n m a w = All-nil IsLine
+all_known (t ∷ ts) r f n m a w =
     All-append IsLine (lines_of t) (flat_map lines_of ts)
     (one_known t (record {
       ranged = All-head BothRanged t ts r;
@@ -255,11 +245,10 @@ all_known (t ∷ ts) r f n m a o w =
       names = All-head NamesLogged t ts n;
       moves = All-head MovesByTable t ts m;
       answers = All-head AnswersLogged t ts a;
-      works = All-head WorksLogged t ts o;
       waiting = All-head TellsWaiting t ts w;
     }))
     (all_known ts (All-tail BothRanged t ts r) (All-tail IsFew t ts f) (All-tail NamesLogged t ts n) (All-tail MovesByTable t ts m)
-    (All-tail AnswersLogged t ts a) (All-tail WorksLogged t ts o) (All-tail TellsWaiting t ts w))
+    (All-tail AnswersLogged t ts a) (All-tail TellsWaiting t ts w))
 
 owner_in : (d : MarksDevice) → Sized d → Plainly d → IfSome d.paths.owner IsOwner
 owner_in d s p =
@@ -404,7 +393,6 @@ module _ (text : List ℕ) (deck : DeckLines) (read : parsed text ≡ Ok deck) w
       in
       all_known ts ranged (run_has_few text deck read) (run_names text deck read) (run_moves deck)
       (all_answer (opened deck) ts linked (lines_keep (λ s. Unit {0}) AnswersSo answers_go asked (opened deck) tt) ranged)
-      (all_work (opened deck) ts linked (lines_keep (λ s. Unit {0}) WorksSo works_go asked (opened deck) tt) ranged)
       (run_tells_of_waiting deck (read_served text deck read) (read_numbered text deck read))
 
   pub report_is_in_range : All IsLine (report_lines (run_of deck))

@@ -19,7 +19,7 @@ use Rattle.subsystem_defs.specs.Closing.{ending}
 use Rattle.subsystem_defs.specs.Decks as D
 use Rattle.subsystem_defs.specs.Decks.{opened, opened_device, run_of}
 use Rattle.subsystem_defs.specs.Lines as L
-use Rattle.subsystem_defs.specs.Lines.{Asked, Logged, asked_by, last_behind, line_logged, run_lines}
+use Rattle.subsystem_defs.specs.Lines.{Logged, asked_by, last_behind, line_logged, run_lines}
 use Rattle.subsystem_defs.specs.Subsystem.{Mounted, Subsystem}
 use Rattle.report_places.specs.Place.{worker_of}
 use Rattle.subsystem_laws.proofs.PlainRuns.{ArePlain}

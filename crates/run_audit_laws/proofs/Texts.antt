@@ -1,8 +1,8 @@
 -- An audit says yes to a text of which the lines lead it to FINISH.
-use Rattle.std.proofs.Common.{◌≡◌, ◌≤◌, ◌+◌, ℕ, Bool, true, false, List, [], ◌∷◌, length, map, Some, sym, ap, ◌∙◌, if◌then◌else◌, arith}
-use Rattle.std.specs.Prelude.{All, nat_lt, Result, Ok, Err}
-use Rattle.std.proofs.lemmas.Bool.Decides.{nat_tests}
+use Rattle.std.proofs.Common.{◌≡◌, ◌+◌, ℕ, Bool, true, List, [], ◌∷◌, length, map, Some, sym, ap, ◌∙◌, if◌then◌else◌}
+use Rattle.std.specs.Prelude.{All, Result, Ok, Err}
 use Rattle.std.proofs.lemmas.List.Elements.{All-head, All-tail}
+use Rattle.std.proofs.lemmas.Bool.{le-ltb}
 use Rattle.deck_text.specs.declared.line.DeckFault.{DeckFault}
 use Rattle.deck_text.specs.declared.line.Which.TheVariants.{Size}
 use Rattle.deck_text.specs.DeckLines.{DeckLines}
@@ -26,9 +26,6 @@ use Rattle.run_audit_laws.proofs.Forms.{Formed, report_has_form}
 use Rattle.run_audit_laws.proofs.RangedRuns.{report_is_in_range}
 use Rattle.run_audit_laws.proofs.Runs.{report_leads}
 
-not_long : (most n : ℕ) → n ≤ most → nat_lt most n ≡ false
-not_long most n le = grind (arith, nat_tests, le)
-
 -- where what is written is read back
 module _ (again : (line : ReportLine) → IsLine line → line_of (text_of line) ≡ (if has_form line then Ok line else Err (form_fault line))) where
   read_again : (line : ReportLine) → IsLine line → has_form line ≡ true → line_of (text_of line) ≡ Ok line
@@ -48,7 +45,7 @@ module _ (again : (line : ReportLine) → IsLine line → line_of (text_of line)
   yes_by : (text : List ℕ) (deck : DeckLines) → (o : IsOwnReport text deck) → WholeLeads (first_state deck) (report_lines (run_of deck)) → read_back text ≡ Yes
   unfolding V.read_back
   yes_by text deck o leads =
-      ap (λ (b : Bool). if b then Limit Size else read_back_at text (report_from 0 (cut_lines text))) (not_long 268435456 (length text) o.size)
+      ap (λ (b : Bool). if b then Limit Size else read_back_at text (report_from 0 (cut_lines text))) (le-ltb 268435456 (length text) o.size)
       ∙ ap (read_back_at text) o.found
       ∙ ap (λ (r : Result DeckLines DeckFault). deck_judged r text (Some o.lines)) o.parses
       ∙ ap (judged_lines (o.lines + 2) (first_state deck)) o.says

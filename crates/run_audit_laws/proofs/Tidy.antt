@@ -71,7 +71,7 @@ use Rattle.ckd_types.specs.Ccw.{is_chained}
 use Rattle.ckd_rules.specs.Area.{given_at}
 use Rattle.ckd_rules.specs.Updates.{update_data, update_ended, update_record, update_sought}
 use Rattle.ckd_rules.specs.Walk as W
-use Rattle.ckd_rules.specs.Walk.{Walked, touching, walk, walked}
+use Rattle.ckd_rules.specs.Walk.{Walked, walk, walked}
 use Rattle.ckd_rules.specs.Writes.{write_on}
 use Rattle.hex.specs.Hex.{IsBytes}
 use Rattle.plain_defs.specs.Acts.{act_fault, act_outcome}

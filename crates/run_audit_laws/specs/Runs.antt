@@ -1,14 +1,12 @@
 -- How an audit goes along a run, from each event line of the deck to the next.
-use Rattle.std.specs.Prelude.{◌≡◌, ◌++◌, ℕ, Bool, true, false, List, [], ◌∷◌, map}
+use Rattle.std.specs.Prelude.{◌≡◌, ℕ, Bool, true, false, List, [], ◌∷◌, map}
 use Rattle.std.specs.List.{flat_map}
 use Rattle.deck_plan.specs.declared.event.EventLine.{EventLine}
 use Rattle.deck_plan.specs.declared.event.EventLine.TheVariants as events
 use Rattle.report_text.specs.declared.line.ReportLine.{ReportLine}
 use Rattle.report_places.specs.declared.state.Due.TheVariants.{Nothing}
 use Rattle.deck_audit.specs.State.{AuditState}
-use Rattle.run_report.specs.Closing.{ending_lines}
 use Rattle.run_report.specs.Events.{lines_of}
-use Rattle.subsystem_defs.specs.Closing.{ending}
 use Rattle.subsystem_defs.specs.Lines.{Logged, asked_by, is_busy, is_settled, last_behind, line_logged, run_lines}
 use Rattle.subsystem_defs.specs.Subsystem.{Subsystem, mounted_in}
 use Rattle.run_audit_laws.specs.Standing.{LeadsBy, LineLeads, stand}
@@ -47,10 +45,6 @@ LineDoes s e = LineLeads s e
 
 abbrev pub behind_lines : Subsystem → List EventLine → Subsystem
 behind_lines s events = last_behind s (run_lines (map asked_by events) s)
-
--- the report of these event lines, to FINISH
-abbrev pub report_from : Subsystem → List EventLine → List ReportLine
-report_from s events = flat_map lines_of (run_lines (map asked_by events) s) ++ ending_lines (ending (behind_lines s events))
 
 -- the audit is led to its end
 abbrev pub WholeLeads : AuditState → List ReportLine → Type 0
