@@ -1,13 +1,13 @@
-ghost use Rattle.std.specs.Prelude.{◌≡◌, []};
-ghost use Rattle.deck_text.specs.Answers.{Parses, refusing};
+ghost use Rattle.std.specs.Prelude.{◌≡◌, ◌++◌, [], Ok};
+ghost use Rattle.deck_text.specs.Answers.{Parses, Takes, refusing};
 ghost use Rattle.deck_text.specs.Words.{words_of};
-ghost use Rattle.deck_text.specs.Forms.{byte_of, word_bytes, bytes_of, head_of, ccw_line};
+ghost use Rattle.deck_text.specs.Forms.{and_then, byte_of, word_bytes, bytes_of, head_of, ccw_line};
 
 use crate::numbers::number_in;
 use crate::words::next_word;
 use crate::{DeckFault, DeckWhy};
 use ckd_types::{Bytes, Ccw};
-use hex::{FromHex, FromHexError};
+use hex::FromHex;
 use std::alloc::Global;
 
 const MOST: u32 = 65535;
@@ -22,13 +22,14 @@ fn byte_of(word: &[u8]) -> Option<u8>
     }
 }
 
-/// The bytes of one word of digits.
-fn word_bytes(alloc: Global, line: u32, word: &[u8]) -> Result<Bytes, DeckFault>
-    ensures { Parses result (refusing line (word_bytes word.now)) }
+/// Adds the bytes of one word of digits.
+fn add_word(bytes: &mut Vec<u8>, line: u32, word: &[u8]) -> Result<(), DeckFault>
+    ensures { Takes result bytes.new.items (refusing line (and_then (word_bytes word.now) (λ more. Ok (bytes.old.items ++ more)))) }
 {
-    match hex::decode(alloc, word) {
-        Ok(bytes) => Ok(Bytes::from_vec(bytes)),
-        Err(FromHexError::OutOfMemory) => Err(DeckFault::NoMemory),
+    let from = bytes.len();
+    bytes.resize(from + word.len() / 2, 0)?;
+    match hex::decode_to_slice(word, &mut bytes[from..]) {
+        Ok(()) => Ok(()),
         Err(_) => {
             let why = DeckWhy::Hex;
             Err(DeckFault::Refused { line, why })
@@ -36,19 +37,18 @@ fn word_bytes(alloc: Global, line: u32, word: &[u8]) -> Result<Bytes, DeckFault>
     }
 }
 
-/// The bytes of all the words of digits.
+/// The bytes of all the words of digits, in room that is made once.
 fn bytes_of(alloc: Global, line: u32, rest: &[u8]) -> Result<Bytes, DeckFault>
     ensures { Parses result (refusing line (bytes_of [] (words_of rest.now))) }
 {
-    let mut bytes = Vec::new(alloc);
+    let mut bytes = Vec::with_capacity(alloc, rest.len() / 2)?;
     let mut rest = rest;
     'words: loop {
         let (word, after) = next_word(rest);
         if word.is_empty() {
             return Ok(Bytes::from_vec(bytes));
         }
-        let more = word_bytes(alloc, line, word)?;
-        bytes.extend_from_slice(more.as_slice())?;
+        add_word(&mut bytes, line, word)?;
         rest = after;
     }
 }

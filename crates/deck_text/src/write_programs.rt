@@ -6,7 +6,7 @@ ghost use Rattle.deck_text.specs.Canonical.{bytes_text, ccw_text, end_text, line
 
 use crate::PlannedProgram;
 use crate::write_lines::{write_end, write_program_line};
-use ckd_outside::{Failed, LineBuffer, Piece, Sink, Spelling, put_all, write_pieces};
+use ckd_outside::{Failed, LineBuffer, Sink, Spelling, make_room, put_all, put_hex, put_text};
 use ckd_types::Ccw;
 
 #[tactic(auto, unfolding(crate::specs::Canonical::word_text))]
@@ -14,15 +14,14 @@ fn write_word<K: Sink>(sink: &mut K, buffer: &mut LineBuffer, ccw: &Ccw) -> Resu
     ensures bytes { Puts (K.held sink.old) buffer.old (K.held sink.new) buffer.new result (word_text ccw.now) }
     ensures cause { HasCause (K.faults sink.old) (K.faults sink.new) result }
 {
-    let pieces = [
-        Piece::Text(b"CCW "),
-        Piece::Byte(ccw.command),
-        Piece::Text(b" "),
-        Piece::Byte(ccw.flags),
-        Piece::Text(b" "),
-        Piece::Number(u64::from(ccw.count)),
-    ];
-    write_pieces(sink, buffer, &pieces)
+    make_room(sink, buffer, 30)?;
+    buffer.put(b"CCW ");
+    buffer.put_byte(ccw.command);
+    buffer.put(b" ");
+    buffer.put_byte(ccw.flags);
+    buffer.put(b" ");
+    buffer.put_number(u64::from(ccw.count));
+    Ok(())
 }
 
 fn write_bytes<K: Sink>(sink: &mut K, buffer: &mut LineBuffer, bytes: &[u8]) -> Result<(), Failed>
@@ -32,7 +31,8 @@ fn write_bytes<K: Sink>(sink: &mut K, buffer: &mut LineBuffer, bytes: &[u8]) -> 
     if bytes.is_empty() {
         return Ok(());
     }
-    write_pieces(sink, buffer, &[Piece::Text(b" "), Piece::Hex(bytes)])
+    put_text(sink, buffer, b" ")?;
+    put_hex(sink, buffer, bytes)
 }
 
 #[tactic(auto, unfolding(crate::specs::Canonical::line_end))]
@@ -40,7 +40,7 @@ fn write_line_end<K: Sink>(sink: &mut K, buffer: &mut LineBuffer) -> Result<(), 
     ensures bytes { Puts (K.held sink.old) buffer.old (K.held sink.new) buffer.new result (line_end) }
     ensures cause { HasCause (K.faults sink.old) (K.faults sink.new) result }
 {
-    write_pieces(sink, buffer, &[Piece::Text(b"\n")])
+    put_text(sink, buffer, b"\n")
 }
 
 fn write_behind_word<K: Sink>(

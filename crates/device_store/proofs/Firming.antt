@@ -14,7 +14,7 @@ use Rattle.device_defs.specs.Losses.{by_frame, kept_by_frame, hardened_by_loss, 
 use Rattle.device_defs.specs.Store.{Store, no_debt, frame_at, owed_at, is_loose, with_owed}
 
 module _ {F P H R : Type 0} (c : Contents F P H R) where
-  abbrev told_by : ℕ → Bool → ℕ → Image → Store F P H → Store F P H → Interaction R Image (Store F P H) (Unit {0})
+  abbrev pub told_by : ℕ → Bool → ℕ → Image → Store F P H → Store F P H → Interaction R Image (Store F P H) (Unit {0})
   told_by t b d i y z = if b then Tell (Firm d t i) (λ _. Done z tt) else Done y tt
 
   pub not_firm : (t : ℕ) (s : Store F P H) → (owed_at s t).firm ≡ false → firm_told c t s ≡ Done s tt

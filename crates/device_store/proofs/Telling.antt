@@ -1,7 +1,7 @@
 -- What is owed to the port, and how many tracks wait.
-use Rattle.std.proofs.Common.{◌≡◌, ◌∙◌, ◌+◌, ◌≤◌, ℕ, zero, suc, Bool, true, false, length, Option, Some, None, refl, ap, arith, inl, inr}
-use Rattle.std.specs.Prelude.{◌&&◌, ◌||◌, not, is_some, if◌then◌else◌}
-use Rattle.std.proofs.lemmas.Bool.{cases_lt}
+use Rattle.std.proofs.Common.{◌≡◌, ◌∙◌, ◌+◌, ◌<◌, ◌≤◌, ℕ, zero, suc, Bool, true, false, List, [], ◌∷◌, length, Option, Some, None, refl, sym, ap, arith, inl, inr}
+use Rattle.std.specs.Prelude.{◌&&◌, ◌||◌, not, is_some, if◌then◌else◌, slice_index_or, slice_set}
+use Rattle.std.proofs.lemmas.Bool.{cases_lt, false≢true}
 use Rattle.std.proofs.lemmas.List.{get_or_past}
 use Rattle.track_image.specs.Image.{Image}
 use Rattle.track_table.specs.Tracks as tracks
@@ -9,10 +9,12 @@ use Rattle.track_table.specs.Tracks.{count_below}
 use Rattle.track_cache.specs.declared.frames.Frame.{Frame}
 use Rattle.track_cache.specs.Frames.{is_modified_frame}
 use Rattle.device_outside.specs.Interaction.{Interaction, Done, and_then}
+use Rattle.device_defs.specs.declared.owed.Owed.{Owed}
 use Rattle.device_defs.specs.Contents.{Contents, contents}
 use Rattle.device_defs.specs.Owed as owed
 use Rattle.device_defs.specs.Owed.{all_told, is_modified, track_told, waits, waits_by}
 use Rattle.device_defs.specs.Store.{Store, no_debt, owed_at, frame_at, patch_at, is_lost, is_loose}
+use Rattle.event_notes.specs.Debts.{is_paid}
 use Rattle.device_store.specs.Looks.{StoreOf}
 
 words_of : (p m k l : Bool) → ((((false && not p) || ((m && not p) && not k)) && not l)) ≡ (not l && (m && not p && not k))
@@ -92,7 +94,7 @@ modified_is None = refl
 modified_is (Some f) = refl
 
 module _ {F P H R : Type 0} (c : Contents F P H R) where
-  told_first : (s : Store F P H) (t : ℕ) → owed_at s t ≡ no_debt → track_told c t s ≡ Done s tt
+  pub told_first : (s : Store F P H) (t : ℕ) → owed_at s t ≡ no_debt → track_told c t s ≡ Done s tt
   told_first s t none = rw none refl
 
   -- nobody is told anything where nothing is owed
@@ -122,3 +124,18 @@ none_by s t (Some f) bare clean = ap (λ (m : Bool). m && not (is_some (patch_at
 pub none_waits : (s : StoreOf) (t : ℕ) → is_some (patch_at s t) ≡ false → is_modified_frame (frame_at s t) ≡ false → waits contents s t ≡ false
 unfolding owed.waits
 none_waits s t bare clean = not_false (not (is_lost s t)) (waits_by contents s t (frame_at s t)) (none_by s t (frame_at s t) bare clean)
+
+-- what is paid of a track stays so where another is paid
+pub stays_paid : (l : List Owed) (t q : ℕ) → slice_index_or l q no_debt ≡ no_debt → slice_index_or (slice_set l t no_debt) q no_debt ≡ no_debt
+stays_paid [] t q e = e
+stays_paid (o ∷ os) zero zero e = refl
+stays_paid (o ∷ os) zero (suc q) e = e
+stays_paid (o ∷ os) (suc t) zero e = e
+stays_paid (o ∷ os) (suc t) (suc q) e = stays_paid os t q e
+
+-- something is owed of tracks alone that have a place
+pub owed_here : (l : List Owed) (q : ℕ) → not (is_paid (slice_index_or l q no_debt)) ≡ true → q < length l
+owed_here l q is = elim (cases_lt q (length l)) [
+  | inl below ↦ below
+  | inr past ↦ absurd (false≢true (ap (λ (o : Owed). not (is_paid o)) (sym (get_or_past l q no_debt past)) ∙ is))
+]

@@ -1,24 +1,27 @@
-ghost use Rattle.std.specs.Prelude.{◌≡◌, ◌<◌, ◌≤◌, ◌*◌, ℕ, None, false};
+ghost use Rattle.std.specs.Prelude.{◌≡◌, ◌<◌, ◌≤◌, ◌*◌, ◌||◌, ℕ, None, false, is_some, true};
 ghost use Rattle.device_defs.specs.Contents.{contents};
 ghost use Rattle.device_defs.specs.Cutting.{loose_gone, powerless};
 ghost use Rattle.device_defs.specs.Effects.{loose_lost};
 ghost use Rattle.device_defs.specs.Events.{losing, lost_by, one_more, with_loss};
 ghost use Rattle.device_defs.specs.Losses.{all_firm_told, cache_lost, down, firm_told, over, patch_lost, settled, side_lost, store_lost, without_frame};
-ghost use Rattle.device_defs.specs.Store.{is_loose};
+ghost use Rattle.device_defs.specs.Store.{has_level, is_loose, is_lost};
 ghost use Rattle.device_outside.specs.Keeper.{Heard};
 ghost use Rattle.device_outside.specs.Outside.{PortView, Ran};
 ghost use Rattle.event_notes.specs.Loose.{weight};
 ghost use Rattle.plain_defs.specs.Loose.{next_number};
 ghost use Rattle.loss_model.specs.declared.Loss.TheVariants as losses;
+ghost use Rattle.track_table.specs.Bits.{is_marked};
 ghost use Rattle.device_store.specs.State.{state_of, outside, surely, Takes};
 
 use crate::DeviceStore;
-use crate::marks::{one_more, track};
-use ckd_types::{HEADS, TrackNo};
+use crate::marks::one_more;
+use ckd_types::TrackNo;
 use device_defs::Losses;
 use device_outside::{Keep, Volume};
+use duplex_pair::StaleMarks;
 use loss_model::Loss;
 use track_image::TrackImage;
+use track_table::TrackBits;
 
 /// Counts a loss.
 fn count_loss(losses: &mut Losses, loss: Loss)
@@ -84,7 +87,40 @@ impl<V: Volume> DeviceStore<V> {
         self.settle(t);
     }
 
-    /// All frames go. No track is loose.
+    /// The tracks that a loss may settle: they are level on no side, and not lost. There are none where the volume is lent.
+    fn unsettled(&self) -> TrackBits
+        ensures few { (t : ℕ) → is_marked result t ≡ true → t < self.now.cylinders * 15 }
+        ensures rest { (t : ℕ) → t < self.now.cylinders * 15 → is_marked result t ≡ false
+            → (is_some (state_of self.now).lent || is_lost (state_of self.now) t || has_level (state_of self.now) t) ≡ true }
+    {
+        if self.pair.lent.is_some() {
+            return TrackBits::new();
+        }
+        self.level_nowhere().without(self.lost.marks())
+    }
+
+    /// The tracks that are level on no side.
+    fn level_nowhere(&self) -> TrackBits
+        ensures few { (t : ℕ) → is_marked result t ≡ true → t < self.now.cylinders * 15 }
+        ensures rest { (t : ℕ) → t < self.now.cylinders * 15 → is_marked result t ≡ false → has_level (state_of self.now) t ≡ true }
+    {
+        let a = self.pair.a.stale.marks();
+        let b = self.pair.b.stale.marks();
+        if self.pair.a.up {
+            if self.pair.b.up {
+                return a.and(b);
+            }
+            return a.and(a);
+        }
+        if self.pair.b.up {
+            return b.and(b);
+        }
+        let mut every = StaleMarks::new(self.cylinders);
+        every.mark_all();
+        every.marks().and(every.marks())
+    }
+
+    /// All frames go. No track is loose. A track that has no frame and isn't settled stays as it is.
     fn lose_frames(&mut self)
         requires firm { (t : ℕ) → is_loose (state_of self.old) t ≡ false }
         ensures fixed { (self.new.number ≡ self.old.number) × (self.new.cylinders ≡ self.old.cylinders) × (self.new.geometry ≡ self.old.geometry) }
@@ -93,9 +129,9 @@ impl<V: Volume> DeviceStore<V> {
         ensures weight { weight self.new.loose ≡ weight self.old.loose }
         ensures state { state_of self.new ≡ over (self.old.cylinders * 15) (λ t z. settled contents (without_frame z t) t) (state_of self.old) }
     {
-        let tracks = u16::from(self.cylinders) * HEADS;
-        for t in 0..tracks {
-            self.lose_frame(track(t));
+        let marks = self.frames.framed_tracks().or(&self.unsettled());
+        for t in marks.iter() {
+            self.lose_frame(t);
         }
     }
 
@@ -149,10 +185,13 @@ impl<V: Volume> DeviceStore<V> {
         ensures run { (p : PortView) → Ran surely (Heard K.hears K.takes) (all_firm_told contents (self.old.cylinders * 15)
             (store_lost contents (state_of self.old))) (outside p self.old keep.old) (state_of self.new) tt (outside p self.new keep.new) }
     {
-        let tracks = u16::from(self.cylinders) * HEADS;
-        for t in 0..tracks {
-            self.lose_patch(track(t), keep);
+        let patched = self.patches.patched_tracks();
+        let marks = patched.and(patched);
+        for t in marks.iter() {
+            self.owed.no_firm();
+            self.lose_patch(t, keep);
         }
+        self.owed.no_firm();
     }
 
     /// What goes with a loss.

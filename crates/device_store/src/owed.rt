@@ -17,12 +17,12 @@ ghost use Rattle.device_defs.specs.Owed.{
 ghost use Rattle.device_defs.specs.Store.{no_debt, owed_at};
 ghost use Rattle.device_outside.specs.Keeper.{Heard};
 ghost use Rattle.device_outside.specs.Outside.{Ran};
+ghost use Rattle.event_notes.specs.Debts.{owed_in};
 ghost use Rattle.track_table.specs.Bits.{is_marked};
 ghost use Rattle.device_store.specs.State.{state_of, outside, surely};
 
 use crate::DeviceStore;
-use crate::marks::track;
-use ckd_types::{HEADS, TrackNo};
+use ckd_types::TrackNo;
 use device_defs::Owed;
 use device_outside::{Keep, Port, Volume};
 use track_image::TrackImage;
@@ -126,6 +126,7 @@ impl<V: Volume> DeviceStore<V> {
         ensures volume { self.new.pair.volumes ≡ self.old.pair.volumes }
         ensures loose { self.new.loose ≡ self.old.loose }
         ensures rest { state_of self.new ≡ record (state_of self.old) { owed = self.new.owed } }
+        ensures paid { (q : ℕ) → owed_in self.old.owed q ≡ no_debt → owed_in self.new.owed q ≡ no_debt }
         ensures run { (k : K) → Ran surely (Heard K.hears K.takes) (settles_debt contents t (state_of self.old)) (outside (P.view port.old) self.old k)
             (state_of self.new) tt (outside (P.view port.new) self.new k) }
     {
@@ -141,6 +142,7 @@ impl<V: Volume> DeviceStore<V> {
         ensures volume { self.new.pair.volumes ≡ self.old.pair.volumes }
         ensures loose { self.new.loose ≡ self.old.loose }
         ensures rest { state_of self.new ≡ record (state_of self.old) { owed = self.new.owed } }
+        ensures paid { (q : ℕ) → owed_in self.old.owed q ≡ no_debt → owed_in self.new.owed q ≡ no_debt }
         ensures run { (k : K) → Ran surely (Heard K.hears K.takes) (track_told contents t (state_of self.old)) (outside (P.view port.old) self.old k)
             (state_of self.new) tt (outside (P.view port.new) self.new k) }
     {
@@ -159,9 +161,10 @@ impl<V: Volume> DeviceStore<V> {
         ensures run { (k : K) → Ran surely (Heard K.hears K.takes) (all_told contents (self.old.cylinders * 15) (state_of self.old))
             (outside (P.view port.old) self.old k) (state_of self.new) tt (outside (P.view port.new) self.new k) }
     {
-        let tracks = u16::from(self.cylinders) * HEADS;
-        for t in 0..tracks {
-            self.tell_track::<P, K>(track(t), port);
+        let owed = self.owed.tracks();
+        let marks = owed.and(owed);
+        for t in marks.iter() {
+            self.tell_track::<P, K>(t, port);
         }
     }
 
@@ -179,7 +182,6 @@ impl<V: Volume> DeviceStore<V> {
             return;
         }
         self.tell_each::<P, K>(port);
-        self.owed.look_over();
     }
 
     /// The port is told how many tracks wait, where it is another number than before.

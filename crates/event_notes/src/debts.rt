@@ -1,33 +1,34 @@
-ghost use Rattle.std.specs.Prelude.{◌≡◌, ℕ, IfOk, false, replicate, slice_set, true};
-ghost use Rattle.std.specs.List.{list_all};
+ghost use Rattle.std.specs.Prelude.{◌≡◌, ℕ, IfOk, false, not, replicate, slice_set, true};
 ghost use Rattle.device_defs.specs.Store.{no_debt};
+ghost use Rattle.track_table.specs.Bits.{is_marked};
 ghost use Rattle.event_notes.specs.Debts.{is_paid, owed_in};
 
 use ckd_types::{NoMemory, TrackNo};
 use device_defs::Owed;
 use std::alloc::Global;
 use std::marker::Model;
+use track_table::{CountedBits, TrackBits};
 
 /// What of each track of a device the port wasn't told yet. Contracts see a place for each track. That a track became firm is told
 /// at once, and so is never owed.
 #[derive(Debug, Drop)]
 pub struct Debts {
     owed: Vec<Owed>,
-    /// Something may be owed of some track.
-    some: bool,
+    /// The tracks of which something is owed.
+    marks: CountedBits,
 }
 
 impl Model for Debts {
-    ghost use Rattle.std.specs.Prelude.{◌≡◌, ℕ, List, false};
+    ghost use Rattle.std.specs.Prelude.{◌≡◌, ℕ, List, false, not};
     ghost use Rattle.device_defs.specs.declared.owed.Owed.{Owed};
-    ghost use Rattle.device_defs.specs.Store.{no_debt};
-    ghost use Rattle.event_notes.specs.Debts.{owed_in};
+    ghost use Rattle.track_table.specs.Bits.{is_marked};
+    ghost use Rattle.event_notes.specs.Debts.{is_paid, owed_in};
 
     ghost Value = { List Owed };
 
     ghost view = { λ d. d.owed.items };
 
-    ghost invariant = { λ d. (d.some ≡ false → (t : ℕ) → owed_in d.owed.items t ≡ no_debt) × ((t : ℕ) → (owed_in d.owed.items t).firm ≡ false) };
+    ghost invariant = { λ d. ((t : ℕ) → is_marked d.marks t ≡ not (is_paid (owed_in d.owed.items t))) × ((t : ℕ) → (owed_in d.owed.items t).firm ≡ false) };
 }
 
 fn no_debt() -> Owed
@@ -47,12 +48,6 @@ fn is_paid(owed: &Owed) -> bool
     !(owed.modified || owed.dropped || owed.freed.is_some() || owed.firm)
 }
 
-fn are_paid(owed: &[Owed]) -> bool
-    ensures { result ≡ list_all is_paid owed.now }
-{
-    owed.iter().all(|o| is_paid(o))
-}
-
 impl Debts {
     /// Nothing is owed of so many tracks.
     pub fn new(alloc: Global, tracks: usize) -> Result<Debts, NoMemory>
@@ -60,7 +55,7 @@ impl Debts {
     {
         Ok(Debts {
             owed: vec![in alloc; no_debt(); tracks]?,
-            some: false,
+            marks: CountedBits::new(),
         })
     }
 
@@ -82,10 +77,10 @@ impl Debts {
         requires { owed.firm ≡ false }
         ensures { self.new ≡ slice_set self.old t owed }
     {
-        let t = usize::from(t.get());
-        if t < self.owed.len() {
-            self.some = true;
-            self.owed[t] = owed;
+        let place = usize::from(t.get());
+        if place < self.owed.len() {
+            self.marks.set(t, !is_paid(&owed));
+            self.owed[place] = owed;
         }
     }
 
@@ -93,20 +88,20 @@ impl Debts {
     pub fn no_firm(&self)
         ensures { (t : ℕ) → (owed_in self.now t).firm ≡ false }
     {
-        let _ = &self.some;
+        let _ = &self.marks;
     }
 
-    /// Whether it is known that nothing is owed of any track.
+    /// The tracks of which something is owed.
+    pub fn tracks(&self) -> &TrackBits
+        ensures { (t : ℕ) → is_marked result.now t ≡ not (is_paid (owed_in self.now t)) }
+    {
+        self.marks.bits()
+    }
+
+    /// Whether it is known that nothing is owed of any track: it is, where nothing is.
     pub fn are_paid(&self) -> bool
         ensures { result ≡ true → (t : ℕ) → owed_in self.now t ≡ no_debt }
     {
-        !self.some
-    }
-
-    /// Sees whether anything is still owed.
-    pub fn look_over(&mut self)
-        ensures { self.new ≡ self.old }
-    {
-        self.some = !are_paid(&self.owed);
+        self.marks.is_empty()
     }
 }

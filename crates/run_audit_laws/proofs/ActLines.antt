@@ -17,6 +17,7 @@ use Rattle.run_report.proofs.Quiet.{behind_more}
 use Rattle.subsystem_defs.specs.Beside.{acts_in, acts_of_items, acts_running, behind_first, has_power, new_acts, new_items, power_told, told_act}
 use Rattle.run_audit_laws.specs.Steps.{NoLoss, act_line}
 use Rattle.run_audit_laws.proofs.Quiet.{none_loose}
+use Rattle.run_audit_laws.proofs.PieceLines.{acts_no_power}
 
 -- Acts
 
@@ -42,10 +43,6 @@ act_items (act ∷ acts) h =
           ∙ ap (λ (l : List Item). h.items ++ l) (sym (map-append (λ (a : Act). items.Act a) one.acts more.acts));
     }
 
-no_power : (acts : List Act) → has_power (map (λ (a : Act). items.Act a) acts) ≡ false
-no_power [] = refl
-no_power (a ∷ acts) = no_power acts
-
 no_over : (n : ℕ) (acts : List Act) → over_of n (map (λ (a : Act). items.Act a) acts) ≡ None
 no_over n [] = refl
 no_over n (a ∷ acts) = refl
@@ -70,7 +67,7 @@ module _ (x y : MarksDevice) (acts : List Act) (is : y.history ≡ all_acted x.h
   acts_told =
       ap (λ (b : Bool). map loosed_line (map (loosed x.store.device)
       (map (told_act x.store y.store) (new_acts x.history y.history) ++ power_told x.store y.store b)))
-      (ap has_power items_are ∙ no_power (act_items acts x.history).acts)
+      (ap has_power items_are ∙ acts_no_power (act_items acts x.history).acts)
       ∙ ap (λ (l : List Act). map loosed_line (map (loosed x.store.device) (map (told_act x.store y.store) l ++ [])))
       (ap (λ (h : History). new_acts x.history h) is ∙ acts_come x.history acts)
       ∙ ap (λ (l : List _). map loosed_line (map (loosed x.store.device) l)) (append-nil (map (told_act x.store y.store) acts))

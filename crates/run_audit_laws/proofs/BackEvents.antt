@@ -24,7 +24,7 @@ use Rattle.device_laws.proofs.TrackMarks.{is_good, marks}
 use Rattle.device_laws.proofs.WholeEvents.{turned_same}
 use Rattle.subsystem_laws.proofs.GoodMarks.{Good, by_lent, half_home}
 use Rattle.run_audit_laws.proofs.Weights.{Spot, left, one, spot_at, sum, sum_least, weight, weight_at}
-use Rattle.run_audit_laws.proofs.Lighter.{Lower, Same, WorkSo, as_least, not_own, own_is, lower_on, near_frame, same_least, same_self}
+use Rattle.run_audit_laws.proofs.Lighter.{Lower, Same, WorkSo, as_least, not_own, own_is, lower_on, near_frame, same_least, same_self, work_on}
 use Rattle.run_audit_laws.proofs.InOrder.{weight_if, works_by, work_so}
 use Rattle.run_audit_laws.proofs.SecondLighter.{IsSafe, is_level}
 use Rattle.run_audit_laws.proofs.SecondWork.{part_so}
@@ -151,17 +151,13 @@ same_work : (s y z : MarksStore) (a : Option Did) → Same y z → WorkSo s y a 
 same_work s y z (Some d) e h = λ goes. let lower = h goes in let least = same_least y z e in omega (arith, lower, least)
 same_work s y z None e h = h
 
-heard_work : (s z y : MarksStore) (a : Option Did) → left z ≤ left s → WorkSo z y a → WorkSo s y a
-heard_work s z y (Some d) least h = λ goes. lower_on s z y least (h goes)
-heard_work s z y None least h = h
-
 pub background_so : (x : MarksDevice) → Good x → x.store.half ≡ None → Had (background by_plain x) (λ y a. WorkSo x.store y.store a)
 unfolding V.background
 background_so x g whole =
     had_then {p = λ (y : MarksDevice) a. WorkSo x.store y.store a}
     (had_then (heard_so x.store)
     (λ s _ h. had_then (work_so s (h.half ∙ whole))
-    (λ z a k. had_done (heard_work x.store s z a (heard_least x.store s (good_clean x g) h) k))))
+    (λ z a k. had_done (work_on x.store s z a (heard_least x.store s (good_clean x g) h) k))))
     (λ y a k. had_then (ended_so (waiting_count by_plain x.store) y.store) (λ z _ e. had_done (same_work x.store y.store z a e k)))
 
 -- The second part

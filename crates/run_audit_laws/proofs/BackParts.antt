@@ -1,6 +1,7 @@
 -- What a piece of work in the background makes of a device beside its history: a half write is open behind it where it says so, and only there.
 use Rattle.std.proofs.Common.{◌≡◌, ℕ, zero, suc, Bool, true, false, List, [], ◌∷◌, Option, Some, None, refl, sym, ap, subst, ◌∙◌, if◌then◌else◌}
-use Rattle.std.specs.Prelude.{◌||◌, ◌&&◌, is_some}
+use Rattle.std.specs.Prelude.{◌||◌, is_some}
+use Rattle.std.proofs.lemmas.Bool.{and_parts}
 use Rattle.ckd_types.specs.declared.paths.Side.{Side}
 use Rattle.ckd_types.specs.declared.paths.Side.TheVariants.{A, B}
 use Rattle.ckd_types.specs.declared.record.Track.{Track}
@@ -49,9 +50,9 @@ use Rattle.device_defs.specs.Owed.{begun, hear, waiting_count}
 use Rattle.device_defs.specs.Store as store
 use Rattle.device_defs.specs.Store.{OfBackground, frame_at, is_lost, is_loose, level_at, owed_at, patch_at, plain_at, takes_b, tracks_of, with_frame, with_stale}
 use Rattle.device_defs.specs.Writing as W
-use Rattle.device_defs.specs.Writing.{firm_first, first_a, write_first}
+use Rattle.device_defs.specs.Writing.{firm_first, write_first}
 use Rattle.device_laws.proofs.Had.{Had, had_ask, had_done, had_if, had_read, had_tell, had_then, had_try, had_weaker, had_write}
-use Rattle.device_laws.proofs.PlainEvents.{had_both}
+use Rattle.device_laws.proofs.PlainEvents.{had_both, had_always}
 use Rattle.device_laws.proofs.PlainLosses.{Worked, walks_first, work_on}
 use Rattle.device_laws.proofs.PlainTurns.{Follows}
 use Rattle.device_laws.proofs.PoolWalks.{asks_had, hear_asks}
@@ -76,6 +77,8 @@ use Rattle.plain_defs.specs.History.{plain_of}
 use Rattle.run_audit_laws.specs.Standing.{audited, half_by}
 use Rattle.run_audit_laws.proofs.ResetDevices.{HasParts}
 use Rattle.run_audit_laws.proofs.StepParts.{ended_parts}
+use Rattle.run_audit_laws.proofs.Lighter.{any_had}
+use Rattle.device_laws.proofs.KeptEvents.{always_any}
 
 -- Side A falls with its call, in a pair
 
@@ -95,14 +98,6 @@ lost_down s = ap (λ (x : _). x.a.up) (lost_same by_plain s A None)
 abbrev IsAlone : MarksStore → Type 0
 IsAlone s = s.paired ≡ false → s.b.up ≡ false
 
-any_told : (k : ℕ) (y : MarksStore) → Had (all_firm_told by_plain k y) (λ z (_ : Unit {0}). Unit {0})
-unfolding L.all_firm_told
-any_told zero y = had_done tt
-any_told (suc k) y = had_then (any_told k y) (λ z _ v. had_if (owed_at z k).firm (λ _. had_tell (had_done tt)) (λ _. had_done tt))
-
-any_failed : (y : MarksStore) (side : Side) (w : Option ℕ) → Had (call_failed by_plain y side w) (λ z (_ : Unit {0}). Unit {0})
-any_failed y side w = had_if y.paired (λ _. any_told (tracks_of y) (side_lost by_plain y side w)) (λ _. had_done tt)
-
 -- A fault is told of bytes that are had only where side A is down
 
 abbrev ToldDown : MarksStore → Got Bool → Type 0
@@ -112,7 +107,7 @@ second_told : (s : MarksStore) (fault : Option Side) → (is_some fault ≡ true
     Had (second_read by_plain fault s r) (λ z k. ToldDown z k)
 second_told s fault down (Some r) = had_done (λ some fails. down fails)
 second_told s fault down None =
-    had_then (any_failed s B None) (λ z _ _. had_done (λ some fails. absurd (let none : false ≡ true = some in cc)))
+    had_then (any_had s B None) (λ z _ _. had_done (λ some fails. absurd (let none : false ≡ true = some in cc)))
 
 b_told : (s : MarksStore) (t : ℕ) (fault : Option Side) → (level_at s.b t ≡ true → is_some fault ≡ true → AIsDown s) →
     Had (read_b by_plain s t fault) (λ z k. ToldDown z k)
@@ -121,10 +116,6 @@ b_told s t fault down =
     (λ level. had_read (λ r. second_told (I.read_counted s (is_some r)) fault (λ fails. down level fails) r))
     (λ _. had_done (λ some fails. absurd (let none : false ≡ true = some in cc)))
 
-level_up : (up stale : Bool) → (up && stale) ≡ true → up ≡ true
-level_up true stale is = refl
-level_up false stale is = absurd (cc)
-
 first_told : (t : ℕ) (s : MarksStore) → IsAlone s → (r : Option Bool) → Had (first_read by_plain t s r) (λ z k. ToldDown z k)
 first_told t s alone (Some r) = had_done (λ some fails. absurd (let none : false ≡ true = fails in cc))
 first_told t s alone None = had_then failed (λ z _ v. b_told z t (Some A) v) where
@@ -132,7 +123,7 @@ first_told t s alone None = had_then failed (λ z _ v. b_told z t (Some A) v) wh
   failed =
       had_if s.paired
       (λ _. had_weaker (told_down (tracks_of s) (side_lost by_plain s A None) (lost_down s)) (λ z _ v level fails. v))
-      (λ single. had_done (λ level fails. absurd (let both : true ≡ false = sym (level_up s.b.up _ level) ∙ alone single in cc)))
+      (λ single. had_done (λ level fails. absurd (let both : true ≡ false = sym (and_parts s.b.up _ level).0 ∙ alone single in cc)))
 
 bytes_told : (s : MarksStore) (t : ℕ) → IsAlone s → Had (level_bytes by_plain s t) (λ z k. ToldDown z k)
 unfolding I.level_bytes
@@ -156,7 +147,7 @@ OpensNot Opened = ⊥
 OpensNot Unwritten = Unit {0}
 
 alone_opens_not : (t : ℕ) (fault : Option Side) (first : Side) (s : MarksStore) (ok : Bool) → Had (W.alone_b by_plain t fault first s ok) (λ z w. OpensNot w.took)
-alone_opens_not t fault first s ok = had_if ok (λ _. had_done tt) (λ _. had_then (any_failed s B (Some t)) (λ z _ _. had_done tt))
+alone_opens_not t fault first s ok = had_if ok (λ _. had_done tt) (λ _. had_then (any_had s B (Some t)) (λ z _ _. had_done tt))
 
 down_opens_not : (s : MarksStore) (t : ℕ) (r : Bool) → AIsDown s → Had (write_first by_plain s t r) (λ z w. OpensNot w.took)
 unfolding W.write_first
@@ -164,22 +155,10 @@ down_opens_not s t r is =
     had_if s.a.up (λ up. absurd (let both : true ≡ false = sym up ∙ is in cc))
     (λ _. had_if (takes_b s) (λ _. had_write (λ ok. alone_opens_not t None B (W.write_counted s ok) ok)) (λ _. had_done tt))
 
-any_first : (s : MarksStore) (t : ℕ) (r : Bool) → Had (write_first by_plain s t r) (λ z w. Unit {0})
-unfolding W.write_first
-any_first s t r =
-    had_if s.a.up
-    (λ _. had_write (λ ok. had_if ok (λ _. had_done tt)
-    (λ _. had_then (any_failed (W.write_counted s ok) A (Some t)) (λ z _ _. had_if (takes_b (W.write_counted s ok))
-    (λ _. had_write (λ then_ok. had_if then_ok (λ _. had_done tt) (λ _. had_then (any_failed (W.write_counted z then_ok) B (Some t)) (λ k _ _. had_done tt))))
-    (λ _. had_done tt)))))
-    (λ _. had_if (takes_b s)
-    (λ _. had_write (λ ok. had_if ok (λ _. had_done tt) (λ _. had_then (any_failed (W.write_counted s ok) B (Some t)) (λ z _ _. had_done tt))))
-    (λ _. had_done tt))
-
 opens_if : (s : MarksStore) (t : ℕ) (r : Bool) (fault : Option Side) → (is_some fault ≡ true → AIsDown s) →
     Had (write_first by_plain s t r) (λ z w. is_some fault ≡ true → OpensNot w.took)
 opens_if s t r (Some side) down = had_weaker (down_opens_not s t r (down refl)) (λ z w h fails. h)
-opens_if s t r None down = had_weaker (any_first s t r) (λ z w h fails. absurd (let none : false ≡ true = fails in cc))
+opens_if s t r None down = had_weaker (had_always (always_any (write_first by_plain s t r))) (λ z w h fails. absurd (let none : false ≡ true = fails in cc))
 
 -- What is said of the work, and the half write behind it
 

@@ -1,6 +1,7 @@
 -- The lines of the first part of a command's write, and of work in the background.
 use Rattle.std.proofs.Common.{◌≡◌, ◌==◌, ◌++◌, ℕ, Bool, true, false, List, ◌∷◌, map, Option, Some, None, refl, ap, ◌∙◌, if◌then◌else◌}
-use Rattle.std.specs.Prelude.{◌&&◌, ◌||◌, Ok, Err, option_map}
+use Rattle.std.specs.Prelude.{◌&&◌, Ok, Err, option_map}
+use Rattle.std.proofs.lemmas.Bool.{or_right, and_from}
 use Rattle.deck_plan.specs.declared.event.EventLine.{EventLine}
 use Rattle.deck_plan.specs.declared.event.EventLine.TheVariants.{Back, Step}
 use Rattle.plain_defs.specs.declared.journal.Act.{Act}
@@ -27,7 +28,7 @@ use Rattle.run_audit_laws.specs.Standing.{LeadsBy}
 use Rattle.run_audit_laws.specs.Steps.{BackLeads, HalfLeads, NoLoss, Reaches, act_line}
 use Rattle.run_audit_laws.proofs.Found.{outlined}
 use Rattle.run_audit_laws.proofs.Leading.{leads_on, then_some}
-use Rattle.run_audit_laws.proofs.Saying.{both, same_number}
+use Rattle.run_audit_laws.proofs.Saying.{same_number}
 use Rattle.run_audit_laws.proofs.Work.{at_work, end_of, hardens_lead, tail_leads}
 
 -- A piece of work that ends no command
@@ -63,10 +64,6 @@ module _ (xs : List AuditedDevice) (w : EventLine) (later : List EventLine) (a :
         tail.2,
       )
 
-first_of : (a b : Bool) → b ≡ true → (a || b) ≡ true
-first_of true b is = refl
-first_of false b is = is
-
 pub over_halved : (b : AuditedDevice) (r : Option OpenEntry) → over_by b Halved r ≡ None
 over_halved b (Some o) = refl
 over_halved b None = refl
@@ -87,7 +84,7 @@ module _ (xs : List AuditedDevice) (later : List EventLine) (a : AuditedDevice) 
         (outlined xs a.number ∙ ap (λ (k : Option AuditedDevice). option_map outline_of k) has)
         ∙ ap (may_step (outline_of a) (lines.StepIdle a.number) line) closed
         ∙ ap (λ (r : Option OpenEntry). in_steps (outline_of a) (lines.StepIdle a.number) line (open_program r)) running
-        ∙ first_of false ((o.path == o.path) && (a.number == a.number)) (both (o.path == o.path) (a.number == a.number) (same_number o.path)
+        ∙ or_right false ((o.path == o.path) && (a.number == a.number)) (and_from (o.path == o.path) (a.number == a.number) (same_number o.path)
         (same_number a.number)))
         ∙ ap (λ (k : Option AuditState). or_history k) (then_some (device_in xs a.number) a (work_made s line) has)
 

@@ -33,8 +33,7 @@ use Rattle.std.proofs.Common.{
   inr,
 }
 use Rattle.std.specs.Prelude.{◌||◌, ◌&&◌, ◌⊎◌, Ok, Err, nat_lt, option_map}
-use Rattle.std.proofs.lemmas.Bool.{eq-eqb, ne_eqb}
-use Rattle.std.proofs.lemmas.Bool.Decides.{nat_tests}
+use Rattle.std.proofs.lemmas.Bool.{eq-eqb, ne_eqb, lt-ltb, and_from}
 use Rattle.deck_plan.specs.declared.event.EventLine.{EventLine}
 use Rattle.deck_plan.specs.declared.event.EventLine.TheVariants as wanted
 use Rattle.loss_model.specs.declared.Loss.TheVariants as losses
@@ -69,12 +68,11 @@ use Rattle.report_auditor.specs.Verdict.{judged, or_history}
 use Rattle.run_report.specs.Beside.{id_of, loose_lines, loosed, of_each, over_lines}
 use Rattle.subsystem_defs.specs.Beside.{loose_count, told_act}
 use Rattle.subsystem_defs.specs.declared.end.EventEnd.TheVariants as ends
-use Rattle.subsystem_defs.specs.declared.end.OrderFault.TheVariants as faults
 use Rattle.subsystem_defs.specs.declared.event.Event.TheVariants as events
 use Rattle.subsystem_defs.specs.Deeds as E
-use Rattle.subsystem_defs.specs.Deeds.{Each, Ends}
+use Rattle.subsystem_defs.specs.Deeds.{Each}
 use Rattle.subsystem_defs.specs.Happening as H
-use Rattle.subsystem_defs.specs.Happening.{happens, happens_by, held_with, quietly, sweep, swept, told_to}
+use Rattle.subsystem_defs.specs.Happening.{happens, held_with, quietly, sweep, swept, told_to}
 use Rattle.subsystem_defs.specs.Lines.{Once}
 use Rattle.subsystem_defs.specs.Subsystem.{Mounted, Subsystem, devices_of}
 use Rattle.subsystem_laws.proofs.PlainRuns.{ArePlain, Plainly}
@@ -85,9 +83,9 @@ use Rattle.run_audit_laws.proofs.Found.{devices, outlined}
 use Rattle.run_audit_laws.proofs.KnownDevices.{count_is, has_is, known}
 use Rattle.run_audit_laws.proofs.Leading.{EventLeads, one_leads, then_some}
 use Rattle.run_audit_laws.proofs.LossDevices.{IsLoss, cache_acts, lost_acts, number_behind}
-use Rattle.run_audit_laws.proofs.Orders.{IsOrder, refused_leads}
+use Rattle.run_audit_laws.proofs.Orders.{IsOrder, down_or}
 use Rattle.run_audit_laws.proofs.ResetDevices.{audited_by}
-use Rattle.run_audit_laws.proofs.Saying.{both, same_loose, same_number}
+use Rattle.run_audit_laws.proofs.Saying.{same_loose, same_number}
 use Rattle.run_audit_laws.proofs.Ties.{Tie, ties}
 
 -- What is told of a device
@@ -161,10 +159,6 @@ abbrev pub IsBelow : ℕ → List AuditedDevice → Type 0
 IsBelow low [] = Unit {0}
 IsBelow low (a ∷ all) = (a.number < low) × IsBelow low all
 
-pub below_more : (low more : ℕ) (all : List AuditedDevice) → low ≤ more → IsBelow low all → IsBelow more all
-below_more low more [] le b = tt
-below_more low more (a ∷ all) le b = let lt = b.0 in (omega (arith, lt, le), below_more low more all le b.1)
-
 pub below_one : (low : ℕ) (all : List AuditedDevice) (a : AuditedDevice) → IsBelow low all → low ≤ a.number → IsBelow (a.number + 1) (all ++ a ∷ [])
 below_one low [] a b le = (omega arith, tt)
 below_one low (x ∷ all) a b le = let lt = b.0 in (omega (arith, lt, le), below_one low all a b.1 le)
@@ -191,9 +185,6 @@ module _ (low : ℕ) (a : AuditedDevice) (least_is : low ≤ a.number) (rest : L
       outlined (done ++ a ∷ rest) a.number ∙ ap (λ (o : Option AuditedDevice). option_map outline_of o) (found_here done b)
 
 -- The lines, one device after another
-
-above : (d n : ℕ) → d < n → nat_lt d n ≡ true
-above d n lt = grind (arith, nat_tests, lt)
 
 abbrev due_by : Option ℕ → Due
 due_by None = Next
@@ -228,8 +219,8 @@ module _ (later : List EventLine) where
         let s = at (done ++ a ∷ rest) due in
         ap or_history (then_some (A.device_in (done ++ a ∷ rest) a.number) a (loss_made s (loss_line a)) (found_here low a le rest done b))
         ∙ ap (λ (c : Bool). or_history (if c then Some (act_made s a CfwLost (Losses a.number)) else None))
-        (both (A.has_loose a) (says (loss_line a) (loss_line a)) some
-        (both (a.number == a.number) _ (same_number a.number)
+        (and_from (A.has_loose a) (says (loss_line a) (loss_line a)) some
+        (and_from (a.number == a.number) _ (same_number a.number)
         (same_loose (let id = next_number (state_of a).number in loose.Lost (length (state_of a).loose) (id / 256 ∷ id % 256 ∷ [])))))
         ∙ ap (λ (l : List AuditedDevice). Ok (at l (Losses a.number)))
         (put_here low a le rest done (record a { history = acted a.history CfwLost }) refl b)
@@ -247,11 +238,8 @@ module _ (later : List EventLine) where
         (outline_here low a le rest done b)
         ∙ ap (λ (c : Bool). if (c && true) || false
         then or_history (order_made (at (done ++ a ∷ rest) (Losses d)) (loss_line a) wanted.FailCache) else Err Place)
-        (above d a.number (omega (arith, lt, le)))
+        (lt-ltb d a.number (omega (arith, lt, le)))
         ∙ made (Losses d)
-
-  abbrev order_line : ReportLine
-  order_line = lines.Order orders.FailCache answers.Done
 
   last_leads : (all : List AuditedDevice) (last : Option ℕ) →
       LeadsBy (at all (due_by last)) (lines.Order orders.FailCache answers.Done ∷ []) (record { devices = all; events = later; due = Next })
@@ -327,8 +315,6 @@ module _ (s : Subsystem) (plain : ArePlain s.mounted) (rises : RisesFrom 0 (map 
 
   pub fail_cache_leads : EventLeads s wanted.FailCache (Once events.FailCache) (happens s events.FailCache)
   unfolding H.happens E.deed
-  fail_cache_leads = by_up (not s.pool.cache_up) where
-    by_up : (b : Bool) → EventLeads s wanted.FailCache (Once events.FailCache)
-        (happens_by s (if b then Ends (ends.Refused faults.Down) else Each (cache_failed s.pool) (λ x. lose by_plain x losses.Cache)))
-    by_up true = refused_leads s wanted.FailCache orders.FailCache (Once events.FailCache) fails_cache faults.Down
-    by_up false = cache_leads
+  fail_cache_leads =
+      down_or s wanted.FailCache orders.FailCache (Once events.FailCache) fails_cache (not s.pool.cache_up)
+      (Each (cache_failed s.pool) (λ x. lose by_plain x losses.Cache)) cache_leads

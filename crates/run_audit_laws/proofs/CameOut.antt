@@ -2,6 +2,7 @@
 use Rattle.std.proofs.Common.{◌≡◌, ◌==◌, ◌++◌, ◌-◌, ℕ, suc, Bool, true, false, not, List, [], ◌∷◌, map, length, Option, Some, None, refl, sym, ap, subst, ◌∙◌, if◌then◌else◌, inl, inr, arith, append_assoc}
 use Rattle.std.specs.Prelude.{◌&&◌, ◌⊎◌, IsSome, IfSome}
 use Rattle.std.proofs.lemmas.List.{append-nil, append_cancel_left}
+use Rattle.std.proofs.lemmas.Bool.{and_from}
 use Rattle.ckd_types.specs.declared.channel.Ccw.{Ccw}
 use Rattle.ckd_types.specs.declared.channel.CommandEnd.{CommandEnd}
 use Rattle.ckd_types.specs.declared.channel.Note.{Note}
@@ -49,21 +50,10 @@ use Rattle.device_defs.specs.Device.{all_acted}
 use Rattle.device_laws.proofs.HistoryEnds.{one_longer}
 use Rattle.device_laws.proofs.OpenProgram.{bare_before, part_is_acted, state_here, with_one_act}
 use Rattle.deck_audit.specs.Device as A
-use Rattle.deck_audit.specs.Device.{
-  AuditedDevice,
-  check_end,
-  edit_of,
-  is_next_legal,
-  may_loosen,
-  part_of_open,
-  plain_end,
-  plain_end_at,
-  state_of,
-  words_of_open,
-}
+use Rattle.deck_audit.specs.Device.{AuditedDevice, check_end, is_next_legal, may_loosen, part_of_open, plain_end, plain_end_at, state_of, words_of_open}
 use Rattle.run_audit_laws.specs.Steps.{IsCheckSense, NoLoss, acted_to}
 use Rattle.run_audit_laws.proofs.Resets.{legal_by}
-use Rattle.run_audit_laws.proofs.Saying.{both, same_number}
+use Rattle.run_audit_laws.proofs.Saying.{same_number}
 
 -- Acts behind so many ends
 
@@ -488,8 +478,8 @@ loosens_by : (p : Part) (edit : Option TrackEdit) (t : ℕ) → track_of edit �
     A.loosens p edit t ≡ true
 loosens_by p (Some e) t is provisional not_loose =
     let same : e.track ≡ t = cc in
-    both ((e.track == t) && is_provisional p.stance.extent) (not (is_loose p.state t))
-    (both (e.track == t) (is_provisional p.stance.extent) (ap (λ (k : ℕ). e.track == k) (sym same) ∙ same_number e.track) provisional)
+    and_from ((e.track == t) && is_provisional p.stance.extent) (not (is_loose p.state t))
+    (and_from (e.track == t) (is_provisional p.stance.extent) (ap (λ (k : ℕ). e.track == k) (sym same) ∙ same_number e.track) provisional)
     (ap not not_loose)
 loosens_by p None t is provisional not_loose = absurd (cc)
 

@@ -24,6 +24,7 @@ use Rattle.std.proofs.Common.{
 }
 use Rattle.std.proofs.lemmas.List.{map-append}
 use Rattle.std.specs.Prelude.{◌&&◌}
+use Rattle.std.proofs.lemmas.Bool.{and_from}
 use Rattle.deck_plan.specs.declared.event.EventLine.{EventLine}
 use Rattle.ckd_types.specs.declared.channel.CommandEnd.{CommandEnd}
 use Rattle.ckd_types.specs.declared.sense.Sense.{Sense}
@@ -47,7 +48,7 @@ use Rattle.report_places.specs.declared.state.Did.TheVariants.{CheckEnded, Ended
 use Rattle.report_places.specs.declared.state.Due.TheVariants.{Behind, Next}
 use Rattle.report_places.specs.declared.state.HalfWrite.TheVariants.{Closed}
 use Rattle.report_places.specs.Place.{in_event, is_of_work, is_over, worker_of}
-use Rattle.report_places.specs.Same.{says}
+use Rattle.report_places.specs.Same.{says, is_same_over}
 use Rattle.deck_audit.specs.Device.{
   AuditedDevice,
   check_end,
@@ -66,9 +67,10 @@ use Rattle.run_audit_laws.specs.Standing.{LeadsBy}
 use Rattle.run_audit_laws.specs.Steps.{IsCheckSense, NoLoss, Reaches, act_line, over_told, over_if, acted_to}
 use Rattle.run_audit_laws.proofs.EndLines.{IsTidy, check_lead, plain_lead}
 use Rattle.run_audit_laws.proofs.Leading.{leads_on, one_leads}
-use Rattle.run_audit_laws.proofs.Saying.{both, same_number}
+use Rattle.run_audit_laws.proofs.Saying.{same_number}
 use Rattle.run_audit_laws.proofs.Tidy.{end_is_tidy}
 use Rattle.run_audit_laws.proofs.Work.{at_work, end_of, hardens_lead, loosen_judged, tail_leads}
+use Rattle.device_laws.proofs.DeviceEnds.{all_acted-append}
 
 -- The plain device's end of a command
 
@@ -99,10 +101,6 @@ one_runs o h act s =
     subst (λ (r : Option OpenEntry). StillRuns o (acted_in h act r)) (sym s.running)
     (record { entry = _; running = refl; path = s.path; ordinal = s.ordinal })
 
-one_act_more : (h : History) (acts : List Act) (act : Act) → all_acted h (acts ++ act ∷ []) ≡ acted (all_acted h acts) act
-one_act_more h [] act = refl
-one_act_more h (x ∷ acts) act = one_act_more (acted h x) acts act
-
 pub still_runs : (o : OpenEntry) (acts : List Act) (h : History) → StillRuns o h → StillRuns o (all_acted h acts)
 still_runs o [] h s = s
 still_runs o (act ∷ acts) h s = still_runs o acts (acted h act) (one_runs o h act s)
@@ -110,9 +108,6 @@ still_runs o (act ∷ acts) h s = still_runs o acts (acted h act) (one_runs o h 
 module _ (xs : List AuditedDevice) (w : EventLine) (later : List EventLine) (a : AuditedDevice)
     (has : device_in xs a.number ≡ Some a) (is_work : worker_of w ≡ Some a.number) (o : OpenEntry) (running : a.history.running ≡ Some o)
     (plainly : IsPlain a.plans a.empty a.history) where
-  abbrev n : ℕ
-  n = a.number
-
   abbrev b : AuditedDevice
   b = record a { half = Closed }
 
@@ -194,26 +189,23 @@ module _ (xs : List AuditedDevice) (w : EventLine) (later : List EventLine) (a :
 
     same_place : ((o.path == o.path) && (a.number == a.number) && (o.ordinal == o.ordinal)) ≡ true
     same_place =
-        both ((o.path == o.path) && (a.number == a.number)) (o.ordinal == o.ordinal)
-        (both (o.path == o.path) (a.number == a.number) (same_number o.path) (same_number a.number)) (same_number o.ordinal)
+        and_from ((o.path == o.path) && (a.number == a.number)) (o.ordinal == o.ordinal)
+        (and_from (o.path == o.path) (a.number == a.number) (same_number o.path) (same_number a.number)) (same_number o.ordinal)
 
     not_of_work : (ended : HowOver) → is_of_work true (worker_of w) (over_told a o ended) ≡ false
     not_of_work ended = ap (λ (k : Option ℕ). is_of_work true k (over_told a o ended)) is_work
 
-    full_wanted : Wanted (Some (over_told a o how.Full))
-    full_wanted line is =
-        let same : over_told a o how.Full ≡ line = cc in
-        subst (λ (l : ReportLine). ((is_over l l ≡ true) × (says l l ≡ true)) × (is_of_work true (worker_of w) l ≡ false)) same
-        ((same_place, both ((o.path == o.path) && (a.number == a.number) && (o.ordinal == o.ordinal)) true same_place refl), not_of_work how.Full)
-
-    checked_wanted : Wanted (Some (over_told a o how.Checked))
-    checked_wanted line is =
-        let same : over_told a o how.Checked ≡ line = cc in
-        subst (λ (l : ReportLine). ((is_over l l ≡ true) × (says l l ≡ true)) × (is_of_work true (worker_of w) l ≡ false)) same
-        ((same_place, both ((o.path == o.path) && (a.number == a.number) && (o.ordinal == o.ordinal)) true same_place refl), not_of_work how.Checked)
+    is_wanted : (ended : HowOver) → is_over (over_told a o ended) (over_told a o ended) ≡ true → is_same_over ended ended ≡ true →
+        Wanted (Some (over_told a o ended))
+    is_wanted ended over same_ended line is =
+        let same : over_told a o ended ≡ line = cc in
+        subst (λ (l : ReportLine). ((is_over l l ≡ true) × (says l l ≡ true)) × (is_of_work true (worker_of w) l ≡ false)) same (
+          (over, and_from ((o.path == o.path) && (a.number == a.number) && (o.ordinal == o.ordinal)) (is_same_over ended ended) same_place same_ended),
+          not_of_work ended,
+        )
 
     if_wanted : (over : Bool) → Wanted (over_if over (over_told a o how.Full))
-    if_wanted true = full_wanted
+    if_wanted true = is_wanted how.Full same_place refl
     if_wanted false = λ line is. absurd (let none_is : None ≡ Some line = is in cc)
 
     runs : StillRuns o (all_acted a.history acts)
@@ -247,13 +239,10 @@ module _ (xs : List AuditedDevice) (w : EventLine) (later : List EventLine) (a :
         (Some (over_told a o how.Checked)))
     check_command_leads reads writes sense is =
         let e = check_end (words_of_open a o) p.index sense in
-        all_lead acts true (CheckEnded e) refl (Some (over_told a o how.Checked)) (checked_over e) checked_wanted
+        all_lead acts true (CheckEnded e) refl (Some (over_told a o how.Checked)) (checked_over e) (is_wanted how.Checked same_place refl)
         (ended_lines o.path a.number o.ordinal e ++ map (act_line a.number) acts) reads writes (check_acts_lead sense is)
 
     -- A track becomes loose
-
-    abbrev with_loosen : ℕ → List Act
-    with_loosen t = acts ++ Loosen t ∷ []
 
     loosen_acts_lead : (t : ℕ) → may_loosen (acted_to a acts) (all_acted a.history acts).running t ≡ true →
         LeadsBy (record { devices = xs; events = w ∷ later; due = Next })
@@ -270,7 +259,7 @@ module _ (xs : List AuditedDevice) (w : EventLine) (later : List EventLine) (a :
         (append_assoc (ended_lines o.path a.number o.ordinal p) act_lines (act_line a.number (Loosen t) ∷ []))
         (subst (λ (h : History). LeadsBy from ((ended_lines o.path a.number o.ordinal p ++ act_lines) ++ act_line a.number (Loosen t) ∷ [])
         (at_work xs w later a.number is_work a has (record a { history = h; half = Closed }) (Behind false (Ended p))))
-        (sym (one_act_more a.history acts (Loosen t)))
+        (sym (all_acted-append a.history acts (Loosen t)))
         (leads_on from s (at_work xs w later a.number is_work a has (record a { history = acted (all_acted a.history acts) (Loosen t); half = Closed })
         (Behind false (Ended p))) (ended_lines o.path a.number o.ordinal p ++ act_lines) (act_line a.number (Loosen t) ∷ []) plain_acts_lead
         (one_leads s (at_work xs w later a.number is_work a has (record a { history = acted (all_acted a.history acts) (Loosen t); half = Closed })
@@ -284,7 +273,7 @@ module _ (xs : List AuditedDevice) (w : EventLine) (later : List EventLine) (a :
     loose_wanted true line is =
         let same : over_told a o how.Full ≡ line = cc in
         subst (λ (l : ReportLine). ((is_over l l ≡ true) × (says l l ≡ true)) × (is_of_work false (worker_of w) l ≡ false)) same
-        ((same_place, both ((o.path == o.path) && (a.number == a.number) && (o.ordinal == o.ordinal)) true same_place refl), loose_not_of_work how.Full)
+        ((same_place, and_from ((o.path == o.path) && (a.number == a.number) && (o.ordinal == o.ordinal)) true same_place refl), loose_not_of_work how.Full)
     loose_wanted false line is = absurd (let none_is : None ≡ Some line = is in cc)
 
     loose_over : (t : ℕ) → over_by (acted_to a (acts ++ Loosen t ∷ [])) (Ended p) (all_acted a.history (acts ++ Loosen t ∷ [])).running

@@ -10,7 +10,7 @@ use Rattle.deck_text.specs.declared.line.DeckWhy.{DeckWhy}
 use Rattle.deck_text.specs.declared.line.DeckWhy.TheVariants.{Number, Words}
 use Rattle.deck_text.specs.declared.line.DeviceLine.{DeviceLine}
 use Rattle.deck_text.specs.DeckLines.{DeckLines}
-use Rattle.deck_text.specs.Events.{device_words, event_line, failed_part, fail_by, pair_words, part_words, side_words, replace_line}
+use Rattle.deck_text.specs.Events.{device_words, failed_part, fail_by, pair_words, part_words, side_words}
 use Rattle.deck_text.specs.Events as V
 use Rattle.deck_text.specs.Forms.{and_then, declared, device_of, is_declared, needed, path_and_device, path_of}
 use Rattle.deck_text.specs.Forms as F
@@ -41,9 +41,6 @@ OfNamed P (events.Resume d) = P d
 OfNamed P _ = Unit {0}
 
 module _ (devices : List DeviceLine) where
-  abbrev Declared : ℕ → Type 0
-  Declared d = is_declared devices d ≡ true
-
   declared_by : (b : Bool) (x d : ℕ) → ◌≡◌ {A = Result ℕ DeckWhy} (if b then Ok x else Err Number) (Ok d) → (x ≡ d) × (b ≡ true)
   declared_by true x d h = (let same : x ≡ d = cc in same, refl)
   declared_by false x d h = absurd (cc)

@@ -1,7 +1,7 @@
 -- The devices of a deck that was read have rising numbers.
 use Rattle.std.proofs.Common.{◌≡◌, ◌≤◌, ◌<◌, ◌+◌, ℕ, Bool, true, false, List, [], ◌∷◌, ◌++◌, map, Ok, Err, refl, sym, subst, ◌∙◌, arith}
 use Rattle.std.specs.Prelude.{◌&&◌, nat_lt, if◌then◌else◌}
-use Rattle.std.proofs.lemmas.Bool.{ltb-true}
+use Rattle.std.proofs.lemmas.Bool.{ltb-true, and_parts}
 use Rattle.std.proofs.lemmas.List.Folds.{list_all-append}
 use Rattle.deck_text.specs.declared.line.DeckWhy.TheVariants.{Words, Number}
 use Rattle.deck_text.specs.declared.line.DeviceLine.{DeviceLine}
@@ -38,17 +38,12 @@ rises_of before words d h =
     in
     let f = went (needed Number (number_in 1 64 a.value.2)) (λ c. rising before (record { number = b.value; geometry = e.value; cylinders = c })) d e.second in
     let same = if_so (rises before b.value) (record { number = b.value; geometry = e.value; cylinders = f.value }) d f.second in
-    subst (λ (x : DeviceLine). rises before x.number ≡ true) same.0 same.1
-
-last_of : (a b : Bool) → (a && (b && true)) ≡ true → b ≡ true
-last_of true true e = refl
-last_of true false e = absurd (cc)
-last_of false b e = absurd (cc)
+    subst (λ (x : DeviceLine). rises before x.number ≡ true) {x = record { number = b.value; geometry = e.value; cylinders = f.value }} same.0 same.1
 
 above_last : (before : List DeviceLine) (d : DeviceLine) (n : ℕ) → rises (before ++ d ∷ []) n ≡ true → d.number + 1 ≤ n
 above_last before d n up =
-    let last = last_of (rises before n) (nat_lt d.number n) (sym (list_all-append (λ (x : DeviceLine). nat_lt x.number n) before (d ∷ [])) ∙ up) in
-    let less : d.number < n = ltb-true d.number n last in
+    let last = and_parts (rises before n) (nat_lt d.number n && true) (sym (list_all-append (λ (x : DeviceLine). nat_lt x.number n) before (d ∷ [])) ∙ up) in
+    let less : d.number < n = ltb-true d.number n (and_parts (nat_lt d.number n) true last.1).0 in
     omega (arith, less)
 
 all_rise : (low : ℕ) (before ds : List DeviceLine) → ((n : ℕ) → rises before n ≡ true → low ≤ n) → AllDevices before ds →

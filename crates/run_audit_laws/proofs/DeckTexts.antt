@@ -3,7 +3,7 @@ use Rattle.std.proofs.Common.{◌≡◌, ◌+◌, ◌==◌, ◌++◌, ℕ, Bool,
 use Rattle.std.specs.Prelude.{Result, Ok, Err, codes, nat_lt}
 use Rattle.std.specs.Str.{bytes_eq}
 use Rattle.std.specs.List.{flat_map}
-use Rattle.std.proofs.lemmas.Bool.{and_parts}
+use Rattle.std.proofs.lemmas.Bool.{and_parts, not-true}
 use Rattle.std.proofs.lemmas.Slice.Eq.{bytes_eq-Decides}
 use Rattle.deck_text.specs.declared.line.DeckFault.{DeckFault}
 use Rattle.deck_text.specs.declared.line.DeckFault.TheVariants.{Refused, Limit}
@@ -15,7 +15,7 @@ use Rattle.deck_text.specs.Lines.{is_passed_over, lines_of, onto_first}
 use Rattle.deck_text.specs.Parse.{or_stop, parsed, read_lines, start}
 use Rattle.deck_text.specs.Reading.{State, take_line}
 use Rattle.report_auditor.specs.Verdict.{ended_line, report_from}
-use Rattle.run_audit_laws.proofs.Feeds.{AreWhole, is_whole, not_feed}
+use Rattle.run_audit_laws.proofs.Feeds.{AreWhole, is_whole}
 
 -- a line of a reading ends at the same line feed
 abbrev BeginsLine : List ℕ → List ℕ → Type 0
@@ -33,7 +33,7 @@ begins (b ∷ x) rest h =
     let g = begins_by b (is_passed_over b (x ++ 10 ∷ rest)) (x ++ 10 ∷ rest) rest (begins x rest p.1) in (
       g.0,
       ap (λ (c : Bool). if c then [] ∷ lines_of (x ++ 10 ∷ rest)
-          else if is_passed_over b (x ++ 10 ∷ rest) then lines_of (x ++ 10 ∷ rest) else onto_first b (lines_of (x ++ 10 ∷ rest))) (not_feed (b == 10) p.0)
+          else if is_passed_over b (x ++ 10 ∷ rest) then lines_of (x ++ 10 ∷ rest) else onto_first b (lines_of (x ++ 10 ∷ rest))) (not-true (b == 10) p.0)
           ∙ g.1,
     )
 

@@ -42,7 +42,6 @@ use Rattle.subsystem_laws.proofs.Walks.{AreSo, IsKept, lines_end_so, run_keeps}
 use Rattle.run_audit_laws.proofs.LentDevices.{lend_makes}
 use Rattle.run_audit_laws.proofs.PlannedWords.{GoodWords, planned_words}
 use Rattle.deck_text.proofs.DeckAgain.{Each, ProgramOk}
-use Rattle.run_audit_laws.proofs.GivenWords.{GiveBytes, plans_give}
 
 pub record Sized (d : MarksDevice) : Type 0 where
   pub device : d.store.device < 16
@@ -50,7 +49,6 @@ pub record Sized (d : MarksDevice) : Type 0 where
   pub lent : IfSome d.store.lent (λ n. n < 16)
   pub plans : (path : ℕ) → length (planned d.plans path) ≤ 512
   pub words : (path ordinal : ℕ) → GoodWords (program_of d.plans path ordinal)
-  pub given : GiveBytes d.plans
 
 sized_as : (d y : MarksDevice) → y.store.device ≡ d.store.device → y.store.cylinders ≡ d.store.cylinders → y.store.lent ≡ d.store.lent →
     y.plans ≡ d.plans → Sized d → Sized y
@@ -60,7 +58,6 @@ sized_as d y number cylinders lent plans s = record {
   lent = subst (λ (o : Option ℕ). IfSome o (λ n. n < 16)) (sym lent) s.lent;
   plans = λ path. subst (λ (k : Plans). length (planned k path) ≤ 512) (sym plans) (s.plans path);
   words = λ path ordinal. subst (λ (k : Plans). GoodWords (program_of k path ordinal)) (sym plans) (s.words path ordinal);
-  given = subst (λ (k : Plans). GiveBytes k) (sym plans) s.given;
 }
 
 stays : {X : Type 0} (d : MarksDevice) (talk : Interaction Bool Image MarksDevice X) (b : Base) → b.device ≡ d.store.device →
@@ -112,11 +109,10 @@ sized_kept = record {
             subst (λ (k : Plans). length (planned k path) ≤ 512) (sym (held true (lend_makes y x.store.device) t).plans) (s.plans path);
         words = λ path ordinal.
             subst (λ (k : Plans). GoodWords (program_of k path ordinal)) (sym (held true (lend_makes y x.store.device) t).plans) (s.words path ordinal);
-        given = subst (λ (k : Plans). GiveBytes k) (sym (held true (lend_makes y x.store.device) t).plans) s.given;
       };
   joins = λ d free s. sized_as d (join d) refl refl refl refl s;
   splits = λ d fault s. sized_as d (split d) refl refl refl refl s;
-  restored = λ d a is s. record { device = s.device; cylinders = s.cylinders; lent = tt; plans = s.plans; words = s.words; given = s.given };
+  restored = λ d a is s. record { device = s.device; cylinders = s.cylinders; lent = tt; plans = s.plans; words = s.words };
 }
 
 abbrev Small : DeviceLine → Type 0
@@ -134,7 +130,6 @@ opened_sized deck few ok seen (d ∷ ds) n s = (
     lent = tt;
     plans = λ path. most_plans _ (length deck.programs) (plan_bound deck.programs d.number path) few;
     words = planned_words deck.devices deck.programs d.number ok;
-    given = plans_give deck.devices d.number deck.programs ok;
   },
   opened_sized deck few ok (d.number ∷ seen) ds n.2 (All-tail Small d ds s),
 )

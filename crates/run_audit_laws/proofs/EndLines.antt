@@ -24,6 +24,7 @@ use Rattle.std.proofs.Common.{
 }
 use Rattle.std.specs.Prelude.{◌&&◌, Ok, Err}
 use Rattle.std.specs.Str.{bytes_eq}
+use Rattle.std.proofs.lemmas.Bool.{and_from}
 use Rattle.deck_plan.specs.declared.event.EventLine.{EventLine}
 use Rattle.ckd_types.specs.declared.channel.Ccw.{Ccw}
 use Rattle.ckd_types.specs.declared.channel.CommandEnd.{CommandEnd}
@@ -53,17 +54,17 @@ use Rattle.report_auditor.specs.declared.status.AuditWhy.TheVariants.{Place}
 use Rattle.report_auditor.specs.Verdict.{judged, or_history}
 use Rattle.run_audit_laws.specs.Standing.{LeadsBy}
 use Rattle.run_audit_laws.specs.Steps.{IsCheckSense}
-use Rattle.run_audit_laws.proofs.Saying.{both, same_bytes, same_note, same_number}
+use Rattle.run_audit_laws.proofs.Saying.{same_bytes, same_note, same_number}
 use Rattle.run_audit_laws.proofs.Work.{at_work, worker_is}
 
 pub same_end : (e : EndLine) → is_same_end e e ≡ true
 same_end e =
-    both _ (is_same_note e.note e.note)
-    (both _ (e.residual == e.residual)
-    (both _ (e.status.0 == e.status.0)
-    (both _ (e.index == e.index)
-    (both _ (e.ordinal == e.ordinal)
-    (both (e.path == e.path) (e.device == e.device) (same_number e.path) (same_number e.device))
+    and_from _ (is_same_note e.note e.note)
+    (and_from _ (e.residual == e.residual)
+    (and_from _ (e.status.0 == e.status.0)
+    (and_from _ (e.index == e.index)
+    (and_from _ (e.ordinal == e.ordinal)
+    (and_from (e.path == e.path) (e.device == e.device) (same_number e.path) (same_number e.device))
     (same_number e.ordinal)) (same_number e.index)) (same_number e.status.0)) (same_number e.residual)) (same_note e.note)
 
 -- one of these isn't so
@@ -85,10 +86,6 @@ module _ (xs : List AuditedDevice) (w : EventLine) (later : List EventLine) (a :
     (has : device_in xs a.number ≡ Some a) (is_work : worker_of w ≡ Some a.number) (o : OpenEntry) (running : a.history.running ≡ Some o) where
   abbrev pub before_work : AuditState
   before_work = record { devices = xs; events = w ∷ later; due = Next }
-
-  -- with no half write
-  abbrev pub whole : AuditedDevice
-  whole = record a { half = Closed }
 
   abbrev at : Due → AuditState
   at due = at_work xs w later a.number is_work a has (record a { half = Closed }) due

@@ -25,10 +25,11 @@ use Rattle.std.proofs.Common.{
   if◌then◌else◌,
   arith,
 }
-use Rattle.std.specs.Prelude.{◌||◌, ◌&&◌, All, Ok, Err, drop, nat_lt, slice_get}
+use Rattle.std.specs.Prelude.{◌&&◌, All, Ok, Err, drop, nat_lt, slice_get}
 use Rattle.std.specs.List.{flat_map}
 use Rattle.std.proofs.lemmas.List.Elements.{All-head, All-tail}
 use Rattle.std.proofs.lemmas.Bool.Decides.{nat_tests}
+use Rattle.std.proofs.lemmas.Bool.{or_left, or_right, and_from}
 use Rattle.device_outside.specs.Pool.{Frame}
 use Rattle.device_defs.specs.Marks.{MarksDevice}
 use Rattle.report_text.specs.declared.answers.DeviceTotals.{DeviceTotals}
@@ -51,7 +52,7 @@ use Rattle.subsystem_defs.specs.Subsystem.{Mounted, Subsystem}
 use Rattle.run_audit_laws.specs.Standing.{FramesAreDeclared, LeadsBy, audited, stand}
 use Rattle.run_audit_laws.proofs.Found.{devices}
 use Rattle.run_audit_laws.proofs.Leading.{leads_on}
-use Rattle.run_audit_laws.proofs.Saying.{both, same_number}
+use Rattle.run_audit_laws.proofs.Saying.{same_number}
 
 -- Where k devices have had their totals: at the first line none has
 
@@ -67,13 +68,6 @@ at_more s k is line =
 
 judged_at : (s : AuditState) (k : ℕ) (line : ReportLine) → AtTotals s k → in_totals (outlines s) line k ≡ true → judged s line ≡ Ok (totals_made s line k)
 judged_at s k line at is = at line ∙ ap (λ (b : Bool). if b then Ok (totals_made s line k) else Err Place) is
-
-either : (a b : Bool) → b ≡ true → (a || b) ≡ true
-either true b is = refl
-either false b is = is
-
-first_of : (a b : Bool) → a ≡ true → (a || b) ≡ true
-first_of a b is = ap (λ (x : Bool). x || b) is
 
 -- The outlines from a place on
 
@@ -108,9 +102,9 @@ module _ (s : AuditState) (k : ℕ) (d : MarksDevice) (rest : List Outline) (lef
       let some : nat_lt 0 (k + 1) ≡ true = grind (arith, nat_tests) in
       let place : k + 1 - 1 ≡ k = omega arith in
       let line = lines.Lost d.store.device t in
-      first_of (nat_lt 0 (k + 1) && holds (slice_get (outlines s) (k + 1 - 1)) (λ a. is_lost_of line a a.lent))
+      or_left (nat_lt 0 (k + 1) && holds (slice_get (outlines s) (k + 1 - 1)) (λ a. is_lost_of line a a.lent))
       (in_totals_of (outlines s) line (drop (k + 1) (outlines s)))
-      (both (nat_lt 0 (k + 1)) (holds (slice_get (outlines s) (k + 1 - 1)) (λ a. is_lost_of line a a.lent)) some
+      (and_from (nat_lt 0 (k + 1)) (holds (slice_get (outlines s) (k + 1 - 1)) (λ a. is_lost_of line a a.lent)) some
       (ap (λ (n : ℕ). holds (slice_get (outlines s) n) (λ a. is_lost_of line a a.lent)) place
       ∙ ap (λ (o : Option Outline). holds o (λ a. is_lost_of line a a.lent)) (get_here (outlines s) k (outline_of (audited d)) rest left)
       ∙ ap (is_lost_of line (outline_of (audited d))) home ∙ same_number d.store.device))
@@ -127,7 +121,7 @@ module _ (s : AuditState) (k : ℕ) (d : MarksDevice) (rest : List Outline) (lef
       in_totals (outlines s) (lines.Device d.store.device x) k ≡ true
   total_stands x is =
       let line = lines.Device d.store.device x in
-      either (nat_lt 0 k && holds (slice_get (outlines s) (k - 1)) (λ a. is_lost_of line a a.lent)) (in_totals_of (outlines s) line (drop k (outlines s)))
+      or_right (nat_lt 0 k && holds (slice_get (outlines s) (k - 1)) (λ a. is_lost_of line a a.lent)) (in_totals_of (outlines s) line (drop k (outlines s)))
       (ap (in_totals_of (outlines s) line) left ∙ is)
 
   module _ (at : AtTotals s k) where
@@ -140,7 +134,7 @@ module _ (s : AuditState) (k : ℕ) (d : MarksDevice) (rest : List Outline) (lef
       totalled s k,
       total_judged (totals.Lent to)
           (ap (is_totals_of (lines.Device d.store.device (totals.Lent to)) (outline_of (audited d))) is
-          ∙ both (d.store.device == d.store.device) (to == to) (same_number d.store.device) (same_number to)),
+          ∙ and_from (d.store.device == d.store.device) (to == to) (same_number d.store.device) (same_number to)),
       refl,
     )
     by_lent None is = (
@@ -188,18 +182,18 @@ record AtEnd (s : AuditState) : Type 0 where
 end_totals : (s : AuditState) (k : ℕ) → AtTotals s k → drop k (outlines s) ≡ [] → AtEnd s
 end_totals s k at none = record {
   frame = λ d t modified is. judged_at s k (lines.Frame d t modified) at
-      (either (nat_lt 0 k && holds (slice_get (outlines s) (k - 1)) (λ a. is_lost_of (lines.Frame d t modified) a a.lent))
+      (or_right (nat_lt 0 k && holds (slice_get (outlines s) (k - 1)) (λ a. is_lost_of (lines.Frame d t modified) a a.lent))
       (in_totals_of (outlines s) (lines.Frame d t modified) (drop k (outlines s)))
-      (ap (in_totals_of (outlines s) (lines.Frame d t modified)) none ∙ first_of (is_declared (outlines s) d) false is));
+      (ap (in_totals_of (outlines s) (lines.Frame d t modified)) none ∙ or_left (is_declared (outlines s) d) false is));
   finish = judged_at s k lines.Finish at
-      (either (nat_lt 0 k && holds (slice_get (outlines s) (k - 1)) (λ a. is_lost_of lines.Finish a a.lent))
+      (or_right (nat_lt 0 k && holds (slice_get (outlines s) (k - 1)) (λ a. is_lost_of lines.Finish a a.lent))
       (in_totals_of (outlines s) lines.Finish (drop k (outlines s)))
       (ap (in_totals_of (outlines s) lines.Finish) none));
 }
 
 end_frames : (s : AuditState) → AtEnd (record s { due = Frames })
 end_frames s = record {
-  frame = λ d t modified is. ap (λ (b : Bool). if b then Ok (record s { due = Frames }) else Err Place) (first_of (is_declared (outlines s) d) false is);
+  frame = λ d t modified is. ap (λ (b : Bool). if b then Ok (record s { due = Frames }) else Err Place) (or_left (is_declared (outlines s) d) false is);
   finish = refl;
 }
 

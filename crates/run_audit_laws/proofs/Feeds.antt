@@ -122,24 +122,13 @@ module _ (n : ℕ) where
   long_whole : IsLong n → is_whole (decimal n) ≡ true
   long_whole h = decimal_whole n h
 
+index_whole : (text : List ℕ) (k : ℕ) → is_whole text ≡ true → not (slice_index text k == 10) ≡ true
+index_whole [] k h = refl
+index_whole (b ∷ text) zero h = (and_parts (not (b == 10)) (is_whole text) h).0
+index_whole (b ∷ text) (suc k) h = index_whole text k (and_parts (not (b == 10)) (is_whole text) h).1
+
 hex_digit : (k : ℕ) → not (slice_index upper_digits k == 10) ≡ true
-hex_digit zero = refl
-hex_digit (suc zero) = refl
-hex_digit (suc (suc zero)) = refl
-hex_digit (suc (suc (suc zero))) = refl
-hex_digit (suc (suc (suc (suc zero)))) = refl
-hex_digit (suc (suc (suc (suc (suc zero))))) = refl
-hex_digit (suc (suc (suc (suc (suc (suc zero)))))) = refl
-hex_digit (suc (suc (suc (suc (suc (suc (suc zero))))))) = refl
-hex_digit (suc (suc (suc (suc (suc (suc (suc (suc zero)))))))) = refl
-hex_digit (suc (suc (suc (suc (suc (suc (suc (suc (suc zero))))))))) = refl
-hex_digit (suc (suc (suc (suc (suc (suc (suc (suc (suc (suc zero)))))))))) = refl
-hex_digit (suc (suc (suc (suc (suc (suc (suc (suc (suc (suc (suc zero))))))))))) = refl
-hex_digit (suc (suc (suc (suc (suc (suc (suc (suc (suc (suc (suc (suc zero)))))))))))) = refl
-hex_digit (suc (suc (suc (suc (suc (suc (suc (suc (suc (suc (suc (suc (suc zero))))))))))))) = refl
-hex_digit (suc (suc (suc (suc (suc (suc (suc (suc (suc (suc (suc (suc (suc (suc zero)))))))))))))) = refl
-hex_digit (suc (suc (suc (suc (suc (suc (suc (suc (suc (suc (suc (suc (suc (suc (suc zero))))))))))))))) = refl
-hex_digit (suc (suc (suc (suc (suc (suc (suc (suc (suc (suc (suc (suc (suc (suc (suc (suc k)))))))))))))))) = refl
+hex_digit k = index_whole upper_digits k refl
 
 hex_whole : (bytes : List ℕ) → is_whole (encode_upper bytes) ≡ true
 unfolding encode_with
@@ -287,11 +276,6 @@ pub text_whole : (line : ReportLine) → IsLine line → is_whole (text_of line)
 unfolding text_of
 text_whole line h =
     let w = whole line h in both_whole (keyword_text (key_of line)) (all_spaced (words_of line)) w.first (spaced_whole (words_of line) w.others)
-
--- lines without one
-pub not_feed : (b : Bool) → not b ≡ true → b ≡ false
-not_feed true h = absurd (cc)
-not_feed false h = refl
 
 abbrev pub AreWhole : List (List ℕ) → Type 0
 AreWhole [] = Unit {0}

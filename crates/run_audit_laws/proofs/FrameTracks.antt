@@ -22,7 +22,7 @@ use Rattle.subsystem_laws.proofs.RunLines.{AnyEvent}
 use Rattle.subsystem_laws.proofs.Walks.{AreSo, IsKept}
 use Rattle.run_audit_laws.proofs.DeviceSizes.{Sized, first_sized, sized_kept}
 use Rattle.run_audit_laws.proofs.FramesOwned.{AllOf, run_so}
-use Rattle.run_audit_laws.proofs.NextTracks.{Comes}
+use Rattle.run_audit_laws.proofs.OwnEvents.{Comes}
 
 -- a chain that stays on few tracks
 record Near (chain : ChainState) : Type 0 where

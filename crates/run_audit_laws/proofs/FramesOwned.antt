@@ -1,28 +1,5 @@
 -- In a run each frame of the pool is of a device of the deck, and of a track that the devices come to.
-use Rattle.std.proofs.Common.{
-  ◌≡◌,
-  ◌==◌,
-  ◌⊎◌,
-  ℕ,
-  Bool,
-  true,
-  false,
-  List,
-  [],
-  ◌∷◌,
-  map,
-  Option,
-  Some,
-  None,
-  cond,
-  refl,
-  sym,
-  ap,
-  subst,
-  ◌∙◌,
-  inl,
-  inr,
-}
+use Rattle.std.proofs.Common.{◌≡◌, ◌==◌, ◌⊎◌, ℕ, Bool, true, false, List, [], ◌∷◌, map, Option, Some, None, cond, refl, sym, ap, subst, ◌∙◌, inl, inr, ◌≤◌, ◌+◌, length, arith}
 use Rattle.std.specs.Prelude.{All, IfSome, if◌then◌else◌}
 use Rattle.std.specs.Map.{lookup_entry, remove_entry, set_value}
 use Rattle.std.specs.Option.{option_map_or}
@@ -33,40 +10,10 @@ use Rattle.ckd_types.specs.declared.paths.Side.TheVariants as sides
 use Rattle.deck_text.specs.DeckLines.{DeckLines}
 use Rattle.loss_model.specs.declared.Loss.TheVariants as losses
 use Rattle.track_image.specs.Image.{Image}
-use Rattle.device_outside.specs.Interaction.{Interaction, Done, and_then}
+use Rattle.device_outside.specs.Interaction.{Interaction, Done, and_then, Try, Ask, Read, Write, Tell}
 use Rattle.device_outside.specs.Keeper.{reply}
 use Rattle.device_outside.specs.Pool as O
-use Rattle.device_outside.specs.Pool.{
-  AnswerTo,
-  Call,
-  DropFrame,
-  Frame,
-  FreeSlot,
-  NextNotice,
-  Pool,
-  SetClean,
-  SetModified,
-  TellWaiting,
-  Touch,
-  WantFrame,
-  WantSlot,
-  after,
-  all_waiting,
-  answer,
-  cache_failed,
-  cache_repaired,
-  evicted,
-  frames_wanted,
-  grants,
-  in_front,
-  is_listed,
-  is_of,
-  less_frame,
-  power_lost,
-  store_failed,
-  store_repaired,
-  without,
-}
+use Rattle.device_outside.specs.Pool.{AnswerTo, Call, DropFrame, Frame, FreeSlot, NextNotice, Pool, SetClean, SetModified, TellWaiting, Touch, WantFrame, WantSlot, after, all_waiting, answer, evicted, frames_wanted, grants, in_front, is_listed, is_of, less_frame, without}
 use Rattle.device_outside.specs.Told as Heard
 use Rattle.device_outside.specs.Told.{Calls, Told, calls_of, hold, read_counted, read_fails, write_counted, write_fails}
 use Rattle.device_defs.specs.Command.{command}
@@ -116,10 +63,11 @@ use Rattle.subsystem_laws.proofs.RunLines.{AnyEvent, Goes, lines_keep, logs_end}
 use Rattle.subsystem_laws.proofs.Walks.{AreSo, IsKept, device_so, event_so, mounted_so, replaced_so, unpaired_so}
 use Rattle.ckd_chain.specs.State.{ChainState}
 use Rattle.deck_text.proofs.DeckAgain.{Each as EachIs}
-use Rattle.run_audit_laws.proofs.NextTracks.{Comes}
+use Rattle.run_audit_laws.proofs.OwnEvents.{Any, Comes, any_chain, any_comes, any_queued, background_own, command_own, lend_own, lose_own, power_own, reset_own, second_own}
+use Rattle.run_audit_laws.proofs.Seats.{Is}
 use Rattle.run_audit_laws.specs.Standing.{FramesAreDeclared, audited, stand}
-use Rattle.run_audit_laws.proofs.OwnCalls.{IsOwn, Own, own_ask, own_done, own_read, own_tell, own_then, own_try, own_write}
-use Rattle.run_audit_laws.proofs.OwnEvents.{background_own, command_own, lend_own, lose_own, power_own, reset_own, second_own}
+use Rattle.run_audit_laws.proofs.OwnCalls as C
+use Rattle.run_audit_laws.proofs.OwnCalls.{IsOwn, Own, Wants, own_done, own_then}
 use Rattle.run_audit_laws.proofs.Ties.{Tie, Tied, event_tied, numbers_in, opened_tied, replaced_tied, ties, unpaired_tied}
 
 -- Frames of devices with a number of these
@@ -195,24 +143,39 @@ module _ (P T : ℕ → Type 0) where
     write_of w sides.B all = all
 
     -- behind a device's own event
-    held_of : {S A : Type 0} {device : S → ℕ} {i : Interaction Bool Image S A} → Own T device n i → (w : Told) → AllOf w.pool.frames →
+    wants_of : {S A : Type 0} (i : Interaction Bool Image S A) (q : S → A → Type 0) → Wants T n i q → (w : Told) → AllOf w.pool.frames →
         AllOf (hold true i w).told.pool.frames
-    unfolding Heard.hold
-    held_of (own_done e) w all = all
-    held_of (own_try x) w all = held_of (x true) w all
-    held_of (own_ask {call = call} own x) w all =
-        let a = answer w.pool call in held_of (x a) (record w { pool = after w.pool call a }) (after_of w.pool call a own all)
-    held_of (own_read {side = side} x) w all =
-        held_of (x (if read_fails (calls_of w side) then None else Some true)) (read_counted w side) (read_of w side all)
-    held_of (own_write {side = side} x) w all =
-        held_of (x (if write_fails (calls_of w side) then false else true)) (write_counted w side) (write_of w side all)
-    held_of (own_tell {m = m} x) w all = held_of (x (reply m)) w all
+    unfolding Heard.hold C.Wants
+    wants_of (Done s a) q x w all = all
+    wants_of (Try k) q x w all = wants_of (k true) q (x true) w all
+    wants_of (Ask call k) q x w all =
+        let a = answer w.pool call in wants_of (k a) q (x.1 a) (record w { pool = after w.pool call a }) (after_of w.pool call a x.0 all)
+    wants_of (Read side t k) q x w all =
+        let got = if read_fails (calls_of w side) then None else Some true in
+        wants_of (k got) q (x got) (read_counted w side) (read_of w side all)
+    wants_of (Write side t r k) q x w all =
+        let ok = if write_fails (calls_of w side) then false else true in wants_of (k ok) q (x ok) (write_counted w side) (write_of w side all)
+    wants_of (Tell m k) q x w all = wants_of (k (reply m)) q (x (reply m)) w all
+
+    held_of : {S A : Type 0} {i : Interaction Bool Image S A} {q : S → A → Type 0} → Own T n i q → (w : Told) → AllOf w.pool.frames →
+        AllOf (hold true i w).told.pool.frames
+    held_of {i = i} {q = q} x w all = wants_of i q x.holds w all
 
 -- Deeds
 
 module _ (P T : ℕ → Type 0) where
+  -- its queue may be as long as it is
+  abbrev most : MarksDevice → ℕ
+  most d = length d.store.queue + 64
+
+  room : (d : MarksDevice) → 64 ≤ most d
+  room d = omega arith
+
+  itself : (d : MarksDevice) → Is d.store.device (most d) d.store
+  itself d = (refl, omega arith)
+
   abbrev OwnTalk : {A : Type 0} → MarksDevice → Talk A → Type 0
-  OwnTalk d talk = Own T (λ (z : MarksDevice). z.store.device) d.store.device talk
+  OwnTalk d talk = Own T d.store.device talk (λ (z : MarksDevice) _. Is d.store.device (most d) z.store)
 
   abbrev KeepsFrames : Subsystem → MarksDeed → Type 0
   KeepsFrames s (Ends end) = Unit {0}
@@ -267,7 +230,7 @@ module _ (P T : ℕ → Type 0) where
       let z = behind_outcome s b o in
       let found = some_at s.mounted b m there has in
       subst (λ (p : Pool). AllOf P T p.frames) (sym (joined_of z a o.told.a (mounted_in z.mounted a)))
-      (held_of P T (number_of m) (subst P (sym found.1) found.0) (lend_own T by_plain m.device a) (told_to s.pool m) all)
+      (held_of P T (number_of m) (subst P (sym found.1) found.0) (lend_own T (number_of m) (most m.device) (room m.device) by_plain m.device a refl) (told_to s.pool m) all)
   lends_of s a b has all None there = all
 
   happens_of : (s : Subsystem) (x : MarksDeed) → KeepsFrames s x → AreSome s.mounted → AllOf P T s.pool.frames →
@@ -282,7 +245,7 @@ module _ (P T : ℕ → Type 0) where
 
   -- an answer asks nothing
   answered : {X Y : Type 0} (d : MarksDevice) (talk : Talk X) (f : X → Y) → OwnTalk d talk → OwnTalk d (and_then talk (λ z a. Done z (f a)))
-  answered d talk f own = own_then (λ z a. Done z (f a)) own (λ z a. own_done refl)
+  answered d talk f own = own_then own (λ z a g. own_done g)
 
   repaired_of : (p q : Pool) (b : Bool) → q.frames ≡ p.frames → AllOf P T p.frames → AllOf P T (if b then q else p).frames
   repaired_of p q true same all = subst (AllOf P T) (sym same) all
@@ -298,17 +261,17 @@ module _ (P T : ℕ → Type 0) where
     frames_keep s so = record {
       ended = λ end. tt;
       started = λ d x path fault. tt;
-      seconded = λ d x h is. answered d (second by_plain d) (λ a. Some (ends.Second a)) (second_own T by_plain d);
+      seconded = λ d x h is. answered d (second by_plain d) (λ a. Some (ends.Second a)) (second_own T d.store.device (most d) (room d) by_plain d (itself d));
       commanded = λ d x whole o running.
-          answered d (command by_plain d) (end_of ends.Stepped) (command_own T by_plain In comes d (near d (of_one s so d x)).0);
+          answered d (command by_plain d) (end_of ends.Stepped) (command_own T d.store.device (most d) (room d) by_plain In comes d (near d (of_one s so d x)).0 (itself d));
       worked = λ d x whole.
-          answered d (background by_plain d) (end_of ends.Back) (background_own T by_plain d (near d (of_one s so d x)).1);
-      cut = λ d x path. answered d (reset by_plain d path) (λ a. Some (ends_done a)) (reset_own T by_plain d path);
-      lost_cache = ((λ all. tt), λ d. lose_own T by_plain d losses.Cache);
-      lost_store = ((λ all. all), λ d. lose_own T by_plain d losses.Store);
+          answered d (background by_plain d) (end_of ends.Back) (background_own T d.store.device (most d) (room d) by_plain d (near d (of_one s so d x)).1 (itself d));
+      cut = λ d x path. answered d (reset by_plain d path) (λ a. Some (ends_done a)) (reset_own T d.store.device (most d) (room d) by_plain d path (itself d));
+      lost_cache = ((λ all. tt), λ d. lose_own T d.store.device (most d) (room d) by_plain d losses.Cache (itself d));
+      lost_store = ((λ all. all), λ d. lose_own T d.store.device (most d) (room d) by_plain d losses.Store (itself d));
       lost_side = λ d x side fault.
-          answered d (lose by_plain d (losses.Side side)) (λ a. Some (ends_done a)) (lose_own T by_plain d (losses.Side side));
-      lost_power = ((λ all. tt), λ d. power_own T by_plain d);
+          answered d (lose by_plain d (losses.Side side)) (λ a. Some (ends_done a)) (lose_own T d.store.device (most d) (room d) by_plain d (losses.Side side) (itself d));
+      lost_power = ((λ all. tt), λ d. power_own T d.store.device (most d) (room d) by_plain d (itself d));
       repaired_cache = λ all. repaired_of s.pool (record s.pool { cache_up = true }) (all_waiting s.pool == 0) refl all;
       repaired_store = λ all. repaired_of s.pool (record s.pool { store_up = true }) (all_waiting s.pool == 0) refl all;
       lent = λ x y z w fault. tt;
@@ -399,20 +362,6 @@ module _ (T : ℕ → Type 0) (In : ChainState → Type 0) (comes : Comes T In) 
       (lines_keep (So ns) (Shown ns) (frames_go ns) asked (opened deck) (opened_tied deck, first, tt))
 
 -- Any tracks
-
-abbrev Any : {X : Type 0} → X → Type 0
-Any x = Unit {0}
-
-any_comes : Comes Any Any
-any_comes = record { needs = λ chain t is e. tt; goes = λ chain i q is e. (tt, tt) }
-
-any_queued : (queue : List ℕ) → EachIs Any queue
-any_queued [] = tt
-any_queued (t ∷ ts) = (tt, any_queued ts)
-
-any_chain : (o : Option ChainState) → IfSome o Any
-any_chain (Some chain) = tt
-any_chain None = tt
 
 any_are : (ms : List Mounted) → AreSo Any ms
 any_are [] = tt

@@ -1,12 +1,12 @@
 -- What a device does by itself, in its order: it leaves less to do, unless its answer is one that stops.
 use Rattle.std.proofs.Common.{◌≡◌, ◌≢◌, ◌<◌, ◌≤◌, ◌+◌, ◌⊎◌, ℕ, zero, suc, Bool, true, false, List, [], ◌∷◌, Option, Some, None, is_some, length, get_or, set, refl, sym, ap, subst, ◌∙◌, arith, inl, inr}
-use Rattle.std.proofs.lemmas.Bool.{cases_eq}
+use Rattle.std.proofs.lemmas.Bool.{cases_eq, or_left, or_right}
 use Rattle.std.specs.Prelude.{◌&&◌, ◌||◌, if◌then◌else◌, not}
 use Rattle.ckd_types.specs.declared.paths.Side.{Side}
 use Rattle.track_table.specs.Tracks.{least}
 use Rattle.device_defs.specs.declared.answers.Did.TheVariants as dids
 use Rattle.device_defs.specs.Background as G
-use Rattle.device_defs.specs.Background.{copied, copies_to, copy_by, copy_first, copy_read, destage_first, did, is_destaged, other, recover, recover_first, recovered_bytes, saved, saved_by, saving, stage, stage_first, staged_bytes, to_copy, to_destage, to_recover, work}
+use Rattle.device_defs.specs.Background.{copies_to, copy_first, destage_first, did, is_destaged, recover_first, stage, stage_first, staged_bytes, to_copy, to_destage, to_recover, work}
 use Rattle.device_defs.specs.Contents.{by_plain}
 use Rattle.device_defs.specs.Image.{Got}
 use Rattle.device_defs.specs.Marks.{MarksStore}
@@ -17,7 +17,7 @@ use Rattle.device_laws.proofs.Had.{Had, had_ask, had_done, had_if, had_then, had
 use Rattle.device_laws.proofs.Working.{least_found}
 use Rattle.subsystem_defs.specs.Lines.{stops}
 use Rattle.run_audit_laws.proofs.Weights.{Spot, copies, due_by, modified_by, one, sides, spot_at, sum_least, weight_at, works}
-use Rattle.run_audit_laws.proofs.Lighter.{GotSo, Lower, Same, WorkSo, as_least, bad_stops, copy_so, level_so, lower_all, near_frame, or_on, or_on_right, recover_so, same_least, same_weight, saved_so}
+use Rattle.run_audit_laws.proofs.Lighter.{GotSo, Lower, Same, WorkSo, as_least, bad_stops, copy_so, level_so, lower_all, near_frame, recover_so, same_least, same_weight, saved_so}
 
 -- Staging
 
@@ -124,7 +124,7 @@ waits_due s t (Some m) = refl
 waits_works : (s : MarksStore) (t : ℕ) → waits by_plain s t ≡ true → works (spot_at s t) ≡ true
 unfolding O.waits
 waits_works s t e =
-    or_on (not (is_lost s t) && due_by (frame_at s t) (is_some (patch_at s t)) (is_loose s t)) _
+    or_left (not (is_lost s t) && due_by (frame_at s t) (is_some (patch_at s t)) (is_loose s t)) _
     (ap (λ (b : Bool). not (is_lost s t) && b) (sym (waits_due s t (frame_at s t))) ∙ e)
 
 modified_is : (o : Option Bool) → O.is_modified by_plain o ≡ modified_by o
@@ -133,7 +133,7 @@ modified_is (Some m) = refl
 
 destaged_works : (s : MarksStore) (t : ℕ) → is_destaged by_plain s t ≡ true → works (spot_at s t) ≡ true
 destaged_works s t e =
-    or_on_right _ (is_loose s t || (modified_by (frame_at s t) && is_some (patch_at s t)))
+    or_right _ (is_loose s t || (modified_by (frame_at s t) && is_some (patch_at s t)))
     (ap (λ (b : Bool). is_loose s t || (b && is_some (patch_at s t))) (sym (modified_is (frame_at s t))) ∙ e)
 
 found_if : (n : ℕ) (p : ℕ → Bool) (b : Bool) (t : ℕ) → (if b then least n p else None) ≡ Some t → (t < n) × (p t ≡ true)

@@ -1,6 +1,7 @@
 -- How lines lead on: one after another, at an event's first line, and behind a piece of work that is taken as done.
 use Rattle.std.proofs.Common.{◌≡◌, ◌++◌, Bool, true, false, not, List, [], ◌∷◌, Option, Some, None, refl, sym, ap, subst, ◌∙◌, if◌then◌else◌}
 use Rattle.std.specs.Prelude.{◌||◌, ◌&&◌, Result, Ok, Err}
+use Rattle.std.proofs.lemmas.Bool.{or_parts}
 use Rattle.deck_plan.specs.declared.event.EventLine.{EventLine}
 use Rattle.report_text.specs.declared.event.Happened.{Happened}
 use Rattle.report_text.specs.declared.line.ReportLine.{ReportLine}
@@ -66,10 +67,6 @@ judged_over s line wanted is =
     ap (λ (due : Due). if stands_in s line due then or_history (made_in s line due) else Err Place) is
     ∙ sym (ap (judged_due s line) is)
 
-neither : (a b : Bool) → (a || b) ≡ false → a ≡ false
-neither true b e = absurd (cc)
-neither false b e = refl
-
 -- a line that isn't of the work is judged where the work is done, once it is known that it may be
 pub waiting_judged : (s : AuditState) (line : ReportLine) (more : Bool) (did : Did) → s.due ≡ Behind more did →
     is_of_work more (worker_number s) line ≡ false → holds (worker s) (is_legal did) ≡ true →
@@ -77,7 +74,7 @@ pub waiting_judged : (s : AuditState) (line : ReportLine) (more : Bool) (did : D
 waiting_judged s line more did is other legal =
     let z = settled s did in
     let acts = then_of (worker s) (act_of_work s line did) in
-    let io = neither (is_io line) _ other in
+    let io = (or_parts (is_io line) _ other).0 in
     ap (λ (due : Due). if stands_in s line due then or_history (made_in s line due) else Err Place) is
     ∙ ap (λ (w : Bool). if w || in_due (outlines z) z.events line z.due then or_history (
     if w && not (is_io line) then acts

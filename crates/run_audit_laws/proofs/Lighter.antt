@@ -1,7 +1,8 @@
 -- What a device does by itself leaves less to do, unless its answer is one that stops.
-use Rattle.std.proofs.Common.{◌≡◌, ◌≢◌, ◌<◌, ◌≤◌, ◌+◌, ◌*◌, ◌==◌, ℕ, zero, suc, Bool, true, false, List, [], ◌∷◌, Option, Some, None, is_some, length, get_or, set, refl, sym, ap, subst, ◌∙◌, arith, eqb-true}
+use Rattle.std.proofs.Common.{◌≡◌, ◌≢◌, ◌<◌, ◌≤◌, ◌+◌, ◌*◌, ◌==◌, ℕ, zero, suc, Bool, true, false, List, [], ◌∷◌, Option, Some, None, is_some, length, get_or, set, refl, sym, ap, subst, ◌∙◌, arith}
 use Rattle.std.proofs.lemmas.List.{get_or-set_other}
 use Rattle.std.specs.Prelude.{◌&&◌, ◌||◌, if◌then◌else◌, not}
+use Rattle.std.proofs.lemmas.Bool.{or_left, or_right, and_right, ne_eqb}
 use Rattle.ckd_types.specs.declared.paths.Side.{Side}
 use Rattle.ckd_types.specs.declared.paths.Side.TheVariants.{A, B}
 use Rattle.track_image.specs.Image.{Image}
@@ -14,19 +15,20 @@ use Rattle.device_defs.specs.Background.{copied, copies_to, copy_by, copy_read, 
 use Rattle.device_defs.specs.Contents.{by_plain}
 use Rattle.device_defs.specs.Effects.{hardened}
 use Rattle.device_defs.specs.Image as I
-use Rattle.device_defs.specs.Image.{Got, filled, first_read, level_bytes, read_b, second_read}
+use Rattle.device_defs.specs.Image.{Got, first_read, level_bytes, read_b, second_read}
 use Rattle.device_defs.specs.Losses.{call_failed, slot_in, stale_everywhere}
 use Rattle.device_defs.specs.Marks.{MarksStore}
 use Rattle.device_defs.specs.Store as store
-use Rattle.device_defs.specs.Store.{OfBackground, frame_at, half_is, is_lost, is_loose, level_at, patch_at, some_up, stale_at, takes_b, tracks_of, with_frame, with_loose, with_patch, with_stale}
+use Rattle.device_defs.specs.Store.{OfBackground, frame_at, half_is, is_lost, is_loose, level_at, patch_at, stale_at, takes_b, tracks_of, with_frame, with_patch, with_stale}
 use Rattle.device_defs.specs.Writing as W
-use Rattle.device_defs.specs.Writing.{alone_b, cleaned, firm_first, first_a, half_opened, opened, slot_freed, taken_a, taken_b, write_done, write_first}
+use Rattle.device_defs.specs.Writing.{alone_b, cleaned, firm_first, first_a, opened, slot_freed, taken_a, taken_b, write_done, write_first}
 use Rattle.device_laws.proofs.FramesKept.{none_at}
 use Rattle.device_laws.proofs.Had.{Had, had_ask, had_done, had_if, had_read, had_tell, had_then, had_try, had_weaker, had_write}
 use Rattle.device_laws.proofs.KeptEvents.{always_any}
 use Rattle.device_laws.proofs.PlainEvents.{had_always}
 use Rattle.subsystem_defs.specs.Lines.{stops}
 use Rattle.run_audit_laws.proofs.Weights.{copies, due_by, left, modified_by, one, sides, spot_at, sum, sum_least, sum_less, weight, weight_at, whole_weight, works}
+use Rattle.device_laws.proofs.Unlost.{clear}
 
 -- Less is left
 
@@ -74,8 +76,26 @@ pub record Near (s z : MarksStore) (t : ℕ) : Type 0 where
   pub held : z.held ≡ s.held
   pub others : (q : ℕ) → q ≢ t → spot_at z q ≡ spot_at s q
 
+abbrev Around : Type 0
+Around = ℕ × (List ℕ × (Option (store.HalfWrite (Unit {0})) × (Bool × (Bool × Bool))))
+
+abbrev around : MarksStore → Around
+around s = (s.cylinders, (s.queue, (s.half, (s.a.up, (s.b.up, s.held)))))
+
+-- nothing but tracks
+pub near_by : {s z : MarksStore} {t : ℕ} → around z ≡ around s → ((q : ℕ) → q ≢ t → spot_at z q ≡ spot_at s q) → Near s z t
+near_by same others = record {
+  cylinders = ap (λ (k : Around). k.0) same;
+  queue = ap (λ (k : Around). k.1.0) same;
+  half = ap (λ (k : Around). k.1.1.0) same;
+  a = ap (λ (k : Around). k.1.1.1.0) same;
+  b = ap (λ (k : Around). k.1.1.1.1.0) same;
+  held = ap (λ (k : Around). k.1.1.1.1.1) same;
+  others = others;
+}
+
 pub near_self : (s : MarksStore) (t : ℕ) → Near s s t
-near_self s t = record { cylinders = refl; queue = refl; half = refl; a = refl; b = refl; held = refl; others = λ q ne. refl }
+near_self s t = near_by refl (λ q ne. refl)
 
 pub near_on : (s z y : MarksStore) (t : ℕ) → Near s z t → Near z y t → Near s y t
 near_on s z y t f g = record {
@@ -93,59 +113,19 @@ near_if s z y t true f g = f
 near_if s z y t false f g = g
 
 near_stale_a : (s : MarksStore) (t : ℕ) (v : Bool) → Near s (with_stale s A t v) t
-near_stale_a s t v = record {
-  cylinders = refl;
-  queue = refl;
-  half = refl;
-  a = refl;
-  b = refl;
-  held = refl;
-  others = λ q ne. ap (λ (x : Bool). record (spot_at s q) { a_stale = x }) (get_or-set_other s.a.stale t q v false ne);
-}
+near_stale_a s t v = near_by refl (λ q ne. ap (λ (x : Bool). record (spot_at s q) { a_stale = x }) (get_or-set_other s.a.stale t q v false ne))
 
 pub near_stale_b : (s : MarksStore) (t : ℕ) (v : Bool) → Near s (with_stale s B t v) t
-near_stale_b s t v = record {
-  cylinders = refl;
-  queue = refl;
-  half = refl;
-  a = refl;
-  b = refl;
-  held = refl;
-  others = λ q ne. ap (λ (x : Bool). record (spot_at s q) { b_stale = x }) (get_or-set_other s.b.stale t q v false ne);
-}
+near_stale_b s t v = near_by refl (λ q ne. ap (λ (x : Bool). record (spot_at s q) { b_stale = x }) (get_or-set_other s.b.stale t q v false ne))
 
 pub near_firm : (s : MarksStore) (t : ℕ) → Near s (hardened s t) t
-near_firm s t = record {
-  cylinders = refl;
-  queue = refl;
-  half = refl;
-  a = refl;
-  b = refl;
-  held = refl;
-  others = λ q ne. ap (λ (x : Bool). record (spot_at s q) { loose = x }) (get_or-set_other s.loose t q false false ne);
-}
+near_firm s t = near_by refl (λ q ne. ap (λ (x : Bool). record (spot_at s q) { loose = x }) (get_or-set_other s.loose t q false false ne))
 
 pub near_frame : (s : MarksStore) (t : ℕ) (f : Option Bool) → Near s (with_frame s t f) t
-near_frame s t f = record {
-  cylinders = refl;
-  queue = refl;
-  half = refl;
-  a = refl;
-  b = refl;
-  held = refl;
-  others = λ q ne. ap (λ (x : Option Bool). record (spot_at s q) { frame = x }) (get_or-set_other s.frames t q f None ne);
-}
+near_frame s t f = near_by refl (λ q ne. ap (λ (x : Option Bool). record (spot_at s q) { frame = x }) (get_or-set_other s.frames t q f None ne))
 
 pub near_bare : (s : MarksStore) (t : ℕ) → Near s (with_patch s t None) t
-near_bare s t = record {
-  cylinders = refl;
-  queue = refl;
-  half = refl;
-  a = refl;
-  b = refl;
-  held = refl;
-  others = λ q ne. ap (λ (x : Option (Unit {0})). record (spot_at s q) { patched = is_some x }) (get_or-set_other s.patches t q None None ne);
-}
+near_bare s t = near_by refl (λ q ne. ap (λ (x : Option (Unit {0})). record (spot_at s q) { patched = is_some x }) (get_or-set_other s.patches t q None None ne))
 
 pub near_everywhere : (s : MarksStore) (t : ℕ) → Near s (stale_everywhere s t) t
 near_everywhere s t =
@@ -156,11 +136,6 @@ pub near_taken : (s : MarksStore) (t : ℕ) → Near s (taken_a s t) t
 near_taken s t =
     let z = with_stale s A t false in
     near_if s (with_stale z B t true) z t s.b.up (near_on s z (with_stale z B t true) t (near_stale_a s t false) (near_stale_b z t true)) (near_stale_a s t false)
-
-pub false_at : (l : List Bool) (t : ℕ) → get_or (set l t false) t false ≡ false
-false_at [] t = refl
-false_at (x ∷ l) zero = refl
-false_at (x ∷ l) (suc t) = false_at l t
 
 pub some_at : (l : List (Option Bool)) (t : ℕ) (x : Bool) → is_some (get_or l t None) ≡ true → get_or (set l t (Some x)) t None ≡ Some x
 some_at [] t x e = absurd (cc)
@@ -207,7 +182,7 @@ firm_so s t =
     had_if (is_loose s t)
     (λ _. had_tell (had_done (
       near_on s (hardened s t) (stale_everywhere (hardened s t) t) t (near_firm s t) (near_everywhere (hardened s t) t),
-      ap (λ (l : List Bool). get_or l t false) (everywhere_loose (hardened s t) t) ∙ false_at s.loose t,
+      ap (λ (l : List Bool). get_or l t false) (everywhere_loose (hardened s t) t) ∙ clear s.loose t,
     )))
     (λ e. had_done (near_self s t, e))
 
@@ -237,17 +212,13 @@ taken_if s y z t false f g = g
 
 taken_level : (s : MarksStore) (t : ℕ) → stale_at (taken_a s t).a t ≡ false
 taken_level s t =
-    let z = with_stale s A t false in taken_if s (with_stale z B t true) z t s.b.up (false_at s.a.stale t) (false_at s.a.stale t)
+    let z = with_stale s A t false in taken_if s (with_stale z B t true) z t s.b.up (clear s.a.stale t) (clear s.a.stale t)
 
 taken_loose : (s : MarksStore) (t : ℕ) → (taken_a s t).loose ≡ s.loose
 taken_loose s t = by_up s.b.up where
   by_up : (b : Bool) → (if b then with_stale (with_stale s A t false) B t true else with_stale s A t false).loose ≡ s.loose
   by_up true = refl
   by_up false = refl
-
-off_right : (b c : Bool) → c ≡ false → (b && c) ≡ false
-off_right true c e = e
-off_right false c e = refl
 
 some_sides : (a k : Bool) → a ≡ true → 1 ≤ one a + one k
 some_sides true k e = omega arith
@@ -268,7 +239,7 @@ takes_same s z t n = ap (λ (x : Bool). x && not z.held) n.b ∙ ap (λ (x : Boo
 took_by : (s : MarksStore) (t : ℕ) (b : Bool) → takes_b s ≡ b → s.a.up ≡ true → Takes s t (taken_a s t) (W.wrote (if b then Opened else Whole) None)
 took_by s t true is up = record {
   near = near_taken s t;
-  level = off_right (taken_a s t).a.up (stale_at (taken_a s t).a t) (taken_level s t);
+  level = and_right (taken_a s t).a.up (stale_at (taken_a s t).a t) (taken_level s t);
   both = both_sides s.a.up (takes_b s) up is;
 }
 took_by s t false is up =
@@ -298,7 +269,7 @@ first_so s t up r true = had_done (took_again (took_by (W.write_counted s true) 
     both = k.both;
   } where
     counted : Near s (W.write_counted s true) t
-    counted = record { cylinders = refl; queue = refl; half = refl; a = refl; b = refl; held = refl; others = λ q ne. refl }
+    counted = near_by refl (λ q ne. refl)
   again false k = record {
     near = near_on s (W.write_counted s true) (taken_a (W.write_counted s true) t) t counted k.near;
     none = k.none;
@@ -306,7 +277,7 @@ first_so s t up r true = had_done (took_again (took_by (W.write_counted s true) 
     loose = k.loose;
   } where
     counted : Near s (W.write_counted s true) t
-    counted = record { cylinders = refl; queue = refl; half = refl; a = refl; b = refl; held = refl; others = λ q ne. refl }
+    counted = near_by refl (λ q ne. refl)
 
   took_again : Takes (W.write_counted s true) t (taken_a (W.write_counted s true) t) (W.wrote (if takes_b s then Opened else Whole) None) →
       Takes s t (taken_a (W.write_counted s true) t) (W.wrote (if takes_b s then Opened else Whole) None)
@@ -320,17 +291,9 @@ alone_so s t down is true =
     let y = W.write_counted s true in
     let z = taken_b y t in
     had_done (record {
-      near = record {
-        cylinders = refl;
-        queue = refl;
-        half = refl;
-        a = refl;
-        b = refl;
-        held = refl;
-        others = (near_stale_b s t false).others;
-      };
+      near = near_by refl (near_stale_b s t false).others;
       none = no_copies_b z.a.up (stale_at z.a t) (z.b.up && not (stale_at z.b t)) (takes_b z) (stale_at z.b t) (z.a.up && not (stale_at z.a t)) down
-          (false_at s.b.stale t);
+          (clear s.b.stale t);
       some = some_sides_b s.a.up (takes_b s) is;
       loose = refl;
     })
@@ -407,10 +370,7 @@ pub own_is : (t : ℕ) → (t == t) ≡ true
 own_is t = grind arith
 
 pub not_own : (t q : ℕ) → q ≢ t → (t == q) ≡ false
-not_own t q ne = by_test (t == q) refl where
-  by_test : (b : Bool) → (t == q) ≡ b → (t == q) ≡ false
-  by_test true is = absurd (ne (sym (eqb-true t q is)))
-  by_test false is = is
+not_own t q ne = ne_eqb t q (λ e. ne (sym e))
 
 opened_spot : (s : MarksStore) (t q : ℕ) → s.half ≡ None → q ≢ t → record (spot_at s q) { half = t == q } ≡ spot_at s q
 opened_spot s t q whole ne =
@@ -595,7 +555,7 @@ same_least s z e =
 pub lower_on : (s z y : MarksStore) → left z ≤ left s → Lower z y → Lower s y
 lower_on s z y least lower = omega (arith, least, lower)
 
-work_on : (s z y : MarksStore) (a : Option Did) → left z ≤ left s → WorkSo z y a → WorkSo s y a
+pub work_on : (s z y : MarksStore) (a : Option Did) → left z ≤ left s → WorkSo z y a → WorkSo s y a
 work_on s z y (Some d) least h = λ goes. lower_on s z y least (h goes)
 work_on s z y None least h = h
 
@@ -657,14 +617,6 @@ copied_b false stale true false true e = absurd (cc)
 copied_b false stale true false false e = absurd (cc)
 copied_b false stale false b_stale held e = absurd (cc)
 
-pub or_on : (x y : Bool) → x ≡ true → (x || y) ≡ true
-or_on true y e = refl
-or_on false y e = absurd (cc)
-
-pub or_on_right : (x y : Bool) → y ≡ true → (x || y) ≡ true
-or_on_right true y e = refl
-or_on_right false y e = e
-
 -- the track is as it was but for its copy
 copy_lower : (s z : MarksStore) (t : ℕ) → s.half ≡ None → t < tracks_of s → Near s z t → works (spot_at z t) ≡ works (spot_at s t) → copies (spot_at s t) ≡ true →
     copies (spot_at z t) ≡ false → Lower s z
@@ -687,13 +639,13 @@ IsCopied s t B = (takes_b s && stale_at s.b t && level_at s.a t) ≡ true
 copied_lower : (s : MarksStore) (t : ℕ) (side : Side) → s.half ≡ None → t < tracks_of s → IsCopied s t side → Lower s (with_stale s side t false)
 copied_lower s t A whole lt is =
     let z = with_stale s A t false in
-    copy_lower s z t whole lt (near_stale_a s t false) refl (or_on (s.a.up && stale_at s.a t && level_at s.b t) _ is)
-    (ap (λ (b : Bool). copies (record (spot_at z t) { a_stale = b })) (false_at s.a.stale t)
+    copy_lower s z t whole lt (near_stale_a s t false) refl (or_left (s.a.up && stale_at s.a t && level_at s.b t) _ is)
+    (ap (λ (b : Bool). copies (record (spot_at z t) { a_stale = b })) (clear s.a.stale t)
     ∙ copied_a s.a.up (stale_at s.a t) s.b.up (stale_at s.b t) s.held is)
 copied_lower s t B whole lt is =
     let z = with_stale s B t false in
-    copy_lower s z t whole lt (near_stale_b s t false) refl (or_on_right _ (takes_b s && stale_at s.b t && level_at s.a t) is)
-    (ap (λ (b : Bool). copies (record (spot_at z t) { b_stale = b })) (false_at s.b.stale t)
+    copy_lower s z t whole lt (near_stale_b s t false) refl (or_right _ (takes_b s && stale_at s.b t && level_at s.a t) is)
+    (ap (λ (b : Bool). copies (record (spot_at z t) { b_stale = b })) (clear s.b.stale t)
     ∙ copied_b s.a.up (stale_at s.a t) s.b.up (stale_at s.b t) s.held is)
 
 lower_to : (s z y : MarksStore) → Same z y → Lower s z → Lower s y

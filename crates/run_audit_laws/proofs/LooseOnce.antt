@@ -42,7 +42,7 @@ once_more (y ∷ l) x o none = by_test (y.track == x.track) refl none (λ e. onc
   by_test false test e more =
       (more_loose l x y.track o.0 (ne_eqb x.track y.track (λ same. eqb-false y.track x.track test (sym same))), more e)
 
-fewer_loose : (t : ℕ) (l : List LooseTrack) (q : ℕ) → is_loose_in l q ≡ false → is_loose_in (without t l) q ≡ false
+pub fewer_loose : (t : ℕ) (l : List LooseTrack) (q : ℕ) → is_loose_in l q ≡ false → is_loose_in (without t l) q ≡ false
 fewer_loose t [] q none = refl
 fewer_loose t (y ∷ l) q none = by_test (y.track == q) refl none (fewer_loose t l q) where
   kept : (c : Bool) → (y.track == q) ≡ false → is_loose_in (without t l) q ≡ false →

@@ -41,10 +41,9 @@ use Rattle.run_report.specs.OneDevice.{lines_at}
 use Rattle.run_report.proofs.OneDevice.{tells_alone}
 use Rattle.subsystem_defs.specs.declared.end.EventEnd.{EventEnd}
 use Rattle.subsystem_defs.specs.declared.end.EventEnd.TheVariants as ends
-use Rattle.subsystem_defs.specs.declared.end.OrderFault.TheVariants as faults
 use Rattle.subsystem_defs.specs.declared.event.Event.TheVariants as events
 use Rattle.subsystem_defs.specs.Deeds as E
-use Rattle.subsystem_defs.specs.Deeds.{Asks, Each, Ends, device_in, ends_by, ends_done, on_device, order}
+use Rattle.subsystem_defs.specs.Deeds.{Asks, Each, device_in, ends_by, ends_done, on_device, order}
 use Rattle.subsystem_defs.specs.Happening as H
 use Rattle.subsystem_defs.specs.Happening.{Happened, asks, happens, happens_by, held_with, mounted_behind, quietly, sweep, swept, told_end, told_to}
 use Rattle.subsystem_defs.specs.Lines.{Once}
@@ -61,7 +60,7 @@ use Rattle.run_audit_laws.proofs.FirmMarks.{firm_of}
 use Rattle.run_audit_laws.proofs.Found.{devices, found_one, mounted_too, put_at, put_same}
 use Rattle.run_audit_laws.proofs.Leading.{EventLeads, leads_on, one_leads, then_some}
 use Rattle.run_audit_laws.proofs.LossDevices.{IsLoss, side_acts, store_acts}
-use Rattle.run_audit_laws.proofs.Orders.{IsOrder, ordered, refused_leads, told_leads}
+use Rattle.run_audit_laws.proofs.Orders.{IsOrder, ordered, told_leads, down_or}
 use Rattle.run_audit_laws.proofs.PairLines.{silent_lines}
 use Rattle.run_audit_laws.proofs.ResetDevices.{audited_by}
 use Rattle.run_audit_laws.proofs.Saying.{same_number, same_order}
@@ -107,11 +106,9 @@ module _ (s : Subsystem) (plain : ArePlain s.mounted) (good : AreSo Good s.mount
 
   pub fail_store_leads : EventLeads s wanted.FailStore (Once events.FailStore) (happens s events.FailStore)
   unfolding H.happens E.deed
-  fail_store_leads = by_up (not s.pool.store_up) where
-    by_up : (b : Bool) → EventLeads s wanted.FailStore (Once events.FailStore)
-        (happens_by s (if b then Ends (ends.Refused faults.Down) else Each (store_failed s.pool) (λ x. lose by_plain x losses.Store)))
-    by_up true = refused_leads s wanted.FailStore orders.FailStore (Once events.FailStore) fails_store faults.Down
-    by_up false = store_leads
+  fail_store_leads =
+      down_or s wanted.FailStore orders.FailStore (Once events.FailStore) fails_store (not s.pool.store_up)
+      (Each (store_failed s.pool) (λ x. lose by_plain x losses.Store)) store_leads
 
 -- FAIL VOLUME
 
@@ -174,9 +171,6 @@ module _ (s : Subsystem) (plain : ArePlain s.mounted) (n : ℕ) (x : MarksDevice
   side_had =
       had_then (side_acts plainly.number plainly.empty x plainly.follows side)
       (λ y a g. had_done (record { loss = g.0; none = g.1; done = refl }))
-
-  abbrev from : List EventLine → AuditState
-  from later = stand s (wanted.FailVolume n side ∷ later)
 
   -- the acts of the device, and the line of the order
   acts_lead : (later : List EventLine) (m : Mounted) → m.device ≡ x → mounted_in s.mounted n ≡ Some m → (z : Mounted) (end : Option EventEnd) →

@@ -1,5 +1,5 @@
 -- No data of cache fast write are lost where the count of such losses in a history stays.
-use Rattle.std.proofs.Common.{◌≡◌, ◌+◌, ◌++◌, ℕ, Bool, List, [], ◌∷◌, Option, Some, None, refl, ap, arith, if◌then◌else◌}
+use Rattle.std.proofs.Common.{◌≡◌, ◌+◌, ◌++◌, ℕ, List, [], ◌∷◌, Option, Some, None, refl, ap, arith, if◌then◌else◌}
 use Rattle.std.specs.Prelude.{fold}
 use Rattle.plain_defs.specs.declared.journal.Act.{Act}
 use Rattle.plain_defs.specs.declared.journal.Act.TheVariants.{CfwLost, Harden, Loosen}
@@ -12,13 +12,11 @@ use Rattle.device_defs.specs.Excused.{loose_losses, losses_of}
 use Rattle.device_laws.specs.Unharmed.{all_losses, running_losses}
 use Rattle.subsystem_defs.specs.Beside.{acts_in, acts_of_entry, acts_of_item, acts_of_items, acts_running}
 use Rattle.run_audit_laws.specs.Steps.{NoLoss}
-
-abbrev one_if : Bool → ℕ
-one_if b = if b then 1 else 0
+use Rattle.run_audit_laws.proofs.Weights.{one}
 
 losses : List Act → ℕ
 losses [] = 0
-losses (act ∷ acts) = one_if (is_loss act) + losses acts
+losses (act ∷ acts) = one (is_loss act) + losses acts
 
 both_losses : (xs ys : List Act) → losses (xs ++ ys) ≡ losses xs + losses ys
 unfolding losses

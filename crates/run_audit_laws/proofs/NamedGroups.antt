@@ -1,7 +1,8 @@
 -- On a plain device whose programs give bytes each path group has a name of eleven bytes, and who holds the device is such a group or a path.
-use Rattle.std.proofs.Common.{◌==◌, ◌-◌, zero, suc, ℕ, Bool, true, false, List, [], ◌∷◌, map, Option, Some, None, if◌then◌else◌}
-use Rattle.std.specs.Prelude.{IfSome, slice_index_or, slice_set}
+use Rattle.std.proofs.Common.{◌≡◌, ◌==◌, ◌-◌, ℕ, Bool, true, false, List, [], ◌∷◌, map, Option, Some, None, if◌then◌else◌}
+use Rattle.std.specs.Prelude.{All, IfSome, slice_index_or, slice_set}
 use Rattle.std.specs.List.{list_any}
+use Rattle.std.proofs.lemmas.List.Elements.{All-cons, All-head, All-nil, All-set, All-tail}
 use Rattle.ckd_types.specs.declared.channel.Ccw.{Ccw}
 use Rattle.ckd_types.specs.declared.paths.GroupId.{GroupId}
 use Rattle.ckd_types.specs.declared.paths.Owner.{Owner}
@@ -17,15 +18,11 @@ use Rattle.ckd_rules.specs.declared.order.LocalAct.{LocalAct}
 use Rattle.ckd_rules.specs.declared.order.LocalAct.TheVariants.{Release, Reserve, Sense, SenseGroup, SenseId, SetGroup, Steal}
 use Rattle.ckd_rules.specs.declared.stance.Stance.{Stance}
 use Rattle.ckd_rules.specs.Grouping.{disbanded, establishes, is_in_group, owner_after, owner_by, owner_joined, owner_left, owner_set, paths_set, resigns, asks_multipath}
-use Rattle.deck_text.proofs.DeckAgain.{Each}
-use Rattle.plain_defs.specs.declared.journal.Act.{Act}
-use Rattle.plain_defs.specs.declared.journal.Act.TheVariants.{CfwLost, Harden, Loosen}
 use Rattle.plain_defs.specs.Acts.{act_fault, paths_after}
 use Rattle.plain_defs.specs.Effect.{acted_by, effect_by}
-use Rattle.plain_defs.specs.Loose.{act_done}
-use Rattle.plain_defs.specs.PlainState.{PathsState, PlainState, reset_path}
-use Rattle.plain_defs.specs.Program.{Part, with_acts}
+use Rattle.plain_defs.specs.PlainState.{PathsState, reset_path}
 use Rattle.report_reading.specs.Ranges.{AreBytes, IsOwner, IsPath}
+use Rattle.run_audit_laws.proofs.GivenBytes.{at_or}
 
 abbrev pub Named : PathState → Type 0
 Named (Grouped id multipath) = AreBytes 11 id.bytes
@@ -33,20 +30,10 @@ Named Reset = Unit {0}
 Named Ungrouped = Unit {0}
 
 pub record AreNamed (p : PathsState) : Type 0 where
-  pub states : Each Named p.states
+  pub states : All Named p.states
   pub owner : IfSome p.owner IsOwner
 
 -- Paths
-
-set_named : (xs : List PathState) (i : ℕ) (x : PathState) → Each Named xs → Named x → Each Named (slice_set xs i x)
-set_named [] i x all new = tt
-set_named (y ∷ xs) zero x all new = (new, all.1)
-set_named (y ∷ xs) (suc i) x all new = (all.0, set_named xs i x all.1 new)
-
-at_named : (xs : List PathState) (i : ℕ) → Each Named xs → Named (slice_index_or xs i Reset)
-at_named [] i all = tt
-at_named (y ∷ xs) zero all = all.0
-at_named (y ∷ xs) (suc i) all = at_named xs i all.1
 
 owner_named : (state : PathState) (path : ℕ) → IsPath path → Named state → IsOwner (owner_by state path)
 owner_named (Grouped id multipath) path p n = n
@@ -68,7 +55,7 @@ after_named paths path (Some (Group g)) h = kept_if (list_any (is_in_group g) pa
 
 pub reset_named : (p : PathsState) (path : ℕ) → AreNamed p → AreNamed (reset_path p path)
 reset_named p path n = record {
-  states = set_named p.states (path - 1) Reset n.states tt;
+  states = All-set Named p.states (path - 1) Reset tt n.states;
   owner = after_named (slice_set p.states (path - 1) Reset) path p.owner n.owner;
 }
 
@@ -79,16 +66,18 @@ module _ (id : GroupId) (bytes : AreBytes 11 id.bytes) where
   left_if true state n = tt
   left_if false state n = n
 
-  all_left : (xs : List PathState) → Each Named xs → Each Named (map (disbanded id) xs)
-  all_left [] all = tt
-  all_left (x ∷ xs) all = (left_if (is_in_group id x) x all.0, all_left xs all.1)
+  all_left : (xs : List PathState) → All Named xs → All Named (map (disbanded id) xs)
+  all_left [] all = All-nil Named
+  all_left (x ∷ xs) all =
+      All-cons Named (disbanded id x) (map (disbanded id) xs) (left_if (is_in_group id x) x (All-head Named x xs all))
+      (all_left xs (All-tail Named x xs all))
 
-  states_set : (xs : List PathState) (path function : ℕ) → Each Named xs → Each Named (paths_set xs path function id)
+  states_set : (xs : List PathState) (path function : ℕ) → All Named xs → All Named (paths_set xs path function id)
   states_set xs path function all = by_tests (establishes function) (resigns function) where
-    by_tests : (a b : Bool) → Each Named (if a then slice_set xs (path - 1) (Grouped id (asks_multipath function))
+    by_tests : (a b : Bool) → All Named (if a then slice_set xs (path - 1) (Grouped id (asks_multipath function))
         else if b then slice_set xs (path - 1) Ungrouped else map (disbanded id) xs)
-    by_tests true b = set_named xs (path - 1) (Grouped id (asks_multipath function)) all bytes
-    by_tests false true = set_named xs (path - 1) Ungrouped all tt
+    by_tests true b = All-set Named xs (path - 1) (Grouped id (asks_multipath function)) bytes all
+    by_tests false true = All-set Named xs (path - 1) Ungrouped tt all
     by_tests false false = all_left xs all
 
   joined_if : (b : Bool) (q : ℕ) → IsPath q → IsOwner (if b then Group id else Path q)
@@ -122,13 +111,13 @@ ActNamed (SetGroup function id) = AreBytes 11 id.bytes
 ActNamed _ = Unit {0}
 
 abbrev pub OpeningIn : Opening → Type 0
-OpeningIn (openings.Over e) = Unit {0}
+OpeningIn (openings.Over e) = e.sent ≡ []
 OpeningIn (openings.Looks look) = Unit {0}
 OpeningIn (openings.Asks act) = ActNamed act
 
 module _ (p : PathsState) (path : ℕ) (is : IsPath path) (n : AreNamed p) where
   reserved_named : IsOwner (owner_by (slice_index_or p.states (path - 1) Reset) path)
-  reserved_named = owner_named (slice_index_or p.states (path - 1) Reset) path is (at_named p.states (path - 1) n.states)
+  reserved_named = owner_named (slice_index_or p.states (path - 1) Reset) path is (at_or Named Reset tt p.states (path - 1) n.states)
 
   pub act_named : (act : LocalAct) → ActNamed act → AreNamed (paths_after p path act)
   act_named Sense h = record { states = n.states; owner = n.owner }
@@ -152,14 +141,3 @@ module _ (p : PathsState) (path : ℕ) (is : IsPath path) (n : AreNamed p) where
   effect_named device tracks start c s (openings.Over e) h = record { states = n.states; owner = n.owner }
   effect_named device tracks start c s (openings.Looks look) h = record { states = n.states; owner = n.owner }
   effect_named device tracks start c s (openings.Asks act) h = acted_named device start c act h (act_fault p path act)
-
--- acts of the storage control change nothing of the paths
-
-pub one_act : (state : PlainState) (act : Act) → AreNamed state.paths → AreNamed (act_done state act).paths
-one_act state (Loosen t) n = n
-one_act state (Harden t) n = n
-one_act state CfwLost n = n
-
-pub acts_named : (acts : List Act) (p : Part) → AreNamed p.state.paths → AreNamed (with_acts acts p).state.paths
-acts_named [] p n = n
-acts_named (act ∷ acts) p n = acts_named acts _ (one_act p.state act n)

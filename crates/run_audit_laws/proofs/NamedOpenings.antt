@@ -1,9 +1,13 @@
--- A command whose word gives bytes asks for a path group by eleven bytes.
-use Rattle.std.proofs.Common.{ℕ, Bool, true, false, Option, Some, None, Result, Ok, Err, if◌then◌else◌}
-use Rattle.std.specs.Prelude.{IfSome, nat_lt, not}
+-- A command whose word gives bytes asks for a path group by eleven bytes, and sends none where it is over before it looks at a track or asks the device.
+use Rattle.std.proofs.Common.{ℕ, Bool, true, false, Option, Some, None, Result, Ok, Err, refl, if◌then◌else◌, arith}
+use Rattle.std.specs.Prelude.{IfSome, drop, nat_lt, not, take}
+use Rattle.std.proofs.lemmas.List.{length-drop, length-take}
+use Rattle.std.proofs.lemmas.List.Elements.{All-drop, All-take}
 use Rattle.ckd_types.specs.declared.channel.Ccw.{Ccw}
 use Rattle.ckd_types.specs.declared.command.Command.{Command}
 use Rattle.ckd_types.specs.declared.command.Control.{Control}
+use Rattle.ckd_types.specs.declared.command.DeviceCommand.{DeviceCommand}
+use Rattle.ckd_types.specs.declared.command.DeviceCommand.TheVariants as devices
 use Rattle.ckd_types.specs.declared.command.Read.{Read}
 use Rattle.ckd_types.specs.declared.command.ReadArea.{ReadArea}
 use Rattle.ckd_types.specs.declared.parameters.Domain.{Domain}
@@ -28,9 +32,31 @@ use Rattle.ckd_rules.specs.declared.order.Look.TheVariants as looks
 use Rattle.ckd_rules.specs.declared.order.Order.TheVariants as orders
 use Rattle.ckd_rules.specs.declared.stance.Place.TheVariants as places
 use Rattle.ckd_rules.specs.Checks as C
+use Rattle.ckd_rules.specs.Checks.{device_act}
 use Rattle.ckd_rules.specs.Opening.{begun, locating, look_from, moved, opened_by, opening_of, read_from}
+use Rattle.plain_defs.specs.Whole.{GivesBytes}
+use Rattle.report_reading.specs.Ranges.{AreBytes}
+use Rattle.run_audit_laws.proofs.GivenBytes.{IsByte, as_bytes, padded_are, padded_length}
 use Rattle.run_audit_laws.proofs.NamedGroups.{ActNamed, OpeningIn}
-use Rattle.run_audit_laws.proofs.NamedPrograms.{Gives, device_named}
+
+named_bytes : (c : Ccw) → GivesBytes c → AreBytes 11 (take 11 (drop 1 (given 16 c)))
+named_bytes c gives = record {
+  count =
+      let all = padded_length 16 c.given in
+      let rest = length-drop 1 (given 16 c) in
+      let name = length-take 11 (drop 1 (given 16 c)) in omega (arith, all, rest, name);
+  each = as_bytes (take 11 (drop 1 (given 16 c)))
+      (All-take IsByte 11 (drop 1 (given 16 c)) (All-drop IsByte 1 (given 16 c) (padded_are 16 c.given gives)));
+}
+
+device_named : (c : Ccw) → GivesBytes c → (d : DeviceCommand) → ActNamed (device_act (given 16 c) d)
+device_named c gives devices.Sense = tt
+device_named c gives devices.SenseId = tt
+device_named c gives devices.Reserve = tt
+device_named c gives devices.Release = tt
+device_named c gives devices.UnconditionalReserve = tt
+device_named c gives devices.SetPathGroup = named_bytes c gives
+device_named c gives devices.SensePathGroup = tt
 
 abbrev OrderIn : Order → Type 0
 OrderIn (orders.Asks act) = ActNamed act
@@ -63,7 +89,7 @@ either_in false x y h k = k
 module _ (s : Stance) (c : Ccw) where
   went : (look : Look) (t : Result ℕ Sense) → OpeningIn (moved s c look t).opening
   went look (Ok t) = tt
-  went look (Err sense) = tt
+  went look (Err sense) = refl
 
   read_in : (r : Read) (area : ReadArea) (place : Place) → OpeningIn (read_from s c r area place).opening
   read_in r reads.Track places.Index = tt
@@ -92,25 +118,25 @@ module _ (s : Stance) (c : Ccw) where
   look_in (looks.Finds d) = tt
 
   locating_in : (d : Domain) (o : Option Place) → OpeningIn (locating s c d o).opening
-  locating_in d (Some place) = tt
+  locating_in d (Some place) = refl
   locating_in d None = tt
 
   begun_in : (order : Order) → OrderIn order → OpeningIn (begun s c order).opening
-  begun_in orders.Nothing h = tt
-  begun_in (orders.Seeks t) h = tt
-  begun_in orders.Recalibrates h = tt
-  begun_in orders.SetsSector h = tt
-  begun_in (orders.SetsMask mask) h = tt
-  begun_in (orders.Defines e) h = tt
+  begun_in orders.Nothing h = refl
+  begun_in (orders.Seeks t) h = refl
+  begun_in orders.Recalibrates h = refl
+  begun_in orders.SetsSector h = refl
+  begun_in (orders.SetsMask mask) h = refl
+  begun_in (orders.Defines e) h = refl
   begun_in (orders.Locates d) h = locating_in d (unseen_place d.orientation)
   begun_in (orders.Looks look) h = look_in look
   begun_in (orders.Asks act) h = h
 
   opened_in : (r : Result Order Sense) → ResultIn r → OpeningIn (opened_by s c r).opening
   opened_in (Ok order) h = begun_in order h
-  opened_in (Err sense) h = tt
+  opened_in (Err sense) h = refl
 
-module _ (f : Fixed) (s : Stance) (c : Ccw) (h : Gives c) where
+module _ (f : Fixed) (s : Stance) (c : Ccw) (gives : GivesBytes c) where
   control_in : (k : Control) → IfSome (C.control_order f s (given 16 c) k) OrderIn
   control_in controls.NoOperation = tt
   control_in controls.Seek = seeks_in _
@@ -127,7 +153,7 @@ module _ (f : Fixed) (s : Stance) (c : Ccw) (h : Gives c) where
   decoded_in (commands.Search x) = tt
   decoded_in (commands.Read r) = tt
   decoded_in (commands.Write w) = tt
-  decoded_in (commands.Device d) = device_named c h d
+  decoded_in (commands.Device d) = device_named c gives d
 
   masked_in : (order : Order) → OrderIn order → (o : Option Sense) → ResultIn (C.masked_order s order o)
   masked_in order k (Some sense) = tt

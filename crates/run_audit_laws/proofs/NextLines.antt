@@ -1,9 +1,7 @@
 -- The first line of an event isn't of the work before it, so lines that lead on from where that work is known to be done do so from where it isn't.
-use Rattle.std.proofs.Common.{◌≡◌, ◌==◌, ◌++◌, ℕ, Bool, true, false, not, List, [], ◌∷◌, arith, length, map, Option, Some, None, refl, sym, ap, subst, ◌∙◌, if◌then◌else◌}
-use Rattle.std.specs.Prelude.{◌||◌, ◌&&◌, Result, Ok, Err, nat_lt, option_map}
-use Rattle.std.proofs.lemmas.Bool.{eqb-true}
-use Rattle.std.proofs.lemmas.Bool.Decides.{nat_tests}
-use Rattle.ckd_types.specs.declared.paths.Side.{Side}
+use Rattle.std.proofs.Common.{◌≡◌, ◌==◌, ◌++◌, ℕ, Bool, true, false, not, List, [], ◌∷◌, Option, Some, None, refl, sym, ap, subst, ◌∙◌, if◌then◌else◌}
+use Rattle.std.specs.Prelude.{◌||◌, ◌&&◌, Result, Ok, Err}
+use Rattle.std.proofs.lemmas.Bool.{or_from, and_right}
 use Rattle.deck_plan.specs.declared.event.EventLine.{EventLine}
 use Rattle.deck_plan.specs.declared.event.EventLine.TheVariants as events
 use Rattle.report_text.specs.declared.answers.LooseAnswer.{LooseAnswer}
@@ -17,29 +15,20 @@ use Rattle.report_places.specs.declared.state.HalfWrite.{HalfWrite}
 use Rattle.report_places.specs.declared.state.HalfWrite.TheVariants as half
 use Rattle.report_places.specs.declared.state.OpenProgram.{OpenProgram}
 use Rattle.report_places.specs.declared.state.Outline.{Outline}
-use Rattle.report_places.specs.Place.{holds, in_event, in_next, in_power, in_power_of, in_steps, is_act_of, is_back_line, is_cut, is_end, is_half, is_harden, is_io, is_loss, is_loss_of, is_of_work, is_order, is_power_done, is_reset, is_second_line, is_start, may_back, may_reset, may_step, outline_in, second_of}
+use Rattle.report_places.specs.Place.{holds, in_event, in_next, in_power, in_power_of, in_steps, is_act_of, is_back_line, is_cut, is_end, is_half, is_io, is_loss, is_loss_of, is_of_work, is_order, is_power_done, is_reset, is_second_line, is_start, may_back, may_reset, may_step, outline_in, second_of}
 use Rattle.report_places.specs.Same.{says}
-use Rattle.plain_defs.specs.declared.journal.Act.TheVariants.{Harden}
-use Rattle.plain_defs.specs.PlainState.{LooseTrack}
-use Rattle.plain_defs.specs.Loose.{is_loose_in}
-use Rattle.deck_audit.specs.Device as A
-use Rattle.deck_audit.specs.Device.{AuditedDevice, state_of}
-use Rattle.deck_audit.specs.History.{act_made, event_made, harden_made, next_made}
-use Rattle.deck_audit.specs.State.{AuditState, outlines, then_of, worker_number}
-use Rattle.device_defs.specs.Marks.{MarksDevice}
+use Rattle.deck_audit.specs.History.{next_made}
+use Rattle.deck_audit.specs.State.{AuditState, outlines, worker_number}
 use Rattle.report_auditor.specs.declared.status.AuditWhy.{AuditWhy}
-use Rattle.report_auditor.specs.declared.status.AuditWhy.TheVariants.{History, Place}
+use Rattle.report_auditor.specs.declared.status.AuditWhy.TheVariants.{Place}
 use Rattle.report_auditor.specs.Verdict.{or_history}
-use Rattle.subsystem_defs.specs.Deeds.{device_in}
-use Rattle.subsystem_defs.specs.Subsystem.{Subsystem, devices_of}
-use Rattle.run_audit_laws.specs.Runs.{HasNoneLoose, MayFollow}
-use Rattle.run_audit_laws.specs.Standing.{LeadsBy, audited, stand}
+use Rattle.subsystem_defs.specs.Subsystem.{Subsystem}
+use Rattle.run_audit_laws.specs.Standing.{LeadsBy, stand}
 use Rattle.run_audit_laws.specs.Steps.{LeadsTowards, Reaches, is_there, is_waiting}
-use Rattle.run_audit_laws.proofs.Found.{found}
 use Rattle.run_audit_laws.proofs.Leading.{leads_on, waiting_leads}
 
 -- an event line that isn't a volume's failure
-abbrev IsCalm : EventLine → Type 0
+abbrev pub IsCalm : EventLine → Type 0
 IsCalm (events.FailVolume d side) = ⊥
 IsCalm e = Unit {0}
 
@@ -61,20 +50,13 @@ record BeginsNothing (line : ReportLine) : Type 0 where
   power : is_power_done line ≡ false
   totals : (s : List Outline) → in_next s line [] ≡ false
 
-neither : (a b : Bool) → a ≡ false → b ≡ false → (a || b) ≡ false
-neither a b e f = ap (λ (x : Bool). x || b) e ∙ f
-
-never_both : (a b : Bool) → b ≡ false → (a && b) ≡ false
-never_both true b e = e
-never_both false b e = refl
-
 never_holds : {T : Type 0} (o : Option T) (f : T → Bool) → ((x : T) → f x ≡ false) → holds o f ≡ false
 never_holds None f no_one = refl
 never_holds (Some x) f no_one = no_one x
 
 module _ (line : ReportLine) (b : BeginsNothing line) where
   in_no_steps : (a : Outline) (idle : ReportLine) → says idle line ≡ false → (r : Option OpenProgram) → in_steps a idle line r ≡ false
-  in_no_steps a idle no_idle (Some o) = neither (is_end a.number o line) (is_half a.number o line) (b.ends a.number o) (b.halves a.number o)
+  in_no_steps a idle no_idle (Some o) = or_from (is_end a.number o line) (is_half a.number o line) (b.ends a.number o) (b.halves a.number o)
   in_no_steps a idle no_idle None = no_idle
 
   no_second : (a : Outline) (r : Option OpenProgram) → second_of a line r ≡ false
@@ -101,7 +83,7 @@ module _ (line : ReportLine) (b : BeginsNothing line) where
   no_power_of : (a : Outline) (below : Bool) → below ≡ false → (r : Option OpenProgram) → in_power_of a line below r ≡ false
   no_power_of a below none (Some o) = b.cuts a.number o
   no_power_of a below none None =
-      neither (is_loss_of a.number line) (not a.loose && below) (b.loss_of a.number) (never_both (not a.loose) below none)
+      or_from (is_loss_of a.number line) (not a.loose && below) (b.loss_of a.number) (and_right (not a.loose) below none)
 
   no_power : (s : List Outline) → in_power line s ≡ false
   no_power [] = b.power
@@ -116,7 +98,7 @@ module _ (line : ReportLine) (b : BeginsNothing line) where
   begins_none s (events.Back d) calm = never_holds (outline_in s d) (λ a. may_back a line a.half) (λ a. no_back a a.half)
   begins_none s (events.Settle d) calm = never_holds (outline_in s d) (λ a. may_back a line a.half) (λ a. no_back a a.half)
   begins_none s (events.Reset path d) calm = never_holds (outline_in s d) (λ a. may_reset path d a line a.running) (λ a. no_reset path d a a.running)
-  begins_none s events.FailCache calm = neither (is_loss s line) (is_order orders.FailCache line) (b.losses s) (b.orders_are orders.FailCache)
+  begins_none s events.FailCache calm = or_from (is_loss s line) (is_order orders.FailCache line) (b.losses s) (b.orders_are orders.FailCache)
   begins_none s events.FailStore calm = b.orders_are orders.FailStore
   begins_none s (events.FailVolume d side) calm = absurd calm
   begins_none s events.RepairCache calm = b.orders_are orders.RepairCache
@@ -151,8 +133,9 @@ io_begins_none reads writes = record {
   by_outlines [] = refl
   by_outlines (a ∷ left) = refl
 
-harden_begins_none : (n t : ℕ) → BeginsNothing (lines.Loose n (loose.Harden t))
-harden_begins_none n t = record {
+loose_begins_none : (n : ℕ) (a : LooseAnswer) → ((s : List Outline) → is_loss s (lines.Loose n a) ≡ false) →
+    ((d : ℕ) → is_loss_of d (lines.Loose n a) ≡ false) → BeginsNothing (lines.Loose n a)
+loose_begins_none n a no_loss no_loss_of = record {
   ends = λ d o. refl;
   halves = λ d o. refl;
   seconds = λ d. refl;
@@ -163,35 +146,14 @@ harden_begins_none n t = record {
   resets = λ path d. refl;
   cuts = λ d o. refl;
   orders_are = λ o. refl;
-  losses = λ s. refl;
-  loss_of = λ d. refl;
+  losses = no_loss;
+  loss_of = no_loss_of;
   power = refl;
   totals = by_outlines;
 } where
-  by_outlines : (s : List Outline) → in_next s (lines.Loose n (loose.Harden t)) [] ≡ false
+  by_outlines : (s : List Outline) → in_next s (lines.Loose n a) [] ≡ false
   by_outlines [] = refl
-  by_outlines (a ∷ left) = refl
-
-loosen_begins_none : (n t : ℕ) → BeginsNothing (lines.Loose n (loose.Loosen t))
-loosen_begins_none n t = record {
-  ends = λ d o. refl;
-  halves = λ d o. refl;
-  seconds = λ d. refl;
-  backs = λ d. refl;
-  steps = λ d. refl;
-  runs = λ d. refl;
-  starts = λ path d. refl;
-  resets = λ path d. refl;
-  cuts = λ d o. refl;
-  orders_are = λ o. refl;
-  losses = λ s. refl;
-  loss_of = λ d. refl;
-  power = refl;
-  totals = by_outlines;
-} where
-  by_outlines : (s : List Outline) → in_next s (lines.Loose n (loose.Loosen t)) [] ≡ false
-  by_outlines [] = refl
-  by_outlines (a ∷ left) = refl
+  by_outlines (x ∷ left) = refl
 
 -- Every line
 
@@ -199,151 +161,60 @@ no_act : (more : Bool) (d : ℕ) (line : ReportLine) → is_act_of true d line �
 no_act true d line is = is
 no_act false d line is = refl
 
-of_none : (line : ReportLine) → is_io line ≡ false → ((d : ℕ) → is_act_of true d line ≡ false) → (more : Bool) (w : Option ℕ) →
+pub of_none : (line : ReportLine) → is_io line ≡ false → ((d : ℕ) → is_act_of true d line ≡ false) → (more : Bool) (w : Option ℕ) →
     is_of_work more w line ≡ false
 of_none line no_io act more None = ap (λ (b : Bool). b || false) no_io
 of_none line no_io act more (Some d) = ap (λ (b : Bool). b || is_act_of more d line) no_io ∙ no_act more d line (act d)
 
--- the first event line that is left may follow a piece of work of this device
-abbrev pub BeginMay : Option ℕ → Subsystem → List EventLine → Type 0
-BeginMay w s [] = Unit {0}
-BeginMay w s (e ∷ later) = MayFollow w s e
+-- the first event line that is left, if there is one, is no volume's failure
+abbrev pub BeginsCalmly : List EventLine → Type 0
+BeginsCalmly [] = Unit {0}
+BeginsCalmly (e ∷ later) = IsCalm e
 
--- a track becomes firm only where it is loose
+module _ (s : List Outline) (left : List EventLine) (calm : BeginsCalmly left) (more : Bool) (w : Option ℕ) where
+  refuted_in : (line : ReportLine) → BeginsNothing line → (l : List EventLine) → BeginsCalmly l → in_next s line l ≡ true → is_of_work more w line ≡ false
+  refuted_in line b [] calmly is = absurd (let both : true ≡ false = sym is ∙ b.totals s in cc)
+  refuted_in line b (e ∷ l) calmly is = absurd (let both : true ≡ false = sym is ∙ begins_none line b s e calmly in cc)
 
-none_in : (l : List LooseTrack) (t : ℕ) → nat_lt 0 (length l) ≡ false → is_loose_in l t ≡ false
-none_in [] t none = refl
-none_in (x ∷ l) t none = absurd (let some : nat_lt 0 (length (x ∷ l)) ≡ true = grind (arith, nat_tests) in cc)
+  refuted : (line : ReportLine) → BeginsNothing line → in_next s line left ≡ true → is_of_work more w line ≡ false
+  refuted line b is = refuted_in line b left calm is
 
-module _ (s : Subsystem) (later : List EventLine) (n t : ℕ) (v : AuditState) (none : HasNoneLoose s n)
-    (made : or_history (then_of (A.device_in (map audited (devices_of s)) n) (λ a. harden_made (stand s later) a t Next)) ≡ Ok v) where
-  abbrev makes : Option AuditedDevice → Result AuditState AuditWhy
-  makes o = or_history (then_of o (λ a. harden_made (stand s later) a t Next))
-
-  by_device : (o : Option MarksDevice) → device_in (devices_of s) n ≡ o → makes (option_map audited o) ≡ Ok v → ⊥
-  by_device None at is = let never : Err History ≡ Ok v = is in cc
-  by_device (Some x) at is =
-      let firm = none_in (state_of (audited x)).loose t (none x at) in
-      let never : Err History ≡ Ok v =
-      sym (ap (λ (b : Bool). or_history (if b then Some (act_made (stand s later) (audited x) (Harden t) Next) else None)) firm) ∙ is in cc
-
-  never_firm : ⊥
-  never_firm = by_device (device_in (devices_of s) n) refl (sym (ap makes (found (devices_of s) n)) ∙ made)
-
-module _ (at : Subsystem) (later : List EventLine) (more : Bool) (w : Option ℕ) (may : BeginMay w at later) where
-  abbrev s : List Outline
-  s = outlines (stand at later)
-
-  never : (line : ReportLine) → BeginsNothing line → (e : EventLine) → IsCalm e → in_event (outlines (stand at later)) line e ≡ true →
-      is_of_work more w line ≡ false
-  never line b e calm is = absurd (let both : true ≡ false = sym is ∙ begins_none line b s e calm in cc)
-
-  -- where the line isn't of a volume's failure, or is none of the work then
-  refuted_by : (line : ReportLine) → BeginsNothing line → (e : EventLine) →
-      ((d : ℕ) (side : Side) → e ≡ events.FailVolume d side → is_of_work more w line ≡ false) → in_event (outlines (stand at later)) line e ≡ true →
-      is_of_work more w line ≡ false
-  refuted_by line b (events.FailVolume d side) aside is = aside d side refl
-  refuted_by line b (events.Start path d) aside is = never line b (events.Start path d) tt is
-  refuted_by line b (events.Step d) aside is = never line b (events.Step d) tt is
-  refuted_by line b (events.Run d) aside is = never line b (events.Run d) tt is
-  refuted_by line b (events.Back d) aside is = never line b (events.Back d) tt is
-  refuted_by line b (events.Settle d) aside is = never line b (events.Settle d) tt is
-  refuted_by line b (events.Reset path d) aside is = never line b (events.Reset path d) tt is
-  refuted_by line b events.FailCache aside is = never line b events.FailCache tt is
-  refuted_by line b events.FailStore aside is = never line b events.FailStore tt is
-  refuted_by line b events.RepairCache aside is = never line b events.RepairCache tt is
-  refuted_by line b events.RepairStore aside is = never line b events.RepairStore tt is
-  refuted_by line b (events.Replace d side) aside is = never line b (events.Replace d side) tt is
-  refuted_by line b (events.Pair x y) aside is = never line b (events.Pair x y) tt is
-  refuted_by line b (events.Unpair x) aside is = never line b (events.Unpair x) tt is
-  refuted_by line b (events.Suspend x) aside is = never line b (events.Suspend x) tt is
-  refuted_by line b (events.Resume x) aside is = never line b (events.Resume x) tt is
-  refuted_by line b events.Power aside is = never line b events.Power tt is
-
-  -- a line that makes no track firm
-  refuted_in : (line : ReportLine) → BeginsNothing line → ((d : ℕ) → is_harden d line ≡ false) → (l : List EventLine) →
-      in_next (outlines (stand at later)) line l ≡ true → is_of_work more w line ≡ false
-  refuted_in line b firm [] is = absurd (let both : true ≡ false = sym is ∙ b.totals s in cc)
-  refuted_in line b firm (e ∷ l) is =
-      refuted_by line b e (λ d side same. absurd (let both : true ≡ false =
-      sym is ∙ ap (in_event s line) same
-      ∙ neither (is_harden d line) (is_order (orders.FailVolume d side) line) (firm d) (b.orders_are (orders.FailVolume d side)) in cc)) is
-
-  refuted : (line : ReportLine) → BeginsNothing line → ((d : ℕ) → is_harden d line ≡ false) → in_next (outlines (stand at later)) line later ≡ true →
-      is_of_work more w line ≡ false
-  refuted line b firm is = refuted_in line b firm later is
-
-  -- one that does so for a volume's failure
-  module _ (n t : ℕ) (v : AuditState) where
-    abbrev Makes : EventLine → Type 0
-    Makes e = or_history (event_made (stand at later) (lines.Loose n (loose.Harden t)) e) ≡ Ok v
-
-    only_first : (b : Bool) → (b || false) ≡ true → b ≡ true
-    only_first true so = refl
-    only_first false so = so
-
-    other_number : (x d : ℕ) (side : Side) → MayFollow (Some x) at (events.FailVolume d side) → ((n == d) || false) ≡ true →
-        Makes (events.FailVolume d side) → (m : Bool) → is_act_of m x (lines.Loose n (loose.Harden t)) ≡ false
-    other_number x d side follows is made false = refl
-    other_number x d side follows is made true = by_same (n == x) refl where
-      by_same : (b : Bool) → (n == x) ≡ b → b ≡ false
-      by_same false so = refl
-      by_same true so =
-          let to = eqb-true n d (only_first (n == d) is) in
-          absurd (never_firm at later n t v (subst (HasNoneLoose at) (sym to) (follows (sym (eqb-true n x so) ∙ to))) made)
-
-    aside_by : (k : Option ℕ) (d : ℕ) (side : Side) → MayFollow k at (events.FailVolume d side) → ((n == d) || false) ≡ true →
-        Makes (events.FailVolume d side) → is_of_work more k (lines.Loose n (loose.Harden t)) ≡ false
-    aside_by None d side follows is made = refl
-    aside_by (Some x) d side follows is made = other_number x d side follows is made more
-
-    harden_in : (l : List EventLine) → BeginMay w at l → in_next (outlines (stand at later)) (lines.Loose n (loose.Harden t)) l ≡ true →
-        or_history (next_made (stand at later) (lines.Loose n (loose.Harden t)) l) ≡ Ok v → is_of_work more w (lines.Loose n (loose.Harden t)) ≡ false
-    harden_in [] follows is made =
-        absurd (let both : true ≡ false = sym is ∙ (harden_begins_none n t).totals s in cc)
-    harden_in (e ∷ l) follows is made =
-        refuted_by (lines.Loose n (loose.Harden t)) (harden_begins_none n t) e (λ d side same.
-        aside_by w d side (subst (MayFollow w at) same follows)
-        (subst (λ (x : EventLine). in_event s (lines.Loose n (loose.Harden t)) x ≡ true) same is) (subst Makes same made)) is
-
-  loose_by : (n : ℕ) (a : LooseAnswer) (v : AuditState) → in_next (outlines (stand at later)) (lines.Loose n a) later ≡ true →
-      or_history (next_made (stand at later) (lines.Loose n a) later) ≡ Ok v → is_of_work more w (lines.Loose n a) ≡ false
-  loose_by n (loose.Harden t) v is made = harden_in n t v later may is made
-  loose_by n (loose.Loosen t) v is made = refuted (lines.Loose n (loose.Loosen t)) (loosen_begins_none n t) (λ d. refl) is
-  loose_by n (loose.Lost count id) v is made = of_none (lines.Loose n (loose.Lost count id)) refl (λ d. refl) more w
+  loose_by : (n : ℕ) (a : LooseAnswer) → in_next s (lines.Loose n a) left ≡ true → is_of_work more w (lines.Loose n a) ≡ false
+  loose_by n (loose.Harden t) is = refuted (lines.Loose n (loose.Harden t)) (loose_begins_none n (loose.Harden t) (λ s. refl) (λ d. refl)) is
+  loose_by n (loose.Loosen t) is = refuted (lines.Loose n (loose.Loosen t)) (loose_begins_none n (loose.Loosen t) (λ s. refl) (λ d. refl)) is
+  loose_by n (loose.Lost count id) is = of_none (lines.Loose n (loose.Lost count id)) refl (λ d. refl) more w
 
   -- a line that comes next is none of the work before
-  next_is_other : (line : ReportLine) (v : AuditState) → in_next (outlines (stand at later)) line later ≡ true →
-      or_history (next_made (stand at later) line later) ≡ Ok v → is_of_work more w line ≡ false
-  next_is_other (lines.Loose n a) v is made = loose_by n a v is made
-  next_is_other (lines.Io reads writes) v is made = refuted (lines.Io reads writes) (io_begins_none reads writes) (λ d. refl) is
-  next_is_other (lines.Start path d a) v is made = of_none (lines.Start path d a) refl (λ k. refl) more w
-  next_is_other (lines.End e) v is made = of_none (lines.End e) refl (λ k. refl) more w
-  next_is_other (lines.Data bytes) v is made = of_none (lines.Data bytes) refl (λ k. refl) more w
-  next_is_other (lines.Sense sense) v is made = of_none (lines.Sense sense) refl (λ k. refl) more w
-  next_is_other (lines.Half path d t) v is made = of_none (lines.Half path d t) refl (λ k. refl) more w
-  next_is_other (lines.Back d a) v is made = of_none (lines.Back d a) refl (λ k. refl) more w
-  next_is_other (lines.StepIdle d) v is made = of_none (lines.StepIdle d) refl (λ k. refl) more w
-  next_is_other (lines.RunIdle d) v is made = of_none (lines.RunIdle d) refl (λ k. refl) more w
-  next_is_other (lines.Over path d n how) v is made = of_none (lines.Over path d n how) refl (λ k. refl) more w
-  next_is_other (lines.Reset path d) v is made = of_none (lines.Reset path d) refl (λ k. refl) more w
-  next_is_other (lines.Order o a) v is made = of_none (lines.Order o a) refl (λ k. refl) more w
-  next_is_other (lines.Device d t) v is made = of_none (lines.Device d t) refl (λ k. refl) more w
-  next_is_other (lines.Lost d t) v is made = of_none (lines.Lost d t) refl (λ k. refl) more w
-  next_is_other (lines.Frame d t m) v is made = of_none (lines.Frame d t m) refl (λ k. refl) more w
-  next_is_other (lines.Fresh d) v is made = of_none (lines.Fresh d) refl (λ k. refl) more w
-  next_is_other (lines.Left path d n) v is made = of_none (lines.Left path d n) refl (λ k. refl) more w
-  next_is_other (lines.Unused n) v is made = of_none (lines.Unused n) refl (λ k. refl) more w
-  next_is_other lines.Finish v is made = of_none lines.Finish refl (λ k. refl) more w
-  next_is_other (lines.Sum of n) v is made = of_none (lines.Sum of n) refl (λ k. refl) more w
+  next_is_other : (line : ReportLine) → in_next s line left ≡ true → is_of_work more w line ≡ false
+  next_is_other (lines.Loose n a) is = loose_by n a is
+  next_is_other (lines.Io reads writes) is = refuted (lines.Io reads writes) (io_begins_none reads writes) is
+  next_is_other (lines.Start path d a) is = of_none (lines.Start path d a) refl (λ k. refl) more w
+  next_is_other (lines.End e) is = of_none (lines.End e) refl (λ k. refl) more w
+  next_is_other (lines.Data bytes) is = of_none (lines.Data bytes) refl (λ k. refl) more w
+  next_is_other (lines.Sense sense) is = of_none (lines.Sense sense) refl (λ k. refl) more w
+  next_is_other (lines.Half path d t) is = of_none (lines.Half path d t) refl (λ k. refl) more w
+  next_is_other (lines.Back d a) is = of_none (lines.Back d a) refl (λ k. refl) more w
+  next_is_other (lines.StepIdle d) is = of_none (lines.StepIdle d) refl (λ k. refl) more w
+  next_is_other (lines.RunIdle d) is = of_none (lines.RunIdle d) refl (λ k. refl) more w
+  next_is_other (lines.Over path d n how) is = of_none (lines.Over path d n how) refl (λ k. refl) more w
+  next_is_other (lines.Reset path d) is = of_none (lines.Reset path d) refl (λ k. refl) more w
+  next_is_other (lines.Order o a) is = of_none (lines.Order o a) refl (λ k. refl) more w
+  next_is_other (lines.Device d t) is = of_none (lines.Device d t) refl (λ k. refl) more w
+  next_is_other (lines.Lost d t) is = of_none (lines.Lost d t) refl (λ k. refl) more w
+  next_is_other (lines.Frame d t m) is = of_none (lines.Frame d t m) refl (λ k. refl) more w
+  next_is_other (lines.Fresh d) is = of_none (lines.Fresh d) refl (λ k. refl) more w
+  next_is_other (lines.Left path d n) is = of_none (lines.Left path d n) refl (λ k. refl) more w
+  next_is_other (lines.Unused n) is = of_none (lines.Unused n) refl (λ k. refl) more w
+  next_is_other (lines.Sum of n) is = of_none (lines.Sum of n) refl (λ k. refl) more w
+  next_is_other lines.Finish is = of_none lines.Finish refl (λ k. refl) more w
 
 -- From where a piece of work is known to be done at the next line
 
-stands_so : (b : Bool) (r : Result AuditState AuditWhy) (u : AuditState) → (if b then r else Err Place) ≡ Ok u → (b ≡ true) × (r ≡ Ok u)
+pub stands_so : (b : Bool) (r : Result AuditState AuditWhy) (u : AuditState) → (if b then r else Err Place) ≡ Ok u → (b ≡ true) × (r ≡ Ok u)
 stands_so true r u is = (refl, is)
 stands_so false r u is = absurd (cc)
 
-module _ (s : Subsystem) (later : List EventLine) (n : Option ℕ) (may : BeginMay n s later) where
+module _ (s : Subsystem) (later : List EventLine) (n : Option ℕ) (calm : BeginsCalmly later) where
   pub leads_from : (u : AuditState) → Reaches n u (stand s later) → (line : ReportLine) (lines : List ReportLine) (t : AuditState) →
       LeadsBy (stand s later) (line ∷ lines) t → LeadsBy u (line ∷ lines) t
   leads_from u (is_there same) line lines t leads = subst (λ (z : AuditState). LeadsBy z (line ∷ lines) t) (sym same) leads
@@ -351,7 +222,7 @@ module _ (s : Subsystem) (later : List EventLine) (n : Option ℕ) (may : BeginM
       let z = stand s later in
       let so = stands_so (in_next (outlines z) line later) (or_history (next_made z line later)) leads.0 leads.1 in
       waiting_leads u t line lines more did is
-      (ap (λ (k : Option ℕ). is_of_work more k line) works ∙ next_is_other s later more n may line leads.0 so.0 so.1)
+      (ap (λ (k : Option ℕ). is_of_work more k line) works ∙ next_is_other (outlines z) later calm more n line so.0)
       legal (ap (λ (z : AuditState). z.due) same)
       (subst (λ (z : AuditState). LeadsBy z (line ∷ lines) t) (sym same) leads)
 

@@ -35,7 +35,7 @@ use Rattle.subsystem_defs.specs.declared.event.Event.TheVariants as events
 use Rattle.subsystem_defs.specs.Deeds as E
 use Rattle.subsystem_defs.specs.Deeds.{Becomes, Ends, Repairs, device_in, on_device, order, repair}
 use Rattle.subsystem_defs.specs.Happening as H
-use Rattle.subsystem_defs.specs.Happening.{Happened as Happening, MarksDeed, becomes, happens, happens_by, quietly, replaced, replaced_at, replaced_by}
+use Rattle.subsystem_defs.specs.Happening.{MarksDeed, becomes, happens, happens_by, quietly, replaced, replaced_at, replaced_by}
 use Rattle.subsystem_defs.specs.Lines.{Asked, Once, Replace}
 use Rattle.subsystem_defs.specs.Refusals.{replace_fault, resume_fault, suspend_fault}
 use Rattle.subsystem_defs.specs.Subsystem.{Mounted, Subsystem, devices_of, mounted_in, unfailing, with_calls, with_mounted}
@@ -90,6 +90,12 @@ module _ (s : Subsystem) (e : EventLine) (o : Order) (asked : Asked) (is : IsOrd
   ordered (Some fault) x go = refused_leads fault
   ordered None x go = go refl
 
+  -- what is down is not lost
+  pub down_or : (down : Bool) (x : MarksDeed) → EventLeads s e asked (happens_by s x) →
+      EventLeads s e asked (happens_by s (if down then Ends (ends.Refused faults.Down) else x))
+  down_or true x go = refused_leads faults.Down
+  down_or false x go = go
+
   module _ (done : IsDone e o) where
     -- nothing that a device knows
     pub pool_leads : (pool : Pool) → EventLeads s e asked (quietly s (record s { pool = pool }) ends.Done)
@@ -120,6 +126,15 @@ module _ (s : Subsystem) (e : EventLine) (o : Order) (asked : Asked) (is : IsOrd
         (subst (λ (q : Option Mounted). EventLeads s e asked (quietly s (becomes s n q y) ends.Done)) (sym m.1)
         (put_leads n m.0 (record m.0 { device = y }) m.1 (history ∙ ap (λ (x : MarksDevice). x.history) (sym m.2))
         (same ∙ ap audited (sym m.2))))
+
+    -- a device becomes another of which it knows the same, unless that is refused
+    turned : (n : ℕ) (x : MarksDevice) → device_in (devices_of s) n ≡ Some x → (fault : MarksDevice → Option OrderFault) (to : MarksDevice → MarksDevice) →
+        (to x).store.device ≡ x.store.device → (to x).history ≡ x.history → audited (to x) ≡ audited x →
+        EventLeads s e asked (happens_by s (on_device (device_in (devices_of s) n) (λ d. order (fault d) (Becomes (to d) ends.Done))))
+    turned n x at fault to number history same =
+        subst (λ (k : Option MarksDevice). EventLeads s e asked (happens_by s (on_device k (λ d. order (fault d) (Becomes (to d) ends.Done))))) (sym at)
+        (ordered (fault x) (Becomes (to x) ends.Done)
+        (λ free. becomes_leads n x (to x) at history same (to x).store.device (number ∙ number_found s.mounted n x at)))
 
     repaired : (up : Bool) (pool later : Pool) → EventLeads s e asked (happens_by s (repair up pool later))
     repaired true pool later = refused_leads faults.Up
@@ -175,22 +190,12 @@ module _ (s : Subsystem) where
     pub suspend_leads : EventLeads s (wanted.Suspend n) (Once (events.Suspend n)) (happens s (events.Suspend n))
     unfolding H.happens E.deed
     suspend_leads =
-        let e = wanted.Suspend n in
-        let asked = Once (events.Suspend n) in
-        subst (λ (o : Option MarksDevice). EventLeads s e asked (happens_by s (on_device o (λ d. order (suspend_fault d) (Becomes (hold d) ends.Done)))))
-        (sym at)
-        (ordered s e (orders.Suspend n) asked (suspends n) (suspend_fault x) (Becomes (hold x) ends.Done)
-        (λ free. becomes_leads s e (orders.Suspend n) asked (suspends n) (λ z. refl) n x (hold x) at refl refl x.store.device (number_found s.mounted n x at)))
+        turned s (wanted.Suspend n) (orders.Suspend n) (Once (events.Suspend n)) (suspends n) (λ z. refl) n x at suspend_fault hold refl refl refl
 
     pub resume_leads : EventLeads s (wanted.Resume n) (Once (events.Resume n)) (happens s (events.Resume n))
     unfolding H.happens E.deed
     resume_leads =
-        let e = wanted.Resume n in
-        let asked = Once (events.Resume n) in
-        subst (λ (o : Option MarksDevice). EventLeads s e asked (happens_by s (on_device o (λ d. order (resume_fault d) (Becomes (resume d) ends.Done)))))
-        (sym at)
-        (ordered s e (orders.Resume n) asked (resumes n) (resume_fault x) (Becomes (resume x) ends.Done)
-        (λ free. becomes_leads s e (orders.Resume n) asked (resumes n) (λ z. refl) n x (resume x) at refl refl x.store.device (number_found s.mounted n x at)))
+        turned s (wanted.Resume n) (orders.Resume n) (Once (events.Resume n)) (resumes n) (λ z. refl) n x at resume_fault resume refl refl refl
 
     -- A new volume
 

@@ -1,6 +1,6 @@
--- Each event of a device wants frames of its own tracks alone, and of those that its commands and its queue come to.
-use Rattle.std.proofs.Common.{◌≡◌, zero, suc, ℕ, Bool, true, false, [], Option, Some, None, refl, sym, ap, subst, ◌∙◌, ◌==◌}
-use Rattle.std.specs.Prelude.{IfSome, if◌then◌else◌}
+-- Each event of a device wants frames of its own tracks alone, and of those that its commands and its queue come to, and leaves its queue short.
+use Rattle.std.proofs.Common.{◌≤◌, List, ◌∷◌, ◌≡◌, zero, suc, ℕ, Bool, [], Option, Some, None, refl, sym, ap, subst, ◌∙◌, ◌==◌, arith}
+use Rattle.std.specs.Prelude.{IfSome}
 use Rattle.ckd_chain.specs.declared.progress.Progress.{Progress}
 use Rattle.ckd_chain.specs.declared.progress.Progress.TheVariants as progresses
 use Rattle.ckd_chain.specs.declared.progress.Settled.TheVariants.{Equipment}
@@ -9,50 +9,17 @@ use Rattle.ckd_chain.specs.Steps.{need_of, stepped}
 use Rattle.loss_model.specs.declared.Loss.{Loss}
 use Rattle.loss_model.specs.declared.Loss.TheVariants as losses
 use Rattle.plain_defs.specs.History.{OpenEntry, has_used}
-use Rattle.plain_defs.specs.PlainState.{reset_path}
 use Rattle.plain_device.specs.Acted.{settled_act, paths_behind}
 use Rattle.track_image.specs.Image.{Image}
 use Rattle.device_outside.specs.Interaction.{Interaction, Done, and_then}
-use Rattle.device_defs.specs.declared.answers.Took.{Took}
 use Rattle.device_defs.specs.declared.usage.Usage.{Usage}
 use Rattle.device_defs.specs.Background.{work}
 use Rattle.device_defs.specs.Command as N
-use Rattle.device_defs.specs.Command.{
-  Went,
-  Over,
-  On,
-  has_loss,
-  came_of_write,
-  went_by,
-  looked,
-  look,
-  goes_on,
-  follow,
-  came_out,
-  on_tracks,
-  answered_by,
-  command_at,
-  command_by,
-  command,
-}
+use Rattle.device_defs.specs.Command.{Went, Over, On, has_loss, went_by, looked, look, goes_on, follow, came_out, on_tracks, answered_by, command_at, command_by, command}
 use Rattle.device_defs.specs.Contents.{Contents}
 use Rattle.device_defs.specs.Cutting as U
-use Rattle.device_defs.specs.Cutting.{
-  counts_one_by,
-  half_cut,
-  half_ended,
-  half_lost,
-  loose_gone,
-  path_cut,
-  power,
-  powered_off,
-  powerless,
-  reset,
-  reset_by,
-  reset_noted,
-}
-use Rattle.device_defs.specs.Device.{Device, all_reset, with_store, event_begun, event_ended, quiet_event, event}
-use Rattle.device_defs.specs.Effects.{gone_back}
+use Rattle.device_defs.specs.Cutting.{half_cut, power, powered_off, reset, reset_by}
+use Rattle.device_defs.specs.Device.{Device, with_store, event_begun, quiet_event, event}
 use Rattle.device_defs.specs.Events as E
 use Rattle.device_defs.specs.Events.{
   background,
@@ -66,213 +33,198 @@ use Rattle.device_defs.specs.Events.{
   with_loss,
 }
 use Rattle.device_defs.specs.Image.{Imaged, Has, NoBytes, BadTrack}
-use Rattle.device_defs.specs.Losses as L
 use Rattle.device_defs.specs.Losses.{over}
 use Rattle.device_defs.specs.Orders as O
 use Rattle.device_defs.specs.Orders.{given_up, lend, lent_to, with_tracks}
 use Rattle.device_defs.specs.Outcomes.{Turn, ends_with, settles, checks, usage_of}
 use Rattle.device_defs.specs.Owed.{hear, waiting_count}
-use Rattle.device_defs.specs.Store.{Origin, OfCommand, OfCut, OfBackground, HalfWrite, Store, has_loose, is_lost, tracks_of}
-use Rattle.device_laws.proofs.Based.{Base, swept_base, unframed_base, unpatched_base}
+use Rattle.device_defs.specs.Store.{Origin, OfCommand, OfCut, OfBackground, HalfWrite, Store, is_lost, tracks_of}
 use Rattle.deck_text.proofs.DeckAgain.{Each}
 use Rattle.device_defs.specs.Memory.{had_by}
-use Rattle.run_audit_laws.proofs.NextTracks.{Comes, Next, look_next}
-use Rattle.run_audit_laws.proofs.OwnCalls.{Own, Owns, ended_own, hear_own, hear_queue, own_done, own_had, own_if, own_so, own_then, own_tried, own_try}
-use Rattle.run_audit_laws.proofs.OwnParts.{cut_own, image_own, losing_own, second_own as second_part_own, work_own, write_own}
 use Rattle.device_laws.proofs.WholeEvents.{turned_same}
+use Rattle.run_audit_laws.proofs.OwnCalls.{Own, ended_own, hear_own, own_done, own_had, own_if, own_then, own_tried, own_try}
+use Rattle.run_audit_laws.proofs.OwnParts.{cut_own, image_own, losing_own, part_own, work_own, write_own}
+use Rattle.run_audit_laws.proofs.Seats.{Is, emptied, given_up_seat, powerless_seat}
 
-abbrev pub device_number : {F P H : Type 0} → Device F P H → ℕ
-device_number d = d.store.device
+-- a command comes to tracks of a set alone where each track that its chain needs, and goes on to, is one of these
+pub record Comes (T : ℕ → Type 0) (In : ChainState → Type 0) : Type 0 where
+  pub needs : (chain : ChainState) (t : ℕ) → In chain → need_of chain ≡ Some t → T t
+  pub goes : (chain : ChainState) (i : Image) (q : ℕ) → In chain → (stepped chain (Some i)).progress ≡ progresses.Need q →
+      In (stepped chain (Some i)).chain × T q
 
-number : {x y : Base} → x ≡ y → x.device ≡ y.device
-number e = ap (λ (b : Base). b.device) e
+module _ {F P H R : Type 0} (T : ℕ → Type 0) (n most : ℕ) (room : 64 ≤ most) (c : Contents F P H R) where
+  abbrev At : Store F P H → Type 0
+  At s = Is n most s
 
-module _ {F P H R : Type 0} (T : ℕ → Type 0) (c : Contents F P H R) where
   -- A command from track to track
 
-  came_own : (chain : ChainState) (t : ℕ) (s : Store F P H) (took : Took) → Owns T c s (came_of_write c chain t s took)
-  came_own chain t s took = own_done refl
-
-  went_own : (u : Usage) (first t : ℕ) (s : Store F P H) (i : Image) (chain : ChainState) (p : Progress) → Owns T c s (went_by c u first t s i chain p)
-  went_own u first t s i chain (progresses.Ended e) = own_done refl
-  went_own u first t s i chain (progresses.Need q) = own_done refl
-  went_own u first t s i chain (progresses.Write q e) =
-      own_had (came_of_write c chain t) (write_own T c s u first t i e) (λ z took. came_own chain t z took)
-  went_own u first t s i chain (progresses.Local act) = own_done refl
-
-  looked_own : (chain : ChainState) (first t : ℕ) (s : Store F P H) (i : Imaged) → Owns T c s (looked c chain first t s i)
-  looked_own chain first t s (Has i) =
-      own_tried s _ refl (went_own (usage_of chain) first t s i (stepped chain (Some i)).chain (stepped chain (Some i)).progress)
-  looked_own chain first t s (NoBytes fault) = own_done refl
-  looked_own chain first t s (BadTrack side) = own_done refl
-
-  look_own : (chain : ChainState) (first t : ℕ) (s : Store F P H) → T t → Owns T c s (look c chain first t s)
-  unfolding N.look
-  look_own chain first t s on =
-      own_if (is_lost s t) (own_done refl)
-      (own_had (looked c chain first t) (image_own T c s (usage_of chain) t on) (λ z i. looked_own chain first t z i))
-
   module _ (In : ChainState → Type 0) (comes : Comes T In) where
-    further : (next : ChainState → ℕ → Store F P H → Interaction R Image (Store F P H) (Option Turn)) →
-        ((chain : ChainState) (t : ℕ) (s : Store F P H) → In chain → T t → Owns T c s (next chain t s)) → (s : Store F P H) (w : Option Went) →
-        Next T In comes c w → Owns T c s (had_by (goes_on c next) s w)
-    further next more s None x = own_done refl
-    further next more s (Some (Over turn)) x = own_done refl
-    further next more s (Some (On chain t)) x = more chain t s x.0 x.1
+    -- where the look at one track leads to
+    abbrev Next : Store F P H → Option Went → Type 0
+    Next s None = At s
+    Next s (Some (Over turn)) = At s
+    Next s (Some (On chain q)) = At s × (In chain × T q)
 
-    follow_own : (n first : ℕ) (chain : ChainState) (t : ℕ) (s : Store F P H) → In chain → T t → Owns T c s (follow c n first chain t s)
+    went_own : (u : Usage) (first t : ℕ) (s : Store F P H) (i : Image) (chain : ChainState) (p : Progress) → At s →
+        ((q : ℕ) → p ≡ progresses.Need q → In chain × T q) → Own T n (went_by c u first t s i chain p) Next
+    went_own u first t s i chain (progresses.Ended e) k needs = own_done k
+    went_own u first t s i chain (progresses.Need q) k needs = own_done (k, needs q refl)
+    went_own u first t s i chain (progresses.Write q e) k needs =
+        own_had {p = At} (write_own T n most room c s u first t i e k) (λ z took g. own_done g) (λ z g. g)
+    went_own u first t s i chain (progresses.Local act) k needs = own_done k
+
+    looked_own : (chain : ChainState) (first t : ℕ) (s : Store F P H) (i : Imaged) → At s → In chain → Own T n (looked c chain first t s i) Next
+    looked_own chain first t s (Has i) k is =
+        own_tried s _ k
+        (went_own (usage_of chain) first t s i (stepped chain (Some i)).chain (stepped chain (Some i)).progress k (λ q e. comes.goes chain i q is e))
+    looked_own chain first t s (NoBytes fault) k is = own_done k
+    looked_own chain first t s (BadTrack side) k is = own_done k
+
+    look_own : (chain : ChainState) (first t : ℕ) (s : Store F P H) → At s → In chain → T t → Own T n (look c chain first t s) Next
+    unfolding N.look
+    look_own chain first t s k is on =
+        own_if (is_lost s t) (own_done k)
+        (own_had {p = At} (image_own T n most room c s (usage_of chain) t on k) (λ z i g. looked_own chain first t z i g is) (λ z g. g))
+
+    further : (next : ChainState → ℕ → Store F P H → Interaction R Image (Store F P H) (Option Turn)) →
+        ((chain : ChainState) (t : ℕ) (s : Store F P H) → At s → In chain → T t → Own T n (next chain t s) (λ z _. At z)) → (s : Store F P H)
+        (w : Option Went) → Next s w → Own T n (had_by (goes_on c next) s w) (λ z _. At z)
+    further next more s None x = own_done x
+    further next more s (Some (Over turn)) x = own_done x
+    further next more s (Some (On chain t)) x = more chain t s x.0 x.1.0 x.1.1
+
+    follow_own : (l first : ℕ) (chain : ChainState) (t : ℕ) (s : Store F P H) → At s → In chain → T t →
+        Own T n (follow c l first chain t s) (λ z _. At z)
     unfolding N.follow
-    follow_own zero first chain t s is on = own_done refl
-    follow_own (suc n) first chain t s is on =
-        own_so (had_by (goes_on c (follow c n first))) (look_own chain first t s on) (look_next T In comes c chain first t s is)
-        (λ z w x. further (follow c n first) (λ next q y k l. follow_own n first next q y k l) z w x)
+    follow_own zero first chain t s k is on = own_done k
+    follow_own (suc l) first chain t s k is on =
+        own_then (look_own chain first t s k is on) (λ z w x. further (follow c l first) (λ next q y g i o. follow_own l first next q y g i o) z w x)
 
   -- Whole events
 
-  abbrev pub OwnEvent : {A : Type 0} → Device F P H → Interaction R Image (Device F P H) A → Type 0
-  OwnEvent d i = Own T (λ (z : Device F P H). z.store.device) d.store.device i
+  abbrev OwnEvent : {A : Type 0} → Interaction R Image (Device F P H) A → Type 0
+  OwnEvent i = Own T n i (λ z _. At z.store)
 
-  out_own : (d : Device F P H) (path : ℕ) (turn : Turn) → OwnEvent d (came_out c d path turn)
-  out_own d path turn = own_done (ap (λ (x : Store F P H). x.device) (turned_same d path turn.chain turn.came))
+  out_own : (d : Device F P H) (path : ℕ) (turn : Turn) → At d.store → OwnEvent (came_out c d path turn)
+  out_own d path turn k = own_done (subst (λ (s : Store F P H). At s) (sym (turned_same d path turn.chain turn.came)) k)
 
-  on_own : (d : Device F P H) (path : ℕ) (chain : ChainState) (s : Store F P H) (o : Option Turn) →
-      Own T (λ (z : Device F P H). z.store.device) s.device (on_tracks c d path chain s o)
-  on_own d path chain s (Some turn) = out_own (with_store d s) path turn
-  on_own d path chain s None = own_done refl
+  on_own : (d : Device F P H) (path : ℕ) (chain : ChainState) (s : Store F P H) (o : Option Turn) → At s → OwnEvent (on_tracks c d path chain s o)
+  on_own d path chain s (Some turn) k = out_own (with_store d s) path turn k
+  on_own d path chain s None k = own_done k
 
-  answered_own : (d : Device F P H) (path : ℕ) (chain : ChainState) (p : Progress) → OwnEvent d (answered_by c d path chain p)
-  answered_own d path chain (progresses.Ended e) = out_own d path (ends_with chain e)
-  answered_own d path chain (progresses.Local act) =
-      out_own (record d { paths = paths_behind d.paths path act }) path (settles chain (settled_act d.store.geometry d.paths path act))
-  answered_own d path chain (progresses.Need q) = out_own d path (checks chain Equipment)
-  answered_own d path chain (progresses.Write q e) = out_own d path (checks chain Equipment)
+  answered_own : (d : Device F P H) (path : ℕ) (chain : ChainState) (p : Progress) → At d.store → OwnEvent (answered_by c d path chain p)
+  answered_own d path chain (progresses.Ended e) k = out_own d path (ends_with chain e) k
+  answered_own d path chain (progresses.Local act) k =
+      out_own (record d { paths = paths_behind d.paths path act }) path (settles chain (settled_act d.store.geometry d.paths path act)) k
+  answered_own d path chain (progresses.Need q) k = out_own d path (checks chain Equipment) k
+  answered_own d path chain (progresses.Write q e) k = out_own d path (checks chain Equipment) k
 
   module _ (In : ChainState → Type 0) (comes : Comes T In) where
-    at_own : (d : Device F P H) (path : ℕ) (chain : ChainState) (o : Option ℕ) → ((t : ℕ) → o ≡ Some t → T t) → In chain →
-        OwnEvent d (command_at c d path chain o)
-    at_own d path chain (Some t) needs is =
-        own_then (on_tracks c d path chain) (follow_own In comes (tracks_of d.store) t chain t d.store is (needs t refl))
-        (λ s o. on_own d path chain s o)
-    at_own d path chain None needs is =
-        own_try (λ ok. own_if ok (answered_own d path (stepped chain None).chain (stepped chain None).progress) (own_done refl))
+    at_own : (d : Device F P H) (path : ℕ) (chain : ChainState) (o : Option ℕ) → ((t : ℕ) → o ≡ Some t → T t) → In chain → At d.store →
+        OwnEvent (command_at c d path chain o)
+    at_own d path chain (Some t) needs is k =
+        own_then (follow_own In comes (tracks_of d.store) t chain t d.store k is (needs t refl)) (λ s o g. on_own d path chain s o g)
+    at_own d path chain None needs is k =
+        own_try (λ ok. own_if ok (answered_own d path (stepped chain None).chain (stepped chain None).progress k) (own_done k))
 
-    by_own : (d : Device F P H) (o : Option OpenEntry) (k : Option ChainState) → IfSome k In → OwnEvent d (command_by c d o k)
-    by_own d (Some o) (Some chain) is =
-        own_if (has_loss o.acts) (out_own d o.path (checks chain Equipment))
-        (at_own d o.path chain (need_of chain) (λ t e. comes.needs chain t is e) is)
-    by_own d (Some o) None is = own_done refl
-    by_own d None k is = own_done refl
+    by_own : (d : Device F P H) (o : Option OpenEntry) (l : Option ChainState) → IfSome l In → At d.store → OwnEvent (command_by c d o l)
+    by_own d (Some o) (Some chain) is k =
+        own_if (has_loss o.acts) (out_own d o.path (checks chain Equipment) k)
+        (at_own d o.path chain (need_of chain) (λ t e. comes.needs chain t is e) is k)
+    by_own d (Some o) None is k = own_done k
+    by_own d None l is k = own_done k
 
-  command_ended_own : (d : Device F P H) (t : ℕ) (o : Option OpenEntry) (k : Option ChainState) (done : Bool) → OwnEvent d (command_ended c d t o k done)
-  command_ended_own d t (Some o) (Some chain) done =
-      own_done (ap (λ (x : Store F P H). x.device) (turned_same d o.path (second_turn c chain done).chain (second_turn c chain done).came))
-  command_ended_own d t (Some o) None done = own_done refl
-  command_ended_own d t None k done = own_done refl
+  command_ended_own : (d : Device F P H) (t : ℕ) (o : Option OpenEntry) (l : Option ChainState) (done : Bool) → At d.store →
+      OwnEvent (command_ended c d t o l done)
+  command_ended_own d t (Some o) (Some chain) done k =
+      own_done (subst (λ (s : Store F P H). At s) (sym (turned_same d o.path (second_turn c chain done).chain (second_turn c chain done).came)) k)
+  command_ended_own d t (Some o) None done k = own_done k
+  command_ended_own d t None l done k = own_done k
 
-  second_ended_own : (d : Device F P H) (t : ℕ) (origin : Origin) (done : Bool) → OwnEvent d (second_ended c d t origin done)
-  second_ended_own d t (OfCommand bypass e) done = command_ended_own d t d.history.running d.chain done
-  second_ended_own d t (OfCut bypass) done = own_done refl
-  second_ended_own d t OfBackground done = own_done refl
+  second_ended_own : (d : Device F P H) (t : ℕ) (origin : Origin) (done : Bool) → At d.store → OwnEvent (second_ended c d t origin done)
+  second_ended_own d t (OfCommand bypass e) done k = command_ended_own d t d.history.running d.chain done k
+  second_ended_own d t (OfCut bypass) done k = own_done k
+  second_ended_own d t OfBackground done k = own_done k
 
-  second_of_own : (d : Device F P H) (o : Option (HalfWrite H)) → OwnEvent d (second_of c d o)
-  second_of_own d (Some h) =
-      own_then (λ s done. second_ended c (with_store d s) h.track h.origin done) (second_part_own T c d.store h)
-      (λ s done. second_ended_own (with_store d s) h.track h.origin done)
-  second_of_own d None = own_done refl
+  second_of_own : (d : Device F P H) (o : Option (HalfWrite H)) → At d.store → OwnEvent (second_of c d o)
+  second_of_own d (Some h) k =
+      own_then (part_own T n most room c d.store h k) (λ s done g. second_ended_own (with_store d s) h.track h.origin done g)
+  second_of_own d None k = own_done k
 
   module _ {A : Type 0} where
-    quiet_own : (d : Device F P H) (body : Device F P H → Interaction R Image (Device F P H) A) → OwnEvent d (body (event_begun d)) →
-        OwnEvent d (quiet_event c d body)
+    quiet_own : (d : Device F P H) (body : Device F P H → Interaction R Image (Device F P H) A) → OwnEvent (body (event_begun d)) →
+        OwnEvent (quiet_event c d body)
     quiet_own d body x =
-        own_then (event_ended c d) x
-        (λ y a. own_then (λ z _. Done (record y { store = z }) a) (ended_own T c (waiting_count c d.store) y.store) (λ z _. own_done refl))
+        own_then x (λ y a g. own_then (ended_own T n most c (waiting_count c d.store) y.store g) (λ z _ h. own_done h))
 
-    event_own : (d : Device F P H) (body : Device F P H → Interaction R Image (Device F P H) A) →
-        ((s : Store F P H) → s.queue ≡ d.store.queue →
-        OwnEvent (record (event_begun d) { store = s }) (body (record (event_begun d) { store = s }))) →
-        OwnEvent d (event c d body)
-    event_own d body x =
+    -- the notices leave the queue as it is
+    event_own : (d : Device F P H) (body : Device F P H → Interaction R Image (Device F P H) A) → At d.store →
+        ((s : Store F P H) → At s × (s.queue ≡ d.store.queue) → OwnEvent (body (record (event_begun d) { store = s }))) →
+        OwnEvent (event c d body)
+    event_own d body k x =
         quiet_own d (λ z. and_then (hear c 960 z.store) (λ s _. body (record z { store = s })))
-        (own_so (λ s _. body (record (event_begun d) { store = s })) (hear_own T c 960 (event_begun d).store) (hear_queue T c 960 (event_begun d).store)
-        (λ s _ e. x s e))
+        (own_then (hear_own T n most c (λ z. At z × (z.queue ≡ d.store.queue)) (λ s t g. g) 960 (event_begun d).store (k, refl)) (λ s _ g. x s g))
 
-  pub command_own : (In : ChainState → Type 0) → Comes T In → (d : Device F P H) → IfSome d.chain In → OwnEvent d (command c d)
+  pub command_own : (In : ChainState → Type 0) → Comes T In → (d : Device F P H) → IfSome d.chain In → At d.store → OwnEvent (command c d)
   unfolding N.command
-  command_own In comes d is =
-      own_tried d _ refl (event_own d (λ z. command_by c z z.history.running z.chain)
-      (λ s e. by_own In comes (record (event_begun d) { store = s }) d.history.running d.chain is))
+  command_own In comes d is k =
+      own_tried d _ k (event_own d (λ z. command_by c z z.history.running z.chain) k
+      (λ s g. by_own In comes (record (event_begun d) { store = s }) d.history.running d.chain is g.0))
 
-  pub second_own : (d : Device F P H) → OwnEvent d (second c d)
+  pub second_own : (d : Device F P H) → At d.store → OwnEvent (second c d)
   unfolding E.second
-  second_own d = event_own d (λ z. second_of c z z.store.half) (λ s e. second_of_own (record (event_begun d) { store = s }) s.half)
+  second_own d k =
+      event_own d (λ z. second_of c z z.store.half) k (λ s g. second_of_own (record (event_begun d) { store = s }) s.half g.0)
 
-  pub background_own : (d : Device F P H) → Each T d.store.queue → OwnEvent d (background c d)
+  pub background_own : (d : Device F P H) → Each T d.store.queue → At d.store → OwnEvent (background c d)
   unfolding E.background
-  background_own d on =
-      event_own d (λ z. and_then (work c z.store) (λ s did. Done (with_store z s) did))
-      (λ s e. own_then (λ z did. Done (with_store (record (event_begun d) { store = s }) z) did) (work_own T c s (subst (Each T) (sym e) on)) (λ z did. own_done refl))
+  background_own d on k =
+      event_own d (λ z. and_then (work c z.store) (λ s did. Done (with_store z s) did)) k
+      (λ s g. own_then (work_own T n most room c s (subst (Each T) (sym g.1) on) g.0) (λ z did h. own_done h))
 
-  pub lose_own : (d : Device F P H) (loss : Loss) → OwnEvent d (lose c d loss)
+  pub lose_own : (d : Device F P H) (loss : Loss) → At d.store → OwnEvent (lose c d loss)
   unfolding E.lose
-  lose_own d loss =
-      event_own d (λ z. and_then (losing c z.store loss) (λ s _. Done (with_store z s) tt))
-      (λ s e. own_then (λ z _. Done (with_store (record (event_begun d) { store = s }) z) (tt {0})) (losing_own T c s loss) (λ z _. own_done refl))
+  lose_own d loss k =
+      event_own d (λ z. and_then (losing c z.store loss) (λ s _. Done (with_store z s) tt)) k
+      (λ s g. own_then (losing_own T n most room c s loss g.0) (λ z _ h. own_done h))
 
   -- Cuts
 
-  path_own : (d : Device F P H) (path : ℕ) → OwnEvent d (path_cut c d path)
-  path_own d path =
-      own_then (λ s _. Done (record (reset_noted c d path (counts_one_by d.store.half)) {
-        store = s;
-        chain = None;
-        paths = all_reset (reset_path d.paths path) d.history.waiting;
-      }) (tt {0})) (cut_own T c d.store d.store.half) (λ s _. own_done refl)
-
-  reset_by_own : (d : Device F P H) (path : ℕ) (o : Option OpenEntry) → OwnEvent d (reset_by c d path o)
-  reset_by_own d path (Some o) = own_if (o.path == path) (path_own d path) (own_done refl)
-  reset_by_own d path None = own_if (has_used d.history path) (own_done refl) (own_done refl)
-
-  pub reset_own : (d : Device F P H) (path : ℕ) → OwnEvent d (reset c d path)
+  pub reset_own : (d : Device F P H) (path : ℕ) → At d.store → OwnEvent (reset c d path)
   unfolding U.reset
-  reset_own d path = reset_by_own d path d.history.running
+  reset_own d path k = by_running d.history.running where
+    by_running : (o : Option OpenEntry) → OwnEvent (reset_by c d path o)
+    by_running (Some o) =
+        own_if (o.path == path) (own_then (cut_own T n most room c d.store d.store.half k) (λ s _ g. own_done g)) (own_done k)
+    by_running None = own_if (has_used d.history path) (own_done k) (own_done k)
 
-  half_number : (s : Store F P H) (h : HalfWrite H) (origin : Origin) → (half_ended c s h origin).device ≡ s.device
-  half_number s h (OfCommand bypass e) = number (unpatched_base c (record s { half = None }) h.track)
-  half_number s h (OfCut bypass) = number (unpatched_base c (record s { half = None }) h.track)
-  half_number s h OfBackground = refl
-
-  lost_number : (s : Store F P H) (o : Option (HalfWrite H)) → (half_lost c s o).device ≡ s.device
-  lost_number s (Some h) = half_number s h h.origin
-  lost_number s None = refl
-
-  gone_number : (s : Store F P H) (b : Bool) → (if b then gone_back s else s).device ≡ s.device
-  gone_number s true = refl
-  gone_number s false = refl
-
-  powerless_number : (s : Store F P H) → (powerless c s).device ≡ s.device
-  powerless_number s =
-      number (swept_base c (tracks_of s) (record (half_lost c (loose_gone c s) s.half) { queue = [] }))
-      ∙ lost_number (loose_gone c s) s.half ∙ gone_number s (has_loose s)
-
-  pub power_own : (d : Device F P H) → OwnEvent d (power c d)
+  pub power_own : (d : Device F P H) → At d.store → OwnEvent (power c d)
   unfolding U.power
-  power_own d =
+  power_own d k =
       quiet_own d (λ z. and_then (half_cut c z.store z.store.half) (λ s _. Done (powered_off c z s) tt))
-      (own_then (λ s _. Done (powered_off c (event_begun d) s) (tt {0})) (cut_own T c (event_begun d).store (event_begun d).store.half)
-      (λ s _. own_done (powerless_number (with_loss s losses.Cache))))
+      (own_then (cut_own T n most room c (event_begun d).store (event_begun d).store.half k)
+      (λ s _ g. own_done (emptied n most (powerless_seat c (with_loss s losses.Cache)) g.0)))
 
   -- A device that is lent
 
-  given_number : (t : ℕ) (s : Store F P H) → (given_up c t s).device ≡ s.device
-  given_number t s = number (unpatched_base c (L.without_frame s t) t) ∙ number (unframed_base s t)
-
-  over_number : (k : ℕ) (s : Store F P H) → (over k (given_up c) s).device ≡ s.device
-  unfolding L.over
-  over_number zero s = refl
-  over_number (suc k) s = given_number k (over k (given_up c) s) ∙ over_number k s
-
-  pub lend_own : (d : Device F P H) (to : ℕ) → OwnEvent d (lend c d to)
+  pub lend_own : (d : Device F P H) (to : ℕ) → d.store.device ≡ n → OwnEvent (lend c d to)
   unfolding O.lend
-  lend_own d to =
+  lend_own d to is =
       quiet_own d (λ z. Done (with_tracks z (lent_to (over (tracks_of z.store) (given_up c) z.store) to)) tt)
-      (own_done (over_number (tracks_of d.store) (event_begun d).store))
+      (own_done (ap (λ (k : ℕ × List ℕ). k.0) (given_up_seat c (tracks_of d.store) (event_begun d).store) ∙ is, omega arith))
+
+-- Any tracks
+
+abbrev pub Any : {X : Type 0} → X → Type 0
+Any x = Unit {0}
+
+pub any_comes : Comes Any Any
+any_comes = record { needs = λ chain t is e. tt; goes = λ chain i q is e. (tt, tt) }
+
+pub any_queued : (queue : List ℕ) → Each Any queue
+any_queued [] = tt
+any_queued (t ∷ ts) = (tt, any_queued ts)
+
+pub any_chain : (o : Option ChainState) → IfSome o Any
+any_chain (Some chain) = tt
+any_chain None = tt

@@ -3,7 +3,7 @@ use Rattle.std.proofs.Common.{◌≡◌, ◌≤◌, ◌+◌, ◌==◌, ◌++◌,
 use Rattle.std.specs.Prelude.{◌&&◌, All, codes, Ok, Err}
 use Rattle.std.specs.List.{flat_map}
 use Rattle.std.specs.Str.{bytes_eq}
-use Rattle.std.proofs.lemmas.Bool.{and_parts}
+use Rattle.std.proofs.lemmas.Bool.{and_parts, not-true}
 use Rattle.std.proofs.lemmas.List.{append-nil}
 use Rattle.std.proofs.lemmas.List.Elements.{All-head, All-tail}
 use Rattle.deck_text.specs.DeckLines.{DeckLines}
@@ -19,11 +19,8 @@ use Rattle.report_reading.specs.Ranges.{IsLine, form_fault, has_form}
 use Rattle.report_reading.specs.Reading.{line_of}
 use Rattle.report_auditor.specs.declared.status.AuditStatus.TheVariants.{Yes}
 use Rattle.report_auditor.specs.Verdict.{read_back}
-use Rattle.subsystem_defs.specs.Decks.{opened}
-use Rattle.run_audit_laws.specs.Ranges.{RestIsIn}
-use Rattle.run_audit_laws.specs.Runs.{AllMayFollow}
 use Rattle.run_audit_laws.specs.Texts.{IsEnded, IsOwnReport, own_text}
-use Rattle.run_audit_laws.proofs.Feeds.{AreWhole, is_whole, not_feed, text_whole}
+use Rattle.run_audit_laws.proofs.Feeds.{AreWhole, is_whole, text_whole}
 use Rattle.run_audit_laws.proofs.DeckTexts.{read_has_none}
 use Rattle.run_audit_laws.proofs.RangedRuns.{report_is_in_range}
 use Rattle.run_audit_laws.proofs.Texts.{own_report_is_yes}
@@ -34,7 +31,7 @@ cut_one : (x rest : List ℕ) → is_whole x ≡ true → cut_lines (x ++ 10 ∷
 cut_one [] rest h = refl
 cut_one (b ∷ x) rest h =
     let p = and_parts (not (b == 10)) (is_whole x) h in
-    ap (λ (c : Bool). if c then [] ∷ cut_lines (x ++ 10 ∷ rest) else onto_first b (cut_lines (x ++ 10 ∷ rest))) (not_feed (b == 10) p.0)
+    ap (λ (c : Bool). if c then [] ∷ cut_lines (x ++ 10 ∷ rest) else onto_first b (cut_lines (x ++ 10 ∷ rest))) (not-true (b == 10) p.0)
     ∙ ap (onto_first b) (cut_one x rest p.1)
 
 -- lines that are ended, and what stands behind them
@@ -91,7 +88,7 @@ lines_ended : (lines : List ReportLine) → lines_text lines ≡ flat_map ended_
 lines_ended [] = refl
 lines_ended (line ∷ lines) = ap (λ (l : List ℕ). line_text line ++ l) (lines_ended lines)
 
-module _ (text : List ℕ) (deck : DeckLines) (read : parsed text ≡ Ok deck) (h : IsEnded text) (w : All RestIsIn (report_lines (run_of deck))) where
+module _ (text : List ℕ) (deck : DeckLines) (read : parsed text ≡ Ok deck) (h : IsEnded text) where
   abbrev lines : List (List ℕ)
   lines = cut_lines text
 
@@ -101,7 +98,7 @@ module _ (text : List ℕ) (deck : DeckLines) (read : parsed text ≡ Ok deck) (
   report_cut : cut_lines (report_of deck) ≡ told
   report_cut =
       ap cut_lines (lines_ended (report_lines (run_of deck)) ∙ sym (append-nil (flat_map ended_line told)))
-      ∙ cut_ended told [] (written_whole (report_lines (run_of deck)) (report_is_in_range text deck read w))
+      ∙ cut_ended told [] (written_whole (report_lines (run_of deck)) (report_is_in_range text deck read))
       ∙ append-nil told
 
   all_cut : cut_lines (own_text text deck) ≡ lines ++ codes "REPORT" ∷ told
@@ -121,12 +118,10 @@ module _ (text : List ℕ) (deck : DeckLines) (read : parsed text ≡ Ok deck) (
         ∙ ap parsed h
         ∙ read;
     says = ap (λ (l : List (List ℕ)). drop (length lines + 1) l) all_cut ∙ behind lines (codes "REPORT") told;
-    written = w;
   }
 
 -- where what is written is read back
 pub own_text_is_yes : ((line : ReportLine) → IsLine line → line_of (text_of line) ≡ (if has_form line then Ok line else Err (form_fault line))) →
     (text : List ℕ) (deck : DeckLines) → parsed text ≡ Ok deck → IsEnded text → length (own_text text deck) ≤ 268435456 →
-    All RestIsIn (report_lines (run_of deck)) → AllMayFollow None (opened deck) deck.events →
     read_back (own_text text deck) ≡ Yes
-own_text_is_yes again text deck read h size w = own_report_is_yes again (own_text text deck) deck (own_is text deck read h w size)
+own_text_is_yes again text deck read h size = own_report_is_yes again (own_text text deck) deck (own_is text deck read h size)

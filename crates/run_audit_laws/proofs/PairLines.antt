@@ -23,7 +23,7 @@ use Rattle.report_places.specs.declared.state.HalfWrite.{HalfWrite}
 use Rattle.deck_audit.specs.Device as A
 use Rattle.deck_audit.specs.Device.{AuditedDevice, runs, with_device}
 use Rattle.deck_audit.specs.History as M
-use Rattle.deck_audit.specs.History.{event_made, given_back, runs_lent}
+use Rattle.deck_audit.specs.History.{given_back, runs_lent}
 use Rattle.deck_audit.specs.State.{passed, then_of}
 use Rattle.run_report.specs.Beside.{of_each, over_lines}
 use Rattle.run_report.specs.Events.{work_lines}

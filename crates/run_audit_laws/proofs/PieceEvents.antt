@@ -37,7 +37,7 @@ use Rattle.subsystem_defs.specs.declared.event.Event.TheVariants as events
 use Rattle.subsystem_defs.specs.Deeds as E
 use Rattle.subsystem_defs.specs.Deeds.{Asks, Ends, back as back_deed, device_in, may_end_by, on_device, seconds, step}
 use Rattle.subsystem_defs.specs.Happening as H
-use Rattle.subsystem_defs.specs.Happening.{Happened as Happening, MarksDeed, Talk, asks, happens, happens_by, held_with, mounted_behind, quietly, told_end, told_to}
+use Rattle.subsystem_defs.specs.Happening.{Happened as Happening, Talk, asks, happens, happens_by, held_with, mounted_behind, quietly, told_end, told_to}
 use Rattle.subsystem_defs.specs.Lines.{Asked, Once, Run, Settle, is_busy, is_settled}
 use Rattle.subsystem_defs.specs.Subsystem.{Mounted, Subsystem, devices_of, mounted_in, number_of, put_in, with_mounted}
 use Rattle.subsystem_laws.proofs.GoodMarks.{Good, by_lent}

@@ -51,9 +51,9 @@ tells_by x y acts over k is none came power told = record {
 }
 
 -- acts alone
-act_items : (acts : List Act) → has_power (map (λ (act : Act). items.Act act) acts) ≡ false
-act_items [] = refl
-act_items (act ∷ acts) = act_items acts
+pub acts_no_power : (acts : List Act) → has_power (map (λ (act : Act). items.Act act) acts) ≡ false
+acts_no_power [] = refl
+acts_no_power (act ∷ acts) = acts_no_power acts
 
 no_program : (n : ℕ) (acts : List Act) → program_over_lines (over_of n (map (λ (act : Act). items.Act act) acts)) ≡ []
 no_program n [] = refl
@@ -70,7 +70,7 @@ module _ (x y : MarksDevice) (acts : List Act) (none : NoLoss acts) where
   acted_by None stands is =
       let same = ap (λ (r : Option OpenEntry). all_acted (record x.history { running = r }) acts) stands ∙ idle_acts acts x.history in
       let came = ap (λ (h : History). new_items x.history h) same ∙ behind_more x.history.items (map (λ (act : Act). items.Act act) acts) in
-      tells_by x y acts None (all_acted x.history acts) is none (acts_come x.history acts) (ap has_power came ∙ act_items acts)
+      tells_by x y acts None (all_acted x.history acts) is none (acts_come x.history acts) (ap has_power came ∙ acts_no_power acts)
       (ap (λ (l : List Item). program_over_lines (over_of x.store.device l)) came ∙ no_program x.store.device acts)
 
   pub acted_tells : y.history ≡ all_acted x.history acts → TellsBeside x y acts None

@@ -1,6 +1,7 @@
 -- The lines of a piece of work on a device of a run lead the audit from that device before it to that device behind it.
 use Rattle.std.proofs.Common.{◌≡◌, ◌<◌, ◌==◌, ◌++◌, ℕ, Bool, true, false, List, ◌∷◌, map, length, Option, Some, None, refl, sym, ap, subst, ◌∙◌, arith}
 use Rattle.std.specs.Prelude.{◌&&◌, not, option_map, IsSome}
+use Rattle.std.proofs.lemmas.Bool.{and_from}
 use Rattle.ckd_types.specs.declared.channel.CommandEnd.{CommandEnd}
 use Rattle.ckd_types.specs.Fixed.{Fixed}
 use Rattle.ckd_types.specs.Sense.{equipment_sense}
@@ -66,17 +67,19 @@ use Rattle.run_audit_laws.proofs.Enough.{end_is_other, part_fixed}
 use Rattle.run_audit_laws.proofs.Lossless.{none_lost}
 use Rattle.run_audit_laws.proofs.PieceLines.{acted_tells, checked_tells, ended_tells, lines_are}
 use Rattle.run_audit_laws.proofs.ResetDevices.{HasParts, audited_by}
-use Rattle.run_audit_laws.proofs.Saying.{both, same_number}
+use Rattle.run_audit_laws.proofs.Saying.{same_number}
 use Rattle.run_audit_laws.proofs.StepParts.{IsLeft, IsSecond, command_left, second_left}
 use Rattle.run_audit_laws.proofs.WorkEnds.{IsWork, MayEnd, MayTell, back_seconds, back_tells, behind_piece, checks_lead, ends_lead, halves_lead, of_back, of_run, of_settle, of_step, run_seconds, seconds_by, settle_seconds, settle_tells, step_seconds, tells_lead}
+
+-- from an event line these lines lead towards where a piece of work is done
+abbrev pub Does : EventLine → List AuditedDevice → List EventLine → List ReportLine → AuditedDevice → Bool → Type 0
+Does w xs later lines b last = LeadsTowards (record { devices = xs; events = w ∷ later; due = Next }) lines (behind_piece xs w later b last)
 
 -- whichever event line has it, with what is told where there is nothing to do
 abbrev pub PieceSo : MarksDevice → MarksDevice → EventEnd → EventLine → Happened → Type 0
 PieceSo x y end w idle =
     (xs : List AuditedDevice) (later : List EventLine) → device_in xs x.store.device ≡ Some (audited x) → (reads writes : ℕ) →
-    LeadsTowards (record { devices = xs; events = w ∷ later; due = Next })
-    (device_lines (work_told x.store.device (option_map running_program x.history.running) idle end) reads writes x y)
-    (behind_piece xs w later (audited y) (is_settled end))
+    Does w xs later (device_lines (work_told x.store.device (option_map running_program x.history.running) idle end) reads writes x y) (audited y) (is_settled end)
 
 -- the device behind it
 pub record ComesTo (x y : MarksDevice) (end : Option EventEnd) (w : EventLine) (idle : Happened) : Type 0 where
@@ -124,47 +127,34 @@ module _ (num : ℕ) (empty : PlainState) (x y : MarksDevice) (f : Follows num e
       (w : EventLine) (h : HalfWrite) (k : MayEnd x.store.device w h) (is : (audited x).half ≡ h) (p : HasParts x y half.Closed)
       (xs : List AuditedDevice) (later : List EventLine) (has : device_in xs x.store.device ≡ Some (audited x)) (reads writes : ℕ) where
     ended_by : (e : CommandEnd) (now : History) → HasEnded x.history e now → y.history ≡ now →
-        LeadsTowards (record { devices = xs; events = w ∷ later; due = Next })
-        (device_lines (did.Ended o.path x.store.device o.ordinal e) reads writes x y) (behind_piece xs w later (audited y) false)
+        Does w xs later (device_lines (did.Ended o.path x.store.device o.ordinal e) reads writes x y) (audited y) false
     ended_by e now (ended_so acts) same =
         let none = none_lost x.history y.history acts (ap acts_in same ∙ ended_acts (all_acted x.history acts) e ∙ all_acts acts x.history) kept in
         let so = ends_so a plainly o running e acts none (subst (λ (l : History). IsPlain x.plans a.empty l) same (plain_behind half.Closed p)) in
-        subst (λ (l : List ReportLine). LeadsTowards (record { devices = xs; events = w ∷ later; due = Next }) l (behind_piece xs w later (audited y) false))
+        subst (λ (l : List ReportLine). Does w xs later l (audited y) false)
         (sym (lines_are x y acts (over_if e.over (over_told a o how.Full)) (did.Ended o.path x.store.device o.ordinal e) reads writes refl
         (ended_tells x y acts none o running e same)))
-        (subst (λ (b : AuditedDevice). LeadsTowards (record { devices = xs; events = w ∷ later; due = Next })
-        (step_lines a o e acts reads writes (over_if e.over (over_told a o how.Full))) (behind_piece xs w later b false))
+        (subst (λ (b : AuditedDevice). Does w xs later (step_lines a o e acts reads writes (over_if e.over (over_told a o how.Full))) b false)
         (sym (audited_by x y half.Closed now p same))
         (ends_lead xs later a has o running w h k is plainly reads writes e acts so (few o running e (ends_plain a o e acts so))))
     ended_by e now (checked_so acts) same =
         let none = none_lost x.history y.history acts (ap acts_in same ∙ checked_acts (all_acted x.history acts) e ∙ all_acts acts x.history) kept in
         let so = checks_so a plainly acts o running e (subst (λ (l : History). IsPlain x.plans a.empty l) same (plain_behind half.Closed p)) in
-        subst (λ (l : List ReportLine). LeadsTowards (record { devices = xs; events = w ∷ later; due = Next }) l (behind_piece xs w later (audited y) false))
+        subst (λ (l : List ReportLine). Does w xs later l (audited y) false)
         (sym (lines_are x y acts (Some (over_told a o how.Checked)) (did.Ended o.path x.store.device o.ordinal e) reads writes refl
         (checked_tells x y acts none o running e same)))
-        (subst (λ (b : AuditedDevice). LeadsTowards (record { devices = xs; events = w ∷ later; due = Next })
-        (step_lines a o e acts reads writes (Some (over_told a o how.Checked))) (behind_piece xs w later b false))
+        (subst (λ (b : AuditedDevice). Does w xs later (step_lines a o e acts reads writes (Some (over_told a o how.Checked))) b false)
         (sym (audited_by x y half.Closed now p same))
         (checks_lead xs later a has o running w h k is plainly reads writes e acts none so (few o running so.plain so.is_plain)))
 
     -- as the event tells it
-    ends_told : (idle : Happened) (e : CommandEnd) → HasEnded x.history e y.history →
-        LeadsTowards (record { devices = xs; events = w ∷ later; due = Next })
-        (device_lines (work_told x.store.device (option_map running_program x.history.running) idle (ends.Stepped (stepped.Ended e))) reads writes x y)
-        (behind_piece xs w later (audited y) false)
-    ends_told idle e told =
-        subst (λ (r : Option OpenEntry). LeadsTowards (record { devices = xs; events = w ∷ later; due = Next })
-        (device_lines (work_told x.store.device (option_map running_program r) idle (ends.Stepped (stepped.Ended e))) reads writes x y)
-        (behind_piece xs w later (audited y) false)) (sym running) (ended_by e y.history told refl)
-
-    seconds_told : (idle : Happened) (e : CommandEnd) → HasEnded x.history e y.history →
-        LeadsTowards (record { devices = xs; events = w ∷ later; due = Next })
-        (device_lines (work_told x.store.device (option_map running_program x.history.running) idle (ends.Second (seconds.Ended e))) reads writes x y)
-        (behind_piece xs w later (audited y) false)
-    seconds_told idle e told =
-        subst (λ (r : Option OpenEntry). LeadsTowards (record { devices = xs; events = w ∷ later; due = Next })
-        (device_lines (work_told x.store.device (option_map running_program r) idle (ends.Second (seconds.Ended e))) reads writes x y)
-        (behind_piece xs w later (audited y) false)) (sym running) (ended_by e y.history told refl)
+    ends_told : (idle : Happened) (end : EventEnd) (e : CommandEnd) →
+        work_told x.store.device (Some (running_program o)) idle end ≡ did.Ended o.path x.store.device o.ordinal e → HasEnded x.history e y.history →
+        Does w xs later (device_lines (work_told x.store.device (option_map running_program x.history.running) idle end) reads writes x y) (audited y) false
+    ends_told idle end e shows told =
+        subst (λ (h : Happened). Does w xs later (device_lines h reads writes x y) (audited y) false)
+        (sym (ap (λ (r : Option OpenEntry). work_told x.store.device (option_map running_program r) idle end) running ∙ shows))
+        (ended_by e y.history told refl)
 
   -- Acts alone
 
@@ -174,14 +164,13 @@ module _ (num : ℕ) (empty : PlainState) (x y : MarksDevice) (f : Follows num e
   halved_by : (o : OpenEntry) → x.history.running ≡ Some o → all_losses y.history ≡ all_losses x.history → (w : EventLine) →
       MayEnd x.store.device w half.Closed → (audited x).half ≡ half.Closed → HasParts x y half.OfCommand → (xs : List AuditedDevice) (later : List EventLine) →
       device_in xs x.store.device ≡ Some (audited x) → (reads writes : ℕ) (track : ℕ) (now : History) → HasActed x.history now → y.history ≡ now →
-      LeadsTowards (record { devices = xs; events = w ∷ later; due = Next })
-      (device_lines (did.Half o.path x.store.device track) reads writes x y) (behind_piece xs w later (audited y) false)
+      Does w xs later (device_lines (did.Half o.path x.store.device track) reads writes x y) (audited y) false
   halved_by o running kept w k is p xs later has reads writes track now (acted_so acts) same =
       let none = acts_lossless kept acts same in
-      subst (λ (l : List ReportLine). LeadsTowards (record { devices = xs; events = w ∷ later; due = Next }) l (behind_piece xs w later (audited y) false))
+      subst (λ (l : List ReportLine). Does w xs later l (audited y) false)
       (sym (lines_are x y acts None (did.Half o.path x.store.device track) reads writes refl (acted_tells x y acts none same)))
-      (subst (λ (b : AuditedDevice). LeadsTowards (record { devices = xs; events = w ∷ later; due = Next })
-      ((lines.Half o.path x.store.device track ∷ map (act_line x.store.device) acts) ++ (io_lines reads writes ++ line_if None)) (behind_piece xs w later b false))
+      (subst (λ (b : AuditedDevice). Does w xs later
+      ((lines.Half o.path x.store.device track ∷ map (act_line x.store.device) acts) ++ (io_lines reads writes ++ line_if None)) b false)
       (sym (audited_by x y half.OfCommand now p same))
       (halves_lead xs later a has o running w k is plainly track acts none
       (acts_so a plainly acts (subst (λ (l : History). IsPlain x.plans a.empty l) same (plain_behind half.OfCommand p))) reads writes))
@@ -190,17 +179,15 @@ module _ (num : ℕ) (empty : PlainState) (x y : MarksDevice) (f : Follows num e
       (xs : List AuditedDevice) (later : List EventLine) (has : device_in xs x.store.device ≡ Some (audited x)) →
       MayTell xs later (audited x) has w answer h → (audited x).half ≡ h →
       HasParts x y (back_half (audited x) answer) → (reads writes : ℕ) (now : History) → HasActed x.history now → y.history ≡ now →
-      LeadsTowards (record { devices = xs; events = w ∷ later; due = Next })
-      (device_lines (did.Back x.store.device answer) reads writes x y)
-      (behind_piece xs w later (audited y) (is_last answer))
+      Does w xs later (device_lines (did.Back x.store.device answer) reads writes x y) (audited y) (is_last answer)
   told_by kept w answer h xs later has k is p reads writes now (acted_so acts) same =
       let none = acts_lossless kept acts same in
       let last = is_last answer in
       let behind = back_half a answer in
-      subst (λ (l : List ReportLine). LeadsTowards (record { devices = xs; events = w ∷ later; due = Next }) l (behind_piece xs w later (audited y) last))
+      subst (λ (l : List ReportLine). Does w xs later l (audited y) last)
       (sym (lines_are x y acts None (did.Back x.store.device answer) reads writes refl (acted_tells x y acts none same)))
-      (subst (λ (b : AuditedDevice). LeadsTowards (record { devices = xs; events = w ∷ later; due = Next })
-      ((lines.Back x.store.device answer ∷ map (act_line x.store.device) acts) ++ (io_lines reads writes ++ line_if None)) (behind_piece xs w later b last))
+      (subst (λ (b : AuditedDevice). Does w xs later
+      ((lines.Back x.store.device answer ∷ map (act_line x.store.device) acts) ++ (io_lines reads writes ++ line_if None)) b last)
       (sym (audited_by x y behind now p same))
       (tells_lead xs later a has w answer h k is plainly acts none
       (acts_so a plainly acts (subst (λ (l : History). IsPlain x.plans a.empty l) same (plain_behind behind p))) reads writes))
@@ -233,16 +220,16 @@ module _ (num : ℕ) (empty : PlainState) (x : MarksDevice) (f : Follows num emp
     is = refl;
     number = c.left.number;
     so = λ xs later has reads writes.
-        ends_told num empty x y f c.follows o running c.kept w half.Closed k (closed_half whole) c.left xs later has reads writes idle e c.told;
+        ends_told num empty x y f c.follows o running c.kept w half.Closed k (closed_half whole) c.left xs later has reads writes idle (ends.Stepped (stepped.Ended e)) e refl
+        c.told;
   }
   command_comes o running whole w idle k y (Some (stepped.Half t)) c = record {
     its = ends.Stepped (stepped.Half t);
     is = refl;
     number = c.left.number;
     so = λ xs later has reads writes.
-        subst (λ (r : Option OpenEntry). LeadsTowards (record { devices = xs; events = w ∷ later; due = Next })
-        (device_lines (work_told x.store.device (option_map running_program r) idle (ends.Stepped (stepped.Half t))) reads writes x y)
-        (behind_piece xs w later (audited y) false)) (sym running)
+        subst (λ (r : Option OpenEntry). Does w xs later
+        (device_lines (work_told x.store.device (option_map running_program r) idle (ends.Stepped (stepped.Half t))) reads writes x y) (audited y) false) (sym running)
         (halved_by num empty x y f c.follows o running c.kept w k (closed_half whole) c.left xs later has reads writes t y.history c.told refl);
   }
   command_comes o running whole w idle k y None c = absurd c.left
@@ -284,8 +271,8 @@ module _ (num : ℕ) (empty : PlainState) (x : MarksDevice) (f : Follows num emp
     is = refl;
     number = c.left.parts.number;
     so = λ xs later has reads writes.
-        seconds_told num empty x y f c.follows o running c.kept w half.OfCommand (ends_by_command k) (ap half_by there ∙ ap half_of origin) c.left.parts xs later
-        has reads writes idle e c.told;
+        ends_told num empty x y f c.follows o running c.kept w half.OfCommand (ends_by_command k) (ap half_by there ∙ ap half_of origin) c.left.parts xs later
+        has reads writes idle (ends.Second (seconds.Ended e)) e refl c.told;
   }
   ended_comes h there bypass edit origin w idle k None running some y e c = absurd (some_none None some refl)
 
@@ -302,16 +289,14 @@ module _ (num : ℕ) (empty : PlainState) (x : MarksDevice) (f : Follows num emp
     is = refl;
     number = p.number;
     so = λ xs later has reads writes.
-        subst (λ (t : Happened). LeadsTowards (record { devices = xs; events = w ∷ later; due = Next }) (device_lines t reads writes x y)
-        (behind_piece xs w later (audited y) false)) (sym (told (option_map running_program x.history.running)))
-        (subst (λ (b : Bool). LeadsTowards (record { devices = xs; events = w ∷ later; due = Next })
-        (device_lines (did.Back x.store.device shown) reads writes x y) (behind_piece xs w later (audited y) b)) not_last
+        subst (λ (t : Happened). Does w xs later (device_lines t reads writes x y) (audited y) false) (sym (told (option_map running_program x.history.running)))
+        (subst (λ (b : Bool). Does w xs later (device_lines (did.Back x.store.device shown) reads writes x y) (audited y) b) not_last
         (told_by num empty x y f g kept w shown half.OfBackground xs later has (seconds_by k second_is) (ap half_by there ∙ origin)
         (subst (HasParts x y) (sym closed) p) reads writes y.history acted refl));
   }
 
   second_line : (t : ℕ) → ((x.store.device == x.store.device) && true) ≡ true
-  second_line t = both (x.store.device == x.store.device) true (same_number x.store.device) refl
+  second_line t = and_from (x.store.device == x.store.device) true (same_number x.store.device) refl
 
   second_comes : (h : store.HalfWrite (Unit {0})) → x.store.half ≡ Some h → (origin : Origin) → h.origin ≡ origin →
       (w : EventLine) (idle : Happened) → IsWork x.store.device w → (y : MarksDevice) (answer : SecondEnd) →
@@ -355,7 +340,7 @@ may_tell xs later a has w answer by_back so = back_tells so
 may_tell xs later a has w answer by_settle so = settle_tells so
 
 back_line : (n : ℕ) (d : BackDid) → is_back_line n (lines.Back n (back_answer d)) ≡ true
-back_line n d = both (n == n) (not (is_second (back_answer d))) (same_number n) (by_did d) where
+back_line n d = and_from (n == n) (not (is_second (back_answer d))) (same_number n) (by_did d) where
   by_did : (d : BackDid) → not (is_second (back_answer d)) ≡ true
   by_did dids.Nothing = refl
   by_did (dids.Recovered t) = refl
@@ -400,8 +385,7 @@ module _ (num : ℕ) (empty : PlainState) (x : MarksDevice) (f : Follows num emp
     is = refl;
     number = c.left.number;
     so = λ xs later has reads writes.
-        subst (λ (b : Bool). LeadsTowards (record { devices = xs; events = w ∷ later; due = Next })
-        (device_lines (did.Back x.store.device (back_answer d)) reads writes x y) (behind_piece xs w later (audited y) b)) (last_is d)
+        subst (λ (b : Bool). Does w xs later (device_lines (did.Back x.store.device (back_answer d)) reads writes x y) (audited y) b) (last_is d)
         (told_by num empty x y f c.follows c.kept w (back_answer d) half.Closed xs later has
         (may_tell xs later (audited x) has w (back_answer d) k (back_line x.store.device d)) (ap half_by none) c.left reads writes y.history c.told refl);
   }

@@ -1,4 +1,5 @@
--- The words of each program of a deck that was read: at most 256 of them, with counts of 16 bits; so the words that end have indices of 16 bits.
+-- The words of each program of a deck that was read: at most 256 of them, with counts of 16 bits, that give bytes; so the words that end have indices
+-- of 16 bits.
 use Rattle.std.proofs.Common.{◌≡◌, ◌≤◌, ◌<◌, ◌+◌, ◌-◌, ◌==◌, ◌++◌, ℕ, zero, suc, Bool, true, false, List, [], ◌∷◌, length, Option, Some, None, refl, sym, ap, subst, ◌∙◌, if◌then◌else◌, arith}
 use Rattle.std.specs.Prelude.{nat_lt, slice_index_or, slice_set}
 use Rattle.std.proofs.lemmas.Bool.{ltb-false}
@@ -20,11 +21,14 @@ use Rattle.plain_defs.specs.Effect.{effect_on}
 use Rattle.plain_defs.specs.Journal.{Plans, program_of}
 use Rattle.plain_defs.specs.PlainState.{PlainState}
 use Rattle.plain_defs.specs.Program.{Part, first_part, one_more, part_of}
+use Rattle.plain_defs.specs.Whole.{GivesBytes}
 use Rattle.plain_defs.proofs.PartLemmas.{acted_beside, more_next, over_stays}
+use Rattle.run_audit_laws.proofs.GivenBytes.{are_bytes, no_bytes}
 
 pub record GoodWords (ccws : List Ccw) : Type 0 where
   pub words : length ccws ≤ 256
   pub counts : (i : ℕ) → (ccw_at ccws i).count < 65536
+  pub gives : (i : ℕ) → GivesBytes (ccw_at ccws i)
 
 -- A program that was read
 
@@ -32,6 +36,11 @@ each_count : (ccws : List Ccw) → Each CcwFacts ccws → (i : ℕ) → (ccw_at 
 each_count [] facts i = omega arith
 each_count (c ∷ ccws) facts zero = facts.0.count
 each_count (c ∷ ccws) facts (suc i) = each_count ccws facts.1 i
+
+each_gives : (ccws : List Ccw) → Each CcwFacts ccws → (i : ℕ) → GivesBytes (ccw_at ccws i)
+each_gives [] facts i = no_bytes
+each_gives (c ∷ ccws) facts zero = are_bytes c.given facts.0.given
+each_gives (c ∷ ccws) facts (suc i) = each_gives ccws facts.1 i
 
 few_words : (ccws : List Ccw) → IsProgram ccws → length ccws ≤ 256
 few_words ccws is = by_empty (length ccws == 0) (nat_lt 256 (length ccws)) refl is where
@@ -42,7 +51,7 @@ few_words ccws is = by_empty (length ccws == 0) (nat_lt 256 (length ccws)) refl 
   by_empty false false long none = let few = ltb-false 256 (length ccws) long in omega (arith, few)
 
 no_words : GoodWords []
-no_words = record { words = omega arith; counts = λ i. omega arith }
+no_words = record { words = omega arith; counts = λ i. omega arith; gives = λ i. no_bytes }
 
 -- The plans of a device
 
@@ -74,7 +83,11 @@ good_all : (devices : List DeviceLine) (d : ℕ) (plans : Plans) (ps : List Plan
     AllGood (planned_all d plans ps)
 good_all devices d plans [] h ok = h
 good_all devices d plans (p ∷ ps) h ok =
-    let one : GoodWords p.program = record { words = few_words p.program ok.0.program; counts = each_count p.program ok.0.ccws } in
+    let one : GoodWords p.program = record {
+      words = few_words p.program ok.0.program;
+      counts = each_count p.program ok.0.ccws;
+      gives = each_gives p.program ok.0.ccws;
+    } in
     good_all devices d (planned d plans p) ps
     (good_if (p.device == d) plans (with_program plans p.path p.program) h
     (λ j. good_set plans (p.path - 1) j (plan_of plans p.path ++ p.program ∷ []) (good_more (plan_of plans p.path) p.program (h (p.path - 1)) one) (h j)))

@@ -13,7 +13,7 @@ use Rattle.device_defs.specs.Events.{with_loss}
 use Rattle.device_defs.specs.Losses.{settled, slot_in, without_frame}
 use Rattle.device_defs.specs.Marks.{MarksDevice, MarksStore}
 use Rattle.device_defs.specs.Owed.{begun, waiting_count}
-use Rattle.device_defs.specs.Store.{Origin, OfCommand, OfCut, OfBackground, has_loose, is_loose, patch_at, tracks_of}
+use Rattle.device_defs.specs.Store.{Origin, OfCommand, OfCut, OfBackground, has_loose, patch_at, tracks_of}
 use Rattle.device_defs.specs.Store as store
 use Rattle.device_laws.proofs.Had.{Had, had_done, had_tell, had_then}
 use Rattle.device_laws.proofs.PlainCuts.{CutSo, half_so, taken_by}

@@ -1,7 +1,7 @@
 -- POWER: what it does is told of one device after another.
 use Rattle.std.proofs.Common.{◌≡◌, ◌≤◌, ◌+◌, ◌/◌, ◌%◌, ◌==◌, ◌++◌, ℕ, Bool, true, false, not, List, [], ◌∷◌, map, length, drop, Option, Some, None, refl, sym, ap, subst, ◌∙◌, append_assoc, if◌then◌else◌, arith, inl, inr}
 use Rattle.std.specs.Prelude.{◌||◌, ◌&&◌, ◌⊎◌, Ok, Err}
-use Rattle.std.proofs.lemmas.Bool.{eq-eqb, ne_eqb}
+use Rattle.std.proofs.lemmas.Bool.{eq-eqb, ne_eqb, and_from, or_right}
 use Rattle.std.proofs.lemmas.List.{append-nil, map-append}
 use Rattle.deck_plan.specs.declared.event.EventLine.{EventLine}
 use Rattle.deck_plan.specs.declared.event.EventLine.TheVariants as wanted
@@ -44,7 +44,7 @@ use Rattle.run_audit_laws.proofs.Found.{devices}
 use Rattle.run_audit_laws.proofs.Leading.{EventLeads, leads_on, one_leads, then_some}
 use Rattle.run_audit_laws.proofs.PowerDevices.{power_makes}
 use Rattle.run_audit_laws.proofs.PowerTold.{IsCutNow, IsGone, IsKept, IsOffTold, IsUncut, cut_line, power_told_of}
-use Rattle.run_audit_laws.proofs.Saying.{both, same_loose, same_number}
+use Rattle.run_audit_laws.proofs.Saying.{same_loose, same_number}
 
 -- The devices, swept
 
@@ -89,10 +89,6 @@ dropped : (front rest : List AuditedDevice) → drop (length front) (map outline
 dropped [] rest = refl
 dropped (a ∷ front) rest = dropped front rest
 
-either : (b : Bool) → (b || (true && true)) ≡ true
-either true = refl
-either false = refl
-
 passes : (line : ReportLine) (mid tail : List AuditedDevice) → AllPassed mid → in_power line (map outline_of tail) ≡ true →
     in_power line (map outline_of (mid ++ tail)) ≡ true
 passes line [] tail p is = is
@@ -101,7 +97,7 @@ passes line (m ∷ mid) tail p is =
     ap (λ (r : Option OpenEntry). in_power_of (outline_of m) line below (open_program r)) p.0.0
     ∙ ap (λ (l : Bool). is_loss_of m.number line || (not l && below)) p.0.1
     ∙ ap (λ (c : Bool). is_loss_of m.number line || (true && c)) (passes line mid tail p.1 is)
-    ∙ either (is_loss_of m.number line)
+    ∙ or_right (is_loss_of m.number line) true refl
 
 -- those that have told all, and those that are passed over then
 record Along (low : ℕ) (front mid : List AuditedDevice) (last : Option ℕ) : Type 0 where
@@ -193,7 +189,7 @@ module _ (later : List EventLine) where
             else if (length o.ends + more == length o.ends + 1) && is_next_legal a a.history.running then Some (cut_to 1) else None)
             (ne_eqb (length o.ends + more) (length o.ends) far)
             ∙ ap (λ (b : Bool). if b then Some (cut_to 1) else None)
-            (both (length o.ends + more == length o.ends + 1) (is_next_legal a a.history.running)
+            (and_from (length o.ends + more == length o.ends + 1) (is_next_legal a a.history.running)
             (eq-eqb (length o.ends + more) (length o.ends + 1) e) one.1)
             ∙ ap (λ (i : ℕ). Some (cut_to i)) (sym one_is)
 
@@ -203,8 +199,8 @@ module _ (later : List EventLine) where
             judged_so (cut_line a o more) (a ∷ rest) (at ((front ++ mid) ++ cut_by_power a o more ∷ rest) (Powers (length (front ++ mid))))
             (ap (λ (r : Option OpenEntry). in_power_of (outline_of a) (cut_line a o more) (in_power (cut_line a o more) (map outline_of rest)) (open_program r))
             running
-            ∙ both ((o.path == o.path) && (a.number == a.number)) (o.ordinal == o.ordinal)
-            (both (o.path == o.path) (a.number == a.number) (same_number o.path) (same_number a.number)) (same_number o.ordinal))
+            ∙ and_from ((o.path == o.path) && (a.number == a.number)) (o.ordinal == o.ordinal)
+            (and_from (o.path == o.path) (a.number == a.number) (same_number o.path) (same_number a.number)) (same_number o.ordinal))
             (then_some (A.device_in ((front ++ mid) ++ a ∷ rest) a.number) a
             (λ (k : AuditedDevice). then_of k.history.running (power_cut (at ((front ++ mid) ++ a ∷ rest) (due_at last)) k (length o.ends + more))) found
             ∙ then_some a.history.running o (power_cut (at ((front ++ mid) ++ a ∷ rest) (due_at last)) a (length o.ends + more)) running
@@ -223,8 +219,8 @@ module _ (later : List EventLine) where
           (then_some (A.device_in ((front ++ mid) ++ a ∷ rest) a.number) a
           (power_loss (at ((front ++ mid) ++ a ∷ rest) (due_at last)) (loss_line a)) found
           ∙ ap (λ (c : Bool). if c then Some (at ((front ++ mid) ++ a ∷ rest) (Powers (place_of ((front ++ mid) ++ a ∷ rest) a.number + 1))) else None)
-          (both (A.has_loose a) (says (loss_line a) (loss_line a)) some
-          (both (a.number == a.number) _ (same_number a.number)
+          (and_from (A.has_loose a) (says (loss_line a) (loss_line a)) some
+          (and_from (a.number == a.number) _ (same_number a.number)
           (same_loose (let id = next_number (state_of a).number in loose.Lost (length (state_of a).loose) (id / 256 ∷ id % 256 ∷ [])))))
           ∙ ap (λ (i : ℕ). Some (at ((front ++ mid) ++ a ∷ rest) (Powers (i + 1)))) place_is)
 
@@ -272,7 +268,7 @@ module _ (later : List EventLine) where
             ∙ ap (λ (l : List AuditedDevice). Ok (at (l ++ middle ∷ rest) (Powers (length (front ++ mid))))) (sym none)));
       }
 
-  -- behind both
+  -- behind and_from
   record LooseStep (low : ℕ) (front mid : List AuditedDevice) (last : Option ℕ) (x y : MarksDevice) (middle : AuditedDevice)
       (rest : List AuditedDevice) : Type 0 where
     front_now : List AuditedDevice

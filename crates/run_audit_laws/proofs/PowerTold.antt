@@ -36,17 +36,17 @@ use Rattle.plain_defs.specs.declared.journal.Act.{Act}
 use Rattle.plain_defs.specs.declared.journal.How.TheVariants.{Cut}
 use Rattle.plain_defs.specs.declared.journal.Item.{Item}
 use Rattle.plain_defs.specs.declared.journal.Item.TheVariants as items
-use Rattle.plain_defs.specs.History.{History, OpenEntry, entry_of, lost_power_in, open_part, plain_of}
+use Rattle.plain_defs.specs.History.{History, OpenEntry, entry_of, lost_power_in, plain_of}
 use Rattle.plain_defs.specs.Journal.{Plans, program_of, replay}
-use Rattle.plain_defs.specs.Legal.{MayEdit, is_started, next_edit}
+use Rattle.plain_defs.specs.Legal.{is_started}
 use Rattle.plain_defs.specs.Loose.{is_loose_in, next_number}
 use Rattle.plain_defs.specs.PlainState.{PlainState}
 use Rattle.plain_defs.proofs.JournalLaws.{replay-append}
 use Rattle.device_defs.specs.Cutting.{counts_one_by, is_of_command}
 use Rattle.device_defs.specs.Marks.{MarksDevice}
-use Rattle.device_defs.specs.Store.{has_loose, is_loose}
+use Rattle.device_defs.specs.Store.{has_loose}
 use Rattle.device_defs.specs.Store as store
-use Rattle.device_laws.proofs.HistoryCuts.{MayTake, cut_entry, taken_state}
+use Rattle.device_laws.proofs.HistoryCuts.{cut_entry, taken_state}
 use Rattle.device_laws.proofs.HistoryEnds.{running_is_open}
 use Rattle.device_laws.proofs.PlainCuts.{may, taken_by}
 use Rattle.device_laws.proofs.PlainStores.{IsOf}
@@ -58,7 +58,7 @@ use Rattle.report_text.specs.declared.line.ReportLine.TheVariants as lines
 use Rattle.report_text.specs.Events.{loosed_line, program_over_lines}
 use Rattle.report_places.specs.declared.state.HalfWrite.TheVariants.{Closed}
 use Rattle.deck_audit.specs.Device as A
-use Rattle.deck_audit.specs.Device.{AuditedDevice, edit_of, is_next_legal, part_of_open, state_of}
+use Rattle.deck_audit.specs.Device.{AuditedDevice, is_next_legal, state_of}
 use Rattle.deck_audit.specs.History.{cut_by_power, cut_open, loss_line, without_power}
 use Rattle.run_report.specs.Beside.{loose_lines, loosed, over_lines, over_of}
 use Rattle.run_report.proofs.ActsCome.{acts_both, same_program}
@@ -73,7 +73,7 @@ use Rattle.run_audit_laws.proofs.LooseOnce.{StandOnce, items_once, part_once}
 use Rattle.run_audit_laws.proofs.LossDevices.{number_behind}
 use Rattle.run_audit_laws.proofs.PowerDevices.{IsOff}
 use Rattle.run_audit_laws.proofs.ResetDevices.{audited_by}
-use Rattle.run_audit_laws.proofs.Resets.{legal_by}
+use Rattle.run_audit_laws.proofs.Resets.{next_legal}
 use Rattle.run_audit_laws.proofs.Ties.{one_if}
 
 -- The device between the two lines, and each line
@@ -116,9 +116,6 @@ next_differs n is = by_test (n == 65535) refl is where
   by_test false test same = omega (arith, same)
 
 module _ (x y : MarksDevice) (p : Plainly x) (f : Follows p.number p.empty y) (g : IsOff p.number p.empty x p.follows y) where
-  abbrev h : History
-  h = x.history
-
   abbrev more : ℕ
   more = counts_one_by x.store.half
 
@@ -231,15 +228,6 @@ module _ (x y : MarksDevice) (p : Plainly x) (f : Follows p.number p.empty y) (g
       many = (known x p).many;
     }
 
-    legal : counts_one_by x.store.half ≡ 1 → is_next_legal (audited x) x.history.running ≡ true
-    legal one =
-        ap (λ (r : Option OpenEntry). is_next_legal (audited x) r) running
-        ∙ legal_by (part_of_open (audited x) o) (edit_of (audited x) o)
-        (subst (λ (b : PlainState). MayEdit (open_part x.plans (replay x.plans b x.history.items) o).state
-        (open_part x.plans (replay x.plans b x.history.items) o).stance
-        (next_edit o.path (program_of x.plans o.path o.ordinal) (open_part x.plans (replay x.plans b x.history.items) o))) p.follows.base
-        (subst (λ (k : ℕ). MayTake x.plans (replay x.plans p.empty x.history.items) o k) one (may p.number p.empty x p.follows o running)))
-
     few_by : (q : Option (store.HalfWrite (Unit {0}))) → x.store.half ≡ q →
         (counts_one_by x.store.half ≡ 0) ⊎ ((counts_one_by x.store.half ≡ 1) × (is_next_legal (audited x) x.history.running ≡ true))
     few_by None is = inl (ap counts_one_by is)
@@ -247,7 +235,7 @@ module _ (x y : MarksDevice) (p : Plainly x) (f : Follows p.number p.empty y) (g
       by_test : (b : Bool) → is_of_command w.origin ≡ b →
           (counts_one_by x.store.half ≡ 0) ⊎ ((counts_one_by x.store.half ≡ 1) × (is_next_legal (audited x) x.history.running ≡ true))
       by_test true test =
-          let one : counts_one_by x.store.half ≡ 1 = ap counts_one_by is ∙ ap one_if test in inr (one, legal one)
+          let one : counts_one_by x.store.half ≡ 1 = ap counts_one_by is ∙ ap one_if test in inr (one, next_legal x p o running one)
       by_test false test = inl (ap counts_one_by is ∙ ap one_if test)
 
     started : is_started false (x.history.items ++ entry ∷ []) ≡ true
@@ -284,9 +272,6 @@ module _ (x y : MarksDevice) (p : Plainly x) (f : Follows p.number p.empty y) (g
   -- None runs
 
   module _ (none : x.history.running ≡ None) where
-    abbrev begun : Bool
-    begun = is_started false x.history.items
-
     abbrev after : Bool → History
     after b = if b then record { items = x.history.items ++ items.Power ∷ []; running = None; waiting = [] } else x.history
 

@@ -1,22 +1,23 @@
--- Index, status, residual and sense of a command's end are in their ranges, whatever event of a device ends it.
-use Rattle.std.proofs.Common.{◌≡◌, ◌<◌, ℕ, List, length, Option, Some, None, refl, sym, ap, subst, ◌∙◌, inl, inr, arith}
+-- Index, status, residual, the bytes that are sent, and sense of a command's end are in their ranges, whatever event of a device ends it.
+use Rattle.std.proofs.Common.{◌≡◌, ◌<◌, ℕ, List, [], length, Option, Some, None, refl, sym, ap, subst, ◌∙◌, inl, inr, arith}
 use Rattle.std.specs.Prelude.{IfSome}
+use Rattle.hex.specs.Hex.{IsBytes}
 use Rattle.ckd_types.specs.declared.channel.Ccw.{Ccw}
 use Rattle.ckd_types.specs.declared.channel.CommandEnd.{CommandEnd}
 use Rattle.ckd_types.specs.declared.sense.Sense.{Sense}
 use Rattle.ckd_types.specs.declared.status.UnitStatus.{UnitStatus}
 use Rattle.ckd_types.specs.Ccw.{ccw_at}
 use Rattle.ckd_types.specs.Fixed.{Fixed}
-use Rattle.ckd_types.specs.Sense.{data_check_sense, equipment_sense}
 use Rattle.ckd_rules.specs.declared.ending.Ending.{Ending}
 use Rattle.ckd_rules.specs.declared.stance.Stance.{Stance}
 use Rattle.ckd_rules.specs.Ending.{Outcome, check}
 use Rattle.ckd_rules.specs.Ends.{end_of}
 use Rattle.plain_defs.specs.Effect.{effect_on}
-use Rattle.plain_defs.specs.History.{History, IsPlain, OpenEntry}
+use Rattle.plain_defs.specs.History.{History, IsPlain, OpenEntry, state_by}
 use Rattle.plain_defs.specs.Journal.{program_of, replay}
 use Rattle.plain_defs.specs.PlainState.{PlainState}
 use Rattle.plain_defs.specs.Program.{Part}
+use Rattle.plain_defs.specs.Whole.{GivesBytes}
 use Rattle.device_defs.specs.declared.answers.SecondEnd.{SecondEnd}
 use Rattle.device_defs.specs.declared.answers.SecondEnd.TheVariants as seconds
 use Rattle.device_defs.specs.declared.answers.Stepped.{Stepped}
@@ -45,31 +46,26 @@ use Rattle.subsystem_laws.proofs.PlainRuns.{Plainly}
 use Rattle.run_audit_laws.specs.Standing.{audited}
 use Rattle.run_audit_laws.specs.Steps.{IsCheckSense}
 use Rattle.run_audit_laws.proofs.CameOut.{checks_so, ends_plain, ends_so}
+use Rattle.run_audit_laws.proofs.GivenBytes.{as_bytes, no_bytes}
+use Rattle.run_audit_laws.proofs.KeptBytes.{KeepsBytes, command_sends, empty_keeps, history_keeps}
+use Rattle.run_audit_laws.proofs.KeptSenses.{check_sense_in, walk_sense}
 use Rattle.run_audit_laws.proofs.Lossless.{none_lost}
 use Rattle.run_audit_laws.proofs.Pieces.{CommandSo, SecondSo, command_so, plain_behind, plainly, second_so}
 use Rattle.run_audit_laws.proofs.PlannedWords.{GoodWords, part_index}
 use Rattle.run_audit_laws.proofs.ResetDevices.{HasParts}
-use Rattle.run_audit_laws.proofs.Tidy.{FitsBy, WalkFits, outcome_fits, sense_bytes}
-
-abbrev SenseIn : Sense → Type 0
-SenseIn sense = AreBytes 32 sense.bytes
+use Rattle.run_audit_laws.proofs.Tidy.{FitsBy, WalkFits, outcome_fits}
 
 pub record EndIn (e : CommandEnd) : Type 0 where
   pub index : IsShort e.index
   pub residual : IsShort e.residual
   pub status : e.status.0 < 256
+  pub sent : IsBytes e.sent
   pub sense : IfSome e.sense (λ s. AreBytes 32 s.bytes)
 
 abbrev pub EventIn : EventEnd → Type 0
 EventIn (ends.Stepped (stepped.Ended e)) = EndIn e
 EventIn (ends.Second (seconds.Ended e)) = EndIn e
 EventIn _ = Unit {0}
-
-equipment_bytes : AreBytes 32 equipment_sense.bytes
-equipment_bytes = sense_bytes 0x10 0x80 0 (omega arith) (omega arith) (omega arith)
-
-data_check_bytes : AreBytes 32 data_check_sense.bytes
-data_check_bytes = sense_bytes 8 0 0 (omega arith) (omega arith) (omega arith)
 
 check_in : (s : UnitStatus) → s ≡ check → s.0 < 256
 check_in s is = subst (λ (x : UnitStatus). x.0 < 256) (sym is) (omega arith)
@@ -84,40 +80,41 @@ fits_residual : (c : Ccw) (e : Ending) (o : Option Sense) → c.count < 65536 �
 fits_residual c e (Some sense) few h = subst (λ (n : ℕ). n < 65536) (sym h.1) few
 fits_residual c e None few h = let less = h.1 in omega (arith, less, few)
 
-fits_sense : (c : Ccw) (e : Ending) (o : Option Sense) → FitsBy c e o → IfSome o SenseIn
-fits_sense c e (Some sense) h = h.4.2
-fits_sense c e None h = tt
-
-rule_in : (i : ℕ) (f : Fixed) (state : PlainState) (path : ℕ) (s : Stance) (c : Ccw) → i < 65536 → c.count < 65536 →
+rule_in : (i : ℕ) (f : Fixed) (state : PlainState) (path : ℕ) (s : Stance) (c : Ccw) → i < 65536 → c.count < 65536 → GivesBytes c → KeepsBytes state →
     EndIn (end_of i c (effect_on f state path s c).outcome)
-rule_in i f state path s c index few = by_fits (effect_on f state path s c).outcome (outcome_fits f state path s c) where
-  by_fits : (o : Outcome) → WalkFits c o → EndIn (end_of i c o)
-  by_fits o (inl h) = record {
-    index = index;
-    residual = fits_residual c o.ending o.ending.sense few h;
-    status = fits_status c o.ending o.ending.sense h;
-    sense = fits_sense c o.ending o.ending.sense h;
-  }
-  by_fits o (inr h) = record {
-    index = index;
-    residual = subst (λ (n : ℕ). n < 65536) (sym h.2) few;
-    status = check_in o.ending.status h.1;
-    sense = subst (λ (x : Option Sense). IfSome x SenseIn) (sym h.0) equipment_bytes;
-  }
+rule_in i f state path s c index few gives keeps =
+    by_fits (effect_on f state path s c).outcome (command_sends f state path s c gives keeps) (outcome_fits f state path s c) where
+      by_fits : (o : Outcome) → IsBytes o.ending.sent → WalkFits c o → EndIn (end_of i c o)
+      by_fits o sent (inl h) = record {
+        index = index;
+        residual = fits_residual c o.ending o.ending.sense few h;
+        status = fits_status c o.ending o.ending.sense h;
+        sent = sent;
+        sense = walk_sense c o (inl h);
+      }
+      by_fits o sent (inr h) = record {
+        index = index;
+        residual = subst (λ (n : ℕ). n < 65536) (sym h.2) few;
+        status = check_in o.ending.status h.1;
+        sent = sent;
+        sense = walk_sense c o (inr h);
+      }
 
-plain_in : (path : ℕ) (ccws : List Ccw) (p : Part) (next : Option ℕ) (e : CommandEnd) → GoodWords ccws → ((j : ℕ) → next ≡ Some j → j < 65536) →
-    plain_end_at path ccws p next ≡ Some e → EndIn e
-plain_in path ccws p (Some i) e good index is =
+plain_in : (path : ℕ) (ccws : List Ccw) (p : Part) (next : Option ℕ) (e : CommandEnd) → GoodWords ccws → KeepsBytes p.state →
+    ((j : ℕ) → next ≡ Some j → j < 65536) → plain_end_at path ccws p next ≡ Some e → EndIn e
+plain_in path ccws p (Some i) e good keeps index is =
     let same : end_of i (ccw_at ccws i) (effect_on p.fixed p.state path p.stance (ccw_at ccws i)).outcome ≡ e = cc in
-    subst EndIn same (rule_in i p.fixed p.state path p.stance (ccw_at ccws i) (index i refl) (good.counts i))
-plain_in path ccws p None e good index is = absurd (cc)
-
-check_sense_in : (sense : Sense) → IsCheckSense sense → AreBytes 32 sense.bytes
-check_sense_in sense (inl is) = subst SenseIn (sym is) equipment_bytes
-check_sense_in sense (inr is) = subst SenseIn (sym is) data_check_bytes
+    subst EndIn same (rule_in i p.fixed p.state path p.stance (ccw_at ccws i) (index i refl) (good.counts i) (good.gives i) keeps)
+plain_in path ccws p None e good keeps index is = absurd (cc)
 
 check_end_in : (ccws : List Ccw) (i : ℕ) (sense : Sense) → GoodWords ccws → i < 65536 → IsCheckSense sense → EndIn (check_end ccws i sense)
-check_end_in ccws i sense good index is = record { index = index; residual = good.counts i; status = omega arith; sense = check_sense_in sense is }
+check_end_in ccws i sense good index is = record {
+  index = index;
+  residual = good.counts i;
+  status = omega arith;
+  sent = as_bytes [] no_bytes;
+  sense = check_sense_in sense is;
+}
 
 -- By a device's history
 
@@ -127,9 +124,15 @@ module _ (num : ℕ) (empty : PlainState) (x y : MarksDevice) (f : Follows num e
   plain_here : (now : History) → y.history ≡ now → IsPlain x.plans (audited x).empty now
   plain_here now same = subst (λ (l : History). IsPlain x.plans (audited x).empty l) same (plain_behind num empty x y f g half.Closed p)
 
+  state_keeps : KeepsBytes (part_of_open (audited x) o).state
+  state_keeps =
+      subst (λ (r : Option OpenEntry). KeepsBytes (state_by x.plans (replay x.plans (audited x).empty x.history.items) r)) running
+      (history_keeps x.plans (λ path ordinal. (words path ordinal).gives) (audited x).empty x.history (plainly num empty x y f g)
+      (empty_keeps x.store.geometry x.store.cylinders))
+
   plain_here_in : (e : CommandEnd) → plain_end (audited x) o ≡ Some e → EndIn e
   plain_here_in e is =
-      plain_in o.path (words_of_open (audited x) o) (part_of_open (audited x) o) (part_of_open (audited x) o).next e (words o.path o.ordinal)
+      plain_in o.path (words_of_open (audited x) o) (part_of_open (audited x) o) (part_of_open (audited x) o).next e (words o.path o.ordinal) state_keeps
       (part_index (program_of x.plans o.path o.ordinal) (words o.path o.ordinal) o.path o.acts (replay x.plans (audited x).empty x.history.items)
       (length o.ends)) is
 

@@ -9,7 +9,6 @@ use Rattle.loss_model.specs.declared.Loss.TheVariants as losses
 use Rattle.plain_defs.specs.History.{IsOpen, OpenEntry}
 use Rattle.plain_defs.specs.Journal.{planned, replay}
 use Rattle.track_table.proofs.Counts.{few_marked}
-use Rattle.deck_text.proofs.DeckAgain.{Each}
 use Rattle.device_outside.specs.Interaction.{Ask, Done, Read, Tell, Try, Write, and_then}
 use Rattle.device_outside.specs.Keeper.{reply}
 use Rattle.device_outside.specs.Pool.{Pool, after, answer, cache_failed, store_failed}
@@ -50,6 +49,7 @@ use Rattle.subsystem_defs.specs.Subsystem.{Mounted, Subsystem, devices_of, mount
 use Rattle.subsystem_laws.proofs.RunLines.{AnyEvent, Goes}
 use Rattle.run_audit_laws.proofs.RangedCommands.{EventIn, command_in, second_in}
 use Rattle.run_audit_laws.proofs.RangedDevices.{Ranged, device_ranged, few_programs}
+use Rattle.run_audit_laws.proofs.RangedSteps.{WorkIn, background_tells, command_tells, second_tells}
 
 -- An event's end, by what happens to the devices
 
@@ -101,14 +101,23 @@ FaultIn f = IsFault (refused_as f)
 abbrev CauseIn : Option OrderFault → Type 0
 CauseIn o = IfSome o FaultIn
 
-first_in : (l : List (Option OrderFault)) → Each CauseIn l → CauseIn (first_cause l)
-first_in [] all = tt
-first_in (Some f ∷ l) all = all.0
-first_in (None ∷ l) all = first_in l all.1
-
 where_in : (b : Bool) (f : OrderFault) → FaultIn f → CauseIn (where_so b f)
 where_in true f h = h
 where_in false f h = tt
+
+-- the first of some causes
+record FirstIn (l : List (Option OrderFault)) : Type 0 where
+  first : CauseIn (first_cause l)
+
+none_first : FirstIn []
+none_first = record { first = tt }
+
+first_then : {l : List (Option OrderFault)} (o : Option OrderFault) → CauseIn o → FirstIn l → FirstIn (o ∷ l)
+first_then (Some f) h rest = record { first = h }
+first_then None h rest = record { first = rest.first }
+
+where_first : {l : List (Option OrderFault)} (b : Bool) (f : OrderFault) → FaultIn f → FirstIn l → FirstIn (where_so b f ∷ l)
+where_first b f h rest = first_then (where_so b f) (where_in b f h) rest
 
 lent_in : (o : Option ℕ) → IfSome o (λ n. n < 16) → CauseIn (lent_by o)
 lent_in (Some to) h = h
@@ -125,121 +134,42 @@ level_in n k most few = where_in (not (n == 0)) (faults.NotLevel n) (omega (arit
 pair_in : (x y : MarksDevice) → Ranged x → Ranged y → CauseIn (pair_fault x y)
 unfolding R.pair_fault
 pair_in x y r s =
-    first_in (where_so (x.store.device == y.store.device) faults.Same ∷ lent_by x.store.lent ∷ lent_by y.store.lent ∷ where_so x.store.paired faults.Paired
-    ∷ where_so y.store.paired faults.Paired ∷ active_by x.history.running ∷ active_by y.history.running
-    ∷ where_so (not (is_alike x.store y.store)) faults.Geometry ∷ where_so (not x.store.a.up) faults.Down ∷ where_so (not y.store.a.up) faults.Down ∷ []) (
-      where_in (x.store.device == y.store.device) faults.Same tt,
-      (
-        lent_in x.store.lent r.sized.lent,
-        (
-          lent_in y.store.lent s.sized.lent,
-          (
-            where_in x.store.paired faults.Paired tt,
-            (
-              where_in y.store.paired faults.Paired tt,
-              (
-                active_in x r x.history.running r.plain.at,
-                (
-                  active_in y s y.history.running s.plain.at,
-                  (
-                    where_in (not (is_alike x.store y.store)) faults.Geometry tt,
-                    (
-                      where_in (not x.store.a.up) faults.Down tt,
-                      (
-                        where_in (not y.store.a.up) faults.Down tt,
-                        tt,
-                      ),
-                    ),
-                  ),
-                ),
-              ),
-            ),
-          ),
-        ),
-      ),
-    )
+    (where_first (x.store.device == y.store.device) faults.Same tt (first_then (lent_by x.store.lent) (lent_in x.store.lent r.sized.lent)
+    (first_then (lent_by y.store.lent) (lent_in y.store.lent s.sized.lent) (where_first x.store.paired faults.Paired tt
+    (where_first y.store.paired faults.Paired tt (first_then (active_by x.history.running) (active_in x r x.history.running r.plain.at)
+    (first_then (active_by y.history.running) (active_in y s y.history.running s.plain.at)
+    (where_first (not (is_alike x.store y.store)) faults.Geometry tt (where_first (not x.store.a.up) faults.Down tt
+    (where_first (not y.store.a.up) faults.Down tt none_first)))))))))).first
 
 unpair_in : (x : MarksDevice) → Ranged x → CauseIn (unpair_fault x)
 unfolding R.unpair_fault
 unpair_in x r =
-    first_in (where_so (not x.store.paired) faults.Unpaired ∷ active_by x.history.running ∷ where_so (is_some x.store.half) faults.Half
-    ∷ where_so (not x.store.a.up) faults.Down ∷ not_level_by (stale_count x.store) ∷ []) (
-      where_in (not x.store.paired) faults.Unpaired tt,
-      (
-        active_in x r x.history.running r.plain.at,
-        (
-          where_in (is_some x.store.half) faults.Half tt,
-          (
-            where_in (not x.store.a.up) faults.Down tt,
-            (
-              level_in (stale_count x.store) x.store.cylinders r.sized.cylinders (few_marked (tracks_of x.store) (stale_at x.store.a)),
-              tt,
-            ),
-          ),
-        ),
-      ),
-    )
+    (where_first (not x.store.paired) faults.Unpaired tt (first_then (active_by x.history.running) (active_in x r x.history.running r.plain.at)
+    (where_first (is_some x.store.half) faults.Half tt (where_first (not x.store.a.up) faults.Down tt
+    (first_then (not_level_by (stale_count x.store))
+    (level_in (stale_count x.store) x.store.cylinders r.sized.cylinders (few_marked (tracks_of x.store) (stale_at x.store.a))) none_first))))).first
 
-suspend_in : (x : MarksDevice) → Ranged x → CauseIn (suspend_fault x)
+suspend_in : (x : MarksDevice) → CauseIn (suspend_fault x)
 unfolding R.suspend_fault
-suspend_in x r =
-    first_in (where_so (not x.store.paired) faults.Unpaired ∷ where_so (is_some x.store.half) faults.Half
-    ∷ where_so (not (x.store.a.up && x.store.b.up)) faults.Down ∷ where_so x.store.held faults.Held ∷ []) (
-      where_in (not x.store.paired) faults.Unpaired tt,
-      (
-        where_in (is_some x.store.half) faults.Half tt,
-        (
-          where_in (not (x.store.a.up && x.store.b.up)) faults.Down tt,
-          (
-            where_in x.store.held faults.Held tt,
-            tt,
-          ),
-        ),
-      ),
-    )
+suspend_in x =
+    (where_first (not x.store.paired) faults.Unpaired tt (where_first (is_some x.store.half) faults.Half tt
+    (where_first (not (x.store.a.up && x.store.b.up)) faults.Down tt (where_first x.store.held faults.Held tt none_first)))).first
 
-resume_in : (x : MarksDevice) → Ranged x → CauseIn (resume_fault x)
+resume_in : (x : MarksDevice) → CauseIn (resume_fault x)
 unfolding R.resume_fault
-resume_in x r =
-    first_in (where_so (not x.store.paired) faults.Unpaired ∷ where_so (not x.store.held) faults.NotHeld ∷ []) (
-      where_in (not x.store.paired) faults.Unpaired tt,
-      (
-        where_in (not x.store.held) faults.NotHeld tt,
-        tt,
-      ),
-    )
+resume_in x = (where_first (not x.store.paired) faults.Unpaired tt (where_first (not x.store.held) faults.NotHeld tt none_first)).first
 
 fail_in : (x : MarksDevice) (side : Side) → Ranged x → CauseIn (fail_fault x side)
 unfolding R.fail_fault
 fail_in x side r =
-    first_in (lent_by x.store.lent ∷ where_so (not (has_side x.store side)) faults.NoSide ∷ where_so (not (side_of x.store side).up) faults.Down ∷ []) (
-      lent_in x.store.lent r.sized.lent,
-      (
-        where_in (not (has_side x.store side)) faults.NoSide tt,
-        (
-          where_in (not (side_of x.store side).up) faults.Down tt,
-          tt,
-        ),
-      ),
-    )
+    (first_then (lent_by x.store.lent) (lent_in x.store.lent r.sized.lent) (where_first (not (has_side x.store side)) faults.NoSide tt
+    (where_first (not (side_of x.store side).up) faults.Down tt none_first))).first
 
 replace_in : (x : MarksDevice) (side : Side) → Ranged x → CauseIn (replace_fault x side)
 unfolding R.replace_fault
 replace_in x side r =
-    first_in (lent_by x.store.lent ∷ where_so (not (has_side x.store side)) faults.NoSide ∷ where_so (side_of x.store side).up faults.Up
-    ∷ where_so (is_some x.store.half) faults.Half ∷ []) (
-      lent_in x.store.lent r.sized.lent,
-      (
-        where_in (not (has_side x.store side)) faults.NoSide tt,
-        (
-          where_in (side_of x.store side).up faults.Up tt,
-          (
-            where_in (is_some x.store.half) faults.Half tt,
-            tt,
-          ),
-        ),
-      ),
-    )
+    (first_then (lent_by x.store.lent) (lent_in x.store.lent r.sized.lent) (where_first (not (has_side x.store side)) faults.NoSide tt
+    (where_first (side_of x.store side).up faults.Up tt (where_first (is_some x.store.half) faults.Half tt none_first)))).first
 
 abbrev FineOrder : MarksDeed → Type 0
 FineOrder x = Fine OrderIn tt tt x
@@ -331,23 +261,31 @@ module _ (d : MarksDevice) (k : Ranged d) (path : ℕ) where
 
 -- A piece of work
 
-abbrev FineWork : MarksDeed → Type 0
-FineWork x = Fine EventIn tt tt x
+-- how its command ends, and the tracks that it tells of
+abbrev pub PieceIn : EventEnd → Type 0
+PieceIn end = EventIn end × WorkIn end
 
-told_in : (o : Option EventEnd) → IfSome o EventIn → EventIn (told_end o)
-told_in (Some end) h = h
-told_in None h = tt
+nothing_in : PieceIn ends.Idle
+nothing_in = (tt, tt)
+
+abbrev FineWork : MarksDeed → Type 0
+FineWork x = Fine PieceIn nothing_in nothing_in x
+
+told_in : (o : Option EventEnd) → IfSome o EventIn → IfSome o WorkIn → PieceIn (told_end o)
+told_in (Some end) h g = (h, g)
+told_in None h g = (tt, tt)
 
 never_ends : (o : Option BackDid) → IfSome (E.end_of ends.Back o) EventIn
 never_ends (Some d) = tt
 never_ends None = tt
 
-had_in : (d : MarksDevice) (talk : Talk (Option EventEnd)) → Had talk (λ y end. IfSome end EventIn) → FineWork (Asks d talk)
-had_in d talk h = λ t. told_in (T.hold true talk t).answer (held true h t)
+had_in : (d : MarksDevice) (talk : Talk (Option EventEnd)) → Had talk (λ y end. IfSome end EventIn) → Had talk (λ y end. IfSome end WorkIn) →
+    FineWork (Asks d talk)
+had_in d talk h g = λ t. told_in (T.hold true talk t).answer (held true h t) (held true g t)
 
 module _ (d : MarksDevice) (k : Ranged d) where
   seconds_in : (h : HalfWrite (Unit {0})) → d.store.half ≡ Some h → FineWork (E.seconds by_plain d)
-  seconds_in h there = had_in d (E.ends_by ends.Second (second by_plain d)) (second_in d k.follows k.sized.words h there)
+  seconds_in h there = had_in d (E.ends_by ends.Second (second by_plain d)) (second_in d k.follows k.sized.words h there) (second_tells d k.works)
 
   steps_in : FineWork (E.step by_plain d)
   steps_in = by_half d.store.half refl d.history.running refl where
@@ -356,8 +294,8 @@ module _ (d : MarksDevice) (k : Ranged d) where
         else if is_some r then Asks d (E.may_end_by ends.Stepped (command by_plain d)) else Ends ends.Idle)
     by_half (Some h) there r running = seconds_in h there
     by_half None whole (Some o) running =
-        had_in d (E.may_end_by ends.Stepped (command by_plain d)) (command_in d k.follows k.sized.words o running whole)
-    by_half None whole None running = tt
+        had_in d (E.may_end_by ends.Stepped (command by_plain d)) (command_in d k.follows k.sized.words o running whole) (command_tells d k.works)
+    by_half None whole None running = nothing_in
 
   backs_in : FineWork (E.back by_plain d)
   backs_in = by_half d.store.half refl where
@@ -366,14 +304,14 @@ module _ (d : MarksDevice) (k : Ranged d) where
     by_half (Some h) there = seconds_in h there
     by_half None whole =
         had_in d (E.may_end_by ends.Back (background by_plain d))
-        (had_then (had_always (background_told by_plain d)) (λ y answer c. had_done (never_ends answer)))
+        (had_then (had_always (background_told by_plain d)) (λ y answer c. had_done (never_ends answer))) (background_tells d k.works)
 
 -- All events: what a repair answers is shown elsewhere
 
 abbrev pub AnswersOnce : Event → EventEnd → Type 0
 AnswersOnce (events.Start path d) end = StartIn end
-AnswersOnce (events.Step d) end = EventIn end
-AnswersOnce (events.Back d) end = EventIn end
+AnswersOnce (events.Step d) end = PieceIn end
+AnswersOnce (events.Back d) end = PieceIn end
 AnswersOnce (events.Reset path d) end = Unit {0}
 AnswersOnce events.RepairCache end = Unit {0}
 AnswersOnce events.RepairStore end = Unit {0}
@@ -383,8 +321,8 @@ abbrev pub Answers : Asked → EventEnd → Type 0
 Answers (Once e) end = AnswersOnce e end
 Answers (Replace d side) end = OrderIn end
 Answers (Unpair a) end = OrderIn end
-Answers (Run d) end = EventIn end
-Answers (Settle d) end = EventIn end
+Answers (Run d) end = PieceIn end
+Answers (Settle d) end = PieceIn end
 
 module _ (s : Subsystem) (all : All Ranged (devices_of s)) where
   there : (n : ℕ) → IfSome (device_in (devices_of s) n) Ranged
@@ -396,11 +334,11 @@ module _ (s : Subsystem) (all : All Ranged (devices_of s)) where
       fine_end StartIn tt tt s (on_device (device_in (devices_of s) d) (starts path))
       (on_fine StartIn tt tt (device_in (devices_of s) d) (starts path) (there d) (λ x k. starts_in x k path))
   once_answers (events.Step d) =
-      fine_end EventIn tt tt s (on_device (device_in (devices_of s) d) (E.step by_plain))
-      (on_fine EventIn tt tt (device_in (devices_of s) d) (E.step by_plain) (there d) steps_in)
+      fine_end PieceIn nothing_in nothing_in s (on_device (device_in (devices_of s) d) (E.step by_plain))
+      (on_fine PieceIn nothing_in nothing_in (device_in (devices_of s) d) (E.step by_plain) (there d) steps_in)
   once_answers (events.Back d) =
-      fine_end EventIn tt tt s (on_device (device_in (devices_of s) d) (E.back by_plain))
-      (on_fine EventIn tt tt (device_in (devices_of s) d) (E.back by_plain) (there d) backs_in)
+      fine_end PieceIn nothing_in nothing_in s (on_device (device_in (devices_of s) d) (E.back by_plain))
+      (on_fine PieceIn nothing_in nothing_in (device_in (devices_of s) d) (E.back by_plain) (there d) backs_in)
   once_answers (events.Reset path d) = tt
   once_answers events.FailCache =
       fine_end OrderIn tt tt s (E.order_if_not (not s.pool.cache_up) faults.Down (Sweeps (cache_failed s.pool) (λ x. lose by_plain x losses.Cache)))
@@ -424,11 +362,11 @@ module _ (s : Subsystem) (all : All Ranged (devices_of s)) where
   once_answers (events.Suspend a) =
       let f = λ (x : MarksDevice). order (suspend_fault x) (Becomes (hold x) ends.Done) in
       fine_end OrderIn tt tt s (on_device (device_in (devices_of s) a) f)
-      (on_fine OrderIn tt tt (device_in (devices_of s) a) f (there a) (λ x k. ordered (suspend_fault x) (Becomes (hold x) ends.Done) (suspend_in x k) tt))
+      (on_fine OrderIn tt tt (device_in (devices_of s) a) f (there a) (λ x k. ordered (suspend_fault x) (Becomes (hold x) ends.Done) (suspend_in x) tt))
   once_answers (events.Resume a) =
       let f = λ (x : MarksDevice). order (resume_fault x) (Becomes (resume x) ends.Done) in
       fine_end OrderIn tt tt s (on_device (device_in (devices_of s) a) f)
-      (on_fine OrderIn tt tt (device_in (devices_of s) a) f (there a) (λ x k. ordered (resume_fault x) (Becomes (resume x) ends.Done) (resume_in x k) tt))
+      (on_fine OrderIn tt tt (device_in (devices_of s) a) f (there a) (λ x k. ordered (resume_fault x) (Becomes (resume x) ends.Done) (resume_in x) tt))
   once_answers events.Power = tt
 
   mounted_ranged : (ms : List Mounted) (n : ℕ) → All Ranged (map (λ (m : Mounted). m.device) ms) → IfSome (mounted_in ms n) (λ m. Ranged m.device)
@@ -474,7 +412,7 @@ pub answers_go : Goes (λ s. Unit {0}) AnswersSo AnyEvent
 answers_go = record {
   once = λ s e may q. (tt, λ all. once_answers s all e);
   stepped = λ s d q. (tt, λ all. once_answers s all (events.Step d));
-  idle = λ s d q. (tt, λ all. tt);
+  idle = λ s d q. (tt, λ all. nothing_in);
   backed = λ s d q. (tt, λ all. once_answers s all (events.Back d));
   replaces = λ s d side q. (tt, λ all. replaced_answers s all d side);
   unpairs = λ s a q. (tt, λ all. unpaired_answers s all a);

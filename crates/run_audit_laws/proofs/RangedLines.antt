@@ -41,22 +41,17 @@ use Rattle.subsystem_defs.specs.Beside.{acts_in, Hardened, LooseTold, Loosened, 
 use Rattle.subsystem_defs.specs.Deeds.{device_in}
 use Rattle.subsystem_defs.specs.Lines.{Asked, Once, Replace, Run, Settle, Unpair}
 use Rattle.subsystem_defs.specs.Promised.{empty_of}
-use Rattle.run_audit_laws.specs.Ranges.{RestIsIn}
 use Rattle.run_audit_laws.proofs.NamedEvents.{Names}
 use Rattle.run_audit_laws.proofs.RangedActs.{ActOn, each_behind, history_on}
 use Rattle.run_audit_laws.proofs.RangedCommands.{EndIn, EventIn}
 use Rattle.run_audit_laws.proofs.RangedDevices.{Ranged, device_ranged, few_programs}
 use Rattle.run_audit_laws.proofs.RunEnds.{few_of}
 use Rattle.run_audit_laws.proofs.RangedEnds.{Answers, AnswersOnce, OrderIn}
-use Rattle.run_audit_laws.proofs.RangedSteps.{WorkAsked, WorkIn}
+use Rattle.run_audit_laws.proofs.RangedSteps.{WorkIn}
 use Rattle.run_audit_laws.proofs.RangedWork.{track_in_range}
 
--- with what isn't shown of it, it is in its ranges
-abbrev pub Known : ReportLine → Type 0
-Known line = RestIsIn line → IsLine line
-
-pub one : (line : ReportLine) → Known line → All Known (line ∷ [])
-one line is = All-cons Known line [] is (All-nil Known)
+pub one : (line : ReportLine) → IsLine line → All IsLine (line ∷ [])
+one line is = All-cons IsLine line [] is (All-nil IsLine)
 
 abbrev HasPath : RunningProgram → Type 0
 HasPath r = IsPath r.path × IsShort r.ordinal
@@ -73,39 +68,39 @@ HasNames (did.Ordered order a) = IsOrder order × IsAnswer a
 
 -- What an event did
 
-data_known : (bytes : List ℕ) → All Known (data_lines bytes)
-data_known [] = All-nil Known
-data_known (b ∷ bytes) = one (lines.Data (b ∷ bytes)) (λ r. r)
+data_known : (bytes : List ℕ) → IsBytes bytes → All IsLine (data_lines bytes)
+data_known [] i = All-nil IsLine
+data_known (b ∷ bytes) i = one (lines.Data (b ∷ bytes)) i
 
-sense_known : (o : Option Sense) → IfSome o (λ sense. AreBytes 32 sense.bytes) → All Known (sense_lines o)
-sense_known (Some sense) i = one (lines.Sense sense) (λ r. i)
-sense_known None i = All-nil Known
+sense_known : (o : Option Sense) → IfSome o (λ sense. AreBytes 32 sense.bytes) → All IsLine (sense_lines o)
+sense_known (Some sense) i = one (lines.Sense sense) i
+sense_known None i = All-nil IsLine
 
-end_known : (path d n : ℕ) (e : CommandEnd) → IsPath path → IsDevice d → IsShort n → EndIn e → Known (lines.End (end_line path d n e))
-end_known path d n e p k o i = λ r. record { path = p; device = k; ordinal = o; index = i.index; status = i.status; residual = i.residual }
+end_known : (path d n : ℕ) (e : CommandEnd) → IsPath path → IsDevice d → IsShort n → EndIn e → IsLine (lines.End (end_line path d n e))
+end_known path d n e p k o i = record { path = p; device = k; ordinal = o; index = i.index; status = i.status; residual = i.residual }
 
-first_known : (h : report.Happened) → HasNames h → All Known (first_lines h)
-first_known (did.Started path d a) n = one (lines.Start path d a) (λ r. n)
+first_known : (h : report.Happened) → HasNames h → All IsLine (first_lines h)
+first_known (did.Started path d a) n = one (lines.Start path d a) n
 first_known (did.Ended path d n e) k =
-    All-append Known (lines.End (end_line path d n e) ∷ []) (data_lines e.sent ++ sense_lines e.sense)
+    All-append IsLine (lines.End (end_line path d n e) ∷ []) (data_lines e.sent ++ sense_lines e.sense)
     (one (lines.End (end_line path d n e)) (end_known path d n e k.0 k.1 k.2 k.3))
-    (All-append Known (data_lines e.sent) (sense_lines e.sense) (data_known e.sent) (sense_known e.sense k.3.sense))
-first_known (did.Half path d t) n = one (lines.Half path d t) (λ r. n)
-first_known (did.Back d a) n = one (lines.Back d a) (λ r. n)
-first_known (did.StepIdle d) n = one (lines.StepIdle d) (λ r. n)
-first_known (did.RunIdle d) n = one (lines.RunIdle d) (λ r. n)
-first_known (did.Reset path d) n = All-nil Known
-first_known (did.Ordered order a) n = All-nil Known
+    (All-append IsLine (data_lines e.sent) (sense_lines e.sense) (data_known e.sent k.3.sent) (sense_known e.sense k.3.sense))
+first_known (did.Half path d t) n = one (lines.Half path d t) n
+first_known (did.Back d a) n = one (lines.Back d a) n
+first_known (did.StepIdle d) n = one (lines.StepIdle d) n
+first_known (did.RunIdle d) n = one (lines.RunIdle d) n
+first_known (did.Reset path d) n = All-nil IsLine
+first_known (did.Ordered order a) n = All-nil IsLine
 
-last_known : (h : report.Happened) → HasNames h → All Known (line_if (last_line h))
-last_known (did.Started path d a) n = All-nil Known
-last_known (did.Ended path d n e) k = All-nil Known
-last_known (did.Half path d t) n = All-nil Known
-last_known (did.Back d a) n = All-nil Known
-last_known (did.StepIdle d) n = All-nil Known
-last_known (did.RunIdle d) n = All-nil Known
-last_known (did.Reset path d) n = one (lines.Reset path d) (λ r. n)
-last_known (did.Ordered order a) n = one (lines.Order order a) (λ r. n)
+last_known : (h : report.Happened) → HasNames h → All IsLine (line_if (last_line h))
+last_known (did.Started path d a) n = All-nil IsLine
+last_known (did.Ended path d n e) k = All-nil IsLine
+last_known (did.Half path d t) n = All-nil IsLine
+last_known (did.Back d a) n = All-nil IsLine
+last_known (did.StepIdle d) n = All-nil IsLine
+last_known (did.RunIdle d) n = All-nil IsLine
+last_known (did.Reset path d) n = one (lines.Reset path d) n
+last_known (did.Ordered order a) n = one (lines.Order order a) n
 
 module _ (d : ℕ) (k : IsDevice d) where
   end_names : (r : Option RunningProgram) → IfSome r HasPath → (e : CommandEnd) → EndIn e → HasNames (end_told d r e)
@@ -158,27 +153,27 @@ module _ (xs : List MarksDevice) (all : All Ranged xs) where
   path_in : (d : ℕ) → IfSome (running_in xs d) HasPath
   path_in d = running_path (device_in xs d) (device_ranged xs d all)
 
-  once_names : (end : EventEnd) (e : Event) → Names (Once e) → AnswersOnce e end → WorkAsked (Once e) end → Repairs e end → HasNames (told xs end (Once e))
-  once_names end (events.Start path d) n a o w = (n.0, n.1, a)
-  once_names end (events.Step d) n a o w = work_names d n (running_in xs d) (path_in d) (did.StepIdle d) n end a o
-  once_names end (events.Back d) n a o w = work_names d n (running_in xs d) (path_in d) (did.Back d back.Nothing) (n, tt) end a o
-  once_names end (events.Reset path d) n a o w = n
-  once_names end events.FailCache n a o w = (tt, a)
-  once_names end events.FailStore n a o w = (tt, a)
-  once_names end (events.FailVolume d side) n a o w = (n, a)
-  once_names end events.RepairCache n a o w = (tt, w)
-  once_names end events.RepairStore n a o w = (tt, w)
-  once_names end (events.Pair x y) n a o w = (n, a)
-  once_names end (events.Suspend x) n a o w = (n, a)
-  once_names end (events.Resume x) n a o w = (n, a)
-  once_names end events.Power n a o w = (tt, a)
+  once_names : (end : EventEnd) (e : Event) → Names (Once e) → AnswersOnce e end → Repairs e end → HasNames (told xs end (Once e))
+  once_names end (events.Start path d) n a w = (n.0, n.1, a)
+  once_names end (events.Step d) n a w = work_names d n (running_in xs d) (path_in d) (did.StepIdle d) n end a.0 a.1
+  once_names end (events.Back d) n a w = work_names d n (running_in xs d) (path_in d) (did.Back d back.Nothing) (n, tt) end a.0 a.1
+  once_names end (events.Reset path d) n a w = n
+  once_names end events.FailCache n a w = (tt, a)
+  once_names end events.FailStore n a w = (tt, a)
+  once_names end (events.FailVolume d side) n a w = (n, a)
+  once_names end events.RepairCache n a w = (tt, w)
+  once_names end events.RepairStore n a w = (tt, w)
+  once_names end (events.Pair x y) n a w = (n, a)
+  once_names end (events.Suspend x) n a w = (n, a)
+  once_names end (events.Resume x) n a w = (n, a)
+  once_names end events.Power n a w = (tt, a)
 
-  told_names : (end : EventEnd) (asked : Asked) → Names asked → Answers asked end → WorkAsked asked end → RepairsIn asked end → HasNames (told xs end asked)
-  told_names end (Once e) n a o w = once_names end e n a o w
-  told_names end (Replace d side) n a o w = (n, a)
-  told_names end (Unpair x) n a o w = (n, a)
-  told_names end (Run d) n a o w = work_names d n (running_in xs d) (path_in d) (did.RunIdle d) n end a o
-  told_names end (Settle d) n a o w = work_names d n (running_in xs d) (path_in d) (did.Back d back.Nothing) (n, tt) end a o
+  told_names : (end : EventEnd) (asked : Asked) → Names asked → Answers asked end → RepairsIn asked end → HasNames (told xs end asked)
+  told_names end (Once e) n a w = once_names end e n a w
+  told_names end (Replace d side) n a w = (n, a)
+  told_names end (Unpair x) n a w = (n, a)
+  told_names end (Run d) n a w = work_names d n (running_in xs d) (path_in d) (did.RunIdle d) n end a.0 a.1
+  told_names end (Settle d) n a w = work_names d n (running_in xs d) (path_in d) (did.Back d back.Nothing) (n, tt) end a.0 a.1
 
 -- Beside it
 
@@ -195,15 +190,15 @@ id_bytes n short = record { count = refl; each = each } where
   each (suc zero) = omega arith
   each (suc (suc i)) = omega arith
 
-one_loosed : (d : ℕ) → IsDevice d → (l : LooseTold) → TellsIn l → Known (loosed_line (loosed d l))
-one_loosed d k (Loosened t) i = λ r. (k, i)
-one_loosed d k (Hardened t) i = λ r. (k, i)
-one_loosed d k (WentBack count number) i = λ r. (k, (i.0, id_bytes number i.1))
+one_loosed : (d : ℕ) → IsDevice d → (l : LooseTold) → TellsIn l → IsLine (loosed_line (loosed d l))
+one_loosed d k (Loosened t) i = (k, i)
+one_loosed d k (Hardened t) i = (k, i)
+one_loosed d k (WentBack count number) i = (k, (i.0, id_bytes number i.1))
 
-loosed_known : (d : ℕ) → IsDevice d → (ls : List LooseTold) → Each TellsIn ls → All Known (map loosed_line (map (loosed d) ls))
-loosed_known d k [] i = All-nil Known
+loosed_known : (d : ℕ) → IsDevice d → (ls : List LooseTold) → Each TellsIn ls → All IsLine (map loosed_line (map (loosed d) ls))
+loosed_known d k [] i = All-nil IsLine
 loosed_known d k (l ∷ ls) i =
-    All-cons Known (loosed_line (loosed d l)) (map loosed_line (map (loosed d) ls)) (one_loosed d k l i.0) (loosed_known d k ls i.1)
+    All-cons IsLine (loosed_line (loosed d l)) (map loosed_line (map (loosed d) ls)) (one_loosed d k l i.0) (loosed_known d k ls i.1)
 
 module _ (x y : MarksDevice) (r : Ranged x) (s : Ranged y) where
   abbrev OnDevice : Act → Type 0
@@ -230,7 +225,7 @@ module _ (x y : MarksDevice) (r : Ranged x) (s : Ranged y) where
       each_behind OnDevice (length (acts_in x.history)) (acts_in y.history)
       (history_on y.store.cylinders s.some y.plans (empty_of y) y.history refl refl s.plain)
 
-  loose_known : All Known (loose_lines x y)
+  loose_known : All IsLine (loose_lines x y)
   loose_known =
       loosed_known x.store.device r.sized.device (loose_told x y)
       (acts_told (new_acts x.history y.history) new_on (power_told x.store y.store (has_power (new_items x.history y.history)))
@@ -272,54 +267,54 @@ rest_paths zero xs p = p
 rest_paths (suc n) [] p = tt
 rest_paths (suc n) (x ∷ xs) p = rest_paths n xs p.1
 
-over_known : (d : ℕ) → IsDevice d → (xs : List Item) → Each ItemHasPath xs → All Known (program_over_lines (over_of d xs))
-over_known d k [] p = All-nil Known
-over_known d k (items.Program e ∷ xs) p = one (lines.Over e.path d e.ordinal (how_over e.how)) (λ r. (p.0.0, k, p.0.1, p.0.2))
-over_known d k (items.Reset path ∷ xs) p = All-nil Known
-over_known d k (items.Fresh ∷ xs) p = All-nil Known
-over_known d k (items.Act act ∷ xs) p = All-nil Known
-over_known d k (items.Power ∷ xs) p = All-nil Known
+over_known : (d : ℕ) → IsDevice d → (xs : List Item) → Each ItemHasPath xs → All IsLine (program_over_lines (over_of d xs))
+over_known d k [] p = All-nil IsLine
+over_known d k (items.Program e ∷ xs) p = one (lines.Over e.path d e.ordinal (how_over e.how)) (p.0.0, k, p.0.1, p.0.2)
+over_known d k (items.Reset path ∷ xs) p = All-nil IsLine
+over_known d k (items.Fresh ∷ xs) p = All-nil IsLine
+over_known d k (items.Act act ∷ xs) p = All-nil IsLine
+over_known d k (items.Power ∷ xs) p = All-nil IsLine
 
-overs_known : (x y : MarksDevice) → Ranged x → Ranged y → All Known (over_lines x y)
+overs_known : (x y : MarksDevice) → Ranged x → Ranged y → All IsLine (over_lines x y)
 overs_known x y r s =
     over_known x.store.device r.sized.device (new_items x.history y.history)
     (rest_paths _ y.history.items (item_paths y.plans s.sized.plans (empty_of y) [] y.history.items s.plain.legal))
 
-power_known : (x y : MarksDevice) → Ranged x → Ranged y → All Known (power_lines x y)
-power_known x y r s = All-append Known (over_lines x y) (loose_lines x y) (overs_known x y r s) (loose_known x y r s)
+power_known : (x y : MarksDevice) → Ranged x → Ranged y → All IsLine (power_lines x y)
+power_known x y r s = All-append IsLine (over_lines x y) (loose_lines x y) (overs_known x y r s) (loose_known x y r s)
 
-each_known : (f : MarksDevice → MarksDevice → List ReportLine) → ((x y : MarksDevice) → Ranged x → Ranged y → All Known (f x y)) →
-    (xs ys : List MarksDevice) → All Ranged xs → All Ranged ys → All Known (of_each f xs ys)
-each_known f known [] ys r s = All-nil Known
-each_known f known (x ∷ xs) [] r s = All-nil Known
+each_known : (f : MarksDevice → MarksDevice → List ReportLine) → ((x y : MarksDevice) → Ranged x → Ranged y → All IsLine (f x y)) →
+    (xs ys : List MarksDevice) → All Ranged xs → All Ranged ys → All IsLine (of_each f xs ys)
+each_known f known [] ys r s = All-nil IsLine
+each_known f known (x ∷ xs) [] r s = All-nil IsLine
 each_known f known (x ∷ xs) (y ∷ ys) r s =
-    All-append Known (f x y) (of_each f xs ys) (known x y (All-head Ranged x xs r) (All-head Ranged y ys s))
+    All-append IsLine (f x y) (of_each f xs ys) (known x y (All-head Ranged x xs r) (All-head Ranged y ys s))
     (each_known f known xs ys (All-tail Ranged x xs r) (All-tail Ranged y ys s))
 
 -- An event
 
 module _ (reads writes : ℕ) (few : IsLong reads × IsLong writes) (xs ys : List MarksDevice) (before : All Ranged xs) (behind : All Ranged ys) where
-  io_known : All Known (io_lines reads writes)
+  io_known : All IsLine (io_lines reads writes)
   io_known = by_calls ((reads == 0) && (writes == 0)) where
-    by_calls : (b : Bool) → All Known (if b then [] else lines.Io reads writes ∷ [])
-    by_calls true = All-nil Known
-    by_calls false = one (lines.Io reads writes) (λ r. few)
+    by_calls : (b : Bool) → All IsLine (if b then [] else lines.Io reads writes ∷ [])
+    by_calls true = All-nil IsLine
+    by_calls false = one (lines.Io reads writes) few
 
-  work_known : (h : report.Happened) → HasNames h → All Known (work_lines h reads writes xs ys)
+  work_known : (h : report.Happened) → HasNames h → All IsLine (work_lines h reads writes xs ys)
   work_known h n =
       let last = line_if (last_line h) in
       let overs = of_each over_lines xs ys in
       let looses = of_each loose_lines xs ys in
       let io = io_lines reads writes in
-      All-append Known (first_lines h) (looses ++ (io ++ (overs ++ last))) (first_known h n)
-      (All-append Known looses (io ++ (overs ++ last)) (each_known loose_lines loose_known xs ys before behind)
-      (All-append Known io (overs ++ last) io_known
-      (All-append Known overs last (each_known over_lines overs_known xs ys before behind) (last_known h n))))
+      All-append IsLine (first_lines h) (looses ++ (io ++ (overs ++ last))) (first_known h n)
+      (All-append IsLine looses (io ++ (overs ++ last)) (each_known loose_lines loose_known xs ys before behind)
+      (All-append IsLine io (overs ++ last) io_known
+      (All-append IsLine overs last (each_known over_lines overs_known xs ys before behind) (last_known h n))))
 
-  pub event_known : (end : EventEnd) (asked : Asked) → Names asked → Answers asked end → WorkAsked asked end → RepairsIn asked end →
-      All Known (event_lines asked end reads writes xs ys)
-  event_known end asked n a o w = by_asked asked (told_names xs before end asked n a o w) where
-    by_asked : (asked : Asked) → HasNames (told xs end asked) → All Known (event_lines asked end reads writes xs ys)
+  pub event_known : (end : EventEnd) (asked : Asked) → Names asked → Answers asked end → RepairsIn asked end →
+      All IsLine (event_lines asked end reads writes xs ys)
+  event_known end asked n a w = by_asked asked (told_names xs before end asked n a w) where
+    by_asked : (asked : Asked) → HasNames (told xs end asked) → All IsLine (event_lines asked end reads writes xs ys)
     by_asked (Once (events.Start path d)) h = work_known (told xs end (Once (events.Start path d))) h
     by_asked (Once (events.Step d)) h = work_known (told xs end (Once (events.Step d))) h
     by_asked (Once (events.Back d)) h = work_known (told xs end (Once (events.Back d))) h
@@ -333,8 +328,8 @@ module _ (reads writes : ℕ) (few : IsLong reads × IsLong writes) (xs ys : Lis
     by_asked (Once (events.Suspend a)) h = work_known (told xs end (Once (events.Suspend a))) h
     by_asked (Once (events.Resume a)) h = work_known (told xs end (Once (events.Resume a))) h
     by_asked (Once events.Power) h =
-        All-append Known (of_each power_lines xs ys) (lines.Order orders.Power (order_answer end) ∷ []) (each_known power_lines power_known xs ys before behind)
-        (one (lines.Order orders.Power (order_answer end)) (λ r. h))
+        All-append IsLine (of_each power_lines xs ys) (lines.Order orders.Power (order_answer end) ∷ []) (each_known power_lines power_known xs ys before behind)
+        (one (lines.Order orders.Power (order_answer end)) h)
     by_asked (Replace d side) h = work_known (told xs end (Replace d side)) h
     by_asked (Unpair a) h = work_known (told xs end (Unpair a)) h
     by_asked (Run d) h = work_known (told xs end (Run d)) h

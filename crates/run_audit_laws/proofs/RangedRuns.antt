@@ -1,4 +1,4 @@
--- What is shown of the ranges of a whole report's lines.
+-- The lines of a whole report are in their ranges.
 use Rattle.std.proofs.Common.{◌≡◌, ◌≤◌, ◌<◌, ◌+◌, ◌*◌, ◌==◌, ◌++◌, zero, suc, ℕ, Bool, true, false, List, [], ◌∷◌, length, map, Option, Some, None, Ok, is_some, refl, sym, subst, inl, inr, if◌then◌else◌, arith}
 use Rattle.std.specs.Prelude.{◌^◌, All, IfSome}
 use Rattle.std.specs.List.{flat_map, range_with_len}
@@ -20,7 +20,6 @@ use Rattle.plain_defs.specs.PlainState.{PathsState, PlainState}
 use Rattle.report_places.specs.declared.state.Outline.{Outline}
 use Rattle.report_places.specs.Place.{holds, is_declared, outline_in}
 use Rattle.report_text.specs.declared.answers.DeviceTotals.TheVariants as totals
-use Rattle.report_text.specs.declared.line.ReportLine.{ReportLine}
 use Rattle.report_text.specs.declared.line.ReportLine.TheVariants as lines
 use Rattle.report_reading.specs.Ranges.{IsDevice, IsLine, IsLong, IsOwner}
 use Rattle.run_report.specs.Closing.{device_lines, ending_lines, frame_line}
@@ -49,21 +48,18 @@ use Rattle.subsystem_laws.proofs.RunLines.{Logs, lines_keep}
 use Rattle.subsystem_laws.proofs.RunLinks.{Linked, lines_linked}
 use Rattle.subsystem_laws.proofs.Waiting.{run_tells_of_waiting}
 use Rattle.subsystem_laws.proofs.Walks.{AreSo, both_behind, run_keeps}
-use Rattle.run_audit_laws.specs.Ranges.{RestIsIn}
 use Rattle.run_audit_laws.specs.Standing.{FramesAreDeclared, audited, stand}
 use Rattle.run_audit_laws.proofs.DeviceSizes.{Sized, first_sized, run_sized, sized_behind}
 use Rattle.run_audit_laws.proofs.FewDevices.{run_has_few}
 use Rattle.run_audit_laws.proofs.FramesOwned.{frames_are_declared}
 use Rattle.run_audit_laws.proofs.FrameTracks.{OnTrack, frames_have_tracks}
+use Rattle.run_audit_laws.proofs.KeptBytes.{KeepsBytes, empty_keeps, history_keeps}
 use Rattle.run_audit_laws.proofs.LooseNumbers.{count_short, number_short}
-use Rattle.run_audit_laws.proofs.NamedGroups.{AreNamed}
-use Rattle.run_audit_laws.proofs.NamedOpenings.{opening_named}
-use Rattle.run_audit_laws.proofs.NamedPrograms.{history_named}
 use Rattle.run_audit_laws.proofs.NamedEvents.{Names, run_names}
 use Rattle.run_audit_laws.proofs.RangedDevices.{Ranged, device_ranged}
 use Rattle.run_audit_laws.proofs.RangedEnds.{Answers, AnswersSo, OrderIn, answers_go}
-use Rattle.run_audit_laws.proofs.RangedLines.{Known, RepairsIn, event_known, one}
-use Rattle.run_audit_laws.proofs.RangedSteps.{WorkAsked, WorksSo, works_go, works_on}
+use Rattle.run_audit_laws.proofs.RangedLines.{RepairsIn, event_known, one}
+use Rattle.run_audit_laws.proofs.RangedSteps.{works_on}
 use Rattle.run_audit_laws.proofs.RangedWork.{WorksOn}
 
 -- The calls of an event
@@ -173,15 +169,6 @@ all_answer s (t ∷ ts) l g r =
     All-cons AnswersLogged t ts (g.0 (subst AllRanged l.0 (All-head BothRanged t ts r).0))
     (all_answer t.happened.behind ts l.1 g.1 (All-tail BothRanged t ts r))
 
-abbrev WorksLogged : Logged → Type 0
-WorksLogged t = WorkAsked t.asked t.happened.end
-
-all_work : (s : Subsystem) (ts : List Logged) → Linked s ts → Logs (λ s. Unit {0}) WorksSo s ts → All BothRanged ts → All WorksLogged ts
-all_work s [] l g r = All-nil WorksLogged
-all_work s (t ∷ ts) l g r =
-    All-cons WorksLogged t ts (g.0 (subst AllRanged l.0 (All-head BothRanged t ts r).0))
-    (all_work t.happened.behind ts l.1 g.1 (All-tail BothRanged t ts r))
-
 -- What a repair answers
 
 few_waiting : (k a b c : ℕ) → k ≤ 64 → a ≤ k * 15 → b ≤ c * 960 → a + b ≤ suc c * 960
@@ -238,39 +225,36 @@ pub record Shows (t : Logged) : Type 0 where
   pub names : NamesLogged t
   pub moves : MovesByTable t
   pub answers : AnswersLogged t
-  pub works : WorksLogged t
   pub waiting : TellsWaiting t
 
-one_known : (t : Logged) → Shows t → All Known (lines_of t)
+one_known : (t : Logged) → Shows t → All IsLine (lines_of t)
 one_known t k =
     let h = t.happened in
     let r = k.ranged in
     event_known h.reads h.writes (long_few h.reads h.writes (asked_calls h.reads h.writes t.asked h.before h.end r.0 k.moves)) (devices_of h.before)
-    (devices_of h.behind) r.0 r.1 h.end t.asked k.names k.answers k.works (repairs_in t r.0 k.few k.waiting)
+    (devices_of h.behind) r.0 r.1 h.end t.asked k.names k.answers (repairs_in t r.0 k.few k.waiting)
 
 all_known : (ts : List Logged) → All BothRanged ts → All IsFew ts → All NamesLogged ts → All MovesByTable ts → All AnswersLogged ts →
-    All WorksLogged ts → All TellsWaiting ts → All Known (flat_map lines_of ts)
-all_known [] r f n m a o w = All-nil Known
-all_known (t ∷ ts) r f n m a o w =
-    All-append Known (lines_of t) (flat_map lines_of ts)
+    All TellsWaiting ts → All IsLine (flat_map lines_of ts)
+all_known [] r f n m a w = All-nil IsLine
+all_known (t ∷ ts) r f n m a w =
+    All-append IsLine (lines_of t) (flat_map lines_of ts)
     (one_known t (record {
       ranged = All-head BothRanged t ts r;
       few = All-head IsFew t ts f;
       names = All-head NamesLogged t ts n;
       moves = All-head MovesByTable t ts m;
       answers = All-head AnswersLogged t ts a;
-      works = All-head WorksLogged t ts o;
       waiting = All-head TellsWaiting t ts w;
     }))
     (all_known ts (All-tail BothRanged t ts r) (All-tail IsFew t ts f) (All-tail NamesLogged t ts n) (All-tail MovesByTable t ts m)
-    (All-tail AnswersLogged t ts a) (All-tail WorksLogged t ts o) (All-tail TellsWaiting t ts w))
+    (All-tail AnswersLogged t ts a) (All-tail TellsWaiting t ts w))
 
 owner_in : (d : MarksDevice) → Sized d → Plainly d → IfSome d.paths.owner IsOwner
 owner_in d s p =
-    let none : AreNamed p.empty.paths = subst (λ (x : PlainState). AreNamed x.paths) (sym p.follows.base)
-    (record { states = (tt, (tt, (tt, (tt, tt)))); owner = tt }) in
+    let none = subst KeepsBytes (sym p.follows.base) (empty_keeps d.store.geometry d.store.cylinders) in
     subst (λ (x : PathsState). IfSome x.owner IsOwner) (sym p.follows.keeps)
-    (history_named d.plans (λ path ordinal i f z. opening_named f z _ (s.given path ordinal i)) p.empty d.history p.follows.stands.plain none).owner
+    (history_keeps d.plans (λ path ordinal. (s.words path ordinal).gives) p.empty d.history p.follows.stands.plain none).paths.named.owner
 
 record Fit (d : MarksDevice) : Type 0 where
   sized : Sized d
@@ -324,11 +308,11 @@ few_true : (f : ℕ → Bool) (a n : ℕ) → length (where_true f (range_with_l
 few_true f a zero = omega arith
 few_true f a (suc n) = few_if (f a) a n (where_true f (range_with_len (a + 1) n)) (few_true f (a + 1) n)
 
-lost_known : (d : ℕ) → IsDevice d → (k : ℕ) → k ≤ 64 → (ts : List ℕ) → All (Under (0 + k * 15)) ts → All Known (map (lines.Lost d) ts)
-lost_known d n k most [] all = All-nil Known
+lost_known : (d : ℕ) → IsDevice d → (k : ℕ) → k ≤ 64 → (ts : List ℕ) → All (Under (0 + k * 15)) ts → All IsLine (map (lines.Lost d) ts)
+lost_known d n k most [] all = All-nil IsLine
 lost_known d n k most (t ∷ ts) all =
     let less : t < 0 + k * 15 = All-head (Under (0 + k * 15)) t ts all in
-    All-cons Known (lines.Lost d t) (map (lines.Lost d) ts) (λ r. (n, omega (arith, most, less)))
+    All-cons IsLine (lines.Lost d t) (map (lines.Lost d) ts) (n, omega (arith, most, less))
     (lost_known d n k most ts (All-tail (Under (0 + k * 15)) t ts all))
 
 module _ (s : MarksStore) (number : IsDevice s.device) (small : s.cylinders ≤ 64) (reads : s.counts.reads ≤ 1033065725952)
@@ -336,11 +320,11 @@ module _ (s : MarksStore) (number : IsDevice s.device) (small : s.cylinders ≤ 
   few_lost : length (lost_tracks s) < 2 ^ 16
   few_lost = let few = few_true (is_lost s) 0 (s.cylinders * 15) in omega (arith, few, small)
 
-  end_known : (o : Option ℕ) → IfSome o IsDevice → All Known (device_lines (device_end_by s o))
-  end_known (Some to) lent = one (lines.Device s.device (totals.Lent to)) (λ r. (number, lent))
+  end_known : (o : Option ℕ) → IfSome o IsDevice → All IsLine (device_lines (device_end_by s o))
+  end_known (Some to) lent = one (lines.Device s.device (totals.Lent to)) (number, lent)
   end_known None lent =
-      All-cons Known (lines.Device s.device (totals.Calls s.counts.reads s.counts.writes (length (lost_tracks s)))) (map (lines.Lost s.device) (lost_tracks s))
-      (λ r. (number, (omega (arith, reads), omega (arith, writes), few_lost)))
+      All-cons IsLine (lines.Device s.device (totals.Calls s.counts.reads s.counts.writes (length (lost_tracks s)))) (map (lines.Lost s.device) (lost_tracks s))
+      (number, (omega (arith, reads), omega (arith, writes), few_lost))
       (lost_known s.device number s.cylinders small (lost_tracks s) (more_track (is_lost s) 0 (s.cylinders * 15)))
 
 abbrev FewReads : MarksDevice → Type 0
@@ -353,10 +337,10 @@ abbrev mounted_devices : List Mounted → List MarksDevice
 mounted_devices ms = map (λ (m : Mounted). m.device) ms
 
 ends_known : (ms : List Mounted) → AreSo Sized ms → AllSo FewReads (mounted_devices ms) → AllSo FewWrites (mounted_devices ms) →
-    All Known (flat_map device_lines (map device_end ms))
-ends_known [] s r w = All-nil Known
+    All IsLine (flat_map device_lines (map device_end ms))
+ends_known [] s r w = All-nil IsLine
 ends_known (m ∷ ms) s r w =
-    All-append Known (device_lines (device_end m)) (flat_map device_lines (map device_end ms))
+    All-append IsLine (device_lines (device_end m)) (flat_map device_lines (map device_end ms))
     (end_known m.device.store s.0.device s.0.cylinders r.0 w.0 m.device.store.lent s.0.lent) (ends_known ms s.1 r.1 w.1)
 
 -- a declared device is one that is mounted
@@ -376,17 +360,17 @@ module _ (s : Subsystem) (sized : AreSo Sized s.mounted) where
   abbrev IsDeclared : Frame → Type 0
   IsDeclared f = is_declared (outlines (stand s [])) f.0.0 ≡ true
 
-  frames_known : (fs : List Frame) → All IsDeclared fs → All OnTrack fs → All Known (map frame_line fs)
-  frames_known [] all on = All-nil Known
+  frames_known : (fs : List Frame) → All IsDeclared fs → All OnTrack fs → All IsLine (map frame_line fs)
+  frames_known [] all on = All-nil IsLine
   frames_known (f ∷ fs) all on =
-      All-cons Known (frame_line f) (map frame_line fs) (λ r. (declared_device s.mounted sized f.0.0 (All-head IsDeclared f fs all), All-head OnTrack f fs on))
+      All-cons IsLine (frame_line f) (map frame_line fs) (declared_device s.mounted sized f.0.0 (All-head IsDeclared f fs all), All-head OnTrack f fs on)
       (frames_known fs (All-tail IsDeclared f fs all) (All-tail OnTrack f fs on))
 
-  ending_known : FramesAreDeclared s → All OnTrack s.pool.frames → AllSo FewReads (devices_of s) → AllSo FewWrites (devices_of s) → All Known (ending_lines (ending s))
+  ending_known : FramesAreDeclared s → All OnTrack s.pool.frames → AllSo FewReads (devices_of s) → AllSo FewWrites (devices_of s) → All IsLine (ending_lines (ending s))
   ending_known frames on reads writes =
       let e = ending s in
-      All-append Known (flat_map device_lines e.devices) (map frame_line e.frames ++ lines.Finish ∷ []) (ends_known s.mounted sized reads writes)
-      (All-append Known (map frame_line e.frames) (lines.Finish ∷ []) (frames_known e.frames frames on) (one lines.Finish (λ r. tt)))
+      All-append IsLine (flat_map device_lines e.devices) (map frame_line e.frames ++ lines.Finish ∷ []) (ends_known s.mounted sized reads writes)
+      (All-append IsLine (map frame_line e.frames) (lines.Finish ∷ []) (frames_known e.frames frames on) (one lines.Finish tt))
 
 -- The whole
 
@@ -396,7 +380,7 @@ module _ (text : List ℕ) (deck : DeckLines) (read : parsed text ≡ Ok deck) w
       let devices = (read_served text deck read).devices in
       all_so (opened deck).mounted (opened_plain deck deck.devices devices) (first_sized text deck read) (opened_good deck deck.devices devices)
 
-  events_known : All Known (lines_of_run (run_of deck))
+  events_known : All IsLine (lines_of_run (run_of deck))
   unfolding D.run_asked
   events_known =
       let asked = map asked_by deck.events in
@@ -409,21 +393,11 @@ module _ (text : List ℕ) (deck : DeckLines) (read : parsed text ≡ Ok deck) w
       in
       all_known ts ranged (run_has_few text deck read) (run_names text deck read) (run_moves deck)
       (all_answer (opened deck) ts linked (lines_keep (λ s. Unit {0}) AnswersSo answers_go asked (opened deck) tt) ranged)
-      (all_work (opened deck) ts linked (lines_keep (λ s. Unit {0}) WorksSo works_go asked (opened deck) tt) ranged)
       (run_tells_of_waiting deck (read_served text deck read) (read_numbered text deck read))
 
-  pub report_known : All Known (report_lines (run_of deck))
-  report_known =
+  pub report_is_in_range : All IsLine (report_lines (run_of deck))
+  report_is_in_range =
       let r = run_of deck in
-      All-append Known (lines_of_run r) (ending_lines (ending r.behind)) events_known
+      All-append IsLine (lines_of_run r) (ending_lines (ending r.behind)) events_known
       (ending_known r.behind (sized_behind text deck read) (frames_are_declared deck) (frames_have_tracks text deck read) (read_run_reads_few text deck read)
       (read_run_writes_few text deck read))
-
-known_are : (ls : List ReportLine) → All Known ls → All RestIsIn ls → All IsLine ls
-known_are [] known rest = All-nil IsLine
-known_are (l ∷ ls) known rest =
-    All-cons IsLine l ls (All-head Known l ls known (All-head RestIsIn l ls rest)) (known_are ls (All-tail Known l ls known) (All-tail RestIsIn l ls rest))
-
-pub report_is_in_range : (text : List ℕ) (deck : DeckLines) → parsed text ≡ Ok deck → All RestIsIn (report_lines (run_of deck)) →
-    All IsLine (report_lines (run_of deck))
-report_is_in_range text deck read rest = known_are (report_lines (run_of deck)) (report_known text deck read) rest

@@ -9,8 +9,7 @@ use Rattle.ckd_chain.specs.Steps.{need_of, stepped}
 use Rattle.plain_defs.specs.History.{OpenEntry}
 use Rattle.track_image.specs.Image.{Image}
 use Rattle.track_table.specs.Tracks.{least}
-use Rattle.device_outside.specs.Interaction.{Ask, Done, Interaction, Read, Tell, Try, Write, and_then}
-use Rattle.device_outside.specs.Keeper.{reply}
+use Rattle.device_outside.specs.Interaction.{Done, Interaction, and_then}
 use Rattle.device_defs.specs.declared.answers.Came.{Came}
 use Rattle.device_defs.specs.declared.answers.Came.TheVariants as came
 use Rattle.device_defs.specs.declared.answers.Did.{Did}
@@ -61,18 +60,20 @@ use Rattle.device_defs.specs.Losses.{call_failed, framed_image}
 use Rattle.device_defs.specs.Marks.{MarksDevice, MarksStore}
 use Rattle.device_defs.specs.Memory.{had_by}
 use Rattle.device_defs.specs.Outcomes.{Turn, told_step, usage_of, wrote_turn}
-use Rattle.device_defs.specs.Owed as O
-use Rattle.device_defs.specs.Owed.{begun, dropped, ended, hear, heard, is_clean, waiting_count, waits}
+use Rattle.device_defs.specs.Owed.{begun, ended, hear, waiting_count, waits}
 use Rattle.device_defs.specs.Second.{second_part}
-use Rattle.device_defs.specs.Store.{HalfWrite, OfBackground, OfCommand, OfCut, Origin, frame_at, is_lost, some_up, tracks_of, with_frame}
+use Rattle.device_defs.specs.Store.{HalfWrite, OfBackground, OfCommand, OfCut, Origin, frame_at, is_lost, some_up, tracks_of}
 use Rattle.device_defs.specs.Writing.{firm_first, opened, write_done, write_first}
 use Rattle.device_laws.specs.InOrder.{AreBelow}
 use Rattle.device_laws.specs.Standing.{IsWithin}
 use Rattle.device_laws.proofs.ChainTracks.{whole_cylinders, within_stays}
-use Rattle.device_laws.proofs.Had.{BehindHad, Had, had_ask, had_done, had_if, had_read, had_then, had_try, had_write}
+use Rattle.device_laws.proofs.Had.{Had, had_ask, had_done, had_if, had_read, had_then, had_try, had_write}
 use Rattle.device_laws.proofs.Working.{least_found}
 use Rattle.report_reading.specs.Ranges.{IsBack, IsTrack}
 use Rattle.run_report.specs.Answers.{back_answer}
+use Rattle.device_laws.proofs.KeptEvents.{always_any}
+use Rattle.device_laws.proofs.PlainEvents.{had_always}
+use Rattle.device_laws.proofs.PoolWalks.{asks_had, hear_asks}
 
 -- what it works on is on the device, of at most 960 tracks
 pub record WorksOn (d : MarksDevice) : Type 0 where
@@ -87,17 +88,8 @@ track_in_range k t small lt = omega (arith, small, lt)
 
 -- Whatever is done
 
-any_behind : {R I S A : Type 0} (i : Interaction R I S A) → BehindHad i (λ s a. Unit {0})
-unfolding BehindHad
-any_behind (Done s a) = tt
-any_behind (Try k) = any_behind (k true)
-any_behind (Ask call k) = λ a. any_behind (k a)
-any_behind (Read side t k) = λ got. any_behind (k got)
-any_behind (Write side t r k) = λ ok. any_behind (k ok)
-any_behind (Tell m k) = any_behind (k (reply m))
-
 any_had : {R I S A : Type 0} (i : Interaction R I S A) → Had i (λ s a. Unit {0})
-any_had i = record { holds = any_behind i }
+any_had i = had_always (always_any i)
 
 -- notes change nothing of it
 record Heard (s z : MarksStore) : Type 0 where
@@ -105,23 +97,10 @@ record Heard (s z : MarksStore) : Type 0 where
   queue : z.queue ≡ s.queue
   cylinders : z.cylinders ≡ s.cylinders
 
-kept_if : (b : Bool) (s y z : MarksStore) → Heard s y → Heard s z → Heard s (if b then y else z)
-kept_if true s y z k l = k
-kept_if false s y z k l = l
-
-dropped_heard : (s z : MarksStore) (t : ℕ) → Heard s z → Heard s (dropped by_plain z t)
-dropped_heard s z t k =
-    kept_if (is_clean by_plain (frame_at z t)) s (with_frame z t None) z (record { half = k.half; queue = k.queue; cylinders = k.cylinders }) k
-
-note_keeps : (n : ℕ) (s z : MarksStore) → Heard s z → ((y : MarksStore) → Heard s y → Had (hear by_plain n y) (λ x (_ : Unit {0}). Heard s x)) →
-    (o : Option ℕ) → Had (heard by_plain (hear by_plain n) z o) (λ y (_ : Unit {0}). Heard s y)
-note_keeps n s z k rest None = had_done k
-note_keeps n s z k rest (Some t) = rest (dropped by_plain z t) (dropped_heard s z t k)
-
-hear_keeps : (n : ℕ) (s z : MarksStore) → Heard s z → Had (hear by_plain n z) (λ y (_ : Unit {0}). Heard s y)
-unfolding O.hear
-hear_keeps zero s z k = had_done k
-hear_keeps (suc n) s z k = had_ask (note_keeps n s z k (λ y l. hear_keeps n s y l))
+heard_had : (s : MarksStore) → Had (hear by_plain 960 (begun s)) (λ y (_ : Unit {0}). Heard s y)
+heard_had s =
+    asks_had (hear_asks by_plain (Heard s) (λ z t clean k. record { half = k.half; queue = k.queue; cylinders = k.cylinders }) 960 (begun s)
+    (record { half = refl; queue = refl; cylinders = refl }))
 
 heard_works : (d : MarksDevice) (s : MarksStore) → Heard d.store s → WorksOn d → WorksOn (record (event_begun d) { store = s })
 heard_works d s k w = record {
@@ -136,7 +115,7 @@ heard_works d s k w = record {
 event_had : {A : Type 0} (P : A → Type 0) (d : MarksDevice) (body : MarksDevice → Interaction Bool Image MarksDevice A) → WorksOn d →
     ((z : MarksDevice) → WorksOn z → Had (body z) (λ y a. P a)) → Had (event by_plain d body) (λ y a. P a)
 event_had P d body w h =
-    had_then (had_then (hear_keeps 960 d.store (begun d.store) (record { half = refl; queue = refl; cylinders = refl }))
+    had_then (had_then (heard_had d.store)
     (λ s _ k. h (record (event_begun d) { store = s }) (heard_works d s k w)))
     (λ y a p. had_then (any_had (ended by_plain (waiting_count by_plain d.store) y.store)) (λ z _ _. had_done p))
 

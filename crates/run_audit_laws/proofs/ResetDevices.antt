@@ -8,7 +8,7 @@ use Rattle.plain_defs.specs.PlainState.{empty_state, reset_path}
 use Rattle.device_outside.specs.Interaction.{Done}
 use Rattle.device_defs.specs.Contents.{by_plain}
 use Rattle.device_defs.specs.Cutting as K
-use Rattle.device_defs.specs.Cutting.{counts_one_by, half_cut, origin_cut, path_cut, reset, reset_by, reset_noted}
+use Rattle.device_defs.specs.Cutting.{half_cut, origin_cut, path_cut, reset, reset_by, reset_noted}
 use Rattle.device_defs.specs.Marks.{MarksDevice, MarksStore}
 use Rattle.device_defs.specs.Store.{Origin, OfCommand, OfCut, OfBackground}
 use Rattle.device_defs.specs.Store as store

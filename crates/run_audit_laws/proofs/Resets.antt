@@ -28,7 +28,7 @@ use Rattle.std.proofs.Common.{
   inr,
 }
 use Rattle.std.specs.Prelude.{◌||◌, ◌&&◌, ◌⊎◌, IfSome, Ok, Err}
-use Rattle.std.proofs.lemmas.Bool.{eqb-true, eq-eqb, ne_eqb}
+use Rattle.std.proofs.lemmas.Bool.{eqb-true, eq-eqb, ne_eqb, and_from}
 use Rattle.ckd_types.specs.Parameters.{is_provisional}
 use Rattle.deck_plan.specs.declared.event.EventLine.{EventLine}
 use Rattle.deck_plan.specs.declared.event.EventLine.TheVariants as wanted
@@ -80,7 +80,7 @@ use Rattle.subsystem_defs.specs.Beside.{acts_in, acts_running, has_power, new_it
 use Rattle.subsystem_defs.specs.Deeds as E
 use Rattle.subsystem_defs.specs.Deeds.{Asks, device_in, ends_by, ends_done, on_device}
 use Rattle.subsystem_defs.specs.Happening as H
-use Rattle.subsystem_defs.specs.Happening.{Happened, asks, behind_outcome, happens, happens_by, held_with, mounted_behind, told_to}
+use Rattle.subsystem_defs.specs.Happening.{Happened, asks, happens, happens_by, held_with, mounted_behind, told_to}
 use Rattle.subsystem_defs.specs.Lines.{Once}
 use Rattle.subsystem_defs.specs.Subsystem.{Mounted, Subsystem, devices_of, mounted_in, with_mounted}
 use Rattle.subsystem_laws.proofs.FoundDevices.{number_found}
@@ -91,7 +91,7 @@ use Rattle.run_audit_laws.proofs.Found.{found_one, mounted_too, outline_one, put
 use Rattle.run_audit_laws.proofs.Leading.{EventLeads, first_judged, one_leads, then_some}
 use Rattle.run_audit_laws.proofs.Quiet.{cut_acts, cut_items, no_power, none_loose, reset_acts}
 use Rattle.run_audit_laws.proofs.ResetDevices.{HasParts, audited_by, reset_half, reset_parts}
-use Rattle.run_audit_laws.proofs.Saying.{both, same_number}
+use Rattle.run_audit_laws.proofs.Saying.{same_number}
 
 -- What a command may edit, as the audit tests it
 
@@ -102,6 +102,17 @@ by_loose false p h = refl
 pub legal_by : (p : Part) (edit : Option TrackEdit) → MayEdit p.state p.stance edit → is_edit_legal p edit ≡ true
 legal_by p (Some e) h = by_loose (is_loose p.state e.track) (is_provisional p.stance.extent) h
 legal_by p None h = refl
+
+-- where the cut of a half write counts one command more, that command may be so
+pub next_legal : (x : MarksDevice) (p : Plainly x) (o : OpenEntry) → x.history.running ≡ Some o → counts_one_by x.store.half ≡ 1 →
+    is_next_legal (audited x) x.history.running ≡ true
+next_legal x p o running one =
+    ap (λ (r : Option OpenEntry). is_next_legal (audited x) r) running
+    ∙ legal_by (part_of_open (audited x) o) (edit_of (audited x) o)
+    (subst (λ (b : PlainState). MayEdit (open_part x.plans (replay x.plans b x.history.items) o).state
+    (open_part x.plans (replay x.plans b x.history.items) o).stance
+    (next_edit o.path (program_of x.plans o.path o.ordinal) (open_part x.plans (replay x.plans b x.history.items) o))) p.follows.base
+    (subst (λ (k : ℕ). MayTake x.plans (replay x.plans p.empty x.history.items) o k) one (may p.number p.empty x p.follows o running)))
 
 -- Of a history alone
 
@@ -174,6 +185,12 @@ reset_had x path =
     had_then (had_both (had_always (reset_parts x path)) (had_always (reset_tells by_plain x path)))
     (λ y a g. had_done (record { parts = g.0; history = g.1.history; done = refl }))
 
+abbrev Leads : Subsystem → ℕ → ℕ → MarksDevice → List EventLine → Type 0
+Leads s path n x later =
+    (m : Mounted) → m.device ≡ x → mounted_in s.mounted n ≡ Some m → (z : Mounted) (end : Option EventEnd) → IsReset x z.device path end →
+    LeadsBy (stand s (wanted.Reset path n ∷ later))
+    (work_lines (did.Reset path n) 0 0 (devices_of s) (devices_of (with_mounted s n z))) (stand (with_mounted s n z) later)
+
 module _ (s : Subsystem) (plain : ArePlain s.mounted) (path n : ℕ) (x : MarksDevice) (at : device_in (devices_of s) n ≡ Some x) (later : List EventLine) where
   number_is : x.store.device ≡ n
   number_is = number_found s.mounted n x at
@@ -199,7 +216,7 @@ module _ (s : Subsystem) (plain : ArePlain s.mounted) (path n : ℕ) (x : MarksD
       (then_some _ (audited x) (reset_made from line path) (found_one (devices_of s) n x at) ∙ makes)
 
   is_reset_line : ((path == path) && (n == n)) ≡ true
-  is_reset_line = both (path == path) (n == n) (same_number path) (same_number n)
+  is_reset_line = and_from (path == path) (n == n) (same_number path) (same_number n)
 
   -- The reset of another path, or while nothing runs
 
@@ -215,9 +232,7 @@ module _ (s : Subsystem) (plain : ArePlain s.mounted) (path n : ℕ) (x : MarksD
     half_by_running (Some o) is = ap (λ (b : Bool). if b then cut_half (half_by x.store.half) else half_by x.store.half) (other o is)
     half_by_running None is = refl
 
-    pub other_leads : (m : Mounted) → m.device ≡ x → mounted_in s.mounted n ≡ Some m → (z : Mounted) (end : Option EventEnd) → IsReset x z.device path end →
-        LeadsBy (stand s (wanted.Reset path n ∷ later))
-        (work_lines (did.Reset path n) 0 0 (devices_of s) (devices_of (with_mounted s n z))) (stand (with_mounted s n z) later)
+    pub other_leads : Leads s path n x later
     other_leads m it_is there z end g =
         let y = z.device in
         let k = history_reset x.history path 0 in
@@ -247,19 +262,6 @@ module _ (s : Subsystem) (plain : ArePlain s.mounted) (path n : ℕ) (x : MarksD
     path_is : o.path ≡ path
     path_is = eqb-true o.path path own
 
-    base : plainly.empty ≡ (audited x).empty
-    base = plainly.follows.base
-
-    legal : counts_one_by x.store.half ≡ 1 → is_next_legal (audited x) x.history.running ≡ true
-    legal one =
-        ap (λ (r : Option OpenEntry). is_next_legal (audited x) r) running
-        ∙ legal_by (part_of_open (audited x) o) (edit_of (audited x) o)
-        (subst (λ (b : PlainState). MayEdit (open_part x.plans (replay x.plans b x.history.items) o).state
-        (open_part x.plans (replay x.plans b x.history.items) o).stance
-        (next_edit o.path (program_of x.plans o.path o.ordinal) (open_part x.plans (replay x.plans b x.history.items) o))) base
-        (subst (λ (k : ℕ). MayTake x.plans (replay x.plans plainly.empty x.history.items) o k) one
-        (may plainly.number plainly.empty x plainly.follows o running)))
-
     abbrev over_line : ReportLine
     over_line = lines.Over o.path x.store.device o.ordinal (how.Cut (length o.ends + more))
 
@@ -283,7 +285,7 @@ module _ (s : Subsystem) (plain : ArePlain s.mounted) (path n : ℕ) (x : MarksD
         else if (length o.ends + 1 == length o.ends + 1) && is_next_legal (audited x) x.history.running then Some (cut_to 1) else None)
         (ne_eqb (length o.ends + 1) (length o.ends) far)
         ∙ ap (λ (b : Bool). if b then Some (cut_to 1) else None)
-        (both (length o.ends + 1 == length o.ends + 1) (is_next_legal (audited x) x.history.running) (same_number (length o.ends + 1)) is)
+        (and_from (length o.ends + 1 == length o.ends + 1) (is_next_legal (audited x) x.history.running) (same_number (length o.ends + 1)) is)
 
     few : (h : Option (store.HalfWrite (Unit {0}))) → (counts_one_by h ≡ 0) ⊎ (counts_one_by h ≡ 1)
     few (Some h) = by_test (is_of_command h.origin) where
@@ -299,24 +301,22 @@ module _ (s : Subsystem) (plain : ArePlain s.mounted) (path n : ℕ) (x : MarksD
           M.cut_by (stand s (wanted.Reset path n ∷ later)) (audited x) o (length o.ends + counts_one_by x.store.half)
           ≡ Some (cut_to (counts_one_by x.store.half))
       by_count (inl none) = subst (λ (k : ℕ). M.cut_by from (audited x) o (length o.ends + k) ≡ Some (cut_to k)) (sym none) cut_zero
-      by_count (inr one) = subst (λ (k : ℕ). M.cut_by from (audited x) o (length o.ends + k) ≡ Some (cut_to k)) (sym one) (cut_one (legal one))
+      by_count (inr one) = subst (λ (k : ℕ). M.cut_by from (audited x) o (length o.ends + k) ≡ Some (cut_to k)) (sym one) (cut_one (next_legal x plainly o running one))
 
     over_judged : judged (stand s (wanted.Reset path n ∷ later)) over_line ≡ Ok (cut_to more)
     over_judged =
         first_is over_line (cut_to more)
         (ap (λ (r : Option OpenEntry). may_reset path n (outline_of (audited x)) over_line (open_program r)) running
         ∙ ap (λ (b : Bool). if b then is_cut n (record { path = o.path; ordinal = o.ordinal }) over_line else false) own
-        ∙ both ((o.path == o.path) && (x.store.device == n)) (o.ordinal == o.ordinal)
-        (both (o.path == o.path) (x.store.device == n) (same_number o.path) (eq-eqb x.store.device n number_is)) (same_number o.ordinal))
+        ∙ and_from ((o.path == o.path) && (x.store.device == n)) (o.ordinal == o.ordinal)
+        (and_from (o.path == o.path) (x.store.device == n) (same_number o.path) (eq-eqb x.store.device n number_is)) (same_number o.ordinal))
         (then_some x.history.running o (λ (k : OpenEntry). M.cut_by from (audited x) k (length o.ends + more)) running ∙ cut_made)
 
     reset_judged : (t : AuditState) → passed (cut_to more) ≡ t → judged (cut_to more) (lines.Reset path n) ≡ Ok t
     reset_judged t is =
         ap (λ (b : Bool). if b then Ok (passed (cut_to more)) else Err Place) is_reset_line ∙ ap (λ (u : AuditState). Ok u) is
 
-    pub own_leads : (m : Mounted) → m.device ≡ x → mounted_in s.mounted n ≡ Some m → (z : Mounted) (end : Option EventEnd) → IsReset x z.device path end →
-        LeadsBy (stand s (wanted.Reset path n ∷ later))
-        (work_lines (did.Reset path n) 0 0 (devices_of s) (devices_of (with_mounted s n z))) (stand (with_mounted s n z) later)
+    pub own_leads : Leads s path n x later
     own_leads m it_is there z end g =
         let y = z.device in
         let cut : y.history ≡ cut_by x.history o more = g.history ∙ own_reset x.history path more o running own in
@@ -347,16 +347,10 @@ module _ (s : Subsystem) (plain : ArePlain s.mounted) (path n : ℕ) (x : MarksD
         )
 
 module _ (s : Subsystem) (plain : ArePlain s.mounted) (path n : ℕ) (x : MarksDevice) (at : device_in (devices_of s) n ≡ Some x) where
-  by_running : (later : List EventLine) (r : Option OpenEntry) → x.history.running ≡ r →
-      (m : Mounted) → m.device ≡ x → mounted_in s.mounted n ≡ Some m → (z : Mounted) (end : Option EventEnd) → IsReset x z.device path end →
-      LeadsBy (stand s (wanted.Reset path n ∷ later))
-      (work_lines (did.Reset path n) 0 0 (devices_of s) (devices_of (with_mounted s n z))) (stand (with_mounted s n z) later)
+  by_running : (later : List EventLine) (r : Option OpenEntry) → x.history.running ≡ r → Leads s path n x later
   by_running later None none = other_leads s plain path n x at later (λ o is. absurd (let both_are : None ≡ Some o = sym none ∙ is in cc))
   by_running later (Some o) running = by_test (o.path == path) refl where
-    by_test : (b : Bool) → (o.path == path) ≡ b →
-        (m : Mounted) → m.device ≡ x → mounted_in s.mounted n ≡ Some m → (z : Mounted) (end : Option EventEnd) → IsReset x z.device path end →
-        LeadsBy (stand s (wanted.Reset path n ∷ later))
-        (work_lines (did.Reset path n) 0 0 (devices_of s) (devices_of (with_mounted s n z))) (stand (with_mounted s n z) later)
+    by_test : (b : Bool) → (o.path == path) ≡ b → Leads s path n x later
     by_test true own = own_leads s plain path n x at later o running own
     by_test false other =
         other_leads s plain path n x at later (λ k is. let same_open : Some o ≡ Some k = sym running ∙ is in

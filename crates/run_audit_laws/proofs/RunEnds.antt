@@ -1,7 +1,7 @@
 -- A RUN comes to its end: of the program that runs at most 4,096 commands end, each in two events, and a half write may be open from before.
 use Rattle.std.proofs.Common.{◌≡◌, ◌≤◌, ◌<◌, ◌+◌, ◌*◌, ◌==◌, ℕ, zero, suc, Bool, true, false, List, [], ◌∷◌, length, map, Option, Some, None, is_some, refl, sym, ap, subst, ◌∙◌, arith, inl, inr}
 use Rattle.std.specs.Prelude.{◌||◌, ◌⊎◌, IfSome, IsSome, if◌then◌else◌, nat_le, not}
-use Rattle.std.proofs.lemmas.Bool.{leb-false}
+use Rattle.std.proofs.lemmas.Bool.{leb-false, or_parts}
 use Rattle.ckd_types.specs.declared.channel.Ccw.{Ccw}
 use Rattle.ckd_types.specs.declared.channel.CommandEnd.{CommandEnd}
 use Rattle.ckd_types.specs.Ccw.{ccw_at}
@@ -13,7 +13,7 @@ use Rattle.plain_defs.specs.declared.journal.Acted.{Acted}
 use Rattle.plain_defs.specs.declared.journal.How.TheVariants.{Full}
 use Rattle.plain_defs.specs.Effect.{effect_on}
 use Rattle.plain_defs.specs.History as Y
-use Rattle.plain_defs.specs.History.{History, OpenEntry, acted_in, checked, checked_in, closed, ended_in, with_end}
+use Rattle.plain_defs.specs.History.{History, OpenEntry, acted_in, checked, closed, with_end}
 use Rattle.plain_defs.specs.Journal.{program_of, replay}
 use Rattle.plain_defs.specs.PlainState.{PlainState}
 use Rattle.plain_defs.specs.Program.{Part, first_part, one_more, part_of, stepped, stepped_at}
@@ -44,11 +44,11 @@ use Rattle.subsystem_defs.specs.declared.end.EventEnd.{EventEnd}
 use Rattle.subsystem_defs.specs.declared.end.EventEnd.TheVariants as ends
 use Rattle.subsystem_defs.specs.declared.event.Event.TheVariants as events
 use Rattle.subsystem_defs.specs.Deeds as E
-use Rattle.subsystem_defs.specs.Deeds.{Asks, Ends, device_in, end_of, ends_by, may_end_by, on_device, seconds as seconds_of, step}
+use Rattle.subsystem_defs.specs.Deeds.{Asks, Ends, device_in, end_of, may_end_by, on_device, seconds as seconds_of, step}
 use Rattle.subsystem_defs.specs.Happening as H
-use Rattle.subsystem_defs.specs.Happening.{Happened, Talk, asks, happens, happens_by, held_with, mounted_behind, quietly, told_to}
+use Rattle.subsystem_defs.specs.Happening.{Talk, asks, happens, happens_by, held_with, mounted_behind, quietly, told_to}
 use Rattle.subsystem_defs.specs.Lines as L
-use Rattle.subsystem_defs.specs.Lines.{Logged, Run, is_busy, last_behind, line_logged, logged, most_steps, step_logged, steps}
+use Rattle.subsystem_defs.specs.Lines.{Run, is_busy, last_behind, line_logged, logged, most_steps, step_logged, steps}
 use Rattle.subsystem_defs.specs.Subsystem.{Mounted, Subsystem, devices_of, mounted_in, number_of}
 use Rattle.subsystem_laws.proofs.FoundDevices.{number_found}
 use Rattle.subsystem_laws.proofs.PlainRuns.{ArePlain, Plainly, event_plain}
@@ -71,18 +71,10 @@ not_over : (b : Bool) (o : Option ℕ) → IsSome (if b then None else o) → b 
 not_over true o some = absurd (none_there None refl some)
 not_over false o some = refl
 
-or_right : (a b : Bool) → (a || b) ≡ false → b ≡ false
-or_right true b is = absurd (cc)
-or_right false b is = is
-
-or_left : (a b : Bool) → (a || b) ≡ false → a ≡ false
-or_left true b is = absurd (cc)
-or_left false b is = refl
-
 below_limit : (c : Ccw) (o : Outcome) → is_over c o ≡ false → o.stance.commands < 4096
 below_limit c o is =
     leb-false 4096 o.stance.commands
-    (or_left (nat_le 4096 o.stance.commands) (nat_le 1048576 o.stance.moved) (or_right (not (would_go_on c o.ending)) (at_limit o.stance) is))
+    (or_parts (nat_le 4096 o.stance.commands) (nat_le 1048576 o.stance.moved) (or_parts (not (would_go_on c o.ending)) (at_limit o.stance) is).1).0
 
 pub record Few (k : ℕ) (p : Part) : Type 0 where
   pub counted : p.stance.commands ≡ k

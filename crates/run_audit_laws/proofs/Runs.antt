@@ -2,6 +2,7 @@
 use Rattle.std.proofs.Common.{◌≡◌, ◌++◌, ℕ, List, [], ◌∷◌, Option, None, map, length, arith, refl, sym, ap, subst, ◌∙◌, append_assoc}
 use Rattle.std.specs.List.{flat_map}
 use Rattle.std.specs.Prelude.{Ok}
+use Rattle.ckd_types.specs.declared.paths.Side.{Side}
 use Rattle.deck_plan.specs.declared.event.EventLine.{EventLine}
 use Rattle.deck_plan.specs.declared.event.EventLine.TheVariants as events
 use Rattle.deck_text.specs.declared.line.DeviceLine.{DeviceLine}
@@ -18,24 +19,19 @@ use Rattle.subsystem_defs.specs.Closing.{ending}
 use Rattle.subsystem_defs.specs.Decks as D
 use Rattle.subsystem_defs.specs.Decks.{opened, opened_device, run_of}
 use Rattle.subsystem_defs.specs.Lines as L
-use Rattle.subsystem_defs.specs.Lines.{Asked, Logged, asked_by, last_behind, line_logged, run_lines}
+use Rattle.subsystem_defs.specs.Lines.{Logged, asked_by, last_behind, line_logged, run_lines}
 use Rattle.subsystem_defs.specs.Subsystem.{Mounted, Subsystem}
 use Rattle.report_places.specs.Place.{worker_of}
-use Rattle.run_audit_laws.specs.Runs.{
-  AllDo,
-  AllMayFollow,
-  LineDoes,
-  LineGoes,
-  MayFollow,
-  WholeLeads,
-  behind_lines,
-  line_behind,
-}
+use Rattle.subsystem_laws.proofs.PlainRuns.{ArePlain}
+use Rattle.run_audit_laws.specs.Runs.{LineDoes, LineGoes, WholeLeads, behind_lines, line_behind}
 use Rattle.run_audit_laws.specs.Standing.{FramesAreDeclared, HasDevice, LeadsBy, LineLeads, audited, stand}
 use Rattle.run_audit_laws.specs.Steps.{Reaches, is_there}
 use Rattle.run_audit_laws.proofs.SettleEnds.{settle_over}
 use Rattle.run_audit_laws.proofs.Endings.{ending_leads}
-use Rattle.run_audit_laws.proofs.NextLines.{exactly_from, to_the_end, towards_other}
+use Rattle.run_audit_laws.proofs.AlikeDevices.{alike_self}
+use Rattle.run_audit_laws.proofs.AlikeLines.{AlikeStates, AreAlike, leads_alike, second_self, states_then}
+use Rattle.run_audit_laws.proofs.FailedVolumes.{failure_leads}
+use Rattle.run_audit_laws.proofs.NextLines.{IsCalm, exactly_from, to_the_end, towards_other}
 use Rattle.run_audit_laws.proofs.Leading.{leads_on}
 use Rattle.run_audit_laws.proofs.Behind.{AllSo, IsBehind, deck_all_so}
 use Rattle.run_audit_laws.proofs.DeckEvents.{OfNamed}
@@ -62,84 +58,117 @@ behind_both s (t ∷ ts) us = behind_both t.happened.behind ts us
 not_longer : (e : EventLine) (later : List EventLine) → e ∷ later ≡ later → ⊥
 not_longer e later is = let more : length (e ∷ later) ≡ length later = ap length is in omega (arith, more)
 
--- where lines lead an audit: to where it stands behind an event line, or waits behind a piece of work of this device
+-- the audit stands beside the run before these events: its devices are alike those of a state that is where the run stands, or waits for the next
+-- line behind a piece of work of this device
+record IsBeside (n : Option ℕ) (s : Subsystem) (later : List EventLine) (u : AuditState) : Type 0 where
+  other : AuditState
+  alike : AlikeStates u other
+  reaches : Reaches n other (stand s later)
+
 record Onward (n : Option ℕ) (z : Subsystem) (later : List EventLine) (u : AuditState) (ls : List ReportLine) : Type 0 where
   to : AuditState
   leads : LeadsBy u ls to
-  reaches : Reaches n to (stand z later)
+  beside : IsBeside n z later to
+
+-- lines of an event line of which the run's devices are plain
+abbrev DoesPlainly : Subsystem → EventLine → Type 0
+DoesPlainly s e = LineDoes s e × ArePlain s.mounted
 
 module _ (before : Option ℕ) (s : Subsystem) (later : List EventLine) (u : AuditState) where
   abbrev lines_at : EventLine → List ReportLine
   lines_at e = flat_map lines_of (line_logged s (asked_by e))
 
   -- to where the run stands
-  exactly : (e : EventLine) → MayFollow before s e → Reaches before u (stand s (e ∷ later)) → LineLeads s e → (n : Option ℕ) →
+  exactly : (e : EventLine) → IsCalm e → IsBeside before s (e ∷ later) u → LineLeads s e → (n : Option ℕ) →
       Onward n (line_behind s e) later u (lines_at e)
-  exactly e may reaches leads n = record {
-    to = stand (line_behind s e) later;
-    leads = exactly_from s (e ∷ later) before may u reaches (line_behind s e) later (not_longer e later) (lines_at e) (leads later);
-    reaches = is_there refl;
-  }
+  exactly e calm b leads n =
+      let z = line_behind s e in
+      let t = stand z later in
+      let to = leads_alike (lines_at e) u b.other t b.alike
+      (exactly_from s (e ∷ later) before calm b.other b.reaches z later (not_longer e later) (lines_at e) (leads later)) in
+      record { to = to.0; leads = to.1; beside = record { other = t; alike = to.2; reaches = is_there refl } }
 
   -- or to where it waits
-  towards : (e : EventLine) → MayFollow before s e → Reaches before u (stand s (e ∷ later)) → LineGoes s e →
+  towards : (e : EventLine) → IsCalm e → IsBeside before s (e ∷ later) u → LineGoes s e →
       Onward (worker_of e) (line_behind s e) later u (lines_at e)
-  towards e may reaches goes =
-      let more = towards_other s (e ∷ later) before may u reaches (line_behind s e) later (not_longer e later) (lines_at e) (worker_of e) (goes later) in
-      record { to = more.0; leads = more.1; reaches = more.2 }
+  towards e calm b goes =
+      let more = towards_other s (e ∷ later) before calm b.other b.reaches (line_behind s e) later (not_longer e later) (lines_at e) (worker_of e) (goes later) in
+      let to = leads_alike (lines_at e) u b.other more.0 b.alike more.1 in
+      record { to = to.0; leads = to.1; beside = record { other = more.0; alike = to.2; reaches = more.2 } }
 
-one_line : (before : Option ℕ) (s : Subsystem) (later : List EventLine) (u : AuditState) (e : EventLine) → MayFollow before s e →
-    Reaches before u (stand s (e ∷ later)) → LineDoes s e → Onward (worker_of e) (line_behind s e) later u (flat_map lines_of (line_logged s (asked_by e)))
-one_line before s later u (events.Step d) may reaches does = towards before s later u (events.Step d) may reaches does
-one_line before s later u (events.Run d) may reaches does = towards before s later u (events.Run d) may reaches does
-one_line before s later u (events.Back d) may reaches does = towards before s later u (events.Back d) may reaches does
-one_line before s later u (events.Settle d) may reaches does = towards before s later u (events.Settle d) may reaches does
-one_line before s later u (events.Start path d) may reaches does = exactly before s later u (events.Start path d) may reaches does None
-one_line before s later u (events.Reset path d) may reaches does = exactly before s later u (events.Reset path d) may reaches does None
-one_line before s later u events.FailCache may reaches does = exactly before s later u events.FailCache may reaches does None
-one_line before s later u events.FailStore may reaches does = exactly before s later u events.FailStore may reaches does None
-one_line before s later u (events.FailVolume d side) may reaches does = exactly before s later u (events.FailVolume d side) may reaches does None
-one_line before s later u events.RepairCache may reaches does = exactly before s later u events.RepairCache may reaches does None
-one_line before s later u events.RepairStore may reaches does = exactly before s later u events.RepairStore may reaches does None
-one_line before s later u (events.Replace d side) may reaches does = exactly before s later u (events.Replace d side) may reaches does None
-one_line before s later u (events.Pair a b) may reaches does = exactly before s later u (events.Pair a b) may reaches does None
-one_line before s later u (events.Unpair a) may reaches does = exactly before s later u (events.Unpair a) may reaches does None
-one_line before s later u (events.Suspend a) may reaches does = exactly before s later u (events.Suspend a) may reaches does None
-one_line before s later u (events.Resume a) may reaches does = exactly before s later u (events.Resume a) may reaches does None
-one_line before s later u events.Power may reaches does = exactly before s later u events.Power may reaches does None
+  -- or to where it is alike that
+  fails : (d : ℕ) (side : Side) → IsBeside before s (events.FailVolume d side ∷ later) u → DoesPlainly s (events.FailVolume d side) →
+      Onward None (line_behind s (events.FailVolume d side)) later u (lines_at (events.FailVolume d side))
+  fails d side b does =
+      let e = events.FailVolume d side in
+      let t = stand (line_behind s e) later in
+      let more = failure_leads s does.1 d side later (λ same. not_longer e later (sym same)) does.0 before b.other
+      (second_self u.devices b.other.devices b.alike.devices_are) b.reaches in
+      let to = leads_alike (lines_at e) u b.other more.0 b.alike more.1 in
+      record { to = to.0; leads = to.1; beside = record { other = t; alike = states_then to.0 more.0 t to.2 more.2; reaches = is_there refl } }
+
+one_line : (before : Option ℕ) (s : Subsystem) (later : List EventLine) (u : AuditState) (e : EventLine) → IsBeside before s (e ∷ later) u →
+    DoesPlainly s e → Onward (worker_of e) (line_behind s e) later u (flat_map lines_of (line_logged s (asked_by e)))
+one_line before s later u (events.Step d) near does = towards before s later u (events.Step d) tt near does.0
+one_line before s later u (events.Run d) near does = towards before s later u (events.Run d) tt near does.0
+one_line before s later u (events.Back d) near does = towards before s later u (events.Back d) tt near does.0
+one_line before s later u (events.Settle d) near does = towards before s later u (events.Settle d) tt near does.0
+one_line before s later u (events.FailVolume d side) near does = fails before s later u d side near does
+one_line before s later u (events.Start path d) near does = exactly before s later u (events.Start path d) tt near does.0 None
+one_line before s later u (events.Reset path d) near does = exactly before s later u (events.Reset path d) tt near does.0 None
+one_line before s later u events.FailCache near does = exactly before s later u events.FailCache tt near does.0 None
+one_line before s later u events.FailStore near does = exactly before s later u events.FailStore tt near does.0 None
+one_line before s later u events.RepairCache near does = exactly before s later u events.RepairCache tt near does.0 None
+one_line before s later u events.RepairStore near does = exactly before s later u events.RepairStore tt near does.0 None
+one_line before s later u (events.Replace d side) near does = exactly before s later u (events.Replace d side) tt near does.0 None
+one_line before s later u (events.Pair a b) near does = exactly before s later u (events.Pair a b) tt near does.0 None
+one_line before s later u (events.Unpair a) near does = exactly before s later u (events.Unpair a) tt near does.0 None
+one_line before s later u (events.Suspend a) near does = exactly before s later u (events.Suspend a) tt near does.0 None
+one_line before s later u (events.Resume a) near does = exactly before s later u (events.Resume a) tt near does.0 None
+one_line before s later u events.Power near does = exactly before s later u events.Power tt near does.0 None
 
 -- The lines of all of them
 
-abbrev ReachesEnd : AuditState → List ReportLine → AuditState → Type 0
-ReachesEnd u ls t = (v : AuditState) × LeadsBy u ls v × ((n : Option ℕ) × Reaches n v t)
+record ReachesEnd (u : AuditState) (ls : List ReportLine) (z : Subsystem) : Type 0 where
+  to : AuditState
+  leads : LeadsBy u ls to
+  worker : Option ℕ
+  beside : IsBeside worker z [] to
 
-lines_towards : (events : List EventLine) (before : Option ℕ) (s : Subsystem) (u : AuditState) → AllMayFollow before s events → AllDo s events →
-    Reaches before u (stand s events) → ReachesEnd u (flat_map lines_of (run_lines (map asked_by events) s)) (stand (behind_lines s events) [])
+lines_towards : (events : List EventLine) (before : Option ℕ) (s : Subsystem) (u : AuditState) → AllSo DoesPlainly s events → IsBeside before s events u →
+    ReachesEnd u (flat_map lines_of (run_lines (map asked_by events) s)) (behind_lines s events)
 unfolding L.run_lines
-lines_towards [] before s u may does reaches = (u, refl, (before, reaches))
-lines_towards (e ∷ later) before s u may does reaches =
+lines_towards [] before s u does b = record { to = u; leads = refl; worker = before; beside = b }
+lines_towards (e ∷ later) before s u does b =
     let ts = line_logged s (asked_by e) in
     let z = line_behind s e in
     let us = run_lines (map asked_by later) z in
-    let first = one_line before s later u e may.0 reaches does.0 in
-    let rest = lines_towards later (worker_of e) z first.to may.1 does.1 first.reaches in
-    subst (λ (l : List ReportLine). ReachesEnd u l (stand (last_behind s (ts ++ us)) [])) (sym (lines_both ts us))
-    (subst (λ (k : Subsystem). ReachesEnd u (flat_map lines_of ts ++ flat_map lines_of us) (stand k [])) (sym (behind_both s ts us))
-    (rest.0, leads_on u first.to rest.0 (flat_map lines_of ts) (flat_map lines_of us) first.leads rest.1, rest.2))
+    let first = one_line before s later u e b does.0 in
+    let rest = lines_towards later (worker_of e) z first.to does.1 first.beside in
+    subst (λ (l : List ReportLine). ReachesEnd u l (last_behind s (ts ++ us))) (sym (lines_both ts us))
+    (subst (λ (k : Subsystem). ReachesEnd u (flat_map lines_of ts ++ flat_map lines_of us) k) (sym (behind_both s ts us))
+    (record {
+      to = rest.to;
+      leads = leads_on u first.to rest.to (flat_map lines_of ts) (flat_map lines_of us) first.leads rest.leads;
+      worker = rest.worker;
+      beside = rest.beside;
+    }))
 
 -- and those at the end
-lines_end : (events : List EventLine) (s : Subsystem) → AllMayFollow None s events → AllDo s events → FramesAreDeclared (behind_lines s events) →
+lines_end : (events : List EventLine) (s : Subsystem) → AreAlike (stand s events).devices (stand s events).devices → AllSo DoesPlainly s events →
+    FramesAreDeclared (behind_lines s events) →
     WholeLeads (stand s events) (flat_map lines_of (run_lines (map asked_by events) s) ++ ending_lines (ending (behind_lines s events)))
-lines_end events s may does framed =
+lines_end events s selves does framed =
     let z = behind_lines s events in
+    let u = stand s events in
     let t : AuditState = record (stand z []) { due = Nothing } in
-    let first = lines_towards events None s (stand s events) may does (is_there refl) in
-    let told = flat_map lines_of (run_lines (map asked_by events) s) in (
-      t,
-      leads_on (stand s events) first.0 t told (ending_lines (ending z)) first.1
-          (to_the_end z [] (first.2).0 tt first.0 (first.2).1 (ending_lines (ending z)) t refl (ending_leads z framed)),
-      refl,
-    )
+    let told = flat_map lines_of (run_lines (map asked_by events) s) in
+    let first = lines_towards events None s u does
+    (record { other = u; alike = record { events_are = refl; due_is = refl; devices_are = selves }; reaches = is_there refl }) in
+    let last = ending_lines (ending z) in
+    let rest = leads_alike last first.to first.beside.other t first.beside.alike
+    (to_the_end z [] first.worker tt first.beside.other first.beside.reaches last t refl (ending_leads z framed)) in
+    (rest.0, leads_on u first.to rest.0 told last first.leads rest.1, rest.2.due_is)
 
 -- A deck
 
@@ -151,11 +180,18 @@ first_devices deck (d ∷ ds) = ap (λ (l : List AuditedDevice). new_device deck
 pub first_stands : (deck : DeckLines) → first_state deck ≡ stand (opened deck) deck.events
 first_stands deck = ap (λ (l : List AuditedDevice). record (first_state deck) { devices = l }) (first_devices deck deck.devices)
 
-pub run_leads : (deck : DeckLines) → AllMayFollow None (opened deck) deck.events → AllDo (opened deck) deck.events → FramesAreDeclared (run_of deck).behind →
+-- no program ran yet
+new_selves : (deck : DeckLines) (ds : List DeviceLine) → AreAlike (map (new_device deck.programs) ds) (map (new_device deck.programs) ds)
+new_selves deck [] = tt
+new_selves deck (d ∷ ds) = (alike_self (new_device deck.programs d) tt, new_selves deck ds)
+
+pub run_leads : (deck : DeckLines) → AllSo DoesPlainly (opened deck) deck.events → FramesAreDeclared (run_of deck).behind →
     WholeLeads (first_state deck) (report_lines (run_of deck))
 unfolding D.run_asked
-run_leads deck may does framed =
-    subst (λ (s : AuditState). WholeLeads s (report_lines (run_of deck))) (sym (first_stands deck)) (lines_end deck.events (opened deck) may does framed)
+run_leads deck does framed =
+    subst (λ (s : AuditState). WholeLeads s (report_lines (run_of deck))) (sym (first_stands deck))
+    (lines_end deck.events (opened deck)
+    (subst (λ (s : AuditState). AreAlike s.devices s.devices) (first_stands deck) (new_selves deck deck.devices)) does framed)
 
 -- of a deck that was read
 
@@ -179,13 +215,7 @@ module _ (s : Subsystem) (numbers : List ℕ) (k : IsBehind numbers s) where
   line_does (events.Resume a) has = still_leads s k.plain (events.Resume a) has
   line_does events.Power has = ordered_leads numbers s k events.Power tt
 
-all_do : (events : List EventLine) (s : Subsystem) → AllSo (λ z e. LineDoes z e) s events → AllDo s events
-all_do [] s so = tt
-all_do (e ∷ later) s so = (so.0, all_do later (line_behind s e) so.1)
-
-pub report_leads : (text : List ℕ) (deck : DeckLines) → parsed text ≡ Ok deck → AllMayFollow None (opened deck) deck.events →
-    WholeLeads (first_state deck) (report_lines (run_of deck))
-report_leads text deck read may =
-    run_leads deck may
-    (all_do deck.events (opened deck)
-    (deck_all_so text deck read (λ z e. LineDoes z e) (λ z e k served has. line_does z (numbers_in deck) k e has))) (frames_are_declared deck)
+pub report_leads : (text : List ℕ) (deck : DeckLines) → parsed text ≡ Ok deck → WholeLeads (first_state deck) (report_lines (run_of deck))
+report_leads text deck read =
+    run_leads deck
+    (deck_all_so text deck read DoesPlainly (λ z e k served has. (line_does z (numbers_in deck) k e has, k.plain))) (frames_are_declared deck)

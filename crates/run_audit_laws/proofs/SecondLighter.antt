@@ -2,15 +2,17 @@
 use Rattle.std.proofs.Common.{◌≡◌, ◌≤◌, ◌+◌, ◌⊎◌, ℕ, Bool, true, false, Option, Some, None, is_some, get_or, set, refl, sym, ap, ◌∙◌, arith, inl, inr}
 use Rattle.std.proofs.lemmas.List.{get_or-set_other}
 use Rattle.std.specs.Prelude.{◌&&◌, ◌||◌, if◌then◌else◌, not}
+use Rattle.std.proofs.lemmas.Bool.{or_left, or_right}
 use Rattle.device_defs.specs.Contents.{by_plain}
 use Rattle.device_defs.specs.Losses as L
-use Rattle.device_defs.specs.Losses.{all_firm_told, by_frame, call_failed, down, gives_up, hardened_by_loss, kept_by_frame, lost_now, over, settled, settled_but, side_lost, slot_in, without_patch}
+use Rattle.device_defs.specs.Losses.{by_frame, gives_up, hardened_by_loss, kept_by_frame, lost_now, settled, slot_in}
 use Rattle.device_defs.specs.Marks.{MarksStore}
 use Rattle.device_defs.specs.Store.{frame_at, half_is, has_level, is_lost, is_loose, patch_at, with_lost}
 use Rattle.device_laws.proofs.FramesKept.{none_at}
 use Rattle.run_audit_laws.proofs.Weights.{Spot, modified_by, one, spot_at, weight, whole_weight, works}
-use Rattle.run_audit_laws.proofs.Lighter.{Near, false_at, half_off, half_on, near_firm, near_frame, near_self, or_on, or_on_right, some_at}
+use Rattle.run_audit_laws.proofs.Lighter.{Near, half_off, half_on, near_firm, near_frame, near_self, some_at, near_by}
 use Rattle.run_audit_laws.proofs.InOrder.{works_by}
+use Rattle.device_laws.proofs.Unlost.{clear}
 
 -- Settling of a track
 
@@ -48,34 +50,18 @@ settled_if s y z t false f g = g refl
 firm_settled : (s : MarksStore) (t : ℕ) → is_loose s t ≡ true → Settled s (hardened_by_loss s t) t
 firm_settled s t e = (
   record {
-    near = record {
-      cylinders = refl;
-      queue = refl;
-      half = refl;
-      a = refl;
-      b = refl;
-      held = refl;
-      others = (near_firm s t).others;
-    };
+    near = near_by refl (near_firm s t).others;
     a = refl;
     b = refl;
   },
-  inr (inl (e, ap (λ (x : Bool). record (spot_at s t) { loose = x }) (false_at s.loose t))),
+  inr (inl (e, ap (λ (x : Bool). record (spot_at s t) { loose = x }) (clear s.loose t))),
 )
 
 lost_given : (s : MarksStore) (t : ℕ) (o : Option (Unit {0})) → patch_at s t ≡ o → frame_at s t ≡ None →
     Settled s (gives_up (with_lost s t) t (slot_in by_plain o)) t
 lost_given s t None e bare = (
   record {
-    near = record {
-      cylinders = refl;
-      queue = refl;
-      half = refl;
-      a = refl;
-      b = refl;
-      held = refl;
-      others = λ q ne. ap (λ (x : Bool). record (spot_at s q) { lost = x }) (get_or-set_other s.lost t q true false ne);
-    };
+    near = near_by refl (λ q ne. ap (λ (x : Bool). record (spot_at s q) { lost = x }) (get_or-set_other s.lost t q true false ne));
     a = refl;
     b = refl;
   },
@@ -83,17 +69,9 @@ lost_given s t None e bare = (
 )
 lost_given s t (Some p) e bare = (
   record {
-    near = record {
-      cylinders = refl;
-      queue = refl;
-      half = refl;
-      a = refl;
-      b = refl;
-      held = refl;
-      others = λ q ne.
-          ap (λ (x : Bool). record (spot_at s q) { lost = x; patched = is_some (get_or (set s.patches t None) q None) }) (get_or-set_other s.lost t q true false ne)
-          ∙ ap (λ (x : Option (Unit {0})). record (spot_at s q) { patched = is_some x }) (get_or-set_other s.patches t q None None ne);
-    };
+    near =
+        near_by refl (λ q ne. ap (λ (x : Bool). record (spot_at s q) { lost = x; patched = is_some (get_or (set s.patches t None) q None) }) (get_or-set_other s.lost t q true false ne)
+        ∙ ap (λ (x : Option (Unit {0})). record (spot_at s q) { patched = is_some x }) (get_or-set_other s.patches t q None None ne));
     a = refl;
     b = refl;
   },
@@ -109,15 +87,7 @@ frame_settled s t here off (Some m) is =
     kept true e firm = unchanged s t
     kept false e firm = (
       record {
-        near = record {
-          cylinders = refl;
-          queue = refl;
-          half = refl;
-          a = refl;
-          b = refl;
-          held = refl;
-          others = (near_frame s t (Some true)).others;
-        };
+        near = near_by refl (near_frame s t (Some true)).others;
         a = refl;
         b = refl;
       },
@@ -181,15 +151,12 @@ lost_works false true e = refl
 lost_works false false e = absurd (cc)
 
 loose_works : (p : Spot) → p.loose ≡ true → works p ≡ true
-loose_works p e = or_on_right _ (p.loose || (modified_by p.frame && p.patched)) (or_on p.loose _ e)
+loose_works p e = or_right _ (p.loose || (modified_by p.frame && p.patched)) (or_left p.loose _ e)
 
 stale_a : (a stale : Bool) → a ≡ true → ((a && not stale) || (false && true)) ≡ false → stale ≡ true
 stale_a true true up off = refl
 stale_a true false up off = absurd (cc)
 stale_a false stale up off = absurd (cc)
-
-off_right : (b : Bool) → (false && b) ≡ false
-off_right b = refl
 
 off_level : (a stale b b_stale : Bool) → stale ≡ true → b_stale ≡ true → ((a && not stale) || (b && not b_stale)) ≡ false
 off_level true true true true e f = refl

@@ -1,24 +1,25 @@
 -- The second part of a write leaves less to do.
 use Rattle.std.proofs.Common.{◌≡◌, ◌≢◌, ◌<◌, ◌≤◌, ◌+◌, ◌⊎◌, ◌==◌, ℕ, zero, suc, Bool, true, false, List, [], ◌∷◌, Option, Some, None, is_some, length, get_or, set, refl, sym, ap, subst, ◌∙◌, arith, inl, inr}
-use Rattle.std.proofs.lemmas.Bool.{cases_eq}
+use Rattle.std.proofs.lemmas.Bool.{cases_eq, and_right, and_left, and_parts}
 use Rattle.std.specs.Prelude.{◌&&◌, ◌||◌, if◌then◌else◌, not}
 use Rattle.ckd_types.specs.declared.paths.Side.TheVariants.{B}
 use Rattle.track_image.specs.Image.{Image}
 use Rattle.device_outside.specs.Interaction.{Done}
 use Rattle.device_defs.specs.Contents.{by_plain}
 use Rattle.device_defs.specs.Losses as L
-use Rattle.device_defs.specs.Losses.{all_firm_told, call_failed, down, over, settled, settled_but, side_lost, slot_in}
+use Rattle.device_defs.specs.Losses.{all_firm_told, down, over, settled, settled_but, side_lost, slot_in}
 use Rattle.device_defs.specs.Marks.{MarksStore}
 use Rattle.device_defs.specs.Second as D
 use Rattle.device_defs.specs.Second.{closed, cut_kept, finished, left_by, second_by, second_part}
 use Rattle.device_defs.specs.Store as store
-use Rattle.device_defs.specs.Store.{Origin, OfBackground, OfCommand, OfCut, frame_at, half_is, has_level, is_lost, is_loose, level_at, owed_at, patch_at, stale_at, takes_b, tracks_of, with_frame, with_patch, with_stale}
+use Rattle.device_defs.specs.Store.{Origin, OfBackground, OfCommand, OfCut, frame_at, half_is, has_level, is_lost, is_loose, owed_at, patch_at, stale_at, takes_b, tracks_of, with_frame, with_stale}
 use Rattle.device_defs.specs.Writing as W
-use Rattle.device_defs.specs.Writing.{slot_freed, taken_b, tried_b, write_done, write_second}
+use Rattle.device_defs.specs.Writing.{slot_freed, tried_b, write_done, write_second}
 use Rattle.device_laws.proofs.Had.{Had, had_ask, had_done, had_if, had_tell, had_then, had_weaker, had_write}
 use Rattle.run_audit_laws.proofs.Weights.{Spot, copies, modified_by, one, sides, spot_at, weight, weight_at, whole_weight, works}
-use Rattle.run_audit_laws.proofs.Lighter.{Bared, Lower, Near, as_least, clean_off, false_at, freed_so, half_off, half_on, idle, lower_all, near_bare, near_frame, near_on, near_self, near_stale_b, none_open, not_own, own_is, same_weight, whole_at}
+use Rattle.run_audit_laws.proofs.Lighter.{Bared, Lower, Near, as_least, clean_off, freed_so, half_off, half_on, idle, lower_all, near_bare, near_frame, near_on, near_self, near_stale_b, none_open, not_own, own_is, same_weight, whole_at, near_by}
 use Rattle.run_audit_laws.proofs.SecondLighter.{IsSafe, Made, Settles, fell, made_least, settled_so}
+use Rattle.device_laws.proofs.Unlost.{clear}
 
 -- All tracks but that of the write
 
@@ -128,22 +129,6 @@ told_falls (suc k) s =
     (λ _. had_tell (had_done (record { cylinders = g.0.cylinders; queue = g.0.queue; half = g.0.half; a = g.0.a; b = g.0.b; held = g.0.held }, λ q. g.1 q)))
     (λ _. had_done g))
 
-down_shut : (up held stale : Bool) → up ≡ false → ((up && not held) && stale) ≡ false
-down_shut true held stale e = absurd (cc)
-down_shut false held stale e = refl
-
-off_stale : (takes stale : Bool) → stale ≡ false → (takes && stale) ≡ false
-off_stale true stale e = e
-off_stale false stale e = refl
-
-off_takes : (takes stale : Bool) → takes ≡ false → (takes && stale) ≡ false
-off_takes true stale e = absurd (cc)
-off_takes false stale e = refl
-
-up_of : (up held : Bool) → (up && not held) ≡ true → up ≡ true
-up_of true held e = refl
-up_of false held e = absurd (cc)
-
 module _ (s : MarksStore) (t : ℕ) (paired : s.paired ≡ true) (whole : (q : ℕ) → q ≢ t → half_is s.half q ≡ false)
     (safe : (q : ℕ) → q < tracks_of s → q ≢ t → IsSafe (spot_at s q)) where
   failed_so : (n : ℕ) → takes_b s ≡ true → (b : Bool) → b ≡ true →
@@ -158,11 +143,11 @@ module _ (s : MarksStore) (t : ℕ) (paired : s.paired ≡ true) (whole : (q : �
         queue = g.0.queue ∙ f.queue;
         half = g.0.half ∙ f.half;
         a = g.0.a ∙ f.a;
-        shut = down_shut z.b.up z.held (stale_at z.b t) (ap (λ (m : store.SideMarks). m.up) (g.0.b ∙ f.b));
+        shut = and_left (takes_b z) (stale_at z.b t) (and_left z.b.up (not z.held) (ap (λ (m : store.SideMarks). m.up) (g.0.b ∙ f.b)));
         loose = ap (λ (p : Spot). p.loose) (g.1 t ∙ over_own t (tracks_of s) (down s B));
         others = λ q lt ne.
             let same = ap weight (g.1 q) in
-            let less = over_least t (tracks_of s) s q ne (whole q ne) (up_of s.b.up s.held is) (safe q lt ne) in
+            let less = over_least t (tracks_of s) s q ne (whole q ne) (and_parts s.b.up (not s.held) is).0 (safe q lt ne) in
             omega (arith, same, less);
       })
 
@@ -186,7 +171,7 @@ module _ (s : MarksStore) (t : ℕ) (paired : s.paired ≡ true) (whole : (q : �
     queue = refl;
     half = refl;
     a = refl;
-    shut = off_stale (takes_b s) _ (false_at s.b.stale t);
+    shut = and_right (takes_b s) _ (clear s.b.stale t);
     loose = refl;
     others = λ q lt ne. same_weight s (with_stale s B t false) q ((near_stale_b s t false).others q ne);
   })
@@ -202,7 +187,7 @@ module _ (s : MarksStore) (t : ℕ) (paired : s.paired ≡ true) (whole : (q : �
         queue = refl;
         half = refl;
         a = refl;
-        shut = off_takes (takes_b s) (stale_at s.b t) off;
+        shut = and_left (takes_b s) (stale_at s.b t) off;
         loose = refl;
         others = λ q lt ne. as_least (weight_at s q) (weight_at s q) refl;
       }))
@@ -290,7 +275,7 @@ written_on s z y t f g = record { near = near_on s z y t f.near g.near; a = g.a 
 pub given_up : (s : MarksStore) (t : ℕ) (o : Option (Unit {0})) → Written s (L.gives_up s t (slot_in by_plain o)) t
 given_up s t None = record { near = near_self s t; a = refl; b = refl }
 given_up s t (Some p) = record {
-  near = record { cylinders = refl; queue = refl; half = refl; a = refl; b = refl; held = refl; others = (near_bare s t).others };
+  near = near_by refl (near_bare s t).others;
   a = refl;
   b = refl;
 }
@@ -365,7 +350,7 @@ module _ (s : MarksStore) (h : store.HalfWrite (Unit {0})) (is : s.half ≡ Some
       Had (D.second_done by_plain (closed y) h.track i origin) (λ v (_ : Bool). Lower s v)
   done_so y i (OfCommand bypass e) k firm =
       had_tell (finished_so y _ i bypass k
-      (record { near = record { cylinders = refl; queue = refl; half = refl; a = refl; b = refl; held = refl; others = λ q ne. refl }; a = refl; b = refl }) firm)
+      (record { near = near_by refl (λ q ne. refl); a = refl; b = refl }) firm)
   done_so y i (OfCut bypass) k firm = finished_so y (closed y) i bypass k (record { near = near_self (closed y) h.track; a = refl; b = refl }) firm
   done_so y i OfBackground k firm = finished_so y (closed y) i false k (record { near = near_self (closed y) h.track; a = refl; b = refl }) firm
 

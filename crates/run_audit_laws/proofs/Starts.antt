@@ -29,6 +29,7 @@ use Rattle.std.proofs.Common.{
 use Rattle.std.specs.Prelude.{◌||◌, ◌&&◌, nat_le, count_by, IfSome, Ok}
 use Rattle.std.specs.List.{list_all, list_any}
 use Rattle.std.proofs.lemmas.Bool.Decides.{nat_tests}
+use Rattle.std.proofs.lemmas.Bool.{and_from}
 use Rattle.ckd_types.specs.declared.channel.Ccw.{Ccw}
 use Rattle.ckd_types.specs.declared.paths.Owner.{Owner}
 use Rattle.deck_plan.specs.declared.event.EventLine.{EventLine}
@@ -89,7 +90,7 @@ use Rattle.run_report.proofs.Quiet.{start_tells}
 use Rattle.subsystem_defs.specs.declared.end.EventEnd.TheVariants as ends
 use Rattle.subsystem_defs.specs.declared.event.Event.TheVariants as events
 use Rattle.subsystem_defs.specs.Deeds as E
-use Rattle.subsystem_defs.specs.Deeds.{Ends, Becomes, device_in, is_own, on_device, starts, start_by}
+use Rattle.subsystem_defs.specs.Deeds.{Ends, device_in, is_own, on_device, starts, start_by}
 use Rattle.subsystem_defs.specs.Happening as H
 use Rattle.subsystem_defs.specs.Happening.{becomes, happens_by, happens, quietly}
 use Rattle.subsystem_defs.specs.Lines.{Once}
@@ -100,7 +101,7 @@ use Rattle.subsystem_laws.proofs.Walks.{device_so}
 use Rattle.run_audit_laws.specs.Standing.{LeadsBy, audited, stand}
 use Rattle.run_audit_laws.proofs.Found.{devices, found_one, put_at, put_same, mounted_too}
 use Rattle.run_audit_laws.proofs.Leading.{EventLeads, first_judged, one_leads, quiet_lines, then_some}
-use Rattle.run_audit_laws.proofs.Saying.{both, same_number, same_start}
+use Rattle.run_audit_laws.proofs.Saying.{same_number, same_start}
 
 -- Over plain Bools
 
@@ -118,7 +119,7 @@ all_not f g h (q ∷ l) = by_both (f q) (g q) (list_any f l) (list_all g l) (h q
   by_both true y z w e k = ap (λ (b : Bool). b && w) e
   by_both false y z w e k = ap (λ (b : Bool). b && w) e ∙ k
 
-choice_not : {X : Type 0} (a b : Bool) (x y : X) → b ≡ not a → (if a then x else y) ≡ (if b then y else x)
+pub choice_not : {X : Type 0} (a b : Bool) (x y : X) → b ≡ not a → (if a then x else y) ≡ (if b then y else x)
 choice_not true b x y e = sym (ap (λ (c : Bool). if c then y else x) e)
 choice_not false b x y e = sym (ap (λ (c : Bool). if c then y else x) e)
 
@@ -227,15 +228,6 @@ module _ (x : MarksDevice) (p : Plainly x) where
 
 -- The line
 
-unchanged : (a : AuditedDevice) (path : ℕ) (answer : StartAnswer) → after_start a path answer ≡ (record a { history = (after_start a path answer).history })
-unchanged a path (answers.Accepted n) = refl
-unchanged a path (answers.Busy p) = refl
-unchanged a path answers.Done = refl
-unchanged a path answers.Running = refl
-unchanged a path (answers.Secondary d) = refl
-unchanged a path (answers.Reserved o) = refl
-unchanged a path (answers.Shut o) = refl
-
 refused_same : (a : AuditedDevice) (path : ℕ) (fault : StartFault) → after_start a path (start_refused fault) ≡ a
 refused_same a path (faults.Secondary of) = refl
 refused_same a path (faults.Busy holder) = refl
@@ -261,13 +253,13 @@ module _ (s : Subsystem) (plain : ArePlain s.mounted) (path n : ℕ) (x : MarksD
       let from = stand s (wanted.Start path n ∷ later) in
       let line = lines.Start path n answer in
       first_judged s (wanted.Start path n) later line (stand z later)
-      (both (path == path) (n == n) (same_number path) (same_number n))
+      (and_from (path == path) (n == n) (same_number path) (same_number n))
       (then_some _ (audited x) (start_made from line path) (found_one (devices_of s) n x at)
       ∙ ap (λ (b : StartAnswer). shown (lines.Start path x.store.device b) line (passed (changed from (after_start (audited x) path b)))) is
       ∙ ap (λ (k : ℕ). shown (lines.Start path k answer) line (passed (changed from (after_start (audited x) path answer)))) number_is
       ∙ shown_if true (lines.Start path n answer) line (passed (changed from (after_start (audited x) path answer)))
-      (both ((path == path) && (n == n)) (is_same_start answer answer)
-      (both (path == path) (n == n) (same_number path) (same_number n)) (same_start answer))
+      (and_from ((path == path) && (n == n)) (is_same_start answer answer)
+      (and_from (path == path) (n == n) (same_number path) (same_number n)) (same_start answer))
       ∙ ap (λ (l : List AuditedDevice). Some (record { devices = l; events = later; due = (stand s later).due })) behind)
 
   -- nothing is changed

@@ -1,6 +1,7 @@
 -- The lines of a command that ends in a STEP.
 use Rattle.std.proofs.Common.{◌≡◌, ◌==◌, ◌++◌, ℕ, Bool, true, false, List, [], ◌∷◌, Option, Some, refl, ap, subst, ◌∙◌}
-use Rattle.std.specs.Prelude.{◌&&◌, ◌||◌, option_map}
+use Rattle.std.specs.Prelude.{◌&&◌, option_map}
+use Rattle.std.proofs.lemmas.Bool.{or_left, and_from}
 use Rattle.ckd_types.specs.declared.channel.CommandEnd.{CommandEnd}
 use Rattle.deck_plan.specs.declared.event.EventLine.{EventLine}
 use Rattle.deck_plan.specs.declared.event.EventLine.TheVariants.{Step}
@@ -26,10 +27,7 @@ use Rattle.run_audit_laws.proofs.EndLines.{check_lead, plain_lead}
 use Rattle.run_audit_laws.proofs.Found.{outlined}
 use Rattle.run_audit_laws.proofs.Leading.{then_some}
 use Rattle.run_audit_laws.proofs.Work.{end_of}
-use Rattle.run_audit_laws.proofs.Saying.{both, same_number}
-
-first_of : (a b : Bool) → a ≡ true → (a || b) ≡ true
-first_of a b is = ap (λ (x : Bool). x || b) is
+use Rattle.run_audit_laws.proofs.Saying.{same_number}
 
 module _ (xs : List AuditedDevice) (later : List EventLine) (a : AuditedDevice) (has : device_in xs a.number ≡ Some a) (closed : a.half ≡ Closed)
     (o : OpenEntry) (running : a.history.running ≡ Some o) where
@@ -44,9 +42,9 @@ module _ (xs : List AuditedDevice) (later : List EventLine) (a : AuditedDevice) 
       (outlined xs a.number ∙ ap (λ (k : Option AuditedDevice). option_map outline_of k) has)
       ∙ ap (may_step (outline_of a) (lines.StepIdle a.number) line) closed
       ∙ ap (λ (r : Option OpenEntry). in_steps (outline_of a) (lines.StepIdle a.number) line (open_program r)) running
-      ∙ first_of ((o.path == o.path) && (a.number == a.number) && (o.ordinal == o.ordinal)) false
-      (both ((o.path == o.path) && (a.number == a.number)) (o.ordinal == o.ordinal)
-      (both (o.path == o.path) (a.number == a.number) (same_number o.path) (same_number a.number)) (same_number o.ordinal))
+      ∙ or_left ((o.path == o.path) && (a.number == a.number) && (o.ordinal == o.ordinal)) false
+      (and_from ((o.path == o.path) && (a.number == a.number)) (o.ordinal == o.ordinal)
+      (and_from (o.path == o.path) (a.number == a.number) (same_number o.path) (same_number a.number)) (same_number o.ordinal))
 
   makes : (line : ReportLine) → event_made (record { devices = xs; events = Step a.number ∷ later; due = Next }) line (Step a.number)
       ≡ work_made (record { devices = xs; events = Step a.number ∷ later; due = Next }) line a

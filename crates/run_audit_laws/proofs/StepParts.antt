@@ -285,9 +285,6 @@ module _ (num : ℕ) (empty : PlainState) (x : MarksDevice) (f : Follows num emp
   abbrev at : PlainState
   at = plain_of x.plans empty x.history
 
-  abbrev Comes : ℕ → Origin → MarksStore → Bool → Type 0
-  Comes t origin z done = SecondSo (plain_of x.plans empty x.history) x.store.plain x.store.geometry x.store.cylinders (x.store.lent, x.store.device) t origin z done
-
   second_stored : (t : ℕ) (origin : Origin) (z : MarksStore) (done : Bool) →
       SecondSo (plain_of x.plans empty x.history) x.store.plain x.store.geometry x.store.cylinders (x.store.lent, x.store.device) t origin z done →
       IsStored x half.Closed (core_of z)

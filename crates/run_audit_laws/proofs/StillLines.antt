@@ -7,7 +7,6 @@ use Rattle.deck_plan.specs.declared.event.EventLine.{EventLine}
 use Rattle.deck_plan.specs.declared.event.EventLine.TheVariants as wanted
 use Rattle.deck_text.specs.DeckLines.{DeckLines}
 use Rattle.deck_text.specs.Parse.{parsed}
-use Rattle.device_defs.specs.Contents.{by_plain}
 use Rattle.device_defs.specs.Marks.{MarksDevice}
 use Rattle.report_text.specs.declared.line.ReportLine.{ReportLine}
 use Rattle.run_report.specs.Events.{event_lines, lines_of}
@@ -15,9 +14,9 @@ use Rattle.subsystem_defs.specs.declared.event.Event.{Event}
 use Rattle.subsystem_defs.specs.declared.event.Event.TheVariants as events
 use Rattle.subsystem_defs.specs.declared.end.OrderFault.{OrderFault}
 use Rattle.subsystem_defs.specs.Decks.{run_of}
-use Rattle.subsystem_defs.specs.Deeds.{Asks, Becomes, Each, Ends, Lends, Repairs, deed, device_in}
+use Rattle.subsystem_defs.specs.Deeds.{device_in}
 use Rattle.subsystem_defs.specs.Happening as H
-use Rattle.subsystem_defs.specs.Happening.{Happened, MarksDeed, asks, happens, happens_by, replaced, replaced_at, replaced_by}
+use Rattle.subsystem_defs.specs.Happening.{Happened, happens, replaced, replaced_at, replaced_by}
 use Rattle.subsystem_defs.specs.Lines as L
 use Rattle.subsystem_defs.specs.Lines.{Asked, Logged, Once, Replace, asked_by, last_behind, line_logged, logged}
 use Rattle.subsystem_defs.specs.Refusals.{replace_fault}
@@ -29,21 +28,7 @@ use Rattle.run_audit_laws.proofs.Leading.{EventLeads}
 use Rattle.run_audit_laws.proofs.Orders.{repair_cache_leads, repair_store_leads, replace_leads, resume_leads, suspend_leads}
 use Rattle.run_audit_laws.proofs.Resets.{reset_leads}
 use Rattle.run_audit_laws.proofs.Starts.{start_leads}
-
-before_same : (s : Subsystem) (x : MarksDeed) → (happens_by s x).before ≡ s
-before_same s (Ends end) = refl
-before_same s (Becomes d end) = refl
-before_same s (Asks d talk) = by_mounted (mounted_in s.mounted d.store.device) where
-  by_mounted : (o : Option Mounted) → (asks s d.store.device o talk).before ≡ s
-  by_mounted (Some m) = refl
-  by_mounted None = refl
-before_same s (Each pool f) = refl
-before_same s (Repairs pool) = refl
-before_same s (Lends a b) = refl
-
-happens_before : (s : Subsystem) (e : Event) → (happens s e).before ≡ s
-unfolding H.happens
-happens_before s e = before_same s (deed by_plain s.pool (devices_of s) e)
+use Rattle.subsystem_laws.proofs.RunLinks.{event_from}
 
 replaced_before : (s : Subsystem) (d : ℕ) (side : _) → (replaced s d side unfailing).before ≡ s
 unfolding H.replaced
@@ -84,7 +69,7 @@ some_device None some go = absurd (none_there None refl some) where
 
 module _ (s : Subsystem) (plain : ArePlain s.mounted) where
   pub once : (line : EventLine) (e : Event) → asked_by line ≡ Once e → EventLeads s line (Once e) (happens s e) → LineLeads s line
-  once line e same leads = one_line s line (Once e) (happens s e) same (once_logged s e) (happens_before s e) leads
+  once line e same leads = one_line s line (Once e) (happens s e) same (once_logged s e) (event_from s e) leads
 
   pub still_leads : (e : EventLine) → IsStill s e → LineLeads s e
   still_leads (wanted.Start path d) has =

@@ -1,8 +1,8 @@
 -- An audit says yes to a text of which the lines lead it to FINISH.
-use Rattle.std.proofs.Common.{◌≡◌, ◌≤◌, ◌+◌, ℕ, Bool, true, false, List, [], ◌∷◌, length, map, Some, None, sym, ap, ◌∙◌, if◌then◌else◌, arith}
-use Rattle.std.specs.Prelude.{All, nat_lt, Result, Ok, Err}
-use Rattle.std.proofs.lemmas.Bool.Decides.{nat_tests}
+use Rattle.std.proofs.Common.{◌≡◌, ◌+◌, ℕ, Bool, true, List, [], ◌∷◌, length, map, Some, sym, ap, ◌∙◌, if◌then◌else◌}
+use Rattle.std.specs.Prelude.{All, Result, Ok, Err}
 use Rattle.std.proofs.lemmas.List.Elements.{All-head, All-tail}
+use Rattle.std.proofs.lemmas.Bool.{le-ltb}
 use Rattle.deck_text.specs.declared.line.DeckFault.{DeckFault}
 use Rattle.deck_text.specs.declared.line.Which.TheVariants.{Size}
 use Rattle.deck_text.specs.DeckLines.{DeckLines}
@@ -18,16 +18,13 @@ use Rattle.report_auditor.specs.declared.status.AuditWhy.{AuditWhy}
 use Rattle.report_auditor.specs.Verdict as V
 use Rattle.report_auditor.specs.Verdict.{at_end, cut_lines, deck_judged, deck_part, judged_by, judged_lines, or_no, read_back, read_back_at, report_from}
 use Rattle.run_report.specs.Report.{report_lines}
-use Rattle.subsystem_defs.specs.Decks.{opened, run_of}
-use Rattle.run_audit_laws.specs.Runs.{AllMayFollow, WholeLeads}
+use Rattle.subsystem_defs.specs.Decks.{run_of}
+use Rattle.run_audit_laws.specs.Runs.{WholeLeads}
 use Rattle.run_audit_laws.specs.Standing.{LeadsBy}
 use Rattle.run_audit_laws.specs.Texts.{IsOwnReport}
 use Rattle.run_audit_laws.proofs.Forms.{Formed, report_has_form}
 use Rattle.run_audit_laws.proofs.RangedRuns.{report_is_in_range}
 use Rattle.run_audit_laws.proofs.Runs.{report_leads}
-
-not_long : (most n : ℕ) → n ≤ most → nat_lt most n ≡ false
-not_long most n le = grind (arith, nat_tests, le)
 
 -- where what is written is read back
 module _ (again : (line : ReportLine) → IsLine line → line_of (text_of line) ≡ (if has_form line then Ok line else Err (form_fault line))) where
@@ -48,14 +45,12 @@ module _ (again : (line : ReportLine) → IsLine line → line_of (text_of line)
   yes_by : (text : List ℕ) (deck : DeckLines) → (o : IsOwnReport text deck) → WholeLeads (first_state deck) (report_lines (run_of deck)) → read_back text ≡ Yes
   unfolding V.read_back
   yes_by text deck o leads =
-      ap (λ (b : Bool). if b then Limit Size else read_back_at text (report_from 0 (cut_lines text))) (not_long 268435456 (length text) o.size)
+      ap (λ (b : Bool). if b then Limit Size else read_back_at text (report_from 0 (cut_lines text))) (le-ltb 268435456 (length text) o.size)
       ∙ ap (read_back_at text) o.found
       ∙ ap (λ (r : Result DeckLines DeckFault). deck_judged r text (Some o.lines)) o.parses
       ∙ ap (judged_lines (o.lines + 2) (first_state deck)) o.says
       ∙ all_texts (report_lines (run_of deck)) (o.lines + 2) (first_state deck) leads.0
-      (report_is_in_range (deck_part text (Some o.lines)) deck o.parses o.written) (report_has_form deck) leads.1 leads.2
+      (report_is_in_range (deck_part text (Some o.lines)) deck o.parses) (report_has_form deck) leads.1 leads.2
 
-  pub own_report_is_yes : (text : List ℕ) (deck : DeckLines) → IsOwnReport text deck → AllMayFollow None (opened deck) deck.events →
-      read_back text ≡ Yes
-  own_report_is_yes text deck o may =
-      yes_by text deck o (report_leads (deck_part text (Some o.lines)) deck o.parses may)
+  pub own_report_is_yes : (text : List ℕ) (deck : DeckLines) → IsOwnReport text deck → read_back text ≡ Yes
+  own_report_is_yes text deck o = yes_by text deck o (report_leads (deck_part text (Some o.lines)) deck o.parses)

@@ -1,9 +1,10 @@
 -- The form of an end on the plain device: with sense it has that of a check, and of another cause; without sense another status. Status, residual
 -- and sense are in their ranges.
 use Rattle.std.proofs.Common.{◌≡◌, ◌==◌, ◌+◌, ℕ, zero, suc, Bool, true, false, List, Option, Some, None, refl, ap, ◌∙◌, ◌*◌, inl, inr, arith}
-use Rattle.std.specs.Prelude.{◌%◌, ◌&&◌, ◌-◌, ◌≤◌, ◌<◌, [], ◌⊎◌, min, not, replicate, slice_index, is_some, length, nat_le, nat_lt, Result, Ok, Err, ⊤, if◌then◌else◌}
+use Rattle.std.specs.Prelude.{◌%◌, ◌&&◌, ◌-◌, ◌≤◌, ◌<◌, [], ◌⊎◌, min, not, replicate, is_some, length, nat_le, nat_lt, Result, Ok, Err, ⊤, if◌then◌else◌}
 use Rattle.std.specs.Str.{bytes_eq}
 use Rattle.std.proofs.lemmas.Bool.{cond_both}
+use Rattle.std.proofs.lemmas.List.Elements.{All-replicate}
 use Rattle.ckd_types.specs.declared.channel.Ccw.{Ccw}
 use Rattle.ckd_types.specs.declared.channel.Note.TheVariants.{Plain, Limit}
 use Rattle.ckd_types.specs.declared.command.Command.{Command}
@@ -70,7 +71,7 @@ use Rattle.ckd_types.specs.Ccw.{is_chained}
 use Rattle.ckd_rules.specs.Area.{given_at}
 use Rattle.ckd_rules.specs.Updates.{update_data, update_ended, update_record, update_sought}
 use Rattle.ckd_rules.specs.Walk as W
-use Rattle.ckd_rules.specs.Walk.{Walked, touching, walk, walked}
+use Rattle.ckd_rules.specs.Walk.{Walked, walk, walked}
 use Rattle.ckd_rules.specs.Writes.{write_on}
 use Rattle.hex.specs.Hex.{IsBytes}
 use Rattle.plain_defs.specs.Acts.{act_fault, act_outcome}
@@ -78,11 +79,7 @@ use Rattle.plain_defs.specs.Effect.{acted_by, effect_by, effect_on}
 use Rattle.plain_defs.specs.PlainState.{PathsState, PlainState}
 use Rattle.report_reading.specs.Ranges.{AreBytes}
 use Rattle.run_audit_laws.proofs.EndLines.{TidyBy}
-
-no_bytes : (n i : ℕ) → slice_index (replicate n 0) i < 256
-no_bytes zero i = omega arith
-no_bytes (suc n) zero = omega arith
-no_bytes (suc n) (suc i) = no_bytes n i
+use Rattle.run_audit_laws.proofs.GivenBytes.{IsByte, as_bytes}
 
 pub sense_bytes : (first second seventh : ℕ) → first < 256 → second < 256 → seventh < 256 → AreBytes 32 (sense_of first second seventh).bytes
 sense_bytes first second seventh a b c = record { count = refl; each = each } where
@@ -95,7 +92,7 @@ sense_bytes first second seventh a b c = record { count = refl; each = each } wh
   each (suc (suc (suc (suc (suc zero))))) = omega arith
   each (suc (suc (suc (suc (suc (suc zero)))))) = omega arith
   each (suc (suc (suc (suc (suc (suc (suc zero))))))) = c
-  each (suc (suc (suc (suc (suc (suc (suc (suc i)))))))) = no_bytes 24 i
+  each (suc (suc (suc (suc (suc (suc (suc (suc i)))))))) = as_bytes (replicate 24 0) (All-replicate IsByte 24 0 (omega arith)) i
 
 -- a sense that a rule gives
 abbrev pub IsRule : Sense → Type 0

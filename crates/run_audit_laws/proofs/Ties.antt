@@ -42,7 +42,7 @@ use Rattle.device_defs.specs.Events.{background, lose, second}
 use Rattle.device_defs.specs.Marks.{MarksDevice}
 use Rattle.device_defs.specs.Orders.{hold, join, lend, replace, restore, resume, split}
 use Rattle.device_defs.specs.Start as S
-use Rattle.device_defs.specs.Start.{next_ordinal, start}
+use Rattle.device_defs.specs.Start.{start}
 use Rattle.device_laws.proofs.Always.{Always}
 use Rattle.device_laws.proofs.Based.{Any, Base, Based, based_any, kept}
 use Rattle.device_laws.proofs.BasedEvents.{background_based, base_in, command_based, lose_based, power_based, reset_body, second_based, with_one_loss}
@@ -56,30 +56,7 @@ use Rattle.subsystem_defs.specs.Decks as D
 use Rattle.subsystem_defs.specs.Decks.{opened, opened_device, run_of}
 use Rattle.subsystem_defs.specs.Deeds.{Asks, Becomes, Each, Ends, Lends, Repairs, deed, device_in, end_of, ends_done}
 use Rattle.subsystem_defs.specs.Happening as H
-use Rattle.subsystem_defs.specs.Happening.{
-  MarksDeed,
-  Talk,
-  asks,
-  becomes,
-  behind_outcome,
-  happens,
-  happens_by,
-  held_with,
-  is_lent_to,
-  joined,
-  lends,
-  mounted_behind,
-  quietly,
-  replaced,
-  replaced_at,
-  replaced_by,
-  restored_in,
-  sweep,
-  told_to,
-  unpaired,
-  unpaired_at,
-  unpaired_by,
-}
+use Rattle.subsystem_defs.specs.Happening.{MarksDeed, Talk, asks, becomes, behind_outcome, happens, happens_by, held_with, is_lent_to, joined, lends, mounted_behind, replaced, replaced_at, replaced_by, restored_in, sweep, told_to, unpaired, unpaired_at, unpaired_by}
 use Rattle.subsystem_defs.specs.Lines.{Asked, Logged, asked_by, last_behind, line_logged, run_lines}
 use Rattle.subsystem_defs.specs.Refusals as R
 use Rattle.subsystem_defs.specs.Refusals.{pair_fault, replace_fault, unpair_fault}
@@ -90,7 +67,7 @@ use Rattle.subsystem_laws.proofs.DeedWalk.{IsDeedwise, IsSeat, Stands, deed_is, 
 use Rattle.subsystem_laws.proofs.FactsEvents.{background_leaves, command_leaves, lose_leaves, power_leaves, reset_leaves, second_leaves}
 use Rattle.subsystem_laws.proofs.FoundDevices.{number_found}
 use Rattle.subsystem_laws.proofs.LendBase.{at, stays_still}
-use Rattle.subsystem_laws.proofs.RunLines.{AnyEvent, Goes, MayAsk, all_asked, line_goes, lines_keep, logs_end}
+use Rattle.subsystem_laws.proofs.RunLines.{AnyEvent, Goes, MayAsk, all_asked, line_goes, lines_keep, logs_end, Logs}
 use Rattle.subsystem_laws.proofs.StoreFacts.{Bears, Facts, facts_of, failed_more, fallen}
 use Rattle.subsystem_laws.proofs.Walks.{hold_answer, mounted_number}
 use Rattle.run_audit_laws.proofs.Found.{mounted_too}
@@ -618,11 +595,12 @@ ties_keep s = record {
 -- Lines
 
 module _ (ns : List ℕ) where
-  abbrev So : Subsystem → Type 0
+  abbrev pub So : Subsystem → Type 0
   So s = Tied ns (ties s.mounted)
 
-  abbrev Shown : Subsystem → Logged → Type 0
-  Shown s t = Unit {0}
+  -- of the one before each event too
+  abbrev pub Shown : Subsystem → Logged → Type 0
+  Shown s t = So s
 
   pub event_tied : (s : Subsystem) (e : Event) → So s → So (happens s e).behind
   unfolding H.happens
@@ -657,12 +635,12 @@ module _ (ns : List ℕ) where
   ties_go : Goes So Shown AnyEvent
   unfolding H.replaced H.unpaired
   ties_go = record {
-    once = λ s e may t. (event_tied s e t, tt);
-    stepped = λ s d t. (event_tied s (events.Step d) t, tt);
-    idle = λ s d t. (t, tt);
-    backed = λ s d t. (event_tied s (events.Back d) t, tt);
-    replaces = λ s d side t. (replaced_tied s d side (mounted_in s.mounted d) refl t, tt);
-    unpairs = λ s a t. (unpaired_tied s a (mounted_in s.mounted a) refl t, tt);
+    once = λ s e may t. (event_tied s e t, t);
+    stepped = λ s d t. (event_tied s (events.Step d) t, t);
+    idle = λ s d t. (t, t);
+    backed = λ s d t. (event_tied s (events.Back d) t, t);
+    replaces = λ s d side t. (replaced_tied s d side (mounted_in s.mounted d) refl t, t);
+    unpairs = λ s a t. (unpaired_tied s a (mounted_in s.mounted a) refl t, t);
   }
 
 -- behind one line
@@ -691,10 +669,13 @@ opened_tied deck = record {
   single = λ a. let none = opened_alone deck deck.devices a in omega (arith, none);
 }
 
+pub run_tied : (deck : DeckLines) →
+    Logs (So (numbers_in deck)) (Shown (numbers_in deck)) (opened deck) (run_lines (map asked_by deck.events) (opened deck))
+run_tied deck =
+    let ns = numbers_in deck in lines_keep (So ns) (Shown ns) (ties_go ns) (map asked_by deck.events) (opened deck) (opened_tied deck)
+
 pub tied_behind : (deck : DeckLines) → Tied (numbers_in deck) (ties (run_of deck).behind.mounted)
 unfolding D.run_asked
 tied_behind deck =
     let ns = numbers_in deck in
-    let asked = map asked_by deck.events in
-    logs_end (So ns) (Shown ns) (opened deck) (run_lines asked (opened deck))
-    (lines_keep (So ns) (Shown ns) (ties_go ns) asked (opened deck) (opened_tied deck))
+    logs_end (So ns) (Shown ns) (opened deck) (run_lines (map asked_by deck.events) (opened deck)) (run_tied deck)

@@ -94,6 +94,12 @@ put_again (x ∷ xs) a b same =
     ap (λ (k : ℕ). with_device (if x.number == k then a ∷ xs else x ∷ with_device xs a) b) same
     ∙ again_by (x.number == b.number) x a b xs refl same (put_again xs a b same)
 
+pub worked_number : (a : AuditedDevice) (did : Did) → (worked a did).number ≡ a.number
+worked_number a (Ended e) = refl
+worked_number a (CheckEnded e) = refl
+worked_number a Halved = refl
+worked_number a (Worked last) = refl
+
 module _ (xs : List AuditedDevice) (w : EventLine) (later : List EventLine) (n : ℕ) (works : worker_of w ≡ Some n) (first : AuditedDevice)
     (has : device_in xs n ≡ Some first) where
   -- the device of the work is this one
@@ -155,7 +161,7 @@ module _ (xs : List AuditedDevice) (w : EventLine) (later : List EventLine) (n :
         ∙ ap (λ (l : Bool). or_history (if not l then None else Some (settled s did))) legal
 
   -- a loose track becomes firm
-  harden_judged : (a : AuditedDevice) → a.number ≡ n → (did : Did) (t : ℕ) → is_loose (state_of a) t ≡ true →
+  pub harden_judged : (a : AuditedDevice) → a.number ≡ n → (did : Did) (t : ℕ) → is_loose (state_of a) t ≡ true →
       judged (at_work a (Behind true did)) (lines.Loose n (loose.Harden t)) ≡ Ok (at_work (record a { history = acted a.history (Harden t) }) (Behind true did))
   harden_judged a same did t is =
       let s = at_work a (Behind true did) in
@@ -199,10 +205,7 @@ module _ (xs : List AuditedDevice) (w : EventLine) (later : List EventLine) (n :
 
   module _ (a : AuditedDevice) (same : a.number ≡ n) (more : Bool) (did : Did) (legal : is_legal did a ≡ true) where
     number_worked : (d : Did) → (worked a d).number ≡ n
-    number_worked (Ended e) = same
-    number_worked (CheckEnded e) = same
-    number_worked Halved = same
-    number_worked (Worked last) = same
+    number_worked d = worked_number a d ∙ same
 
     abbrev by_over : List AuditedDevice → Bool → AuditState
     by_over l true = record { devices = l; events = later; due = Next }
@@ -223,7 +226,7 @@ module _ (xs : List AuditedDevice) (w : EventLine) (later : List EventLine) (n :
         ∙ sym (over_if (with_device xs (worked a did)) b)
 
     -- no program is over
-    settled_plainly : over_by a did a.history.running ≡ None → settled (at_work a (Behind more did)) did ≡ behind_event (worked a did) did
+    pub settled_plainly : over_by a did a.history.running ≡ None → settled (at_work a (Behind more did)) did ≡ behind_event (worked a did) did
     settled_plainly none =
         let s = at_work a (Behind more did) in
         ap (settled_in s did) (worker_is a (Behind more did) same)

@@ -1,6 +1,7 @@
 -- The lines of one piece of work, whichever event line has it.
 use Rattle.std.proofs.Common.{◌≡◌, ◌==◌, ◌++◌, ℕ, Bool, true, false, List, [], ◌∷◌, map, Option, Some, None, refl, sym, ap, subst, ◌∙◌, if◌then◌else◌}
-use Rattle.std.specs.Prelude.{◌&&◌, ◌||◌, Err, option_map}
+use Rattle.std.specs.Prelude.{◌&&◌, Err, option_map}
+use Rattle.std.proofs.lemmas.Bool.{or_left, or_right, and_from}
 use Rattle.ckd_types.specs.declared.channel.CommandEnd.{CommandEnd}
 use Rattle.ckd_types.specs.Sense.{equipment_sense}
 use Rattle.deck_plan.specs.declared.event.EventLine.{EventLine}
@@ -34,7 +35,7 @@ use Rattle.run_audit_laws.proofs.CameOut.{ChecksSo, EndsSo, firmly, loosely}
 use Rattle.run_audit_laws.proofs.Commands.{check_command_leads, loose_command_leads, plain_command_leads}
 use Rattle.run_audit_laws.proofs.Found.{outlined}
 use Rattle.run_audit_laws.proofs.Leading.{then_some}
-use Rattle.run_audit_laws.proofs.Saying.{both, same_number}
+use Rattle.run_audit_laws.proofs.Saying.{same_number}
 use Rattle.run_audit_laws.proofs.Work.{behind_event, end_of}
 
 -- The event lines whose pieces of work are of the device of a number
@@ -105,13 +106,6 @@ ends_work run_seconds = of_run
 ends_work back_seconds = of_back
 ends_work settle_seconds = of_settle
 
-first_of : (a b : Bool) → a ≡ true → (a || b) ≡ true
-first_of a b is = ap (λ (x : Bool). x || b) is
-
-second_is : (a b : Bool) → b ≡ true → (a || b) ≡ true
-second_is true b is = refl
-second_is false b is = is
-
 module _ (xs : List AuditedDevice) (later : List EventLine) (a : AuditedDevice) (has : device_in xs a.number ≡ Some a) where
   abbrev n : ℕ
   n = a.number
@@ -122,6 +116,15 @@ module _ (xs : List AuditedDevice) (later : List EventLine) (a : AuditedDevice) 
   its_outline : (f : Outline → Bool) → holds (outline_in (outlines (record { devices = xs; events = later; due = Next })) a.number) f ≡ f (outline_of a)
   its_outline f =
       ap (λ (k : Option Outline). holds k f) (outlined xs a.number ∙ ap (λ (k : Option AuditedDevice). option_map outline_of k) has)
+
+  -- where its outline may begin so
+  back_fits : (line : ReportLine) {h : HalfWrite} → a.half ≡ h → may_back (outline_of a) line h ≡ true →
+      holds (outline_in (outlines (record { devices = xs; events = later; due = Next })) a.number) (λ b. may_back b line b.half) ≡ true
+  back_fits line is so = its_outline (λ b. may_back b line b.half) ∙ ap (may_back (outline_of a) line) is ∙ so
+
+  step_fits : (idle line : ReportLine) {h : HalfWrite} → a.half ≡ h → may_step (outline_of a) idle line h ≡ true →
+      holds (outline_in (outlines (record { devices = xs; events = later; due = Next })) a.number) (λ b. may_step b idle line b.half) ≡ true
+  step_fits idle line is so = its_outline (λ b. may_step b idle line b.half) ∙ ap (may_step (outline_of a) idle line) is ∙ so
 
   pub makes : (w : EventLine) → IsWork a.number w → (line : ReportLine) →
       event_made (record { devices = xs; events = w ∷ later; due = Next }) line w ≡ work_made (record { devices = xs; events = w ∷ later; due = Next }) line a
@@ -144,14 +147,14 @@ module _ (xs : List AuditedDevice) (later : List EventLine) (a : AuditedDevice) 
 
     its_end : (e : CommandEnd) → ((o.path == o.path) && (a.number == a.number) && (o.ordinal == o.ordinal)) ≡ true
     its_end e =
-        both ((o.path == o.path) && (a.number == a.number)) (o.ordinal == o.ordinal)
-        (both (o.path == o.path) (a.number == a.number) (same_number o.path) (same_number a.number)) (same_number o.ordinal)
+        and_from ((o.path == o.path) && (a.number == a.number)) (o.ordinal == o.ordinal)
+        (and_from (o.path == o.path) (a.number == a.number) (same_number o.path) (same_number a.number)) (same_number o.ordinal)
 
     first_end : (idle : ReportLine) (e : CommandEnd) → a.half ≡ half.Closed → may_step (outline_of a) idle (end_told e) a.half ≡ true
     first_end idle e closed =
         ap (may_step (outline_of a) idle (end_told e)) closed
         ∙ ap (λ (r : Option OpenEntry). in_steps (outline_of a) idle (end_told e) (open_program r)) running
-        ∙ first_of ((o.path == o.path) && (a.number == a.number) && (o.ordinal == o.ordinal)) false (its_end e)
+        ∙ or_left ((o.path == o.path) && (a.number == a.number) && (o.ordinal == o.ordinal)) false (its_end e)
 
     second_end : (e : CommandEnd) → second_of (outline_of a) (end_told e) (open_program a.history.running) ≡ true
     second_end e = ap (λ (r : Option OpenEntry). second_of (outline_of a) (end_told e) (open_program r)) running ∙ its_end e
@@ -162,16 +165,10 @@ module _ (xs : List AuditedDevice) (later : List EventLine) (a : AuditedDevice) 
         its_outline (λ b. may_step b (lines.StepIdle a.number) (end_told e) b.half) ∙ first_end (lines.StepIdle a.number) e is
     end_stands w h run_ends is e =
         its_outline (λ b. may_step b (lines.RunIdle a.number) (end_told e) b.half) ∙ first_end (lines.RunIdle a.number) e is
-    end_stands w h step_seconds is e =
-        its_outline (λ b. may_step b (lines.StepIdle a.number) (end_told e) b.half)
-        ∙ ap (may_step (outline_of a) (lines.StepIdle a.number) (end_told e)) is ∙ second_end e
-    end_stands w h run_seconds is e =
-        its_outline (λ b. may_step b (lines.RunIdle a.number) (end_told e) b.half)
-        ∙ ap (may_step (outline_of a) (lines.RunIdle a.number) (end_told e)) is ∙ second_end e
-    end_stands w h back_seconds is e =
-        its_outline (λ b. may_back b (end_told e) b.half) ∙ ap (may_back (outline_of a) (end_told e)) is ∙ second_end e
-    end_stands w h settle_seconds is e =
-        its_outline (λ b. may_back b (end_told e) b.half) ∙ ap (may_back (outline_of a) (end_told e)) is ∙ second_end e
+    end_stands w h step_seconds is e = step_fits (lines.StepIdle a.number) (end_told e) is (second_end e)
+    end_stands w h run_seconds is e = step_fits (lines.RunIdle a.number) (end_told e) is (second_end e)
+    end_stands w h back_seconds is e = back_fits (end_told e) is (second_end e)
+    end_stands w h settle_seconds is e = back_fits (end_told e) is (second_end e)
 
     -- A command that ends
 
@@ -216,13 +213,13 @@ module _ (xs : List AuditedDevice) (later : List EventLine) (a : AuditedDevice) 
     -- The first part of a write
 
     half_line : (track : ℕ) → ((o.path == o.path) && (a.number == a.number)) ≡ true
-    half_line track = both (o.path == o.path) (a.number == a.number) (same_number o.path) (same_number a.number)
+    half_line track = and_from (o.path == o.path) (a.number == a.number) (same_number o.path) (same_number a.number)
 
     half_first : (idle : ReportLine) (track : ℕ) → a.half ≡ half.Closed → may_step (outline_of a) idle (lines.Half o.path a.number track) a.half ≡ true
     half_first idle track closed =
         ap (may_step (outline_of a) idle (lines.Half o.path a.number track)) closed
         ∙ ap (λ (r : Option OpenEntry). in_steps (outline_of a) idle (lines.Half o.path a.number track) (open_program r)) running
-        ∙ second_is false ((o.path == o.path) && (a.number == a.number)) (half_line track)
+        ∙ or_right false ((o.path == o.path) && (a.number == a.number)) (half_line track)
 
     half_stands : (w : EventLine) → MayEnd a.number w half.Closed → a.half ≡ half.Closed → (track : ℕ) →
         in_event (outlines (record { devices = xs; events = w ∷ later; due = Next })) (lines.Half o.path a.number track) w ≡ true
@@ -263,24 +260,16 @@ module _ (xs : List AuditedDevice) (later : List EventLine) (a : AuditedDevice) 
   second_stands : (w : EventLine) → IsWork a.number w → (answer : BackAnswer) → a.half ≡ half.OfBackground →
       is_second_line a.number (lines.Back a.number answer) ≡ true →
       in_event (outlines (record { devices = xs; events = w ∷ later; due = Next })) (lines.Back a.number answer) w ≡ true
-  second_stands w of_step answer is so =
-      its_outline (λ b. may_step b (lines.StepIdle a.number) (lines.Back a.number answer) b.half)
-      ∙ ap (may_step (outline_of a) (lines.StepIdle a.number) (lines.Back a.number answer)) is ∙ so
-  second_stands w of_run answer is so =
-      its_outline (λ b. may_step b (lines.RunIdle a.number) (lines.Back a.number answer) b.half)
-      ∙ ap (may_step (outline_of a) (lines.RunIdle a.number) (lines.Back a.number answer)) is ∙ so
-  second_stands w of_back answer is so =
-      its_outline (λ b. may_back b (lines.Back a.number answer) b.half) ∙ ap (may_back (outline_of a) (lines.Back a.number answer)) is ∙ so
-  second_stands w of_settle answer is so =
-      its_outline (λ b. may_back b (lines.Back a.number answer) b.half) ∙ ap (may_back (outline_of a) (lines.Back a.number answer)) is ∙ so
+  second_stands w of_step answer is so = step_fits (lines.StepIdle a.number) (lines.Back a.number answer) is so
+  second_stands w of_run answer is so = step_fits (lines.RunIdle a.number) (lines.Back a.number answer) is so
+  second_stands w of_back answer is so = back_fits (lines.Back a.number answer) is so
+  second_stands w of_settle answer is so = back_fits (lines.Back a.number answer) is so
 
   tells_stand : {w : EventLine} {answer : BackAnswer} {h : HalfWrite} → (k : MayTell w answer h) → a.half ≡ h →
       in_event (outlines (record { devices = xs; events = w ∷ later; due = Next })) (lines.Back a.number answer) w ≡ true
   tells_stand {w = w} {answer = answer} (seconds_by k so) is = second_stands w k answer is so
-  tells_stand {answer = answer} (back_tells so) is =
-      its_outline (λ b. may_back b (lines.Back a.number answer) b.half) ∙ ap (may_back (outline_of a) (lines.Back a.number answer)) is ∙ so
-  tells_stand {answer = answer} (settle_tells so) is =
-      its_outline (λ b. may_back b (lines.Back a.number answer) b.half) ∙ ap (may_back (outline_of a) (lines.Back a.number answer)) is ∙ so
+  tells_stand {answer = answer} (back_tells so) is = back_fits (lines.Back a.number answer) is so
+  tells_stand {answer = answer} (settle_tells so) is = back_fits (lines.Back a.number answer) is so
 
   pub tells_lead : (w : EventLine) (answer : BackAnswer) (h : HalfWrite) (k : MayTell w answer h) → a.half ≡ h → IsPlain a.plans a.empty a.history →
       (acts : List Act) → NoLoss acts → AreActs (state_of a) None acts → (reads writes : ℕ) →

@@ -1,8 +1,9 @@
 -- The lines of STEP and RUN lead the audit on behind the run of a deck.
-use Rattle.std.proofs.Common.{◌≡◌, ◌==◌, ◌++◌, ℕ, zero, suc, Bool, true, false, not, List, [], ◌∷◌, map, Option, Some, None, refl, sym, ap, subst, ◌∙◌, if◌then◌else◌}
+use Rattle.std.proofs.Common.{◌≡◌, ◌++◌, ℕ, zero, suc, Bool, true, false, List, [], ◌∷◌, Option, Some, None, refl, sym, ap, subst, ◌∙◌, if◌then◌else◌}
 use Rattle.std.specs.Prelude.{◌||◌, is_some, IfSome, Ok}
 use Rattle.std.specs.List.{flat_map}
 use Rattle.std.proofs.lemmas.List.{append-nil}
+use Rattle.std.proofs.lemmas.Bool.{or_parts}
 use Rattle.deck_plan.specs.declared.event.EventLine.{EventLine}
 use Rattle.deck_plan.specs.declared.event.EventLine.TheVariants as wanted
 use Rattle.deck_text.specs.DeckLines.{DeckLines}
@@ -16,8 +17,7 @@ use Rattle.deck_audit.specs.State.{AuditState}
 use Rattle.run_report.specs.Events.{event_lines, lines_of}
 use Rattle.subsystem_defs.specs.declared.end.EventEnd.TheVariants as ends
 use Rattle.subsystem_defs.specs.declared.event.Event.TheVariants as events
-use Rattle.subsystem_defs.specs.Decks as D
-use Rattle.subsystem_defs.specs.Decks.{opened, run_of}
+use Rattle.subsystem_defs.specs.Decks.{run_of}
 use Rattle.subsystem_defs.specs.Deeds.{device_in}
 use Rattle.subsystem_defs.specs.Happening.{Happened, happens, quietly}
 use Rattle.subsystem_defs.specs.Lines as L
@@ -40,15 +40,14 @@ use Rattle.subsystem_defs.specs.Lines.{
   step_logged,
   steps,
 }
-use Rattle.subsystem_defs.specs.Subsystem.{Mounted, Subsystem, devices_of, mounted_in, number_of}
+use Rattle.subsystem_defs.specs.Subsystem.{Mounted, Subsystem, devices_of, mounted_in}
 use Rattle.subsystem_laws.proofs.FoundDevices.{number_found}
-use Rattle.subsystem_laws.specs.Served.{IsServedDeck}
-use Rattle.subsystem_laws.proofs.GoodMarks.{Good, good_kept, opened_good}
+use Rattle.subsystem_laws.proofs.GoodMarks.{Good, good_kept}
 use Rattle.subsystem_laws.proofs.PlainRuns.{ArePlain, Plainly, event_plain, plain_behind}
 use Rattle.subsystem_laws.proofs.ReadDecks.{read_served}
-use Rattle.subsystem_laws.proofs.RunLines.{AnyEvent, all_asked}
+use Rattle.subsystem_laws.proofs.RunLines.{AnyEvent}
 use Rattle.subsystem_laws.proofs.RunLinks.{event_from}
-use Rattle.subsystem_laws.proofs.Walks.{AreSo, device_so, event_so, lines_end_so}
+use Rattle.subsystem_laws.proofs.Walks.{AreSo, device_so, event_so}
 use Rattle.run_audit_laws.specs.Runs.{LineGoes, RunIsOver, SettleIsOver, ends_settled}
 use Rattle.run_audit_laws.specs.Standing.{HasDevice, LeadsBy, stand}
 use Rattle.run_audit_laws.specs.Steps.{LeadsTowards, is_there}
@@ -56,10 +55,13 @@ use Rattle.run_audit_laws.proofs.Found.{mounted_too}
 use Rattle.run_audit_laws.proofs.NextLines.{towards_then}
 use Rattle.run_audit_laws.proofs.PieceEvents.{PieceGoes, back_goes, back_piece, run_idle_leads, run_step_goes, settle_piece, step_line_goes}
 use Rattle.run_audit_laws.proofs.Pieces.{by_back, by_settle}
-use Rattle.run_audit_laws.proofs.RunEnds.{run_is_over}
+use Rattle.run_audit_laws.proofs.RunEnds.{run_is_over, device_there}
 use Rattle.run_audit_laws.proofs.SettleEnds.{fits_behind, settle_over}
 use Rattle.run_audit_laws.proofs.StillLines.{some_device}
 use Rattle.run_audit_laws.proofs.WorkEnds.{left_by}
+use Rattle.run_audit_laws.proofs.Behind.{good_behind}
+use Rattle.run_audit_laws.proofs.Starts.{choice_not}
+use Rattle.subsystem_laws.proofs.WholeUnpairs.{not_some}
 
 -- The lines of one event
 
@@ -99,16 +101,6 @@ step_goes_on s plain d has =
 
 -- RUN
 
-device_if : (b : Bool) (k m : Mounted) (o : Option Mounted) (q : Option MarksDevice) → (if b then Some k else o) ≡ Some m →
-    (o ≡ Some m → q ≡ Some m.device) → (if b then Some k.device else q) ≡ Some m.device
-device_if true k m o q at more = let same : k ≡ m = cc in ap (λ (z : Mounted). Some z.device) same
-device_if false k m o q at more = more at
-
-device_there : (ms : List Mounted) (n : ℕ) (m : Mounted) → mounted_in ms n ≡ Some m → device_in (map (λ (k : Mounted). k.device) ms) n ≡ Some m.device
-device_there [] n m at = absurd (cc)
-device_there (k ∷ ms) n m at =
-    device_if (number_of k == n) k m (mounted_in ms n) (device_in (map (λ (z : Mounted). z.device) ms) n) at (device_there ms n m)
-
 busy_there : (o : Option Mounted) → is_busy o ≡ true → (m : Mounted) × (o ≡ Some m)
 busy_there (Some m) busy = (m, refl)
 busy_there None busy = absurd (cc)
@@ -135,10 +127,6 @@ piece_of_run s plain d busy =
     let number = number_found s.mounted d x at in
     subst (λ (k : ℕ). PieceGoes s k (wanted.Run k) (Run k) (happens s (events.Step k))) number
     (run_step_goes s x (own_place s d x at) (plain_of s plain d x at) (ap (λ (k : ℕ). is_busy (mounted_in s.mounted k)) number ∙ busy))
-
-flipped : (i b : Bool) (l k : List EventLine) → b ≡ not i → (if i then l else k) ≡ (if b then k else l)
-flipped true b l k is = sym (ap (λ (c : Bool). if c then k else l) is)
-flipped false b l k is = sym (ap (λ (c : Bool). if c then k else l) is)
 
 module _ (d : ℕ) (later : List EventLine) (k : ℕ) where
   abbrev ended : Subsystem → AuditState
@@ -178,7 +166,7 @@ steps_lead (suc k) s plain d busy later =
     subst (λ (ts : List Logged). LeadsTowards (stand s (wanted.Run d ∷ later)) (flat_map lines_of ts) (stand (last_behind s ts)
     (left_run (last_behind s ts) d later))) (sym (one_step k d s busy))
     (more_steps d later k s h.behind (lines_of (logged (Run d) h)) (left_by (wanted.Run d) p.its (is_settled h.end) later)
-    (flipped (is_idle p.its) (is_busy (mounted_in h.behind.mounted d)) later (wanted.Run d ∷ later) p.busy)
+    (choice_not (is_idle p.its) (is_busy (mounted_in h.behind.mounted d)) later (wanted.Run d ∷ later) p.busy)
     (subst (λ (l : List ReportLine). LeadsTowards (stand s (wanted.Run d ∷ later)) l
     (stand h.behind (left_by (wanted.Run d) p.its (is_settled h.end) later))) (told_from s (Run d) h (event_from s (events.Step d))) (p.goes later))
     (λ more. steps_lead k h.behind (event_plain s plain (events.Step d) tt) d more later))
@@ -195,21 +183,13 @@ run_idle : (s : Subsystem) (d : ℕ) → is_busy (mounted_in s.mounted d) ≡ fa
 run_idle s d idle =
     run_logged_is s d ∙ ap (λ (b : Bool). if b then steps most_steps d s else logged (Run d) (quietly s s ends.Idle) ∷ []) idle
 
-not_some : {X : Type 0} (o : Option X) → is_some o ≡ false → o ≡ None
-not_some (Some x) is = absurd (cc)
-not_some None is = refl
-
-neither_is : (a b : Bool) → (a || b) ≡ false → (a ≡ false) × (b ≡ false)
-neither_is true b is = absurd (cc)
-neither_is false b is = (refl, is)
-
 module _ (s : Subsystem) (plain : ArePlain s.mounted) (d : ℕ) where
   idle_goes : (x : MarksDevice) → device_in (devices_of s) d ≡ Some x → is_busy (mounted_in s.mounted d) ≡ false → LineGoes s (wanted.Run d)
   idle_goes x at idle =
       let m = mounted_too s.mounted d x at in
       let none : (is_some x.store.half || is_some x.history.running) ≡ false =
       sym (ap is_busy m.1 ∙ ap (λ (y : MarksDevice). is_some y.store.half || is_some y.history.running) m.2) ∙ idle in
-      let each = neither_is (is_some x.store.half) (is_some x.history.running) none in
+      let each = or_parts (is_some x.store.half) (is_some x.history.running) none in
       one_goes s (wanted.Run d) (quietly s s ends.Idle) (run_idle s d idle) refl
       (λ later. (
         stand s later,
@@ -346,24 +326,18 @@ run_line_leads text deck read d has =
 pub runs_end : (text : List ℕ) (deck : DeckLines) → parsed text ≡ Ok deck → (d : ℕ) → HasDevice (run_of deck).behind d → RunIsOver (run_of deck).behind d
 runs_end text deck read d has = run_is_over (run_of deck).behind (plain_behind deck (read_served text deck read)) d has
 
-good_behind_run : (deck : DeckLines) → IsServedDeck deck → AreSo Good (run_of deck).behind.mounted
-unfolding D.run_asked
-good_behind_run deck h =
-    lines_end_so Good AnyEvent good_kept (record { step = λ d. tt; back = λ d. tt }) (map asked_by deck.events) (opened deck)
-    (all_asked (map asked_by deck.events)) (opened_good deck deck.devices h.devices)
-
 pub back_line_leads : (text : List ℕ) (deck : DeckLines) → parsed text ≡ Ok deck → (d : ℕ) → HasDevice (run_of deck).behind d →
     LineGoes (run_of deck).behind (wanted.Back d)
 back_line_leads text deck read d has =
     let served = read_served text deck read in
-    back_goes_on (run_of deck).behind (plain_behind deck served) (good_behind_run deck served) d has
+    back_goes_on (run_of deck).behind (plain_behind deck served) (good_behind deck served) d has
 
 pub settles_end : (text : List ℕ) (deck : DeckLines) → parsed text ≡ Ok deck → (d : ℕ) → HasDevice (run_of deck).behind d → SettleIsOver (run_of deck).behind d
 settles_end text deck read d has =
-    settle_over (run_of deck).behind (good_behind_run deck (read_served text deck read)) (fits_behind text deck read) d has
+    settle_over (run_of deck).behind (good_behind deck (read_served text deck read)) (fits_behind text deck read) d has
 
 pub settle_line_leads : (text : List ℕ) (deck : DeckLines) → parsed text ≡ Ok deck → (d : ℕ) → HasDevice (run_of deck).behind d →
     LineGoes (run_of deck).behind (wanted.Settle d)
 settle_line_leads text deck read d has =
     let served = read_served text deck read in
-    settle_goes_on (run_of deck).behind (plain_behind deck served) (good_behind_run deck served) d has (settles_end text deck read d has)
+    settle_goes_on (run_of deck).behind (plain_behind deck served) (good_behind deck served) d has (settles_end text deck read d has)

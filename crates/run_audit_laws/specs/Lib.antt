@@ -2,5 +2,4 @@ pub mod Standing
 pub mod Steps
 pub mod Runs
 pub mod Ordered
-pub mod Ranges
 pub mod Texts

@@ -1,21 +1,15 @@
 -- How an audit goes along a run, from each event line of the deck to the next.
-use Rattle.std.specs.Prelude.{◌≡◌, ◌++◌, ℕ, Bool, true, false, List, [], ◌∷◌, map, Option, Some}
+use Rattle.std.specs.Prelude.{◌≡◌, ℕ, Bool, true, false, List, [], ◌∷◌, map}
 use Rattle.std.specs.List.{flat_map}
 use Rattle.deck_plan.specs.declared.event.EventLine.{EventLine}
 use Rattle.deck_plan.specs.declared.event.EventLine.TheVariants as events
 use Rattle.report_text.specs.declared.line.ReportLine.{ReportLine}
 use Rattle.report_places.specs.declared.state.Due.TheVariants.{Nothing}
-use Rattle.report_places.specs.Place.{worker_of}
-use Rattle.deck_audit.specs.Device.{has_loose}
 use Rattle.deck_audit.specs.State.{AuditState}
-use Rattle.device_defs.specs.Marks.{MarksDevice}
-use Rattle.run_report.specs.Closing.{ending_lines}
 use Rattle.run_report.specs.Events.{lines_of}
-use Rattle.subsystem_defs.specs.Closing.{ending}
-use Rattle.subsystem_defs.specs.Deeds.{device_in}
 use Rattle.subsystem_defs.specs.Lines.{Logged, asked_by, is_busy, is_settled, last_behind, line_logged, run_lines}
-use Rattle.subsystem_defs.specs.Subsystem.{Subsystem, devices_of, mounted_in}
-use Rattle.run_audit_laws.specs.Standing.{LeadsBy, LineLeads, audited, stand}
+use Rattle.subsystem_defs.specs.Subsystem.{Subsystem, mounted_in}
+use Rattle.run_audit_laws.specs.Standing.{LeadsBy, LineLeads, stand}
 use Rattle.run_audit_laws.specs.Steps.{LeadsTowards}
 
 -- the subsystem behind an event line
@@ -49,31 +43,8 @@ LineDoes s (events.Back d) = LineGoes s (events.Back d)
 LineDoes s (events.Settle d) = LineGoes s (events.Settle d)
 LineDoes s e = LineLeads s e
 
--- by its history the device holds no loose track
-abbrev pub HasNoneLoose : Subsystem → ℕ → Type 0
-HasNoneLoose s d = (x : MarksDevice) → device_in (devices_of s) d ≡ Some x → has_loose (audited x) ≡ false
-
--- directly behind a piece of work of the same device a volume's failure that makes tracks firm is told by lines that read as more of that work
-abbrev pub MayFollow : Option ℕ → Subsystem → EventLine → Type 0
-MayFollow (Some n) s (events.FailVolume d side) = n ≡ d → HasNoneLoose s d
-MayFollow before s e = Unit {0}
-
--- run one after another, where the piece of work before them, if there is one, is of this device
-abbrev pub AllMayFollow : Option ℕ → Subsystem → List EventLine → Type 0
-AllMayFollow before s [] = Unit {0}
-AllMayFollow before s (e ∷ later) = MayFollow before s e × AllMayFollow (worker_of e) (line_behind s e) later
-
--- what each line does, run one after another
-abbrev pub AllDo : Subsystem → List EventLine → Type 0
-AllDo s [] = Unit {0}
-AllDo s (e ∷ later) = LineDoes s e × AllDo (line_behind s e) later
-
 abbrev pub behind_lines : Subsystem → List EventLine → Subsystem
 behind_lines s events = last_behind s (run_lines (map asked_by events) s)
-
--- the report of these event lines, to FINISH
-abbrev pub report_from : Subsystem → List EventLine → List ReportLine
-report_from s events = flat_map lines_of (run_lines (map asked_by events) s) ++ ending_lines (ending (behind_lines s events))
 
 -- the audit is led to its end
 abbrev pub WholeLeads : AuditState → List ReportLine → Type 0

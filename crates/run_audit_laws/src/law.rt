@@ -21,8 +21,7 @@ ghost use Rattle.subsystem_defs.specs.Closing.{ending};
 ghost use Rattle.subsystem_defs.specs.Decks.{opened, run_of};
 ghost use Rattle.subsystem_defs.specs.Subsystem.{Subsystem};
 ghost use Rattle.run_audit_laws.specs.Ordered.{AllLead, IsLossOrPair};
-ghost use Rattle.run_audit_laws.specs.Ranges.{RestIsIn};
-ghost use Rattle.run_audit_laws.specs.Runs.{AllMayFollow, LineGoes, RunIsOver, SettleIsOver, WholeLeads};
+ghost use Rattle.run_audit_laws.specs.Runs.{LineGoes, RunIsOver, SettleIsOver, WholeLeads};
 ghost use Rattle.run_audit_laws.specs.Standing.{FramesAreDeclared, HasDevice, IsStill, LeadsBy, LineLeads, stand};
 ghost use Rattle.run_audit_laws.specs.Texts.{IsEnded, IsOwnReport, own_text};
 ghost use Rattle.run_audit_laws.specs.Steps.{BackLeads, HalfLeads, StepEnds, WholeStepLeads};
@@ -122,12 +121,10 @@ pub fn settle_line_leads()
     ensures { (text : List ℕ) (deck : DeckLines) → parsed text ≡ Ok deck → (d : ℕ) → HasDevice (run_of deck).behind d → LineGoes (run_of deck).behind (Settle d) }
 {}
 
-/// So where no FAIL VOLUME of a device that then has loose tracks stands directly
-/// behind a STEP, RUN, BACK or SETTLE of it, the whole report of the run of a deck that was read leads an audit of it from its first state to FINISH: no line stands
-/// where it may not, and none shows what no plain device answers.
+/// So the whole report of the run of a deck that was read leads an audit of it from its first state to FINISH: no line stands where it may
+/// not, and none shows what no plain device answers.
 pub fn report_leads()
-    ensures { (text : List ℕ) (deck : DeckLines) → parsed text ≡ Ok deck → AllMayFollow None (opened deck) deck.events
-        → WholeLeads (first_state deck) (report_lines (run_of deck)) }
+    ensures { (text : List ℕ) (deck : DeckLines) → parsed text ≡ Ok deck → WholeLeads (first_state deck) (report_lines (run_of deck)) }
 {}
 
 /// Each line of any run's report has its form: an IO line tells of a volume call, and a loss of power is done.
@@ -135,24 +132,22 @@ pub fn report_has_form()
     ensures { (deck : DeckLines) → All (λ (line : ReportLine). has_form line ≡ true) (report_lines (run_of deck)) }
 {}
 
-/// All numbers and bytes of the report of a deck that was read are in their ranges, where the bytes of its DATA lines are.
+/// All numbers and bytes of the report of a deck that was read are in their ranges.
 pub fn report_is_in_range()
-    ensures { (text : List ℕ) (deck : DeckLines) → parsed text ≡ Ok deck → All RestIsIn (report_lines (run_of deck)) → All IsLine (report_lines (run_of deck)) }
+    ensures { (text : List ℕ) (deck : DeckLines) → parsed text ≡ Ok deck → All IsLine (report_lines (run_of deck)) }
 {}
 
 /// And the audit of a text of such a deck, of a line REPORT and of the report of the deck's run says yes.
 pub fn own_report_is_yes()
-    ensures { (text : List ℕ) (deck : DeckLines) → IsOwnReport text deck → AllMayFollow None (opened deck) deck.events
-        → read_back text ≡ Yes }
+    ensures { (text : List ℕ) (deck : DeckLines) → IsOwnReport text deck → read_back text ≡ Yes }
 {
     reads_back();
 }
 
 /// So does the audit of the text of such a deck, all of whose lines are ended, with a line REPORT and the report of its run behind it, where both have
-/// at most 268,435,456 bytes and the bytes of its DATA lines are in their range.
+/// at most 268,435,456 bytes.
 pub fn own_text_is_yes()
     ensures { (text : List ℕ) (deck : DeckLines) → parsed text ≡ Ok deck → IsEnded text → length (own_text text deck) ≤ 268435456
-        → All RestIsIn (report_lines (run_of deck)) → AllMayFollow None (opened deck) deck.events
         → read_back (own_text text deck) ≡ Yes }
 {
     reads_back();

@@ -1,9 +1,9 @@
-use Rattle.std.proofs.Common.{◌≡◌, ℕ, false}
-use Rattle.device_defs.specs.Contents.{contents}
-use Rattle.device_defs.specs.Losses.{over, settled, without_frame}
+use Rattle.std.proofs.Common.{◌≡◌, ◌*◌, ℕ, false}
 use Rattle.device_defs.specs.Store.{is_loose}
 use Rattle.event_notes.specs.Loose.{weight}
+use Rattle.track_table.specs.Marked.{marked_left}
 use Rattle.device_store.specs.State.{state_of}
+use Rattle.device_store.proofs.Elsewhere.{FramesGo}
 use Rattle.device_store.proofs.store.DeviceStore.lose_frames.Given as goal
 
 abbrev pub invariant-loop-t : goal.invariant-loop-t
@@ -15,5 +15,5 @@ invariant-loop-t g l = record {
   half : l.self.half ≡ l.fn.self.half;
   weight : weight l.self.loose ≡ weight l.fn.self.loose;
   firm : (t : ℕ) → is_loose (state_of l.self) t ≡ false;
-  state : state_of l.self ≡ over l.t (λ t z. settled contents (without_frame z t) t) (state_of l.fn.self);
+  walk : FramesGo (l.fn.self.cylinders * 15) (state_of l.fn.self) (state_of l.self) (marked_left l.t-iterator);
 }

@@ -1,0 +1,8 @@
+use Rattle.std.proofs.Common.{◌≡◌, ◌+◌}
+use Rattle.std.specs.Prelude.{vec_len}
+use Rattle.turn_seats.specs.Seating.{AreSet}
+use Rattle.path_threads.specs.Places.{HaveCome}
+use Rattle.path_threads.proofs.places.set_all.Given as goal
+
+abbrev pub invariant-loop : goal.invariant-loop
+invariant-loop g l = AreSet l.table × HaveCome l.initial.devices.items l.table.operator.items l.devices.items × (vec_len l.devices + l.counter ≡ l.end)

@@ -1,0 +1,110 @@
+ghost use Rattle.std.specs.Prelude.{IsErr};
+ghost use Rattle.device_outside.specs.Outside.{no_pool};
+
+use ckd_types::{DeviceNo, NoMemory, TrackNo};
+use device_outside::{Grant, Port, SlotGrant};
+use frame_pool::Pool;
+use std::sync::atomic::{AtomicBool, Ordering};
+use std::sync::{Mutex, Wait};
+
+/// What the workers share beside the turns: the pool, and whether one of them lacked memory.
+#[derive(Drop)]
+pub(crate) struct Shared {
+    pub pool: Mutex<Pool>,
+    pub lacks: AtomicBool,
+}
+
+impl Shared {
+    pub fn new(pool: Pool) -> Shared {
+        Shared {
+            pool: Mutex::new(pool),
+            lacks: AtomicBool::new(false),
+        }
+    }
+
+    pub fn into_pool(self) -> Pool {
+        let Shared { pool, lacks: _ } = self;
+        pool.into_inner()
+    }
+
+    /// A worker lacks memory: it stops, and so will all others.
+    pub fn stop<T>(&self) -> Result<T, NoMemory>
+        ensures { IsErr result }
+    {
+        self.lacks.store(true, Ordering::SeqCst);
+        Err(NoMemory)
+    }
+
+    pub fn is_stopped(&self) -> bool {
+        self.lacks.load(Ordering::SeqCst)
+    }
+}
+
+/// The pool as the workers see it: locked for each call, and so never while a volume is called. It tells no pool.
+#[derive(Drop)]
+pub(crate) struct SharedPool<'a, R: Wait> {
+    rt: &'a R,
+    pool: &'a Mutex<Pool>,
+    denials: u64,
+}
+
+impl<'a, R: Wait> SharedPool<'a, R> {
+    pub fn new(rt: &'a R, shared: &'a Shared) -> SharedPool<'a, R> {
+        SharedPool {
+            rt,
+            pool: &shared.pool,
+            denials: 0,
+        }
+    }
+}
+
+impl<'a, R: Wait> Port for SharedPool<'a, R> {
+    ghost view = { λ p. no_pool p.denials };
+
+    fn next_notice(&mut self, d: DeviceNo) -> Option<TrackNo> {
+        self.pool.lock(self.rt).next_notice(d)
+    }
+
+    fn touch(&mut self, d: DeviceNo, t: TrackNo) -> bool {
+        self.pool.lock(self.rt).touch(d, t)
+    }
+
+    #[tactic(auto, unfolding(device_outside::specs::Volume::counted))]
+    fn want_frame(&mut self, d: DeviceNo, t: TrackNo) -> Result<Grant, NoMemory> {
+        let grant = match self.pool.lock(self.rt).want_frame(d, t) {
+            Err(NoMemory) => return Err(NoMemory),
+            Ok(grant) => grant,
+        };
+        match grant {
+            Grant::Given => Ok(Grant::Given),
+            Grant::Denied => {
+                self.denials = self.denials.saturating_add(1);
+                Ok(Grant::Denied)
+            }
+        }
+    }
+
+    fn set_modified(&mut self, d: DeviceNo, t: TrackNo) -> bool {
+        self.pool.lock(self.rt).set_modified(d, t)
+    }
+
+    fn set_clean(&mut self, d: DeviceNo, t: TrackNo) {
+        self.pool.lock(self.rt).set_clean(d, t);
+    }
+
+    fn drop_frame(&mut self, d: DeviceNo, t: TrackNo) {
+        self.pool.lock(self.rt).drop_frame(d, t);
+    }
+
+    fn want_slot(&mut self) -> SlotGrant {
+        self.pool.lock(self.rt).want_slot()
+    }
+
+    fn free_slot(&mut self, slot: usize) {
+        self.pool.lock(self.rt).free_slot(slot);
+    }
+
+    fn tell_waiting(&mut self, d: DeviceNo, n: u16) {
+        self.pool.lock(self.rt).tell_waiting(d, n);
+    }
+}

@@ -1,0 +1,157 @@
+-- A look at a track that holds bytes, of a command whose word gives bytes, sends bytes, and edits the track to one that holds bytes.
+use Rattle.std.proofs.Common.{◌<◌, ◌==◌, ◌+◌, ℕ, zero, suc, Bool, true, false, List, [], length, Option, Some, None, arith}
+use Rattle.std.specs.Prelude.{All, IfSome, is_some, take, ⊤}
+use Rattle.std.proofs.lemmas.Bool.{cond_both}
+use Rattle.std.proofs.lemmas.List.Elements.{All-cons, All-nil, All-push, All-set, All-take}
+use Rattle.ckd_types.specs.declared.channel.Ccw.{Ccw}
+use Rattle.ckd_types.specs.declared.command.ReadArea.{ReadArea}
+use Rattle.ckd_types.specs.declared.command.SearchArea.{SearchArea}
+use Rattle.ckd_types.specs.declared.command.Write.{Write}
+use Rattle.ckd_types.specs.declared.command.Write.TheVariants.{Data, UpdateData, KeyData, UpdateKeyData, CountKeyData, NextTrack, Zero}
+use Rattle.ckd_types.specs.declared.geometry.Geometry.{Geometry}
+use Rattle.ckd_types.specs.declared.parameters.Domain.{Domain}
+use Rattle.ckd_types.specs.declared.record.Edit.TheVariants.{Format, Update, Zero as ZeroEdit}
+use Rattle.ckd_types.specs.declared.record.Track.{Track}
+use Rattle.ckd_types.specs.Edit.{apply_edit}
+use Rattle.ckd_types.specs.Sense.{track_format_sense}
+use Rattle.ckd_types.specs.Track.{find_id}
+use Rattle.ckd_rules.specs.declared.finding.Sought.{Sought}
+use Rattle.ckd_rules.specs.declared.finding.Sought.TheVariants.{Here, Onward, Nowhere}
+use Rattle.ckd_rules.specs.declared.order.Look.{Look}
+use Rattle.ckd_rules.specs.declared.order.Look.TheVariants.{Finds, Searches, Reads, Writes}
+use Rattle.ckd_rules.specs.declared.stance.After.{After}
+use Rattle.ckd_rules.specs.declared.stance.After.TheVariants.{Other, Wrote}
+use Rattle.ckd_rules.specs.declared.stance.Stance.{Stance}
+use Rattle.ckd_rules.specs.declared.turned.Turned.{Turned}
+use Rattle.ckd_rules.specs.declared.turned.Turned.TheVariants as turns
+use Rattle.ckd_rules.specs.Area.{given_at}
+use Rattle.ckd_rules.specs.Control.{located}
+use Rattle.ckd_rules.specs.Ending.{refused}
+use Rattle.ckd_rules.specs.Formats.{body_given, count_given, format_behind, format_ended, has_room_behind, is_zero_given, key_given, record_given, zero_on}
+use Rattle.ckd_rules.specs.Look.{look_on}
+use Rattle.ckd_rules.specs.Looked.{Looked, edits, ends}
+use Rattle.ckd_rules.specs.Reads.{read_bytes, read_sought, record_at}
+use Rattle.ckd_rules.specs.Searches.{search_sought}
+use Rattle.ckd_rules.specs.Updates.{update_data, update_ended, update_record, update_sought}
+use Rattle.ckd_rules.specs.Walk as W
+use Rattle.ckd_rules.specs.Walk.{Walked, walk, walked}
+use Rattle.ckd_rules.specs.Writes.{write_on}
+use Rattle.plain_defs.specs.Whole.{GivesBytes}
+use Rattle.run_audit_laws.proofs.GivenBytes.{IsByte, as_bytes, given_are, no_bytes, given_length}
+use Rattle.run_audit_laws.proofs.SentBytes.{HoldsBytes, TrackHolds, at_holds, read_are, sent_are}
+
+abbrev TurnHolds : Track → Turned → Type 0
+TurnHolds t (turns.Ended e) = All IsByte e.sent
+TurnHolds t turns.Onward = ⊤
+TurnHolds t (turns.Edits edit e) = TrackHolds (apply_edit edit t) × All IsByte e.sent
+
+abbrev LookHolds : Track → Looked → Type 0
+LookHolds t l = TurnHolds t l.turned
+
+-- a new record
+record_holds : (c : Ccw) → GivesBytes c → HoldsBytes (record_given c)
+record_holds c gives =
+    let area = as_bytes (count_given c) (given_are 0 8 c gives) in
+    let key = area 5 in
+    let long = given_length 8 (key_given c) c in
+    record {
+      number = area 4;
+      few = omega (arith, key, long);
+      key = given_are 8 (key_given c) c gives;
+      body = given_are (8 + key_given c) (body_given c) c gives;
+    }
+
+module _ (c : Ccw) (gives : GivesBytes c) (t : Track) (all : TrackHolds t) (s : Stance) where
+  search_holds : (area : SearchArea) (k : Sought) → LookHolds t (search_sought t area s c k)
+  search_holds area (Here i passes) = no_bytes
+  search_holds area (Onward u) = tt
+  search_holds area (Nowhere sense) = no_bytes
+
+  read_holds : (area : ReadArea) (k : Sought) → LookHolds t (read_sought t area s c k)
+  read_holds area (Here i passes) = sent_are c (read_bytes t area i) (read_are t area i all)
+  read_holds area (Onward u) = tt
+  read_holds area (Nowhere sense) = no_bytes
+
+  rewritten : (i : ℕ) (key body : List ℕ) → length key < 256 → All IsByte key → All IsByte body → TrackHolds (apply_edit (Update i key body) t)
+  rewritten i key body few k b =
+      All-set HoldsBytes t.records i (record (record_at t.records i) { key = key; body = body })
+      (record { number = (at_holds t.records i all).number; few = few; key = k; body = b }) all
+
+  data_holds : (d : Bool) (i : ℕ) → LookHolds t (update_data d s c i (record_at t.records i))
+  data_holds d i =
+      let r = record_at t.records i in
+      let h = at_holds t.records i all in
+      cond_both (length r.body == 0) (ends (update_ended d s c i r.body 0))
+      (edits (Update i r.key (given_at 0 (length r.body) c)) (update_ended d s c i r.body (length r.body))) (LookHolds t) (λ _. no_bytes)
+      (λ _. (rewritten i r.key (given_at 0 (length r.body) c) h.few h.key (given_are 0 (length r.body) c gives), no_bytes))
+
+  update_holds : (key d : Bool) (i : ℕ) → LookHolds t (update_record key d s c i (record_at t.records i))
+  update_holds true d i =
+      let r = record_at t.records i in
+      let few = (at_holds t.records i all).few in
+      let long = given_length 0 (length r.key) c in (
+        rewritten i (given_at 0 (length r.key) c) (given_at (length r.key) (length r.body) c) (omega (arith, few, long)) (given_are 0 (length r.key) c gives)
+            (given_are (length r.key) (length r.body) c gives),
+        no_bytes,
+      )
+  update_holds false d i = data_holds d i
+
+  updates_hold : (key d : Bool) (k : Sought) → LookHolds t (update_sought key d t.records s c k)
+  updates_hold key d (Here i passes) = update_holds key d i
+  updates_hold key d (Onward u) = tt
+  updates_hold key d (Nowhere sense) = no_bytes
+
+  format_holds : (g : Geometry) (after : After) (i : ℕ) → LookHolds t (format_behind g t.records after s c i)
+  format_holds g after i =
+      cond_both (has_room_behind g t.records i (key_given c) (body_given c))
+      (edits (Format i (record_given c)) (format_ended after s c (i + 1) (8 + key_given c + body_given c))) (ends (refused s c track_format_sense))
+      (LookHolds t)
+      (λ _. (
+        All-push HoldsBytes (take (i + 1) t.records) (record_given c) (All-take HoldsBytes (i + 1) t.records all) (record_holds c gives),
+        no_bytes,
+      ))
+      (λ _. no_bytes)
+
+  zero_holds : LookHolds t (zero_on s c)
+  zero_holds =
+      cond_both (is_zero_given c) (edits (ZeroEdit (record_given c)) (format_ended Wrote s c 0 16)) (ends (refused s c track_format_sense))
+      (LookHolds t) (λ _. (All-cons HoldsBytes (record_given c) [] (record_holds c gives) (All-nil HoldsBytes), no_bytes)) (λ _. no_bytes)
+
+  write_holds : (g : Geometry) (w : Write) → LookHolds t (write_on g t s c w)
+  write_holds g Data = updates_hold false (is_some s.domain) _
+  write_holds g UpdateData = updates_hold false true _
+  write_holds g KeyData = updates_hold true (is_some s.domain) _
+  write_holds g UpdateKeyData = updates_hold true true _
+  write_holds g CountKeyData = format_holds g Wrote _
+  write_holds g NextTrack = format_holds g Other 0
+  write_holds g Zero = zero_holds
+
+  finds_holds : (d : Domain) (o : Option ℕ) → LookHolds t (ends (located s c d o))
+  finds_holds d (Some i) = no_bytes
+  finds_holds d None = no_bytes
+
+  look_holds : (g : Geometry) (look : Look) → LookHolds t (look_on g t s c look)
+  look_holds g (Finds d) = finds_holds d (find_id d.search t.records)
+  look_holds g (Searches x) = search_holds x.area _
+  look_holds g (Reads r) = read_holds r.area _
+  look_holds g (Writes w) = write_holds g w
+
+-- From track to track
+
+module _ (tracks : ℕ → Track) (hold : (t : ℕ) → TrackHolds (tracks t)) where
+  abbrev pub WalkHolds : Walked → Type 0
+  WalkHolds w = All IsByte w.outcome.ending.sent × IfSome w.edit (λ e. TrackHolds (apply_edit e.edit (tracks e.track)))
+
+  walked_holds : (t : ℕ) (on : Stance → Walked) (s : Stance) (k : Turned) → TurnHolds (tracks t) k → ((z : Stance) → WalkHolds (on z)) →
+      WalkHolds (walked t on s k)
+  walked_holds t on s (turns.Ended e) h go = (h, tt)
+  walked_holds t on s turns.Onward h go = go s
+  walked_holds t on s (turns.Edits edit e) h go = (h.1, h.0)
+
+  pub walk_holds : (n : ℕ) (g : Geometry) (start : Stance) (c : Ccw) → GivesBytes c → (look : Look) (s : Stance) →
+      WalkHolds (walk n g tracks start c look s)
+  unfolding W.walk
+  walk_holds zero g start c gives look s = (no_bytes, tt)
+  walk_holds (suc n) g start c gives look s =
+      walked_holds s.track (walk n g tracks start c look) (look_on g (tracks s.track) s c look).stance (look_on g (tracks s.track) s c look).turned
+      (look_holds c gives (tracks s.track) (hold s.track) s g look) (walk_holds n g start c gives look)
