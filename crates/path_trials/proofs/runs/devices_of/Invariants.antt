@@ -1,0 +1,6 @@
+use Rattle.std.proofs.Common.{All}
+use Rattle.path_turns.specs.Keeping.{IsReady}
+use Rattle.path_trials.proofs.runs.devices_of.Given as goal
+
+abbrev pub invariant-loop-plan : goal.invariant-loop-plan
+invariant-loop-plan l = All IsReady l.devices.items
