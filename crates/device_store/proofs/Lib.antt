@@ -23,3 +23,4 @@ pub mod Placed
 pub mod Elsewhere
 pub mod Skipping
 pub mod Marked
+pub mod Waiting

@@ -123,6 +123,7 @@ impl<V: Volume> DeviceStore<V> {
             → Ran surely (Heard K.hears K.takes) (write_by contents u first t (edited_image edit (frame_in (state_of self.old) t)) edit (state_of self.old)
             (Fast slot)) (outside p self.old keep.old) (state_of self.new) Whole (outside p self.new keep.new) }
     {
+        self.waiting = self.still_waiting(t);
         edit_firm(
             &mut self.frames,
             &mut self.records,
@@ -149,10 +150,12 @@ impl<V: Volume> DeviceStore<V> {
         ensures state { (e : Edit) → state_of self.new
             ≡ provisionally_written contents (state_of self.old) t (edited_image edit (frame_in (state_of self.old) t)) e }
     {
+        self.waiting = self.still_waiting(t);
         edit_frame(&mut self.frames, &mut self.records, t, edit);
         if self.loose.has(t) {
             return;
         }
+        self.waiting = None;
         self.loose.loosen(t);
     }
 

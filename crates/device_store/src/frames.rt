@@ -61,6 +61,7 @@ impl<V: Volume> DeviceStore<V> {
         ensures none { is_modified self.new.frames t ≡ false }
         ensures state { state_of self.new ≡ with_frame (state_of self.old) t None }
     {
+        self.waiting = None;
         self.frames.set(t, None);
     }
 
@@ -77,6 +78,7 @@ impl<V: Volume> DeviceStore<V> {
         ensures image { frame_in (state_of self.new) t ≡ image }
         ensures state { state_of self.new ≡ framed contents (state_of self.old) t image modified }
     {
+        self.waiting = None;
         self.frames.set(t, Some(Frame { image, modified }));
     }
 

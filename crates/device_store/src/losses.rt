@@ -52,6 +52,7 @@ impl<V: Volume> DeviceStore<V> {
         ensures state { state_of self.new ≡ loose_lost (state_of self.old) }
     {
         if self.loose.any() {
+            self.waiting = None;
             self.loose.lose();
             self.data_number = next_number(self.data_number);
         }
@@ -67,6 +68,7 @@ impl<V: Volume> DeviceStore<V> {
         ensures state { state_of self.new ≡ loose_gone contents (state_of self.old) }
     {
         if self.loose.any() {
+            self.waiting = None;
             self.loose.clear();
             self.data_number = next_number(self.data_number);
         }

@@ -113,6 +113,7 @@ impl<V: Volume> DeviceStore<V> {
             queue: Queue::new(),
             owed: parts.owed,
             counts: no_counts(),
+            waiting: None,
             buffer: parts.buffer,
             records: RecordRoom::new(alloc),
             edits: EditRoom::new(alloc),

@@ -14,12 +14,13 @@ ghost use Rattle.device_defs.specs.Owed.{
   waiting_told,
   waits,
 };
-ghost use Rattle.device_defs.specs.Store.{no_debt, owed_at};
+ghost use Rattle.device_defs.specs.Store.{is_loose, no_debt, owed_at, patch_at};
 ghost use Rattle.device_outside.specs.Keeper.{Heard};
 ghost use Rattle.device_outside.specs.Outside.{Ran};
 ghost use Rattle.event_notes.specs.Debts.{owed_in};
 ghost use Rattle.track_table.specs.Bits.{is_marked};
 ghost use Rattle.device_store.specs.State.{state_of, outside, surely};
+ghost use Rattle.device_store.specs.Waiting.{is_count, waiting_in};
 
 use crate::DeviceStore;
 use ckd_types::TrackNo;
@@ -78,14 +79,35 @@ impl<V: Volume> DeviceStore<V> {
         false
     }
 
-    /// How many tracks wait for recovery.
+    /// How many tracks wait for recovery, where it is known.
     pub fn waiting_count(&self) -> u16
+        ensures { result ≡ waiting_count contents (state_of self.now) }
+    {
+        match self.waiting {
+            Some(waiting) => waiting,
+            None => self.count_waiting(),
+        }
+    }
+
+    /// The same, counted.
+    fn count_waiting(&self) -> u16
         ensures { result ≡ waiting_count contents (state_of self.now) }
     {
         if self.none_waits() {
             return 0;
         }
         self.waiting().count()
+    }
+
+    /// How many tracks wait behind an edit in a track's frame, where it is known: one with a patch and a loose one don't wait.
+    pub(crate) fn still_waiting(&self, t: TrackNo) -> Option<u16>
+        ensures known { is_count result (waiting_in (self.now.cylinders * 15) self.now.frames self.now.patches self.now.lost self.now.loose.loose) ≡ true }
+        ensures idle { is_some result ≡ true → (is_some (patch_at (state_of self.now) t) || is_loose (state_of self.now) t) ≡ true }
+    {
+        if self.patches.has(t) || self.loose.has(t) {
+            return self.waiting;
+        }
+        None
     }
 
     fn tell_modified<P: Port, K: Keep<TrackImage>>(&self, t: TrackNo, port: &mut P)
@@ -207,6 +229,7 @@ impl<V: Volume> DeviceStore<V> {
             (state_of self.new) tt (outside (P.view port.new) self.new k) }
     {
         self.tell_all::<P, K>(port);
+        self.waiting = Some(self.waiting_count());
         self.tell_waiting::<P, K>(before, port);
     }
 }

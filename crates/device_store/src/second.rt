@@ -123,6 +123,7 @@ impl<V: Volume> DeviceStore<V> {
     {
         if self.frames.has(t) {
             let modified = self.frames.modified(t);
+            self.waiting = None;
             self.frames.set(t, Some(Frame { image, modified }));
             self.give_up_patch(t);
         }

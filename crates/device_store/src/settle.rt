@@ -52,6 +52,7 @@ impl<V: Volume> DeviceStore<V> {
         ensures state { state_of self.new ≡ without_frame (state_of self.old) t }
     {
         if self.frames.has(t) {
+            self.waiting = None;
             self.frames.set(t, None);
             let mut owed = self.owed.at(t);
             owed.dropped = true;
@@ -71,6 +72,7 @@ impl<V: Volume> DeviceStore<V> {
         match self.patches.slot_of(t) {
             None => (),
             Some(slot) => {
+                self.waiting = None;
                 self.patches.set(t, None);
                 let mut owed = self.owed.at(t);
                 owed.freed = Some(slot);
@@ -89,6 +91,7 @@ impl<V: Volume> DeviceStore<V> {
         ensures loose { self.new.loose ≡ self.old.loose }
         ensures state { state_of self.new ≡ lost_now contents (state_of self.old) t }
     {
+        self.waiting = None;
         self.lost.add(t);
         self.give_up_patch(t);
     }
@@ -104,6 +107,7 @@ impl<V: Volume> DeviceStore<V> {
         ensures state { (f : Frame) → frame_at (state_of self.old) t ≡ Some f → state_of self.new ≡ kept_by_frame contents (state_of self.old) t f }
     {
         if !self.frames.modified(t) {
+            self.waiting = None;
             self.frames.mark(t, true);
             self.owe_modified(t);
         }
@@ -120,6 +124,7 @@ impl<V: Volume> DeviceStore<V> {
         ensures firm { StaysFirm self.old.loose.loose self.new.loose.loose }
         ensures state { state_of self.new ≡ hardened (state_of self.old) t }
     {
+        self.waiting = None;
         self.loose.harden(t);
     }
 

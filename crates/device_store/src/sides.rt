@@ -90,6 +90,7 @@ impl<V: Volume> DeviceStore<V> {
         ensures state { state_of self.new ≡ record (state_of self.old)
             { lent = None; a = new_side (self.old.cylinders * 15) false; loose = replicate (self.old.cylinders * 15) false } }
     {
+        self.waiting = None;
         self.loose.clear();
         self.pair.restore(volume);
     }
@@ -137,6 +138,7 @@ impl<V: Volume> DeviceStore<V> {
     {
         let volume = self.pair.lend(to);
         self.give_up_all();
+        self.waiting = None;
         self.lost.clear();
         self.queue.clear();
         volume

@@ -5,6 +5,7 @@ ghost use Rattle.event_notes.specs.Loose.{is_loose_in};
 ghost use Rattle.device_store.specs.Halves.{half_below, half_is_firm};
 ghost use Rattle.device_store.specs.Images.{AreImagesOf, IsHalfOf};
 ghost use Rattle.device_store.specs.Queued.{are_below};
+ghost use Rattle.device_store.specs.Waiting.{is_count, waiting_in};
 
 use crate::HalfWrite;
 use ckd_types::{DeviceNo, Geometry, Side};
@@ -21,7 +22,8 @@ use track_image::{RecordRoom, TrackImage};
 
 /// The tracks of a device, over a volume or a pair of them, with a place of each for a frame and a patch. `data_number` is the
 /// number of its cache fast write data; `half` is a write that is open between its two parts; `acts` are those of the event that
-/// goes on, or of the last one, and `owed` of each track what the outside is still to be told. Room for an edit is made in
+/// goes on, or of the last one, and `owed` of each track what the outside is still to be told. `waiting` is how many tracks wait for
+/// recovery, where it is known: whatever may change it forgets it. Room for an edit is made in
 /// `records` and `edits` before the first effect of a write.
 #[derive(Drop)]
 pub struct DeviceStore<V: Volume> {
@@ -39,6 +41,7 @@ pub struct DeviceStore<V: Volume> {
     pub queue: Queue,
     pub owed: Debts,
     pub counts: Counts,
+    pub waiting: Option<u16>,
     pub buffer: TrackBuffer,
     pub records: RecordRoom,
     pub edits: EditRoom,
@@ -54,6 +57,7 @@ pub struct DeviceStore<V: Volume> {
     pub ghost half_here: { half_below (cylinders * 15) half ≡ true },
     pub ghost half_firm: { half_is_firm loose.loose half ≡ true },
     pub ghost queue_of_device: { are_below (cylinders * 15) queue ≡ true },
+    pub ghost waiting_known: { is_count waiting (waiting_in (cylinders * 15) frames patches lost loose.loose) ≡ true },
     pub ghost frames_of_tracks: { AreImagesOf geometry frames } by { Prim.hlevel props },
     pub ghost half_of_track: { IsHalfOf geometry half } by { Prim.hlevel props },
 }

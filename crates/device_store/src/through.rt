@@ -386,6 +386,7 @@ impl<V: Volume> DeviceStore<V> {
     {
         if was_loose {
             port.set_clean(self.number, half.track);
+            self.waiting = None;
             self.frames.mark(half.track, false);
             self.half = Some(half);
             return;
@@ -406,6 +407,7 @@ impl<V: Volume> DeviceStore<V> {
             None => (),
             Some(slot) => {
                 port.free_slot(slot);
+                self.waiting = None;
                 self.patches.set(t, None);
             }
         }
@@ -430,12 +432,14 @@ impl<V: Volume> DeviceStore<V> {
     {
         if bypass {
             port.drop_frame(self.number, t);
+            self.waiting = None;
             self.frames.set(t, None);
             self.free_patch::<P, K>(t, port);
             return;
         }
         port.set_clean(self.number, t);
         let modified = false;
+        self.waiting = None;
         self.frames.set(t, Some(Frame { image, modified }));
         self.free_patch::<P, K>(t, port);
     }
@@ -476,6 +480,7 @@ impl<V: Volume> DeviceStore<V> {
             (outside (P.view port.old) self.old k) (state_of self.new) tt (outside (P.view port.new) self.new k) }
     {
         port.set_clean(self.number, t);
+        self.waiting = None;
         self.frames.mark(t, false);
         self.free_patch::<P, K>(t, port);
     }

@@ -94,6 +94,7 @@ impl<V: Volume> DeviceStore<V> {
         match slot {
             None => self.patches.add_within(t, edit, &mut self.edits),
             Some(slot) => {
+                self.waiting = None;
                 let mut patch = Patch::new(self.alloc);
                 patch.add_within(edit, &mut self.edits);
                 self.patches.set(t, Some(Stored { patch, slot }));
@@ -114,6 +115,7 @@ impl<V: Volume> DeviceStore<V> {
     {
         self.keep_edit(t, edit, slot);
         let modified = true;
+        self.waiting = None;
         self.frames.set(t, Some(Frame { image, modified }));
     }
 
@@ -129,6 +131,7 @@ impl<V: Volume> DeviceStore<V> {
         ensures weight { weight self.new.loose ≤ weight self.old.loose + 2 }
         ensures state { (e : Edit) → state_of self.new ≡ provisionally_written contents (state_of self.old) t image e }
     {
+        self.waiting = None;
         if !self.loose.has(t) {
             self.loose.loosen(t);
         }

@@ -1,4 +1,4 @@
-use Rattle.std.proofs.Common.{◌∙◌, ◌<◌, length, refl, sym, ap, arith, subst}
+use Rattle.std.proofs.Common.{◌∙◌, ◌*◌, ◌<◌, length, refl, sym, ap, arith, subst}
 use Rattle.std.proofs.lemmas.List.{length-set}
 use Rattle.device_outside.proofs.Runs.{ended, tells}
 use Rattle.event_notes.specs.Loose.{is_loose_in}
@@ -7,6 +7,7 @@ use Rattle.device_store.proofs.Moves.{lands}
 use Rattle.device_store.proofs.InPlace.{still_modified}
 use Rattle.device_defs.specs.Store.{frame_at}
 use Rattle.device_store.proofs.Placed.{framed_of, reframed, IsFrameOf}
+use Rattle.device_store.proofs.Waiting.{same_in_place, still_known}
 use Rattle.device_store.proofs.store.DeviceStore.edit_fast.Goals as goal
 
 pub returns-clause-run : goal.returns-clause-run
@@ -44,3 +45,10 @@ pub edit_firm-requires-clause-takes : goal.edit_firm-requires-clause-takes
 edit_firm-requires-clause-takes g c =
     let s = c.args.self.now in
     λ f is fits. c.requires.takes.all c.args.t _ c.requires.track (subst (IsFrameOf s.geometry c.args.t) is (s.frames_of_tracks c.args.t)) fits
+
+pub invariant_of-self-clause-waiting_known : goal.invariant_of-self-clause-waiting_known
+invariant_of-self-clause-waiting_known g c =
+    let s = c.args.self.now in
+    rw (c.edit_firm.ensures.frames (state_of s) refl)
+    (still_known c.still_waiting-self.result _ _ c.still_waiting-self.ensures.known
+    (λ is. same_in_place (s.cylinders * 15) s.frames s.patches s.lost s.loose.loose c.args.t _ c.requires.there (c.still_waiting-self.ensures.idle is)))

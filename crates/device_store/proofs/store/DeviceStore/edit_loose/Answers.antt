@@ -1,10 +1,11 @@
-use Rattle.std.proofs.Common.{◌∙◌, ◌<◌, length, refl, ap, arith}
+use Rattle.std.proofs.Common.{◌∙◌, ◌*◌, ◌<◌, length, refl, ap, arith}
 use Rattle.std.proofs.lemmas.List.{length-set}
 use Rattle.event_notes.specs.Loose.{is_loose_in}
 use Rattle.device_store.specs.State.{state_of}
 use Rattle.device_store.proofs.InPlace.{loosened_modified, still_modified}
 use Rattle.device_defs.specs.Store.{frame_at}
 use Rattle.device_store.proofs.Placed.{framed_of, reframed}
+use Rattle.device_store.proofs.Waiting.{same_in_place, still_known}
 use Rattle.device_store.proofs.store.DeviceStore.edit_loose.Goals as goal
 
 pub invariant_of-self-clause-frame_of_each : goal.invariant_of-self-clause-frame_of_each
@@ -40,3 +41,10 @@ invariant_of-self-2-clause-frames_of_tracks g c =
     rw (c.edit_frame.ensures.frames s refl)
     (reframed s.geometry s.frames c.args.t _ c.args.self.now.frames_of_tracks
     (framed_of s.geometry s c.args.t (frame_at s c.args.t) c.requires.there (c.args.self.now.frames_of_tracks c.args.t)))
+
+pub invariant_of-self-clause-waiting_known : goal.invariant_of-self-clause-waiting_known
+invariant_of-self-clause-waiting_known g c =
+    let s = c.args.self.now in
+    rw (c.edit_frame.ensures.frames (state_of s) refl)
+    (still_known c.still_waiting-self.result _ _ c.still_waiting-self.ensures.known
+    (λ is. same_in_place (s.cylinders * 15) s.frames s.patches s.lost s.loose.loose c.args.t _ c.requires.there (c.still_waiting-self.ensures.idle is)))

@@ -1,20 +1,9 @@
-use Rattle.std.proofs.Common.{◌≤◌, ◌*◌, ◌∙◌, sym, arith}
-use Rattle.event_notes.proofs.Counted.{count_none}
-use Rattle.device_defs.specs.Contents.{contents}
-use Rattle.device_defs.specs.Owed.{waits}
-use Rattle.track_table.specs.Bits.{is_marked}
+use Rattle.std.proofs.Common.{◌*◌, ◌∙◌, sym}
 use Rattle.device_store.specs.State.{state_of}
-use Rattle.device_store.proofs.Telling.{none_beyond, same_count, count_up_to}
+use Rattle.device_store.proofs.Waiting.{count_known, counted_as}
 use Rattle.device_store.proofs.store.DeviceStore.waiting_count.Goals as goal
 
-pub returns : goal.returns
-returns g c =
-    let few : c.args.self.now.cylinders * 15 ≤ 960 = omega (arith, c.args.self.now.most) in
-    c.count.ensures.value
-    ∙ same_count 960 (is_marked c.waiting.result) (waits contents (state_of c.args.self.now)) c.waiting.ensures
-    ∙ count_up_to 960 (c.args.self.now.cylinders * 15) (waits contents (state_of c.args.self.now)) few
-    (λ t le. none_beyond (state_of c.args.self.now) (c.args.self.now.cylinders * 15) t c.args.self.now.frame_of_each c.args.self.now.patch_of_each le)
-
-pub returns-then-none_waits : goal.returns-then-none_waits
-returns-then-none_waits g c =
-    sym (count_none (c.args.self.now.cylinders * 15) (waits contents (state_of c.args.self.now)) (c.none_waits.ensures c.if-none_waits.true))
+pub returns-in-Some : goal.returns-in-Some
+returns-in-Some g c =
+    let s = state_of c.args.self.now in
+    counted_as c.in-Some.waiting _ (rw c.in-Some.is at c.args.self.now.waiting_known) ∙ sym (count_known (c.args.self.now.cylinders * 15) s)
