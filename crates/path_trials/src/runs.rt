@@ -1,0 +1,154 @@
+ghost use Rattle.std.specs.Prelude.{All, IfOk};
+ghost use Rattle.path_turns.specs.Keeping.{IsReady};
+
+use ckd_ccw::Program;
+use ckd_types::{Bytes, Ccw, DeviceNo, Geometry, PathNo, Side, TrackNo};
+use deck_plan::PathPlans;
+use device_core::Device;
+use device_outside::{Gate, MemVolume, NoGate};
+use frame_pool::Pool;
+use path_threads::{Ran, run_paths};
+use path_turns::plans_give;
+use std::alloc::Global;
+use std::sync::Wait;
+use std::test::Fail;
+use std::thread::Threads;
+use subsystem_defs::Event;
+
+/// Define extent over cylinder 0.
+const EXTENT: &[u8] = &[0x40, 0xc0, 0x10, 0, 0, 0, 0, 0, 0, 0, 0, 0, 0, 0, 0, 0x0e];
+
+/// Locate record: one read of record 0 of track 0.
+const READ_ZERO: &[u8] = &[6, 0, 0, 1, 0, 0, 0, 0, 0, 0, 0, 0, 0, 0, 0, 0];
+
+fn word(alloc: Global, command: u8, flags: u8, count: u16, given: &[u8]) -> Result<Ccw, Fail> {
+    Ok(Ccw {
+        command,
+        flags,
+        count,
+        given: Bytes::from_slice(alloc, given)?,
+    })
+}
+
+/// A program that reads eight bytes.
+fn read(alloc: Global) -> Result<Program, Fail> {
+    let mut words = Vec::new(alloc);
+    words.push(word(alloc, 0x63, Ccw::CHAIN, 16, EXTENT)?)?;
+    words.push(word(alloc, 0x47, Ccw::CHAIN, 16, READ_ZERO)?)?;
+    words.push(word(alloc, 0x06, 0, 8, &[])?)?;
+    Ok(Program::new(words).ok().ok_or("a word is bad")?)
+}
+
+/// Plans in which a path has so many programs that read.
+pub(crate) fn add_reads(
+    alloc: Global,
+    plans: &mut PathPlans,
+    path: u8,
+    programs: usize,
+) -> Result<(), Fail> {
+    let path = PathNo::new(path).ok_or("path")?;
+    for _ in 0..programs {
+        if plans.len(path) < 65535 {
+            plans.push(path, read(alloc)?)?;
+        }
+    }
+    Ok(())
+}
+
+/// Plans in which one path has a program that reads.
+pub(crate) fn one_read(alloc: Global, path: u8) -> Result<PathPlans, Fail> {
+    let mut plans = PathPlans::new(alloc);
+    add_reads(alloc, &mut plans, path, 1)?;
+    Ok(plans)
+}
+
+fn device(alloc: Global, number: u8, plans: PathPlans) -> Result<Device<MemVolume>, Fail>
+    ensures { IfOk result IsReady }
+{
+    plans_give(&plans);
+    let number = DeviceNo::new(number).ok_or("device")?;
+    let volume = MemVolume::new(alloc, 1, &[], &[])?;
+    match Device::open(alloc, number, Geometry::D3390, 1, volume, plans) {
+        Ok(device) => Ok(device),
+        Err(_) => Err("no memory".into()),
+    }
+}
+
+/// Devices from 0 on with these plans.
+pub(crate) fn devices_of(
+    alloc: Global,
+    plans: Vec<PathPlans>,
+) -> Result<Vec<Device<MemVolume>>, Fail>
+    ensures { IfOk result (λ v. All IsReady v.items) }
+{
+    let mut devices = Vec::new(alloc);
+    let mut number = 0;
+    for plan in plans {
+        devices.push(device(alloc, number, plan)?)?;
+        number = number.saturating_add(1);
+    }
+    Ok(devices)
+}
+
+pub(crate) fn run<R: Threads + Wait + Sync, G: Gate + Sync>(
+    rt: &R,
+    alloc: Global,
+    devices: Vec<Device<MemVolume>>,
+    orders: &[Event],
+    gate: &G,
+) -> Result<Ran<MemVolume>, Fail>
+    requires { All IsReady devices.items }
+{
+    let pool = Pool::new(alloc, 4, 2)?;
+    Ok(run_paths(rt, alloc, devices, pool, orders, gate)?)
+}
+
+#[test]
+fn each_path_runs_its_programs_on_each_device(rt: HostRuntime) -> Result<(), Fail> {
+    let alloc = rt.alloc();
+    let mut plans = Vec::new(alloc);
+    for _ in 0..3 {
+        let mut all = PathPlans::new(alloc);
+        for path in 1..5 {
+            add_reads(alloc, &mut all, path, 20)?;
+        }
+        plans.push(all)?;
+    }
+    let devices = devices_of(alloc, plans)?;
+    let orders = [
+        Event::FailCache,
+        Event::RepairCache,
+        Event::FailStore,
+        Event::RepairStore,
+    ];
+    let ran = run(&rt, alloc, devices, &orders, &NoGate)?;
+    assert_eq!(rt; ran.devices.len(), 3);
+    for device in ran.devices.as_slice() {
+        assert_eq!(rt; device.journal().len(), 80);
+        assert!(rt; device.finished());
+        assert_eq!(rt; device.losses().cache, 1);
+        assert_eq!(rt; device.losses().store, 1);
+    }
+    Ok(())
+}
+
+#[test]
+fn a_volume_that_is_lost_takes_all_its_tracks(rt: HostRuntime) -> Result<(), Fail> {
+    let alloc = rt.alloc();
+    let mut plans = Vec::new(alloc);
+    plans.push(PathPlans::new(alloc))?;
+    let devices = devices_of(alloc, plans)?;
+    let number = DeviceNo::new(0).ok_or("device")?;
+    let orders = [
+        Event::FailVolume(number, Side::A),
+        Event::FailVolume(number, Side::A),
+    ];
+    let ran = run(&rt, alloc, devices, &orders, &NoGate)?;
+    for device in ran.devices.as_slice() {
+        assert_eq!(rt; device.losses().sides, 1);
+        for t in 0..15 {
+            assert!(rt; device.lost().has(TrackNo::new(t).ok_or("track")?));
+        }
+    }
+    Ok(())
+}
