@@ -64,5 +64,5 @@ acts_row : journal_lines 0 (read_by 1 (record { after = 2; act = Loosen 7 } ∷ 
 acts_row = refl
 
 -- a pair behind the first START line is unused
-unused_row : unused_in (events.Pair 0 1 ∷ events.FailCache ∷ events.Start 1 0 ∷ events.Pair 2 3 ∷ []) ≡ 3
+unused_row : unused_in (events.Pair 0 1 ∷ events.FailCache ∷ events.Start 1 0 ∷ events.Pair 2 3 ∷ []) ≡ 2
 unused_row = refl

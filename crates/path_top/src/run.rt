@@ -10,6 +10,7 @@ ghost use Rattle.path_top.specs.Pairs.{paired};
 ghost use Rattle.path_top.specs.Devices.{all_told};
 
 use crate::history::history_of;
+use crate::orders::orders_in;
 use crate::pairs::{pair_first, unused_in};
 use ckd_types::NoMemory;
 use deck_run::open_deck;
@@ -46,8 +47,9 @@ fn run_deck<R: Threads + Wait + Sync, G: Gate + Sync>(
     ensures { IfOk result (λ devices. AreToldOf deck.now (all_told devices.items)) }
 {
     let sub = open_paired(alloc, deck)?;
+    let orders = orders_in(alloc, deck.schedule().as_slice())?;
     let (pool, devices) = sub.into_parts();
-    let ran = run_paths(rt, alloc, devices, pool, gate)?;
+    let ran = run_paths(rt, alloc, devices, pool, &orders, gate)?;
     Ok(ran.devices)
 }
 

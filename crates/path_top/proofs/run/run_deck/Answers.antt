@@ -1,7 +1,7 @@
 use Rattle.std.proofs.Common.{ap, subst}
 use Rattle.std.specs.List.{AllZip}
 use Rattle.subsystem_laws.proofs.ReadDecks.{read_served}
-use Rattle.path_turns.specs.Keeping.{KeepsAll}
+use Rattle.path_threads.specs.Places.{KeepsOrdered}
 use Rattle.path_top.proofs.NewDevices.{paired_new}
 use Rattle.path_top.proofs.Readied.{are_opened, ready_at}
 use Rattle.path_top.proofs.RunTold.{all_are_told}
@@ -19,6 +19,6 @@ returns g c =
     let deck = c.args.deck.now in
     let served = read_served c.requires.0 deck c.requires.1 in
     let all = are_opened deck c.in_ok-sub.sub c.in_ok-sub.ensures.stands (paired_new deck served.devices) c.in_ok-sub.ensures.own.each in
-    all_are_told deck c.in_ok-sub.sub.devices.items c.in_ok-ran.ran.devices.items all
-    (subst (λ xs. AllZip KeepsAll xs c.in_ok-ran.ran.devices.items) (ap (λ p. p.1.items) c.into_parts-pool.ensures) c.in_ok-ran.ensures.kept)
+    all_are_told deck _ c.in_ok-sub.sub.devices.items c.in_ok-ran.ran.devices.items all
+    (subst (λ xs. AllZip (KeepsOrdered _) xs c.in_ok-ran.ran.devices.items) (ap (λ p. p.1.items) c.into_parts-pool.ensures) c.in_ok-ran.ensures.kept)
     c.in_ok-ran.ensures.finished
