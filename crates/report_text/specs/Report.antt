@@ -1,8 +1,6 @@
--- The texts of a report and of a history.
+-- The text of a report.
 use Rattle.std.specs.Prelude.{ℕ, List, ◌++◌}
 use Rattle.std.specs.List.{flat_map}
-use Rattle.report_text.specs.declared.history.DeviceHistory.{DeviceHistory}
-use Rattle.report_text.specs.declared.history.LeftPrograms.{LeftPrograms}
 use Rattle.report_text.specs.declared.line.ReportLine.{ReportLine}
 use Rattle.report_text.specs.declared.line.ReportLine.TheVariants as lines
 use Rattle.report_text.specs.declared.report.DeviceEnd.{DeviceEnd}
@@ -24,13 +22,3 @@ frame_text f = line_text (lines.Frame f.device f.track f.modified)
 abbrev pub report_text : List ReportLine → List DeviceEnd → List FrameEnd → List ℕ
 report_text events devices frames =
     lines_text events ++ (flat_map device_text devices ++ (flat_map frame_text frames ++ line_text lines.Finish))
-
-abbrev pub left_text : LeftPrograms → List ℕ
-left_text l = line_text (lines.Left l.path l.device l.programs)
-
--- what a device's journal says, the programs that are left, and its end
-abbrev pub device_history_text : DeviceHistory → List ℕ
-device_history_text h = lines_text h.record.now ++ (flat_map left_text h.left.now ++ device_text h.end)
-
-abbrev pub history_text : List DeviceHistory → ℕ → List ℕ
-history_text devices unused = flat_map device_history_text devices ++ (line_text (lines.Unused unused) ++ line_text lines.Finish)

@@ -5,7 +5,6 @@
 mod answer_words;
 mod answers;
 mod event;
-mod history;
 mod keyword;
 mod line;
 mod numbers;
@@ -21,7 +20,6 @@ pub use answers::{
     BackAnswer, DeviceTotals, HowOver, LooseAnswer, OrderAnswer, OrderFault, StartAnswer, SumOf,
 };
 pub use event::{Happened, Loosed, ProgramOver, RunEvent};
-pub use history::{DeviceHistory, LeftPrograms, write_history};
 pub use keyword::{Keyword, keyword_text};
 pub use line::{EndLine, ReportLine};
 pub use numbers::number_in;
