@@ -22,7 +22,7 @@ pub fn path_turn<V: Volume, P: Port, G: Gate>(
     match turn.enter(seat) {
         Enter::Taken { .. } => Ok(Came::Again),
         Enter::Got(mut device) => {
-            let came = match path_event(&mut device, visitor, port) {
+            let came = match path_event(&mut *device, visitor, port) {
                 Err(NoMemory) => return Err(NoMemory),
                 Ok(came) => came,
             };
@@ -44,7 +44,7 @@ pub fn background_turn<V: Volume, P: Port>(
     match turn.enter(seat) {
         Enter::Taken { .. } => Ok(Came::Again),
         Enter::Got(mut device) => {
-            let came = match background_event(&mut device, port) {
+            let came = match background_event(&mut *device, port) {
                 Err(NoMemory) => return Err(NoMemory),
                 Ok(came) => came,
             };

@@ -1,4 +1,3 @@
-use Rattle.std.proofs.Common.{[], Some, refl}
 use Rattle.device_turn.proofs.Members.{opens}
 use Rattle.device_turn.proofs.place.Turn.place.Goals as goal
 
