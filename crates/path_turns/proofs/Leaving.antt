@@ -16,15 +16,11 @@ module _ {V : Type 0} {G : Ghosts V} where
   abbrev pub counts_of : Device V G → List ℕ
   counts_of d = seat_counts (device_of d)
 
-  -- what a seat knows of the device, in a room of its own
-  abbrev pub Seen : Type 0
-  Seen = View (Option (Promise V G)) × List (ℕ × Option (Box (Device V G) Global))
-
-  pub may_leave : (seat : ℕ) (me after : Seen) (before behind : Box (Device V G) Global) →
+  pub may_leave : (seat : ℕ) (me after : View (Option (Promise V G)) × List (ℕ × Option (Box (Device V G) Global))) (before behind : Box (Device V G) Global) →
       Entered (KeptBy (boxed KeepsPromise)) (counts_in counts_of) me after (Got before) →
       after.0.number ≡ seat → Moves seat before.value behind.value → MayLeave (KeptBy (boxed KeepsPromise)) (counts_in counts_of) after.0 behind
   may_leave seat me after before behind e number moves =
-      let loaded : after.0.loaded ≡ e.0 = ap (λ (m : Seen). m.0.loaded) e.1 in
+      let loaded : after.0.loaded ≡ e.0 = ap (λ (m : View (Option (Promise V G)) × List (ℕ × Option (Box (Device V G) Global))). m.0.loaded) e.1 in
       let apart : Without seat after.0.loaded =
       subst (λ (k : ℕ). Without k after.0.loaded) number (subst (λ (es : List (ℕ × ℕ)). Without after.0.number es) (sym loaded) e.3) in (
         kept_through (boxed KeepsPromise) after.0.pledge before behind (λ p k. moves.stays (pledge_with p.made.value p.most) k) e.4.0,
