@@ -86,28 +86,3 @@ module _ (s : DeviceStore) (h : Held) where
         patched = o.patched;
         opened = o.opened;
       }
-
-module _ {V : Type 0} {G : Ghosts V} (x : Device V G) (idle : (device_of x).history.running ≡ None) (none : (device_of x).history.waiting ≡ [])
-    (journal : are_fresh (device_of x).history.items ≡ true) where
-  -- it follows the plain device of its history, and its volumes tell what they hold
-  pub order_ready : (plain firm : List Track) (h : Held) → IsInOrder plain firm (device_of x).store h → Tells (told_of x).a h.a → Tells (told_of x).b h.b →
-      Follows (device_of x).store.device (empty_state (device_of x).store.geometry (device_of x).store.cylinders) (marks_device plain firm (device_of x)) →
-      GiveBytes (device_of x).plans → IsReady x
-  order_ready plain firm h o a b follows gives = record {
-    idle = idle;
-    none = none;
-    journal = journal;
-    stands = λ told home. record {
-      plain = plain;
-      firm = firm;
-      held = untold h;
-      untold = record { a = a; b = b; slots = refl };
-      order = untold_order (device_of x).store h plain firm o;
-      follows = follows;
-      gives = gives;
-    };
-  }
-
-  -- its volume is lent
-  pub lent_ready : (to : ℕ) → (device_of x).store.lent ≡ Some to → IsReady x
-  lent_ready to lent = record { idle = idle; none = none; journal = journal; stands = λ told home. absurd (cc) }

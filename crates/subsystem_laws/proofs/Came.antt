@@ -8,6 +8,7 @@ use Rattle.device_outside.specs.Keeper.{Message, ReplyTo, reply}
 use Rattle.device_outside.specs.Pool.{Call, AnswerTo, answer, after}
 use Rattle.device_outside.specs.Told as T
 use Rattle.device_outside.specs.Told.{Told, hold, calls_of, read_fails, write_fails, read_counted, write_counted}
+use Rattle.device_laws.proofs.Always.{Always}
 use Rattle.device_laws.proofs.Based.{Base, Based, based_done, based_try, based_ask, based_read, based_write, based_tell}
 use Rattle.device_laws.proofs.CleanParts.{
   Clean,
@@ -55,6 +56,9 @@ came_by (Tell m k) q y b h c = came_by (k (reply m)) q y b h c
 pub came_had : {I S A : Type 0} {i : Interaction Bool I S A} {q : S → A → Type 0} → Had i q → (t : CameTo i) → q t.state t.answer
 came_had {i = i} {q = q} h t = came_by i q t.state t.answer h.holds t.is
 
+pub at : {I S A : Type 0} {i : Interaction Bool I S A} {q : S → A → Type 0} → Always i q → (t : CameTo i) → q t.state t.answer
+at h t = came_had (had_always h) t
+
 -- where no bytes are bad
 clean_by : {I S A : Type 0} {q : S → A → Type 0} {i : Interaction Bool I S A} → Clean q i → (y : S) (b : A) → Came i y b → q y b
 unfolding Came
@@ -73,16 +77,20 @@ came_clean h t = clean_by h t.state t.answer t.is
 
 -- What it comes to where the outside is told
 
-told_by : {I S A : Type 0} (i : Interaction Bool I S A) (w : Told) → Came i (hold true i w).state (hold true i w).answer
+pub told_by : {I S A : Type 0} (i : Interaction Bool I S A) (w : Told) → Came i (hold true i w).state (hold true i w).answer
 unfolding Came T.hold
 told_by (Done s a) w = (refl, refl)
 told_by (Try k) w = told_by (k true) w
 told_by (Ask call k) w = (answer w.pool call, told_by (k (answer w.pool call)) (record w { pool = after w.pool call (answer w.pool call) }))
-told_by (Read side t k) w = by_plan (read_fails (calls_of w side)) (read_counted w side) where
-  by_plan : (fails : Bool) (v : Told) →
-      (ok : Bool) × Came (k (delivered ok)) (hold true (k (if fails then None else Some true)) v).state (hold true (k (if fails then None else Some true)) v).answer
-  by_plan true v = (false, told_by (k None) v)
-  by_plan false v = (true, told_by (k (Some true)) v)
+told_by (Read side t k) w =
+    let v = read_counted w side in by_plan (read_fails (calls_of w side)) (told_by (k None) v) (told_by (k (Some true)) v)
+  where
+    by_plan : (fails : Bool) → Came (k None) (hold true (k None) (read_counted w side)).state (hold true (k None) (read_counted w side)).answer →
+        Came (k (Some true)) (hold true (k (Some true)) (read_counted w side)).state (hold true (k (Some true)) (read_counted w side)).answer →
+        (ok : Bool) × Came (k (delivered ok)) (hold true (k (if fails then None else Some true)) (read_counted w side)).state
+        (hold true (k (if fails then None else Some true)) (read_counted w side)).answer
+    by_plan true none some = (false, none)
+    by_plan false none some = (true, some)
 told_by (Write side t r k) w =
     let ok = if write_fails (calls_of w side) then false else true in (ok, told_by (k ok) (write_counted w side))
 told_by (Tell m k) w = told_by (k (reply m)) w
@@ -92,7 +100,7 @@ told_came i w = record { state = (hold true i w).state; answer = (hold true i w)
 
 -- An answer changes nothing of the state behind it
 
-answered_by : {I S X Y : Type 0} (i : Interaction Bool I S X) (f : X → Y) (y : S) (b : Y) → Came (and_then i (λ s a. Done s (f a))) y b → (a : X) × Came i y a
+pub answered_by : {I S X Y : Type 0} (i : Interaction Bool I S X) (f : X → Y) (y : S) (b : Y) → Came (and_then i (λ s a. Done s (f a))) y b → (a : X) × Came i y a
 unfolding Came
 answered_by (Done s a) f y b c = (a, (c.0, refl))
 answered_by (Try k) f y b c = answered_by (k true) f y b c
@@ -110,7 +118,7 @@ module _ {S X : Type 0} {base : S → Base} {may : Call → Type 0} where
   none_failed : (n : ℕ) {b : Base} {i : Interaction Bool Image S X} → Based base may b i → n < failed_in b → failed_in b ≤ top → (y : S) (a : X) → Came i y a →
       failed_in (base y) ≡ n → ⊥
   none_failed n {i = i} x lt le y a c same =
-      let more = came_had (had_always (never_falls x le)) (record { state = y; answer = a; is = c }) in omega (arith, lt, more, same)
+      let more = at (never_falls x le) (record { state = y; answer = a; is = c }) in omega (arith, lt, more, same)
 
   served_by : (q : S → X → Type 0) {b : Base} {i : Interaction Bool Image S X} → Based base may b i → failed_in b < top → Served q i → (y : S) (a : X) →
       Came i y a → failed_in (base y) ≡ failed_in b → q y a

@@ -7,7 +7,6 @@ ghost use Rattle.ckd_chain.specs.Facts.{IsChain};
 ghost use Rattle.ckd_chain.specs.State.{ChainState};
 ghost use Rattle.ckd_types.specs.declared.geometry.Geometry.{Geometry};
 ghost use Rattle.ckd_types.specs.declared.paths.Side.{Side};
-ghost use Rattle.ckd_types.specs.declared.paths.Side.TheVariants.{B};
 ghost use Rattle.loss_model.specs.declared.Loss.{Loss};
 ghost use Rattle.plain_defs.specs.History.{IsPlain, OpenEntry, is_path_of};
 ghost use Rattle.plain_defs.specs.Journal.{Plans};
@@ -30,10 +29,10 @@ ghost use Rattle.device_defs.specs.Orders.{hold, replace, resume};
 ghost use Rattle.device_defs.specs.Pledge.{command_count, seat_counts};
 ghost use Rattle.device_defs.specs.Sound.{IsSound};
 ghost use Rattle.device_defs.specs.Start.{start, start_fault};
-ghost use Rattle.device_defs.specs.Store.{HalfWrite, OfBackground, side_of, tracks_of};
+ghost use Rattle.device_defs.specs.Store.{HalfWrite, OfBackground, tracks_of};
 ghost use Rattle.device_laws.specs.Agrees.{Held};
 ghost use Rattle.device_laws.specs.Whole.{WholeDevice};
-ghost use Rattle.subsystem_defs.specs.Refusals.{suspend_fault};
+ghost use Rattle.subsystem_defs.specs.Refusals.{replace_fault, suspend_fault};
 ghost use Rattle.turn_laws.specs.Standing.{GiveBytes, Stands, new_device};
 
 /// Behind each event, whatever the port answers and whichever calls fail, the device stands beside the plain device of its history, where memory was
@@ -79,8 +78,7 @@ pub fn orders_let_stand()
     ensures held { (d : WholeDevice) (u : Outside (List ℕ) NoKeep) → Stands d u → suspend_fault d ≡ None → Stands (hold d) u }
     ensures resumed { (d : WholeDevice) (u : Outside (List ℕ) NoKeep) → Stands d u → Stands (resume d) u }
     ensures replaced { (d : WholeDevice) (u : Outside (List ℕ) NoKeep) (side : Side) (v : VolumeView (List ℕ)) (l : List (List ℕ)) → Stands d u →
-        (side_of d.store side).up ≡ false → (side ≡ B → d.store.paired ≡ true) → d.store.half ≡ None → v.contents ≡ Some l → length l ≡ tracks_of d.store →
-        Stands (replace d side) (with_view u side v) }
+        replace_fault d side ≡ None → v.contents ≡ Some l → length l ≡ tracks_of d.store → Stands (replace d side) (with_view u side v) }
 {}
 
 /// An event of a path changes the count of that path alone: the start of its next program, a command of its program that runs, and the second part of
