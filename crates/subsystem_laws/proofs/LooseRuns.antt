@@ -59,9 +59,9 @@ pub record Counted (x y : MarksDevice) : Type 0 where
 
 less_top : (n : ℕ) → counted n < top → n < top
 unfolding V.counted
-less_top n lt = by_least (n + 1) top lt where
-  by_least : (x y : ℕ) → min x y < y → x < y
-  by_least x y lt = omega (arith, lt)
+less_top n lt = by_least n top lt where
+  by_least : (n y : ℕ) → min (n + 1) y < y → n < y
+  by_least n y lt = omega (arith, lt)
 
 as_few : (n m : ℕ) → m ≡ n → m ≤ n + 1
 as_few n m e = omega (arith, e)

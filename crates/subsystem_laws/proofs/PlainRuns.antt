@@ -96,7 +96,7 @@ lent_is_idle x y is =
     (where_so y.store.paired Paired) (active_by x.history.running) (active_by y.history.running)
     (where_so (not (is_alike x.store y.store)) Geometry ∷ where_so (not x.store.a.up) Down ∷ where_so (not y.store.a.up) Down ∷ []) is)
 
-plain_kept : IsKept Plainly IsServedEvent
+pub plain_kept : IsKept Plainly IsServedEvent
 plain_kept = record {
   started = λ d path n may fault p. record {
     number = p.number;

@@ -100,4 +100,4 @@ new_steered number on n plans = record { led = λ e. absurd (cc); half = λ t e 
 
 pub opened_steered : (deck : DeckLines) (ds : List DeviceLine) → AreSo Steered (map (opened_device deck) ds)
 opened_steered deck [] = tt
-opened_steered deck (d ∷ ds) = (new_steered d.number d.geometry d.cylinders _, opened_steered deck ds)
+opened_steered deck (d ∷ ds) = (new_steered d.number d.geometry d.cylinders (opened_device deck d).device.plans, opened_steered deck ds)
