@@ -1,10 +1,9 @@
 -- What an interaction over marks can come to where memory is had, whatever is answered: each read that doesn't fail delivers a track.
-use Rattle.std.proofs.Common.{◌≡◌, ◌<◌, ◌≤◌, ℕ, Bool, true, false, not, Option, Some, None, is_some, refl, sym, subst, arith}
+use Rattle.std.proofs.Common.{◌≡◌, ◌<◌, ◌≤◌, ℕ, Bool, true, false, Option, Some, None, refl, sym, subst, arith}
 use Rattle.std.specs.Prelude.{if◌then◌else◌}
-use Rattle.ckd_types.specs.declared.paths.Side.{Side}
 use Rattle.track_image.specs.Image.{Image}
 use Rattle.device_outside.specs.Interaction.{Interaction, Done, Try, Ask, Read, Write, Tell, and_then}
-use Rattle.device_outside.specs.Keeper.{Message, ReplyTo, reply}
+use Rattle.device_outside.specs.Keeper.{reply}
 use Rattle.device_outside.specs.Pool.{Call, AnswerTo, answer, after}
 use Rattle.device_outside.specs.Told as T
 use Rattle.device_outside.specs.Told.{Told, hold, calls_of, read_fails, write_fails, read_counted, write_counted}

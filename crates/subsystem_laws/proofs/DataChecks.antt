@@ -1,5 +1,5 @@
 -- In the run of a deck no command ends with data check.
-use Rattle.std.proofs.Common.{ℕ, true, List, [], ◌∷◌, map, refl, ◌∙◌}
+use Rattle.std.proofs.Common.{ℕ, List, [], ◌∷◌, map, refl, ◌∙◌}
 use Rattle.std.specs.Prelude.{All}
 use Rattle.plain_defs.specs.declared.journal.Item.TheVariants as items
 use Rattle.deck_text.specs.declared.line.DeviceLine.{DeviceLine}

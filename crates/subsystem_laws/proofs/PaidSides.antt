@@ -47,7 +47,7 @@ use Rattle.device_defs.specs.Contents.{by_plain}
 use Rattle.device_defs.specs.Cutting.{reset, power}
 use Rattle.device_defs.specs.Events.{second, lose, background}
 use Rattle.device_defs.specs.Marks.{MarksDevice, new_device}
-use Rattle.device_defs.specs.Orders.{restore, replace, lend}
+use Rattle.device_defs.specs.Orders.{restore, replace}
 use Rattle.device_defs.specs.Start as S
 use Rattle.device_defs.specs.Start.{start}
 use Rattle.device_laws.proofs.Based.{Base, Any, Based, kept, based_any}
