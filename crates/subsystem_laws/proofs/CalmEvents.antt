@@ -224,8 +224,8 @@ abbrev pub Unordered : MarksDevice → MarksDevice → Type 0
 Unordered x y = Losing false false x y
 
 module _ (d : MarksDevice) (f : Fair d) where
-  pub rises : {X : Type 0} (b : B.Base) (i : Interaction Bool Image MarksDevice X) → failed_in b ≡ d.store.counts.failed → Based base_in Any b i → (t : CameTo i) →
-      d.store.counts.failed ≤ t.state.store.counts.failed
+  pub rises : {X : Type 0} (b : B.Base) (i : Interaction Bool Image MarksDevice X) → failed_in b ≡ d.store.counts.failed → Based base_in Any b i →
+      (t : CameTo i) → d.store.counts.failed ≤ t.state.store.counts.failed
   rises b i same x t =
       subst (λ (n : ℕ). n ≤ t.state.store.counts.failed) same (at (never_falls x (subst (λ (n : ℕ). n ≤ top) (sym same) f.most)) t)
 

@@ -163,8 +163,8 @@ module _ (d : MarksDevice) where
     calm = λ how f lt x. reset_calm d f lt x path t;
   }
 
-  side_made : (alone : Bool) (side : Side) → fail_fault d side ≡ None → (alone ≡ false → d.store.paired ≡ true) → (t : CameTo (lose by_plain d (losses.Side side))) →
-      MadeCalm true alone d t.state
+  side_made : (alone : Bool) (side : Side) → fail_fault d side ≡ None → (alone ≡ false → d.store.paired ≡ true) →
+      (t : CameTo (lose by_plain d (losses.Side side))) → MadeCalm true alone d t.state
   side_made alone side fault paired t = record {
     more = λ f. rises d f (with_one_loss (losses.Side side) (kept d.store)) (lose by_plain d (losses.Side side)) refl
         (lose_based by_plain d (losses.Side side)) t;

@@ -99,7 +99,8 @@ told_came i w = record { state = (hold true i w).state; answer = (hold true i w)
 
 -- An answer changes nothing of the state behind it
 
-pub answered_by : {I S X Y : Type 0} (i : Interaction Bool I S X) (f : X → Y) (y : S) (b : Y) → Came (and_then i (λ s a. Done s (f a))) y b → (a : X) × Came i y a
+pub answered_by : {I S X Y : Type 0} (i : Interaction Bool I S X) (f : X → Y) (y : S) (b : Y) → Came (and_then i (λ s a. Done s (f a))) y b →
+    (a : X) × Came i y a
 unfolding Came
 answered_by (Done s a) f y b c = (a, (c.0, refl))
 answered_by (Try k) f y b c = answered_by (k true) f y b c

@@ -299,8 +299,8 @@ module _ (d : MarksDevice) (f : Fair d) (p : Plainly d) (s : Steered d) (lt : d.
             ∙ ap (λ (l : List Bool). has_lost l (its_effect p.number (empty_of d) d (plainly_of d p) o running chain is).touched)
             (ap (λ (z : MarksDevice). z.store.lost) (sym at_y) ∙ fine.lost) ∙ lost
 
-  by_before : (o : OpenEntry) → d.history.running ≡ Some o → d.store.half ≡ None → (k : Option ChainState) → (plainly_of d p).before ≡ k → (t : CameTo (command by_plain d)) →
-      Grows d.history t.state.history → explained_on d t.state ≡ true
+  by_before : (o : OpenEntry) → d.history.running ≡ Some o → d.store.half ≡ None → (k : Option ChainState) → (plainly_of d p).before ≡ k →
+      (t : CameTo (command by_plain d)) → Grows d.history t.state.history → explained_on d t.state ≡ true
   by_before o running whole None is t g =
       absurd (subst (λ (k : Option ChainState). RunsAt d.plans (replay d.plans (empty_of d) d.history.items) (Some o) k) is
       (subst (λ (r : Option OpenEntry). RunsAt d.plans (replay d.plans (empty_of d) d.history.items) r (plainly_of d p).before) running

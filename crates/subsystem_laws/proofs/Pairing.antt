@@ -156,7 +156,8 @@ module _ (Still : MarksDevice → MarksDevice → Type 0) (Made : Bool → Bool 
     asks_shown lossy alone s d seat talk h None = pairs_same (Made lossy alone) (made_own lossy alone) s.mounted
     asks_shown lossy alone s d seat talk h (Some m) =
         pairs_put (Made lossy alone) (made_own lossy alone) d.store.device (mounted_behind (held_with s.pool m talk)) s.mounted
-        (λ x there. subst (λ (z : MarksDevice). Made lossy alone z (held_with s.pool m talk).state) (sym (seat x there)) (h (told_came talk (told_to s.pool m))))
+        (λ x there. subst (λ (z : MarksDevice). Made lossy alone z (held_with s.pool m talk).state) (sym (seat x there))
+        (h (told_came talk (told_to s.pool m))))
 
     joined_shown : (z : Subsystem) (n : ℕ) (volume : Calls) (o : Option Mounted) → mounted_in z.mounted n ≡ o →
         Pairs Still z.mounted (joined z n volume o).mounted

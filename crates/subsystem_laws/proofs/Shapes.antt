@@ -190,7 +190,12 @@ second_end_shape h k (seconds.Unwritten q) t = acted_shape h k t
 reset_shapes : (h : History) (path more : ℕ) (r : Option OpenEntry) → Shape h (reset_in h path more r)
 reset_shapes h path more (Some o) =
     shape_if h (o.path == path) (cut_by h o more) _
-    (record { more = entry_of o (Cut (length o.ends + more)) ∷ items.Reset o.path ∷ resets_of h.waiting; grown = refl; alone = resets_none h.waiting; stays = resets_stay h.waiting })
+    (record {
+      more = entry_of o (Cut (length o.ends + more)) ∷ items.Reset o.path ∷ resets_of h.waiting;
+      grown = refl;
+      alone = resets_none h.waiting;
+      stays = resets_stay h.waiting;
+    })
     (shape_if h (is_used path false h.items) (record h { waiting = put path h.waiting }) h (shape_none h (record h { waiting = put path h.waiting }) refl)
     (shape_none h h refl))
 reset_shapes h path more None =

@@ -130,7 +130,8 @@ module _ {K : Type 0} {d : WholeDevice} {u : Outside (List ℕ) K} (s : Stands d
           held = o.holdings;
           untold = o.untold;
           order = o.is.is.order;
-          follows = own_follows num empty (marks_device o.is.plain o.is.firm e) (subst (λ (m : MarksDevice). Follows num empty m) (sym o.is.marks) (came_had had t));
+          follows = own_follows num empty (marks_device o.is.plain o.is.firm e)
+              (subst (λ (m : MarksDevice). Follows num empty m) (sym o.is.marks) (came_had had t));
           gives = subst GiveBytes (sym same) s.gives;
           never = subst (λ (m : MarksDevice). has_fresh m.history.items ≡ false) (sym o.is.marks) (none_fresh d.history o.state.history (shapes t) s.never);
           excusable = subst IsExcusable (sym o.is.marks) (excuses t);

@@ -39,8 +39,8 @@ may_answer : (slots : Option (List ℕ)) (call : Call) (a : AnswerTo call) → s
 may_answer slots call a is = subst (λ (o : Option (List ℕ)). MayAnswer o call a) (sym is) tt
 
 -- the other one's end, which it can come to
-pub record Twinned {R I S A T B : Type 0} (q : S → A → T → B → Holdings R → Type 0) {K : Type 0} (j : Interaction Bool I T B) (s : S) (a : A) (w : Outside R K) :
-    Type 0 where
+pub record Twinned {R K I S A T B : Type 0} (q : S → A → T → B → Holdings R → Type 0) (j : Interaction Bool I T B) (s : S) (a : A) (w : Outside R K) : Type 0
+    where
   pub state : T
   pub answer : B
   pub holdings : Holdings R
@@ -78,7 +78,8 @@ module _ {R I S A T B : Type 0} (z : R) (q : S → A → T → B → Holdings R 
 
   module _ {K : Type 0} {hears : Hearing I K} (heard : (k : K) (m : Message I) (r : ReplyTo m) (l : K) → hears k m r l → r ≡ reply m) where
     -- what one of its answers comes to
-    by_one : {i j : Interaction Bool I T B} {s : S} {a : A} {w : Outside R K} → ((y : T) (b : B) → Came i y b → Came j y b) → Twinned q i s a w → Twinned q j s a w
+    by_one : {i j : Interaction Bool I T B} {s : S} {a : A} {w : Outside R K} → ((y : T) (b : B) → Came i y b → Came j y b) →
+        Twinned q i s a w → Twinned q j s a w
     by_one f o = record { state = o.state; answer = o.answer; holdings = o.holdings; untold = o.untold; is = o.is; came = f o.state o.answer o.came }
 
     pub twinned : {i : Interaction R I S A} {j : Interaction Bool I T B} (h : Holdings R) {u w : Outside R K} {s : S} {a : A} → Both z true q i j h →

@@ -1,5 +1,5 @@
-//! Laws of a device in a turn, whose port tells nothing: it goes on to stand beside the plain device of its history, is sound, and is excused for what it loses.
-//! No code but law functions.
+//! Laws of a device in a turn, whose port tells nothing: it goes on to stand beside the plain device of its history, is sound, and is excused for what it
+//! lost. No code but law functions.
 #![tactic(auto)]
 
 ghost use Rattle.std.specs.Prelude.{◌≡◌, ◌≤◌, ◌<◌, ◌*◌, ◌^◌, ◌-◌, [], false, true, length, slice_set, ℕ, List, Option, None, Some};
