@@ -2,6 +2,7 @@ pub mod Recorded
 pub mod Paired
 pub mod Ended
 pub mod NewDevices
+pub mod PairedExcuses
 pub mod Readied
 pub mod Finished
 pub mod RunTold
