@@ -2,7 +2,7 @@ pub mod Recorded
 pub mod Paired
 pub mod Ended
 pub mod NewDevices
-pub mod PairedExcuses
+pub mod PairedAbout
 pub mod Readied
 pub mod Finished
 pub mod RunTold

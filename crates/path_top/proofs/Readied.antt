@@ -22,9 +22,9 @@ use Rattle.device_core.specs.declared.device.Device.{Device}
 use Rattle.device_core.specs.State.{device_of}
 use Rattle.subsystem_core.specs.declared.subsystem.Subsystem.{Subsystem}
 use Rattle.subsystem_defs.specs.Subsystem.{Mounted}
+use Rattle.subsystem_laws.specs.CameAbout.{CameAbout}
 use Rattle.subsystem_laws.specs.Excused.{has_fresh}
 use Rattle.subsystem_laws.specs.WholeStood.{Stood, IsMounted, is_mounted, AreMountedBy, one_more}
-use Rattle.subsystem_laws.proofs.Excusable.{IsExcusable}
 use Rattle.subsystem_laws.proofs.Walks.{AreSo}
 use Rattle.deck_run.specs.Owning.{AllOwn}
 use Rattle.deck_run.specs.Standing.{StandsAs, all_stood, stood_of}
@@ -75,8 +75,8 @@ follows_so line m f =
     (subst (λ (p : PlainState). Follows line.number p m.device) f.base f)
 
 one_usable : {mine : List ℕ} {x : Stood} {m : Mounted} (deck : DeckLines) (line : DeviceLine) → IsMounted mine x m → IsNew deck line m →
-    IsExcusable m.device → GiveBytes x.device.plans → IsUsable deck line (lent_of m) x
-one_usable deck line (is_mounted d v w h on_a on_b a b stands slots told_a told_b) p excusable gives = record {
+    CameAbout m.device → GiveBytes x.device.plans → IsUsable deck line (lent_of m) x
+one_usable deck line (is_mounted d v w h on_a on_b a b stands slots told_a told_b) p about gives = record {
   number = p.follows.number;
   plans = p.plans;
   none = p.none;
@@ -95,8 +95,8 @@ one_usable deck line (is_mounted d v w h on_a on_b a b stands slots told_a told_
       order = untold_order d.store h v w i;
       follows = follows_so line (record { device = marks_device v w d; a = a; b = b }) p.follows;
       gives = gives;
+      about = about;
       never = ap (λ (h : History). has_fresh h.items) p.none;
-      excusable = excusable;
     }
     by_place free (is_away l) = none_some d.store.lent free l.store.lent
 
@@ -106,7 +106,7 @@ module _ {V : Type 0} {G : Ghosts V} where
   IsOpened deck line x = IsUsable deck line (device_of x).store.lent (stood_of x)
 
   all_opened : {used taken : List ℕ} (deck : DeckLines) (ls : List DeviceLine) (xs : List (Device V G)) (ms : List Mounted) →
-      AreMountedBy used taken (all_stood xs) ms → AreNew deck ls ms → AreSo IsExcusable ms → AllOwn xs →
+      AreMountedBy used taken (all_stood xs) ms → AreNew deck ls ms → AreSo CameAbout ms → AllOwn xs →
       AllZip (IsOpened deck) ls xs × (map (λ (x : Device V G). (device_of x).store.lent) xs ≡ map lent_of ms)
   all_opened deck [] [] [] a n e o = (tt, refl)
   all_opened deck [] [] (m ∷ ms) a n e o = absurd n
@@ -123,11 +123,11 @@ module _ {V : Type 0} {G : Ghosts V} where
       )
 
   pub are_opened : (deck : DeckLines) (s : Subsystem V G) → StandsAs s (paired deck) → AreNew deck deck.devices (paired deck).mounted →
-      AreSo IsExcusable (paired deck).mounted → AllOwn s.devices.items →
+      AreSo CameAbout (paired deck).mounted → AllOwn s.devices.items →
       AllZip (IsOpened deck) deck.devices s.devices.items
       × (map (λ (x : Device V G). (device_of x).store.lent) s.devices.items ≡ all_lent (paired deck))
-  are_opened deck s stands new excusable own =
-      all_opened deck deck.devices s.devices.items (paired deck).mounted stands.mounted new excusable own
+  are_opened deck s stands new about own =
+      all_opened deck deck.devices s.devices.items (paired deck).mounted stands.mounted new about own
 
   -- Ready for the run
 

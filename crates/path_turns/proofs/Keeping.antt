@@ -146,8 +146,8 @@ module _ {V : Type 0} {G : Ghosts V} where
       order = s.order;
       follows = s.follows;
       gives = s.gives;
+      about = s.about;
       never = s.never;
-      excusable = s.excusable;
     }
 
     pub to_stands : Stands (device_of e) z → Stands (device_of e) (told_of e)
@@ -159,8 +159,8 @@ module _ {V : Type 0} {G : Ghosts V} where
       order = s.order;
       follows = s.follows;
       gives = s.gives;
+      about = s.about;
       never = s.never;
-      excusable = s.excusable;
     }
 
     -- behind an event that keeps the pledge and lets the device stand

@@ -30,7 +30,8 @@ use Rattle.subsystem_defs.specs.Decks.{opened, opened_device, run_of}
 use Rattle.subsystem_defs.specs.Lines.{Logged, asked_by}
 use Rattle.subsystem_defs.specs.Subsystem.{devices_of}
 use Rattle.subsystem_laws.specs.Waits.{AreNumbered}
-use Rattle.subsystem_laws.proofs.Came.{CameTo, at, came_had}
+use Rattle.subsystem_laws.specs.Came.{CameTo}
+use Rattle.subsystem_laws.proofs.Came.{at, came_had}
 use Rattle.subsystem_laws.proofs.Explained.{its_own}
 use Rattle.subsystem_laws.proofs.LendBase.{lend_lends, stays_still}
 use Rattle.subsystem_laws.proofs.ReadDecks.{read_numbered, read_small}

@@ -9,7 +9,8 @@ use Rattle.device_defs.specs.Orders.{replace}
 use Rattle.device_defs.specs.Start as S
 use Rattle.device_defs.specs.Start.{start}
 use Rattle.device_laws.proofs.BasedEvents.{background_based, command_based, lose_based, power_based, reset_body, second_based}
-use Rattle.subsystem_laws.proofs.Came.{CameTo, at}
+use Rattle.subsystem_laws.specs.Came.{CameTo}
+use Rattle.subsystem_laws.proofs.Came.{at}
 use Rattle.subsystem_laws.proofs.LendBase.{lend_lends, stays_still}
 use Rattle.subsystem_laws.proofs.RunLines.{AnyEvent}
 use Rattle.subsystem_laws.proofs.Walks.{IsKept}

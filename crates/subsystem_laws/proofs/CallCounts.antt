@@ -73,7 +73,8 @@ use Rattle.subsystem_defs.specs.Deeds.{ends_done, end_of}
 use Rattle.subsystem_defs.specs.Lines.{Logged, asked_by, last_behind}
 use Rattle.subsystem_defs.specs.Subsystem.{Mounted, Subsystem, devices_of}
 use Rattle.subsystem_laws.specs.Causes.{EachPair}
-use Rattle.subsystem_laws.proofs.Came.{CameTo, at}
+use Rattle.subsystem_laws.specs.Came.{CameTo}
+use Rattle.subsystem_laws.proofs.Came.{at}
 use Rattle.subsystem_laws.proofs.CalmRuns.{AllSo}
 use Rattle.subsystem_laws.proofs.DeedWalk.{seat_of, IsDeedwise}
 use Rattle.subsystem_laws.proofs.LendBase.{stays_still, lent_store, lend_based, lend_lends, lent_counts}

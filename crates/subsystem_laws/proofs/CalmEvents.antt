@@ -80,7 +80,8 @@ use Rattle.subsystem_defs.specs.Calm.{is_whole_device}
 use Rattle.subsystem_defs.specs.declared.end.OrderFault.TheVariants.{Unpaired, Half, Down}
 use Rattle.subsystem_defs.specs.Refusals as R
 use Rattle.subsystem_defs.specs.Refusals.{pair_fault, suspend_fault, fail_fault, replace_fault, unpair_fault}
-use Rattle.subsystem_laws.proofs.Came.{CameTo, at}
+use Rattle.subsystem_laws.specs.Came.{CameTo}
+use Rattle.subsystem_laws.proofs.Came.{at}
 use Rattle.subsystem_laws.proofs.CalmDevices.{
   Calm,
   is_unserved,

@@ -102,7 +102,7 @@ use Rattle.subsystem_defs.specs.Subsystem.{Mounted, Subsystem, devices_of, mount
 use Rattle.subsystem_laws.specs.Causes.{HasNoDataCheck, HaveNoDataCheck, EachPair}
 use Rattle.subsystem_laws.specs.Served.{IsServedDeck}
 use Rattle.subsystem_laws.proofs.CalmDevices.{Calm, is_unserved}
-use Rattle.subsystem_laws.proofs.Came.{CameTo}
+use Rattle.subsystem_laws.specs.Came.{CameTo}
 use Rattle.subsystem_laws.proofs.CalmEvents.{
   Losing,
   StillCalm,

@@ -1,10 +1,10 @@
--- What an interaction over marks can come to where memory is had, whatever is answered: each read that doesn't fail delivers a track.
-use Rattle.std.proofs.Common.{◌≡◌, ◌<◌, ◌≤◌, ℕ, Bool, true, false, Option, Some, None, refl, sym, subst, arith}
+-- Of what an interaction over marks can come to holds what holds behind every answer; and what it comes to where the outside is told.
+use Rattle.std.proofs.Common.{◌≡◌, ◌<◌, ◌≤◌, ℕ, Bool, true, false, Some, None, refl, sym, subst, arith}
 use Rattle.std.specs.Prelude.{if◌then◌else◌}
 use Rattle.track_image.specs.Image.{Image}
 use Rattle.device_outside.specs.Interaction.{Interaction, Done, Try, Ask, Read, Write, Tell, and_then}
 use Rattle.device_outside.specs.Keeper.{reply}
-use Rattle.device_outside.specs.Pool.{Call, AnswerTo, answer, after}
+use Rattle.device_outside.specs.Pool.{Call, answer, after}
 use Rattle.device_outside.specs.Told as T
 use Rattle.device_outside.specs.Told.{Told, hold, calls_of, read_fails, write_fails, read_counted, write_counted}
 use Rattle.device_laws.proofs.Always.{Always}
@@ -23,28 +23,11 @@ use Rattle.device_laws.proofs.Had.{BehindHad, Had}
 use Rattle.device_laws.proofs.Lucky.{failed_in, top, counted_rises, counted_top, never_falls}
 use Rattle.device_laws.proofs.PlainEvents.{had_always}
 use Rattle.device_laws.proofs.Served.{Served, served_done, served_try, served_ask, served_read, served_write, served_tell}
-
--- what a read hands over
-abbrev pub delivered : Bool → Option Bool
-delivered ok = if ok then Some true else None
-
-unfoldable pub Came : {I S A : Type 0} → Interaction Bool I S A → S → A → Type 0
-Came (Done s a) y b = (y ≡ s) × (b ≡ a)
-Came (Try k) y b = Came (k true) y b
-Came (Ask call k) y b = (a : AnswerTo call) × Came (k a) y b
-Came (Read side t k) y b = (ok : Bool) × Came (k (delivered ok)) y b
-Came (Write side t r k) y b = (ok : Bool) × Came (k ok) y b
-Came (Tell m k) y b = Came (k (reply m)) y b
-
-pub record CameTo {I S A : Type 0} (i : Interaction Bool I S A) : Type 0 where
-  pub state : S
-  pub answer : A
-  pub is : Came i state answer
-
--- Of it holds what holds behind every answer
+use Rattle.subsystem_laws.specs.Came as C
+use Rattle.subsystem_laws.specs.Came.{Came, CameTo, delivered}
 
 came_by : {I S A : Type 0} (i : Interaction Bool I S A) (q : S → A → Type 0) (y : S) (b : A) → BehindHad i q → Came i y b → q y b
-unfolding Came H.BehindHad
+unfolding C.Came H.BehindHad
 came_by (Done s a) q y b h c = subst (λ (z : _). q z b) (sym c.0) (subst (λ (x : _). q s x) (sym c.1) h)
 came_by (Try k) q y b h c = came_by (k true) q y b h c
 came_by (Ask call k) q y b h c = came_by (k c.0) q y b (h c.0) c.1
@@ -60,7 +43,7 @@ at h t = came_had (had_always h) t
 
 -- where no bytes are bad
 clean_by : {I S A : Type 0} {q : S → A → Type 0} {i : Interaction Bool I S A} → Clean q i → (y : S) (b : A) → Came i y b → q y b
-unfolding Came
+unfolding C.Came
 clean_by {q = q} (clean_done {s = s} {a = a} x) y b c = subst (λ (z : _). q z b) (sym c.0) (subst (λ (z : _). q s z) (sym c.1) x)
 clean_by (clean_try x) y b c = clean_by (x true) y b c
 clean_by (clean_ask x) y b c = clean_by (x c.0) y b c.1
@@ -77,7 +60,7 @@ came_clean h t = clean_by h t.state t.answer t.is
 -- What it comes to where the outside is told
 
 pub told_by : {I S A : Type 0} (i : Interaction Bool I S A) (w : Told) → Came i (hold true i w).state (hold true i w).answer
-unfolding Came T.hold
+unfolding C.Came T.hold
 told_by (Done s a) w = (refl, refl)
 told_by (Try k) w = told_by (k true) w
 told_by (Ask call k) w = (answer w.pool call, told_by (k (answer w.pool call)) (record w { pool = after w.pool call (answer w.pool call) }))
@@ -101,7 +84,7 @@ told_came i w = record { state = (hold true i w).state; answer = (hold true i w)
 
 pub answered_by : {I S X Y : Type 0} (i : Interaction Bool I S X) (f : X → Y) (y : S) (b : Y) → Came (and_then i (λ s a. Done s (f a))) y b →
     (a : X) × Came i y a
-unfolding Came
+unfolding C.Came
 answered_by (Done s a) f y b c = (a, (c.0, refl))
 answered_by (Try k) f y b c = answered_by (k true) f y b c
 answered_by (Ask call k) f y b c = let x = answered_by (k c.0) f y b c.1 in (x.0, (c.0, x.1))
@@ -122,7 +105,7 @@ module _ {S X : Type 0} {base : S → Base} {may : Call → Type 0} where
 
   served_by : (q : S → X → Type 0) {b : Base} {i : Interaction Bool Image S X} → Based base may b i → failed_in b < top → Served q i → (y : S) (a : X) →
       Came i y a → failed_in (base y) ≡ failed_in b → q y a
-  unfolding Came
+  unfolding C.Came
   served_by q (based_done e) lt (served_done {s = s} {a = v} x) y a c same = subst (λ (z : S). q z a) (sym c.0) (subst (λ (z : X). q s z) (sym c.1) x)
   served_by q (based_try x) lt (served_try z) y a c same = served_by q (x true) lt z y a c same
   served_by q (based_ask m x) lt (served_ask z) y a c same = served_by q (x c.0) lt (z c.0) y a c.1 same

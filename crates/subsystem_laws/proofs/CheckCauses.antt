@@ -66,7 +66,8 @@ use Rattle.device_laws.proofs.Unlost.{Fine, core_of}
 use Rattle.device_laws.proofs.UncheckedEvents.{equipment_checks, acts_same, command_unchecked_within}
 use Rattle.device_laws.proofs.UnlostParts.{hear_goes}
 use Rattle.subsystem_laws.specs.Causes.{call_failed, not_counted, none_takes, half_untried, track_lost, data_gone, checks_of, ChecksForCause}
-use Rattle.subsystem_laws.proofs.Came.{CameTo, at}
+use Rattle.subsystem_laws.specs.Came.{CameTo}
+use Rattle.subsystem_laws.proofs.Came.{at}
 use Rattle.subsystem_laws.proofs.GoodMarks.{runs_home, half_home, within}
 use Rattle.subsystem_laws.proofs.NothingChecked.{lend_past}
 use Rattle.subsystem_laws.proofs.PastChecks.{reset_counts, power_counts}

@@ -69,7 +69,8 @@ use Rattle.subsystem_defs.specs.Subsystem.{Mounted, Subsystem, devices_of}
 use Rattle.subsystem_laws.specs.Causes.{EachPair, CountFailures}
 use Rattle.subsystem_laws.specs.Excused.{has_fresh, WasNeverLent, HasExcusedChecks, HaveExcusedChecks}
 use Rattle.subsystem_laws.specs.Served.{IsServedDeck}
-use Rattle.subsystem_laws.proofs.Came.{CameTo, at}
+use Rattle.subsystem_laws.specs.Came.{CameTo}
+use Rattle.subsystem_laws.proofs.Came.{at}
 use Rattle.subsystem_laws.proofs.CalmRuns.{AllSo, all_so}
 use Rattle.subsystem_laws.proofs.DeedWalk.{seat_of, IsDeedwise}
 use Rattle.subsystem_laws.proofs.Excusing.{

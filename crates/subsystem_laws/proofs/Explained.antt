@@ -83,7 +83,8 @@ use Rattle.device_laws.proofs.WriteLooks.{edited_is_write}
 use Rattle.subsystem_defs.specs.Beside.{behind_first, new_items}
 use Rattle.subsystem_defs.specs.Promised.{empty_of, explains, explained_first, explained_on}
 use Rattle.subsystem_laws.specs.Causes.{checks_of, EachPair}
-use Rattle.subsystem_laws.proofs.Came.{CameTo, at, came_had, came_served}
+use Rattle.subsystem_laws.specs.Came.{CameTo}
+use Rattle.subsystem_laws.proofs.Came.{at, came_had, came_served}
 use Rattle.subsystem_laws.proofs.CheckCauses.{by_failed, decided, second_checks, reset_same, power_same, loss_same, background_same, restore_same}
 use Rattle.subsystem_laws.proofs.GoodMarks.{runs_home, half_home, within}
 use Rattle.subsystem_laws.proofs.PlainRuns.{Plainly}

@@ -22,7 +22,7 @@ use Rattle.device_laws.proofs.BasedEvents.{base_in, quiet_based}
 use Rattle.device_laws.proofs.Had.{held}
 use Rattle.device_laws.proofs.PlainEvents.{had_always}
 use Rattle.subsystem_laws.proofs.Came as C
-use Rattle.subsystem_laws.proofs.Came.{CameTo}
+use Rattle.subsystem_laws.specs.Came.{CameTo}
 
 abbrev pub IsStill : Base → Base → Type 0
 IsStill b x = (x.device ≡ b.device) × (x.cylinders ≡ b.cylinders) × (x.lent ≡ b.lent) × (x.counts.losses ≡ b.counts.losses)

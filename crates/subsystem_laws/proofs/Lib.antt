@@ -53,6 +53,7 @@ pub mod FramesRuns
 pub mod LooseRuns
 pub mod ExcusedDevices
 pub mod Excusable
+pub mod AboutRuns
 pub mod UnfailingRuns
 pub mod SoundHardware
 mod SoundRows

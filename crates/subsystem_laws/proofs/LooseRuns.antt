@@ -34,7 +34,8 @@ use Rattle.subsystem_defs.specs.Subsystem.{Mounted, Subsystem, devices_of}
 use Rattle.subsystem_laws.specs.Causes.{EachPair}
 use Rattle.subsystem_laws.specs.Excused.{HasCountedLosses, HaveCountedLosses}
 use Rattle.subsystem_laws.specs.Served.{IsServedDeck}
-use Rattle.subsystem_laws.proofs.Came.{CameTo, at}
+use Rattle.subsystem_laws.specs.Came.{CameTo}
+use Rattle.subsystem_laws.proofs.Came.{at}
 use Rattle.subsystem_laws.proofs.CallCounts.{one_few, none_few, below}
 use Rattle.subsystem_laws.proofs.CalmRuns.{AllSo, one_event, from_none}
 use Rattle.subsystem_laws.proofs.DeedWalk.{seat_of, IsDeedwise}

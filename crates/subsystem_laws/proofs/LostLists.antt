@@ -30,7 +30,8 @@ use Rattle.device_laws.proofs.Lucky.{where_none_failed}
 use Rattle.device_laws.proofs.TrackMarks.{marks_are_faithful}
 use Rattle.device_laws.proofs.Unlost.{Fine, core_of}
 use Rattle.device_laws.proofs.UnlostEvents.{DeviceGoes, command_goes_within, background_goes, second_event_goes}
-use Rattle.subsystem_laws.proofs.Came.{CameTo, at}
+use Rattle.subsystem_laws.specs.Came.{CameTo}
+use Rattle.subsystem_laws.proofs.Came.{at}
 use Rattle.subsystem_laws.proofs.GoodMarks.{good_kept, by_lent, runs_home, half_home, within}
 use Rattle.subsystem_laws.proofs.LendBase.{stays_still, lend_lends}
 use Rattle.subsystem_defs.specs.Refusals.{pair_fault}

@@ -45,7 +45,8 @@ use Rattle.subsystem_defs.specs.Decks.{opened_device, opened, run_of}
 use Rattle.subsystem_defs.specs.Lines.{asked_by}
 use Rattle.subsystem_laws.specs.Causes.{ChecksNothing, CheckNothing}
 use Rattle.subsystem_laws.specs.Served.{IsServedDeck}
-use Rattle.subsystem_laws.proofs.Came.{CameTo, at}
+use Rattle.subsystem_laws.specs.Came.{CameTo}
+use Rattle.subsystem_laws.proofs.Came.{at}
 use Rattle.subsystem_laws.proofs.GoodMarks.{runs_home, half_home, within}
 use Rattle.subsystem_laws.proofs.LendBase.{stays_still, lent_store, lend_based, lent_counts}
 use Rattle.subsystem_laws.proofs.PastChecks.{reset_counts}

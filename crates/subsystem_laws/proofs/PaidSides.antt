@@ -57,7 +57,8 @@ use Rattle.device_laws.proofs.Lucky.{top}
 use Rattle.subsystem_defs.specs.Decks.{opened_device}
 use Rattle.subsystem_defs.proofs.Unrefused.{parts_up}
 use Rattle.subsystem_laws.specs.Excused.{has_fresh, WasNeverLent}
-use Rattle.subsystem_laws.proofs.Came.{CameTo, at}
+use Rattle.subsystem_laws.specs.Came.{CameTo}
+use Rattle.subsystem_laws.proofs.Came.{at}
 use Rattle.subsystem_laws.proofs.Excusing.{IsPaid}
 use Rattle.subsystem_laws.proofs.FactsEvents.{command_leaves, second_leaves, background_leaves, lose_leaves, power_leaves, reset_leaves}
 use Rattle.subsystem_laws.proofs.LendBase.{stays_still, lend_lends}

@@ -52,7 +52,8 @@ use Rattle.subsystem_defs.specs.Refusals.{replace_fault, unpair_fault}
 use Rattle.subsystem_defs.specs.Subsystem.{Mounted, Subsystem, number_of, devices_of, mounted_in, put_in, with_calls, unfailing}
 use Rattle.subsystem_laws.specs.Causes.{EachPair}
 use Rattle.subsystem_laws.specs.Served.{IsServedDeck}
-use Rattle.subsystem_laws.proofs.Came.{CameTo, answered, told_came}
+use Rattle.subsystem_laws.specs.Came.{CameTo}
+use Rattle.subsystem_laws.proofs.Came.{answered, told_came}
 use Rattle.subsystem_laws.proofs.DeedWalk.{IsSeat, Stands, seat_of, IsEventwise, event_deed_is, IsDeedwise}
 use Rattle.subsystem_laws.proofs.RunLines.{AnyEvent, Goes, run_shows}
 use Rattle.subsystem_laws.proofs.RunLinks.{event_from}

@@ -39,7 +39,8 @@ use Rattle.subsystem_defs.specs.Refusals as R
 use Rattle.subsystem_defs.specs.Refusals.{first_cause, where_so, lent_by, active_by, is_alike, pair_fault}
 use Rattle.subsystem_defs.proofs.Unrefused.{first_none}
 use Rattle.subsystem_laws.specs.Served.{IsServedEvent, IsServed, IsServedDeck}
-use Rattle.subsystem_laws.proofs.Came.{CameTo, came_had}
+use Rattle.subsystem_laws.specs.Came.{CameTo}
+use Rattle.subsystem_laws.proofs.Came.{came_had}
 use Rattle.subsystem_laws.proofs.RunLines.{MayAsk}
 use Rattle.subsystem_laws.proofs.Walks.{HasOwn, IsKept, AreSo, event_so, line_keeps, lines_keep_so, lines_end_so, behind_weaker}
 

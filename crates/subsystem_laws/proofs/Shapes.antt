@@ -58,7 +58,8 @@ use Rattle.device_laws.proofs.KeptEvents.{always_any, always_if}
 use Rattle.device_laws.proofs.LastCommands.{runs_still}
 use Rattle.loss_model.specs.declared.Loss.{Loss}
 use Rattle.subsystem_laws.specs.Excused.{has_fresh}
-use Rattle.subsystem_laws.proofs.Came.{CameTo, at}
+use Rattle.subsystem_laws.specs.Came.{CameTo}
+use Rattle.subsystem_laws.proofs.Came.{at}
 use Rattle.subsystem_laws.proofs.Excusing.{NoProgram}
 
 -- none behind the first

@@ -45,7 +45,8 @@ use Rattle.subsystem_defs.specs.Refusals as R
 use Rattle.subsystem_defs.specs.Refusals.{replace_fault, pair_fault, unpair_fault}
 use Rattle.subsystem_laws.specs.Causes.{KeepsTracks, KeepTracks}
 use Rattle.subsystem_laws.specs.Served.{IsServedDeck}
-use Rattle.subsystem_laws.proofs.Came.{CameTo, at}
+use Rattle.subsystem_laws.specs.Came.{CameTo}
+use Rattle.subsystem_laws.proofs.Came.{at}
 use Rattle.subsystem_laws.proofs.GoodMarks.{Good, good_kept, home_before, by_lent, lent_is, restore_good, within, new_good}
 use Rattle.subsystem_laws.proofs.LendBase.{stays_still, lend_lends, lend_based, lent_counts}
 use Rattle.subsystem_laws.proofs.RunLines.{AnyEvent}

@@ -77,7 +77,8 @@ use Rattle.subsystem_defs.specs.Subsystem.{Mounted, Subsystem, number_of, device
 use Rattle.subsystem_defs.specs.declared.end.OrderFault.TheVariants.{Same, Paired, Unpaired}
 use Rattle.subsystem_defs.specs.Refusals as R
 use Rattle.subsystem_defs.specs.Refusals.{pair_fault, suspend_fault, resume_fault, fail_fault, replace_fault, unpair_fault}
-use Rattle.subsystem_laws.proofs.Came.{CameTo, answered, told_came}
+use Rattle.subsystem_laws.specs.Came.{CameTo}
+use Rattle.subsystem_laws.proofs.Came.{answered, told_came}
 use Rattle.subsystem_laws.proofs.DeedWalk.{Stands, seat_of, IsEventwise, event_deed_is}
 use Rattle.subsystem_laws.proofs.LendBase.{lend_lends}
 use Rattle.subsystem_laws.proofs.RunLines.{AnyEvent, MayAsk, all_asked, Logs, logs_end, logs_all, Goes, line_goes, lines_go}

@@ -12,7 +12,8 @@ use Rattle.device_defs.specs.Marks.{MarksStore}
 use Rattle.device_laws.proofs.NewDevices.{new_in_order, new_marks}
 use Rattle.device_laws.proofs.PlainEvents.{new_follows}
 use Rattle.device_laws.proofs.PlainTurns.{Follows}
-use Rattle.subsystem_laws.proofs.Excusable.{IsExcusable, new_excusable}
+use Rattle.subsystem_laws.specs.CameAbout as about
+use Rattle.subsystem_laws.specs.CameAbout.{CameAbout}
 use Rattle.turn_laws.specs.Standing.{GiveBytes, Stands, new_device}
 
 pub new_stands : {K : Type 0} (d : ℕ) (g : Geometry) (n : ℕ) (plans : Plans) (u : Outside (List ℕ) K) → 1 ≤ n → n ≤ 64 →
@@ -27,6 +28,6 @@ new_stands d g n plans u some most a b gives = record {
       (sym (new_marks d g n)) (new_follows d g n plans (omega (arith, some)));
   gives = gives;
   never = refl;
-  excusable = subst (λ (m : MarksStore). IsExcusable (record { store = m; paths = fresh_paths; plans = plans; history = no_history; chain = None }))
-      (sym (new_marks d g n)) (new_excusable d g n plans some);
+  about = subst (λ (m : MarksStore). CameAbout (record { store = m; paths = fresh_paths; plans = plans; history = no_history; chain = None }))
+      (sym (new_marks d g n)) (about.opened d g n plans some);
 }

@@ -14,19 +14,20 @@ use Rattle.device_laws.proofs.PlainTurns.{Follows}
 use Rattle.device_laws.proofs.TwinLaws.{held_side_leaves_order}
 use Rattle.plain_defs.specs.PlainState.{empty_state}
 use Rattle.subsystem_defs.specs.Refusals.{replace_fault, suspend_fault}
+use Rattle.subsystem_laws.specs.CameAbout.{CameAbout}
 use Rattle.subsystem_laws.specs.Excused.{has_fresh}
-use Rattle.subsystem_laws.proofs.Excusable.{IsExcusable, excusable_kept}
+use Rattle.subsystem_laws.proofs.AboutRuns.{about_kept}
 use Rattle.subsystem_laws.proofs.WholeHappens.{suspend_fault_both}
 use Rattle.subsystem_laws.proofs.WholeOrders.{down_by, fault_both, paired_by}
 use Rattle.turn_laws.specs.Standing.{Stands, Untold}
 
 -- held, where that isn't refused, or resumed
-held_excuses : {K : Type 0} (d : WholeDevice) (u : Outside (List ℕ) K) (held : Bool) → (held ≡ true → suspend_fault d ≡ None) → (s : Stands d u) →
-    IsExcusable (record (marks_device s.plain s.firm d) { store = record (marks_device s.plain s.firm d).store { held = held } })
-held_excuses d u true fault s =
-    excusable_kept.held (marks_device s.plain s.firm d) (suspend_fault_both s.plain s.firm d ∙ fault refl) s.excusable
-held_excuses d u false fault s =
-    excusable_kept.resumed (marks_device s.plain s.firm d) (λ away. at_home (is_some d.store.lent) s.order.free away) s.excusable
+held_about : {K : Type 0} (d : WholeDevice) (u : Outside (List ℕ) K) (held : Bool) → (held ≡ true → suspend_fault d ≡ None) → (s : Stands d u) →
+    CameAbout (record (marks_device s.plain s.firm d) { store = record (marks_device s.plain s.firm d).store { held = held } })
+held_about d u true fault s =
+    about_kept.held (marks_device s.plain s.firm d) (suspend_fault_both s.plain s.firm d ∙ fault refl) s.about
+held_about d u false fault s =
+    about_kept.resumed (marks_device s.plain s.firm d) (λ away. at_home (is_some d.store.lent) s.order.free away) s.about
   where
     at_home : {X : Type 0} (b : Bool) → b ≡ false → b ≡ true → X
     at_home true e f = absurd (cc)
@@ -44,7 +45,7 @@ held_stands d u held fault s = record {
       (record (marks_device s.plain s.firm d).store { held = held }) refl;
   gives = s.gives;
   never = s.never;
-  excusable = held_excuses d u held fault s;
+  about = held_about d u held fault s;
 }
 
 module _ {K : Type 0} (d : WholeDevice) (u : Outside (List ℕ) K) (v : VolumeView (List ℕ)) (l : List (List ℕ)) (tells : v.contents ≡ Some l)
@@ -80,6 +81,6 @@ module _ {K : Type 0} (d : WholeDevice) (u : Outside (List ℕ) K) (v : VolumeVi
         (sym (replace_same s.plain s.firm d s.held side)) (same_fields side s);
     gives = s.gives;
     never = replaced_never side s;
-    excusable = subst IsExcusable (sym (replace_same s.plain s.firm d s.held side))
-        (excusable_kept.replaced (marks_device s.plain s.firm d) side (fault_both s.plain s.firm d side ∙ fault) s.excusable);
+    about = subst CameAbout (sym (replace_same s.plain s.firm d s.held side))
+        (about_kept.replaced (marks_device s.plain s.firm d) side (fault_both s.plain s.firm d side ∙ fault) s.about);
   }

@@ -49,4 +49,4 @@ pub stands_excused : {K : Type 0} (d : WholeDevice) (u : Outside (List ℕ) K) �
     d.store.counts.losses.cache < 2 ^ 64 - 1 →
     IsExcused d.plans (empty_state d.store.geometry d.store.cylinders) d.history.items d.store.lost d.store.counts
 stands_excused d u s failed cache =
-    excused_of (marks_device s.plain s.firm d) s.excusable (record { home = s.order.free; none = s.never }) failed cache
+    excused_of (marks_device s.plain s.firm d) s.about (record { home = s.order.free; none = s.never }) failed cache

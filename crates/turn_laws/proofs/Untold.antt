@@ -13,8 +13,8 @@ use Rattle.device_outside.specs.Interaction.{Interaction}
 use Rattle.device_outside.specs.Outside.{Outside, view_of, with_view, Ran, done, tried, asked, read, wrote, told}
 use Rattle.device_outside.specs.After.{Holdings, holds_of, with_held, with_slots}
 use Rattle.turn_laws.specs.Standing.{Untold}
-use Rattle.subsystem_laws.proofs.Came as C
-use Rattle.subsystem_laws.proofs.Came.{Came, delivered}
+use Rattle.subsystem_laws.specs.Came as C
+use Rattle.subsystem_laws.specs.Came.{Came, delivered}
 
 side_tells : {R K : Type 0} (w : Outside R K) (h : Holdings R) (side : Side) {v : VolumeView R} → Untold w h → view_of w side ≡ Some v →
     v.contents ≡ Some (holds_of h side)
