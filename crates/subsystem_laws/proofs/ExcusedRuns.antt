@@ -119,23 +119,23 @@ may_fall l sides.B x h = h
 -- What is so behind an event of a device that was never lent
 
 pub record Since (x y : MarksDevice) : Type 0 where
-  pub plans : y.plans ≡ x.plans
-  pub empty : empty_of y ≡ empty_of x
-  pub lent : y.store.lent ≡ x.store.lent
+  plans : y.plans ≡ x.plans
+  empty : empty_of y ≡ empty_of x
+  lent : y.store.lent ≡ x.store.lent
   pub worse : Worse x.store.lost x.store.counts y.store.lost y.store.counts
-  pub shape : Shape x.history y.history
+  shape : Shape x.history y.history
 
 abbrev pub Made : MarksDevice → MarksDevice → Type 0
 Made x y = Fair x → WasNeverLent y → Since x y
 
 -- orders change nothing of it
 pub record Same (x y : MarksDevice) : Type 0 where
-  pub plans : y.plans ≡ x.plans
-  pub empty : empty_of y ≡ empty_of x
-  pub lent : y.store.lent ≡ x.store.lent
-  pub lost : y.store.lost ≡ x.store.lost
-  pub counts : y.store.counts ≡ x.store.counts
-  pub items : y.history.items ≡ x.history.items
+  plans : y.plans ≡ x.plans
+  empty : empty_of y ≡ empty_of x
+  lent : y.store.lent ≡ x.store.lent
+  lost : y.store.lost ≡ x.store.lost
+  counts : y.store.counts ≡ x.store.counts
+  items : y.history.items ≡ x.history.items
 
 abbrev pub Still : MarksDevice → MarksDevice → Type 0
 Still x y = WasNeverLent y → Same x y
@@ -190,7 +190,7 @@ pub start_same : (d : MarksDevice) (path : ℕ) → Same d (start d path)
 unfolding S.start
 start_same d path = record { plans = refl; empty = refl; lent = refl; lost = refl; counts = refl; items = refl }
 
-pub replace_same : (d : MarksDevice) (side : Side) → Same d (replace d side)
+replace_same : (d : MarksDevice) (side : Side) → Same d (replace d side)
 replace_same d sides.A = record { plans = refl; empty = refl; lent = refl; lost = refl; counts = refl; items = refl }
 replace_same d sides.B = record { plans = refl; empty = refl; lent = refl; lost = refl; counts = refl; items = refl }
 
@@ -202,7 +202,7 @@ pub lend_still : (d : MarksDevice) (to : ℕ) (t : CameTo (lend by_plain d to)) 
 lend_still d to t n =
     not_both (is_some t.state.store.lent) (ap (λ (o : Option ℕ). is_some o) (lend_lends d to t).lent) n.home
 
-pub restore_still : (d : MarksDevice) → Still d (restore d)
+restore_still : (d : MarksDevice) → Still d (restore d)
 restore_still d n = not_both (has_fresh (restore d).history.items) (fresh_last d.history.items) n.none
 
 -- Events

@@ -492,7 +492,7 @@ pub start_adds : (d : MarksDevice) (path : ℕ) → AddsNone d (start d path)
 unfolding S.start
 start_adds d path = (grows_none d.history (start d path).history refl, refl)
 
-pub replace_adds : (d : MarksDevice) (side : Side) → AddsNone d (replace d side)
+replace_adds : (d : MarksDevice) (side : Side) → AddsNone d (replace d side)
 replace_adds d sides.A = same_grows d (replace d sides.A) refl
 replace_adds d sides.B = same_grows d (replace d sides.B) refl
 

@@ -247,7 +247,7 @@ new_framed number on n plans fair = record {
   };
 }
 
-pub opened_framed : (deck : DeckLines) (ds : List DeviceLine) → All (λ (d : DeviceLine). 1 ≤ d.cylinders) ds → AreSo Framed (map (opened_device deck) ds)
+opened_framed : (deck : DeckLines) (ds : List DeviceLine) → All (λ (d : DeviceLine). 1 ≤ d.cylinders) ds → AreSo Framed (map (opened_device deck) ds)
 opened_framed deck [] h = tt
 opened_framed deck (d ∷ ds) h = (
   new_framed d.number d.geometry d.cylinders _

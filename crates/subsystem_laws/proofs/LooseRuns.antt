@@ -147,11 +147,11 @@ module _ (d : MarksDevice) where
   unfolding S.start
   start_still path = record { same = refl; none = omega arith }
 
-  pub replace_still : (side : Side) → Still d (replace d side)
+  replace_still : (side : Side) → Still d (replace d side)
   replace_still sides.A = record { same = refl; none = own_le before }
   replace_still sides.B = record { same = refl; none = own_le before }
 
-  pub restore_still : Still d (restore d)
+  restore_still : Still d (restore d)
   restore_still = record {
     same = refl;
     none = as_le before (all_losses (restore d).history) (ap (λ (k : ℕ). k + running_losses d.history.running) (one_more_item d.history.items));
@@ -165,7 +165,7 @@ module _ (d : MarksDevice) where
         none = as_le before (all_losses y.history) (ap all_losses (at (lend_past d to) t));
       }
 
-pub own_still : (d : MarksDevice) → Still d d
+own_still : (d : MarksDevice) → Still d d
 own_still d = record { same = refl; none = own_le (all_losses d.history) }
 
 -- its counts and its history stay
