@@ -1,2 +1,4 @@
 pub mod Walking
 pub mod Setting
+pub mod Holding
+pub mod Allowing

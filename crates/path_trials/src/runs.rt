@@ -2,7 +2,7 @@ ghost use Rattle.std.specs.Prelude.{All, IfOk};
 ghost use Rattle.path_turns.specs.Keeping.{IsReady};
 
 use ckd_ccw::Program;
-use ckd_types::{Bytes, Ccw, DeviceNo, Geometry, PathNo};
+use ckd_types::{Bytes, Ccw, DeviceNo, Geometry, PathNo, Side, TrackNo};
 use deck_plan::PathPlans;
 use device_core::Device;
 use device_outside::{Gate, MemVolume, NoGate};
@@ -13,6 +13,7 @@ use std::alloc::Global;
 use std::sync::Wait;
 use std::test::Fail;
 use std::thread::Threads;
+use subsystem_defs::Event;
 
 /// Define extent over cylinder 0.
 const EXTENT: &[u8] = &[0x40, 0xc0, 0x10, 0, 0, 0, 0, 0, 0, 0, 0, 0, 0, 0, 0, 0x0e];
@@ -93,12 +94,13 @@ pub(crate) fn run<R: Threads + Wait + Sync, G: Gate + Sync>(
     rt: &R,
     alloc: Global,
     devices: Vec<Device<MemVolume>>,
+    orders: &[Event],
     gate: &G,
 ) -> Result<Ran<MemVolume>, Fail>
     requires { All IsReady devices.items }
 {
     let pool = Pool::new(alloc, 4, 2)?;
-    Ok(run_paths(rt, alloc, devices, pool, gate)?)
+    Ok(run_paths(rt, alloc, devices, pool, orders, gate)?)
 }
 
 #[test]
@@ -113,11 +115,40 @@ fn each_path_runs_its_programs_on_each_device(rt: HostRuntime) -> Result<(), Fai
         plans.push(all)?;
     }
     let devices = devices_of(alloc, plans)?;
-    let ran = run(&rt, alloc, devices, &NoGate)?;
+    let orders = [
+        Event::FailCache,
+        Event::RepairCache,
+        Event::FailStore,
+        Event::RepairStore,
+    ];
+    let ran = run(&rt, alloc, devices, &orders, &NoGate)?;
     assert_eq!(rt; ran.devices.len(), 3);
     for device in ran.devices.as_slice() {
         assert_eq!(rt; device.journal().len(), 80);
         assert!(rt; device.finished());
+        assert_eq!(rt; device.losses().cache, 1);
+        assert_eq!(rt; device.losses().store, 1);
+    }
+    Ok(())
+}
+
+#[test]
+fn a_volume_that_is_lost_takes_all_its_tracks(rt: HostRuntime) -> Result<(), Fail> {
+    let alloc = rt.alloc();
+    let mut plans = Vec::new(alloc);
+    plans.push(PathPlans::new(alloc))?;
+    let devices = devices_of(alloc, plans)?;
+    let number = DeviceNo::new(0).ok_or("device")?;
+    let orders = [
+        Event::FailVolume(number, Side::A),
+        Event::FailVolume(number, Side::A),
+    ];
+    let ran = run(&rt, alloc, devices, &orders, &NoGate)?;
+    for device in ran.devices.as_slice() {
+        assert_eq!(rt; device.losses().sides, 1);
+        for t in 0..15 {
+            assert!(rt; device.lost().has(TrackNo::new(t).ok_or("track")?));
+        }
     }
     Ok(())
 }
