@@ -22,7 +22,7 @@ use Rattle.device_core.specs.declared.device.Device.{Device}
 use Rattle.device_core.specs.State.{device_of}
 use Rattle.path_turns.specs.Keeping.{IsWithin, handed_of, tells, told_of}
 use Rattle.path_turns.proofs.Keeping.{hears, no_keep, of_keeps, of_stands, to_keeps}
-use Rattle.path_orders.specs.Ordered.{IsOrdered, MayLose}
+use Rattle.path_orders.specs.Ordered.{HaveLosses, IsOrdered, MayLose}
 
 within_all : (l most : Losses) → IsWithin l most → AreWithin l most
 within_all l most w = (w.cache, w.store, w.sides)
@@ -62,17 +62,21 @@ module _ (p : Pledge) (x : WholeDevice) (held : Bool) (u : Outside (List ℕ) (U
 
 module _ {V : Type 0} {G : Ghosts V} where
   -- a refused order
-  pub same_ordered : (most : Losses) (d : Device V G) → IsOrdered most d d
-  same_ordered most d = record { kept = λ p is k. k; counts = refl }
+  pub same_ordered : {pledged : Pledge → Type 0} (d : Device V G) → IsOrdered pledged d d
+  same_ordered d = record { kept = λ p is k. k; counts = refl }
+
+  -- of fewer pledges
+  pub ordered_where : {pledged more : Pledge → Type 0} {d e : Device V G} → ((p : Pledge) → more p → pledged p) → IsOrdered pledged d e → IsOrdered more d e
+  ordered_where f o = record { kept = λ p is k. o.kept p (f p is) k; counts = o.counts }
 
   pub loss_ordered : (d e : Device V G) (old new : PortView) (loss : Loss) (most : Losses) → (device_of d).store.lent ≡ None → MayLose loss most d →
       Ran (λ ok. ok ≡ true) hears (lose contents (device_of d) loss) (outside old d.store no_keep) (device_of e) tt (outside new e.store no_keep) →
-      IsOrdered most d e
+      IsOrdered (HaveLosses most) d e
   loss_ordered d e old new loss most home may r = record {
     kept = λ p is k.
         let ran = ran_weaker (λ ok h. tt) r in
         let checks = loss_checks contents (device_of d) loss ran in
-        let within = subst (λ (m : Losses). AreWithin (one_more d.store.counts.losses loss) m) (sym is) (within_all _ _ (may home)) in
+        let within = subst (λ (m : Losses). AreWithin (one_more d.store.counts.losses loss) m) (sym is) (within_all _ _ (may.1 home)) in
         to_keeps d e old new p _
         (loss_kept contents hears p (handed_of p.told d) (device_of d) (device_of e) (outside old d.store no_keep) (outside new e.store no_keep)
         (of_keeps d e old new p k) home (λ told. checks) loss tt within ran)
@@ -81,7 +85,7 @@ module _ {V : Type 0} {G : Ghosts V} where
   }
 
   pub held_ordered : (d e : Device V G) (held : Bool) (most : Losses) → device_of e ≡ record (device_of d) { store = record (device_of d).store { held = held } } →
-      e.store.pair.volumes ≡ d.store.pair.volumes → IsOrdered most d e
+      e.store.pair.volumes ≡ d.store.pair.volumes → IsOrdered (HaveLosses most) d e
   held_ordered d e held most is same = record {
     kept = λ p _ k.
         let told : told_of e ≡ told_of d = ap (λ (v : SideVolumes V). outside_of (no_pool 0) G.view v (tt {0})) same in

@@ -2,6 +2,7 @@ ghost use Rattle.std.specs.Prelude.{◌≡◌, ◌≤◌, ◌*◌, None, is_some
 ghost use Rattle.device_outside.specs.Volume.{counted};
 ghost use Rattle.device_defs.specs.Events.{one_more};
 ghost use Rattle.device_core.specs.State.{device_of};
+ghost use Rattle.subsystem_defs.specs.Refusals.{fail_fault, replace_fault};
 ghost use Rattle.path_turns.specs.Keeping.{IsWithin};
 ghost use Rattle.path_orders.specs.Ordered.{CanLose, HasSize, HaveLosses, IsOrdered, IsPledged, MayLose, Suits};
 
@@ -75,13 +76,27 @@ fn is_lent<V: Volume>(device: &Device<V>) -> bool
     device.lent_to().is_some()
 }
 
+/// Whether a side may be lost.
+fn may_fail<V: Volume>(device: &Device<V>, side: Side) -> bool
+    ensures { result ≡ true → fail_fault (device_of device.now) side ≡ None }
+{
+    fail_fault(device, side).is_none()
+}
+
+/// Whether a side may get another volume.
+fn may_replace<V: Volume>(device: &Device<V>, side: Side) -> bool
+    ensures { result ≡ true → replace_fault (device_of device.now) side ≡ None }
+{
+    replace_fault(device, side).is_none()
+}
+
 fn can_lose<V: Volume>(device: &Device<V>, loss: Loss) -> bool
     ensures { result ≡ true → CanLose loss device.now }
 {
     match loss {
         Loss::Cache => true,
         Loss::Store => true,
-        Loss::Side(side) => fail_fault(device, side).is_none(),
+        Loss::Side(side) => may_fail(device, side),
     }
 }
 
@@ -98,7 +113,10 @@ fn may_at_home<V: Volume>(device: &Device<V>, loss: Loss, most: Losses) -> bool
 pub fn may_lose<V: Volume>(device: &Device<V>, loss: Loss, most: Losses) -> bool
     ensures { result ≡ true → MayLose loss most device.now }
 {
-    can_lose(device, loss) && may_at_home(device, loss, most)
+    if can_lose(device, loss) {
+        return may_at_home(device, loss, most);
+    }
+    false
 }
 
 fn lose_at_home<V: Volume, P: Port>(device: &mut Device<V>, loss: Loss, most: Losses, port: &mut P)
@@ -156,7 +174,7 @@ fn replace<V: Volume>(device: &mut Device<V>, side: Side, volume: V)
     requires { (V.view volume).tracks ≡ device.old.store.cylinders * 15 }
     ensures { IsOrdered (λ p. IsPledged p volume) device.old device.new }
 {
-    if replace_fault(device, side).is_some() {
+    if !may_replace(device, side) {
         return;
     }
     let _old = device.replace(side, volume);
