@@ -164,7 +164,7 @@ module _ {V : Type 0} {G : Ghosts V} where
 
   pub replaced_ordered : (d e : Device V G) (side : Side) (volume : V) → replace_fault (device_of d) side ≡ None →
       device_of e ≡ replace (device_of d) side → volume_of e.store.pair.volumes side ≡ Some volume →
-      other_of e.store.pair.volumes side ≡ other_of d.store.pair.volumes side → IsOrdered (λ p. IsPledged p volume) d e
+      other_of e.store.pair.volumes side ≡ other_of d.store.pair.volumes side → IsOrdered (λ p. IsPledged p (G.view volume)) d e
   replaced_ordered d e side volume free is here other =
       let x = device_of d in
       let v = G.view volume in

@@ -1,6 +1,7 @@
 -- What an order of the operator leaves of a device in its turn.
-use Rattle.std.specs.Prelude.{◌≡◌, ◌*◌, ◌≤◌, ℕ, true, Option, Some, None, is_some}
+use Rattle.std.specs.Prelude.{◌≡◌, ◌*◌, ℕ, true, List, Some, None, is_some}
 use Rattle.device_outside.specs.declared.volume.Volume.{Ghosts}
+use Rattle.device_outside.specs.Volume.{VolumeView}
 use Rattle.device_defs.specs.declared.counts.Losses.{Losses}
 use Rattle.device_defs.specs.Events.{one_more}
 use Rattle.device_defs.specs.Pledge.{Pledge, seat_counts}
@@ -18,6 +19,16 @@ use Rattle.path_orders.specs.Spare.{TellsTracks}
 abbrev pub HaveLosses : Losses → Pledge → Type 0
 HaveLosses most p = p.losses ≡ most
 
+-- what a volume tells is what was pledged
+pub record IsPledged (p : Pledge) (v : VolumeView (List ℕ)) : Type 0 where
+  pub tells : p.told ≡ true → TellsTracks v.contents (p.cylinders * 15)
+  pub sure : is_some p.failures ≡ true → v.allowance ≡ Some 0
+
+-- a volume that comes tells what was pledged, as it is seen
+abbrev pub Suits : {V : Type 0} → (V → VolumeView (List ℕ)) → DeviceOrder V → Pledge → Type 0
+Suits view (Replace side volume) p = IsPledged p (view volume)
+Suits view _ p = Unit {0}
+
 module _ {V : Type 0} {G : Ghosts V} where
   -- a side can be lost where there is one that is up
   abbrev pub CanLose : Loss → Device V G → Type 0
@@ -32,15 +43,6 @@ module _ {V : Type 0} {G : Ghosts V} where
   abbrev pub HasSize : DeviceOrder V → Device V G → Type 0
   HasSize (Replace side volume) d = (G.view volume).tracks ≡ d.store.cylinders * 15
   HasSize _ d = Unit {0}
-
-  -- and tells what was pledged, and none of its calls fails
-  pub record IsPledged (p : Pledge) (volume : V) : Type 0 where
-    pub tells : p.told ≡ true → TellsTracks (G.view volume).contents (p.cylinders * 15)
-    pub sure : is_some p.failures ≡ true → (G.view volume).allowance ≡ Some 0
-
-  abbrev pub Suits : DeviceOrder V → Pledge → Type 0
-  Suits (Replace side volume) p = IsPledged p volume
-  Suits _ p = Unit {0}
 
   -- what was pledged of a device is kept, and no seat's count changes
   pub record IsOrdered (pledged : Pledge → Type 0) (d e : Device V G) : Type 0 where

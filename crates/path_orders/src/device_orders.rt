@@ -172,7 +172,7 @@ fn resume<V: Volume>(device: &mut Device<V>, most: Losses)
 /// The volume that it gets, or the one that it had, is dropped.
 fn replace<V: Volume>(device: &mut Device<V>, side: Side, volume: V)
     requires { (V.view volume).tracks ≡ device.old.store.cylinders * 15 }
-    ensures { IsOrdered (λ p. IsPledged p volume) device.old device.new }
+    ensures { IsOrdered (λ p. IsPledged p (V.view volume)) device.old device.new }
 {
     if !may_replace(device, side) {
         return;
@@ -188,7 +188,7 @@ pub fn order<V: Volume, P: Port>(
     port: &mut P,
 )
     requires { HasSize order device.old }
-    ensures { IsOrdered (λ p. HaveLosses most p × Suits order p) device.old device.new }
+    ensures { IsOrdered (λ p. HaveLosses most p × Suits V.view order p) device.old device.new }
 {
     match order {
         DeviceOrder::Fail(side) => fail(device, side, most, port),

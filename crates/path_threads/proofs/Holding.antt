@@ -97,7 +97,7 @@ some_failures failed (Some n) is = refl
 some_failures failed None is = absurd (cc)
 
 module _ {V : Type 0} {G : volumes.Ghosts V} where
-  spare_pledged : (d : Device V G) (volume : V) (most : Losses) → IsSpare d volume → IsPledged (pledge_with d most) volume
+  spare_pledged : (d : Device V G) (volume : V) (most : Losses) → IsSpare d volume → IsPledged (pledge_with d most) (G.view volume)
   spare_pledged d volume most s = record {
     tells = s.tells;
     sure = λ is. s.sure (some_failures (device_of d).store.counts.failed (allowance_in (told_of d)) is);
@@ -114,17 +114,17 @@ module _ {V : Type 0} {G : volumes.Ghosts V} {N : Ghosts (Device V G) (Promise V
   held_size orders.Resume place s z d a suits same kept = tt
 
   suits_pledge : (what : DeviceOrder V) (place : Place) (s : TurnSeat (Device V G) (Promise V G) N) (a : Allows place s) → SuitsSeat what s →
-      Suits what (pledge_with a.promise.made.value a.promise.most)
+      Suits G.view what (pledge_with a.promise.made.value a.promise.most)
   suits_pledge (orders.Replace side volume) place s a suits = spare_pledged a.promise.made.value volume a.promise.most (suits a.promise a.pledge)
   suits_pledge (orders.Fail side) place s a suits = tt
   suits_pledge orders.Suspend place s a suits = tt
   suits_pledge orders.Resume place s a suits = tt
 
   pub may_obey : (what : DeviceOrder V) (place : Place) (s z : TurnSeat (Device V G) (Promise V G) N) (d e : Device V G) → Allows place s → SuitsSeat what s →
-      IsHeld s z d → IsOrdered (λ p. HaveLosses place.most p × Suits what p) d e → (counts : Device V G → List ℕ) → counts e ≡ counts d →
+      IsHeld s z d → IsOrdered (λ p. HaveLosses place.most p × Suits G.view what p) d e → (counts : Device V G → List ℕ) → counts e ≡ counts d →
       MayLeave (KeptBy KeepsPromise) counts z.seat.me.0 d → MayLeave (KeptBy KeepsPromise) counts z.seat.me.0 e
   may_obey what place s z d e a suits held ordered counts counted may =
-      may_order counts z.seat.me.0 s.seat.me.0.pledge a.promise (λ p. HaveLosses place.most p × Suits what p) d e held.pledge a.pledge
+      may_order counts z.seat.me.0 s.seat.me.0.pledge a.promise (λ p. HaveLosses place.most p × Suits G.view what p) d e held.pledge a.pledge
       (a.most, suits_pledge what place s a suits) ordered counted may
 
   pub may_have : (place : Place) (s z : TurnSeat (Device V G) (Promise V G) N) (d e : Device V G) → Allows place s →

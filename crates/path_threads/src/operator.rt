@@ -185,7 +185,7 @@ fn order_event<R: Wait, V: Volume, P: Port>(
     turns: &[DeviceTurn<V>],
     seats: &mut [DeviceSeat<V>],
     places: &[Place],
-    event: Event,
+    event: &Event,
     port: &mut P,
 ) -> Result<(), NoMemory>
     requires home { AllZip IsHome turns.now seats.old }
@@ -197,22 +197,22 @@ fn order_event<R: Wait, V: Volume, P: Port>(
     }
     match event {
         Event::FailVolume(d, side) => {
-            let what = DeviceOrder::Fail(side);
-            order_at(rt, shared, turns, seats, places, d, what, port)
+            let what = DeviceOrder::Fail(*side);
+            order_at(rt, shared, turns, seats, places, *d, what, port)
         }
         Event::Suspend(d) => {
             let what = DeviceOrder::Suspend;
-            order_at(rt, shared, turns, seats, places, d, what, port)
+            order_at(rt, shared, turns, seats, places, *d, what, port)
         }
         Event::Resume(d) => {
             let what = DeviceOrder::Resume;
-            order_at(rt, shared, turns, seats, places, d, what, port)
+            order_at(rt, shared, turns, seats, places, *d, what, port)
         }
         _ => Ok(()),
     }
 }
 
-fn pool_order(event: Event) -> Option<PoolOrder> {
+fn pool_order(event: &Event) -> Option<PoolOrder> {
     match event {
         Event::FailCache => Some(PoolOrder::FailCache),
         Event::FailStore => Some(PoolOrder::FailStore),
@@ -237,7 +237,7 @@ fn obey<R: Wait, V: Volume, P: Port>(
     ensures { OnOk result (AllZip Rests seats.old seats.new) }
 {
     match order {
-        Order::Event(event) => order_event(rt, shared, turns, seats, places, event, port),
+        Order::Event(event) => order_event(rt, shared, turns, seats, places, &event, port),
         Order::Replace(d, side, volume) => {
             let what = DeviceOrder::Replace(side, volume);
             order_at(rt, shared, turns, seats, places, d, what, port)
