@@ -1,0 +1,9 @@
+use Rattle.std.proofs.Common.{true}
+use Rattle.path_orders.proofs.Keeping.{held_ordered, same_ordered}
+use Rattle.path_orders.proofs.device_orders.suspend.Goals as goal
+
+pub returns-then-is_some : goal.returns-then-is_some
+returns-then-is_some g c = same_ordered c.args.device.now
+
+pub returns : goal.returns
+returns g c = held_ordered c.args.device.now c.hold.new.self true c.args.most c.hold.ensures.device c.hold.ensures.volume
