@@ -1,6 +1,7 @@
 pub mod Recorded
 pub mod Paired
 pub mod Ended
+pub mod Adding
 pub mod NewDevices
 pub mod PairedAbout
 pub mod Readied

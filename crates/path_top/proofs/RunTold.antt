@@ -19,7 +19,10 @@ use Rattle.device_core.specs.declared.device.Device.{Device}
 use Rattle.device_core.specs.State.{device_of}
 use Rattle.deck_run.specs.Ending.{lost_in}
 use Rattle.device_defs.specs.declared.counts.Losses.{Losses}
-use Rattle.path_turns.specs.Keeping.{IsFinished, KeepsAll, KeepsWithin, told_of}
+use Rattle.path_turns.specs.Keeping.{IsFinished, KeepsWithin, told_of}
+use Rattle.path_threads.specs.declared.orders.Order.{Order}
+use Rattle.path_threads.specs.Allowed.{allowed_of}
+use Rattle.path_threads.specs.Places.{KeepsOrdered}
 use Rattle.path_top.specs.Devices.{all_told, told_by}
 use Rattle.path_top.specs.Histories.{AreToldOf, IsToldBy, IsToldOf}
 use Rattle.path_top.specs.Pairs.{all_lent, paired}
@@ -101,7 +104,7 @@ module _ {V : Type 0} {G : Ghosts V} (deck : DeckLines) where
         AllZip Keeps xs ys → All IsFinished ys → AreToldOf deck (all_told ys)
     all_are_told_by xs ys o k f = record { each = all_so deck.devices xs ys o.0 k f; lent = lents xs ys k ∙ o.1 }
 
-  pub all_are_told : (xs ys : List (Device V G)) →
+  pub all_are_told : (orders : List (Order V)) (xs ys : List (Device V G)) →
       AllZip (IsOpened deck) deck.devices xs × (map (λ (x : Device V G). (device_of x).store.lent) xs ≡ all_lent (paired deck)) →
-      AllZip KeepsAll xs ys → All IsFinished ys → AreToldOf deck (all_told ys)
-  all_are_told = all_are_told_by KeepsAll (λ d e k. (d.store.counts.losses, k))
+      AllZip (KeepsOrdered orders) xs ys → All IsFinished ys → AreToldOf deck (all_told ys)
+  all_are_told orders = all_are_told_by (KeepsOrdered orders) (λ d e k. (allowed_of orders d, k))

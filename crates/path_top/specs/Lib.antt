@@ -1,4 +1,5 @@
 pub mod Journals
+pub mod Orders
 pub mod Pairs
 pub mod Told
 pub mod Devices

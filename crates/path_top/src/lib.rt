@@ -3,6 +3,7 @@
 
 mod history;
 mod journal;
+mod orders;
 mod pairs;
 mod run;
 mod top;

@@ -1,15 +1,17 @@
 //! The run of a deck's paths, and its history.
 
 ghost use Rattle.std.specs.Prelude.{◌≡◌, ◌++◌, ◌∷◌, [], IfOk};
-ghost use Rattle.deck_run.specs.Opening.{WasRead};
+ghost use Rattle.deck_run.specs.Opening.{WasRead, numbers_in};
 ghost use Rattle.deck_run.specs.Owning.{AreOwn};
 ghost use Rattle.deck_run.specs.Standing.{StandsAs};
 ghost use Rattle.report_text.specs.declared.line.ReportLine.TheVariants as lines;
 ghost use Rattle.path_top.specs.Histories.{AreToldOf, IsHistory};
 ghost use Rattle.path_top.specs.Pairs.{paired};
 ghost use Rattle.path_top.specs.Devices.{all_told};
+ghost use Rattle.subsystem_core.specs.Devices.{numbers_of};
 
 use crate::history::history_of;
+use crate::orders::orders_in;
 use crate::pairs::{pair_first, unused_in};
 use ckd_types::NoMemory;
 use deck_run::open_deck;
@@ -27,6 +29,7 @@ use subsystem_core::Subsystem;
 fn open_paired(alloc: Global, deck: &Deck) -> Result<Subsystem<MemVolume>, NoMemory>
     requires { WasRead deck.now }
     ensures stands { IfOk result (λ sub. StandsAs sub (paired deck.now)) }
+    ensures numbers { IfOk result (λ sub. numbers_of sub.devices.items ≡ numbers_in deck.now.devices) }
     ensures own { IfOk result (λ sub. AreOwn sub.devices.items) }
 {
     let mut bay = MemBay::new(alloc);
@@ -46,8 +49,9 @@ fn run_deck<R: Threads + Wait + Sync, G: Gate + Sync>(
     ensures { IfOk result (λ devices. AreToldOf deck.now (all_told devices.items)) }
 {
     let sub = open_paired(alloc, deck)?;
+    let orders = orders_in(alloc, &sub, deck.schedule().as_slice())?;
     let (pool, devices) = sub.into_parts();
-    let ran = run_paths(rt, alloc, devices, pool, gate)?;
+    let ran = run_paths(rt, alloc, devices, pool, orders, gate)?;
     Ok(ran.devices)
 }
 
