@@ -11,7 +11,9 @@ pub mod PairedAbout
 pub mod Readied
 pub mod Counted
 pub mod Finished
+pub mod RunExcused
 pub mod RunTold
+pub mod Unfailing
 pub mod Complete
 pub mod Few
 mod Rows

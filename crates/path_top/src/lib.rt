@@ -3,9 +3,11 @@
 
 mod history;
 mod journal;
+mod laws;
 mod orders;
 mod pairs;
 mod run;
 mod top;
 
+pub use laws::unfailing_history_checks_nothing;
 pub use top::paths_top;
