@@ -1,3 +1,4 @@
+pub mod Texts
 pub mod Recorded
 pub mod Paired
 pub mod Ended

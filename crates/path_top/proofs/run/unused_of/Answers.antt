@@ -1,7 +1,7 @@
 use Rattle.std.proofs.Common.{◌∙◌, ap, arith}
 use Rattle.path_top.specs.Pairs.{unused_in}
 use Rattle.path_top.proofs.Few.{few_unused}
-use Rattle.path_top.proofs.run.history_of_deck.Goals as goal
+use Rattle.path_top.proofs.run.unused_of.Goals as goal
 
 pub overflow_cast-unused : goal.overflow_cast-unused
 overflow_cast-unused g c =

@@ -1,0 +1,14 @@
+use Rattle.std.proofs.Common.{[], ◌∷◌, ◌++◌}
+use Rattle.report_text.specs.declared.line.ReportLine.TheVariants as lines
+use Rattle.report_text.specs.Ends.{data_lines, end_line, sense_lines}
+use Rattle.ckd_outside.proofs.Lines.{puts_stopped}
+use Rattle.path_top.proofs.Texts.{lines_longer, lines_then}
+use Rattle.path_top.proofs.journal.put_end.Goals as goal
+
+pub returns-in_err-put_line-clause-bytes : goal.returns-in_err-put_line-clause-bytes
+returns-in_err-put_line-clause-bytes g c =
+    puts_stopped _ _ _ _ _ _ _ c.from_residual.ensures.1
+    (lines_longer _ (g.K.Sink.held c.args.sink.now) _ _ [] _ (lines.End (end_line c.args.entry.now.path c.args.d c.args.entry.now.ordinal c.args.end.now) ∷ []) (data_lines c.args.end.now.sent ++ sense_lines c.args.end.now.sense) c.in_err-put_line.ensures.bytes)
+
+pub returns-clause-bytes : goal.returns-clause-bytes
+returns-clause-bytes g c = lines_then _ _ _ _ _ _ (lines.End (end_line c.args.entry.now.path c.args.d c.args.entry.now.ordinal c.args.end.now) ∷ []) (data_lines c.args.end.now.sent ++ sense_lines c.args.end.now.sense) _ c.in_ok-put_line.ensures.bytes c.put_sent_and_sense.ensures.bytes
