@@ -1,17 +1,19 @@
 -- What is left of the lines at the end of a device, and of all devices, one step on.
-use Rattle.std.proofs.Common.{◌≡◌, ◌<◌, ◌≤◌, ◌+◌, ◌-◌, ◌*◌, ◌++◌, [], ◌∷◌, ℕ, suc, zero, Bool, false, List, length, drop, get_or, map, refl, ap, sym, ◌∙◌, arith, append_assoc}
+use Rattle.std.proofs.Common.{◌≡◌, ◌<◌, ◌≤◌, ◌+◌, ◌-◌, ◌*◌, ◌++◌, [], ◌∷◌, ℕ, suc, Bool, None, false, List, length, drop, get_or, map, refl, ap, sym, ◌∙◌, arith, append_assoc}
 use Rattle.std.specs.Prelude.{slice_index_or, if◌then◌else◌}
 use Rattle.std.specs.List.{flat_map, range_with_len}
 use Rattle.std.proofs.lemmas.List.{at_drop_more, get_or_at, length_push}
 use Rattle.device_outside.specs.declared.volume.Volume.{Ghosts}
 use Rattle.device_core.specs.declared.device.Device.{Device}
 use Rattle.loss_model.specs.Lost.{lost_tracks}
+use Rattle.report_text.specs.declared.answers.DeviceTotals.TheVariants as totals
 use Rattle.report_text.specs.declared.line.ReportLine.{ReportLine}
+use Rattle.report_text.specs.declared.line.ReportLine.TheVariants as lines
 use Rattle.subsystem_defs.specs.Closing.{where_true}
 use Rattle.track_table.specs.Bits.{marked_from}
 use Rattle.deck_run.specs.Ending.{lost_in}
 use Rattle.path_top.specs.Devices.{all_told, told_by}
-use Rattle.path_top.specs.Told.{device_lines, left_line, left_lines}
+use Rattle.path_top.specs.Told.{device_lines, end_lines, left_line, left_lines}
 
 -- Of four paths
 
@@ -40,6 +42,13 @@ marked_same before (m ∷ marks) n long =
     ∙ ap (λ (l : List Bool). where_true (λ (t : ℕ). slice_index_or l t false) (range_with_len (n + 1) (length marks))) whole in
     let ts = where_true (λ (t : ℕ). slice_index_or (before ++ m ∷ marks) t false) (range_with_len (n + 1) (length marks)) in
     ap (λ (l : List ℕ). if m then n ∷ l else l) rest ∙ ap (λ (b : Bool). if b then n ∷ ts else ts) (sym (get_or_at before m marks false n long))
+
+pub losses_are : (d number n : ℕ) (ts lost : List ℕ) → d ≡ number → n ≡ length ts → ts ≡ lost →
+    (lines.Device d (totals.Lost n) ∷ []) ++ map (lines.Lost d) ts ≡ end_lines number None lost
+losses_are d number n ts lost same count is =
+    ap (λ (k : ℕ). lines.Device d (totals.Lost k) ∷ map (lines.Lost d) ts) count
+    ∙ ap (λ (l : List ℕ). lines.Device d (totals.Lost (length l)) ∷ map (lines.Lost d) l) is
+    ∙ ap (λ (k : ℕ). end_lines k None lost) same
 
 module _ {V : Type 0} {G : Ghosts V} where
   pub lost_same : (x : Device V G) → length x.store.lost ≡ x.store.cylinders * 15 → lost_tracks x.store.lost ≡ lost_in x

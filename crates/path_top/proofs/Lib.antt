@@ -8,4 +8,5 @@ pub mod Finished
 pub mod RunTold
 pub mod Complete
 pub mod Few
+pub mod Written
 mod Rows

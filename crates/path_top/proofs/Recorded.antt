@@ -54,25 +54,30 @@ acts_on d acts i a s behind line inside is says goes =
     ∙ ap (λ (x : ReportLine). x ∷ act_lines d (loose_behind s a.act) (drop (i + 1) acts)) (sym says)
     ∙ ap (λ (x : LooseCount). line ∷ act_lines d x (drop (i + 1) acts)) (sym goes)
 
-module _ (d : ℕ) (p : ProgramEntry) (ends : List CommandEnd) (i : ℕ) (e : CommandEnd) (s : LooseCount) (left : List Acted) where
-  abbrev here : List Acted
-  here = take (count_before i left) left
+module _ (d : ℕ) (p : ProgramEntry) (ends : List CommandEnd) (i : ℕ) (e : CommandEnd) (s : LooseCount) (left : List Acted) (inside : i < length ends)
+    (is : e ≡ get_or ends i e) where
+  abbrev ends_with : List Acted → List Acted → LooseCount → ℕ → List ReportLine
+  ends_with here later behind k =
+      act_lines d s here ++ (ended_lines p.path d p.ordinal e ++ end_lines d p k behind later (drop (i + 1) ends))
 
-  abbrev later : List Acted
-  later = drop (count_before i left) left
-
-  pub ends_on : (behind : LooseCount) → i < length ends → e ≡ get_or ends i e → behind ≡ loose_behind_all s here →
-      end_lines d p i s left (drop i ends)
-      ≡ (act_lines d s here ++ ended_lines p.path d p.ordinal e) ++ end_lines d p (i + 1) behind later (drop (i + 1) ends)
-  ends_on behind inside is goes =
+  ends_first : end_lines d p i s left (drop i ends)
+      ≡ ends_with (take (count_before i left) left) (drop (count_before i left) left) (loose_behind_all s (take (count_before i left) left)) (suc i)
+  ends_first =
       at_drop_more (end_lines d p i s left) ends i e inside
       ∙ ap (λ (x : CommandEnd). end_lines d p i s left (x ∷ drop (i + 1) ends)) (sym is)
-      ∙ ap (λ (k : ℕ). act_lines d s here ++ (ended_lines p.path d p.ordinal e ++ end_lines d p k (loose_behind_all s here) later (drop (i + 1) ends))) (one_more i)
-      ∙ ap (λ (x : LooseCount). act_lines d s here ++ (ended_lines p.path d p.ordinal e ++ end_lines d p (i + 1) x later (drop (i + 1) ends))) (sym goes)
+
+  pub ends_on : (n : ℕ) (here later : List Acted) (behind : LooseCount) → n ≡ count_before i left → here ≡ take n left → later ≡ drop n left →
+      behind ≡ loose_behind_all s here →
+      end_lines d p i s left (drop i ends)
+      ≡ (act_lines d s here ++ ended_lines p.path d p.ordinal e) ++ end_lines d p (i + 1) behind later (drop (i + 1) ends)
+  ends_on n here later behind count front back goes =
+      ends_first
+      ∙ ap (λ (k : ℕ). ends_with (take k left) (drop k left) (loose_behind_all s (take k left)) (suc i)) (sym count)
+      ∙ ap (λ (l : List Acted). ends_with l (drop n left) (loose_behind_all s l) (suc i)) (sym front)
+      ∙ ap (λ (l : List Acted). ends_with here l (loose_behind_all s here) (suc i)) (sym back)
+      ∙ ap (λ (x : LooseCount). ends_with here later x (suc i)) (sym goes)
+      ∙ ap (λ (k : ℕ). ends_with here later behind k) (let one : suc i ≡ i + 1 = omega arith in one)
       ∙ sym (append_assoc (act_lines d s here) (ended_lines p.path d p.ordinal e) (end_lines d p (i + 1) behind later (drop (i + 1) ends)))
-    where
-      one_more : (j : ℕ) → suc j ≡ j + 1
-      one_more j = omega arith
 
 pub items_on : (d : ℕ) (xs : List Item) (i : ℕ) (x : Item) (s behind : LooseCount) → i < length xs → x ≡ get_or xs i x → behind ≡ loose_behind_item s x →
     lines_of_items d s (drop i xs) ≡ item_lines d s x ++ lines_of_items d behind (drop (i + 1) xs)

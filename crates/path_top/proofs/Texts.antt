@@ -44,10 +44,11 @@ module _ (o m n : Option (List ℕ)) (w x y : List ℕ) (all rest piece tail : L
       put_stopped o m n w x y (lines_text all) (lines_text rest) (lines_text piece) (lines_text tail) p (ap lines_text is ∙ both piece tail) s
 
 -- a last call puts all that is left
-pub lines_last : {T E : Type 0} (o m n : Option (List ℕ)) (w x y : List ℕ) (r : Result T E) (all rest : List ReportLine) → PutLines o w m x all rest →
-    Puts m x n y r (lines_text rest) → Puts o w n y r (lines_text all)
-lines_last o m n w x y r all rest p last =
-    subst (λ (l : List ℕ). Puts o w n y r l) (sym p.whole) (puts_then o m n w x y p.done (lines_text rest) r p.moved last)
+pub lines_last : {T E : Type 0} (o m n : Option (List ℕ)) (w x y : List ℕ) (r : Result T E) (all rest last : List ReportLine) → PutLines o w m x all rest →
+    rest ≡ last → Puts m x n y r (lines_text last) → Puts o w n y r (lines_text all)
+lines_last o m n w x y r all rest last p is q =
+    let whole : lines_text all ≡ p.done ++ lines_text last = p.whole ∙ ap (λ (l : List ReportLine). p.done ++ lines_text l) is in
+    subst (λ (l : List ℕ). Puts o w n y r l) (sym whole) (puts_then o m n w x y p.done (lines_text last) r p.moved q)
 
 -- nothing is left
 pub lines_done : (o m : Option (List ℕ)) (w x : List ℕ) (all rest : List ReportLine) → PutLines o w m x all rest → rest ≡ [] → Moves o w m x (lines_text all)

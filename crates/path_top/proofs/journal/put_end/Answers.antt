@@ -8,7 +8,7 @@ use Rattle.path_top.proofs.journal.put_end.Goals as goal
 pub returns-in_err-put_line-clause-bytes : goal.returns-in_err-put_line-clause-bytes
 returns-in_err-put_line-clause-bytes g c =
     puts_stopped _ _ _ _ _ _ _ c.from_residual.ensures.1
-    (lines_longer _ (g.K.Sink.held c.args.sink.now) _ _ [] _ (lines.End (end_line c.args.entry.now.path c.args.d c.args.entry.now.ordinal c.args.end.now) ∷ []) (data_lines c.args.end.now.sent ++ sense_lines c.args.end.now.sense) c.in_err-put_line.ensures.bytes)
+    (lines_longer _ (g.K.Sink.held c.args.sink.now) _ _ [] _ (lines.End (end_line c.args.entry.now.path c.args.d c.args.entry.now.ordinal c.args.end.now) ∷ []) (data_lines c.args.end.now.sent ++ sense_lines c.args.end.now.sense) (rw c.end_line.ensures at c.in_err-put_line.ensures.bytes))
 
 pub returns-clause-bytes : goal.returns-clause-bytes
-returns-clause-bytes g c = lines_then _ _ _ _ _ _ (lines.End (end_line c.args.entry.now.path c.args.d c.args.entry.now.ordinal c.args.end.now) ∷ []) (data_lines c.args.end.now.sent ++ sense_lines c.args.end.now.sense) _ c.in_ok-put_line.ensures.bytes c.put_sent_and_sense.ensures.bytes
+returns-clause-bytes g c = lines_then _ _ _ _ _ _ (lines.End (end_line c.args.entry.now.path c.args.d c.args.entry.now.ordinal c.args.end.now) ∷ []) (data_lines c.args.end.now.sent ++ sense_lines c.args.end.now.sense) _ (rw c.end_line.ensures at c.in_ok-put_line.ensures.bytes) c.put_sent_and_sense.ensures.bytes

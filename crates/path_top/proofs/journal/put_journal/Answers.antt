@@ -17,7 +17,7 @@ pub loop-item-preserved : goal.loop-item-preserved
 loop-item-preserved g c = (
   lines_more _ _ _ _ _ _ _ _ _ _ c.loop-item.invariant.0
       (items_on c.args.d c.args.items.now c.loop-item.item-index c.item-item.result c.loop-item.loose _ c.loop-item-test.true c.item-item.is
-      c.loose_behind_item.ensures)
+      c.loose_behind_item-loose.ensures)
       c.in_ok-put_item.ensures.bytes,
   omega (arith, c.loop-item.invariant.1, c.in_ok-put_item.ensures.cause.later),
 )

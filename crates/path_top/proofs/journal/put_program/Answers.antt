@@ -1,6 +1,10 @@
-use Rattle.std.proofs.Common.{[], Some}
+use Rattle.std.proofs.Common.{[], ◌∷◌, Some, subst}
+use Rattle.ckd_outside.specs.Texts.{Puts}
+use Rattle.plain_defs.specs.Entry.{ProgramEntry}
+use Rattle.report_text.specs.declared.line.ReportLine.TheVariants as lines
+use Rattle.report_text.specs.Ends.{lines_text}
 use Rattle.report_text.specs.Events.{program_over_lines}
-use Rattle.run_report.specs.Beside.{program_over}
+use Rattle.run_report.specs.Beside.{how_over, program_over}
 use Rattle.path_top.specs.Journals.{end_lines}
 use Rattle.ckd_outside.proofs.Lines.{puts_stopped}
 use Rattle.path_top.proofs.Texts.{lines_longer, lines_then}
@@ -12,4 +16,7 @@ returns-in_err-put_ends-clause-bytes g c =
     (lines_longer _ (g.K.Sink.held c.args.sink.now) _ _ [] _ (end_lines c.args.d c.args.entry.now 0 c.args.before c.args.entry.now.acts c.args.entry.now.ends) (program_over_lines (Some (program_over c.args.d c.args.entry.now))) c.in_err-put_ends.ensures.bytes)
 
 pub returns-clause-bytes : goal.returns-clause-bytes
-returns-clause-bytes g c = lines_then _ _ _ _ _ _ (end_lines c.args.d c.args.entry.now 0 c.args.before c.args.entry.now.acts c.args.entry.now.ends) (program_over_lines (Some (program_over c.args.d c.args.entry.now))) _ c.in_ok-put_ends.ensures.bytes c.put_line.ensures.bytes
+returns-clause-bytes g c = lines_then _ _ _ _ _ _ (end_lines c.args.d c.args.entry.now 0 c.args.before c.args.entry.now.acts c.args.entry.now.ends) (program_over_lines (Some (program_over c.args.d c.args.entry.now))) _ c.in_ok-put_ends.ensures.bytes 
+    (subst (λ (p : ProgramEntry). Puts (g.K.Sink.held c.put_ends.new.sink) c.put_ends.new.buffer (g.K.Sink.held c.put_line.new.sink) c.put_line.new.buffer
+    c.put_line.result (lines_text (lines.Over p.path c.args.d p.ordinal (how_over p.how) ∷ []))) c.entry.view_is
+    (rw c.how_over-how.ensures at c.put_line.ensures.bytes))
