@@ -17,14 +17,14 @@ puts_one o n w y r line p = subst (λ (l : List ℕ). Puts o w n y r l) (sym (ap
 
 -- some lines, and then others
 
-module _ (o m n : Option (List ℕ)) (w x y : List ℕ) (ls ms : List ReportLine) where
-  pub lines_longer : Stops o w n y (lines_text ls) → Stops o w n y (lines_text (ls ++ ms))
-  lines_longer s =
-      subst (λ (l : List ℕ). Stops o w n y l) (sym (both ls ms)) (stops_longer o n w y (lines_text ls) (lines_text ms) s)
+pub lines_longer : (o n : Option (List ℕ)) (w y : List ℕ) (ls ms : List ReportLine) → Stops o w n y (lines_text ls) → Stops o w n y (lines_text (ls ++ ms))
+lines_longer o n w y ls ms s =
+    subst (λ (l : List ℕ). Stops o w n y l) (sym (both ls ms)) (stops_longer o n w y (lines_text ls) (lines_text ms) s)
 
-  pub lines_then : {T E : Type 0} (r : Result T E) → Moves o w m x (lines_text ls) → Puts m x n y r (lines_text ms) → Puts o w n y r (lines_text (ls ++ ms))
-  lines_then r first second =
-      subst (λ (l : List ℕ). Puts o w n y r l) (sym (both ls ms)) (puts_then o m n w x y (lines_text ls) (lines_text ms) r first second)
+pub lines_then : {T E : Type 0} (o m n : Option (List ℕ)) (w x y : List ℕ) (r : Result T E) (ls ms : List ReportLine) → Moves o w m x (lines_text ls) →
+    Puts m x n y r (lines_text ms) → Puts o w n y r (lines_text (ls ++ ms))
+lines_then o m n w x y r ls ms first second =
+    subst (λ (l : List ℕ). Puts o w n y r l) (sym (both ls ms)) (puts_then o m n w x y (lines_text ls) (lines_text ms) r first second)
 
 -- a loop over lines
 

@@ -89,11 +89,7 @@ fn put_losses<V: Volume, K: Sink>(
 {
     let d = device.number();
     let n = device.lost().len() as u16;
-    put_line(
-        sink,
-        buffer,
-        &ReportLine::Device(d, DeviceTotals::Lost(n)),
-    )?;
+    put_line(sink, buffer, &ReportLine::Device(d, DeviceTotals::Lost(n)))?;
     put_lost(sink, buffer, d, device.lost())
 }
 
@@ -158,11 +154,7 @@ fn put_devices<V: Volume, K: Sink>(
 }
 
 /// How many event lines are unused, and the last line.
-fn put_finish<K: Sink>(
-    sink: &mut K,
-    buffer: &mut LineBuffer,
-    unused: u32,
-) -> Result<(), Failed>
+fn put_finish<K: Sink>(sink: &mut K, buffer: &mut LineBuffer, unused: u32) -> Result<(), Failed>
     ensures bytes { Puts (K.held sink.old) buffer.old (K.held sink.new) buffer.new result (lines_text (lines.Unused unused ∷ lines.Finish ∷ [])) }
     ensures cause { HasCause (K.faults sink.old) (K.faults sink.new) result }
 {

@@ -7,7 +7,8 @@ use Rattle.path_top.proofs.history.put_finish.Goals as goal
 pub returns-in_err-put_line-clause-bytes : goal.returns-in_err-put_line-clause-bytes
 returns-in_err-put_line-clause-bytes g c =
     puts_stopped _ _ _ _ _ _ _ c.from_residual.ensures.1
-    (lines_longer _ (g.K.Sink.held c.args.sink.now) _ _ [] _ (lines.Unused c.args.unused ∷ []) (lines.Finish ∷ []) c.in_err-put_line.ensures.bytes)
+    (lines_longer _ _ _ _ (lines.Unused c.args.unused ∷ []) (lines.Finish ∷ []) c.in_err-put_line.ensures.bytes)
 
 pub returns-clause-bytes : goal.returns-clause-bytes
-returns-clause-bytes g c = lines_then _ _ _ _ _ _ (lines.Unused c.args.unused ∷ []) (lines.Finish ∷ []) _ c.in_ok-put_line.ensures.bytes c.put_line-2.ensures.bytes
+returns-clause-bytes g c =
+    lines_then _ _ _ _ _ _ _ (lines.Unused c.args.unused ∷ []) (lines.Finish ∷ []) c.in_ok-put_line.ensures.bytes c.put_line-2.ensures.bytes

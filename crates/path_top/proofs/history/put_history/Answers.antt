@@ -9,8 +9,12 @@ use Rattle.path_top.proofs.history.put_history.Goals as goal
 
 pub returns-in_err-put_devices-clause-bytes : goal.returns-in_err-put_devices-clause-bytes
 returns-in_err-put_devices-clause-bytes g c =
+    let told = all_told c.args.devices.now in
     puts_stopped _ _ _ _ _ _ _ c.from_residual.ensures.1
-    (lines_longer _ (g.K.Sink.held c.args.sink.now) _ _ [] _ (flat_map device_lines (all_told c.args.devices.now)) (lines.Unused c.args.unused ∷ lines.Finish ∷ []) c.in_err-put_devices.ensures.bytes)
+    (lines_longer _ _ _ _ (flat_map device_lines told) (lines.Unused c.args.unused ∷ lines.Finish ∷ []) c.in_err-put_devices.ensures.bytes)
 
 pub returns-clause-bytes : goal.returns-clause-bytes
-returns-clause-bytes g c = lines_then _ _ _ _ _ _ (flat_map device_lines (all_told c.args.devices.now)) (lines.Unused c.args.unused ∷ lines.Finish ∷ []) _ c.in_ok-put_devices.ensures.bytes c.put_finish.ensures.bytes
+returns-clause-bytes g c =
+    let told = all_told c.args.devices.now in
+    lines_then _ _ _ _ _ _ _ (flat_map device_lines told) (lines.Unused c.args.unused ∷ lines.Finish ∷ [])
+    c.in_ok-put_devices.ensures.bytes c.put_finish.ensures.bytes

@@ -7,8 +7,15 @@ use Rattle.path_top.proofs.journal.put_end.Goals as goal
 
 pub returns-in_err-put_line-clause-bytes : goal.returns-in_err-put_line-clause-bytes
 returns-in_err-put_line-clause-bytes g c =
+    let p = c.args.entry.now in
+    let e = c.args.end.now in
     puts_stopped _ _ _ _ _ _ _ c.from_residual.ensures.1
-    (lines_longer _ (g.K.Sink.held c.args.sink.now) _ _ [] _ (lines.End (end_line c.args.entry.now.path c.args.d c.args.entry.now.ordinal c.args.end.now) ∷ []) (data_lines c.args.end.now.sent ++ sense_lines c.args.end.now.sense) (rw c.end_line.ensures at c.in_err-put_line.ensures.bytes))
+    (lines_longer _ _ _ _ (lines.End (end_line p.path c.args.d p.ordinal e) ∷ []) (data_lines e.sent ++ sense_lines e.sense)
+    (rw c.end_line.ensures at c.in_err-put_line.ensures.bytes))
 
 pub returns-clause-bytes : goal.returns-clause-bytes
-returns-clause-bytes g c = lines_then _ _ _ _ _ _ (lines.End (end_line c.args.entry.now.path c.args.d c.args.entry.now.ordinal c.args.end.now) ∷ []) (data_lines c.args.end.now.sent ++ sense_lines c.args.end.now.sense) _ (rw c.end_line.ensures at c.in_ok-put_line.ensures.bytes) c.put_sent_and_sense.ensures.bytes
+returns-clause-bytes g c =
+    let p = c.args.entry.now in
+    let e = c.args.end.now in
+    lines_then _ _ _ _ _ _ _ (lines.End (end_line p.path c.args.d p.ordinal e) ∷ []) (data_lines e.sent ++ sense_lines e.sense)
+    (rw c.end_line.ensures at c.in_ok-put_line.ensures.bytes) c.put_sent_and_sense.ensures.bytes
