@@ -1,9 +1,9 @@
 -- Lines that are put one behind another.
-use Rattle.std.proofs.Common.{◌≡◌, [], ◌∷◌, ◌++◌, ℕ, List, Option, Result, Ok, Err, ap, subst, sym, ◌∙◌}
+use Rattle.std.proofs.Common.{◌≡◌, [], ◌∷◌, ◌++◌, ℕ, List, Option, Result, ap, subst, sym, ◌∙◌}
 use Rattle.std.proofs.lemmas.List.{append-nil}
 use Rattle.std.proofs.lemmas.List.Concat.{flat_map-append}
 use Rattle.ckd_outside.specs.Texts.{Moves, Stops, Puts}
-use Rattle.ckd_outside.proofs.Lines.{Put, moves_in, moves_then, put_more, put_stopped, puts_then, stops_longer}
+use Rattle.ckd_outside.proofs.Lines.{Put, moves_in, put_more, put_stopped, puts_then, stops_longer}
 use Rattle.report_text.specs.declared.line.ReportLine.{ReportLine}
 use Rattle.report_text.specs.Ends.{lines_text}
 use Rattle.report_text.specs.Lines.{line_text}

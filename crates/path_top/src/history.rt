@@ -1,6 +1,6 @@
 //! The history of some devices: of each its journal, the programs that weren't started, and its lost tracks.
 
-ghost use Rattle.std.specs.Prelude.{◌≡◌, ◌<◌, ◌≤◌, ◌++◌, ◌∷◌, [], None, map};
+ghost use Rattle.std.specs.Prelude.{◌≡◌, ◌≤◌, ◌++◌, ◌∷◌, [], None, map};
 ghost use Rattle.std.specs.List.{flat_map};
 ghost use Rattle.ckd_outside.specs.Causes.{HasCause};
 ghost use Rattle.ckd_outside.specs.Texts.{Puts, Writes};

@@ -1,4 +1,4 @@
-use Rattle.std.proofs.Common.{List, arith}
+use Rattle.std.proofs.Common.{arith}
 use Rattle.std.specs.List.{flat_map}
 use Rattle.std.proofs.lemmas.List.{at_drop_all}
 use Rattle.ckd_outside.proofs.Lines.{puts_stopped}

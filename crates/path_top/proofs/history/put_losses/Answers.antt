@@ -1,4 +1,4 @@
-use Rattle.std.proofs.Common.{◌≡◌, ◌∙◌, ◌∷◌, [], Bool, List, ap, arith, false, length, map, subst}
+use Rattle.std.proofs.Common.{◌∙◌, ◌∷◌, [], Bool, List, ap, arith, false, length, map, subst}
 use Rattle.std.specs.Prelude.{slice_index_or}
 use Rattle.ckd_outside.specs.Texts.{Puts, Stops}
 use Rattle.ckd_outside.proofs.Lines.{puts_stopped}
