@@ -1,5 +1,5 @@
 pub mod Texts
-pub mod Recorded
+pub mod Steps
 pub mod Paired
 pub mod Ended
 pub mod NewDevices

@@ -6,8 +6,7 @@ ghost use Rattle.ckd_outside.specs.Texts.{Puts};
 ghost use Rattle.plain_defs.specs.Loose.{next_number};
 ghost use Rattle.plain_defs.specs.declared.journal.Item.TheVariants as items;
 ghost use Rattle.report_text.specs.Ends.{data_lines, end_line, lines_text, sense_lines};
-ghost use Rattle.report_text.specs.Events.{ended_lines, loosed_line};
-ghost use Rattle.deck_run.specs.Loosening.{loosed_by};
+ghost use Rattle.report_text.specs.Events.{ended_lines};
 ghost use Rattle.path_top.specs.Journals.{act_line, act_lines, count_before, end_lines, item_lines, journal_lines, loose_behind, loose_behind_all, loose_behind_item, program_lines};
 
 use crate::line::put_line;

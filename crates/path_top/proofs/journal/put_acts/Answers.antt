@@ -2,7 +2,7 @@ use Rattle.std.proofs.Common.{[], ◌∷◌, arith, refl}
 use Rattle.std.proofs.lemmas.List.{at_drop_all}
 use Rattle.ckd_outside.proofs.Lines.{puts_stopped}
 use Rattle.path_top.specs.Journals.{act_lines}
-use Rattle.path_top.proofs.Recorded.{acts_on}
+use Rattle.path_top.proofs.Steps.{acts_on}
 use Rattle.path_top.proofs.Texts.{lines_done, lines_more, lines_stopped}
 use Rattle.path_top.proofs.journal.put_acts.Goals as goal
 

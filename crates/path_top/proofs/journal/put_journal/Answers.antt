@@ -2,7 +2,7 @@ use Rattle.std.proofs.Common.{arith, refl}
 use Rattle.std.proofs.lemmas.List.{at_drop_all}
 use Rattle.ckd_outside.proofs.Lines.{puts_stopped}
 use Rattle.path_top.specs.Journals.{lines_of_items}
-use Rattle.path_top.proofs.Recorded.{items_on}
+use Rattle.path_top.proofs.Steps.{items_on}
 use Rattle.path_top.proofs.Texts.{lines_done, lines_more, lines_stopped}
 use Rattle.path_top.proofs.journal.put_journal.Goals as goal
 
