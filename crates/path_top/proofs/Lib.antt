@@ -8,5 +8,4 @@ pub mod Finished
 pub mod RunTold
 pub mod Complete
 pub mod Few
-pub mod Written
 mod Rows
