@@ -1,4 +1,5 @@
-pub mod Recorded
+pub mod Texts
+pub mod Steps
 pub mod Paired
 pub mod Ended
 pub mod Adding
