@@ -32,20 +32,20 @@ module _ (p : ℕ → Bool) where
   one_in t a (suc n) least most =
       by_place (eq-or-lt_of_le least) (λ (past : a < t). one_in t (a + 1) n (omega (arith, past)) (omega (arith, most)))
     where
-    here : (b : Bool) → t ≡ a → p a ≡ b → is_in t (if b then a ∷ where_true p (range_with_len (a + 1) n) else where_true p (range_with_len (a + 1) n)) ≡ b
-    here true same is =
-        ap (λ (c : Bool). if c then true else is_in t (where_true p (range_with_len (a + 1) n))) (eq-eqb t a same)
-    here false same is = none_before t (a + 1) n (omega (arith, same))
+      here : (b : Bool) → t ≡ a → p a ≡ b → is_in t (if b then a ∷ where_true p (range_with_len (a + 1) n) else where_true p (range_with_len (a + 1) n)) ≡ b
+      here true same is =
+          ap (λ (c : Bool). if c then true else is_in t (where_true p (range_with_len (a + 1) n))) (eq-eqb t a same)
+      here false same is = none_before t (a + 1) n (omega (arith, same))
 
-    later : (b : Bool) → (t == a) ≡ false → is_in t (where_true p (range_with_len (a + 1) n)) ≡ p t →
-        is_in t (if b then a ∷ where_true p (range_with_len (a + 1) n) else where_true p (range_with_len (a + 1) n)) ≡ p t
-    later true other more = ap (λ (c : Bool). if c then true else is_in t (where_true p (range_with_len (a + 1) n))) other ∙ more
-    later false other more = more
+      later : (b : Bool) → (t == a) ≡ false → is_in t (where_true p (range_with_len (a + 1) n)) ≡ p t →
+          is_in t (if b then a ∷ where_true p (range_with_len (a + 1) n) else where_true p (range_with_len (a + 1) n)) ≡ p t
+      later true other more = ap (λ (c : Bool). if c then true else is_in t (where_true p (range_with_len (a + 1) n))) other ∙ more
+      later false other more = more
 
-    by_place : (a ≡ t) ⊎ (a < t) → (a < t → is_in t (where_true p (range_with_len (a + 1) n)) ≡ p t) →
-        is_in t (where_true p (range_with_len a (suc n))) ≡ p t
-    by_place (inl same) more = here (p a) (sym same) refl ∙ ap p same
-    by_place (inr past) more = later (p a) (ne_eqb t a (λ (same : t ≡ a). omega (arith, past, same))) (more past)
+      by_place : (a ≡ t) ⊎ (a < t) → (a < t → is_in t (where_true p (range_with_len (a + 1) n)) ≡ p t) →
+          is_in t (where_true p (range_with_len a (suc n))) ≡ p t
+      by_place (inl same) more = here (p a) (sym same) refl ∙ ap p same
+      by_place (inr past) more = later (p a) (ne_eqb t a (λ (same : t ≡ a). omega (arith, past, same))) (more past)
 
 same_true : (p q : ℕ → Bool) (a n : ℕ) → ((t : ℕ) → a ≤ t → t < a + n → p t ≡ q t) → where_true p (range_with_len a n) ≡ where_true q (range_with_len a n)
 same_true p q a zero h = refl

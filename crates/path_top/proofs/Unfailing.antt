@@ -184,8 +184,8 @@ module _ (deck : DeckLines) (none : fails_nothing deck ≡ true) where
       let failed = none_failed deck none n in
       let marks = is.is.tracks (none_may c failed (no_side deck none n) (no_cache deck none n)) in (
         all_good plans (marks_by many x.lost) c failed (no_side deck none n) (none_marked (marks_by many x.lost) marks) empty x.journal
-        (none_more (loose_losses x.journal) c.losses.cache is.is.loose (no_cache deck none n))
-        (none_more (unexplained plans empty (marks_by many x.lost) c x.journal) c.failed is.is.checks failed),
+            (none_more (loose_losses x.journal) c.losses.cache is.is.loose (no_cache deck none n))
+            (none_more (unexplained plans empty (marks_by many x.lost) c x.journal) c.failed is.is.checks failed),
         none_told many x.lost is.tracks marks,
       )
 

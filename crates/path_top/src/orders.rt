@@ -34,11 +34,7 @@ pub(crate) fn is_order(line: &EventLine) -> bool
 }
 
 /// A volume of empty tracks for a side of the device. None of its calls fails.
-fn new_volume(
-    alloc: Global,
-    sub: &Subsystem<MemVolume>,
-    d: DeviceNo,
-) -> Result<MemVolume, NoMemory>
+fn new_volume(alloc: Global, sub: &Subsystem<MemVolume>, d: DeviceNo) -> Result<MemVolume, NoMemory>
     requires { is_in d (numbers_of sub.now.devices.items) ≡ true }
     ensures { IfOk result (λ volume. IfSome (device_at sub.now.devices.items d) (λ device. IsSpare device volume)) }
 {
