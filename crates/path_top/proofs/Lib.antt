@@ -1,7 +1,9 @@
-pub mod Recorded
+pub mod Texts
+pub mod Steps
 pub mod Paired
 pub mod Ended
 pub mod NewDevices
+pub mod PairedAbout
 pub mod Readied
 pub mod Finished
 pub mod RunTold

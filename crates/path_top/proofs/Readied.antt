@@ -22,7 +22,10 @@ use Rattle.device_core.specs.declared.device.Device.{Device}
 use Rattle.device_core.specs.State.{device_of}
 use Rattle.subsystem_core.specs.declared.subsystem.Subsystem.{Subsystem}
 use Rattle.subsystem_defs.specs.Subsystem.{Mounted}
+use Rattle.subsystem_laws.specs.CameAbout.{CameAbout}
+use Rattle.subsystem_laws.specs.Excused.{has_fresh}
 use Rattle.subsystem_laws.specs.WholeStood.{Stood, IsMounted, is_mounted, AreMountedBy, one_more}
+use Rattle.subsystem_laws.proofs.Walks.{AreSo}
 use Rattle.deck_run.specs.Owning.{AllOwn}
 use Rattle.deck_run.specs.Standing.{StandsAs, all_stood, stood_of}
 use Rattle.path_turns.proofs.Pooled.{untold_order}
@@ -72,8 +75,8 @@ follows_so line m f =
     (subst (λ (p : PlainState). Follows line.number p m.device) f.base f)
 
 one_usable : {mine : List ℕ} {x : Stood} {m : Mounted} (deck : DeckLines) (line : DeviceLine) → IsMounted mine x m → IsNew deck line m →
-    GiveBytes x.device.plans → IsUsable deck line (lent_of m) x
-one_usable deck line (is_mounted d v w h on_a on_b a b stands slots told_a told_b) p gives = record {
+    CameAbout m.device → GiveBytes x.device.plans → IsUsable deck line (lent_of m) x
+one_usable deck line (is_mounted d v w h on_a on_b a b stands slots told_a told_b) p about gives = record {
   number = p.follows.number;
   plans = p.plans;
   none = p.none;
@@ -92,6 +95,8 @@ one_usable deck line (is_mounted d v w h on_a on_b a b stands slots told_a told_
       order = untold_order d.store h v w i;
       follows = follows_so line (record { device = marks_device v w d; a = a; b = b }) p.follows;
       gives = gives;
+      about = about;
+      never = ap (λ (h : History). has_fresh h.items) p.none;
     }
     by_place free (is_away l) = none_some d.store.lent free l.store.lent
 
@@ -101,27 +106,28 @@ module _ {V : Type 0} {G : Ghosts V} where
   IsOpened deck line x = IsUsable deck line (device_of x).store.lent (stood_of x)
 
   all_opened : {used taken : List ℕ} (deck : DeckLines) (ls : List DeviceLine) (xs : List (Device V G)) (ms : List Mounted) →
-      AreMountedBy used taken (all_stood xs) ms → AreNew deck ls ms → AllOwn xs →
+      AreMountedBy used taken (all_stood xs) ms → AreNew deck ls ms → AreSo CameAbout ms → AllOwn xs →
       AllZip (IsOpened deck) ls xs × (map (λ (x : Device V G). (device_of x).store.lent) xs ≡ map lent_of ms)
-  all_opened deck [] [] [] a n o = (tt, refl)
-  all_opened deck [] [] (m ∷ ms) a n o = absurd n
-  all_opened deck [] (x ∷ xs) [] a n o = elim a [ ]
-  all_opened deck [] (x ∷ xs) (m ∷ ms) a n o = absurd n
-  all_opened deck (line ∷ ls) [] [] a n o = absurd n
-  all_opened deck (line ∷ ls) [] (m ∷ ms) a n o = elim a [ ]
-  all_opened deck (line ∷ ls) (x ∷ xs) [] a n o = absurd n
-  all_opened deck (line ∷ ls) (x ∷ xs) (m ∷ ms) (one_more mine is apart rest) n o =
-      let u = one_usable deck line is n.0 o.0.plans in
-      let more = all_opened deck ls xs ms rest n.1 o.1 in (
+  all_opened deck [] [] [] a n e o = (tt, refl)
+  all_opened deck [] [] (m ∷ ms) a n e o = absurd n
+  all_opened deck [] (x ∷ xs) [] a n e o = elim a [ ]
+  all_opened deck [] (x ∷ xs) (m ∷ ms) a n e o = absurd n
+  all_opened deck (line ∷ ls) [] [] a n e o = absurd n
+  all_opened deck (line ∷ ls) [] (m ∷ ms) a n e o = elim a [ ]
+  all_opened deck (line ∷ ls) (x ∷ xs) [] a n e o = absurd n
+  all_opened deck (line ∷ ls) (x ∷ xs) (m ∷ ms) (one_more mine is apart rest) n e o =
+      let u = one_usable deck line is n.0 e.0 o.0.plans in
+      let more = all_opened deck ls xs ms rest n.1 e.1 o.1 in (
         (record { number = u.number; plans = u.plans; none = u.none; base = u.base; lent = refl; tells_it = u.tells_it; stands = u.stands }, more.0),
         ap (λ (l : List (Option ℕ)). (device_of x).store.lent ∷ l) more.1 ∙ ap (λ (o : Option ℕ). o ∷ map lent_of ms) u.lent,
       )
 
   pub are_opened : (deck : DeckLines) (s : Subsystem V G) → StandsAs s (paired deck) → AreNew deck deck.devices (paired deck).mounted →
-      AllOwn s.devices.items →
+      AreSo CameAbout (paired deck).mounted → AllOwn s.devices.items →
       AllZip (IsOpened deck) deck.devices s.devices.items
       × (map (λ (x : Device V G). (device_of x).store.lent) s.devices.items ≡ all_lent (paired deck))
-  are_opened deck s stands new own = all_opened deck deck.devices s.devices.items (paired deck).mounted stands.mounted new own
+  are_opened deck s stands new about own =
+      all_opened deck deck.devices s.devices.items (paired deck).mounted stands.mounted new about own
 
   -- Ready for the run
 

@@ -3,8 +3,10 @@
 
 mod history;
 mod journal;
+mod line;
 mod pairs;
 mod run;
 mod top;
 
+pub use history::write_history;
 pub use top::paths_top;
