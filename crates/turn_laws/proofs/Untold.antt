@@ -40,13 +40,13 @@ may_answer slots call a is = subst (λ (o : Option (List ℕ)). MayAnswer o call
 
 -- the other one's end, which it can come to
 pub record Twinned {R K I S A T B : Type 0} (q : S → A → T → B → Holdings R → Type 0) (j : Interaction Bool I T B) (s : S) (a : A) (w : Outside R K) : Type 0
-    where
-  pub state : T
-  pub answer : B
-  pub holdings : Holdings R
-  pub untold : Untold w holdings
-  pub is : q s a state answer holdings
-  pub came : Came j state answer
+  where
+    pub state : T
+    pub answer : B
+    pub holdings : Holdings R
+    pub untold : Untold w holdings
+    pub is : q s a state answer holdings
+    pub came : Came j state answer
 
 module _ {R I S A T B : Type 0} (z : R) (q : S → A → T → B → Holdings R → Type 0) where
   -- behind a read
