@@ -66,10 +66,14 @@ module _ {V : Type 0} {G : Ghosts V} {N : holders.Ghosts (Device V G) (Promise V
       AllZip (IsPromisedFor es) ds seats → AllZip Allows places seats → All (IsSpareAmong ds) os → All (IsSpareAt places seats) os
   all_spare es ds places seats os p a h = All-weaker (IsSpareAmong ds) (IsSpareAt places seats) (spare_for _ ds places seats p a) os h
 
+  pub promised_same : (es os : List (Order V)) (ds : List (Device V G)) (seats : List (SeatOf N)) → es ≡ os → AllZip (IsPromisedFor es) ds seats →
+      AllZip (IsPromisedFor os) ds seats
+  promised_same es os ds seats same p = subst (λ (l : List (Order V)). AllZip (IsPromisedFor l) ds seats) same p
+
   -- and it stays so while the seats rest
 
   seat_rests : (what : DeviceOrder V) (s z : SeatOf N) → Rests s z → SuitsSeat what s → SuitsSeat what z
-  seat_rests (orders.Replace side volume) s z rests f p is = f p (sym rests.pledge ∙ is)
+  seat_rests (orders.Replace side volume) s z rests f = λ p is. f p (sym rests.pledge ∙ is)
   seat_rests (orders.Fail side) s z rests f = tt
   seat_rests orders.Suspend s z rests f = tt
   seat_rests orders.Resume s z rests f = tt

@@ -32,7 +32,7 @@ obey-requires-clause-spare g c =
     let rest = into_iter_items c.next.new.self in
     let all = subst (λ os. All (IsSpareAt c.args.places.now c.args.seats.items) os) c.in-Some.ensures.steps.0 c.loop-order.invariant.1 in
     subst (λ ss. IsSpareAt c.args.places.now ss order) (sym c.deref_mut.ensures.value)
-    (spare_rests c.args.places.now c.args.seats.items c.loop-order.seats.items order c.loop-order.invariant.0 (All-head _ order rest all))
+    (spare_rests c.args.places.now c.args.seats.items c.loop-order.seats.items order c.loop-order.invariant.0 (All-head (IsSpareAt c.args.places.now c.args.seats.items) order rest all))
 
 pub loop-order-preserved : goal.loop-order-preserved
 loop-order-preserved g c =
