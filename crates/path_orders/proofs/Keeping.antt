@@ -12,6 +12,7 @@ use Rattle.loss_model.specs.declared.Loss.{Loss}
 use Rattle.device_laws.specs.Handed.{StaysInTurn, allowance_in}
 use Rattle.device_laws.specs.Whole.{WholeDevice}
 use Rattle.device_laws.proofs.KeepLaws.{AreWithin, loss_kept, loss_checks}
+use Rattle.subsystem_defs.specs.Refusals.{suspend_fault}
 use Rattle.turn_laws.specs.Standing.{Stands}
 use Rattle.turn_laws.proofs.Counts.{loss_acts, same_counts}
 use Rattle.turn_laws.proofs.Orders.{held_stands}
@@ -84,9 +85,9 @@ module _ {V : Type 0} {G : Ghosts V} where
     counts = same_counts (device_of d) (device_of e) (loss_acts contents (device_of d) loss (ran_weaker (λ ok h. tt) r));
   }
 
-  pub held_ordered : (d e : Device V G) (held : Bool) (most : Losses) → device_of e ≡ record (device_of d) { store = record (device_of d).store { held = held } } →
+  pub held_ordered : (d e : Device V G) (held : Bool) (most : Losses) → (held ≡ true → suspend_fault (device_of d) ≡ None) → device_of e ≡ record (device_of d) { store = record (device_of d).store { held = held } } →
       e.store.pair.volumes ≡ d.store.pair.volumes → IsOrdered (HaveLosses most) d e
-  held_ordered d e held most is same = record {
+  held_ordered d e held most fault is same = record {
     kept = λ p _ k.
         let told : told_of e ≡ told_of d = ap (λ (v : SideVolumes V). outside_of (no_pool 0) G.view v (tt {0})) same in
         record {
@@ -96,7 +97,7 @@ module _ {V : Type 0} {G : Ghosts V} where
               (held_keeps p (device_of d) held (told_of d) (tells (told_of d).a && tells (told_of d).b) k.keeps));
           stands = λ is_told home. subst (λ (x : WholeDevice). Stands x (told_of e)) (sym is)
               (subst (λ (w : Outside (List ℕ) (Unit {0})). Stands (held_device p (device_of d) held (told_of d)) w) (sym told)
-              (held_stands (device_of d) (told_of d) held (k.stands is_told (sym (ap (λ (x : WholeDevice). x.store.lent) is) ∙ home))));
+              (held_stands (device_of d) (told_of d) held fault (k.stands is_told (sym (ap (λ (x : WholeDevice). x.store.lent) is) ∙ home))));
         };
     counts = ap (λ (x : WholeDevice). seat_counts x) is;
   }

@@ -1,6 +1,6 @@
 -- A device keeps what was pledged of it where a volume comes in the place of a failed side's.
 use Rattle.std.proofs.Common.{◌≡◌, ◌*◌, ◌≤◌, Bool, true, false, List, length, ℕ, Option, Some, None, refl, sym, ap, subst, ◌∙◌, arith}
-use Rattle.std.specs.Prelude.{◌&&◌, is_some, not, option_map}
+use Rattle.std.specs.Prelude.{◌&&◌, is_some}
 use Rattle.ckd_types.specs.declared.paths.Side.{Side}
 use Rattle.ckd_types.specs.declared.paths.Side.TheVariants.{A, B}
 use Rattle.device_outside.specs.declared.volume.Volume.{Ghosts}
@@ -8,14 +8,12 @@ use Rattle.device_outside.specs.Outside.{Outside, no_pool, with_view}
 use Rattle.device_outside.specs.Volume.{VolumeView}
 use Rattle.device_defs.specs.Orders.{replace}
 use Rattle.device_defs.specs.Pledge.{Handed, Pledge, StaysWithin, seat_counts}
-use Rattle.device_defs.specs.Store.{SideMarks, new_side, side_of, tracks_of}
+use Rattle.device_defs.specs.Store.{SideMarks, new_side, tracks_of}
 use Rattle.duplex_pair.specs.Sides.{other_of, volume_of}
 use Rattle.duplex_pair.specs.declared.pair.SideVolumes.{SideVolumes}
 use Rattle.device_laws.specs.Handed.{StaysInTurn, allowance_in, in_all}
 use Rattle.device_laws.specs.Whole.{WholeDevice}
-use Rattle.subsystem_defs.proofs.Unrefused.{first_none, is_not, where_none}
-use Rattle.subsystem_defs.specs.declared.end.OrderFault.TheVariants.{NoSide, Up}
-use Rattle.subsystem_defs.specs.Refusals as R
+use Rattle.subsystem_core.proofs.Coming.{is_home}
 use Rattle.subsystem_defs.specs.Refusals.{replace_fault}
 use Rattle.turn_laws.specs.Standing.{Stands}
 use Rattle.turn_laws.proofs.Orders.{replaced_stands}
@@ -23,39 +21,12 @@ use Rattle.device_store.specs.State.{outside_of}
 use Rattle.device_core.specs.declared.device.Device.{Device}
 use Rattle.device_core.specs.State.{device_of}
 use Rattle.path_turns.specs.Keeping.{KeepsPledge, handed_of, tells, tells_all, told_of}
+use Rattle.path_turns.proofs.Keeping.{none_of}
 use Rattle.path_orders.specs.Ordered.{IsOrdered, IsPledged}
 use Rattle.path_orders.specs.Spare.{TellsTracks}
 
 abbrev Told : Type 0
 Told = Outside (List ℕ) (Unit {0})
-
--- why it wasn't refused
-
-home_by : (o : Option ℕ) → R.lent_by o ≡ None → o ≡ None
-home_by None e = refl
-home_by (Some to) e = absurd (cc)
-
--- the device isn't lent, it has the side, and that is down
-record MayReplace (x : WholeDevice) (side : Side) : Type 0 where
-  home : x.store.lent ≡ None
-  has : R.has_side x.store side ≡ true
-  down : (side_of x.store side).up ≡ false
-
-may_replace : (x : WholeDevice) (side : Side) → replace_fault x side ≡ None → MayReplace x side
-unfolding R.replace_fault
-may_replace x side e =
-    let a = first_none (R.lent_by x.store.lent) _ e in
-    let b = first_none (R.where_so (not (R.has_side x.store side)) NoSide) _ a.1 in
-    let c = first_none (R.where_so (side_of x.store side).up Up) _ b.1 in
-    record {
-      home = home_by x.store.lent a.0;
-      has = is_not (R.has_side x.store side) (where_none (not (R.has_side x.store side)) NoSide b.0);
-      down = where_none (side_of x.store side).up Up c.0;
-    }
-
-paired_by : (x : WholeDevice) (side : Side) → R.has_side x.store side ≡ true → side ≡ B → x.store.paired ≡ true
-paired_by x A has is = absurd (cc)
-paired_by x B has is = has
 
 -- what a volume tells
 
@@ -168,19 +139,19 @@ module _ {V : Type 0} {G : Ghosts V} where
   replaced_ordered d e side volume free is here other =
       let x = device_of d in
       let v = G.view volume in
-      let may = may_replace x side free in
+      let home : x.store.lent ≡ None = none_of x.store.lent (is_home d side free) in
       let told : told_of e ≡ with_view (told_of d) side v = replaced_told d.store.pair.volumes e.store.pair.volumes side volume here other in
       record {
         kept = λ p pledged k. record {
           keeps = subst (λ (y : WholeDevice). StaysInTurn p y (handed_of p.told e) (told_of e)) (sym is)
               (subst (λ (w : Told). StaysInTurn p (replace x side) (handed p.told w) w) (sym told)
               (replaced_keeps p x (told_of d) v pledged.sure (λ told. is_told v.contents (p.cylinders * 15) (pledged.tells told)) side k.keeps));
-          stands = λ is_told home.
+          stands = λ is_told _.
               let has = has_tracks v.contents (p.cylinders * 15) (pledged.tells is_told) in
               let long : length has.all ≡ tracks_of x.store = has.long ∙ ap (λ (n : ℕ). n * 15) (sym k.keeps.keeps.cylinders) in
               subst (λ (y : WholeDevice). Stands y (told_of e)) (sym is)
               (subst (λ (w : Told). Stands (replace x side) w) (sym told)
-              (replaced_stands x (told_of d) v has.all has.is long side (k.stands is_told may.home) may.down (paired_by x side may.has)));
+              (replaced_stands x (told_of d) v has.all has.is long side (k.stands is_told home) free));
         };
         counts = ap (λ (y : WholeDevice). seat_counts y) is ∙ same_counts x side;
       }

@@ -2,7 +2,7 @@ ghost use Rattle.std.specs.Prelude.{◌≡◌, ◌≤◌, ◌*◌, None, is_some
 ghost use Rattle.device_outside.specs.Volume.{counted};
 ghost use Rattle.device_defs.specs.Events.{one_more};
 ghost use Rattle.device_core.specs.State.{device_of};
-ghost use Rattle.subsystem_defs.specs.Refusals.{fail_fault, replace_fault};
+ghost use Rattle.subsystem_defs.specs.Refusals.{fail_fault, replace_fault, suspend_fault};
 ghost use Rattle.path_turns.specs.Keeping.{IsWithin};
 ghost use Rattle.path_orders.specs.Ordered.{CanLose, HasSize, HaveLosses, IsOrdered, IsPledged, MayLose, Suits};
 
@@ -90,6 +90,13 @@ fn may_replace<V: Volume>(device: &Device<V>, side: Side) -> bool
     replace_fault(device, side).is_none()
 }
 
+/// Whether side B may be held.
+fn may_suspend<V: Volume>(device: &Device<V>) -> bool
+    ensures { result ≡ true → suspend_fault (device_of device.now) ≡ None }
+{
+    suspend_fault(device).is_none()
+}
+
 fn can_lose<V: Volume>(device: &Device<V>, loss: Loss) -> bool
     ensures { result ≡ true → CanLose loss device.now }
 {
@@ -153,7 +160,7 @@ fn suspend<V: Volume>(device: &mut Device<V>, most: Losses)
     ensures { IsOrdered (HaveLosses most) device.old device.new }
 {
     let _allowed = most;
-    if suspend_fault(device).is_some() {
+    if !may_suspend(device) {
         return;
     }
     device.hold();

@@ -19,7 +19,7 @@ use Rattle.path_threads.specs.declared.places.Place.{Place}
 use Rattle.path_threads.specs.declared.orders.Order.{Order}
 use Rattle.path_threads.specs.Allowed.{allowed_of}
 
-abbrev SeatOf : {V : Type 0} {G : Ghosts V} → holders.Ghosts (Device V G) (Promise V G) → Type 0
+abbrev pub SeatOf : {V : Type 0} {G : Ghosts V} → holders.Ghosts (Device V G) (Promise V G) → Type 0
 SeatOf {V} {G} N = TurnSeat (Device V G) (Promise V G) N
 
 module _ {V : Type 0} {G : Ghosts V} where

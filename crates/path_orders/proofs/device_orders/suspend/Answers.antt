@@ -1,9 +1,12 @@
 use Rattle.std.proofs.Common.{true}
+use Rattle.subsystem_defs.proofs.Unrefused.{is_not}
 use Rattle.path_orders.proofs.Keeping.{held_ordered, same_ordered}
 use Rattle.path_orders.proofs.device_orders.suspend.Goals as goal
 
-pub returns-then-is_some : goal.returns-then-is_some
-returns-then-is_some g c = same_ordered c.args.device.now
+pub returns-then-not-may_suspend : goal.returns-then-not-may_suspend
+returns-then-not-may_suspend g c = same_ordered c.args.device.now
 
 pub returns : goal.returns
-returns g c = held_ordered c.args.device.now c.hold.new.self true c.args.most c.hold.ensures.device c.hold.ensures.volume
+returns g c =
+    held_ordered c.args.device.now c.hold.new.self true c.args.most (λ held. c.may_suspend.ensures (is_not _ c.if-not-may_suspend.false)) c.hold.ensures.device
+    c.hold.ensures.volume

@@ -31,7 +31,7 @@ loop-preserved g c =
       one_come c.args.orders.now _ _ _ _ _ _ _ c.loop.invariant.1 (omega (arith, e, t, k)) c.remove-device.ensures.value c.remove-device.ensures.items
           (promised_for c.args.orders.now _ _ _ c.most_of-most.ensures.is promised) c.in_ok-push.ensures.operator,
       omega (arith, e, l),
-      zip_pushed Allows _ _ _ _ _ _ c.loop.invariant.3 (promised_allows _ _ _ _ refl promised) c.in_ok-push-2.ensures.items c.in_ok-push.ensures.operator,
+      zip_pushed Allows _ _ _ _ _ _ c.loop.invariant.3 (promised_allows _ _ _ _ refl c.number-number.ensures promised) c.in_ok-push-2.ensures.items c.in_ok-push.ensures.operator,
     )
 
 pub returns-clause-promised : goal.returns-clause-promised
