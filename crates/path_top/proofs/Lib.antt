@@ -1,5 +1,6 @@
 pub mod Texts
 pub mod Steps
+pub mod Caused
 pub mod Paired
 pub mod Ended
 pub mod Adding

@@ -37,6 +37,7 @@ use Rattle.subsystem_defs.specs.Happening.{happens, happens_by, joined, lends, h
 use Rattle.subsystem_defs.specs.Refusals.{pair_fault}
 use Rattle.subsystem_defs.specs.Subsystem.{Mounted, Subsystem, devices_of, mounted_in, number_of, put_in}
 use Rattle.subsystem_defs.proofs.Unrefused.{may_pair}
+use Rattle.subsystem_laws.proofs.Came.{told_came}
 use Rattle.subsystem_laws.proofs.FoundDevices.{number_found, same_found}
 use Rattle.subsystem_laws.proofs.LendBase.{Lent, lend_lends, lent_counts}
 use Rattle.path_top.specs.Excuses.{faults_of, lent_faults}
@@ -162,7 +163,7 @@ module _ (deck : DeckLines) (f : ℕ → ℕ) (line : DeviceLine) (m : Mounted) 
       let t = told_to pool m in
       let past = held true (had_always (lend_past m.device to)) t in
       let idle = ap (λ (h : History). h.running) p.none in
-      let lent = lend_lends m.device to t in
+      let lent = lend_lends m.device to (told_came (lend by_plain m.device to) t) in
       record {
         plans = past.0 ∙ p.plans;
         none = past.1.0 ∙ p.none;
@@ -227,7 +228,7 @@ module _ (deck : DeckLines) (ls : List DeviceLine) where
     before i = lent_faults deck i s.mounted
 
     lends_it : Lent m.device a k.device
-    lends_it = lend_lends m.device a (told_to s.pool m)
+    lends_it = lend_lends m.device a (told_came (lend by_plain m.device a) (told_to s.pool m))
 
     lent_on : AreNew deck ls ms
     lent_on =

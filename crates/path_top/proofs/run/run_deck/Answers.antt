@@ -1,9 +1,8 @@
-use Rattle.std.proofs.Common.{◌∙◌, ap, refl, subst, sym}
-use Rattle.std.specs.Prelude.{All}
+use Rattle.std.proofs.Common.{◌∙◌, ap, refl, subst}
 use Rattle.std.specs.List.{AllZip}
 use Rattle.deck_run.proofs.Ready.{read_lines}
 use Rattle.subsystem_laws.proofs.ReadDecks.{read_served}
-use Rattle.path_threads.specs.Places.{IsSpareAmong, KeepsOrdered}
+use Rattle.path_threads.specs.Places.{KeepsOrdered}
 use Rattle.path_top.specs.Orders.{orders_in}
 use Rattle.path_top.specs.Pairs.{paired}
 use Rattle.path_top.proofs.Counted.{few_counts}
@@ -27,7 +26,7 @@ orders_in-requires g c =
 
 pub run_paths-requires-clause-spare : goal.run_paths-requires-clause-spare
 run_paths-requires-clause-spare g c =
-    subst (λ xs. All (IsSpareAmong xs) c.in_ok-orders.orders.items) (sym (ap (λ p. p.1.items) c.into_parts-pool.ensures)) c.in_ok-orders.ensures.spare
+    rw (ap (λ p. p.1.items) c.into_parts-pool.ensures) (λ κs outlives k order within. c.in_ok-orders.ensures.spare k order within)
 
 pub returns : goal.returns
 returns g c =
