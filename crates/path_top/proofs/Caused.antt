@@ -1,5 +1,5 @@
 -- A call whose fault has a cause, behind others that didn't fail.
-use Rattle.std.proofs.Common.{◌+◌, ◌-◌, ◌^◌, ◌≤◌, ℕ, min, Result, Ok, Err, OnErr, arith, le_trans}
+use Rattle.std.proofs.Common.{◌≤◌, ℕ, Result, Ok, Err, OnErr, arith, le_trans}
 use Rattle.ckd_outside.specs.Causes.{HasCause, Rose}
 
 rose_before : (a b c : ℕ) → a ≤ b → Rose b c → Rose a c

@@ -1,6 +1,6 @@
 -- How often something failed of a device behind the run of its paths: at most as often as lines of the deck say.
 use Rattle.std.proofs.Common.{◌≡◌, ◌≤◌, ◌<◌, ◌+◌, ◌*◌, ◌-◌, ◌^◌, ◌∙◌, ℕ, suc, Bool, false, true, List, [], ◌∷◌, length, map, Ok, Option, Some, None, is_some, option_map, refl, sym, ap, subst, arith, le_trans}
-use Rattle.std.specs.Prelude.{count_by, if◌then◌else◌}
+use Rattle.std.specs.Prelude.{if◌then◌else◌}
 use Rattle.std.proofs.lemmas.List.Sums.{count_by-le-length}
 use Rattle.ckd_outside.specs.Memory.{to_come}
 use Rattle.deck_text.specs.declared.line.DeviceLine.{DeviceLine}

@@ -1,5 +1,5 @@
 -- Where no line of a deck is a FAIL or a FAULT, its history has no equipment check and no lost track.
-use Rattle.std.proofs.Common.{◌≡◌, ◌≤◌, ◌+◌, ◌*◌, ◌==◌, ◌∙◌, ℕ, suc, Bool, true, false, List, [], ◌∷◌, length, get_or, map, cond, Option, Some, None, is_some, refl, sym, ap, subst, arith, eqb-true, le_of_eq}
+use Rattle.std.proofs.Common.{◌≡◌, ◌≤◌, ◌+◌, ◌*◌, ◌==◌, ◌∙◌, ℕ, Bool, true, false, List, [], ◌∷◌, length, get_or, cond, Option, Some, None, is_some, refl, sym, ap, arith, eqb-true}
 use Rattle.std.specs.Prelude.{◌&&◌, ◌||◌, not, nat_le, All, count_by, if◌then◌else◌}
 use Rattle.std.specs.List.{AllZip}
 use Rattle.std.proofs.lemmas.List.Elements.{All-cons, All-nil}
@@ -17,7 +17,7 @@ use Rattle.plain_defs.specs.Journal.{Plans, last_sense, replay_item}
 use Rattle.plain_defs.specs.PlainState.{PlainState, empty_state}
 use Rattle.device_defs.specs.declared.counts.Counts.{Counts}
 use Rattle.device_defs.specs.Command.{has_loss, is_loss}
-use Rattle.device_defs.specs.Excused.{IsExcused, count_lost, has_lost, is_checked, is_equipment_check, is_unexplained, last_command, loose_losses, losses_in, losses_of, may_lose, unexplained, unexplained_item}
+use Rattle.device_defs.specs.Excused.{has_lost, is_checked, is_equipment_check, is_unexplained, last_command, loose_losses, losses_in, losses_of, may_lose, unexplained, unexplained_item}
 use Rattle.device_laws.specs.Unharmed.{ends_with_equipment_check}
 use Rattle.subsystem_defs.specs.Happening.{is_lent_to}
 use Rattle.subsystem_defs.specs.Subsystem.{Mounted, number_of}

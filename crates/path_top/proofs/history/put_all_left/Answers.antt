@@ -28,4 +28,4 @@ returns-clause-bytes g c =
     (left_none c.args.device.now.store.number (left (device_of c.args.device.now)) c.loop-number.number c.loop-number-test.false)
 
 pub loop-number-init : goal.loop-number-init
-loop-number-init g c = (begun _ _ _ _ refl, le_refl, le_refl)
+loop-number-init g c = (begun _ _ _ _ refl, le_refl _, le_refl _)
