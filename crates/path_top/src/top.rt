@@ -123,8 +123,9 @@ fn usage<K: Sink>(sink: &mut K) -> Status
 }
 
 /// Reads a deck, runs the programs of its paths beside each other over volumes in memory, and writes the history of its devices: of each its journal in
-/// the order that came about, the programs that weren't started, and its lost tracks. The PAIR lines that stand before the first START line come first;
-/// other event lines are not used, and counted. The gate is called round each event of a path. Its promise holds if it returns: it waits for its threads.
+/// the order that came about, the programs that weren't started, and its lost tracks. The PAIR lines that stand before the first START line come first. The
+/// FAIL, REPAIR, REPLACE, SUSPEND and RESUME lines are done beside the paths, once each and in their order, unless they are refused then. Other event lines
+/// are not used, and counted. The gate is called round each event of a path. Its promise holds if it returns: it waits for its threads.
 /// Other words than the one word `paths` are answered with the usage. A read fault is answered exactly where a read failed.
 pub fn paths_top<R: Threads + Wait + Sync, S: Source, K: Sink, G: Gate + Sync>(
     rt: &R,
