@@ -1,5 +1,5 @@
 -- A device keeps what was pledged of it where a volume comes in the place of a failed side's.
-use Rattle.std.proofs.Common.{◌≡◌, ◌*◌, ◌≤◌, Bool, true, false, List, length, ℕ, Option, Some, None, refl, sym, ap, subst, ◌∙◌, arith}
+use Rattle.std.proofs.Common.{◌≡◌, ◌*◌, Bool, true, false, List, length, ℕ, Option, Some, None, refl, sym, ap, subst, ◌∙◌, arith}
 use Rattle.std.specs.Prelude.{◌&&◌, is_some}
 use Rattle.ckd_types.specs.declared.paths.Side.{Side}
 use Rattle.ckd_types.specs.declared.paths.Side.TheVariants.{A, B}
@@ -20,7 +20,7 @@ use Rattle.turn_laws.proofs.Orders.{replaced_stands}
 use Rattle.device_store.specs.State.{outside_of}
 use Rattle.device_core.specs.declared.device.Device.{Device}
 use Rattle.device_core.specs.State.{device_of}
-use Rattle.path_turns.specs.Keeping.{KeepsPledge, handed_of, tells, tells_all, told_of}
+use Rattle.path_turns.specs.Keeping.{handed_of, tells, told_of}
 use Rattle.path_turns.proofs.Keeping.{none_of}
 use Rattle.path_orders.specs.Ordered.{IsOrdered, IsPledged}
 use Rattle.path_orders.specs.Spare.{TellsTracks}
@@ -123,16 +123,17 @@ same_counts : (x : WholeDevice) (side : Side) → seat_counts (replace x side) �
 same_counts x A = refl
 same_counts x B = refl
 
-module _ {V : Type 0} {G : Ghosts V} where
-  replaced_told : (x y : SideVolumes V) (side : Side) (volume : V) → volume_of y side ≡ Some volume → other_of y side ≡ other_of x side →
-      outside_of (no_pool 0) G.view y (tt {0}) ≡ with_view (outside_of (no_pool 0) G.view x (tt {0})) side (G.view volume)
-  replaced_told x y A volume here other =
-      ap (λ (o : Option V). outside_of (no_pool 0) G.view (record { a = o; b = y.b }) (tt {0})) here
-      ∙ ap (λ (o : Option V). outside_of (no_pool 0) G.view (record { a = Some volume; b = o }) (tt {0})) other
-  replaced_told x y B volume here other =
-      ap (λ (o : Option V). outside_of (no_pool 0) G.view (record { a = y.a; b = o }) (tt {0})) here
-      ∙ ap (λ (o : Option V). outside_of (no_pool 0) G.view (record { a = o; b = Some volume }) (tt {0})) other
+replaced_told : {V : Type 0} (view : V → VolumeView (List ℕ)) (x y : SideVolumes V) (side : Side) (volume : V) → volume_of y side ≡ Some volume →
+    other_of y side ≡ other_of x side →
+    outside_of (no_pool 0) view y (tt {0}) ≡ with_view (outside_of (no_pool 0) view x (tt {0})) side (view volume)
+replaced_told {V} view x y A volume here other =
+    ap (λ (o : Option V). outside_of (no_pool 0) view (record { a = o; b = y.b }) (tt {0})) here
+    ∙ ap (λ (o : Option V). outside_of (no_pool 0) view (record { a = Some volume; b = o }) (tt {0})) other
+replaced_told {V} view x y B volume here other =
+    ap (λ (o : Option V). outside_of (no_pool 0) view (record { a = y.a; b = o }) (tt {0})) here
+    ∙ ap (λ (o : Option V). outside_of (no_pool 0) view (record { a = o; b = Some volume }) (tt {0})) other
 
+module _ {V : Type 0} {G : Ghosts V} where
   pub replaced_ordered : (d e : Device V G) (side : Side) (volume : V) → replace_fault (device_of d) side ≡ None →
       device_of e ≡ replace (device_of d) side → volume_of e.store.pair.volumes side ≡ Some volume →
       other_of e.store.pair.volumes side ≡ other_of d.store.pair.volumes side → IsOrdered (λ p. IsPledged p (G.view volume)) d e
@@ -140,7 +141,7 @@ module _ {V : Type 0} {G : Ghosts V} where
       let x = device_of d in
       let v = G.view volume in
       let home : x.store.lent ≡ None = none_of x.store.lent (is_home d side free) in
-      let told : told_of e ≡ with_view (told_of d) side v = replaced_told d.store.pair.volumes e.store.pair.volumes side volume here other in
+      let told : told_of e ≡ with_view (told_of d) side v = replaced_told G.view d.store.pair.volumes e.store.pair.volumes side volume here other in
       record {
         kept = λ p pledged k. record {
           keeps = subst (λ (y : WholeDevice). StaysInTurn p y (handed_of p.told e) (told_of e)) (sym is)

@@ -1,5 +1,5 @@
 -- A new volume in memory of which no call fails may come in the place of a failed one.
-use Rattle.std.proofs.Common.{◌≡◌, ◌*◌, ℕ, List, [], length, refl, sym, ap, subst, ◌∙◌}
+use Rattle.std.proofs.Common.{◌≡◌, ◌*◌, ℕ, List, [], length, sym, ap, subst, ◌∙◌}
 use Rattle.std.proofs.lemmas.List.FromFn.{length-map-range_with_len}
 use Rattle.device_outside.specs.declared.volume.Volume.{Ghosts}
 use Rattle.device_outside.specs.Disk.{disk_view, empty_bytes, empty_contents, new_disk}

@@ -1,7 +1,6 @@
 -- A volume that may come in the place of a failed side's.
 use Rattle.std.specs.Prelude.{◌≡◌, ◌*◌, ℕ, true, List, length, Option, Some, None, is_some}
 use Rattle.device_outside.specs.declared.volume.Volume.{Ghosts}
-use Rattle.device_outside.specs.Volume.{VolumeView}
 use Rattle.device_laws.specs.Handed.{allowance_in}
 use Rattle.device_core.specs.declared.device.Device.{Device}
 use Rattle.path_turns.specs.Keeping.{tells_all, told_of}

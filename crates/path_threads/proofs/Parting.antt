@@ -1,5 +1,5 @@
 -- The first of some seats, and the others.
-use Rattle.std.proofs.Common.{◌≡◌, ◌<◌, ◌+◌, ◌==◌, ℕ, Bool, true, false, List, [], ◌∷◌, ◌++◌, length, drop, get_or, set, refl, sym, ap, subst, arith}
+use Rattle.std.proofs.Common.{◌≡◌, ◌<◌, List, [], ◌∷◌, ◌++◌, length, drop, get_or, set, refl, sym, subst, arith}
 use Rattle.std.specs.List.{AllZip}
 
 module _ {A B : Type 0} (R : A → B → Type 0) where
