@@ -41,7 +41,8 @@ use Rattle.atomic_table.proofs.Lists.{at_longer, set_else}
 use Rattle.device_turn.specs.declared.view.Stage.{Stage}
 use Rattle.device_turn.specs.declared.view.Stage.TheVariants.{Away, Turn, Out}
 use Rattle.device_turn.specs.declared.view.View.{View}
-use Rattle.device_turn.specs.Rule.{Mode, free, taken, out, stage_at, IsNamed, Names, Still, Without, has, owned, Fits, Kept, KeptBy, boxed, counted, newcomer, both, spent, view, zeros}
+use Rattle.device_turn.specs.Answers.{MayLeave}
+use Rattle.device_turn.specs.Rule.{Mode, free, taken, out, stage_at, IsNamed, Names, Still, Without, has, owned, Fits, Kept, KeptBy, boxed, counted, counts_in, newcomer, both, spent, view, zeros}
 use Rattle.device_turn.proofs.Views.{Apart, apart_set, at_each, named_still, others_stage, own_stage, without}
 use Rattle.device_turn.proofs.Worlds.{Homes, World, kept, world, own_has}
 
@@ -107,6 +108,19 @@ has_next k n x us vs low before = (elim (n == k) as (λ b. (n == k) ≡ b → (b
 pub kept_value : {P H A : Type 0} (keeps : P → H → Type 0) (q : Option P) (b : Box H A) (h : H) → h ≡ b.value → KeptBy (boxed keeps) q b → KeptBy keeps q h
 kept_value keeps None b h is kept = absurd kept
 kept_value keeps (Some p) b h is kept = subst (keeps p) (sym is) kept
+
+-- and the other way round; so it may go back
+kept_boxed : {P H A : Type 0} (keeps : P → H → Type 0) (q : Option P) (b : Box H A) → KeptBy keeps q b.value → KeptBy (boxed keeps) q b
+kept_boxed keeps None b kept = absurd kept
+kept_boxed keeps (Some p) b kept = kept
+
+pub may_value : {P H A : Type 0} (keeps : P → H → Type 0) (counts : H → List ℕ) (v : View (Option P)) (b : Box H A) →
+    MayLeave (KeptBy (boxed keeps)) (counts_in counts) v b → MayLeave (KeptBy keeps) counts v b.value
+may_value keeps counts v b may = (kept_value keeps v.pledge b b.value refl may.0, may.1)
+
+pub may_boxed : {P H A : Type 0} (keeps : P → H → Type 0) (counts : H → List ℕ) (v : View (Option P)) (b : Box H A) →
+    MayLeave (KeptBy keeps) counts v b.value → MayLeave (KeptBy (boxed keeps)) (counts_in counts) v b
+may_boxed keeps counts v b may = (kept_boxed keeps v.pledge b may.0, may.1)
 
 module _ {H Q : Type 0} (fit : Q → H → Type 0) (counts : H → List ℕ) where
   names_more : (m : Mode) (vs : List (View Q)) (n : ℕ) (id : ℕ) (v w x : View Q) → get_elem? vs id ≡ some v →
