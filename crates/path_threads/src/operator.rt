@@ -73,6 +73,17 @@ fn may_have<V: Volume>(device: &Device<V>, what: PoolOrder, place: &Place) -> bo
     }
 }
 
+/// Whether all may have it that came before, and this device too.
+fn may_all<V: Volume>(may: bool, device: &Device<V>, what: PoolOrder, place: &Place) -> bool
+    ensures before { result ≡ true → may ≡ true }
+    ensures here { result ≡ true → MayHave what place.now device.now }
+{
+    if may {
+        return may_have(device, what, place);
+    }
+    false
+}
+
 /// What an order of all does to a device, where it is done.
 fn have<V: Volume, P: Port>(
     device: &mut Device<V>,
@@ -93,6 +104,31 @@ fn have<V: Volume, P: Port>(
     }
 }
 
+/// The device behind that.
+fn had<V: Volume, P: Port>(
+    mut device: Device<V>,
+    what: PoolOrder,
+    place: &Place,
+    done: bool,
+    port: &mut P,
+) -> Device<V>
+    requires { done ≡ true → MayHave what place.now device }
+    ensures { IsOrdered (HaveLosses place.now.most) device result }
+{
+    have(&mut device, what, place, done, port);
+    device
+}
+
+/// Whether the pool does an order that all may have.
+fn order_now<R: Wait>(rt: &R, shared: &Shared, what: PoolOrder, may: bool) -> bool
+    ensures { result ≡ true → may ≡ true }
+{
+    if may {
+        return shared.order(rt, what);
+    }
+    false
+}
+
 /// An order of cache or store, with the turns of all devices, by rising number. What the devices lose by it they lose once all turns are taken.
 fn order_all<R: Wait, V: Volume, P: Port>(
     rt: &R,
@@ -110,13 +146,13 @@ fn order_all<R: Wait, V: Volume, P: Port>(
     ensures rest { OnOk result (AllZip Rests seats.old seats.new) }
 {
     if turns.is_empty() {
-        return Ok(may && shared.order(rt, what));
+        return Ok(order_now(rt, shared, what, may));
     }
     let (_, other_turns) = turns.split_at(1);
     let (_, other_places) = places.split_at(1);
     let (first, others) = seats.split_at_mut(1);
-    let mut device = hold(rt, shared, &turns[0], &mut first[0])?;
-    let may_here = may && may_have(&device, what, &places[0]);
+    let device = hold(rt, shared, &turns[0], &mut first[0])?;
+    let may_here = may_all(may, &device, what, &places[0]);
     let done = order_all(
         rt,
         shared,
@@ -127,8 +163,8 @@ fn order_all<R: Wait, V: Volume, P: Port>(
         may_here,
         port,
     )?;
-    have(&mut device, what, &places[0], done, port);
-    turns[0].leave(&mut first[0], device);
+    let behind = had(device, what, &places[0], done, port);
+    turns[0].leave(&mut first[0], behind);
     Ok(done)
 }
 
