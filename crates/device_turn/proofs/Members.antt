@@ -19,7 +19,10 @@ use Rattle.std.proofs.Common.{
   ◌⊎◌,
   length,
   set,
+  slice_index,
   Option,
+  None,
+  Box,
   Some,
   arith,
   refl,
@@ -33,12 +36,13 @@ use Rattle.std.proofs.Common.{
 use Rattle.std.proofs.lemmas.Bool.Decides.{nat_tests}
 use mathlib.Core.Option.{some, some-injective, some-ne-none}
 use lib.ListN.{get_elem?}
-use Rattle.atomic_table.specs.Table.{Splits, Joins, Final, Seen}
+use Rattle.atomic_table.specs.Table.{Splits, Joins, Final, Seen, opening}
 use Rattle.atomic_table.proofs.Lists.{at_longer, set_else}
 use Rattle.device_turn.specs.declared.view.Stage.{Stage}
 use Rattle.device_turn.specs.declared.view.Stage.TheVariants.{Away, Turn, Out}
 use Rattle.device_turn.specs.declared.view.View.{View}
-use Rattle.device_turn.specs.Rule.{Mode, free, taken, out, stage_at, IsNamed, Names, Still, Without, has, owned, Fits, Kept, counted, newcomer, both, spent}
+use Rattle.device_turn.specs.Answers.{MayLeave}
+use Rattle.device_turn.specs.Rule.{Mode, free, taken, out, stage_at, IsNamed, Names, Still, Without, has, owned, Fits, Kept, KeptBy, boxed, counted, counts_in, newcomer, both, spent, view, zeros}
 use Rattle.device_turn.proofs.Views.{Apart, apart_set, at_each, named_still, others_stage, own_stage, without}
 use Rattle.device_turn.proofs.Worlds.{Homes, World, kept, world, own_has}
 
@@ -99,6 +103,24 @@ has_next k n x us vs low before = (elim (n == k) as (λ b. (n == k) ≡ b → (b
   | true ↦ λ t. refl
   | false ↦ λ t. has_either k us vs (inr (before (let ne : n ≢ k = (λ e. let yes : (n == k) ≡ true = grind (arith, nat_tests, e) in cc) in omega arith)))
 ]) refl
+
+-- what is kept of a holder in its room is kept of the holder
+pub kept_value : {P H A : Type 0} (keeps : P → H → Type 0) (q : Option P) (b : Box H A) (h : H) → h ≡ b.value → KeptBy (boxed keeps) q b → KeptBy keeps q h
+kept_value keeps None b h is kept = absurd kept
+kept_value keeps (Some p) b h is kept = subst (keeps p) (sym is) kept
+
+-- and the other way round; so it may go back
+kept_boxed : {P H A : Type 0} (keeps : P → H → Type 0) (q : Option P) (b : Box H A) → KeptBy keeps q b.value → KeptBy (boxed keeps) q b
+kept_boxed keeps None b kept = absurd kept
+kept_boxed keeps (Some p) b kept = kept
+
+pub may_value : {P H A : Type 0} (keeps : P → H → Type 0) (counts : H → List ℕ) (v : View (Option P)) (b : Box H A) →
+    MayLeave (KeptBy (boxed keeps)) (counts_in counts) v b → MayLeave (KeptBy keeps) counts v b.value
+may_value keeps counts v b may = (kept_value keeps v.pledge b b.value refl may.0, may.1)
+
+pub may_boxed : {P H A : Type 0} (keeps : P → H → Type 0) (counts : H → List ℕ) (v : View (Option P)) (b : Box H A) →
+    MayLeave (KeptBy keeps) counts v b.value → MayLeave (KeptBy (boxed keeps)) (counts_in counts) v b
+may_boxed keeps counts v b may = (kept_boxed keeps v.pledge b may.0, may.1)
 
 module _ {H Q : Type 0} (fit : Q → H → Type 0) (counts : H → List ℕ) where
   names_more : (m : Mode) (vs : List (View Q)) (n : ℕ) (id : ℕ) (v w x : View Q) → get_elem? vs id ≡ some v →
@@ -236,6 +258,47 @@ module _ {H Q : Type 0} (fit : Q → H → Type 0) (counts : H → List ℕ) whe
         (w.slot.0, w.slot.1, subst (λ q. fit q w.slot.0) (sym (f.pledged live)) w.slot.2, subst (λ c. Still c (owned v)) (sym w.slot.3) f.words)
     is_home (taken h) w = absurd (nobody h (taken h) Turn (λ e. cc) (sym (own_stage h Turn Away)) w.names.0 w.names.1 w)
     is_home (out h) w = absurd (nobody h (out h) Out (λ e. cc) (sym (own_stage h Out Away)) w.names.0 w.names.1 w)
+
+  -- the first seat alone
+  first_fits : (p : Q) (i : ℕ) (v : View Q) → get_elem? (view 0 1 p ∷ []) i ≡ some v → Fits p 1 free zeros i v
+  first_fits p zero v at = subst (Fits p 1 free zeros 0) (some-injective (view 0 1 p) v at) (record {
+    stage = refl;
+    pledged = λ _. refl;
+    words = (refl, tt);
+    loaded = tt;
+    fresh = λ _. refl;
+    alive = λ e. absurd (cc);
+    below = λ k h. let e = has_one k 0 0 h in omega (arith, e);
+    apart = (tt, tt);
+    first = λ _ _. refl;
+  })
+  first_fits p (suc i) v at = absurd (some-ne-none v (sym at))
+
+  first_apart : (p : Q) → Apart (view 0 1 p ∷ [])
+  first_apart p zero zero k v u here there x y = refl
+  first_apart p zero (suc j) k v u here there x y = absurd (some-ne-none u (sym there))
+  first_apart p (suc i) j k v u here there x y = absurd (some-ne-none v (sym here))
+
+  no_words : (k : ℕ) → slice_index zeros k ≡ 0
+  no_words zero = refl
+  no_words (suc zero) = refl
+  no_words (suc (suc zero)) = refl
+  no_words (suc (suc (suc zero))) = refl
+  no_words (suc (suc (suc (suc zero)))) = refl
+  no_words (suc (suc (suc (suc (suc zero))))) = refl
+  no_words (suc (suc (suc (suc (suc (suc k)))))) = refl
+
+  -- a holder that was never used is put into its place
+  pub opens : (p : Q) (h : H) → fit p h → counts h ≡ zeros → Kept fit counts p (opening (0 ∷ 0 ∷ 0 ∷ 0 ∷ 0 ∷ 0 ∷ 0 ∷ []) (Some h ∷ []) (view 0 1 p))
+  opens p h keeps unused = kept fit counts p free 1 0 zeros (some (Some h) ∷ []) (view 0 1 p ∷ []) (record {
+    six = refl;
+    few = omega arith;
+    names = refl;
+    slot = (h, refl, keeps, unused);
+    fits = first_fits p;
+    apart = first_apart p;
+    unmade = λ k _. no_words k;
+  })
 
   -- what is found at the end
   pub closes : (p : Q) (id : ℕ) (v : View Q) (xs : List (Option H)) (words : List ℕ) → v.live ≡ true →

@@ -22,6 +22,7 @@ use Rattle.std.specs.Prelude.{
   Some,
   None,
   if◌then◌else◌,
+  Box,
 }
 use mathlib.Core.Option.{some, none}
 use lib.ListN.{get_elem?}
@@ -118,6 +119,13 @@ module _ {Q : Type 0} where
 
   abbrev pub spent : Q → View Q
   spent nothing = record { number = 0; word = 0; joined = []; made = 0; stage = Away; loaded = []; live = false; pledge = nothing }
+
+-- what is kept and counted of a holder, of the room that it has
+abbrev pub boxed : {P H A : Type 0} → (P → H → Type 0) → P → Box H A → Type 0
+boxed keeps p b = keeps p b.value
+
+abbrev pub counts_in : {H A : Type 0} → (H → List ℕ) → Box H A → List ℕ
+counts_in counts b = counts b.value
 
 -- a seat still knows what was promised, and the holder keeps it
 abbrev pub KeptBy : {P H : Type 0} → (P → H → Type 0) → Option P → H → Type 0

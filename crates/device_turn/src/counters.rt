@@ -34,15 +34,14 @@ impl Counters {
         }
     }
 
-    /// With one count more for a seat.
-    pub fn counted(mut self, seat: u64) -> Counters
+    /// One count more for a seat.
+    pub fn count_one(&mut self, seat: u64)
         requires { seat < 6 }
-        ensures tag { result.tag ≡ self.tag }
-        ensures counts { (n : ℕ) × (result.counts ≡ slice_set self.counts seat n) }
+        ensures tag { self.new.tag ≡ self.old.tag }
+        ensures counts { (n : ℕ) × (self.new.counts ≡ slice_set self.old.counts seat n) }
     {
         let at = seat as usize;
         let n = self.counts[at];
         self.counts[at] = n.saturating_add(1);
-        self
     }
 }

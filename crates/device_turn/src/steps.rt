@@ -1,5 +1,5 @@
 ghost use Rattle.std.specs.Prelude.{ℕ, ◌≡◌, ◌≢◌, ◌+◌, ◌<◌, ◌≤◌, ◌∷◌, [], None, slice_index};
-ghost use Rattle.device_turn.specs.Rule.{KeptBy, Without, away, noted, staged, worded};
+ghost use Rattle.device_turn.specs.Rule.{KeptBy, Without, away, boxed, counts_in, noted, staged, worded};
 ghost use Rattle.device_turn.specs.Answers.{IsComplete, MayLeave, with_loaded};
 ghost use Rattle.device_turn.specs.declared.view.Stage.TheVariants.{Away, Turn as Mine, Out};
 
@@ -58,14 +58,14 @@ impl<H: Holder<P>, P> Turn<H, P> {
     }
 
     /// The steps by which the holder leaves the slot.
-    pub(crate) fn fetch(&self, seat: &mut TurnSeat<H, P>) -> H
+    pub(crate) fn fetch(&self, seat: &mut TurnSeat<H, P>) -> Box<H>
         requires own { seat.old.seat.table_id ≡ self.now.table.shared.table_id }
         requires turn { (seat.old.seat.me.0.stage ≡ Mine) × (seat.old.seat.me.1 ≡ []) }
         ensures own { (seat.new.seat.table_id ≡ seat.old.seat.table_id) × (seat.new.seat.id ≡ seat.old.seat.id) ×
             (seat.new.number ≡ seat.old.number) × (seat.new.made ≡ seat.old.made) }
         ensures out { seat.new.seat.me ≡ (staged Out seat.old.seat.me.0, (0, None) ∷ []) }
-        ensures counts { MayLeave (KeptBy H.keeps) H.counts seat.old.seat.me.0 result ×
-            (slice_index (H.counts result) seat.old.seat.me.0.number ≡ seat.old.seat.me.0.word) }
+        ensures counts { MayLeave (KeptBy (boxed H.keeps)) (counts_in H.counts) seat.old.seat.me.0 result ×
+            (slice_index (H.counts result.value) seat.old.seat.me.0.number ≡ seat.old.seat.me.0.word) }
     {
         self.table.shared.load::<Fetch<H, P>>(&mut seat.seat, 0);
         let found = self.table.shared.exchange(&mut seat.seat, 0, None);
@@ -87,11 +87,11 @@ impl<H: Holder<P>, P> Turn<H, P> {
     }
 
     /// The steps by which the holder goes back and the turn ends.
-    pub(crate) fn give_back(&self, seat: &mut TurnSeat<H, P>, holder: H)
+    pub(crate) fn give_back(&self, seat: &mut TurnSeat<H, P>, holder: Box<H>)
         requires own { seat.old.seat.table_id ≡ self.now.table.shared.table_id }
         requires out { (seat.old.seat.me.0.stage ≡ Out) × (seat.old.seat.me.1 ≡ (0, None) ∷ []) }
-        requires keeps { IsComplete seat.old.seat.me.0 × MayLeave (KeptBy H.keeps) H.counts seat.old.seat.me.0 holder ×
-            (slice_index (H.counts holder) seat.old.seat.me.0.number ≡ seat.old.seat.me.0.word) }
+        requires keeps { IsComplete seat.old.seat.me.0 × MayLeave (KeptBy (boxed H.keeps)) (counts_in H.counts) seat.old.seat.me.0 holder ×
+            (slice_index (H.counts holder.value) seat.old.seat.me.0.number ≡ seat.old.seat.me.0.word) }
         ensures own { (seat.new.seat.table_id ≡ seat.old.seat.table_id) × (seat.new.seat.id ≡ seat.old.seat.id) ×
             (seat.new.number ≡ seat.old.number) × (seat.new.made ≡ seat.old.made) }
         ensures away { seat.new.seat.me ≡ (away seat.old.seat.me.0, []) }

@@ -1,4 +1,4 @@
-ghost use Rattle.std.specs.Prelude.{◌≡◌, ◌<◌, ◌+◌, [], ℕ, true};
+ghost use Rattle.std.specs.Prelude.{◌≡◌, ◌<◌, ◌+◌, [], ℕ, slice_set, true};
 ghost use Rattle.std.specs.Thread.{IsSync};
 ghost use Rattle.device_turn.specs.Rule.{has};
 ghost use Rattle.device_turn.specs.Answers.{IsAway};
@@ -17,6 +17,16 @@ type CountersSeat = TurnSeat<Counters, u64>;
 
 type CountersPair = (CountersSeat, CountersSeat);
 
+/// With one count more for a seat.
+fn with_one(mut counters: Box<Counters>, seat: u64) -> Box<Counters>
+    requires { seat < 6 }
+    ensures tag { result.value.tag ≡ counters.value.tag }
+    ensures counts { (n : ℕ) × (result.value.counts ≡ slice_set counters.value.counts seat n) }
+{
+    counters.count_one(seat);
+    counters
+}
+
 /// Counts one, as soon as it is the seat's turn.
 fn count_one<R: Wait>(rt: &R, turn: &CountersTurn, seat: &mut CountersSeat)
     requires own { seat.old.seat.table_id ≡ turn.now.table.shared.table_id }
@@ -27,7 +37,7 @@ fn count_one<R: Wait>(rt: &R, turn: &CountersTurn, seat: &mut CountersSeat)
 {
     for _ in rt.forever() {
         if let Enter::Got(counters) = turn.enter(seat) {
-            let counted = counters.counted(seat.number);
+            let counted = with_one(counters, seat.number);
             turn.leave(seat, counted);
             return;
         }

@@ -1,5 +1,5 @@
 ghost use Rattle.std.specs.Prelude.{ℕ, ◌≡◌, ◌+◌, ◌<◌, ◌∷◌, [], Some, IfOk, IfErr, slice_index, true};
-ghost use Rattle.device_turn.specs.Rule.{KeptBy, Still, away, both, counted, has, newcomer, owned, view, worded, zeros};
+ghost use Rattle.device_turn.specs.Rule.{KeptBy, Still, away, both, boxed, counted, counts_in, has, newcomer, owned, view, worded, zeros};
 ghost use Rattle.device_turn.specs.Steps.{Agrees};
 ghost use Rattle.device_turn.specs.Answers.{Entered, IsAway, IsOut, MayLeave};
 ghost use Rattle.device_turn.specs.declared.view.Stage.TheVariants.{Away};
@@ -14,15 +14,14 @@ use ckd_types::NoMemory;
 use std::alloc::{AllocFailed, Global};
 
 impl<H: Holder<P>, P> Turn<H, P> {
-    /// Puts a holder that no seat used yet in its place, and makes seat 0. Where there is no memory the holder is handed
-    /// back.
-    pub fn make(
+    /// Puts a holder in its room into its place.
+    fn place(
         alloc: Global,
-        holder: H,
+        holder: Box<H>,
         pledge: &P,
-    ) -> Result<(Turn<H, P>, TurnSeat<H, P>), (NoMemory, H)>
-        requires keeps { H.keeps pledge.now holder }
-        requires unused { H.counts holder ≡ zeros }
+    ) -> Result<(Turn<H, P>, TurnSeat<H, P>), (NoMemory, Box<H>)>
+        requires keeps { boxed H.keeps pledge.now holder }
+        requires unused { counts_in H.counts holder ≡ zeros }
         ensures seat { IfOk result (λ r. (r.1.seat.table_id ≡ r.0.table.shared.table_id) × (r.1.number ≡ 0) × (r.1.made ≡ 1) ×
             (r.1.seat.me ≡ (view 0 1 (Some pledge.now), []))) }
         ensures same { IfErr result (λ e. e.1 ≡ holder) }
@@ -42,6 +41,29 @@ impl<H: Holder<P>, P> Turn<H, P> {
                 },
             )),
             Err(Refused { mut slots }) => Err((NoMemory, slots.pop().unwrap().unwrap())),
+        }
+    }
+
+    /// Puts a holder that no seat used yet in its place, and makes seat 0. Where there is no memory the holder is handed
+    /// back.
+    pub fn make(
+        alloc: Global,
+        holder: H,
+        pledge: &P,
+    ) -> Result<(Turn<H, P>, TurnSeat<H, P>), (NoMemory, H)>
+        requires keeps { H.keeps pledge.now holder }
+        requires unused { H.counts holder ≡ zeros }
+        ensures seat { IfOk result (λ r. (r.1.seat.table_id ≡ r.0.table.shared.table_id) × (r.1.number ≡ 0) × (r.1.made ≡ 1) ×
+            (r.1.seat.me ≡ (view 0 1 (Some pledge.now), []))) }
+        ensures same { IfErr result (λ e. e.1 ≡ holder) }
+    {
+        let housed = match Box::new(alloc, holder) {
+            Ok(housed) => housed,
+            Err(AllocFailed { value }) => return Err((NoMemory, value)),
+        };
+        match Turn::place(alloc, housed, pledge) {
+            Ok(made) => Ok(made),
+            Err((NoMemory, housed)) => Err((NoMemory, Box::into_inner(housed))),
         }
     }
 
@@ -85,12 +107,12 @@ impl<H: Holder<P>, P> Turn<H, P> {
 
     /// Takes the turn and what stands in the slot, or says which seat has the turn. It waits for nobody, and takes no
     /// memory.
-    pub fn enter(&self, seat: &mut TurnSeat<H, P>) -> Enter<H>
+    pub fn enter(&self, seat: &mut TurnSeat<H, P>) -> Enter<Box<H>>
         requires own { seat.old.seat.table_id ≡ self.now.table.shared.table_id }
         requires away { IsAway seat.old.seat.me }
         ensures own { (seat.new.seat.table_id ≡ seat.old.seat.table_id) × (seat.new.seat.id ≡ seat.old.seat.id) ×
             (seat.new.number ≡ seat.old.number) × (seat.new.made ≡ seat.old.made) }
-        ensures entered { Entered (KeptBy H.keeps) H.counts seat.old.seat.me seat.new.seat.me result }
+        ensures entered { Entered (KeptBy (boxed H.keeps)) (counts_in H.counts) seat.old.seat.me seat.new.seat.me result }
     {
         let found = self.take(seat);
         if found != 0 {
@@ -101,15 +123,15 @@ impl<H: Holder<P>, P> Turn<H, P> {
     }
 
     /// Stores the seat's count as its word, and gives the holder and the turn back.
-    pub fn leave(&self, seat: &mut TurnSeat<H, P>, holder: H)
+    pub fn leave(&self, seat: &mut TurnSeat<H, P>, holder: Box<H>)
         requires own { seat.old.seat.table_id ≡ self.now.table.shared.table_id }
         requires out { IsOut seat.old.seat.me }
-        requires keeps { MayLeave (KeptBy H.keeps) H.counts seat.old.seat.me.0 holder }
+        requires keeps { MayLeave (KeptBy (boxed H.keeps)) (counts_in H.counts) seat.old.seat.me.0 holder }
         ensures own { (seat.new.seat.table_id ≡ seat.old.seat.table_id) × (seat.new.seat.id ≡ seat.old.seat.id) ×
             (seat.new.number ≡ seat.old.number) × (seat.new.made ≡ seat.old.made) }
-        ensures away { seat.new.seat.me ≡ (away (worded (slice_index (H.counts holder) seat.old.number) seat.old.seat.me.0), []) }
+        ensures away { seat.new.seat.me ≡ (away (worded (slice_index (H.counts holder.value) seat.old.number) seat.old.seat.me.0), []) }
     {
-        let word = holder.count(seat.number);
+        let word = holder.as_ref().count(seat.number);
         self.store(seat, word);
         self.give_back(seat, holder);
     }
@@ -146,6 +168,6 @@ impl<H: Holder<P>, P> Turn<H, P> {
         let mut closed = table.close_with(seat);
         let holder = closed.take(0).unwrap();
         closed.free();
-        holder
+        Box::into_inner(holder)
     }
 }

@@ -30,11 +30,11 @@ pub struct Keeping<H: Holder<P>, P> {
     holder: PhantomData<(H, P)>,
 }
 
-impl<H: Holder<P>, P> TableRule<Option<H>, View<Option<P>>, P> for Keeping<H, P> {
+impl<H: Holder<P>, P> TableRule<Option<Box<H>>, View<Option<P>>, P> for Keeping<H, P> {
     ghost use Rattle.std.specs.Prelude.{Some};
-    ghost use Rattle.device_turn.specs.Rule.{Kept, KeptBy, view};
+    ghost use Rattle.device_turn.specs.Rule.{Kept, KeptBy, boxed, counts_in, view};
 
-    ghost holds = { λ pledge. Kept (KeptBy H.keeps) H.counts (Some pledge) };
+    ghost holds = { λ pledge. Kept (KeptBy (boxed H.keeps)) (counts_in H.counts) (Some pledge) };
 
     ghost first = { λ pledge. view 0 1 (Some pledge) };
 }
@@ -71,11 +71,11 @@ pub struct Fetch<H: Holder<P>, P> {
     holder: PhantomData<(H, P)>,
 }
 
-impl<H: Holder<P>, P> Play<Option<H>, View<Option<P>>> for Fetch<H, P> {
-    ghost use Rattle.device_turn.specs.Rule.{KeptBy};
+impl<H: Holder<P>, P> Play<Option<Box<H>>, View<Option<P>>> for Fetch<H, P> {
+    ghost use Rattle.device_turn.specs.Rule.{KeptBy, boxed, counts_in};
     ghost use Rattle.device_turn.specs.Steps.{Fetches};
 
-    ghost then = { Fetches (KeptBy H.keeps) H.counts };
+    ghost then = { Fetches (KeptBy (boxed H.keeps)) (counts_in H.counts) };
 }
 
 /// The seat that has the holder stores its own word.

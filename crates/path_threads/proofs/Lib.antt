@@ -1,2 +1,6 @@
 pub mod Walking
 pub mod Setting
+pub mod Holding
+pub mod Allowing
+pub mod Parting
+pub mod Sparing

@@ -12,89 +12,102 @@ use Rattle.turn_seats.proofs.Zips.{zip_snoc}
 use Rattle.device_defs.specs.declared.counts.Losses.{Losses}
 use Rattle.device_core.specs.declared.device.Device.{Device}
 use Rattle.path_turns.specs.declared.promise.Promise.{Promise}
-use Rattle.path_turns.specs.Keeping.{IsReady, KeepsAll, IsWithin, KeepsPledge, KeepsPromise, KeepsWithin, pledge_with}
+use Rattle.path_turns.specs.Keeping.{IsReady, IsWithin, KeepsPledge, KeepsPromise, KeepsWithin, pledge_with}
 use Rattle.path_turns.proofs.Ready.{ready_keeps}
-use Rattle.path_threads.specs.Places.{HaveCome, HaveLeft, IsPromised, KeepPromises}
+use Rattle.path_threads.specs.Places.{Allows, HaveCome, HaveLeft, IsPromised, IsPromisedFor, KeepPromises, KeepsOrdered}
+use Rattle.path_threads.specs.declared.places.Place.{Place}
+use Rattle.path_threads.specs.declared.orders.Order.{Order}
+use Rattle.path_threads.specs.Allowed.{allowed_of}
 
-abbrev SeatOf : {V : Type 0} {G : Ghosts V} → holders.Ghosts (Device V G) (Promise V G) → Type 0
+abbrev pub SeatOf : {V : Type 0} {G : Ghosts V} → holders.Ghosts (Device V G) (Promise V G) → Type 0
 SeatOf {V} {G} N = TurnSeat (Device V G) (Promise V G) N
-
-within_same : (l most : Losses) → most ≡ l → IsWithin l most
-within_same l most is =
-    let cache = ap (λ (m : Losses). m.cache) is in
-    let store = ap (λ (m : Losses). m.store) is in
-    let sides = ap (λ (m : Losses). m.sides) is in
-    record { cache = omega (arith, cache); store = omega (arith, store); sides = omega (arith, sides) }
 
 module _ {V : Type 0} {G : Ghosts V} where
   -- a device that is ready keeps what is promised of it
-  pub promise_kept : (d : Device V G) (p : Promise V G) → p.made.value ≡ d → p.most ≡ d.store.counts.losses → IsReady d → KeepsPromise p d
-  promise_kept d p made most ready =
-      subst (λ (x : Device V G). KeepsPledge (pledge_with x p.most) d) (sym made) (ready_keeps d ready p.most (within_same d.store.counts.losses p.most most))
+  pub promise_kept : (d : Device V G) (p : Promise V G) → p.made.value ≡ d → IsWithin d.store.counts.losses p.most → IsReady d → KeepsPromise p d
+  promise_kept d p made within ready =
+      subst (λ (x : Device V G). KeepsPledge (pledge_with x p.most) d) (sym made) (ready_keeps d ready p.most within)
 
 module _ {V : Type 0} {G : Ghosts V} {N : holders.Ghosts (Device V G) (Promise V G)} where
-  pub promised_of : {E : Type 0} (d : Device V G) (p : Promise V G) (r : Result (Setting (Device V G) (Promise V G) N) E) → p.made.value ≡ d →
-      p.most ≡ d.store.counts.losses → IfOk r (λ s. s.operator.seat.me.0.pledge ≡ Some p) → IfOk r (λ s. IsPromised d s.operator)
-  promised_of d p (Ok s) made most pledge = record { promise = p; pledge = pledge; made = made; most = most }
-  promised_of d p (Err e) made most pledge = tt
+  pub promised_of : {E : Type 0} (most : Losses) (d : Device V G) (p : Promise V G) (r : Result (Setting (Device V G) (Promise V G) N) E) → p.made.value ≡ d →
+      p.most ≡ most → IfOk r (λ s. s.operator.seat.me.0.pledge ≡ Some p) → IfOk r (λ s. IsPromised most d s.operator)
+  promised_of most d p (Ok s) made is pledge = record { promise = p; pledge = pledge; made = made; allows = is }
+  promised_of most d p (Err e) made is pledge = tt
 
-  pub none_come : (ds : List (Device V G)) (seats : List (SeatOf N)) → seats ≡ [] → All IsReady ds → HaveCome ds seats ds
-  none_come ds seats none ready =
-      record { come = []; all = refl; promised = subst (λ (s : List (SeatOf N)). AllZip IsPromised [] s) (sym none) tt; ready = ready }
+  pub promised_allows : (most : Losses) (d : Device V G) (s : SeatOf N) (place : Place) → place.most ≡ most → place.number ≡ d.store.number →
+      IsPromised most d s → Allows place s
+  promised_allows most d s place is number p = record {
+    promise = p.promise;
+    pledge = p.pledge;
+    most = p.allows ∙ sym is;
+    number = ap (λ (x : Device V G). x.store.number) p.made ∙ sym number;
+  }
 
-  pub first_ready : (ds : List (Device V G)) (seats : List (SeatOf N)) (rest : List (Device V G)) (d : Device V G) → HaveCome ds seats rest → 0 < length rest →
+  pub promised_for : (es : List (Order V)) (most : Losses) (d : Device V G) (s : SeatOf N) → most ≡ allowed_of es d → IsPromised most d s → IsPromisedFor es d s
+  promised_for es most d s is p = subst (λ (m : Losses). IsPromised m d s) is p
+
+  pub none_allowed : (places : List Place) (seats : List (SeatOf N)) → places ≡ [] → seats ≡ [] → AllZip Allows places seats
+  none_allowed [] [] no_places no_seats = tt
+  none_allowed [] (s ∷ seats) no_places no_seats = absurd (cc)
+  none_allowed (p ∷ places) seats no_places no_seats = absurd (cc)
+
+  pub none_come : (es : List (Order V)) (ds : List (Device V G)) (seats : List (SeatOf N)) → seats ≡ [] → All IsReady ds → HaveCome es ds seats ds
+  none_come es ds seats none ready =
+      record { come = []; all = refl; promised = subst (λ (s : List (SeatOf N)). AllZip (IsPromisedFor es) [] s) (sym none) tt; ready = ready }
+
+  pub first_ready : (es : List (Order V)) (ds : List (Device V G)) (seats : List (SeatOf N)) (rest : List (Device V G)) (d : Device V G) → HaveCome es ds seats rest → 0 < length rest →
       d ≡ slice_index_or rest 0 d → IsReady d
-  first_ready ds seats [] d come some is = absurd (omega (arith, some))
-  first_ready ds seats (x ∷ rest) d come some is = subst IsReady (sym is) (All-head IsReady x rest come.ready)
+  first_ready es ds seats [] d come some is = absurd (omega (arith, some))
+  first_ready es ds seats (x ∷ rest) d come some is = subst IsReady (sym is) (All-head IsReady x rest come.ready)
 
-  pub one_come : (ds : List (Device V G)) (seats new : List (SeatOf N)) (rest less : List (Device V G)) (d : Device V G) (s : SeatOf N) → HaveCome ds seats rest →
-      0 < length rest → d ≡ slice_index_or rest 0 d → less ≡ remove rest 0 → IsPromised d s → new ≡ seats ++ s ∷ [] → HaveCome ds new less
-  one_come ds seats new [] less d s come some is rest_is promised new_is = absurd (omega (arith, some))
-  one_come ds seats new (x ∷ rest) less d s come some is rest_is promised new_is =
+  pub one_come : (es : List (Order V)) (ds : List (Device V G)) (seats new : List (SeatOf N)) (rest less : List (Device V G)) (d : Device V G) (s : SeatOf N) → HaveCome es ds seats rest →
+      0 < length rest → d ≡ slice_index_or rest 0 d → less ≡ remove rest 0 → IsPromisedFor es d s → new ≡ seats ++ s ∷ [] → HaveCome es ds new less
+  one_come es ds seats new [] less d s come some is rest_is promised new_is = absurd (omega (arith, some))
+  one_come es ds seats new (x ∷ rest) less d s come some is rest_is promised new_is =
       record {
         come = come.come ++ x ∷ [];
         all = come.all ∙ sym (append_assoc come.come (x ∷ []) rest) ∙ ap (λ (r : List (Device V G)). (come.come ++ x ∷ []) ++ r) (sym rest_is);
-        promised = subst (λ (q : List (SeatOf N)). AllZip IsPromised (come.come ++ x ∷ []) q) (sym new_is)
-            (zip_snoc IsPromised come.come seats x s come.promised (subst (λ (y : Device V G). IsPromised y s) is promised));
+        promised = subst (λ (q : List (SeatOf N)). AllZip (IsPromisedFor es) (come.come ++ x ∷ []) q) (sym new_is)
+            (zip_snoc (IsPromisedFor es) come.come seats x s come.promised (subst (λ (y : Device V G). IsPromisedFor es y s) is promised));
         ready = subst (λ (r : List (Device V G)). All IsReady r) (sym rest_is) (All-tail IsReady x rest come.ready);
       }
 
-  pub all_come : (ds : List (Device V G)) (seats : List (SeatOf N)) (rest : List (Device V G)) → HaveCome ds seats rest → length rest ≡ 0 → AllZip IsPromised ds seats
-  all_come ds seats [] come none =
-      subst (λ (d : List (Device V G)). AllZip IsPromised d seats) (sym (come.all ∙ append-nil come.come)) come.promised
-  all_come ds seats (x ∷ rest) come none = absurd (omega (arith, none))
+  pub all_come : (es : List (Order V)) (ds : List (Device V G)) (seats : List (SeatOf N)) (rest : List (Device V G)) → HaveCome es ds seats rest → length rest ≡ 0 → AllZip (IsPromisedFor es) ds seats
+  all_come es ds seats [] come none =
+      subst (λ (d : List (Device V G)). AllZip (IsPromisedFor es) d seats) (sym (come.all ∙ append-nil come.come)) come.promised
+  all_come es ds seats (x ∷ rest) come none = absurd (omega (arith, none))
 
-  nothing_left : (left : List (SeatOf N)) (behind : List (Device V G)) → left ≡ [] → behind ≡ [] → KeepPromises left behind
-  nothing_left left behind no_seats none [] h =
-      subst (λ (b : List (Device V G)). AllZip KeepsAll [] b) (sym none) tt
-  nothing_left [] behind no_seats none (d ∷ ds) h = absurd h
-  nothing_left (s ∷ left) behind no_seats none (d ∷ ds) h = absurd (cc)
+  nothing_left : (es : List (Order V)) (left : List (SeatOf N)) (behind : List (Device V G)) → left ≡ [] → behind ≡ [] → KeepPromises es left behind
+  nothing_left es left behind no_seats none [] h =
+      subst (λ (b : List (Device V G)). AllZip (KeepsOrdered es) [] b) (sym none) tt
+  nothing_left es [] behind no_seats none (d ∷ ds) h = absurd h
+  nothing_left es (s ∷ left) behind no_seats none (d ∷ ds) h = absurd (cc)
 
-  pub none_left : (seats : List (SeatOf N)) (behind : List (Device V G)) → behind ≡ [] → HaveLeft seats seats behind
-  none_left seats behind none = record { left = []; all = sym (append-nil seats); kept = nothing_left [] behind refl none }
+  pub none_left : (es : List (Order V)) (seats : List (SeatOf N)) (behind : List (Device V G)) → behind ≡ [] → HaveLeft es seats seats behind
+  none_left es seats behind none = record { left = []; all = sym (append-nil seats); kept = nothing_left es [] behind refl none }
 
   -- what was promised is kept
-  promised_kept : (d e : Device V G) (s : SeatOf N) → IsPromised d s → KeptBy KeepsPromise s.seat.me.0.pledge e → KeepsAll d e
-  promised_kept d e s p kept =
+  promised_kept : (es : List (Order V)) (d e : Device V G) (s : SeatOf N) → IsPromisedFor es d s → KeptBy KeepsPromise s.seat.me.0.pledge e → KeepsOrdered es d e
+  promised_kept es d e s p kept =
       let by : KeepsPromise p.promise e = subst (λ (q : _). KeptBy KeepsPromise q e) p.pledge kept in
-      subst (λ (l : Losses). KeepsWithin l d e) p.most
+      subst (λ (l : Losses). KeepsWithin l d e) p.allows
       (subst (λ (x : Device V G). KeepsPledge (pledge_with x p.promise.most) e) p.made by)
 
-  pub one_left : (seats rest less : List (SeatOf N)) (s : SeatOf N) (behind new : List (Device V G)) (e : Device V G) → HaveLeft seats rest behind →
-      rest ≡ less ++ s ∷ [] → KeptBy KeepsPromise s.seat.me.0.pledge e → new ≡ insert behind 0 e → HaveLeft seats less new
-  one_left seats rest less s behind new e left is kept new_is = record {
+  pub one_left : (es : List (Order V)) (seats rest less : List (SeatOf N)) (s : SeatOf N) (behind new : List (Device V G)) (e : Device V G) → HaveLeft es seats rest behind →
+      rest ≡ less ++ s ∷ [] → KeptBy KeepsPromise s.seat.me.0.pledge e → new ≡ insert behind 0 e → HaveLeft es seats less new
+  one_left es seats rest less s behind new e left is kept new_is = record {
     left = s ∷ left.left;
     all = left.all ∙ ap (λ (r : List (SeatOf N)). r ++ left.left) is ∙ append_assoc less (s ∷ []) left.left;
-    kept = subst (λ (b : List (Device V G)). KeepPromises (s ∷ left.left) b) (sym (new_is ∙ in_front behind)) more;
+    kept = subst (λ (b : List (Device V G)). KeepPromises es (s ∷ left.left) b) (sym (new_is ∙ in_front behind)) more;
   } where
     in_front : (es : List (Device V G)) → insert es 0 e ≡ e ∷ es
     in_front [] = refl
     in_front (x ∷ es) = refl
 
-    more : KeepPromises (s ∷ left.left) (e ∷ behind)
+    more : KeepPromises es (s ∷ left.left) (e ∷ behind)
     more [] h = absurd h
-    more (d ∷ ds) h = (promised_kept d e s h.0 kept, left.kept ds h.1)
+    more (d ∷ ds) h = (promised_kept es d e s h.0 kept, left.kept ds h.1)
 
-  pub all_left : (seats rest : List (SeatOf N)) (behind : List (Device V G)) → HaveLeft seats rest behind → rest ≡ [] → KeepPromises seats behind
-  all_left seats rest behind left none =
-      subst (λ (q : List (SeatOf N)). KeepPromises q behind) (sym (left.all ∙ ap (λ (r : List (SeatOf N)). r ++ left.left) none)) left.kept
+  pub all_left : (es : List (Order V)) (seats rest : List (SeatOf N)) (behind : List (Device V G)) → HaveLeft es seats rest behind → rest ≡ [] → KeepPromises es seats behind
+  all_left es seats rest behind left none =
+      subst (λ (q : List (SeatOf N)). KeepPromises es q behind) (sym (left.all ∙ ap (λ (r : List (SeatOf N)). r ++ left.left) none)) left.kept

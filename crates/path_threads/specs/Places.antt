@@ -1,34 +1,99 @@
 -- Devices in their turns.
-use Rattle.std.specs.Prelude.{◌≡◌, List, ◌++◌, All, Some}
+use Rattle.std.specs.Prelude.{◌≡◌, ℕ, ◌==◌, List, [], ◌∷◌, ◌++◌, All, IfSome, Option, None, Some, if◌then◌else◌}
 use Rattle.std.specs.List.{AllZip}
 use Rattle.device_outside.specs.declared.volume.Volume.{Ghosts}
+use Rattle.device_defs.specs.declared.counts.Losses.{Losses}
 use Rattle.device_turn.specs.declared.holder.Holder as holders
 use Rattle.device_turn.specs.declared.seat.TurnSeat.{TurnSeat}
+use Rattle.subsystem_core.specs.Devices.{device_at}
 use Rattle.device_core.specs.declared.device.Device.{Device}
+use Rattle.loss_model.specs.declared.Loss.{Loss}
+use Rattle.loss_model.specs.declared.Loss.TheVariants.{Cache, Store}
+use Rattle.path_orders.specs.declared.device_orders.DeviceOrder.{DeviceOrder}
+use Rattle.path_orders.specs.declared.device_orders.DeviceOrder.TheVariants as orders
+use Rattle.path_orders.specs.Ordered.{MayLose}
+use Rattle.path_orders.specs.Spare.{IsSpare}
+use Rattle.path_threads.specs.declared.orders.Order.{Order}
+use Rattle.path_threads.specs.declared.orders.Order.TheVariants.{Event, Replace}
+use Rattle.path_threads.specs.declared.shared.PoolOrder.{PoolOrder}
+use Rattle.path_threads.specs.declared.shared.PoolOrder.TheVariants.{FailCache, FailStore, RepairCache, RepairStore}
 use Rattle.path_turns.specs.declared.promise.Promise.{Promise}
-use Rattle.path_turns.specs.Keeping.{IsReady, KeepsAll}
+use Rattle.path_turns.specs.Keeping.{IsReady, KeepsWithin}
+use Rattle.path_threads.specs.declared.places.Place.{Place}
+use Rattle.path_threads.specs.Allowed.{allowed_of}
+
+-- what an order of all devices lets each of them lose
+abbrev pub loss_by : PoolOrder → Option Loss
+loss_by FailCache = Some Cache
+loss_by FailStore = Some Store
+loss_by RepairCache = None
+loss_by RepairStore = None
+
+module _ {V : Type 0} {G : Ghosts V} where
+  -- the device may have what an order of all does to it
+  abbrev pub MayHave : PoolOrder → Place → Device V G → Type 0
+  MayHave order place d = IfSome (loss_by order) (λ (loss : Loss). MayLose loss place.most d)
+
+  -- the device behind the orders keeps what was pledged before, with the losses that they allow
+  abbrev pub KeepsOrdered : List (Order V) → Device V G → Device V G → Type 0
+  KeepsOrdered es d e = KeepsWithin (allowed_of es d) d e
+
+  -- the volume of an order may come to the device that it names, where there is such a device
+  abbrev pub IsSpareAmong : List (Device V G) → Order V → Type 0
+  IsSpareAmong devices (Event e) = Unit {0}
+  IsSpareAmong devices (Replace n side volume) = IfSome (device_at devices n) (λ (d : Device V G). IsSpare d volume)
 
 module _ {V : Type 0} {G : Ghosts V} {N : holders.Ghosts (Device V G) (Promise V G)} where
-  -- the seat knows what was promised: the device as it was, and no loss more
-  pub record IsPromised (d : Device V G) (s : TurnSeat (Device V G) (Promise V G) N) : Type 0 where
+  -- the seat knows that so many losses may come to the device of this number
+  pub record Allows (place : Place) (s : TurnSeat (Device V G) (Promise V G) N) : Type 0 where
+    pub promise : Promise V G
+    pub pledge : s.seat.me.0.pledge ≡ Some promise
+    pub most : promise.most ≡ place.most
+    pub number : promise.made.value.store.number ≡ place.number
+
+  -- the seat of the device of this number
+  abbrev pub seat_at : List Place → List (TurnSeat (Device V G) (Promise V G) N) → ℕ → Option (TurnSeat (Device V G) (Promise V G) N)
+  seat_at [] seats n = None
+  seat_at (p ∷ ps) [] n = None
+  seat_at (p ∷ ps) (s ∷ ss) n = if p.number == n then Some s else seat_at ps ss n
+
+  -- an order may be done at the device that was promised to the seat
+  abbrev pub SuitsSeat : DeviceOrder V → TurnSeat (Device V G) (Promise V G) N → Type 0
+  SuitsSeat (orders.Replace side volume) s = (p : Promise V G) → s.seat.me.0.pledge ≡ Some p → IsSpare p.made.value volume
+  SuitsSeat _ s = Unit {0}
+
+  -- at the device of this number, where there is one
+  abbrev pub SuitsAt : List Place → List (TurnSeat (Device V G) (Promise V G) N) → ℕ → DeviceOrder V → Type 0
+  SuitsAt places seats n order = IfSome (seat_at places seats n) (SuitsSeat order)
+
+  abbrev pub IsSpareAt : List Place → List (TurnSeat (Device V G) (Promise V G) N) → Order V → Type 0
+  IsSpareAt places seats (Event e) = Unit {0}
+  IsSpareAt places seats (Replace n side volume) = SuitsAt places seats n (orders.Replace side volume)
+
+  -- the seat knows what was promised: the device as it was, and so many losses
+  pub record IsPromised (most : Losses) (d : Device V G) (s : TurnSeat (Device V G) (Promise V G) N) : Type 0 where
     pub promise : Promise V G
     pub pledge : s.seat.me.0.pledge ≡ Some promise
     pub made : promise.made.value ≡ d
-    pub most : promise.most ≡ d.store.counts.losses
+    pub allows : promise.most ≡ most
+
+  abbrev pub IsPromisedFor : List (Order V) → Device V G → TurnSeat (Device V G) (Promise V G) N → Type 0
+  IsPromisedFor es d s = IsPromised (allowed_of es d) d s
 
   -- the first of these devices stand in turns with these seats, and the rest are ready for theirs
-  pub record HaveCome (devices : List (Device V G)) (seats : List (TurnSeat (Device V G) (Promise V G) N)) (rest : List (Device V G)) : Type 0 where
+  pub record HaveCome (es : List (Order V)) (devices : List (Device V G)) (seats : List (TurnSeat (Device V G) (Promise V G) N)) (rest : List (Device V G)) :
+      Type 0 where
     pub come : List (Device V G)
     pub all : devices ≡ come ++ rest
-    pub promised : AllZip IsPromised come seats
+    pub promised : AllZip (IsPromisedFor es) come seats
     pub ready : All IsReady rest
 
   -- devices that left their turns keep what was promised of them
-  abbrev pub KeepPromises : List (TurnSeat (Device V G) (Promise V G) N) → List (Device V G) → Type 0
-  KeepPromises seats behind = (before : List (Device V G)) → AllZip IsPromised before seats → AllZip KeepsAll before behind
+  abbrev pub KeepPromises : List (Order V) → List (TurnSeat (Device V G) (Promise V G) N) → List (Device V G) → Type 0
+  KeepPromises es seats behind = (before : List (Device V G)) → AllZip (IsPromisedFor es) before seats → AllZip (KeepsOrdered es) before behind
 
   -- the last of these seats have no turn any more, and these are their devices
-  pub record HaveLeft (seats rest : List (TurnSeat (Device V G) (Promise V G) N)) (behind : List (Device V G)) : Type 0 where
+  pub record HaveLeft (es : List (Order V)) (seats rest : List (TurnSeat (Device V G) (Promise V G) N)) (behind : List (Device V G)) : Type 0 where
     pub left : List (TurnSeat (Device V G) (Promise V G) N)
     pub all : seats ≡ rest ++ left
-    pub kept : KeepPromises left behind
+    pub kept : KeepPromises es left behind

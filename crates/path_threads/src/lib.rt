@@ -1,9 +1,13 @@
-//! Paths that run beside each other: four path workers and one of the background, over the turns of all devices and one pool.
+//! Paths that run beside each other: four path workers, one of the background and one of the operator, over the turns of all devices and one pool.
 #![tactic(auto)]
 
+mod allowed;
+mod operator;
+mod orders;
 mod places;
 mod run;
 mod shared;
 mod walks;
 
+pub use orders::Order;
 pub use run::{Ran, run_paths};

@@ -1,30 +1,55 @@
-ghost use Rattle.std.specs.Prelude.{◌≡◌, All, IfOk, None, OnOk, Some};
+ghost use Rattle.std.specs.Prelude.{◌≡◌, All, IfOk, List, None, OnOk, Some};
 ghost use Rattle.std.specs.List.{AllZip};
-ghost use Rattle.path_turns.specs.Keeping.{IsReady, KeepsAll};
-ghost use Rattle.path_threads.specs.Places.{IsPromised, KeepPromises};
+ghost use Rattle.path_turns.specs.Keeping.{IsReady, IsWithin};
+ghost use Rattle.path_threads.specs.declared.orders.Order.{Order};
+ghost use Rattle.path_threads.specs.Allowed.{allowed_of};
+ghost use Rattle.path_threads.specs.Places.{Allows, IsPromised, IsPromisedFor, KeepPromises};
 ghost use Rattle.turn_seats.specs.Seating.{AreSet, IsSet};
 
-use ckd_types::NoMemory;
+use crate::allowed::allowed;
+use crate::orders::Order;
+use ckd_types::{DeviceNo, NoMemory};
 use device_core::Device;
+use device_defs::Losses;
 use device_outside::Volume;
 use path_turns::Promise;
 use std::alloc::Global;
 use std::snapshot::Snapshot;
 use turn_seats::{Setting, Table, clear, set};
 
+/// Which device stands in a turn, and how many losses it may have.
+#[derive(Clone, Copy, Debug, PartialEq, Eq)]
+pub(crate) struct Place {
+    pub number: DeviceNo,
+    pub most: Losses,
+}
+
 type DeviceSetting<V> = Setting<Device<V>, Promise<V>>;
 
 type DeviceTable<V> = Table<Device<V>, Promise<V>>;
 
+/// How many losses a device may have while these orders are done.
+fn most_of<V: Volume>(device: &Device<V>, orders: &[Order<V>]) -> Losses
+    ensures is { result ≡ allowed_of orders.now device.now }
+    ensures more { IsWithin device.now.store.counts.losses result }
+{
+    allowed(device.losses(), device.number(), orders)
+}
+
 /// A device stands in a turn.
-fn set_one<V: Volume>(alloc: Global, device: Device<V>) -> Result<DeviceSetting<V>, NoMemory>
-    requires { IsReady device }
+fn set_one<V: Volume>(
+    alloc: Global,
+    device: Device<V>,
+    most: Losses,
+) -> Result<DeviceSetting<V>, NoMemory>
+    requires ready { IsReady device }
+    requires within { IsWithin device.store.counts.losses most }
     ensures set { IfOk result IsSet }
-    ensures promised { IfOk result (λ s. IsPromised device s.operator) }
+    ensures promised { IfOk result (λ s. IsPromised most device s.operator) }
 {
     let promise = Promise {
         made: Snapshot::of(&device),
-        most: device.losses(),
+        most,
     };
     set(alloc, device, &promise)
 }
@@ -33,17 +58,24 @@ fn set_one<V: Volume>(alloc: Global, device: Device<V>) -> Result<DeviceSetting<
 pub(crate) fn set_all<V: Volume>(
     alloc: Global,
     mut devices: Vec<Device<V>>,
-) -> Result<DeviceTable<V>, NoMemory>
+    orders: &[Order<V>],
+) -> Result<(DeviceTable<V>, Vec<Place>), NoMemory>
     requires { All IsReady devices.items }
-    ensures set { IfOk result AreSet }
-    ensures promised { IfOk result (λ t. AllZip IsPromised devices.items t.operator.items) }
+    ensures set { IfOk result (λ r. AreSet r.0) }
+    ensures promised { IfOk result (λ r. AllZip (IsPromisedFor orders.now) devices.items r.0.operator.items) }
+    ensures allows { IfOk result (λ r. AllZip Allows r.1.items r.0.operator.items) }
 {
     let mut table = Table::new(alloc);
+    let mut places = Vec::new(alloc);
     for _ in 0..devices.len() {
-        let setting = set_one(alloc, devices.remove(0))?;
+        let device = devices.remove(0);
+        let number = device.number();
+        let most = most_of(&device, orders);
+        let setting = set_one(alloc, device, most)?;
         table.push(setting)?;
+        places.push(Place { number, most })?;
     }
-    Ok(table)
+    Ok((table, places))
 }
 
 /// The devices, in their order.
@@ -52,7 +84,7 @@ pub(crate) fn clear_all<V: Volume>(
     mut table: DeviceTable<V>,
 ) -> Result<Vec<Device<V>>, NoMemory>
     requires { AreSet table }
-    ensures { IfOk result (λ v. KeepPromises table.operator.items v.items) }
+    ensures { (os : List (Order V)) → IfOk result (λ v. KeepPromises os table.operator.items v.items) }
 {
     let mut devices = Vec::new(alloc);
     for _ in 0..table.turns.len() {

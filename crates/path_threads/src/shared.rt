@@ -1,9 +1,11 @@
-ghost use Rattle.std.specs.Prelude.{IsErr};
+ghost use Rattle.std.specs.Prelude.{◌≡◌, IsErr};
+ghost use Rattle.path_threads.specs.Places.{loss_by};
 ghost use Rattle.device_outside.specs.Outside.{no_pool};
 
 use ckd_types::{DeviceNo, NoMemory, TrackNo};
 use device_outside::{Grant, Port, SlotGrant};
 use frame_pool::Pool;
+use loss_model::Loss;
 use std::sync::atomic::{AtomicBool, Ordering};
 use std::sync::{Mutex, Wait};
 
@@ -12,6 +14,60 @@ use std::sync::{Mutex, Wait};
 pub(crate) struct Shared {
     pub pool: Mutex<Pool>,
     pub lacks: AtomicBool,
+}
+
+/// An order of cache or store, which is one of all devices.
+#[derive(Clone, Copy, Debug, PartialEq, Eq)]
+pub(crate) enum PoolOrder {
+    FailCache,
+    FailStore,
+    RepairCache,
+    RepairStore,
+}
+
+impl PoolOrder {
+    /// What each device loses by it.
+    pub fn loss(self) -> Option<Loss>
+        ensures { result ≡ loss_by self }
+    {
+        match self {
+            PoolOrder::FailCache => Some(Loss::Cache),
+            PoolOrder::FailStore => Some(Loss::Store),
+            PoolOrder::RepairCache => None,
+            PoolOrder::RepairStore => None,
+        }
+    }
+}
+
+fn fail_cache(pool: &mut Pool) -> bool {
+    if !pool.cache_up() {
+        return false;
+    }
+    pool.fail_cache();
+    true
+}
+
+fn fail_store(pool: &mut Pool) -> bool {
+    if !pool.store_up() {
+        return false;
+    }
+    pool.fail_store();
+    true
+}
+
+/// Where tracks wait the cache stays down, and so does the store.
+fn repair_cache(pool: &mut Pool) -> bool {
+    if pool.cache_up() {
+        return false;
+    }
+    pool.repair_cache().is_ok()
+}
+
+fn repair_store(pool: &mut Pool) -> bool {
+    if pool.store_up() {
+        return false;
+    }
+    pool.repair_store().is_ok()
 }
 
 impl Shared {
@@ -33,6 +89,17 @@ impl Shared {
     {
         self.lacks.store(true, Ordering::SeqCst);
         Err(NoMemory)
+    }
+
+    /// What an order does to the pool, and whether it did.
+    pub fn order<R: Wait>(&self, rt: &R, order: PoolOrder) -> bool {
+        let mut pool = self.pool.lock(rt);
+        match order {
+            PoolOrder::FailCache => fail_cache(&mut pool),
+            PoolOrder::FailStore => fail_store(&mut pool),
+            PoolOrder::RepairCache => repair_cache(&mut pool),
+            PoolOrder::RepairStore => repair_store(&mut pool),
+        }
     }
 
     pub fn is_stopped(&self) -> bool {

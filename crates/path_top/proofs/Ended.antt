@@ -1,47 +1,65 @@
--- Lines that stand one behind another: of four paths, and of all devices.
-use Rattle.std.proofs.Common.{◌≡◌, ◌<◌, ◌≤◌, ◌+◌, ◌++◌, [], ◌∷◌, ℕ, List, length, take, get_or, map, refl, ap, sym, ◌∙◌, append_assoc}
-use Rattle.std.specs.List.{flat_map}
-use Rattle.std.proofs.lemmas.List.{append-nil}
+-- What is left of the lines at the end of a device, and of all devices, one step on.
+use Rattle.std.proofs.Common.{◌≡◌, ◌<◌, ◌≤◌, ◌+◌, ◌-◌, ◌*◌, ◌++◌, [], ◌∷◌, ℕ, suc, Bool, None, false, List, length, drop, get_or, map, refl, ap, sym, ◌∙◌, arith, append_assoc}
+use Rattle.std.specs.Prelude.{slice_index_or, if◌then◌else◌}
+use Rattle.std.specs.List.{flat_map, range_with_len}
+use Rattle.std.proofs.lemmas.List.{at_drop_more, get_or_at, length_push}
 use Rattle.device_outside.specs.declared.volume.Volume.{Ghosts}
 use Rattle.device_core.specs.declared.device.Device.{Device}
+use Rattle.loss_model.specs.Lost.{lost_tracks}
+use Rattle.report_text.specs.declared.answers.DeviceTotals.TheVariants as totals
 use Rattle.report_text.specs.declared.line.ReportLine.{ReportLine}
-use Rattle.deck_run.proofs.Lines.{flat_all, flat_on}
+use Rattle.report_text.specs.declared.line.ReportLine.TheVariants as lines
+use Rattle.subsystem_defs.specs.Closing.{where_true}
+use Rattle.track_table.specs.Bits.{marked_from}
+use Rattle.deck_run.specs.Ending.{lost_in}
 use Rattle.path_top.specs.Devices.{all_told, told_by}
-use Rattle.path_top.specs.Told.{device_lines, left_line, left_lines}
+use Rattle.path_top.specs.Told.{device_lines, end_lines, left_line, left_lines}
 
-four_more : (first a b c d x y z w : List ReportLine) → x ≡ first ++ a → y ≡ x ++ b → z ≡ y ++ c → w ≡ z ++ d →
-    w ≡ first ++ (a ++ (b ++ (c ++ (d ++ []))))
-four_more first a b c d x y z w p q r s =
-    s ∙ ap (λ (l : List ReportLine). l ++ d) (r ∙ ap (λ (l : List ReportLine). l ++ c) (q ∙ ap (λ (l : List ReportLine). l ++ b) p))
-    ∙ simp (append_assoc, append-nil) refl
+-- Of four paths
 
-pub four_left : (d : ℕ) (f : ℕ → ℕ) (one two three four : ℕ) (first x y z w : List ReportLine) → one ≡ 1 → two ≡ 2 → three ≡ 3 → four ≡ 4 →
-    x ≡ first ++ left_line d one (f one) → y ≡ x ++ left_line d two (f two) → z ≡ y ++ left_line d three (f three) →
-    w ≡ z ++ left_line d four (f four) → w ≡ first ++ left_lines d 1 (map f (1 ∷ 2 ∷ 3 ∷ 4 ∷ []))
-four_left d f one two three four first x y z w a b c e p q r s =
-    four_more first (left_line d 1 (f 1)) (left_line d 2 (f 2)) (left_line d 3 (f 3)) (left_line d 4 (f 4)) x y z w (p ∙ at first one 1 a)
-    (q ∙ at x two 2 b) (r ∙ at y three 3 c) (s ∙ at z four 4 e)
-  where
-    at : (l : List ReportLine) (n k : ℕ) → n ≡ k → l ++ left_line d n (f n) ≡ l ++ left_line d k (f k)
-    at l n k same = ap (λ (i : ℕ). l ++ left_line d i (f i)) same
+abbrev pub left_from : ℕ → (ℕ → ℕ) → ℕ → List ReportLine
+left_from d f n = left_lines d n (map f (range_with_len n (5 - n)))
+
+pub left_on : (d : ℕ) (f : ℕ → ℕ) (n k : ℕ) → n < 5 → k ≡ n → left_from d f n ≡ left_line d k (f k) ++ left_from d f (n + 1)
+left_on d f n k few is =
+    ap (λ (l : ℕ). left_lines d n (map f (range_with_len n l))) (let e : 5 - n ≡ suc (5 - (n + 1)) = omega (arith, few) in e)
+    ∙ ap (λ (l : ℕ). left_line d n (f n) ++ left_lines d l (map f (range_with_len (n + 1) (5 - (n + 1))))) (let e : suc n ≡ n + 1 = omega arith in e)
+    ∙ ap (λ (l : ℕ). left_line d l (f l) ++ left_from d f (n + 1)) (sym is)
+
+pub left_none : (d : ℕ) (f : ℕ → ℕ) (n : ℕ) → 5 ≤ n → left_from d f n ≡ []
+left_none d f n past =
+    ap (λ (l : ℕ). left_lines d n (map f (range_with_len n l))) (let e : 5 - n ≡ 0 = omega (arith, past) in e)
+
+-- Lost tracks, by a list and by marks
+
+marked_same : (before marks : List Bool) (n : ℕ) → length before ≡ n →
+    marked_from n marks ≡ where_true (λ (t : ℕ). slice_index_or (before ++ marks) t false) (range_with_len n (length marks))
+marked_same before [] n long = refl
+marked_same before (m ∷ marks) n long =
+    let whole : (before ++ m ∷ []) ++ marks ≡ before ++ m ∷ marks = append_assoc before (m ∷ []) marks in
+    let rest : marked_from (n + 1) marks ≡ where_true (λ (t : ℕ). slice_index_or (before ++ m ∷ marks) t false) (range_with_len (n + 1) (length marks)) =
+    marked_same (before ++ m ∷ []) marks (n + 1) (length_push before m ∙ ap (λ (k : ℕ). k + 1) long)
+    ∙ ap (λ (l : List Bool). where_true (λ (t : ℕ). slice_index_or l t false) (range_with_len (n + 1) (length marks))) whole in
+    let ts = where_true (λ (t : ℕ). slice_index_or (before ++ m ∷ marks) t false) (range_with_len (n + 1) (length marks)) in
+    ap (λ (l : List ℕ). if m then n ∷ l else l) rest ∙ ap (λ (b : Bool). if b then n ∷ ts else ts) (sym (get_or_at before m marks false n long))
+
+pub losses_are : (d number n : ℕ) (ts lost : List ℕ) → d ≡ number → n ≡ length ts → ts ≡ lost →
+    (lines.Device d (totals.Lost n) ∷ []) ++ map (lines.Lost d) ts ≡ end_lines number None lost
+losses_are d number n ts lost same count is =
+    ap (λ (k : ℕ). lines.Device d (totals.Lost k) ∷ map (lines.Lost d) ts) count
+    ∙ ap (λ (l : List ℕ). lines.Device d (totals.Lost (length l)) ∷ map (lines.Lost d) l) is
+    ∙ ap (λ (k : ℕ). end_lines k None lost) same
 
 module _ {V : Type 0} {G : Ghosts V} where
-  abbrev lines_of : Device V G → List ReportLine
-  lines_of x = device_lines (told_by x)
+  pub lost_same : (x : Device V G) → length x.store.lost ≡ x.store.cylinders * 15 → lost_tracks x.store.lost ≡ lost_in x
+  lost_same x each =
+      marked_same [] x.store.lost 0 refl
+      ∙ ap (λ (n : ℕ). where_true (λ (t : ℕ). slice_index_or x.store.lost t false) (range_with_len 0 n)) each
 
-  flat_told : (xs : List (Device V G)) → flat_map device_lines (all_told xs) ≡ flat_map lines_of xs
-  flat_told [] = refl
-  flat_told (x ∷ xs) = ap (λ (l : List ReportLine). lines_of x ++ l) (flat_told xs)
+  -- Devices
 
-  pub device_on : (xs : List (Device V G)) (i : ℕ) (x : Device V G) (first olds news : List ReportLine) → i < length xs → x ≡ get_or xs i x →
-      olds ≡ first ++ flat_map device_lines (all_told (take i xs)) → news ≡ olds ++ device_lines (told_by x) →
-      news ≡ first ++ flat_map device_lines (all_told (take (i + 1) xs))
-  device_on xs i x first olds news within is before now =
-      flat_on lines_of xs i x first olds news within is (before ∙ ap (λ (l : List ReportLine). first ++ l) (flat_told (take i xs))) now
-      ∙ ap (λ (l : List ReportLine). first ++ l) (sym (flat_told (take (i + 1) xs)))
-
-  pub device_all : (xs : List (Device V G)) (i : ℕ) (first news : List ReportLine) → length xs ≤ i →
-      news ≡ first ++ flat_map device_lines (all_told (take i xs)) → news ≡ first ++ flat_map device_lines (all_told xs)
-  device_all xs i first news past before =
-      flat_all lines_of xs i first news past (before ∙ ap (λ (l : List ReportLine). first ++ l) (flat_told (take i xs)))
-      ∙ ap (λ (l : List ReportLine). first ++ l) (sym (flat_told xs))
+  pub devices_on : (xs : List (Device V G)) (i : ℕ) (x : Device V G) → i < length xs → x ≡ get_or xs i x →
+      flat_map device_lines (all_told (drop i xs)) ≡ device_lines (told_by x) ++ flat_map device_lines (all_told (drop (i + 1) xs))
+  devices_on xs i x inside is =
+      at_drop_more (λ (l : List (Device V G)). flat_map device_lines (all_told l)) xs i x inside
+      ∙ ap (λ (y : Device V G). device_lines (told_by y) ++ flat_map device_lines (all_told (drop (i + 1) xs))) (sym is)

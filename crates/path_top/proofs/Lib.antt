@@ -1,10 +1,21 @@
-pub mod Recorded
+pub mod Texts
+pub mod Steps
+pub mod Caused
 pub mod Paired
 pub mod Ended
+pub mod Adding
+pub mod Marked
+pub mod MoreExcused
+pub mod Allowing
+pub mod Failing
 pub mod NewDevices
+pub mod PairedAbout
 pub mod Readied
+pub mod Counted
 pub mod Finished
+pub mod RunExcused
 pub mod RunTold
+pub mod Unfailing
 pub mod Complete
 pub mod Few
 mod Rows

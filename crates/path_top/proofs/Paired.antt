@@ -6,6 +6,8 @@ use Rattle.std.proofs.lemmas.List.Sums.{fold_more}
 use Rattle.deck_plan.specs.declared.event.EventLine.{EventLine}
 use Rattle.deck_plan.specs.declared.event.EventLine.TheVariants as lines
 use Rattle.device_outside.specs.Lists.{is_in}
+use Rattle.subsystem_defs.specs.declared.event.Event.TheVariants as events
+use Rattle.subsystem_defs.specs.Happening.{happens}
 use Rattle.subsystem_defs.specs.Subsystem as runs
 use Rattle.deck_run.specs.Opening.{are_open_lines, is_open_line}
 use Rattle.path_top.specs.Pairs.{before_start, behind_line, is_start}
@@ -76,3 +78,29 @@ one_line_on run es i e inside is =
 
 pub all_lines_on : (run : runs.Subsystem) (es : List EventLine) (i : ℕ) → length es ≤ i → fold behind_line run (take i es) ≡ fold behind_line run es
 all_lines_on run es i past = ap (fold behind_line run) (take_all i es past)
+
+-- What each pair keeps they all keep
+
+module _ (P : runs.Subsystem → Type 0) (pair : (s : runs.Subsystem) (a b : ℕ) → P s → P (happens s (events.Pair a b)).behind) where
+  line_keeps : (s : runs.Subsystem) (e : EventLine) → P s → P (behind_line s e)
+  line_keeps s (lines.Start path d) p = p
+  line_keeps s (lines.Step d) p = p
+  line_keeps s (lines.Run d) p = p
+  line_keeps s (lines.Back d) p = p
+  line_keeps s (lines.Settle d) p = p
+  line_keeps s (lines.Reset path d) p = p
+  line_keeps s lines.FailCache p = p
+  line_keeps s lines.FailStore p = p
+  line_keeps s (lines.FailVolume d side) p = p
+  line_keeps s lines.RepairCache p = p
+  line_keeps s lines.RepairStore p = p
+  line_keeps s (lines.Replace d side) p = p
+  line_keeps s (lines.Pair a b) p = pair s a b p
+  line_keeps s (lines.Unpair a) p = p
+  line_keeps s (lines.Suspend d) p = p
+  line_keeps s (lines.Resume d) p = p
+  line_keeps s lines.Power p = p
+
+  pub lines_keep : (s : runs.Subsystem) (es : List EventLine) → P s → P (fold behind_line s es)
+  lines_keep s [] p = p
+  lines_keep s (e ∷ es) p = lines_keep (behind_line s e) es (line_keeps s e p)

@@ -63,6 +63,6 @@ acts_row : journal_lines 0 (read_by 1 (record { after = 2; act = Loosen 7 } ∷ 
     ∷ lines.End (end_line 1 0 1 (ended 2 [] true)) ∷ lines.Data (replicate 8 0) ∷ lines.Over 1 0 1 over.Full ∷ lines.Loose 0 (loose.Lost 1 (0 ∷ 1 ∷ [])) ∷ []
 acts_row = refl
 
--- a pair behind the first START line is unused
-unused_row : unused_in (events.Pair 0 1 ∷ events.FailCache ∷ events.Start 1 0 ∷ events.Pair 2 3 ∷ []) ≡ 3
+-- a pair behind the first START line is unused, an order anywhere is used
+unused_row : unused_in (events.Pair 0 1 ∷ events.FailCache ∷ events.Start 1 0 ∷ events.Pair 2 3 ∷ events.Resume 0 ∷ []) ≡ 2
 unused_row = refl

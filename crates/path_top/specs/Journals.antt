@@ -16,19 +16,7 @@ use Rattle.run_report.specs.Beside.{program_over}
 use Rattle.deck_run.specs.Loosening.{loosed_by}
 use Rattle.path_top.specs.declared.journal.LooseCount.{LooseCount}
 
--- the lines so far, and what is known then of data of cache fast write
-pub record SoFar : Type 0 where
-  pub lines : List ReportLine
-  pub loose : LooseCount
-
-abbrev pub so_far : List ReportLine → LooseCount → SoFar
-so_far ls loose = record { lines = ls; loose = loose }
-
-abbrev pub none_told : SoFar
-none_told = so_far [] (record { tracks = 0; number = 0 })
-
-abbrev pub with_lines : SoFar → List ReportLine → SoFar
-with_lines x ls = record x { lines = x.lines ++ ls }
+-- Acts, one after another, with how many tracks are loose before the first of them
 
 -- how many tracks are loose behind an act, a number of 16 bits, and the number of the data
 abbrev pub loose_behind : LooseCount → Act → LooseCount
@@ -36,42 +24,55 @@ loose_behind s (Loosen t) = record s { tracks = min (s.tracks + 1) (2 ^ 16 - 1) 
 loose_behind s (Harden t) = record s { tracks = s.tracks - 1 }
 loose_behind s CfwLost = record { tracks = 0; number = next_number s.number }
 
-abbrev pub told_act : ℕ → SoFar → Act → SoFar
-told_act d x a =
-    let behind = loose_behind x.loose a in
-    so_far (x.lines ++ loosed_line (loosed_by d x.loose.tracks behind.number a) ∷ []) behind
+abbrev pub loose_behind_all : LooseCount → List Acted → LooseCount
+loose_behind_all s acts = fold (λ x a. loose_behind x a.act) s acts
 
-abbrev pub told_acted : ℕ → SoFar → Acted → SoFar
-told_acted d x a = told_act d x a.act
+abbrev pub act_line : ℕ → LooseCount → Act → ReportLine
+act_line d s a = loosed_line (loosed_by d s.tracks (loose_behind s a).number a)
 
-abbrev pub told_acts : ℕ → SoFar → List Acted → SoFar
-told_acts d x acts = fold (told_acted d) x acts
+abbrev pub act_lines : ℕ → LooseCount → List Acted → List ReportLine
+act_lines d s [] = []
+act_lines d s (a ∷ acts) = act_line d s a.act ∷ act_lines d (loose_behind s a.act) acts
+
+-- Programs
 
 -- how many of these acts came before there were more than k ends
 abbrev pub count_before : ℕ → List Acted → ℕ
 count_before k [] = 0
 count_before k (a ∷ acts) = if nat_le a.after k then suc (count_before k acts) else 0
 
-abbrev pub told_end : ℕ → ℕ → ℕ → SoFar → CommandEnd → SoFar
-told_end d path ordinal x e = with_lines x (ended_lines path d ordinal e)
+-- the ends of a program behind the first k, each behind the acts that came before it, and the acts that came last
+abbrev pub end_lines : ℕ → ProgramEntry → ℕ → LooseCount → List Acted → List CommandEnd → List ReportLine
+end_lines d p k s acts [] = act_lines d s acts
+end_lines d p k s acts (e ∷ ends) =
+    let here = take (count_before k acts) acts in
+    let later = drop (count_before k acts) acts in
+    act_lines d s here ++ (ended_lines p.path d p.ordinal e ++ end_lines d p (suc k) (loose_behind_all s here) later ends)
 
--- the ends of a program behind the first k, and the acts that are left
-abbrev pub told_ends : ℕ → ℕ → ℕ → ℕ → List Acted → SoFar → List CommandEnd → SoFar
-told_ends d path ordinal k acts x [] = told_acts d x acts
-told_ends d path ordinal k acts x (e ∷ ends) =
-    let n = count_before k acts in
-    told_ends d path ordinal (suc k) (drop n acts) (told_end d path ordinal (told_acts d x (take n acts)) e) ends
+abbrev pub program_lines : ℕ → LooseCount → ProgramEntry → List ReportLine
+program_lines d s p = end_lines d p 0 s p.acts p.ends ++ program_over_lines (Some (program_over d p))
 
-abbrev pub told_entry : ℕ → SoFar → ProgramEntry → SoFar
-told_entry d x e = with_lines (told_ends d e.path e.ordinal 0 e.acts x e.ends) (program_over_lines (Some (program_over d e)))
+-- Items: an empty volume has no loose track, and a loss of power takes the data of cache fast write, where there are some
 
--- an empty volume has no loose track, and a loss of power takes the data of cache fast write, where there are some
-abbrev pub told_item : ℕ → SoFar → Item → SoFar
-told_item d x (Program e) = told_entry d x e
-told_item d x (Reset path) = with_lines x (lines.Reset path d ∷ [])
-told_item d x Fresh = so_far (x.lines ++ lines.Fresh d ∷ []) (record x.loose { tracks = 0 })
-told_item d x (items.Act act) = told_act d x act
-told_item d x Power = if x.loose.tracks == 0 then x else told_act d x CfwLost
+abbrev pub item_lines : ℕ → LooseCount → Item → List ReportLine
+item_lines d s (Program p) = program_lines d s p
+item_lines d s (Reset path) = lines.Reset path d ∷ []
+item_lines d s Fresh = lines.Fresh d ∷ []
+item_lines d s (items.Act a) = act_line d s a ∷ []
+item_lines d s Power = if s.tracks == 0 then [] else act_line d s CfwLost ∷ []
 
+abbrev pub loose_behind_item : LooseCount → Item → LooseCount
+loose_behind_item s (Program p) = loose_behind_all s p.acts
+loose_behind_item s (Reset path) = s
+loose_behind_item s Fresh = record s { tracks = 0 }
+loose_behind_item s (items.Act a) = loose_behind s a
+loose_behind_item s Power = if s.tracks == 0 then s else loose_behind s CfwLost
+
+-- some items, one after another
+abbrev pub lines_of_items : ℕ → LooseCount → List Item → List ReportLine
+lines_of_items d s [] = []
+lines_of_items d s (x ∷ xs) = item_lines d s x ++ lines_of_items d (loose_behind_item s x) xs
+
+-- at first no track is loose
 abbrev pub journal_lines : ℕ → List Item → List ReportLine
-journal_lines d items = (fold (told_item d) none_told items).lines
+journal_lines d xs = lines_of_items d (record { tracks = 0; number = 0 }) xs

@@ -1,5 +1,5 @@
--- The event lines that a run of paths uses: the PAIR lines that stand before the first START line, in their order.
-use Rattle.std.specs.Prelude.{ℕ, ◌-◌, Bool, true, false, List, [], ◌∷◌, length, map, count_by, fold, Option, if◌then◌else◌}
+-- The event lines that a run of paths uses: the PAIR lines that stand before the first START line, in their order, and orders.
+use Rattle.std.specs.Prelude.{ℕ, ◌+◌, ◌-◌, Bool, true, false, List, [], ◌∷◌, length, map, count_by, fold, Option, if◌then◌else◌}
 use Rattle.deck_plan.specs.declared.event.EventLine.{EventLine}
 use Rattle.deck_plan.specs.declared.event.EventLine.TheVariants as lines
 use Rattle.deck_text.specs.DeckLines.{DeckLines}
@@ -7,6 +7,7 @@ use Rattle.subsystem_defs.specs.declared.event.Event.TheVariants as events
 use Rattle.subsystem_defs.specs.Decks.{opened}
 use Rattle.subsystem_defs.specs.Happening.{happens}
 use Rattle.subsystem_defs.specs.Subsystem.{Mounted, Subsystem}
+use Rattle.path_top.specs.Orders.{is_order}
 
 abbrev pub is_start : EventLine → Bool
 is_start (lines.Start path d) = true
@@ -22,7 +23,7 @@ before_start (e ∷ es) = if is_start e then [] else e ∷ before_start es
 
 -- all others are unused
 abbrev pub unused_in : List EventLine → ℕ
-unused_in es = length es - count_by is_pair (before_start es)
+unused_in es = length es - (count_by is_pair (before_start es) + count_by is_order es)
 
 -- what a line leaves of some devices
 abbrev pub behind_line : Subsystem → EventLine → Subsystem

@@ -1,16 +1,21 @@
 //! The lines of a device's journal.
 
-ghost use Rattle.std.specs.Prelude.{◌≡◌, ◌++◌, ◌∷◌, [], OnOk, fold};
+ghost use Rattle.std.specs.Prelude.{◌≡◌, ◌++◌, ◌∷◌, []};
+ghost use Rattle.ckd_outside.specs.Causes.{HasCause};
+ghost use Rattle.ckd_outside.specs.Texts.{Puts};
 ghost use Rattle.plain_defs.specs.Loose.{next_number};
-ghost use Rattle.report_text.specs.Events.{ended_lines, loosed_line};
-ghost use Rattle.deck_run.specs.Loosening.{loosed_by};
-ghost use Rattle.path_top.specs.Journals.{count_before, journal_lines, loose_behind, so_far, told_act, told_acts, told_ends, told_entry, told_item};
+ghost use Rattle.plain_defs.specs.declared.journal.Item.TheVariants as items;
+ghost use Rattle.report_text.specs.Ends.{data_lines, end_line, lines_text, sense_lines};
+ghost use Rattle.report_text.specs.Events.{ended_lines};
+ghost use Rattle.path_top.specs.Journals.{act_line, act_lines, count_before, end_lines, item_lines, journal_lines, loose_behind, loose_behind_all, loose_behind_item, program_lines};
 
-use ckd_types::{CommandEnd, DeviceNo, NoMemory, PathNo};
+use crate::line::put_line;
+use ckd_outside::{Failed, LineBuffer, Sink};
+use ckd_types::{CommandEnd, DeviceNo, Sense};
 use deck_run::loosed_by;
 use plain_defs::{Act, Acted, Entry, Item};
-use report_text::{ReportLine, RunRecord};
-use run_report::{Calls, Gained, RunningProgram, how_over, record_ended};
+use report_text::{EndLine, ReportLine, put_data};
+use run_report::how_over;
 
 /// How many tracks of a device are loose, and the number of its data of cache fast write.
 #[derive(Clone, Copy, Debug, PartialEq, Eq)]
@@ -25,8 +30,8 @@ fn next_number(n: u16) -> u16
     if n == u16::MAX { 0 } else { n + 1 }
 }
 
-fn loose_behind(loose: &LooseCount, act: &Act) -> LooseCount
-    ensures { result ≡ loose_behind loose.now act.now }
+fn loose_behind(loose: LooseCount, act: &Act) -> LooseCount
+    ensures { result ≡ loose_behind loose act.now }
 {
     match act {
         Act::Loosen(_) => LooseCount {
@@ -44,38 +49,37 @@ fn loose_behind(loose: &LooseCount, act: &Act) -> LooseCount
     }
 }
 
-/// The line of an act, where so many tracks were loose before it and this is the number of the data behind it.
-fn act_line(d: DeviceNo, tracks: u16, number: u16, act: &Act) -> ReportLine
-    ensures { result ≡ loosed_line (loosed_by d tracks number act.now) }
+fn loose_behind_all(before: LooseCount, acts: &[Acted]) -> LooseCount
+    ensures { result ≡ loose_behind_all before acts.now }
 {
-    let told = loosed_by(d, tracks, number, *act);
+    let mut loose = before;
+    for acted in acts {
+        loose = loose_behind(loose, &acted.act);
+    }
+    loose
+}
+
+fn act_line(d: DeviceNo, loose: LooseCount, act: &Act) -> ReportLine
+    ensures { result ≡ act_line d loose act.now }
+{
+    let told = loosed_by(d, loose.tracks, loose_behind(loose, act).number, *act);
     ReportLine::Loose(told.device, told.answer)
 }
 
-fn record_act(
-    run: &mut RunRecord,
-    loose: &mut LooseCount,
+fn put_acts<K: Sink>(
+    sink: &mut K,
+    buffer: &mut LineBuffer,
     d: DeviceNo,
-    act: &Act,
-) -> Result<(), NoMemory>
-    ensures { OnOk result (so_far run.new loose.new ≡ told_act d (so_far run.old loose.old) act.now) }
-{
-    let behind = loose_behind(loose, act);
-    run.push(act_line(d, loose.tracks, behind.number, act))?;
-    *loose = behind;
-    Ok(())
-}
-
-fn record_acts(
-    run: &mut RunRecord,
-    loose: &mut LooseCount,
-    d: DeviceNo,
+    before: LooseCount,
     acts: &[Acted],
-) -> Result<(), NoMemory>
-    ensures { OnOk result (so_far run.new loose.new ≡ told_acts d (so_far run.old loose.old) acts.now) }
+) -> Result<(), Failed>
+    ensures bytes { Puts (K.held sink.old) buffer.old (K.held sink.new) buffer.new result (lines_text (act_lines d before acts.now)) }
+    ensures cause { HasCause (K.faults sink.old) (K.faults sink.new) result }
 {
+    let mut loose = before;
     for acted in acts {
-        record_act(run, loose, d, &acted.act)?;
+        put_line(sink, buffer, &act_line(d, loose, &acted.act))?;
+        loose = loose_behind(loose, &acted.act);
     }
     Ok(())
 }
@@ -94,113 +98,207 @@ fn count_before(k: usize, acts: &[Acted]) -> usize
     n
 }
 
-fn record_end(
-    run: &mut RunRecord,
-    d: DeviceNo,
-    program: &RunningProgram,
-    end: &CommandEnd,
-) -> Result<(), NoMemory>
-    ensures { OnOk result (run.new ≡ run.old ++ ended_lines program.now.path d program.now.ordinal end.now) }
+fn put_sent<K: Sink>(sink: &mut K, buffer: &mut LineBuffer, sent: &[u8]) -> Result<(), Failed>
+    ensures bytes { Puts (K.held sink.old) buffer.old (K.held sink.new) buffer.new result (lines_text (data_lines sent.now)) }
+    ensures cause { HasCause (K.faults sink.old) (K.faults sink.new) result }
 {
-    let none = Gained {
-        acts: &[],
-        items: &[],
-    };
-    let calls = Calls {
-        reads: 0,
-        writes: 0,
-    };
-    record_ended(run, d, &Some(*program), end, &none, calls)
+    if sent.is_empty() {
+        return Ok(());
+    }
+    put_data(sink, buffer, sent)
+}
+
+fn put_sense<K: Sink>(
+    sink: &mut K,
+    buffer: &mut LineBuffer,
+    sense: &Option<Sense>,
+) -> Result<(), Failed>
+    ensures bytes { Puts (K.held sink.old) buffer.old (K.held sink.new) buffer.new result (lines_text (sense_lines sense.now)) }
+    ensures cause { HasCause (K.faults sink.old) (K.faults sink.new) result }
+{
+    match sense {
+        Some(sense) => put_line(sink, buffer, &ReportLine::Sense(*sense)),
+        None => Ok(()),
+    }
+}
+
+/// The bytes that a command sent, and its sense.
+fn put_sent_and_sense<K: Sink>(
+    sink: &mut K,
+    buffer: &mut LineBuffer,
+    end: &CommandEnd,
+) -> Result<(), Failed>
+    ensures bytes { Puts (K.held sink.old) buffer.old (K.held sink.new) buffer.new result (lines_text (data_lines end.now.sent ++ sense_lines end.now.sense)) }
+    ensures cause { HasCause (K.faults sink.old) (K.faults sink.new) result }
+{
+    put_sent(sink, buffer, end.sent.as_slice())?;
+    put_sense(sink, buffer, &end.sense)
+}
+
+fn end_line(d: DeviceNo, entry: &Entry, end: &CommandEnd) -> EndLine
+    ensures { result ≡ end_line entry.now.path d entry.now.ordinal end.now }
+{
+    EndLine {
+        path: entry.path,
+        device: d,
+        ordinal: entry.ordinal,
+        index: end.index,
+        status: end.status,
+        residual: end.residual,
+        note: end.note,
+    }
+}
+
+fn put_end<K: Sink>(
+    sink: &mut K,
+    buffer: &mut LineBuffer,
+    d: DeviceNo,
+    entry: &Entry,
+    end: &CommandEnd,
+) -> Result<(), Failed>
+    ensures bytes { Puts (K.held sink.old) buffer.old (K.held sink.new) buffer.new result (lines_text (ended_lines entry.now.path d entry.now.ordinal end.now)) }
+    ensures cause { HasCause (K.faults sink.old) (K.faults sink.new) result }
+{
+    put_line(sink, buffer, &ReportLine::End(end_line(d, entry, end)))?;
+    put_sent_and_sense(sink, buffer, end)
+}
+
+/// An end behind the acts that came before it.
+fn put_acts_and_end<K: Sink>(
+    sink: &mut K,
+    buffer: &mut LineBuffer,
+    d: DeviceNo,
+    entry: &Entry,
+    before: LooseCount,
+    acts: &[Acted],
+    end: &CommandEnd,
+) -> Result<(), Failed>
+    ensures bytes { Puts (K.held sink.old) buffer.old (K.held sink.new) buffer.new result
+        (lines_text (act_lines d before acts.now ++ ended_lines entry.now.path d entry.now.ordinal end.now)) }
+    ensures cause { HasCause (K.faults sink.old) (K.faults sink.new) result }
+{
+    put_acts(sink, buffer, d, before, acts)?;
+    put_end(sink, buffer, d, entry, end)
 }
 
 /// The ends of a program's commands, with the acts where they came.
-fn record_ends(
-    run: &mut RunRecord,
-    loose: &mut LooseCount,
-    d: DeviceNo,
-    program: &RunningProgram,
-    acts: &[Acted],
-    ends: &[CommandEnd],
-) -> Result<(), NoMemory>
-    ensures { OnOk result (so_far run.new loose.new ≡ told_ends d program.now.path program.now.ordinal 0 acts.now (so_far run.old loose.old) ends.now) }
-{
-    let mut left = acts;
-    for k in 0..ends.len() {
-        let (now, later) = left.split_at(count_before(k, left));
-        record_acts(run, loose, d, now)?;
-        record_end(run, d, program, &ends[k])?;
-        left = later;
-    }
-    record_acts(run, loose, d, left)?;
-    Ok(())
-}
-
-fn record_entry(
-    run: &mut RunRecord,
-    loose: &mut LooseCount,
+fn put_ends<K: Sink>(
+    sink: &mut K,
+    buffer: &mut LineBuffer,
     d: DeviceNo,
     entry: &Entry,
-) -> Result<(), NoMemory>
-    ensures { OnOk result (so_far run.new loose.new ≡ told_entry d (so_far run.old loose.old) entry.now) }
+    before: LooseCount,
+) -> Result<(), Failed>
+    ensures bytes { Puts (K.held sink.old) buffer.old (K.held sink.new) buffer.new result
+        (lines_text (end_lines d entry.now 0 before entry.now.acts entry.now.ends)) }
+    ensures cause { HasCause (K.faults sink.old) (K.faults sink.new) result }
 {
-    let program = RunningProgram {
-        path: entry.path,
-        ordinal: entry.ordinal,
-    };
-    record_ends(
-        run,
-        loose,
-        d,
-        &program,
-        entry.acts.as_slice(),
-        entry.ends.as_slice(),
-    )?;
-    run.push(ReportLine::Over(entry.path, d, entry.ordinal, how_over(entry.how)))
+    let ends = entry.ends.as_slice();
+    let mut loose = before;
+    let mut left = entry.acts.as_slice();
+    for k in 0..ends.len() {
+        let (here, later) = left.split_at(count_before(k, left));
+        put_acts_and_end(sink, buffer, d, entry, loose, here, &ends[k])?;
+        loose = loose_behind_all(loose, here);
+        left = later;
+    }
+    put_acts(sink, buffer, d, loose, left)
 }
 
-fn record_power(run: &mut RunRecord, loose: &mut LooseCount, d: DeviceNo) -> Result<(), NoMemory>
-    ensures { OnOk result (so_far run.new loose.new ≡ told_item d (so_far run.old loose.old) Item.Power) }
+fn put_program<K: Sink>(
+    sink: &mut K,
+    buffer: &mut LineBuffer,
+    d: DeviceNo,
+    before: LooseCount,
+    entry: &Entry,
+) -> Result<(), Failed>
+    ensures bytes { Puts (K.held sink.old) buffer.old (K.held sink.new) buffer.new result (lines_text (program_lines d before entry.now)) }
+    ensures cause { HasCause (K.faults sink.old) (K.faults sink.new) result }
 {
-    if loose.tracks == 0 {
+    put_ends(sink, buffer, d, entry, before)?;
+    let how = how_over(entry.how);
+    put_line(
+        sink,
+        buffer,
+        &ReportLine::Over(entry.path, d, entry.ordinal, how),
+    )
+}
+
+fn put_power<K: Sink>(
+    sink: &mut K,
+    buffer: &mut LineBuffer,
+    d: DeviceNo,
+    before: LooseCount,
+) -> Result<(), Failed>
+    ensures bytes { Puts (K.held sink.old) buffer.old (K.held sink.new) buffer.new result (lines_text (item_lines d before items.Power)) }
+    ensures cause { HasCause (K.faults sink.old) (K.faults sink.new) result }
+{
+    if before.tracks == 0 {
         return Ok(());
     }
-    record_act(run, loose, d, &Act::CfwLost)
+    put_line(sink, buffer, &act_line(d, before, &Act::CfwLost))
 }
 
-fn record_item(
-    run: &mut RunRecord,
-    loose: &mut LooseCount,
+fn put_item<K: Sink>(
+    sink: &mut K,
+    buffer: &mut LineBuffer,
     d: DeviceNo,
+    before: LooseCount,
     item: &Item,
-) -> Result<(), NoMemory>
-    ensures { OnOk result (so_far run.new loose.new ≡ told_item d (so_far run.old loose.old) item.now) }
+) -> Result<(), Failed>
+    ensures bytes { Puts (K.held sink.old) buffer.old (K.held sink.new) buffer.new result (lines_text (item_lines d before item.now)) }
+    ensures cause { HasCause (K.faults sink.old) (K.faults sink.new) result }
 {
     match item {
-        Item::Program(entry) => record_entry(run, loose, d, entry),
-        Item::Reset(path) => run.push(ReportLine::Reset(*path, d)),
-        Item::Fresh => {
-            loose.tracks = 0;
-            run.push(ReportLine::Fresh(d))
-        }
-        Item::Act(act) => record_act(run, loose, d, act),
-        Item::Power => record_power(run, loose, d),
+        Item::Program(entry) => put_program(sink, buffer, d, before, entry),
+        Item::Reset(path) => put_line(sink, buffer, &ReportLine::Reset(*path, d)),
+        Item::Fresh => put_line(sink, buffer, &ReportLine::Fresh(d)),
+        Item::Act(act) => put_line(sink, buffer, &act_line(d, before, act)),
+        Item::Power => put_power(sink, buffer, d, before),
+    }
+}
+
+fn loose_behind_power(before: LooseCount) -> LooseCount
+    ensures { result ≡ loose_behind_item before items.Power }
+{
+    if before.tracks == 0 {
+        return before;
+    }
+    loose_behind(before, &Act::CfwLost)
+}
+
+fn loose_behind_item(before: LooseCount, item: &Item) -> LooseCount
+    ensures { result ≡ loose_behind_item before item.now }
+{
+    match item {
+        Item::Program(entry) => loose_behind_all(before, entry.acts.as_slice()),
+        Item::Reset(_) => before,
+        Item::Fresh => LooseCount {
+            tracks: 0,
+            number: before.number,
+        },
+        Item::Act(act) => loose_behind(before, act),
+        Item::Power => loose_behind_power(before),
     }
 }
 
 /// The journal of the device of this number.
-pub(crate) fn record_journal(
-    run: &mut RunRecord,
+pub(crate) fn put_journal<K: Sink>(
+    sink: &mut K,
+    buffer: &mut LineBuffer,
     d: DeviceNo,
     items: &[Item],
-) -> Result<(), NoMemory>
-    ensures { OnOk result (run.new ≡ run.old ++ journal_lines d items.now) }
+) -> Result<(), Failed>
+    ensures bytes { Puts (K.held sink.old) buffer.old (K.held sink.new) buffer.new result (lines_text (journal_lines d items.now)) }
+    ensures cause { HasCause (K.faults sink.old) (K.faults sink.new) result }
 {
     let mut loose = LooseCount {
         tracks: 0,
         number: 0,
     };
     for item in items {
-        record_item(run, &mut loose, d, item)?;
+        put_item(sink, buffer, d, loose, item)?;
+        loose = loose_behind_item(loose, item);
     }
     Ok(())
 }

@@ -3,8 +3,13 @@
 
 mod history;
 mod journal;
+mod laws;
+mod line;
+mod orders;
 mod pairs;
 mod run;
 mod top;
 
+pub use history::write_history;
+pub use laws::unfailing_history_checks_nothing;
 pub use top::paths_top;

@@ -6,8 +6,10 @@ ghost use Rattle.deck_run.specs.Owning.{AreOwn};
 ghost use Rattle.deck_run.specs.Standing.{StandsAs};
 ghost use Rattle.subsystem_core.specs.Devices.{numbers_of};
 ghost use Rattle.subsystem_defs.specs.Subsystem as runs;
+ghost use Rattle.path_top.specs.Orders.{is_order};
 ghost use Rattle.path_top.specs.Pairs.{before_start, behind_line, behind_pairs, is_pair, is_start, unused_in};
 
+use crate::orders::is_order;
 use ckd_types::NoMemory;
 use deck_plan::EventLine;
 use deck_run::join;
@@ -58,11 +60,21 @@ fn count_pairs(lines: &[EventLine]) -> usize
     lines.iter().filter(|line| is_pair(line)).count()
 }
 
-/// How many event lines are not among them.
+fn count_orders(lines: &[EventLine]) -> usize
+    ensures { result ≡ count_by is_order lines.now }
+{
+    lines.iter().filter(|line| is_order(line)).count()
+}
+
+/// How many event lines are neither among them nor orders.
 pub(crate) fn unused_in(lines: &[EventLine]) -> usize
     ensures { result ≡ unused_in lines.now }
 {
-    lines.len().saturating_sub(count_pairs(before_start(lines)))
+    let pairs = count_pairs(before_start(lines));
+    lines
+        .len()
+        .saturating_sub(pairs)
+        .saturating_sub(count_orders(lines))
 }
 
 /// A PAIR line makes two devices a pair.

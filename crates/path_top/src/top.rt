@@ -6,12 +6,12 @@ ghost use Rattle.deck_run.specs.Opening.{WasRead};
 ghost use Rattle.path_top.specs.Answers.{TellsDeck, TellsRead, Tells, is_paths};
 ghost use Rattle.deck_top.specs.Answers.{TellsUsage};
 
-use crate::run::history_of_deck;
+use crate::history::write_history;
+use crate::run::{run_deck, unused_of};
 use ckd_outside::{ReadError, Sink, Source, read_up_to};
 use deck_text::{Deck, DeckFault, DeckWhy, Which, read_deck, write_limit, write_refused};
 use deck_top::{Status, write_usage};
 use device_outside::Gate;
-use report_text::write_report;
 use std::alloc::Global;
 use std::sync::Wait;
 use std::thread::Threads;
@@ -54,10 +54,10 @@ fn report<R: Threads + Wait + Sync, K: Sink, G: Gate + Sync>(
     ensures later { K.faults sink.old ≤ K.faults sink.new }
     ensures write { result ≡ Status.WriteFault → Rose (K.faults sink.old) (K.faults sink.new) }
 {
-    let Ok(run) = history_of_deck(rt, alloc, deck, gate) else {
+    let Ok(devices) = run_deck(rt, alloc, deck, gate) else {
         return Status::NoMemory;
     };
-    match write_report(sink, &run, &[], &[]) {
+    match write_history(sink, &devices, unused_of(deck)) {
         Ok(()) => Status::Reported,
         Err(_) => Status::WriteFault,
     }
@@ -123,8 +123,9 @@ fn usage<K: Sink>(sink: &mut K) -> Status
 }
 
 /// Reads a deck, runs the programs of its paths beside each other over volumes in memory, and writes the history of its devices: of each its journal in
-/// the order that came about, the programs that weren't started, and its lost tracks. The PAIR lines that stand before the first START line come first;
-/// other event lines are not used, and counted. The gate is called round each event of a path. Its promise holds if it returns: it waits for its threads.
+/// the order that came about, the programs that weren't started, and its lost tracks. The PAIR lines that stand before the first START line come first. The
+/// FAIL, REPAIR, REPLACE, SUSPEND and RESUME lines are done beside the paths, once each and in their order, unless they are refused then. Other event lines
+/// are not used, and counted. The gate is called round each event of a path. Its promise holds if it returns: it waits for its threads.
 /// Other words than the one word `paths` are answered with the usage. A read fault is answered exactly where a read failed.
 pub fn paths_top<R: Threads + Wait + Sync, S: Source, K: Sink, G: Gate + Sync>(
     rt: &R,

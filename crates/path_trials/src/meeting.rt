@@ -52,7 +52,7 @@ fn two_paths_are_inside_two_devices_at_once(rt: HostRuntime) -> Result<(), Fail>
         came: AtomicBool::new(false),
         missed: AtomicBool::new(false),
     };
-    let ran = run(&rt, alloc, devices, &gate)?;
+    let ran = run(&rt, alloc, devices, Vec::new(alloc), &gate)?;
     assert!(rt; gate.came.load(Ordering::SeqCst));
     assert!(rt; !gate.missed.load(Ordering::SeqCst));
     assert_eq!(rt; ran.devices.len(), 2);

@@ -1,13 +1,15 @@
-ghost use Rattle.std.specs.Prelude.{All, IfOk};
+ghost use Rattle.std.specs.Prelude.{◌≡◌, All, IfOk, false, is_some};
+ghost use Rattle.device_core.specs.State.{device_of};
 ghost use Rattle.path_turns.specs.Keeping.{IsReady};
+ghost use Rattle.path_trials.specs.Small.{IsNew, IsSmall};
 
 use ckd_ccw::Program;
-use ckd_types::{Bytes, Ccw, DeviceNo, Geometry, PathNo};
+use ckd_types::{Bytes, Ccw, DeviceNo, Geometry, PathNo, TrackNo};
 use deck_plan::PathPlans;
 use device_core::Device;
 use device_outside::{Gate, MemVolume, NoGate};
 use frame_pool::Pool;
-use path_threads::{Ran, run_paths};
+use path_threads::{Order, Ran, run_paths};
 use path_turns::plans_give;
 use std::alloc::Global;
 use std::sync::Wait;
@@ -62,7 +64,9 @@ pub(crate) fn one_read(alloc: Global, path: u8) -> Result<PathPlans, Fail> {
 }
 
 fn device(alloc: Global, number: u8, plans: PathPlans) -> Result<Device<MemVolume>, Fail>
-    ensures { IfOk result IsReady }
+    ensures ready { IfOk result IsReady }
+    ensures small { IfOk result IsSmall }
+    ensures home { IfOk result (λ d. is_some (device_of d).store.lent ≡ false) }
 {
     plans_give(&plans);
     let number = DeviceNo::new(number).ok_or("device")?;
@@ -73,12 +77,36 @@ fn device(alloc: Global, number: u8, plans: PathPlans) -> Result<Device<MemVolum
     }
 }
 
+/// Device 0, a pair whose side B doesn't tell what it holds.
+fn pair(alloc: Global, plans: PathPlans) -> Result<Device<MemVolume>, Fail>
+    ensures ready { IfOk result IsReady }
+    ensures small { IfOk result IsSmall }
+{
+    let track = TrackNo::new(0).ok_or("track")?;
+    let mut volume = MemVolume::new(alloc, 1, &[], &[])?;
+    volume.spoil(track, &[]);
+    let mut device = device(alloc, 0, plans)?;
+    device.join_volume(volume);
+    Ok(device)
+}
+
+/// That pair, with these plans.
+pub(crate) fn pair_of(alloc: Global, plans: PathPlans) -> Result<Vec<Device<MemVolume>>, Fail>
+    ensures ready { IfOk result (λ v. All IsReady v.items) }
+    ensures small { IfOk result (λ v. All IsSmall v.items) }
+{
+    let mut devices = Vec::new(alloc);
+    devices.push(pair(alloc, plans)?)?;
+    Ok(devices)
+}
+
 /// Devices from 0 on with these plans.
 pub(crate) fn devices_of(
     alloc: Global,
     plans: Vec<PathPlans>,
 ) -> Result<Vec<Device<MemVolume>>, Fail>
-    ensures { IfOk result (λ v. All IsReady v.items) }
+    ensures ready { IfOk result (λ v. All IsReady v.items) }
+    ensures small { IfOk result (λ v. All IsSmall v.items) }
 {
     let mut devices = Vec::new(alloc);
     let mut number = 0;
@@ -93,12 +121,15 @@ pub(crate) fn run<R: Threads + Wait + Sync, G: Gate + Sync>(
     rt: &R,
     alloc: Global,
     devices: Vec<Device<MemVolume>>,
+    orders: Vec<Order<MemVolume>>,
     gate: &G,
 ) -> Result<Ran<MemVolume>, Fail>
-    requires { All IsReady devices.items }
+    requires ready { All IsReady devices.items }
+    requires small { All IsSmall devices.items }
+    requires new { All IsNew orders.items }
 {
     let pool = Pool::new(alloc, 4, 2)?;
-    Ok(run_paths(rt, alloc, devices, pool, gate)?)
+    Ok(run_paths(rt, alloc, devices, pool, orders, gate)?)
 }
 
 #[test]
@@ -113,7 +144,7 @@ fn each_path_runs_its_programs_on_each_device(rt: HostRuntime) -> Result<(), Fai
         plans.push(all)?;
     }
     let devices = devices_of(alloc, plans)?;
-    let ran = run(&rt, alloc, devices, &NoGate)?;
+    let ran = run(&rt, alloc, devices, Vec::new(alloc), &NoGate)?;
     assert_eq!(rt; ran.devices.len(), 3);
     for device in ran.devices.as_slice() {
         assert_eq!(rt; device.journal().len(), 80);

@@ -146,6 +146,8 @@ module _ {V : Type 0} {G : Ghosts V} where
       order = s.order;
       follows = s.follows;
       gives = s.gives;
+      about = s.about;
+      never = s.never;
     }
 
     pub to_stands : Stands (device_of e) z → Stands (device_of e) (told_of e)
@@ -157,6 +159,8 @@ module _ {V : Type 0} {G : Ghosts V} where
       order = s.order;
       follows = s.follows;
       gives = s.gives;
+      about = s.about;
+      never = s.never;
     }
 
     -- behind an event that keeps the pledge and lets the device stand

@@ -1,9 +1,9 @@
 -- A device goes back into its turn behind an event.
-use Rattle.std.proofs.Common.{◌≡◌, ℕ, List, Option, sym, ap, subst}
+use Rattle.std.proofs.Common.{◌≡◌, ℕ, List, Option, Box, Global, sym, ap, subst}
 use Rattle.device_outside.specs.declared.volume.Volume.{Ghosts}
 use Rattle.device_defs.specs.Pledge.{seat_counts}
 use Rattle.device_turn.specs.Answers.{Entered, MayLeave}
-use Rattle.device_turn.specs.Rule.{KeptBy, Still, Without}
+use Rattle.device_turn.specs.Rule.{KeptBy, Still, Without, boxed, counts_in}
 use Rattle.device_turn.specs.declared.enter.Enter.TheVariants.{Got}
 use Rattle.device_turn.specs.declared.view.View.{View}
 use Rattle.device_turn.proofs.Views.{kept_through, still_set}
@@ -16,13 +16,14 @@ module _ {V : Type 0} {G : Ghosts V} where
   abbrev pub counts_of : Device V G → List ℕ
   counts_of d = seat_counts (device_of d)
 
-  pub may_leave : (seat : ℕ) (me after : View (Option (Promise V G)) × List (ℕ × Option (Device V G))) (before behind : Device V G) → Entered (KeptBy KeepsPromise) counts_of me after (Got before) →
-      after.0.number ≡ seat → Moves seat before behind → MayLeave (KeptBy KeepsPromise) counts_of after.0 behind
+  pub may_leave : (seat : ℕ) (me after : View (Option (Promise V G)) × List (ℕ × Option (Box (Device V G) Global))) (before behind : Box (Device V G) Global) →
+      Entered (KeptBy (boxed KeepsPromise)) (counts_in counts_of) me after (Got before) →
+      after.0.number ≡ seat → Moves seat before.value behind.value → MayLeave (KeptBy (boxed KeepsPromise)) (counts_in counts_of) after.0 behind
   may_leave seat me after before behind e number moves =
-      let loaded : after.0.loaded ≡ e.0 = ap (λ (m : View (Option (Promise V G)) × List (ℕ × Option (Device V G))). m.0.loaded) e.1 in
+      let loaded : after.0.loaded ≡ e.0 = ap (λ (m : View (Option (Promise V G)) × List (ℕ × Option (Box (Device V G) Global))). m.0.loaded) e.1 in
       let apart : Without seat after.0.loaded =
       subst (λ (k : ℕ). Without k after.0.loaded) number (subst (λ (es : List (ℕ × ℕ)). Without after.0.number es) (sym loaded) e.3) in (
-        kept_through KeepsPromise after.0.pledge before behind (λ p k. moves.stays (pledge_with p.made.value p.most) k) e.4.0,
+        kept_through (boxed KeepsPromise) after.0.pledge before behind (λ p k. moves.stays (pledge_with p.made.value p.most) k) e.4.0,
         subst (λ (ws : List ℕ). Still ws after.0.loaded) (sym moves.counts)
-            (still_set (counts_of before) seat moves.count after.0.loaded apart e.4.1),
+            (still_set (counts_of before.value) seat moves.count after.0.loaded apart e.4.1),
       )

@@ -1,24 +1,16 @@
--- A device that is in order with the slots of a pool is ready for a turn, where nothing is told of these.
-use Rattle.std.proofs.Common.{◌≡◌, ◌==◌, ◌<◌, ℕ, Bool, true, false, List, [], Option, Some, None, length, refl, sym, subst}
+-- A store that is in order with the slots of a pool is so where nothing is told of these.
+use Rattle.std.proofs.Common.{◌≡◌, ◌==◌, ℕ, Bool, true, false, List, [], Option, Some, None, length, refl, sym, subst}
 use Rattle.std.specs.Prelude.{slice_index_or}
 use Rattle.ckd_types.specs.declared.paths.Side.{Side}
 use Rattle.ckd_types.specs.declared.paths.Side.TheVariants.{A, B}
 use Rattle.ckd_types.specs.declared.record.Track.{Track}
-use Rattle.plain_defs.specs.PlainState.{empty_state}
 use Rattle.track_image.specs.Image.{Image}
-use Rattle.device_outside.specs.declared.volume.Volume.{Ghosts}
-use Rattle.device_outside.specs.After.{Tells, holds_of}
+use Rattle.device_outside.specs.After.{holds_of}
 use Rattle.device_defs.specs.Contents.{contents}
 use Rattle.device_defs.specs.Sound.{DeviceStore, IsHeld, IsHeldBy, IsKept, IsWritten}
 use Rattle.device_defs.specs.Store.{HalfWrite, is_lost, patch_at, tracks_of}
 use Rattle.device_laws.specs.Agrees.{Held}
 use Rattle.device_laws.specs.InOrder.{IsInOrder}
-use Rattle.device_laws.specs.Whole.{marks_device}
-use Rattle.device_laws.proofs.PlainTurns.{Follows}
-use Rattle.turn_laws.specs.Standing.{GiveBytes}
-use Rattle.device_core.specs.declared.device.Device.{Device}
-use Rattle.device_core.specs.State.{device_of}
-use Rattle.path_turns.specs.Keeping.{IsReady, are_fresh, told_of}
 
 abbrev untold : Held → Held
 untold h = record h { slots = None }
@@ -86,28 +78,3 @@ module _ (s : DeviceStore) (h : Held) where
         patched = o.patched;
         opened = o.opened;
       }
-
-module _ {V : Type 0} {G : Ghosts V} (x : Device V G) (idle : (device_of x).history.running ≡ None) (none : (device_of x).history.waiting ≡ [])
-    (journal : are_fresh (device_of x).history.items ≡ true) where
-  -- it follows the plain device of its history, and its volumes tell what they hold
-  pub order_ready : (plain firm : List Track) (h : Held) → IsInOrder plain firm (device_of x).store h → Tells (told_of x).a h.a → Tells (told_of x).b h.b →
-      Follows (device_of x).store.device (empty_state (device_of x).store.geometry (device_of x).store.cylinders) (marks_device plain firm (device_of x)) →
-      GiveBytes (device_of x).plans → IsReady x
-  order_ready plain firm h o a b follows gives = record {
-    idle = idle;
-    none = none;
-    journal = journal;
-    stands = λ told home. record {
-      plain = plain;
-      firm = firm;
-      held = untold h;
-      untold = record { a = a; b = b; slots = refl };
-      order = untold_order (device_of x).store h plain firm o;
-      follows = follows;
-      gives = gives;
-    };
-  }
-
-  -- its volume is lent
-  pub lent_ready : (to : ℕ) → (device_of x).store.lent ≡ Some to → IsReady x
-  lent_ready to lent = record { idle = idle; none = none; journal = journal; stands = λ told home. absurd (cc) }

@@ -1,12 +1,36 @@
 ghost use Rattle.std.specs.Prelude.{◌≡◌, OnOk};
 ghost use Rattle.turn_seats.specs.Seating.{IsAt, Rests};
+ghost use Rattle.path_turns.specs.Keeping.{Moves};
 
 use crate::background::background_event;
 use crate::events::{Came, Visitor, path_event};
 use crate::promise::{DeviceSeat, DeviceTurn};
 use ckd_types::NoMemory;
+use device_core::Device;
 use device_outside::{Gate, Port, Volume};
 use device_turn::Enter;
+
+/// One event of a path at a device in its room.
+fn path_visit<V: Volume, P: Port, G: Gate>(
+    device: &mut Box<Device<V>>,
+    visitor: &mut Visitor<G>,
+    port: &mut P,
+) -> Result<Came, NoMemory>
+    ensures path { visitor.new.path ≡ visitor.old.path }
+    ensures moves { OnOk result (Moves visitor.old.path device.old.value device.new.value) }
+{
+    path_event(&mut **device, visitor, port)
+}
+
+/// One event in the background.
+fn background_visit<V: Volume, P: Port>(
+    device: &mut Box<Device<V>>,
+    port: &mut P,
+) -> Result<Came, NoMemory>
+    ensures moves { OnOk result (Moves 5 device.old.value device.new.value) }
+{
+    background_event(&mut **device, port)
+}
 
 /// One event of a path, in a turn of its own. Where memory is wanting, the turn isn't given back.
 pub fn path_turn<V: Volume, P: Port, G: Gate>(
@@ -22,7 +46,7 @@ pub fn path_turn<V: Volume, P: Port, G: Gate>(
     match turn.enter(seat) {
         Enter::Taken { .. } => Ok(Came::Again),
         Enter::Got(mut device) => {
-            let came = match path_event(&mut device, visitor, port) {
+            let came = match path_visit(&mut device, visitor, port) {
                 Err(NoMemory) => return Err(NoMemory),
                 Ok(came) => came,
             };
@@ -44,7 +68,7 @@ pub fn background_turn<V: Volume, P: Port>(
     match turn.enter(seat) {
         Enter::Taken { .. } => Ok(Came::Again),
         Enter::Got(mut device) => {
-            let came = match background_event(&mut device, port) {
+            let came = match background_visit(&mut device, port) {
                 Err(NoMemory) => return Err(NoMemory),
                 Ok(came) => came,
             };

@@ -1,5 +1,5 @@
 -- In the run of a deck that was read each device keeps its number, its cylinders and its plans, and is lent to a device.
-use Rattle.std.proofs.Common.{◌≡◌, ◌≤◌, ◌<◌, ℕ, Bool, true, List, [], ◌∷◌, length, map, Option, Ok, refl, sym, subst, ◌∙◌, arith}
+use Rattle.std.proofs.Common.{◌≡◌, ◌≤◌, ◌<◌, ℕ, Bool, List, [], ◌∷◌, length, map, Option, Ok, refl, sym, subst, ◌∙◌, arith}
 use Rattle.std.specs.Prelude.{All, IfSome}
 use Rattle.std.proofs.lemmas.List.Elements.{All-head, All-tail}
 use Rattle.ckd_types.specs.declared.paths.Side.{Side}
@@ -14,8 +14,6 @@ use Rattle.plain_defs.specs.Journal.{Plans, planned, program_of}
 use Rattle.loss_model.specs.declared.Loss.TheVariants as losses
 use Rattle.track_image.specs.Image.{Image}
 use Rattle.device_outside.specs.Interaction.{Interaction}
-use Rattle.device_outside.specs.Told as T
-use Rattle.device_outside.specs.Told.{Told}
 use Rattle.device_defs.specs.Command.{command}
 use Rattle.device_defs.specs.Contents.{by_plain}
 use Rattle.device_defs.specs.Cutting.{power, reset}
@@ -26,15 +24,16 @@ use Rattle.device_defs.specs.Start as S
 use Rattle.device_defs.specs.Start.{start}
 use Rattle.device_laws.proofs.Based.{Any, Base, Based, based_any, kept}
 use Rattle.device_laws.proofs.BasedEvents.{background_based, base_in, command_based, lose_based, power_based, reset_body, second_based, with_one_loss}
-use Rattle.device_laws.proofs.Had.{held}
 use Rattle.device_laws.proofs.KeptEvents.{background_goes, command_goes, lose_goes, second_goes}
 use Rattle.subsystem_defs.specs.Decks as D
 use Rattle.subsystem_defs.specs.Decks.{opened, opened_device, run_of}
 use Rattle.subsystem_defs.specs.Lines.{Logged, asked_by}
 use Rattle.subsystem_defs.specs.Subsystem.{devices_of}
 use Rattle.subsystem_laws.specs.Waits.{AreNumbered}
+use Rattle.subsystem_laws.specs.Came.{CameTo}
+use Rattle.subsystem_laws.proofs.Came.{at, came_had}
 use Rattle.subsystem_laws.proofs.Explained.{its_own}
-use Rattle.subsystem_laws.proofs.LendBase.{at, lend_lends, stays_still}
+use Rattle.subsystem_laws.proofs.LendBase.{lend_lends, stays_still}
 use Rattle.subsystem_laws.proofs.ReadDecks.{read_numbered, read_small}
 use Rattle.subsystem_laws.proofs.RunLines.{AnyEvent, all_asked}
 use Rattle.subsystem_laws.proofs.Shapes.{power_shape, reset_shape}
@@ -62,9 +61,9 @@ sized_as d y number cylinders lent plans s = record {
 
 stays : {X : Type 0} (d : MarksDevice) (talk : Interaction Bool Image MarksDevice X) (b : Base) → b.device ≡ d.store.device →
     b.cylinders ≡ d.store.cylinders → b.lent ≡ d.store.lent → Based base_in Any b talk →
-    ((t : Told) → (T.hold true talk t).state.plans ≡ d.plans) → Sized d → (t : Told) → Sized (T.hold true talk t).state
+    ((t : CameTo talk) → t.state.plans ≡ d.plans) → Sized d → (t : CameTo talk) → Sized t.state
 stays d talk b number cylinders lent x plans s t =
-    let k = at (stays_still x) t in sized_as d (T.hold true talk t).state (k.0 ∙ number) (k.1 ∙ cylinders) (k.2 ∙ lent) (plans t) s
+    let k = at (stays_still x) t in sized_as d t.state (k.0 ∙ number) (k.1 ∙ cylinders) (k.2 ∙ lent) (plans t) s
 
 start_sized : (d : MarksDevice) (path : ℕ) → Sized d → Sized (start d path)
 unfolding S.start
@@ -106,9 +105,9 @@ sized_kept = record {
         cylinders = subst (λ (k : ℕ). k ≤ 64) (sym l.cylinders) s.cylinders;
         lent = subst (λ (o : Option ℕ). IfSome o (λ n. n < 16)) (sym l.lent) r.device;
         plans = λ path.
-            subst (λ (k : Plans). length (planned k path) ≤ 512) (sym (held true (lend_makes y x.store.device) t).plans) (s.plans path);
+            subst (λ (k : Plans). length (planned k path) ≤ 512) (sym (came_had (lend_makes y x.store.device) t).plans) (s.plans path);
         words = λ path ordinal.
-            subst (λ (k : Plans). GoodWords (program_of k path ordinal)) (sym (held true (lend_makes y x.store.device) t).plans) (s.words path ordinal);
+            subst (λ (k : Plans). GoodWords (program_of k path ordinal)) (sym (came_had (lend_makes y x.store.device) t).plans) (s.words path ordinal);
       };
   joins = λ d free s. sized_as d (join d) refl refl refl refl s;
   splits = λ d fault s. sized_as d (split d) refl refl refl refl s;

@@ -1,5 +1,5 @@
 -- A device's queue of tracks to stage stays at most 64 long, and its cylinders at most 64: behind all events of a run.
-use Rattle.std.proofs.Common.{◌≡◌, ◌≤◌, ℕ, Bool, true, length, refl, arith}
+use Rattle.std.proofs.Common.{◌≡◌, ◌≤◌, ℕ, Bool, length, refl, arith}
 use Rattle.ckd_types.specs.declared.paths.Side.{Side}
 use Rattle.ckd_types.specs.declared.paths.Side.TheVariants.{A, B}
 use Rattle.loss_model.specs.declared.Loss.TheVariants as losses
@@ -9,7 +9,9 @@ use Rattle.device_defs.specs.Orders.{replace}
 use Rattle.device_defs.specs.Start as S
 use Rattle.device_defs.specs.Start.{start}
 use Rattle.device_laws.proofs.BasedEvents.{background_based, command_based, lose_based, power_based, reset_body, second_based}
-use Rattle.subsystem_laws.proofs.LendBase.{at, lend_lends, stays_still}
+use Rattle.subsystem_laws.specs.Came.{CameTo}
+use Rattle.subsystem_laws.proofs.Came.{at}
+use Rattle.subsystem_laws.proofs.LendBase.{lend_lends, stays_still}
 use Rattle.subsystem_laws.proofs.RunLines.{AnyEvent}
 use Rattle.subsystem_laws.proofs.Walks.{IsKept}
 use Rattle.track_image.specs.Image.{Image}
@@ -17,7 +19,6 @@ use Rattle.device_defs.specs.Marks.{MarksDevice, MarksStore}
 use Rattle.run_audit_laws.proofs.OwnCalls.{Own, own_always}
 use Rattle.run_audit_laws.proofs.OwnEvents.{Any, any_chain, any_comes, any_queued, background_own, command_own, lend_own, lose_own, power_own, reset_own, second_own}
 use Rattle.run_audit_laws.proofs.Seats.{Is}
-use Rattle.device_outside.specs.Told.{Told, hold}
 
 abbrev Short : MarksStore → Type 0
 Short s = length s.queue ≤ 64
@@ -33,8 +34,8 @@ room : 64 ≤ 64
 room = omega arith
 
 -- behind an event of it
-still : {X : Type 0} {n : ℕ} {talk : Interaction Bool Image MarksDevice X} → Own Any n talk (λ y _. Is n 64 y.store) → (t : Told) →
-    Short (hold true talk t).state.store
+still : {X : Type 0} {n : ℕ} {talk : Interaction Bool Image MarksDevice X} → Own Any n talk (λ y _. Is n 64 y.store) → (t : CameTo talk) →
+    Short t.state.store
 still x t = (at (own_always x) t).1
 
 replace_fits : (d : MarksDevice) (side : Side) → Fits d → Fits (replace d side)

@@ -40,8 +40,6 @@ use Rattle.loss_model.specs.declared.Loss.TheVariants as losses
 use Rattle.track_image.specs.Image.{Image}
 use Rattle.device_outside.specs.Interaction.{Interaction, Done}
 use Rattle.device_outside.specs.Pool.{Call}
-use Rattle.device_outside.specs.Told as T
-use Rattle.device_outside.specs.Told.{Told}
 use Rattle.device_outside.specs.Volume as V
 use Rattle.device_outside.specs.Volume.{counted, counted_if}
 use Rattle.device_defs.specs.declared.counts.Counts as K
@@ -75,9 +73,11 @@ use Rattle.subsystem_defs.specs.Deeds.{ends_done, end_of}
 use Rattle.subsystem_defs.specs.Lines.{Logged, asked_by, last_behind}
 use Rattle.subsystem_defs.specs.Subsystem.{Mounted, Subsystem, devices_of}
 use Rattle.subsystem_laws.specs.Causes.{EachPair}
+use Rattle.subsystem_laws.specs.Came.{CameTo}
+use Rattle.subsystem_laws.proofs.Came.{at}
 use Rattle.subsystem_laws.proofs.CalmRuns.{AllSo}
 use Rattle.subsystem_laws.proofs.DeedWalk.{seat_of, IsDeedwise}
-use Rattle.subsystem_laws.proofs.LendBase.{at, stays_still, lent_store, lend_based, lend_lends, lent_counts}
+use Rattle.subsystem_laws.proofs.LendBase.{stays_still, lent_store, lend_based, lend_lends, lent_counts}
 use Rattle.subsystem_laws.proofs.Pairing.{KeepsDeed, deeds_of, IsPairwise, run_pairs, ends_made, becomes_so, started_number}
 use Rattle.subsystem_laws.proofs.ReadDecks.{read_served, read_small}
 use Rattle.subsystem_laws.proofs.RunLength.{read_run_has_few}
@@ -209,21 +209,21 @@ module _ (count : K.Counts → ℕ) (c : IsCallCount count) where
   RisesBy n x y = (y.store.cylinders ≡ x.store.cylinders) × (count y.store.counts ≤ count x.store.counts + n)
 
   module _ {X : Type 0} (n : ℕ) (d : MarksDevice) (b : Base) {talk : Interaction Bool Image MarksDevice X} (same : count b.counts ≡ count d.store.counts)
-      (x : Based base_in Any b talk) (y : Counts (λ x y (z : MarksDevice) (a : X). x + y ≤ n) 0 0 talk) (t : Told) where
-    calls_few : count (T.hold true talk t).state.store.counts ≤ count d.store.counts + n
+      (x : Based base_in Any b talk) (y : Counts (λ x y (z : MarksDevice) (a : X). x + y ≤ n) 0 0 talk) (t : CameTo talk) where
+    calls_few : count t.state.store.counts ≤ count d.store.counts + n
     calls_few =
         let h : Always talk (λ z a. count (base_in z).counts ≤ count d.store.counts + n) =
         record { holds = few (count d.store.counts) n x y (none_yet (count b.counts) (count d.store.counts) same) } in
         at h t
 
-    rises_by : b.cylinders ≡ d.store.cylinders → RisesBy n d (T.hold true talk t).state
+    rises_by : b.cylinders ≡ d.store.cylinders → RisesBy n d t.state
     rises_by cylinders = ((at (stays_still x) t).1 ∙ cylinders, calls_few)
 
   abbrev RisesFew : MarksDevice → MarksDevice → Type 0
   RisesFew x y = RisesBy (most_calls x) x y
 
   module _ (d : MarksDevice) where
-    command_few : (t : Told) → RisesFew d (T.hold true (command by_plain d) t).state
+    command_few : (t : CameTo (command by_plain d)) → RisesFew d t.state
     command_few t =
         rises_by (most_calls d) d (kept d.store) refl (command_based by_plain d)
         (counts_weaker (command_counts by_plain d)
@@ -233,12 +233,12 @@ module _ (count : K.Counts → ℕ) (c : IsCallCount count) where
     second_calls (Some h) r w k = half_few (takes_b d.store) (tracks_of d.store) r w k.0 k.1
     second_calls None r w k = no_call_few (most_calls d) r w k.0 k.1
 
-    second_few : (t : Told) → RisesFew d (T.hold true (second by_plain d) t).state
+    second_few : (t : CameTo (second by_plain d)) → RisesFew d t.state
     second_few t =
         rises_by (most_calls d) d (kept d.store) refl (second_based by_plain d)
         (counts_weaker (second_counts by_plain d) (λ r w z a k. second_calls d.store.half r w k)) t refl
 
-    background_few : (t : Told) → RisesFew d (T.hold true (background by_plain d) t).state
+    background_few : (t : CameTo (background by_plain d)) → RisesFew d t.state
     background_few t =
         rises_by (most_calls d) d (kept d.store) refl (background_based by_plain d)
         (counts_weaker (background_counts by_plain d)
@@ -248,19 +248,19 @@ module _ (count : K.Counts → ℕ) (c : IsCallCount count) where
         Counts (λ x y (z : MarksDevice) (a : X). x + y ≤ n) 0 0 talk
     quiet_few n h = counts_weaker h (λ r w z a k. no_call_few n r w k.0 k.1)
 
-    lose_few : (loss : Loss) (t : Told) → RisesFew d (T.hold true (lose by_plain d loss) t).state
+    lose_few : (loss : Loss) (t : CameTo (lose by_plain d loss)) → RisesFew d t.state
     lose_few loss t =
         rises_by (most_calls d) d (with_one_loss loss (kept d.store)) (c.no_loss d.store.counts (one_more d.store.counts.losses loss))
         (lose_based by_plain d loss)
         (quiet_few (most_calls d) (lose_counts by_plain d loss)) t refl
 
-    power_few : (t : Told) → RisesFew d (T.hold true (power by_plain d) t).state
+    power_few : (t : CameTo (power by_plain d)) → RisesFew d t.state
     power_few t =
         rises_by (most_calls d) d (with_one_loss losses.Cache (kept d.store))
         (c.no_loss d.store.counts (one_more d.store.counts.losses losses.Cache)) (power_based by_plain d)
         (quiet_few (most_calls d) (power_counts by_plain d)) t refl
 
-    reset_few : (path : ℕ) (t : Told) → RisesFew d (T.hold true (reset by_plain d path) t).state
+    reset_few : (path : ℕ) (t : CameTo (reset by_plain d path)) → RisesFew d t.state
     reset_few path t =
         rises_by (most_calls d) d (kept d.store) refl (based_any (reset_body by_plain d path))
         (quiet_few (most_calls d) (reset_counts by_plain d path)) t refl
@@ -269,7 +269,7 @@ module _ (count : K.Counts → ℕ) (c : IsCallCount count) where
     unfolding O.lend
     lend_calls to = over_calls d _ tt
 
-    lend_none : (to : ℕ) (t : Told) → RisesBy 0 d (T.hold true (lend by_plain d to) t).state
+    lend_none : (to : ℕ) (t : CameTo (lend by_plain d to)) → RisesBy 0 d t.state
     lend_none to t = (
       (lend_lends d to t).cylinders,
       calls_few 0 d (kept (lent_store d to)) (ap count (lent_counts d to)) (lend_based d to) (lend_calls to) t,

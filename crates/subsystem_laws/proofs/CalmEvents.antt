@@ -39,8 +39,6 @@ use Rattle.plain_defs.specs.History.{OpenEntry, has_used}
 use Rattle.track_image.specs.Image.{Image}
 use Rattle.track_table.proofs.Places.{empty_places}
 use Rattle.device_outside.specs.Interaction.{Interaction, Done}
-use Rattle.device_outside.specs.Told as T
-use Rattle.device_outside.specs.Told.{Told}
 use Rattle.device_defs.specs.declared.counts.Counts.{Counts}
 use Rattle.device_defs.specs.Command.{has_loss, command}
 use Rattle.device_defs.specs.Contents.{by_plain}
@@ -82,6 +80,8 @@ use Rattle.subsystem_defs.specs.Calm.{is_whole_device}
 use Rattle.subsystem_defs.specs.declared.end.OrderFault.TheVariants.{Unpaired, Half, Down}
 use Rattle.subsystem_defs.specs.Refusals as R
 use Rattle.subsystem_defs.specs.Refusals.{pair_fault, suspend_fault, fail_fault, replace_fault, unpair_fault}
+use Rattle.subsystem_laws.specs.Came.{CameTo}
+use Rattle.subsystem_laws.proofs.Came.{at}
 use Rattle.subsystem_laws.proofs.CalmDevices.{
   Calm,
   is_unserved,
@@ -98,11 +98,12 @@ use Rattle.subsystem_laws.proofs.CalmDevices.{
 }
 use Rattle.subsystem_laws.proofs.CheckCauses.{decided, second_checks, loss_unchecked}
 use Rattle.subsystem_laws.proofs.GoodMarks.{Good, good_kept, by_lent, home_before, runs_home, half_home, within}
-use Rattle.subsystem_laws.proofs.LendBase.{at, stays_still, lend_lends, lend_based, lent_counts}
+use Rattle.subsystem_laws.proofs.LendBase.{stays_still, lend_lends, lend_based, lent_counts}
 use Rattle.subsystem_laws.proofs.NothingChecked.{lend_past}
 use Rattle.subsystem_laws.proofs.PastChecks.{reset_counts, power_counts}
 use Rattle.subsystem_laws.proofs.SecondChecks.{done_by, end_so, background_unchecked}
 use Rattle.subsystem_laws.proofs.TracksKept.{Fair}
+use Rattle.subsystem_laws.proofs.Walks.{fail_home}
 use Rattle.subsystem_defs.proofs.Unrefused.{first_none, where_none, is_not}
 use Rattle.subsystem_laws.proofs.WholeUnpairs.{not_some}
 
@@ -224,10 +225,10 @@ abbrev pub Unordered : MarksDevice → MarksDevice → Type 0
 Unordered x y = Losing false false x y
 
 module _ (d : MarksDevice) (f : Fair d) where
-  pub rises : {X : Type 0} (b : B.Base) (i : Interaction Bool Image MarksDevice X) → failed_in b ≡ d.store.counts.failed → Based base_in Any b i → (t : Told) →
-      d.store.counts.failed ≤ (T.hold true i t).state.store.counts.failed
+  pub rises : {X : Type 0} (b : B.Base) (i : Interaction Bool Image MarksDevice X) → failed_in b ≡ d.store.counts.failed → Based base_in Any b i →
+      (t : CameTo i) → d.store.counts.failed ≤ t.state.store.counts.failed
   rises b i same x t =
-      subst (λ (n : ℕ). n ≤ (T.hold true i t).state.store.counts.failed) same (at (never_falls x (subst (λ (n : ℕ). n ≤ top) (sym same) f.most)) t)
+      subst (λ (n : ℕ). n ≤ t.state.store.counts.failed) same (at (never_falls x (subst (λ (n : ℕ). n ≤ top) (sym same) f.most)) t)
 
   -- the second part of an open half write is tried
   tried_a : Steady (core_of d.store) → (h : HalfWrite (Unit {0})) → d.store.half ≡ Some h →
@@ -244,21 +245,21 @@ module _ (d : MarksDevice) (f : Fair d) where
     abbrev checks : ℕ
     checks = equipment_checks d.history
 
-    unfailed : {X : Type 0} (i : Interaction Bool Image MarksDevice X) → Based base_in Any (kept d.store) i → (t : Told) →
-        (T.hold true i t).state.store.counts.failed ≡ d.store.counts.failed → {q : MarksDevice → X → Type 0} → Lucky q i →
-        q (T.hold true i t).state (T.hold true i t).answer
+    unfailed : {X : Type 0} (i : Interaction Bool Image MarksDevice X) → Based base_in Any (kept d.store) i → (t : CameTo i) →
+        t.state.store.counts.failed ≡ d.store.counts.failed → {q : MarksDevice → X → Type 0} → Lucky q i →
+        q t.state t.answer
     unfailed i b t same {q} h = at (where_none_failed q b (below d.store.counts.failed lt) h) t same
 
-    failed_once : {X : Type 0} (i : Interaction Bool Image MarksDevice X) → Based base_in Any (kept d.store) i → (t : Told) →
-        (T.hold true i t).state.store.counts.failed ≡ d.store.counts.failed + 1 → {q : MarksDevice → X → Type 0} → Once (λ e a. Unit {0}) q i →
-        q (T.hold true i t).state (T.hold true i t).answer
+    failed_once : {X : Type 0} (i : Interaction Bool Image MarksDevice X) → Based base_in Any (kept d.store) i → (t : CameTo i) →
+        t.state.store.counts.failed ≡ d.store.counts.failed + 1 → {q : MarksDevice → X → Type 0} → Once (λ e a. Unit {0}) q i →
+        q t.state t.answer
     failed_once i b t same {q} h = at (where_one_failed (λ e a. Unit {0}) q b lt h) t same
 
     -- A command
 
-    module _ (o : OpenEntry) (running : d.history.running ≡ Some o) (whole : d.store.half ≡ None) (t : Told) where
+    module _ (o : OpenEntry) (running : d.history.running ≡ Some o) (whole : d.store.half ≡ None) (t : CameTo (command by_plain d)) where
       abbrev commanded : MarksDevice
-      commanded = (T.hold true (command by_plain d) t).state
+      commanded = t.state
 
       home : is_some d.store.lent ≡ false
       home = runs_home d f.good o running
@@ -291,9 +292,9 @@ module _ (d : MarksDevice) (f : Fair d) where
 
     -- The second part of a write
 
-    module _ (h : HalfWrite (Unit {0})) (is : d.store.half ≡ Some h) (t : Told) where
+    module _ (h : HalfWrite (Unit {0})) (is : d.store.half ≡ Some h) (t : CameTo (second by_plain d)) where
       abbrev seconded : MarksDevice
-      seconded = (T.hold true (second by_plain d) t).state
+      seconded = t.state
 
       here : is_some d.store.lent ≡ false
       here = half_home d f.good h is
@@ -318,9 +319,9 @@ module _ (d : MarksDevice) (f : Fair d) where
 
     -- By itself
 
-    module _ (whole : d.store.half ≡ None) (t : Told) where
+    module _ (whole : d.store.half ≡ None) (t : CameTo (background by_plain d)) where
       abbrev worked : MarksDevice
-      worked = (T.hold true (background by_plain d) t).state
+      worked = t.state
 
       background_steady : is_some d.store.lent ≡ false → Unordered d worked → Steady (core_of worked.store)
       background_steady was (inl same) =
@@ -337,9 +338,9 @@ module _ (d : MarksDevice) (f : Fair d) where
           calm_of worked (good_kept.worked d whole f.good t) (λ home. background_steady (home_before d worked b.2 false home) how)
           (served_on d worked (at (K.background_goes by_plain d.plans d.history d (itself d)) t) (at (background_unchecked checks d refl) t) x.served)
 
-    pub reset_calm : (path : ℕ) (t : Told) → Calm (T.hold true (reset by_plain d path) t).state
+    pub reset_calm : (path : ℕ) (t : CameTo (reset by_plain d path)) → Calm t.state
     reset_calm path t =
-        let y = (T.hold true (reset by_plain d path) t).state in
+        let y = t.state in
         let b = at (stays_still (reset_body by_plain d path)) t in
         calm_of y (good_kept.cut d path f.good t)
         (λ home. let was = home_before d y b.2 false home in
@@ -349,15 +350,15 @@ module _ (d : MarksDevice) (f : Fair d) where
     -- Losses
 
     module _ (whole : is_whole_device d ≡ true) where
-      loss_served : (loss : Loss) (t : Told) → unserved (T.hold true (lose by_plain d loss) t).state.history ≡ 0
+      loss_served : (loss : Loss) (t : CameTo (lose by_plain d loss)) → unserved t.state.history ≡ 0
       loss_served loss t =
-          served_on d (T.hold true (lose by_plain d loss) t).state (at (K.lose_goes by_plain d.plans d.history d loss (itself d)) t)
+          served_on d t.state (at (K.lose_goes by_plain d.plans d.history d loss (itself d)) t)
           (at (loss_unchecked d loss) t) x.served
 
-      loss_calm : (loss : Loss) (t : Told) → Good (T.hold true (lose by_plain d loss) t).state →
-          (is_some d.store.lent ≡ false → Always (lose by_plain d loss) (λ e _. Steady (core_of e.store))) → Calm (T.hold true (lose by_plain d loss) t).state
+      loss_calm : (loss : Loss) (t : CameTo (lose by_plain d loss)) → Good t.state →
+          (is_some d.store.lent ≡ false → Always (lose by_plain d loss) (λ e _. Steady (core_of e.store))) → Calm t.state
       loss_calm loss t good steady =
-          let y = (T.hold true (lose by_plain d loss) t).state in
+          let y = t.state in
           let b = at (stays_still (lose_based by_plain d loss)) t in
           calm_of y good (λ home. at (steady (home_before d y b.2 false home)) t) (loss_served loss t)
 
@@ -367,10 +368,10 @@ module _ (d : MarksDevice) (f : Fair d) where
           (lucky_weaker (cache_goes by_plain marks_are_faithful d (f.good.well was) (whole_on_a d (f.good.well was) (x.steady was) was whole))
           (λ e _ g. steady_on (core_of d.store) (core_of e.store) g (x.steady was)))
 
-      pub cache_calm : (t : Told) → Calm (T.hold true (lose by_plain d losses.Cache) t).state
+      pub cache_calm : (t : CameTo (lose by_plain d losses.Cache)) → Calm t.state
       cache_calm t = loss_calm losses.Cache t (good_kept.lost_cache d f.good t) cache_steady
 
-      pub store_calm : (t : Told) → Calm (T.hold true (lose by_plain d losses.Store) t).state
+      pub store_calm : (t : CameTo (lose by_plain d losses.Store)) → Calm t.state
       store_calm t =
           loss_calm losses.Store t (good_kept.lost_store d f.good t)
           (λ was. lose_store_steady by_plain marks_are_faithful d (whole_frames d (f.good.well was) (x.steady was) was whole) (x.steady was))
@@ -383,13 +384,13 @@ module _ (d : MarksDevice) (f : Fair d) where
       side_steady sides.B paired was =
           lose_b_steady by_plain marks_are_faithful d (whole_side_a d (f.good.well was) (x.steady was) was whole paired)
 
-      pub side_calm : (side : Side) → fail_fault d side ≡ None → d.store.paired ≡ true → (t : Told) →
-          Calm (T.hold true (lose by_plain d (losses.Side side)) t).state
-      side_calm side fault paired t = loss_calm (losses.Side side) t (good_kept.lost_side d side fault f.good t) (side_steady side paired)
+      pub side_calm : (side : Side) → fail_fault d side ≡ None → d.store.paired ≡ true → (t : CameTo (lose by_plain d (losses.Side side))) →
+          Calm t.state
+      side_calm side fault paired t = loss_calm (losses.Side side) t (good_kept.lost_side d side (fail_home d side fault) f.good t) (side_steady side paired)
 
-      pub power_calm : (t : Told) → Calm (T.hold true (power by_plain d) t).state
+      pub power_calm : (t : CameTo (power by_plain d)) → Calm t.state
       power_calm t =
-          let y = (T.hold true (power by_plain d) t).state in
+          let y = t.state in
           let b = at (stays_still (power_based by_plain d)) t in
           calm_of y (good_kept.lost_power d f.good t)
           (λ home. let was = home_before d y b.2 false home in
@@ -532,9 +533,9 @@ module _ (d : MarksDevice) where
       let g = first_none (R.where_so (is_some d.store.half) Half) _ c.1 in
       replaced_by side (not_some d.store.half (where_none (is_some d.store.half) Half g.0))
 
-pub lend_still : (x d : MarksDevice) → pair_fault x d ≡ None → Fair x → Fair d → (t : Told) → StillCalm d (T.hold true (lend by_plain d x.store.device) t).state
+pub lend_still : (x d : MarksDevice) → pair_fault x d ≡ None → Fair x → Fair d → (t : CameTo (lend by_plain d x.store.device)) → StillCalm d t.state
 lend_still x d fault e f t =
-    let y = (T.hold true (lend by_plain d x.store.device) t).state in
+    let y = t.state in
     let good = good_kept.lent x d fault e.good f.good t in
     let counts = lent_counts d x.store.device in
     let away : is_some y.store.lent ≡ true = ap (λ (o : Option ℕ). is_some o) (lend_lends d x.store.device t).lent in

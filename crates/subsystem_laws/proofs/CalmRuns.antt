@@ -102,6 +102,7 @@ use Rattle.subsystem_defs.specs.Subsystem.{Mounted, Subsystem, devices_of, mount
 use Rattle.subsystem_laws.specs.Causes.{HasNoDataCheck, HaveNoDataCheck, EachPair}
 use Rattle.subsystem_laws.specs.Served.{IsServedDeck}
 use Rattle.subsystem_laws.proofs.CalmDevices.{Calm, is_unserved}
+use Rattle.subsystem_laws.specs.Came.{CameTo}
 use Rattle.subsystem_laws.proofs.CalmEvents.{
   Losing,
   StillCalm,
@@ -135,54 +136,54 @@ use Rattle.subsystem_laws.proofs.Walks.{AreSo, run_keeps}
 -- Events and orders, device by device
 
 module _ (d : MarksDevice) where
-  command_made : (o : OpenEntry) → d.history.running ≡ Some o → d.store.half ≡ None → (t : Told) →
-      MadeCalm false false d (T.hold true (command by_plain d) t).state
+  command_made : (o : OpenEntry) → d.history.running ≡ Some o → d.store.half ≡ None → (t : CameTo (command by_plain d)) →
+      MadeCalm false false d t.state
   command_made o running whole t = record {
     more = λ f. rises d f (kept d.store) (command by_plain d) refl (command_based by_plain d) t;
     calm = λ how f lt x. command_calm d f lt x o running whole t how;
   }
 
-  second_made : (lossy alone : Bool) → lossy ≡ false → (h : HalfWrite (Unit {0})) → d.store.half ≡ Some h → (t : Told) →
-      MadeCalm lossy alone d (T.hold true (second by_plain d) t).state
+  second_made : (lossy alone : Bool) → lossy ≡ false → (h : HalfWrite (Unit {0})) → d.store.half ≡ Some h → (t : CameTo (second by_plain d)) →
+      MadeCalm lossy alone d t.state
   second_made false alone e h is t = record {
     more = λ f. rises d f (kept d.store) (second by_plain d) refl (second_based by_plain d) t;
     calm = λ how f lt x. second_calm d f lt x h is t how;
   }
   second_made true alone e h is t = absurd (cc)
 
-  background_made : d.store.half ≡ None → (t : Told) → MadeCalm false false d (T.hold true (background by_plain d) t).state
+  background_made : d.store.half ≡ None → (t : CameTo (background by_plain d)) → MadeCalm false false d t.state
   background_made whole t = record {
     more = λ f. rises d f (kept d.store) (background by_plain d) refl (background_based by_plain d) t;
     calm = λ how f lt x. background_calm d f lt x whole t how;
   }
 
-  reset_made : (path : ℕ) (t : Told) → MadeCalm false false d (T.hold true (reset by_plain d path) t).state
+  reset_made : (path : ℕ) (t : CameTo (reset by_plain d path)) → MadeCalm false false d t.state
   reset_made path t = record {
     more = λ f. rises d f (kept d.store) (reset by_plain d path) refl (based_any (reset_body by_plain d path)) t;
     calm = λ how f lt x. reset_calm d f lt x path t;
   }
 
-  side_made : (alone : Bool) (side : Side) → fail_fault d side ≡ None → (alone ≡ false → d.store.paired ≡ true) → (t : Told) →
-      MadeCalm true alone d (T.hold true (lose by_plain d (losses.Side side)) t).state
+  side_made : (alone : Bool) (side : Side) → fail_fault d side ≡ None → (alone ≡ false → d.store.paired ≡ true) →
+      (t : CameTo (lose by_plain d (losses.Side side))) → MadeCalm true alone d t.state
   side_made alone side fault paired t = record {
     more = λ f. rises d f (with_one_loss (losses.Side side) (kept d.store)) (lose by_plain d (losses.Side side)) refl
         (lose_based by_plain d (losses.Side side)) t;
     calm = λ how f lt x. side_calm d f lt x how.1 side fault (paired how.0) t;
   }
 
-cache_made : (d : MarksDevice) (t : Told) → MadeCalm true false d (T.hold true (lose by_plain d losses.Cache) t).state
+cache_made : (d : MarksDevice) (t : CameTo (lose by_plain d losses.Cache)) → MadeCalm true false d t.state
 cache_made d t = record {
   more = λ f. rises d f (with_one_loss losses.Cache (kept d.store)) (lose by_plain d losses.Cache) refl (lose_based by_plain d losses.Cache) t;
   calm = λ how f lt x. cache_calm d f lt x how.1 t;
 }
 
-store_made : (d : MarksDevice) (t : Told) → MadeCalm true false d (T.hold true (lose by_plain d losses.Store) t).state
+store_made : (d : MarksDevice) (t : CameTo (lose by_plain d losses.Store)) → MadeCalm true false d t.state
 store_made d t = record {
   more = λ f. rises d f (with_one_loss losses.Store (kept d.store)) (lose by_plain d losses.Store) refl (lose_based by_plain d losses.Store) t;
   calm = λ how f lt x. store_calm d f lt x how.1 t;
 }
 
-power_made : (d : MarksDevice) (t : Told) → MadeCalm true false d (T.hold true (power by_plain d) t).state
+power_made : (d : MarksDevice) (t : CameTo (power by_plain d)) → MadeCalm true false d t.state
 power_made d t = record {
   more = λ f. rises d f (with_one_loss losses.Cache (kept d.store)) (power by_plain d) refl (power_based by_plain d) t;
   calm = λ how f lt x. power_calm d f lt x how.1 t;

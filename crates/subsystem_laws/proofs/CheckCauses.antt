@@ -37,8 +37,6 @@ use Rattle.plain_defs.specs.declared.journal.Item.TheVariants as items
 use Rattle.plain_defs.specs.History.{OpenEntry}
 use Rattle.track_image.specs.Image.{Image}
 use Rattle.device_outside.specs.Interaction.{Interaction, Done}
-use Rattle.device_outside.specs.Told as T
-use Rattle.device_outside.specs.Told.{Told}
 use Rattle.device_defs.specs.Command.{has_loss, command}
 use Rattle.device_defs.specs.Contents.{by_plain}
 use Rattle.device_defs.specs.Cutting.{reset, power}
@@ -68,8 +66,9 @@ use Rattle.device_laws.proofs.Unlost.{Fine, core_of}
 use Rattle.device_laws.proofs.UncheckedEvents.{equipment_checks, acts_same, command_unchecked_within}
 use Rattle.device_laws.proofs.UnlostParts.{hear_goes}
 use Rattle.subsystem_laws.specs.Causes.{call_failed, not_counted, none_takes, half_untried, track_lost, data_gone, checks_of, ChecksForCause}
+use Rattle.subsystem_laws.specs.Came.{CameTo}
+use Rattle.subsystem_laws.proofs.Came.{at}
 use Rattle.subsystem_laws.proofs.GoodMarks.{runs_home, half_home, within}
-use Rattle.subsystem_laws.proofs.LendBase.{at}
 use Rattle.subsystem_laws.proofs.NothingChecked.{lend_past}
 use Rattle.subsystem_laws.proofs.PastChecks.{reset_counts, power_counts}
 use Rattle.subsystem_laws.proofs.SecondChecks.{part_done, end_so, background_unchecked}
@@ -137,36 +136,36 @@ module _ (d : MarksDevice) (f : Fair d) where
   checks = equipment_checks d.history
 
   -- the number of failed calls stands at the greatest one, or rises, or stays
-  pub by_failed : {X C : Type 0} (i : Interaction Bool Image MarksDevice X) → Based base_in Any (kept d.store) i → (t : Told) →
-      (d.store.counts.failed ≡ top → C) → (d.store.counts.failed < (T.hold true i t).state.store.counts.failed → C) →
-      (d.store.counts.failed < top → (T.hold true i t).state.store.counts.failed ≡ d.store.counts.failed → C) → C
+  pub by_failed : {X C : Type 0} (i : Interaction Bool Image MarksDevice X) → Based base_in Any (kept d.store) i → (t : CameTo i) →
+      (d.store.counts.failed ≡ top → C) → (d.store.counts.failed < t.state.store.counts.failed → C) →
+      (d.store.counts.failed < top → t.state.store.counts.failed ≡ d.store.counts.failed → C) → C
   by_failed {X} {C} i x t full rose later =
       by_count (at (never_falls x f.most) t) (cases_eq d.store.counts.failed top)
-      (cases_lt d.store.counts.failed (T.hold true i t).state.store.counts.failed)
+      (cases_lt d.store.counts.failed t.state.store.counts.failed)
     where
-      by_count : d.store.counts.failed ≤ (T.hold true i t).state.store.counts.failed →
+      by_count : d.store.counts.failed ≤ t.state.store.counts.failed →
           ((d.store.counts.failed ≡ top) ⊎ (d.store.counts.failed ≢ top)) →
-          ((d.store.counts.failed < (T.hold true i t).state.store.counts.failed) ⊎ ((T.hold true i t).state.store.counts.failed ≤ d.store.counts.failed)) → C
+          ((d.store.counts.failed < t.state.store.counts.failed) ⊎ (t.state.store.counts.failed ≤ d.store.counts.failed)) → C
       by_count more (inl is) c = full is
       by_count more (inr ne) (inl rises) = rose rises
       by_count more (inr ne) (inr less) = later (let most = f.most in let apart = ne in omega (arith, most, apart)) (omega (arith, more, less))
 
-  where_failed : {X : Type 0} (i : Interaction Bool Image MarksDevice X) → Based base_in Any (kept d.store) i → (t : Told) →
-      (d.store.counts.failed < top → (T.hold true i t).state.store.counts.failed ≡ d.store.counts.failed → ChecksForCause d (T.hold true i t).state) →
-      ChecksForCause d (T.hold true i t).state
+  where_failed : {X : Type 0} (i : Interaction Bool Image MarksDevice X) → Based base_in Any (kept d.store) i → (t : CameTo i) →
+      (d.store.counts.failed < top → t.state.store.counts.failed ≡ d.store.counts.failed → ChecksForCause d t.state) →
+      ChecksForCause d t.state
   where_failed i x t later = by_failed i x t (λ full. inr (not_counted full)) (λ rose. inr (call_failed rose)) later
 
-  pub command_causes : (o : OpenEntry) → d.history.running ≡ Some o → d.store.half ≡ None → (t : Told) →
-      ChecksForCause d (T.hold true (command by_plain d) t).state
+  pub command_causes : (o : OpenEntry) → d.history.running ≡ Some o → d.store.half ≡ None → (t : CameTo (command by_plain d)) →
+      ChecksForCause d t.state
   command_causes o running whole t =
       let x = command_based by_plain d in
       where_failed (command by_plain d) x t (λ lt same.
       decided (some_takes d.store) (λ up. by_lost lt same up (find_lost d.store.lost)) (λ none. inr (none_takes none)))
     where
-      by_lost : d.store.counts.failed < top → (T.hold true (command by_plain d) t).state.store.counts.failed ≡ d.store.counts.failed →
+      by_lost : d.store.counts.failed < top → t.state.store.counts.failed ≡ d.store.counts.failed →
           some_takes d.store ≡ true →
           (((q : ℕ) → get_or d.store.lost q false ≡ false) ⊎ ((q : ℕ) × (get_or d.store.lost q false ≡ true))) →
-          ChecksForCause d (T.hold true (command by_plain d) t).state
+          ChecksForCause d t.state
       by_lost lt same up (inr y) = inr (track_lost y.0 y.1)
       by_lost lt same up (inl kept_all) =
           decided (has_loss o.acts) (λ gone. inr (data_gone o running gone))
@@ -174,14 +173,14 @@ module _ (d : MarksDevice) (f : Fair d) where
           (command_unchecked_within by_plain checks marks_are_faithful d (within d f.good) (f.good.well (runs_home d f.good o running)) whole (up, kept_all)
           (subst RunsUnharmed (sym running) stays) refl)) t same))
 
-  pub second_causes : (h : HalfWrite (Unit {0})) → d.store.half ≡ Some h → (t : Told) → ChecksForCause d (T.hold true (second by_plain d) t).state
+  pub second_causes : (h : HalfWrite (Unit {0})) → d.store.half ≡ Some h → (t : CameTo (second by_plain d)) → ChecksForCause d t.state
   second_causes h is t =
       where_failed (second by_plain d) (second_based by_plain d) t (λ lt same.
       decided (takes_b d.store) (λ takes. by_tried lt same (inl takes))
       (λ none. decided (level_at d.store.a h.track) (λ level. by_tried lt same (inr level)) (λ off. inr (half_untried h is off none))))
     where
-      by_tried : d.store.counts.failed < top → (T.hold true (second by_plain d) t).state.store.counts.failed ≡ d.store.counts.failed →
-          ((takes_b d.store ≡ true) ⊎ (level_at d.store.a h.track ≡ true)) → ChecksForCause d (T.hold true (second by_plain d) t).state
+      by_tried : d.store.counts.failed < top → t.state.store.counts.failed ≡ d.store.counts.failed →
+          ((takes_b d.store ≡ true) ⊎ (level_at d.store.a h.track ≡ true)) → ChecksForCause d t.state
       by_tried lt same tried =
           inl (at (where_none_failed (λ e _. equipment_checks e.history ≡ checks) (second_based by_plain d) lt
           (second_checks checks d (f.good.well (half_home d f.good h is)) h is tried refl)) t same)
@@ -189,13 +188,13 @@ module _ (d : MarksDevice) (f : Fair d) where
 -- Events that add no check
 
 module _ (d : MarksDevice) where
-  pub background_same : (t : Told) → checks_of (T.hold true (background by_plain d) t).state ≡ checks_of d
+  pub background_same : (t : CameTo (background by_plain d)) → checks_of t.state ≡ checks_of d
   background_same t = at (background_unchecked (equipment_checks d.history) d refl) t
 
-  pub reset_same : (path : ℕ) (t : Told) → checks_of (T.hold true (reset by_plain d path) t).state ≡ checks_of d
+  pub reset_same : (path : ℕ) (t : CameTo (reset by_plain d path)) → checks_of t.state ≡ checks_of d
   reset_same path t = at (reset_counts ends_with_equipment_check (λ o k. refl) (λ p. refl) refl (equipment_checks d.history) d path refl) t
 
-  pub power_same : (t : Told) → checks_of (T.hold true (power by_plain d) t).state ≡ checks_of d
+  pub power_same : (t : CameTo (power by_plain d)) → checks_of t.state ≡ checks_of d
   power_same t = at (power_counts ends_with_equipment_check (λ o k. refl) (λ p. refl) refl (equipment_checks d.history) d refl) t
 
   pub loss_unchecked : (loss : Loss) → Always (lose by_plain d loss) (λ e _. equipment_checks e.history ≡ equipment_checks d.history)
@@ -206,10 +205,10 @@ module _ (d : MarksDevice) where
       (λ s _ _. always_then (always_any (losing by_plain s loss)) (λ z _ _. always_done (acts_same d.history z.acts))))
       (λ y a g. always_then (always_any (ended by_plain (waiting_count by_plain d.store) y.store)) (λ z _ _. always_done g))
 
-  pub loss_same : (loss : Loss) (t : Told) → checks_of (T.hold true (lose by_plain d loss) t).state ≡ checks_of d
+  pub loss_same : (loss : Loss) (t : CameTo (lose by_plain d loss)) → checks_of t.state ≡ checks_of d
   loss_same loss t = at (loss_unchecked loss) t
 
-  pub lend_same : (to : ℕ) (t : Told) → checks_of (T.hold true (lend by_plain d to) t).state ≡ checks_of d
+  pub lend_same : (to : ℕ) (t : CameTo (lend by_plain d to)) → checks_of t.state ≡ checks_of d
   lend_same to t = ap equipment_checks (at (lend_past d to) t)
 
   pub start_same : (path : ℕ) → checks_of (start d path) ≡ checks_of d

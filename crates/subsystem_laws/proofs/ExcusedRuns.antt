@@ -40,8 +40,6 @@ use Rattle.plain_defs.specs.PlainState.{PlainState, empty_state}
 use Rattle.track_image.specs.Image.{Image}
 use Rattle.device_outside.specs.Interaction.{Interaction}
 use Rattle.device_outside.specs.Pool.{Call}
-use Rattle.device_outside.specs.Told as T
-use Rattle.device_outside.specs.Told.{Told}
 use Rattle.device_defs.specs.declared.counts.Counts.{Counts}
 use Rattle.device_defs.specs.declared.counts.Losses.{Losses}
 use Rattle.device_defs.specs.Command.{command}
@@ -71,6 +69,8 @@ use Rattle.subsystem_defs.specs.Subsystem.{Mounted, Subsystem, devices_of}
 use Rattle.subsystem_laws.specs.Causes.{EachPair, CountFailures}
 use Rattle.subsystem_laws.specs.Excused.{has_fresh, WasNeverLent, HasExcusedChecks, HaveExcusedChecks}
 use Rattle.subsystem_laws.specs.Served.{IsServedDeck}
+use Rattle.subsystem_laws.specs.Came.{CameTo}
+use Rattle.subsystem_laws.proofs.Came.{at}
 use Rattle.subsystem_laws.proofs.CalmRuns.{AllSo, all_so}
 use Rattle.subsystem_laws.proofs.DeedWalk.{seat_of, IsDeedwise}
 use Rattle.subsystem_laws.proofs.Excusing.{
@@ -87,7 +87,7 @@ use Rattle.subsystem_laws.proofs.Excusing.{
 use Rattle.subsystem_laws.proofs.Explained.{its_own, new_are}
 use Rattle.subsystem_laws.proofs.ExplainedRuns.{run_is_explained}
 use Rattle.subsystem_laws.proofs.FactsEvents.{command_leaves, second_leaves, background_leaves, lose_leaves, power_leaves, reset_leaves}
-use Rattle.subsystem_laws.proofs.LendBase.{at, stays_still, lend_lends}
+use Rattle.subsystem_laws.proofs.LendBase.{stays_still, lend_lends}
 use Rattle.subsystem_laws.proofs.Pairing.{KeepsDeed, deeds_of, IsPairwise, run_pairs, ends_made, becomes_so, started_number}
 use Rattle.subsystem_laws.proofs.PaidSides.{fresh_last, never_before, PaidFor, paid_kept, opened_paid, paid_of}
 use Rattle.subsystem_laws.proofs.RunLinks.{Linked, lines_linked}
@@ -118,18 +118,18 @@ may_fall l sides.B x h = h
 
 -- What is so behind an event of a device that was never lent
 
-record Since (x y : MarksDevice) : Type 0 where
+pub record Since (x y : MarksDevice) : Type 0 where
   plans : y.plans ≡ x.plans
   empty : empty_of y ≡ empty_of x
   lent : y.store.lent ≡ x.store.lent
-  worse : Worse x.store.lost x.store.counts y.store.lost y.store.counts
+  pub worse : Worse x.store.lost x.store.counts y.store.lost y.store.counts
   shape : Shape x.history y.history
 
-abbrev Made : MarksDevice → MarksDevice → Type 0
+abbrev pub Made : MarksDevice → MarksDevice → Type 0
 Made x y = Fair x → WasNeverLent y → Since x y
 
 -- orders change nothing of it
-record Same (x y : MarksDevice) : Type 0 where
+pub record Same (x y : MarksDevice) : Type 0 where
   plans : y.plans ≡ x.plans
   empty : empty_of y ≡ empty_of x
   lent : y.store.lent ≡ x.store.lent
@@ -137,7 +137,7 @@ record Same (x y : MarksDevice) : Type 0 where
   counts : y.store.counts ≡ x.store.counts
   items : y.history.items ≡ x.history.items
 
-abbrev Still : MarksDevice → MarksDevice → Type 0
+abbrev pub Still : MarksDevice → MarksDevice → Type 0
 Still x y = WasNeverLent y → Same x y
 
 never_same : (x y : MarksDevice) → Same x y → WasNeverLent y → WasNeverLent x
@@ -162,7 +162,7 @@ still_on x y z f g n =
 same_le : (n m : ℕ) → m ≡ n → n ≤ m
 same_le n m e = omega (arith, e)
 
-same_since : (x y : MarksDevice) → Same x y → Since x y
+pub same_since : (x y : MarksDevice) → Same x y → Since x y
 same_since x y s = record {
   plans = s.plans;
   empty = s.empty;
@@ -172,7 +172,7 @@ same_since x y s = record {
     failed = same_le x.store.counts.failed y.store.counts.failed (ap (λ (c : Counts). c.failed) s.counts);
     sides = λ e. sym (ap (λ (c : Counts). c.losses.sides) s.counts) ∙ e;
   };
-  shape = record { more = []; grown = s.items ∙ behind_none x.history.items; alone = tt };
+  shape = record { more = []; grown = s.items ∙ behind_none x.history.items; alone = tt; stays = refl };
 }
   where
     behind_none : (xs : List Item) → xs ≡ xs ++ []
@@ -182,11 +182,11 @@ same_since x y s = record {
 own_same : (d : MarksDevice) → Same d d
 own_same d = record { plans = refl; empty = refl; lent = refl; lost = refl; counts = refl; items = refl }
 
-same_but : (d y : MarksDevice) → y.plans ≡ d.plans → empty_of y ≡ empty_of d → y.store.lent ≡ d.store.lent → y.store.lost ≡ d.store.lost →
+pub same_but : (d y : MarksDevice) → y.plans ≡ d.plans → empty_of y ≡ empty_of d → y.store.lent ≡ d.store.lent → y.store.lost ≡ d.store.lost →
     y.store.counts ≡ d.store.counts → y.history.items ≡ d.history.items → Same d y
 same_but d y plans empty lent lost counts items = record { plans = plans; empty = empty; lent = lent; lost = lost; counts = counts; items = items }
 
-start_same : (d : MarksDevice) (path : ℕ) → Same d (start d path)
+pub start_same : (d : MarksDevice) (path : ℕ) → Same d (start d path)
 unfolding S.start
 start_same d path = record { plans = refl; empty = refl; lent = refl; lost = refl; counts = refl; items = refl }
 
@@ -198,9 +198,9 @@ not_both : {X : Type 0} (b : Bool) → b ≡ true → b ≡ false → X
 not_both true e f = absurd (cc)
 not_both false e f = absurd (cc)
 
-lend_still : (d : MarksDevice) (to : ℕ) (t : Told) → Still d (T.hold true (lend by_plain d to) t).state
+pub lend_still : (d : MarksDevice) (to : ℕ) (t : CameTo (lend by_plain d to)) → Still d t.state
 lend_still d to t n =
-    not_both (is_some (T.hold true (lend by_plain d to) t).state.store.lent) (ap (λ (o : Option ℕ). is_some o) (lend_lends d to t).lent) n.home
+    not_both (is_some t.state.store.lent) (ap (λ (o : Option ℕ). is_some o) (lend_lends d to t).lent) n.home
 
 restore_still : (d : MarksDevice) → Still d (restore d)
 restore_still d n = not_both (has_fresh (restore d).history.items) (fresh_last d.history.items) n.none
@@ -250,10 +250,10 @@ less_of : (n m k : ℕ) → m ≡ n → m ≤ k → n ≤ k
 less_of n m k e le = omega (arith, e, le)
 
 event_since : {X : Type 0} (d : MarksDevice) (f : Fair d) (i : Interaction Bool Image MarksDevice X) (b : Base) → Begins d b → Based base_in Any b i →
-    (t : Told) → (T.hold true i t).state.plans ≡ d.plans → LosesMore d.store.lost (T.hold true i t).state.store.lost →
-    Shape d.history (T.hold true i t).state.history → Since d (T.hold true i t).state
+    (t : CameTo i) → t.state.plans ≡ d.plans → LosesMore d.store.lost t.state.store.lost →
+    Shape d.history t.state.history → Since d t.state
 event_since d f i b begins x t plans lost shape =
-    let y = (T.hold true i t).state in
+    let y = t.state in
     let k = at (stays_still x) t in
     record {
       plans = plans;
@@ -276,41 +276,41 @@ module _ (d : MarksDevice) where
   itself : LosesMore since since
   itself t e = e
 
-  command_made : (t : Told) → Made d (T.hold true (command by_plain d) t).state
+  pub command_made : (t : CameTo (command by_plain d)) → Made d t.state
   command_made t f never =
       event_since d f (command by_plain d) (kept d.store) (own_begins d) (command_based by_plain d) t
       (at (command_goes by_plain d.plans d.history d (its_own d)) t).plans
       (at (command_leaves by_plain (LostSince since) (lost_bears since) d itself) t) (command_shape d t)
 
-  second_made : (t : Told) → Made d (T.hold true (second by_plain d) t).state
+  pub second_made : (t : CameTo (second by_plain d)) → Made d t.state
   second_made t f never =
       event_since d f (second by_plain d) (kept d.store) (own_begins d) (second_based by_plain d) t
       (at (second_goes by_plain d.plans d.history d (its_own d)) t).plans
       (at (second_leaves by_plain (LostSince since) (lost_bears since) d itself) t) (second_shape d t)
 
-  background_made : (t : Told) → Made d (T.hold true (background by_plain d) t).state
+  pub background_made : (t : CameTo (background by_plain d)) → Made d t.state
   background_made t f never =
       event_since d f (background by_plain d) (kept d.store) (own_begins d) (background_based by_plain d) t
       (at (background_goes by_plain d.plans d.history d (its_own d)) t).plans
       (at (background_leaves by_plain (LostSince since) (lost_bears since) d itself) t) (background_shape d t)
 
-  lose_lost : (loss : Loss) (t : Told) → LosesMore since (T.hold true (lose by_plain d loss) t).state.store.lost
+  lose_lost : (loss : Loss) (t : CameTo (lose by_plain d loss)) → LosesMore since t.state.store.lost
   lose_lost losses.Cache t = at (lose_leaves by_plain (LostSince since) (lost_bears since).loses d losses.Cache itself (λ x h. h)) t
   lose_lost losses.Store t = at (lose_leaves by_plain (LostSince since) (lost_bears since).loses d losses.Store itself (λ x h. h)) t
   lose_lost (losses.Side side) t =
       at (lose_leaves by_plain (LostSince since) (lost_bears since).loses d (losses.Side side) itself (may_fall since side)) t
 
-  lose_made : (loss : Loss) (t : Told) → Made d (T.hold true (lose by_plain d loss) t).state
+  pub lose_made : (loss : Loss) (t : CameTo (lose by_plain d loss)) → Made d t.state
   lose_made loss t f never =
       event_since d f (lose by_plain d loss) (with_one_loss loss (kept d.store)) (loss_begins d loss) (lose_based by_plain d loss) t
       (at (lose_goes by_plain d.plans d.history d loss (its_own d)) t).plans (lose_lost loss t) (lose_shape d loss t)
 
-  reset_made : (path : ℕ) (t : Told) → Made d (T.hold true (reset by_plain d path) t).state
+  pub reset_made : (path : ℕ) (t : CameTo (reset by_plain d path)) → Made d t.state
   reset_made path t f never =
       event_since d f (reset by_plain d path) (kept d.store) (own_begins d) (based_any (reset_body by_plain d path)) t (reset_shape d path t).1
       (at (reset_leaves by_plain (LostSince since) (lost_bears since).loses d path itself) t) (reset_shape d path t).0
 
-  power_made : (t : Told) → Made d (T.hold true (power by_plain d) t).state
+  pub power_made : (t : CameTo (power by_plain d)) → Made d t.state
   power_made t f never =
       event_since d f (power by_plain d) (with_one_loss losses.Cache (kept d.store)) (loss_begins d losses.Cache) (power_based by_plain d) t
       (power_shape d t).1 (at (power_leaves by_plain (LostSince since) (lost_bears since).loses d itself) t) (power_shape d t).0
@@ -340,7 +340,7 @@ made_deeds s = record {
   resumed = λ d x fault. becomes_so Still Made s d x (resume d) refl (λ n. same_but d (resume d) refl refl refl refl refl refl) ends.Done;
 }
 
-made_pairwise : IsPairwise Still (λ lossy alone. Made)
+pub made_pairwise : IsPairwise Still (λ lossy alone. Made)
 made_pairwise = record {
   own = λ d n. own_same d;
   on = still_on;
@@ -387,7 +387,7 @@ in_all a b c e n is le more room = omega (arith, is, le, more, room)
 on_less : (a b c : ℕ) → a ≤ b → b ≤ c → a ≤ c
 on_less a b c le more = omega (arith, le, more)
 
-excused_on : (x y : MarksDevice) → Made x y → Fair x → explained_on x y ≡ true → PaidFor x → HasExcusedChecks x → HasExcusedChecks y
+pub excused_on : (x y : MarksDevice) → Made x y → Fair x → explained_on x y ≡ true → PaidFor x → HasExcusedChecks x → HasExcusedChecks y
 excused_on x y made fair is paid excused never =
     let e = made fair never in
     let before = never_before x y e.lent e.shape never in

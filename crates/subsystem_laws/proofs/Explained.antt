@@ -47,8 +47,6 @@ use Rattle.plain_defs.specs.History.{OpenEntry, History, entry_of, resets_of, pu
 use Rattle.plain_defs.specs.Journal.{replay, last_sense}
 use Rattle.plain_defs.specs.Legal.{is_used, is_started}
 use Rattle.plain_defs.specs.PlainState.{PlainState}
-use Rattle.device_outside.specs.Told as T
-use Rattle.device_outside.specs.Told.{Told}
 use Rattle.device_defs.specs.declared.answers.SecondEnd.{SecondEnd}
 use Rattle.device_defs.specs.Command.{has_loss, command}
 use Rattle.device_defs.specs.Contents.{by_plain}
@@ -66,7 +64,7 @@ use Rattle.device_defs.specs.Store.{Origin, OfCommand, OfCut, OfBackground, Half
 use Rattle.device_laws.specs.Unharmed.{ends_with_equipment_check}
 use Rattle.device_laws.proofs.Always.{Always, always_done, always_then}
 use Rattle.device_laws.proofs.BasedEvents.{command_based, second_based}
-use Rattle.device_laws.proofs.Had.{Had, had_done, had_then, held}
+use Rattle.device_laws.proofs.Had.{Had, had_done, had_then}
 use Rattle.device_laws.proofs.KeptEvents.{Continues, always_any, always_if, command_goes, second_goes, background_goes, lose_goes}
 use Rattle.device_laws.proofs.KeptHistories.{AreNot, same_came, extends_itself}
 use Rattle.device_laws.proofs.LastCommands.{Tells, Adds, its_effect, command_adds, halfway, second_adds}
@@ -76,7 +74,6 @@ use Rattle.device_laws.proofs.PlainTurns.{Follows, RunsAt, Halfway, IsMid, IsMid
 use Rattle.device_laws.proofs.PlainEvents.{had_always}
 use Rattle.device_laws.proofs.PlainStores.{Core, core_of as plain_core}
 use Rattle.device_laws.proofs.PlainWalks.{hear_same}
-use Rattle.device_laws.proofs.Served.{served_at}
 use Rattle.device_laws.proofs.TouchedTracks.{command_touched}
 use Rattle.device_laws.proofs.TrackMarks.{marks_are_faithful}
 use Rattle.device_laws.proofs.UncheckedEvents.{equipment_checks, acts_same}
@@ -86,9 +83,10 @@ use Rattle.device_laws.proofs.WriteLooks.{edited_is_write}
 use Rattle.subsystem_defs.specs.Beside.{behind_first, new_items}
 use Rattle.subsystem_defs.specs.Promised.{empty_of, explains, explained_first, explained_on}
 use Rattle.subsystem_laws.specs.Causes.{checks_of, EachPair}
+use Rattle.subsystem_laws.specs.Came.{CameTo}
+use Rattle.subsystem_laws.proofs.Came.{at, came_had, came_served}
 use Rattle.subsystem_laws.proofs.CheckCauses.{by_failed, decided, second_checks, reset_same, power_same, loss_same, background_same, restore_same}
 use Rattle.subsystem_laws.proofs.GoodMarks.{runs_home, half_home, within}
-use Rattle.subsystem_laws.proofs.LendBase.{at}
 use Rattle.subsystem_laws.proofs.PlainRuns.{Plainly}
 use Rattle.subsystem_laws.proofs.SteeredRuns.{Steered}
 use Rattle.subsystem_laws.proofs.TracksKept.{Fair}
@@ -261,8 +259,8 @@ module _ (d : MarksDevice) (f : Fair d) (p : Plainly d) (s : Steered d) (lt : d.
     abbrev writes : Bool
     writes = is_write (command_of (word_of chain).command)
 
-    adds : (t : Told) → Adds p.number (empty_of d) d (plainly_of d p) o running chain is (T.hold true (command by_plain d) t).state.history
-    adds t = held true (command_adds p.number (empty_of d) d (plainly_of d p) o running chain is now whole) t
+    adds : (t : CameTo (command by_plain d)) → Adds p.number (empty_of d) d (plainly_of d p) o running chain is t.state.history
+    adds t = came_had (command_adds p.number (empty_of d) d (plainly_of d p) o running chain is now whole) t
 
     -- each of the causes
     told_cause : (y : MarksDevice) → Grows d.history y.history → Adds p.number (empty_of d) d (plainly_of d p) o running chain is y.history →
@@ -270,10 +268,10 @@ module _ (d : MarksDevice) (f : Fair d) (p : Plainly d) (s : Steered d) (lt : d.
         explains d y e (last_command d.plans (replay d.plans (empty_of d) d.history.items) e) ≡ true) → explained_on d y ≡ true
     told_cause y g a h = explained_cause d y g (λ e xs grown how. h e (a e xs grown how))
 
-    pub command_explained : (t : Told) → Grows d.history (T.hold true (command by_plain d) t).state.history →
-        explained_on d (T.hold true (command by_plain d) t).state ≡ true
+    pub command_explained : (t : CameTo (command by_plain d)) → Grows d.history t.state.history →
+        explained_on d t.state ≡ true
     command_explained t g =
-        let y = (T.hold true (command by_plain d) t).state in
+        let y = t.state in
         let touched = (its_effect p.number (empty_of d) d (plainly_of d p) o running chain is).touched in
         by_failed d f (command by_plain d) (command_based by_plain d) t not_full (rose_explains y g)
         (λ less same.
@@ -285,12 +283,12 @@ module _ (d : MarksDevice) (f : Fair d) (p : Plainly d) (s : Steered d) (lt : d.
         (λ none. told_cause y g (adds t) (λ e tells. write_explains y e
         (ap (λ (b : Bool). b && not (some_up d.store)) tells.writes ∙ none)))
         (λ some. explained_same d y g
-        (served_at (λ e _. equipment_checks e.history ≡ equipment_checks d.history) true (command by_plain d) (command_based by_plain d) lt
+        (came_served (λ e _. equipment_checks e.history ≡ equipment_checks d.history) (command_based by_plain d) lt
         (command_touched p.number (empty_of d) d (plainly_of d p) o running chain is now whole (f.good.well (runs_home d f.good o running))
         (within d f.good chain now) kept
         (λ w. takes_by d.store.a.up d.store.b.up d.store.held (λ e. (s.led e).0) (unless_write writes (some_up d.store) some w)) stays) t same)))))
       where
-        lost_behind : (y : MarksDevice) → y.store.counts.failed ≡ d.store.counts.failed → (t : Told) → (T.hold true (command by_plain d) t).state ≡ y →
+        lost_behind : (y : MarksDevice) → y.store.counts.failed ≡ d.store.counts.failed → (t : CameTo (command by_plain d)) → t.state ≡ y →
             (e : ProgramEntry) → Tells p.number (empty_of d) d (plainly_of d p) o running chain is e →
             has_lost d.store.lost (its_effect p.number (empty_of d) d (plainly_of d p) o running chain is).touched ≡ true →
             has_lost y.store.lost (last_command d.plans (replay d.plans (empty_of d) d.history.items) e).touched ≡ true
@@ -302,16 +300,16 @@ module _ (d : MarksDevice) (f : Fair d) (p : Plainly d) (s : Steered d) (lt : d.
             ∙ ap (λ (l : List Bool). has_lost l (its_effect p.number (empty_of d) d (plainly_of d p) o running chain is).touched)
             (ap (λ (z : MarksDevice). z.store.lost) (sym at_y) ∙ fine.lost) ∙ lost
 
-  by_before : (o : OpenEntry) → d.history.running ≡ Some o → d.store.half ≡ None → (k : Option ChainState) → (plainly_of d p).before ≡ k → (t : Told) →
-      Grows d.history (T.hold true (command by_plain d) t).state.history → explained_on d (T.hold true (command by_plain d) t).state ≡ true
+  by_before : (o : OpenEntry) → d.history.running ≡ Some o → d.store.half ≡ None → (k : Option ChainState) → (plainly_of d p).before ≡ k →
+      (t : CameTo (command by_plain d)) → Grows d.history t.state.history → explained_on d t.state ≡ true
   by_before o running whole None is t g =
       absurd (subst (λ (k : Option ChainState). RunsAt d.plans (replay d.plans (empty_of d) d.history.items) (Some o) k) is
       (subst (λ (r : Option OpenEntry). RunsAt d.plans (replay d.plans (empty_of d) d.history.items) r (plainly_of d p).before) running
       (plainly_of d p).runs))
   by_before o running whole (Some chain) is t g = command_explained o running whole chain is t g
 
-  pub commands_explained : (o : OpenEntry) → d.history.running ≡ Some o → d.store.half ≡ None → (t : Told) →
-      Grows d.history (T.hold true (command by_plain d) t).state.history → explained_on d (T.hold true (command by_plain d) t).state ≡ true
+  pub commands_explained : (o : OpenEntry) → d.history.running ≡ Some o → d.store.half ≡ None → (t : CameTo (command by_plain d)) →
+      Grows d.history t.state.history → explained_on d t.state ≡ true
   commands_explained o running whole t g = by_before o running whole (plainly_of d p).before refl t g
 
   -- The other part of a write
@@ -323,16 +321,16 @@ module _ (d : MarksDevice) (f : Fair d) (p : Plainly d) (s : Steered d) (lt : d.
         (λ up. s.half h.track (ap (option_map (λ (k : HalfWrite (Unit {0})). k.track)) there) up) level takes
 
     of_command : (bypass : Bool) (edit : Edit) → h.origin ≡ OfCommand bypass edit → (o : OpenEntry) → d.history.running ≡ Some o →
-        not (some_up d.store) ≡ true → (t : Told) → Grows d.history (T.hold true (second by_plain d) t).state.history →
-        explained_on d (T.hold true (second by_plain d) t).state ≡ true
+        not (some_up d.store) ≡ true → (t : CameTo (second by_plain d)) → Grows d.history t.state.history →
+        explained_on d t.state ≡ true
     of_command bypass edit origin o running none t g =
         let fol = plainly_of d p in
         let mid = halfway p.number (empty_of d) d fol h there bypass edit origin o running in
-        let y = (T.hold true (second by_plain d) t).state in
+        let y = t.state in
         let write = edited_is_write mid.origin.fixed d.paths (track_in d.store.plain) o.path mid.origin.at.stance (word_of mid.origin)
         (record { track = h.track; edit = edit }) (P.its_edit p.number (empty_of d) d fol o running h.track edit mid) in
         explained_cause d y g (λ e xs grown how.
-        let tells = held true (second_adds p.number (empty_of d) d fol h there bypass edit origin o running) t e xs grown how in
+        let tells = came_had (second_adds p.number (empty_of d) d fol h there bypass edit origin o running) t e xs grown how in
         let last = last_command d.plans (replay d.plans (empty_of d) d.history.items) e in
         or_third (has_lost y.store.lost last.touched) (not (y.store.counts.failed - d.store.counts.failed == 0)) (last.writes && not (some_up d.store))
         (has_loss e.acts) (both_true last.writes (not (some_up d.store)) (tells.writes ∙ write) none))
@@ -345,8 +343,8 @@ module _ (d : MarksDevice) (f : Fair d) (p : Plainly d) (s : Steered d) (lt : d.
         (plainly_of d p).mid)
 
     by_running : (bypass : Bool) (edit : Edit) → h.origin ≡ OfCommand bypass edit → (r : Option OpenEntry) → d.history.running ≡ r →
-        not (some_up d.store) ≡ true → (t : Told) → Grows d.history (T.hold true (second by_plain d) t).state.history →
-        explained_on d (T.hold true (second by_plain d) t).state ≡ true
+        not (some_up d.store) ≡ true → (t : CameTo (second by_plain d)) → Grows d.history t.state.history →
+        explained_on d t.state ≡ true
     by_running bypass edit origin (Some o) running none t g = of_command bypass edit origin o running none t g
     by_running bypass edit origin None idle none t g = absurd (some_none d.history.running (its_half bypass edit origin).runs idle)
 
@@ -371,30 +369,30 @@ module _ (d : MarksDevice) (f : Fair d) (p : Plainly d) (s : Steered d) (lt : d.
         (λ y done _. other_ends (with_store (record (event_begun d) { store = z }) y) done h.origin other (acts_same d.history y.acts)))))
         (λ y a g. had_then (had_always (always_any (ended by_plain (waiting_count by_plain d.store) y.store))) (λ z _ _. had_done g))
 
-    by_origin : (origin : Origin) → h.origin ≡ origin → not (some_up d.store) ≡ true → (t : Told) →
-        Grows d.history (T.hold true (second by_plain d) t).state.history → explained_on d (T.hold true (second by_plain d) t).state ≡ true
+    by_origin : (origin : Origin) → h.origin ≡ origin → not (some_up d.store) ≡ true → (t : CameTo (second by_plain d)) →
+        Grows d.history t.state.history → explained_on d t.state ≡ true
     by_origin (OfCommand bypass edit) is none t g = by_running bypass edit is d.history.running refl none t g
     by_origin (OfCut bypass) is none t g =
-        explained_same d (T.hold true (second by_plain d) t).state g
-        (held true (other_same (λ b e at. absurd (let both : OfCut bypass ≡ OfCommand b e = sym is ∙ at in cc))) t)
+        explained_same d t.state g
+        (came_had (other_same (λ b e at. absurd (let both : OfCut bypass ≡ OfCommand b e = sym is ∙ at in cc))) t)
     by_origin OfBackground is none t g =
-        explained_same d (T.hold true (second by_plain d) t).state g
-        (held true (other_same (λ b e at. absurd (let both : OfBackground ≡ OfCommand b e = sym is ∙ at in cc))) t)
+        explained_same d t.state g
+        (came_had (other_same (λ b e at. absurd (let both : OfBackground ≡ OfCommand b e = sym is ∙ at in cc))) t)
 
-    pub second_explained : (t : Told) → Grows d.history (T.hold true (second by_plain d) t).state.history →
-        explained_on d (T.hold true (second by_plain d) t).state ≡ true
+    pub second_explained : (t : CameTo (second by_plain d)) → Grows d.history t.state.history →
+        explained_on d t.state ≡ true
     second_explained t g =
-        let y = (T.hold true (second by_plain d) t).state in
+        let y = t.state in
         by_failed d f (second by_plain d) (second_based by_plain d) t not_full (rose_explains y g)
         (λ less same.
         decided (takes_b d.store) (λ takes. by_tried same (inl takes))
         (λ none. decided (level_at d.store.a h.track) (λ level. by_tried same (inr level))
         (λ off. by_origin h.origin refl (untried_up none off) t g)))
       where
-        by_tried : (T.hold true (second by_plain d) t).state.store.counts.failed ≡ d.store.counts.failed →
-            ((takes_b d.store ≡ true) ⊎ (level_at d.store.a h.track ≡ true)) → explained_on d (T.hold true (second by_plain d) t).state ≡ true
+        by_tried : t.state.store.counts.failed ≡ d.store.counts.failed →
+            ((takes_b d.store ≡ true) ⊎ (level_at d.store.a h.track ≡ true)) → explained_on d t.state ≡ true
         by_tried same tried =
-            explained_same d (T.hold true (second by_plain d) t).state g
+            explained_same d t.state g
             (at (where_none_failed (λ e _. equipment_checks e.history ≡ equipment_checks d.history) (second_based by_plain d) lt
             (second_checks (equipment_checks d.history) d (f.good.well (half_home d f.good h there)) h there tried refl)) t same)
 
@@ -433,10 +431,10 @@ module _ (d : MarksDevice) where
   reset_grows_by path None =
       always_if (has_used d.history path) (always_done (reset_grows d.history path 0 d.history.running)) (always_done (grows_none d.history d.history refl))
 
-  pub reset_explained : (path : ℕ) (t : Told) → explained_on d (T.hold true (reset by_plain d path) t).state ≡ true
+  pub reset_explained : (path : ℕ) (t : CameTo (reset by_plain d path)) → explained_on d t.state ≡ true
   unfolding U.reset
   reset_explained path t =
-      explained_same d (T.hold true (reset by_plain d path) t).state (at (reset_grows_by path d.history.running) t) (reset_same d path t)
+      explained_same d t.state (at (reset_grows_by path d.history.running) t) (reset_same d path t)
 
   power_growing : Always (power by_plain d) (λ y _. Grows d.history y.history)
   unfolding U.power
@@ -446,8 +444,8 @@ module _ (d : MarksDevice) where
       (λ z _ _. always_done (power_grows d.history (counts_one_by d.store.half) d.history.running)))
       (λ y a g. always_then (always_any (ended by_plain (waiting_count by_plain d.store) y.store)) (λ z _ _. always_done g))
 
-  pub power_explained : (t : Told) → explained_on d (T.hold true (power by_plain d) t).state ≡ true
-  power_explained t = explained_same d (T.hold true (power by_plain d) t).state (at power_growing t) (power_same d t)
+  pub power_explained : (t : CameTo (power by_plain d)) → explained_on d t.state ≡ true
+  power_explained t = explained_same d t.state (at power_growing t) (power_same d t)
 
   grows_of : (y : MarksDevice) → Continues d.plans d.history y → Grows d.history y.history
   grows_of y k = record { more = k.history.more; grown = k.history.grown }
@@ -455,26 +453,26 @@ module _ (d : MarksDevice) where
   pub its_own : Continues d.plans d.history d
   its_own = record { plans = refl; history = extends_itself d.history }
 
-  pub lose_explained : (loss : Loss) (t : Told) → explained_on d (T.hold true (lose by_plain d loss) t).state ≡ true
+  pub lose_explained : (loss : Loss) (t : CameTo (lose by_plain d loss)) → explained_on d t.state ≡ true
   lose_explained loss t =
-      let y = (T.hold true (lose by_plain d loss) t).state in
+      let y = t.state in
       explained_same d y (grows_of y (at (lose_goes by_plain d.plans d.history d loss its_own) t)) (loss_same d loss t)
 
-  pub background_explained : (t : Told) → explained_on d (T.hold true (background by_plain d) t).state ≡ true
+  pub background_explained : (t : CameTo (background by_plain d)) → explained_on d t.state ≡ true
   background_explained t =
-      let y = (T.hold true (background by_plain d) t).state in
+      let y = t.state in
       explained_same d y (grows_of y (at (background_goes by_plain d.plans d.history d its_own) t)) (background_same d t)
 
-  pub command_grows : (t : Told) → Grows d.history (T.hold true (command by_plain d) t).state.history
+  pub command_grows : (t : CameTo (command by_plain d)) → Grows d.history t.state.history
   command_grows t = grows_of _ (at (command_goes by_plain d.plans d.history d its_own) t)
 
-  pub second_grows : (t : Told) → Grows d.history (T.hold true (second by_plain d) t).state.history
+  pub second_grows : (t : CameTo (second by_plain d)) → Grows d.history t.state.history
   second_grows t = grows_of _ (at (second_goes by_plain d.plans d.history d its_own) t)
 
 -- The run
 
 -- what orders leave
-abbrev AddsNone : MarksDevice → MarksDevice → Type 0
+abbrev pub AddsNone : MarksDevice → MarksDevice → Type 0
 AddsNone x y = Grows x.history y.history × (checks_of y ≡ checks_of x)
 
 -- of a device with a plain history, whose failed calls are counted
@@ -487,10 +485,10 @@ grows_on x y z f g = record {
   grown = g.grown ∙ ap (λ (xs : List Item). xs ++ g.more) f.grown ∙ append_assoc x.items f.more g.more;
 }
 
-same_grows : (x y : MarksDevice) → y.history ≡ x.history → AddsNone x y
+pub same_grows : (x y : MarksDevice) → y.history ≡ x.history → AddsNone x y
 same_grows x y e = (grows_none x.history y.history (ap (λ (h : History). h.items) e), ap (λ (h : History). equipment_checks h) e)
 
-start_adds : (d : MarksDevice) (path : ℕ) → AddsNone d (start d path)
+pub start_adds : (d : MarksDevice) (path : ℕ) → AddsNone d (start d path)
 unfolding S.start
 start_adds d path = (grows_none d.history (start d path).history refl, refl)
 
@@ -498,8 +496,8 @@ replace_adds : (d : MarksDevice) (side : Side) → AddsNone d (replace d side)
 replace_adds d sides.A = same_grows d (replace d sides.A) refl
 replace_adds d sides.B = same_grows d (replace d sides.B) refl
 
-lend_adds : (d : MarksDevice) (to : ℕ) (t : Told) → AddsNone d (T.hold true (lend by_plain d to) t).state
-lend_adds d to t = same_grows d (T.hold true (lend by_plain d to) t).state (at (lend_past d to) t)
+pub lend_adds : (d : MarksDevice) (to : ℕ) (t : CameTo (lend by_plain d to)) → AddsNone d t.state
+lend_adds d to t = same_grows d t.state (at (lend_past d to) t)
 
 deeds_explain : (s : Subsystem) → AreSo Fair s.mounted → IsDeedwise s (KeepsDeed AddsNone Explains s)
 deeds_explain s q = record {
@@ -532,7 +530,7 @@ deeds_explain s q = record {
   resumed = λ d x fault. becomes_so AddsNone Explains s d x (resume d) refl (same_grows d (resume d) refl) ends.Done;
 }
 
-explained_pairwise : IsPairwise AddsNone (λ lossy alone. Explains)
+pub explained_pairwise : IsPairwise AddsNone (λ lossy alone. Explains)
 explained_pairwise = record {
   own = λ d. same_grows d d refl;
   on = λ x y z f g. (grows_on x.history y.history z.history f.0 g.0, g.1 ∙ f.1);

@@ -49,7 +49,7 @@ use Rattle.device_defs.specs.Background.{
   recover_first,
   work,
 }
-use Rattle.device_defs.specs.Choosing.{fast_by, choose_loose, choose_firm, choose, provisionally_written}
+use Rattle.device_defs.specs.Choosing.{choose}
 use Rattle.device_defs.specs.Command as N
 use Rattle.device_defs.specs.Command.{
   Went,

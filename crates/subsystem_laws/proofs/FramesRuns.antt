@@ -12,8 +12,6 @@ use Rattle.plain_defs.specs.Journal.{Plans}
 use Rattle.track_image.specs.Image.{Image}
 use Rattle.track_table.proofs.Places.{empty_places}
 use Rattle.device_outside.specs.Interaction.{Interaction}
-use Rattle.device_outside.specs.Told as T
-use Rattle.device_outside.specs.Told.{Told}
 use Rattle.device_defs.specs.declared.counts.Losses.{Losses}
 use Rattle.device_defs.specs.Command.{command}
 use Rattle.device_defs.specs.Contents.{by_plain}
@@ -55,8 +53,10 @@ use Rattle.subsystem_defs.specs.Refusals as R
 use Rattle.subsystem_defs.specs.Refusals.{replace_fault}
 use Rattle.subsystem_laws.specs.Excused.{HasExcusedTracks, HaveExcusedTracks}
 use Rattle.subsystem_laws.specs.Served.{IsServedDeck}
+use Rattle.subsystem_laws.specs.Came.{CameTo}
+use Rattle.subsystem_laws.proofs.Came.{at}
 use Rattle.subsystem_laws.proofs.GoodMarks.{home_before, by_lent, lent_is, within}
-use Rattle.subsystem_laws.proofs.LendBase.{at, stays_still, lend_lends}
+use Rattle.subsystem_laws.proofs.LendBase.{stays_still, lend_lends}
 use Rattle.subsystem_laws.proofs.RunLines.{AnyEvent}
 use Rattle.subsystem_laws.proofs.TracksKept.{Fair, fair_kept, new_fair, none_less, below_top, replace_same}
 use Rattle.subsystem_laws.proofs.Walks.{IsKept, AreSo, LeavesSo, run_keeps, behind_weaker}
@@ -71,10 +71,10 @@ pub record Framed (d : MarksDevice) : Type 0 where
 module _ (d : MarksDevice) (f : Framed d) where
   -- in which of sides and cache none more is lost
   kept_before : {X : Type 0} (b : Base) (i : Interaction Bool Image MarksDevice X) → failed_in b ≡ d.store.counts.failed →
-      b.counts.losses.sides ≡ d.store.counts.losses.sides → b.counts.losses.cache ≡ d.store.counts.losses.cache → Based base_in Any b i → (t : Told) →
-      CacheKept (T.hold true i t).state.store → CacheKept d.store
+      b.counts.losses.sides ≡ d.store.counts.losses.sides → b.counts.losses.cache ≡ d.store.counts.losses.cache → Based base_in Any b i → (t : CameTo i) →
+      CacheKept t.state.store → CacheKept d.store
   kept_before b i failed sides cache x t n =
-      let y = (T.hold true i t).state in
+      let y = t.state in
       let losses_are = (at (stays_still x) t).3 in
       let le : failed_in b ≤ top = subst (λ (k : ℕ). k ≤ top) (sym failed) f.fair.most in
       record {
@@ -86,10 +86,10 @@ module _ (d : MarksDevice) (f : Framed d) where
   -- in which none is
   uncached_at : {X : Type 0} (i : Interaction Bool Image MarksDevice X) → Based base_in Any (kept d.store) i → is_some d.store.lent ≡ false →
       (IsFramed d.store → HasFrames by_plain (plates_of d.store) →
-      Lucky (λ y (a : X). Fine (core_of d.store) (core_of y.store) × HasFrames by_plain (plates_of y.store)) i) → (t : Told) →
-      IsUncached (T.hold true i t).state.store
+      Lucky (λ y (a : X). Fine (core_of d.store) (core_of y.store) × HasFrames by_plain (plates_of y.store)) i) → (t : CameTo i) →
+      IsUncached t.state.store
   uncached_at {X} i x was goes t n =
-      let y = (T.hold true i t).state in
+      let y = t.state in
       let before = kept_before (kept d.store) i refl refl refl x t n in
       let w = f.un was before in
       let k = at
@@ -99,7 +99,7 @@ module _ (d : MarksDevice) (f : Framed d) where
 
   command_framed : LeavesSo Fair (command by_plain d) → d.store.half ≡ None → LeavesSo Framed (command by_plain d)
   command_framed fair none = λ t.
-      let y = (T.hold true (command by_plain d) t).state in
+      let y = t.state in
       let x = command_based by_plain d in
       record {
         fair = fair t;
@@ -113,7 +113,7 @@ module _ (d : MarksDevice) (f : Framed d) where
 
   second_framed : LeavesSo Fair (second by_plain d) → LeavesSo Framed (second by_plain d)
   second_framed fair = λ t.
-      let y = (T.hold true (second by_plain d) t).state in
+      let y = t.state in
       let x = second_based by_plain d in
       record {
         fair = fair t;
@@ -128,7 +128,7 @@ module _ (d : MarksDevice) (f : Framed d) where
 
   background_framed : LeavesSo Fair (background by_plain d) → d.store.half ≡ None → LeavesSo Framed (background by_plain d)
   background_framed fair none = λ t.
-      let y = (T.hold true (background by_plain d) t).state in
+      let y = t.state in
       let x = background_based by_plain d in
       record {
         fair = fair t;
@@ -141,7 +141,7 @@ module _ (d : MarksDevice) (f : Framed d) where
 
   cut_framed : (path : ℕ) → LeavesSo Fair (reset by_plain d path) → LeavesSo Framed (reset by_plain d path)
   cut_framed path fair = λ t.
-      let y = (T.hold true (reset by_plain d path) t).state in
+      let y = t.state in
       let x = based_any (reset_body by_plain d path) in
       record {
         fair = fair t;
@@ -157,7 +157,7 @@ module _ (d : MarksDevice) (f : Framed d) where
         absurd (some_counted d.store.counts.losses.cache (ap (λ (l : Losses). l.cache) (sym (at (stays_still (power_based by_plain d)) t).3) ∙ n.cache));
   }
 
-  loss_un : (loss : Loss) (t : Told) → is_some d.store.lent ≡ false → IsUncached (T.hold true (lose by_plain d loss) t).state.store
+  loss_un : (loss : Loss) (t : CameTo (lose by_plain d loss)) → is_some d.store.lent ≡ false → IsUncached t.state.store
   loss_un losses.Cache t was n =
       absurd (some_counted d.store.counts.losses.cache
       (ap (λ (l : Losses). l.cache) (sym (at (stays_still (lose_based by_plain d losses.Cache)) t).3) ∙ n.cache))
@@ -171,7 +171,7 @@ module _ (d : MarksDevice) (f : Framed d) where
 
   loss_framed : (loss : Loss) → LeavesSo Fair (lose by_plain d loss) → LeavesSo Framed (lose by_plain d loss)
   loss_framed loss fair = λ t.
-      let y = (T.hold true (lose by_plain d loss) t).state in
+      let y = t.state in
       record { fair = fair t; un = λ home. loss_un loss t (home_before d y (at (stays_still (lose_based by_plain d loss)) t).2 false home) }
 
   start_framed : (path : ℕ) → Fair (start d path) → Framed (start d path)
@@ -182,7 +182,7 @@ module _ (d : MarksDevice) (f : Framed d) where
 
   lend_framed : (to : ℕ) → LeavesSo Fair (lend by_plain d to) → LeavesSo Framed (lend by_plain d to)
   lend_framed to fair = λ t.
-      let y = (T.hold true (lend by_plain d to) t).state in
+      let y = t.state in
       record {
         fair = fair t;
         un = λ home. absurd (let lent : is_some y.store.lent ≡ true = ap
@@ -212,7 +212,7 @@ module _ (d : MarksDevice) (f : Framed d) where
         };
       }
 
-framed_kept : IsKept Framed AnyEvent
+pub framed_kept : IsKept Framed AnyEvent
 framed_kept = record {
   started = λ d path n may fault f. start_framed d f path (fair_kept.started d path n may fault f.fair);
   commanded = λ d o running whole f. command_framed d f (fair_kept.commanded d o running whole f.fair) whole;
@@ -221,10 +221,10 @@ framed_kept = record {
   cut = λ d path f. cut_framed d f path (fair_kept.cut d path f.fair);
   lost_cache = λ d f. loss_framed d f losses.Cache (fair_kept.lost_cache d f.fair);
   lost_store = λ d f. loss_framed d f losses.Store (fair_kept.lost_store d f.fair);
-  lost_side = λ d side fault f. loss_framed d f (losses.Side side) (fair_kept.lost_side d side fault f.fair);
+  lost_side = λ d side home f. loss_framed d f (losses.Side side) (fair_kept.lost_side d side home f.fair);
   lost_power = λ d f. power_framed d f (fair_kept.lost_power d f.fair);
   held = λ d fault f. record { fair = fair_kept.held d fault f.fair; un = λ home. (held_uncached d (f.un home)).0 };
-  resumed = λ d fault f. record { fair = fair_kept.resumed d fault f.fair; un = λ home. (held_uncached d (f.un home)).1 };
+  resumed = λ d pair f. record { fair = fair_kept.resumed d pair f.fair; un = λ home. (held_uncached d (f.un home)).1 };
   replaced = λ d side fault f. replace_framed d f side fault (fair_kept.replaced d side fault f.fair);
   lent = λ x y fault e f. lend_framed y f x.store.device (fair_kept.lent x y fault e.fair f.fair);
   joins = λ d single f. record { fair = fair_kept.joins d single f.fair; un = λ home. (joined_uncached d (f.un home)).0 };
@@ -234,7 +234,7 @@ framed_kept = record {
 
 -- The run
 
-new_framed : (number : ℕ) (on : Geometry) (n : ℕ) (plans : Plans) → Fair (new_device number on n plans) → Framed (new_device number on n plans)
+pub new_framed : (number : ℕ) (on : Geometry) (n : ℕ) (plans : Plans) → Fair (new_device number on n plans) → Framed (new_device number on n plans)
 new_framed number on n plans fair = record {
   fair = fair;
   un = λ home none. record {
@@ -256,7 +256,7 @@ opened_framed deck (d ∷ ds) h = (
 )
 
 -- one that is lent has none either
-excuses_tracks : (d : MarksDevice) → Framed d → HasExcusedTracks d
+pub excuses_tracks : (d : MarksDevice) → Framed d → HasExcusedTracks d
 excuses_tracks d f may =
     by_lent d (λ home. excused_tracks d.store (f.fair.un home) (f.un home) may) (λ away. kept_counts d.store (f.fair.good.gone away).store.lost)
 

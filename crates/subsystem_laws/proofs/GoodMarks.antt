@@ -14,8 +14,6 @@ use Rattle.loss_model.specs.declared.Loss.TheVariants as losses
 use Rattle.track_table.proofs.Places.{empty_places}
 use Rattle.plain_defs.specs.History.{OpenEntry}
 use Rattle.plain_defs.specs.Journal.{Plans}
-use Rattle.device_outside.specs.Told as T
-use Rattle.device_outside.specs.Told.{Told}
 use Rattle.device_defs.specs.Between.{HasSizes}
 use Rattle.device_defs.specs.Command.{command}
 use Rattle.device_defs.specs.Contents.{by_plain}
@@ -47,12 +45,13 @@ use Rattle.subsystem_defs.specs.Decks.{opened_device, opened, run_of}
 use Rattle.subsystem_defs.specs.Lines.{asked_by}
 use Rattle.subsystem_defs.specs.Refusals as R
 use Rattle.subsystem_defs.specs.Happening.{is_lent_to}
-use Rattle.subsystem_defs.specs.Refusals.{pair_fault, suspend_fault, resume_fault, fail_fault, replace_fault, unpair_fault}
+use Rattle.subsystem_defs.specs.Refusals.{pair_fault, suspend_fault, replace_fault, unpair_fault}
 use Rattle.subsystem_laws.specs.Causes.{HasGoodMarks, HaveGoodMarks}
 use Rattle.subsystem_laws.specs.Served.{IsServedDeck}
+use Rattle.subsystem_laws.proofs.Came.{at}
 use Rattle.subsystem_laws.proofs.ChainPlaces.{on_is_within, begins_on}
 use Rattle.subsystem_laws.proofs.ChainRuns.{HasChainOn, command_on, second_on, background_on, lose_on, power_on, reset_on, lend_on}
-use Rattle.subsystem_laws.proofs.LendBase.{at, stays_still, lend_lends}
+use Rattle.subsystem_laws.proofs.LendBase.{stays_still, lend_lends}
 use Rattle.subsystem_laws.proofs.RunLines.{AnyEvent}
 use Rattle.subsystem_laws.proofs.Walks.{IsFree, IsKept, none_lent, AreSo, LeavesSo, run_keeps, behind_weaker}
 use Rattle.subsystem_defs.proofs.Unrefused.{first_none, where_none, is_not}
@@ -118,7 +117,7 @@ whole_single d w single = w.here.whole single
 module _ (d : MarksDevice) (g : Good d) where
   command_good : (o : OpenEntry) → d.history.running ≡ Some o → d.store.half ≡ None → LeavesSo Good (command by_plain d)
   command_good o running none = λ t.
-      let y = (T.hold true (command by_plain d) t).state in
+      let y = t.state in
       let b = at (stays_still (command_based by_plain d)) t in
       goes d y b.1 b.2 (at (command_on by_plain d.store.cylinders g.some d g.chain) t)
       (λ w. (at (command_keeps_good by_plain marks_are_faithful (tracks_of d.store) (IsWithin (tracks_of d.store))
@@ -127,7 +126,7 @@ module _ (d : MarksDevice) (g : Good d) where
 
   second_good : (h : HalfWrite (Unit {0})) → d.store.half ≡ Some h → LeavesSo Good (second by_plain d)
   second_good h is = λ t.
-      let y = (T.hold true (second by_plain d) t).state in
+      let y = t.state in
       let b = at (stays_still (second_based by_plain d)) t in
       goes d y b.1 b.2 (at (second_on by_plain d.store.cylinders g.some d g.chain) t)
       (λ w. (at (second_keeps_good by_plain marks_are_faithful d w) t).well)
@@ -135,34 +134,31 @@ module _ (d : MarksDevice) (g : Good d) where
 
   background_good : d.store.half ≡ None → LeavesSo Good (background by_plain d)
   background_good none = λ t.
-      let y = (T.hold true (background by_plain d) t).state in
+      let y = t.state in
       let b = at (stays_still (background_based by_plain d)) t in
       goes d y b.1 b.2 (at (background_on by_plain d.store.cylinders g.some d g.chain) t)
       (λ w. (at (background_keeps_good by_plain marks_are_faithful d w none) t).well) (λ away x. at (background_away by_plain d x) t) g
 
   loss_good : (loss : Loss) → (is_some d.store.lent ≡ true → (side : Side) → loss ≡ losses.Side side → ⊥) → LeavesSo Good (lose by_plain d loss)
   loss_good loss other = λ t.
-      let y = (T.hold true (lose by_plain d loss) t).state in
+      let y = t.state in
       let b = at (stays_still (lose_based by_plain d loss)) t in
       goes d y b.1 b.2 (at (lose_on by_plain d.store.cylinders g.some d loss g.chain) t)
       (λ w. (at (loss_keeps_good by_plain marks_are_faithful d loss w) t).well) (λ away x. at (loss_away by_plain d loss (other away) x) t) g
 
-  side_good : (side : Side) → fail_fault d side ≡ None → LeavesSo Good (lose by_plain d (losses.Side side))
-  unfolding R.fail_fault
-  side_good side e =
-      loss_good (losses.Side side)
-      (λ away s is. not_both (is_some d.store.lent) away (none_lent d.store.lent (first_none (R.lent_by d.store.lent) _ e).0))
+  side_good : (side : Side) → is_some d.store.lent ≡ false → LeavesSo Good (lose by_plain d (losses.Side side))
+  side_good side home = loss_good (losses.Side side) (λ away s is. not_both (is_some d.store.lent) away home)
 
   power_good : LeavesSo Good (power by_plain d)
   power_good = λ t.
-      let y = (T.hold true (power by_plain d) t).state in
+      let y = t.state in
       let b = at (stays_still (power_based by_plain d)) t in
       goes d y b.1 b.2 (at (power_on by_plain d.store.cylinders g.some d) t)
       (λ w. (at (power_keeps_good by_plain marks_are_faithful d w) t).well) (λ away x. at (power_away by_plain d x) t) g
 
   reset_good : (path : ℕ) → LeavesSo Good (reset by_plain d path)
   reset_good path = λ t.
-      let y = (T.hold true (reset by_plain d path) t).state in
+      let y = t.state in
       let b = at (stays_still (reset_body by_plain d path)) t in
       goes d y b.1 b.2 (at (reset_on by_plain d.store.cylinders g.some d path g.chain) t)
       (λ w. (at (reset_keeps_good by_plain marks_are_faithful d path w) t).well) (λ away x. at (reset_away by_plain d path x) t) g
@@ -181,7 +177,7 @@ module _ (d : MarksDevice) (g : Good d) where
   lend_good : (x : MarksDevice) (to : ℕ) → pair_fault x d ≡ None → LeavesSo Good (lend by_plain d to)
   unfolding R.pair_fault
   lend_good x to fault = λ t.
-      let y = (T.hold true (lend by_plain d to) t).state in
+      let y = t.state in
       let e = lend_lends d to t in
       let lent : is_some y.store.lent ≡ true = ap (λ (o : Option ℕ). is_some o) e.lent in
       let a = first_none (R.where_so (x.store.device == d.store.device) Same) _ fault in
@@ -213,13 +209,12 @@ module _ (d : MarksDevice) (g : Good d) where
     gone = not_single (is_not d.store.paired (where_none (not d.store.paired) Unpaired (first_none (R.where_so (not d.store.paired) Unpaired) _ e).0));
   }
 
-  resume_good : resume_fault d ≡ None → Good (resume d)
-  unfolding R.resume_fault
-  resume_good e = record {
+  resume_good : (is_some d.store.lent ≡ true → d.store.paired ≡ true) → Good (resume d)
+  resume_good pair = record {
     some = g.some;
     chain = g.chain;
     well = λ home. (resume_keeps_good by_plain marks_are_faithful d (g.well home)).well;
-    gone = not_single (is_not d.store.paired (where_none (not d.store.paired) Unpaired (first_none (R.where_so (not d.store.paired) Unpaired) _ e).0));
+    gone = λ away. not_single (pair away) away;
   }
 
   join_good : IsFree d → Good (join d)
@@ -283,10 +278,10 @@ good_kept = record {
   cut = λ d path g. reset_good d g path;
   lost_cache = λ d g. loss_good d g losses.Cache (λ away side is. absurd (cc));
   lost_store = λ d g. loss_good d g losses.Store (λ away side is. absurd (cc));
-  lost_side = λ d side fault g. side_good d g side fault;
+  lost_side = λ d side home g. side_good d g side home;
   lost_power = λ d g. power_good d g;
   held = λ d fault g. hold_good d g fault;
-  resumed = λ d fault g. resume_good d g fault;
+  resumed = λ d pair g. resume_good d g pair;
   replaced = λ d side fault g. replace_good d g side fault;
   lent = λ x y fault f g. lend_good y g x x.store.device fault;
   joins = λ d free g. join_good d g free;

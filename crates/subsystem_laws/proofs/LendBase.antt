@@ -21,6 +21,8 @@ use Rattle.device_laws.proofs.Based.{Base, Any, Based, kept, based_done, based_t
 use Rattle.device_laws.proofs.BasedEvents.{base_in, quiet_based}
 use Rattle.device_laws.proofs.Had.{held}
 use Rattle.device_laws.proofs.PlainEvents.{had_always}
+use Rattle.subsystem_laws.proofs.Came as C
+use Rattle.subsystem_laws.specs.Came.{CameTo}
 
 abbrev pub IsStill : Base → Base → Type 0
 IsStill b x = (x.device ≡ b.device) × (x.cylinders ≡ b.cylinders) × (x.lent ≡ b.lent) × (x.counts.losses ≡ b.counts.losses)
@@ -85,9 +87,9 @@ pub record Lent (d : MarksDevice) (to : ℕ) (y : MarksDevice) : Type 0 where
   pub cylinders : y.store.cylinders ≡ d.store.cylinders
   pub lent : y.store.lent ≡ Some to
 
-pub lend_lends : (d : MarksDevice) (to : ℕ) (t : Told) → Lent d to (T.hold true (lend by_plain d to) t).state
+pub lend_lends : (d : MarksDevice) (to : ℕ) (t : CameTo (lend by_plain d to)) → Lent d to t.state
 lend_lends d to t =
-    let b = at (stays_still (lend_based d to)) t in
+    let b = C.at (stays_still (lend_based d to)) t in
     let e = over_ids (tracks_of (event_begun d).store) (event_begun d).store in
     record { number = b.0 ∙ ap (λ (x : ℕ × ℕ × Counts). x.0) e; cylinders = b.1 ∙ ap (λ (x : ℕ × ℕ × Counts). x.1) e; lent = b.2 }
 

@@ -1,6 +1,7 @@
 pub mod FoundDevices
 pub mod RunLines
 pub mod DeedWalk
+pub mod Came
 pub mod LendBase
 pub mod Walks
 pub mod PlainRuns
@@ -51,6 +52,8 @@ pub mod ExcusedRuns
 pub mod FramesRuns
 pub mod LooseRuns
 pub mod ExcusedDevices
+pub mod Excusable
+pub mod AboutRuns
 pub mod UnfailingRuns
 pub mod SoundHardware
 mod SoundRows

@@ -1,5 +1,5 @@
 -- In a run data of cache fast write of a device were lost at most as often as losses of its cache were counted.
-use Rattle.std.proofs.Common.{◌≡◌, ◌≤◌, ◌<◌, ◌+◌, ◌^◌, ◌-◌, ℕ, true, List, [], ◌∷◌, map, Some, refl, sym, ap, subst, ◌∙◌, arith}
+use Rattle.std.proofs.Common.{◌≡◌, ◌≤◌, ◌<◌, ◌+◌, ◌^◌, ◌-◌, ℕ, List, [], ◌∷◌, map, Some, min, refl, sym, ap, subst, ◌∙◌, arith}
 use Rattle.std.proofs.lemmas.List.Elements.{All-nil, All-cons, All-head, All-tail}
 use Rattle.std.specs.Prelude.{All, length}
 use Rattle.ckd_types.specs.declared.paths.Side.{Side}
@@ -8,8 +8,8 @@ use Rattle.deck_text.specs.declared.line.DeviceLine.{DeviceLine}
 use Rattle.deck_text.specs.DeckLines.{DeckLines}
 use Rattle.loss_model.specs.declared.Loss.{Loss}
 use Rattle.loss_model.specs.declared.Loss.TheVariants as losses
-use Rattle.device_outside.specs.Told as T
-use Rattle.device_outside.specs.Told.{Told}
+use Rattle.device_outside.specs.Volume as V
+use Rattle.device_outside.specs.Volume.{counted}
 use Rattle.device_defs.specs.declared.counts.Counts.{Counts}
 use Rattle.device_defs.specs.declared.counts.Losses.{Losses}
 use Rattle.device_defs.specs.Command.{command}
@@ -34,10 +34,12 @@ use Rattle.subsystem_defs.specs.Subsystem.{Mounted, Subsystem, devices_of}
 use Rattle.subsystem_laws.specs.Causes.{EachPair}
 use Rattle.subsystem_laws.specs.Excused.{HasCountedLosses, HaveCountedLosses}
 use Rattle.subsystem_laws.specs.Served.{IsServedDeck}
+use Rattle.subsystem_laws.specs.Came.{CameTo}
+use Rattle.subsystem_laws.proofs.Came.{at}
 use Rattle.subsystem_laws.proofs.CallCounts.{one_few, none_few, below}
 use Rattle.subsystem_laws.proofs.CalmRuns.{AllSo, one_event, from_none}
 use Rattle.subsystem_laws.proofs.DeedWalk.{seat_of, IsDeedwise}
-use Rattle.subsystem_laws.proofs.LendBase.{at, stays_still, lend_based, lent_counts}
+use Rattle.subsystem_laws.proofs.LendBase.{stays_still, lend_based, lent_counts}
 use Rattle.subsystem_laws.proofs.NothingChecked.{one_more_item, lend_past}
 use Rattle.subsystem_laws.proofs.Pairing.{KeepsDeed, deeds_of, IsPairwise, run_pairs, ends_made, becomes_so, started_number}
 use Rattle.subsystem_laws.proofs.RunLinks.{Linked, lines_linked}
@@ -46,14 +48,21 @@ abbrev losses_of_cache : MarksDevice → ℕ
 losses_of_cache d = d.store.counts.losses.cache
 
 -- orders count no loss, and add none to its history
-record Still (x y : MarksDevice) : Type 0 where
-  same : losses_of_cache y ≡ losses_of_cache x
-  none : all_losses y.history ≤ all_losses x.history
+pub record Still (x y : MarksDevice) : Type 0 where
+  pub same : losses_of_cache y ≡ losses_of_cache x
+  pub none : all_losses y.history ≤ all_losses x.history
 
 -- an event counts one at most, and those of its history are counted
-record Counted (x y : MarksDevice) : Type 0 where
-  few : losses_of_cache y ≤ losses_of_cache x + 1
-  all : losses_of_cache x < top → LossesAreCounted x → LossesAreCounted y
+pub record Counted (x y : MarksDevice) : Type 0 where
+  pub few : losses_of_cache y ≤ losses_of_cache x + 1
+  pub all : losses_of_cache x < top → LossesAreCounted x → LossesAreCounted y
+  pub less : losses_of_cache y < top → losses_of_cache x < top
+
+less_top : (n : ℕ) → counted n < top → n < top
+unfolding V.counted
+less_top n lt = by_least n top lt where
+  by_least : (n y : ℕ) → min (n + 1) y < y → n < y
+  by_least n y lt = omega (arith, lt)
 
 as_few : (n m : ℕ) → m ≡ n → m ≤ n + 1
 as_few n m e = omega (arith, e)
@@ -67,10 +76,11 @@ as_le n m e = omega (arith, e)
 on_le : (a b c : ℕ) → b ≤ a → c ≤ b → c ≤ a
 on_le a b c f g = omega (arith, f, g)
 
-still_counted : (x y : MarksDevice) → Still x y → Counted x y
+pub still_counted : (x y : MarksDevice) → Still x y → Counted x y
 still_counted x y s = record {
   few = as_few (losses_of_cache x) (losses_of_cache y) s.same;
   all = λ lt all. let same = s.same in let none = s.none in omega (arith, same, none, all);
+  less = λ lt. let same = s.same in omega (arith, same, lt);
 }
 
 -- Events
@@ -86,22 +96,22 @@ module _ (d : MarksDevice) where
   abbrev before : ℕ
   before = all_losses d.history
 
-  command_counts : (t : Told) → Counted d (T.hold true (command by_plain d) t).state
+  pub command_counts : (t : CameTo (command by_plain d)) → Counted d t.state
   command_counts t = none_counted d _ (at (stays_still (command_based by_plain d)) t).3 (at (command_has by_plain before d refl) t)
 
-  second_counts : (t : Told) → Counted d (T.hold true (second by_plain d) t).state
+  pub second_counts : (t : CameTo (second by_plain d)) → Counted d t.state
   second_counts t = none_counted d _ (at (stays_still (second_based by_plain d)) t).3 (at (second_has by_plain before d refl) t)
 
-  background_counts : (t : Told) → Counted d (T.hold true (background by_plain d) t).state
+  pub background_counts : (t : CameTo (background by_plain d)) → Counted d t.state
   background_counts t = none_counted d _ (at (stays_still (background_based by_plain d)) t).3 (at (background_has by_plain before d refl) t)
 
-  reset_counts : (path : ℕ) (t : Told) → Counted d (T.hold true (reset by_plain d path) t).state
+  pub reset_counts : (path : ℕ) (t : CameTo (reset by_plain d path)) → Counted d t.state
   reset_counts path t = none_counted d _ (at (stays_still (reset_body by_plain d path)) t).3 (at (reset_has by_plain before d path refl) t)
 
-  lost_by : (loss : Loss) (t : Told) → all_losses (T.hold true (lose by_plain d loss) t).state.history ≤ before + most_lost by_plain before loss
+  lost_by : (loss : Loss) (t : CameTo (lose by_plain d loss)) → all_losses t.state.history ≤ before + most_lost by_plain before loss
   lost_by loss t = at (lose_has by_plain before d loss refl) t
 
-  loss_counts : (loss : Loss) (t : Told) → Counted d (T.hold true (lose by_plain d loss) t).state
+  pub loss_counts : (loss : Loss) (t : CameTo (lose by_plain d loss)) → Counted d t.state
   loss_counts losses.Cache t =
       let same = ap (λ (l : Losses). l.cache) (at (stays_still (lose_based by_plain d losses.Cache)) t).3 in
       let lost = lost_by losses.Cache t in
@@ -109,6 +119,7 @@ module _ (d : MarksDevice) where
       record {
         few = omega (arith, same, one);
         all = λ lt all. let rises = counted_rises (losses_of_cache d) lt in omega (arith, same, lost, rises, all);
+        less = λ lt. less_top (losses_of_cache d) (subst (λ (n : ℕ). n < top) same lt);
       }
   loss_counts losses.Store t =
       let same = ap (λ (l : Losses). l.cache) (at (stays_still (lose_based by_plain d losses.Store)) t).3 in
@@ -119,7 +130,7 @@ module _ (d : MarksDevice) where
       let lost = lost_by (losses.Side side) t in
       still_counted d _ (record { same = same; none = omega (arith, lost) })
 
-  power_counts : (t : Told) → Counted d (T.hold true (power by_plain d) t).state
+  pub power_counts : (t : CameTo (power by_plain d)) → Counted d t.state
   power_counts t =
       let same = ap (λ (l : Losses). l.cache) (at (stays_still (power_based by_plain d)) t).3 in
       let all_are = at (power_has by_plain before d refl) t in
@@ -127,11 +138,12 @@ module _ (d : MarksDevice) where
       record {
         few = omega (arith, same, one);
         all = λ lt all. let rises = counted_rises (losses_of_cache d) lt in omega (arith, same, all_are, rises, all);
+        less = λ lt. less_top (losses_of_cache d) (subst (λ (n : ℕ). n < top) same lt);
       }
 
   -- Orders
 
-  start_still : (path : ℕ) → Still d (start d path)
+  pub start_still : (path : ℕ) → Still d (start d path)
   unfolding S.start
   start_still path = record { same = refl; none = omega arith }
 
@@ -145,9 +157,9 @@ module _ (d : MarksDevice) where
     none = as_le before (all_losses (restore d).history) (ap (λ (k : ℕ). k + running_losses d.history.running) (one_more_item d.history.items));
   }
 
-  lend_still : (to : ℕ) (t : Told) → Still d (T.hold true (lend by_plain d to) t).state
+  pub lend_still : (to : ℕ) (t : CameTo (lend by_plain d to)) → Still d t.state
   lend_still to t =
-      let y = (T.hold true (lend by_plain d to) t).state in
+      let y = t.state in
       record {
         same = ap (λ (l : Losses). l.cache) (at (stays_still (lend_based d to)) t).3 ∙ ap (λ (c : Counts). c.losses.cache) (lent_counts d to);
         none = as_le before (all_losses y.history) (ap all_losses (at (lend_past d to) t));
@@ -157,7 +169,7 @@ own_still : (d : MarksDevice) → Still d d
 own_still d = record { same = refl; none = own_le (all_losses d.history) }
 
 -- its counts and its history stay
-kept_still : (d y : MarksDevice) → y.store.counts ≡ d.store.counts → y.history ≡ d.history → Still d y
+pub kept_still : (d y : MarksDevice) → y.store.counts ≡ d.store.counts → y.history ≡ d.history → Still d y
 kept_still d y counts history = record {
   same = ap (λ (c : Counts). c.losses.cache) counts;
   none = as_le (all_losses d.history) (all_losses y.history) (ap all_losses history);
@@ -188,7 +200,7 @@ counted_deeds s = record {
   resumed = λ d x fault. becomes_so Still Counted s d x (resume d) refl (kept_still d (resume d) refl refl) ends.Done;
 }
 
-counted_pairwise : IsPairwise Still (λ lossy alone. Counted)
+pub counted_pairwise : IsPairwise Still (λ lossy alone. Counted)
 counted_pairwise = record {
   own = own_still;
   on = λ x y z f g. record {

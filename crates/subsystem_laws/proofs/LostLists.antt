@@ -6,7 +6,6 @@ use Rattle.loss_model.specs.declared.Loss.{Loss}
 use Rattle.loss_model.specs.declared.Loss.TheVariants as losses
 use Rattle.track_image.specs.Image.{Image}
 use Rattle.device_outside.specs.Interaction.{Interaction}
-use Rattle.device_outside.specs.Told as T
 use Rattle.subsystem_defs.specs.declared.end.EventEnd.TheVariants as ends
 use Rattle.subsystem_defs.specs.Decks.{run_of}
 use Rattle.subsystem_defs.specs.Deeds.{ends_done, end_of}
@@ -14,7 +13,6 @@ use Rattle.subsystem_defs.specs.Subsystem.{Subsystem}
 use Rattle.ckd_types.specs.declared.paths.Side.{Side}
 use Rattle.ckd_types.specs.declared.paths.Side.TheVariants as sides
 use Rattle.plain_defs.specs.History.{OpenEntry}
-use Rattle.device_outside.specs.Told.{Told}
 use Rattle.device_defs.specs.Command.{command}
 use Rattle.device_defs.specs.Contents.{by_plain}
 use Rattle.device_defs.specs.Cutting.{reset, power}
@@ -32,8 +30,10 @@ use Rattle.device_laws.proofs.Lucky.{where_none_failed}
 use Rattle.device_laws.proofs.TrackMarks.{marks_are_faithful}
 use Rattle.device_laws.proofs.Unlost.{Fine, core_of}
 use Rattle.device_laws.proofs.UnlostEvents.{DeviceGoes, command_goes_within, background_goes, second_event_goes}
+use Rattle.subsystem_laws.specs.Came.{CameTo}
+use Rattle.subsystem_laws.proofs.Came.{at}
 use Rattle.subsystem_laws.proofs.GoodMarks.{good_kept, by_lent, runs_home, half_home, within}
-use Rattle.subsystem_laws.proofs.LendBase.{at, stays_still, lend_lends}
+use Rattle.subsystem_laws.proofs.LendBase.{stays_still, lend_lends}
 use Rattle.subsystem_defs.specs.Refusals.{pair_fault}
 use Rattle.subsystem_laws.specs.Causes.{by_loss, by_call, by_full_count, by_half, LosesNone, LosesForCause, LoseForCause}
 use Rattle.subsystem_laws.specs.Served.{IsServedDeck}
@@ -47,49 +47,49 @@ module _ (d : MarksDevice) (f : Fair d) where
   same_lost : (y : MarksDevice) → Fine (core_of d.store) (core_of y.store) → LosesNone d y
   same_lost y g = λ q lost. ap (λ (l : List Bool). get_or l q false) (sym g.lost) ∙ lost
 
-  where_kept : {X : Type 0} (i : Interaction Bool Image MarksDevice X) → Based base_in Any (kept d.store) i → DeviceGoes by_plain d.store i → (t : Told) →
-      LosesForCause d (T.hold true i t).state
+  where_kept : {X : Type 0} (i : Interaction Bool Image MarksDevice X) → Based base_in Any (kept d.store) i → DeviceGoes by_plain d.store i → (t : CameTo i) →
+      LosesForCause d t.state
   where_kept i x goes t =
       by_failed d f i x t (λ full. inr (by_full_count full)) (λ rose. inr (by_call rose))
-      (λ lt same. inl (same_lost (T.hold true i t).state (at (where_none_failed (λ z _. Fine (core_of d.store) (core_of z.store)) x lt goes) t same)))
+      (λ lt same. inl (same_lost t.state (at (where_none_failed (λ z _. Fine (core_of d.store) (core_of z.store)) x lt goes) t same)))
 
   none_gone : (y : MarksDevice) → Gone y → LosesNone d y
   none_gone y g = λ q lost. absurd (let both : true ≡ false = sym lost ∙ g.store.lost q in cc)
 
-  command_loses : (o : OpenEntry) → d.history.running ≡ Some o → d.store.half ≡ None → (t : Told) → LosesForCause d (T.hold true (command by_plain d) t).state
+  command_loses : (o : OpenEntry) → d.history.running ≡ Some o → d.store.half ≡ None → (t : CameTo (command by_plain d)) → LosesForCause d t.state
   command_loses o running whole t =
       where_kept (command by_plain d) (command_based by_plain d)
       (command_goes_within by_plain marks_are_faithful d (within d f.good) (f.good.well (runs_home d f.good o running)) whole) t
 
-  second_loses : (h : HalfWrite (Unit {0})) → d.store.half ≡ Some h → (t : Told) → LosesForCause d (T.hold true (second by_plain d) t).state
+  second_loses : (h : HalfWrite (Unit {0})) → d.store.half ≡ Some h → (t : CameTo (second by_plain d)) → LosesForCause d t.state
   second_loses h is t =
       decided (takes_b d.store) (λ takes. tried (inl takes))
       (λ none. decided (has_level d.store h.track) (λ level. tried (inr level)) (λ off. inr (by_half h is off none)))
     where
-      tried : ((takes_b d.store ≡ true) ⊎ (has_level d.store h.track ≡ true)) → LosesForCause d (T.hold true (second by_plain d) t).state
+      tried : ((takes_b d.store ≡ true) ⊎ (has_level d.store h.track ≡ true)) → LosesForCause d t.state
       tried how =
           where_kept (second by_plain d) (second_based by_plain d)
           (second_event_goes by_plain marks_are_faithful d (f.good.well (half_home d f.good h is))
           (λ k at_k. subst (λ (x : HalfWrite (Unit {0})). (takes_b d.store ≡ true) ⊎ (has_level d.store x.track ≡ true)) (let same : h ≡ k = cc in same) how)) t
 
-  background_loses : d.store.half ≡ None → (t : Told) → LosesForCause d (T.hold true (background by_plain d) t).state
+  background_loses : d.store.half ≡ None → (t : CameTo (background by_plain d)) → LosesForCause d t.state
   background_loses whole t =
       by_lent d
       (λ home. where_kept (background by_plain d) (background_based by_plain d) (background_goes by_plain marks_are_faithful d (f.good.well home)) t)
-      (λ away. inl (none_gone (T.hold true (background by_plain d) t).state (at (background_away by_plain d (f.good.gone away)) t)))
+      (λ away. inl (none_gone t.state (at (background_away by_plain d (f.good.gone away)) t)))
 
-  reset_loses : (path : ℕ) (t : Told) → LosesForCause d (T.hold true (reset by_plain d path) t).state
+  reset_loses : (path : ℕ) (t : CameTo (reset by_plain d path)) → LosesForCause d t.state
   reset_loses path t = where_kept (reset by_plain d path) (based_any (reset_body by_plain d path)) (reset_goes by_plain marks_are_faithful d path) t
 
-loss_loses : (d : MarksDevice) (loss : Loss) (t : Told) → LosesForCause d (T.hold true (lose by_plain d loss) t).state
+loss_loses : (d : MarksDevice) (loss : Loss) (t : CameTo (lose by_plain d loss)) → LosesForCause d t.state
 loss_loses d loss t = inr (by_loss loss (at (stays_still (lose_based by_plain d loss)) t).3)
 
-power_loses : (d : MarksDevice) (t : Told) → LosesForCause d (T.hold true (power by_plain d) t).state
+power_loses : (d : MarksDevice) (t : CameTo (power by_plain d)) → LosesForCause d t.state
 power_loses d t = inr (by_loss losses.Cache (at (stays_still (power_based by_plain d)) t).3)
 
-lend_loses : (x d : MarksDevice) → pair_fault x d ≡ None → Fair x → Fair d → (t : Told) → LosesNone d (T.hold true (lend by_plain d x.store.device) t).state
+lend_loses : (x d : MarksDevice) → pair_fault x d ≡ None → Fair x → Fair d → (t : CameTo (lend by_plain d x.store.device)) → LosesNone d t.state
 lend_loses x d fault e f t =
-    let y = (T.hold true (lend by_plain d x.store.device) t).state in
+    let y = t.state in
     none_gone d f y ((good_kept.lent x d fault e.good f.good t).gone (ap (λ (o : Option ℕ). is_some o) (lend_lends d x.store.device t).lent))
 
 started_keeps : (d : MarksDevice) (path : ℕ) → LosesNone d (start d path)

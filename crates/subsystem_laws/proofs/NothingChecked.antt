@@ -13,8 +13,6 @@ use Rattle.loss_model.specs.declared.Loss.{Loss}
 use Rattle.loss_model.specs.declared.Loss.TheVariants as losses
 use Rattle.track_image.specs.Image.{Image}
 use Rattle.device_outside.specs.Interaction.{Interaction, Done}
-use Rattle.device_outside.specs.Told as T
-use Rattle.device_outside.specs.Told.{Told}
 use Rattle.device_defs.specs.declared.counts.Losses.{Losses}
 use Rattle.device_defs.specs.Command.{command}
 use Rattle.device_defs.specs.Contents.{by_plain}
@@ -47,8 +45,10 @@ use Rattle.subsystem_defs.specs.Decks.{opened_device, opened, run_of}
 use Rattle.subsystem_defs.specs.Lines.{asked_by}
 use Rattle.subsystem_laws.specs.Causes.{ChecksNothing, CheckNothing}
 use Rattle.subsystem_laws.specs.Served.{IsServedDeck}
+use Rattle.subsystem_laws.specs.Came.{CameTo}
+use Rattle.subsystem_laws.proofs.Came.{at}
 use Rattle.subsystem_laws.proofs.GoodMarks.{runs_home, half_home, within}
-use Rattle.subsystem_laws.proofs.LendBase.{at, stays_still, lent_store, lend_based, lent_counts}
+use Rattle.subsystem_laws.proofs.LendBase.{stays_still, lent_store, lend_based, lent_counts}
 use Rattle.subsystem_laws.proofs.PastChecks.{reset_counts}
 use Rattle.subsystem_laws.proofs.SecondChecks.{second_unchecked, background_unchecked, runs_unharmed}
 use Rattle.subsystem_laws.proofs.TracksKept.{Fair, fair_kept, none_less, below_top, new_fair}
@@ -90,10 +90,10 @@ module _ (d : MarksDevice) (q : Quiet d) where
     cache : d.store.counts.losses.cache ≡ 0
     failed : y.store.counts.failed ≡ d.store.counts.failed
 
-  before_at : {X : Type 0} (i : Interaction Bool Image MarksDevice X) → Based base_in Any (kept d.store) i → (t : Told) →
-      NothingLost (T.hold true i t).state.store → (T.hold true i t).state.store.counts.losses.cache ≡ 0 → Before true (T.hold true i t).state
+  before_at : {X : Type 0} (i : Interaction Bool Image MarksDevice X) → Based base_in Any (kept d.store) i → (t : CameTo i) →
+      NothingLost t.state.store → t.state.store.counts.losses.cache ≡ 0 → Before true t.state
   before_at i x t n c =
-      let y = (T.hold true i t).state in
+      let y = t.state in
       let losses_are = (at (stays_still x) t).3 in
       let none : d.store.counts.failed ≡ 0 = none_less d.store.counts.failed y.store.counts.failed (at (never_falls x q.fair.most) t) n.failed in
       record {
@@ -110,7 +110,7 @@ module _ (d : MarksDevice) (q : Quiet d) where
       LeavesSo Quiet (command by_plain d)
   command_quiet o running fair whole = λ t.
       let was = runs_home d q.fair.good o running in
-      let y = (T.hold true (command by_plain d) t).state in
+      let y = t.state in
       let x = command_based by_plain d in
       record {
         fair = fair t;
@@ -130,7 +130,7 @@ module _ (d : MarksDevice) (q : Quiet d) where
   second_quiet : (h : HalfWrite (Unit {0})) → d.store.half ≡ Some h → LeavesSo Fair (second by_plain d) → LeavesSo Quiet (second by_plain d)
   second_quiet h is fair = λ t.
       let was = half_home d q.fair.good h is in
-      let y = (T.hold true (second by_plain d) t).state in
+      let y = t.state in
       let x = second_based by_plain d in
       record {
         fair = fair t;
@@ -145,7 +145,7 @@ module _ (d : MarksDevice) (q : Quiet d) where
 
   background_quiet : LeavesSo Fair (background by_plain d) → LeavesSo Quiet (background by_plain d)
   background_quiet fair = λ t.
-      let y = (T.hold true (background by_plain d) t).state in
+      let y = t.state in
       let x = background_based by_plain d in
       record {
         fair = fair t;
@@ -156,7 +156,7 @@ module _ (d : MarksDevice) (q : Quiet d) where
 
   reset_quiet : (path : ℕ) → LeavesSo Fair (reset by_plain d path) → LeavesSo Quiet (reset by_plain d path)
   reset_quiet path fair = λ t.
-      let y = (T.hold true (reset by_plain d path) t).state in
+      let y = t.state in
       let x = based_any (reset_body by_plain d path) in
       record {
         fair = fair t;
@@ -175,7 +175,7 @@ module _ (d : MarksDevice) (q : Quiet d) where
         absurd (some_counted d.store.counts.losses.cache (ap (λ (l : Losses). l.cache) (sym (at (stays_still (power_based by_plain d)) t).3) ∙ c));
   }
 
-  loss_none : (loss : Loss) (t : Told) → IsQuiet (T.hold true (lose by_plain d loss) t).state
+  loss_none : (loss : Loss) (t : CameTo (lose by_plain d loss)) → IsQuiet t.state
   loss_none losses.Cache t n c =
       absurd (some_counted d.store.counts.losses.cache (ap (λ (l : Losses). l.cache) (sym (at (stays_still (lose_based by_plain d losses.Cache)) t).3) ∙ c))
   loss_none losses.Store t n c =
@@ -210,7 +210,7 @@ module _ (d : MarksDevice) (q : Quiet d) where
 
   lend_quiet : (to : ℕ) → LeavesSo Fair (lend by_plain d to) → LeavesSo Quiet (lend by_plain d to)
   lend_quiet to fair = λ t.
-      let y = (T.hold true (lend by_plain d to) t).state in
+      let y = t.state in
       let x = lend_based d to in
       let losses_are = (at (stays_still x) t).3 in
       let counts = lent_counts d to in
@@ -248,10 +248,10 @@ quiet_kept = record {
   cut = λ d path q. reset_quiet d q path (fair_kept.cut d path q.fair);
   lost_cache = λ d q. λ t. record { fair = fair_kept.lost_cache d q.fair t; none = loss_none d q losses.Cache t };
   lost_store = λ d q. λ t. record { fair = fair_kept.lost_store d q.fair t; none = loss_none d q losses.Store t };
-  lost_side = λ d side fault q. λ t. record { fair = fair_kept.lost_side d side fault q.fair t; none = loss_none d q (losses.Side side) t };
+  lost_side = λ d side home q. λ t. record { fair = fair_kept.lost_side d side home q.fair t; none = loss_none d q (losses.Side side) t };
   lost_power = λ d q. power_quiet d q (fair_kept.lost_power d q.fair);
   held = λ d fault q. same_quiet d q _ (fair_kept.held d fault q.fair) refl refl;
-  resumed = λ d fault q. same_quiet d q _ (fair_kept.resumed d fault q.fair) refl refl;
+  resumed = λ d pair q. same_quiet d q _ (fair_kept.resumed d pair q.fair) refl refl;
   replaced = λ d side fault q. replace_quiet d q side (fair_kept.replaced d side fault q.fair);
   lent = λ x y fault p q. lend_quiet y q x.store.device (fair_kept.lent x y fault p.fair q.fair);
   joins = λ d single q. same_quiet d q _ (fair_kept.joins d single q.fair) refl refl;

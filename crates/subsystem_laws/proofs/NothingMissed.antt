@@ -12,6 +12,7 @@ use Rattle.device_defs.specs.Marks.{MarksDevice}
 use Rattle.device_defs.specs.Pledge.{ends_with_data_check}
 use Rattle.device_laws.specs.Unharmed.{ends_with_equipment_check}
 use Rattle.device_laws.proofs.KeptHistories.{AreNot, none_came}
+use Rattle.subsystem_defs.specs.declared.event.Event.{Event}
 use Rattle.subsystem_defs.specs.Decks as D
 use Rattle.subsystem_defs.specs.Decks.{opened_device, opened, run_of}
 use Rattle.subsystem_defs.specs.Lines.{asked_by}
@@ -21,12 +22,11 @@ use Rattle.subsystem_laws.specs.Served.{IsServedDeck}
 use Rattle.subsystem_laws.proofs.DataChecks.{checks_kept}
 use Rattle.subsystem_laws.proofs.NothingChecked.{Quiet, quiet_kept, opened_quiet}
 use Rattle.subsystem_laws.proofs.TracksKept.{keeps_tracks}
-use Rattle.subsystem_laws.proofs.RunLines.{AnyEvent}
 use Rattle.subsystem_laws.proofs.Walks.{IsKept, AreSo, run_keeps, behind_weaker}
 
 -- Two things at once
 
-both_kept : (P Q : MarksDevice → Type 0) → IsKept P AnyEvent → IsKept Q AnyEvent → IsKept (λ d. P d × Q d) AnyEvent
+pub both_kept : {May : Event → Type 0} (P Q : MarksDevice → Type 0) → IsKept P May → IsKept Q May → IsKept (λ d. P d × Q d) May
 both_kept P Q k l = record {
   started = λ d path n may fault x. (k.started d path n may fault x.0, l.started d path n may fault x.1);
   commanded = λ d o running whole x. λ t. (k.commanded d o running whole x.0 t, l.commanded d o running whole x.1 t);
@@ -35,10 +35,10 @@ both_kept P Q k l = record {
   cut = λ d path x. λ t. (k.cut d path x.0 t, l.cut d path x.1 t);
   lost_cache = λ d x. λ t. (k.lost_cache d x.0 t, l.lost_cache d x.1 t);
   lost_store = λ d x. λ t. (k.lost_store d x.0 t, l.lost_store d x.1 t);
-  lost_side = λ d side fault x. λ t. (k.lost_side d side fault x.0 t, l.lost_side d side fault x.1 t);
+  lost_side = λ d side home x. λ t. (k.lost_side d side home x.0 t, l.lost_side d side home x.1 t);
   lost_power = λ d x. λ t. (k.lost_power d x.0 t, l.lost_power d x.1 t);
   held = λ d fault x. (k.held d fault x.0, l.held d fault x.1);
-  resumed = λ d fault x. (k.resumed d fault x.0, l.resumed d fault x.1);
+  resumed = λ d pair x. (k.resumed d pair x.0, l.resumed d pair x.1);
   replaced = λ d side fault x. (k.replaced d side fault x.0, l.replaced d side fault x.1);
   lent = λ x y fault p q. λ t. (k.lent x y fault p.0 q.0 t, l.lent x y fault p.1 q.1 t);
   joins = λ d single x. (k.joins d single x.0, l.joins d single x.1);

@@ -28,6 +28,7 @@ use Rattle.std.proofs.Common.{
   inr,
 }
 use Rattle.std.specs.Prelude.{◌||◌, if◌then◌else◌}
+use Rattle.ckd_types.specs.declared.geometry.Geometry.{Geometry}
 use Rattle.ckd_types.specs.declared.paths.Side.{Side}
 use Rattle.ckd_types.specs.declared.paths.Side.TheVariants as sides
 use Rattle.deck_text.specs.declared.line.DeviceLine.{DeviceLine}
@@ -35,10 +36,9 @@ use Rattle.deck_text.specs.DeckLines.{DeckLines}
 use Rattle.loss_model.specs.declared.Loss.TheVariants as losses
 use Rattle.plain_defs.specs.declared.journal.Item.{Item}
 use Rattle.plain_defs.specs.declared.journal.Item.TheVariants as items
+use Rattle.plain_defs.specs.Journal.{Plans}
 use Rattle.track_image.specs.Image.{Image}
 use Rattle.device_outside.specs.Interaction.{Interaction}
-use Rattle.device_outside.specs.Told as T
-use Rattle.device_outside.specs.Told.{Told}
 use Rattle.device_outside.specs.Volume as V
 use Rattle.device_outside.specs.Volume.{counted}
 use Rattle.device_defs.specs.declared.counts.Losses.{Losses}
@@ -46,8 +46,8 @@ use Rattle.device_defs.specs.Command.{command}
 use Rattle.device_defs.specs.Contents.{by_plain}
 use Rattle.device_defs.specs.Cutting.{reset, power}
 use Rattle.device_defs.specs.Events.{second, lose, background}
-use Rattle.device_defs.specs.Marks.{MarksDevice}
-use Rattle.device_defs.specs.Orders.{restore, replace, lend}
+use Rattle.device_defs.specs.Marks.{MarksDevice, new_device}
+use Rattle.device_defs.specs.Orders.{restore, replace}
 use Rattle.device_defs.specs.Start as S
 use Rattle.device_defs.specs.Start.{start}
 use Rattle.device_laws.proofs.Based.{Base, Any, Based, kept, based_any}
@@ -57,9 +57,11 @@ use Rattle.device_laws.proofs.Lucky.{top}
 use Rattle.subsystem_defs.specs.Decks.{opened_device}
 use Rattle.subsystem_defs.proofs.Unrefused.{parts_up}
 use Rattle.subsystem_laws.specs.Excused.{has_fresh, WasNeverLent}
+use Rattle.subsystem_laws.specs.Came.{CameTo}
+use Rattle.subsystem_laws.proofs.Came.{at}
 use Rattle.subsystem_laws.proofs.Excusing.{IsPaid}
 use Rattle.subsystem_laws.proofs.FactsEvents.{command_leaves, second_leaves, background_leaves, lose_leaves, power_leaves, reset_leaves}
-use Rattle.subsystem_laws.proofs.LendBase.{at, stays_still, lend_lends}
+use Rattle.subsystem_laws.proofs.LendBase.{stays_still, lend_lends}
 use Rattle.subsystem_laws.proofs.RunLines.{AnyEvent}
 use Rattle.subsystem_laws.proofs.Shapes.{Shape, command_shape, second_shape, background_shape, lose_shape, reset_shape, power_shape}
 use Rattle.subsystem_laws.proofs.StoreFacts.{Facts, facts_of, failed_more, fallen, Bears}
@@ -166,15 +168,15 @@ PaidFor d = WasNeverLent d → d.store.counts.losses.sides ≡ 0 → Paid (facts
 -- Events
 
 event_paid : {X : Type 0} (d : MarksDevice) (i : Interaction Bool Image MarksDevice X) (b : Base) → b.lent ≡ d.store.lent →
-    b.counts.losses.sides ≡ d.store.counts.losses.sides → Based base_in Any b i → (t : Told) →
-    (Paid (facts_of d.store) → Paid (facts_of (T.hold true i t).state.store)) → Shape d.history (T.hold true i t).state.history → PaidFor d →
-    PaidFor (T.hold true i t).state
+    b.counts.losses.sides ≡ d.store.counts.losses.sides → Based base_in Any b i → (t : CameTo i) →
+    (Paid (facts_of d.store) → Paid (facts_of t.state.store)) → Shape d.history t.state.history → PaidFor d →
+    PaidFor t.state
 event_paid d i b lent sides x t leaves s f never none =
-    let y = (T.hold true i t).state in
+    let y = t.state in
     let k = at (stays_still x) t in
     leaves (f (never_before d y (k.2 ∙ lent) s never) (sym sides ∙ ap (λ (l : Losses). l.sides) (sym k.3) ∙ none))
 
-side_lost_paid : (d : MarksDevice) (side : Side) (t : Told) → PaidFor (T.hold true (lose by_plain d (losses.Side side)) t).state
+side_lost_paid : (d : MarksDevice) (side : Side) (t : CameTo (lose by_plain d (losses.Side side))) → PaidFor t.state
 side_lost_paid d side t never none =
     absurd (some_counted d.store.counts.losses.sides
     (ap (λ (l : Losses). l.sides) (sym (at (stays_still (lose_based by_plain d (losses.Side side))) t).3) ∙ none))
@@ -218,15 +220,15 @@ paid_kept = record {
   lost_store = λ d f t.
       event_paid d (lose by_plain d losses.Store) (with_one_loss losses.Store (kept d.store)) refl refl (lose_based by_plain d losses.Store) t
       (λ p. at (lose_leaves by_plain Paid paid_bears.loses d losses.Store p (λ x q. q)) t) (lose_shape d losses.Store t) f;
-  lost_side = λ d side fault f t. side_lost_paid d side t;
+  lost_side = λ d side home f t. side_lost_paid d side t;
   lost_power = λ d f t.
       event_paid d (power by_plain d) (with_one_loss losses.Cache (kept d.store)) refl refl (power_based by_plain d) t
       (λ p. at (power_leaves by_plain Paid paid_bears.loses d p) t) (power_shape d t).0 f;
   held = λ d fault f. λ never none. let p = f (record { home = never.home; none = never.none }) none in record { pair = p.pair; alone = p.alone };
-  resumed = λ d fault f. λ never none. let p = f (record { home = never.home; none = never.none }) none in record { pair = p.pair; alone = p.alone };
+  resumed = λ d pair f. λ never none. let p = f (record { home = never.home; none = never.none }) none in record { pair = p.pair; alone = p.alone };
   replaced = λ d side fault f. replaced_paid d side f;
   lent = λ x y fault f g t. λ never none.
-      not_both (is_some (T.hold true (lend by_plain y x.store.device) t).state.store.lent)
+      not_both (is_some t.state.store.lent)
       (ap (λ (o : Option ℕ). is_some o) (lend_lends y x.store.device t).lent) never.home;
   joins = λ d free f. λ never none.
       let p = f (record { home = never.home; none = never.none }) none in
@@ -235,9 +237,12 @@ paid_kept = record {
   restored = λ d a is f. λ never none. not_both (has_fresh (restore d).history.items) (fresh_last d.history.items) never.none;
 }
 
+pub new_paid : (number : ℕ) (on : Geometry) (n : ℕ) (plans : Plans) → PaidFor (new_device number on n plans)
+new_paid number on n plans never none = record { pair = λ e. absurd (cc); alone = λ e. refl }
+
 pub opened_paid : (deck : DeckLines) (ds : List DeviceLine) → AreSo PaidFor (map (opened_device deck) ds)
 opened_paid deck [] = tt
-opened_paid deck (d ∷ ds) = ((λ never none. record { pair = λ e. absurd (cc); alone = λ e. refl }), opened_paid deck ds)
+opened_paid deck (d ∷ ds) = (new_paid d.number d.geometry d.cylinders _, opened_paid deck ds)
 
 -- So no side is up only where a side was lost, or two calls failed
 

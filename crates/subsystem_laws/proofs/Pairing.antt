@@ -7,7 +7,7 @@ use Rattle.deck_text.specs.DeckLines.{DeckLines}
 use Rattle.device_outside.specs.Interaction.{Done, and_then}
 use Rattle.device_outside.specs.Pool.{Pool}
 use Rattle.device_outside.specs.Told as T
-use Rattle.device_outside.specs.Told.{Calls, Told}
+use Rattle.device_outside.specs.Told.{Calls}
 use Rattle.device_defs.specs.Contents.{by_plain}
 use Rattle.device_defs.specs.Marks.{MarksDevice}
 use Rattle.device_defs.specs.Orders.{lend, join, split, restore, replace}
@@ -52,11 +52,13 @@ use Rattle.subsystem_defs.specs.Refusals.{replace_fault, unpair_fault}
 use Rattle.subsystem_defs.specs.Subsystem.{Mounted, Subsystem, number_of, devices_of, mounted_in, put_in, with_calls, unfailing}
 use Rattle.subsystem_laws.specs.Causes.{EachPair}
 use Rattle.subsystem_laws.specs.Served.{IsServedDeck}
+use Rattle.subsystem_laws.specs.Came.{CameTo}
+use Rattle.subsystem_laws.proofs.Came.{answered, told_came}
 use Rattle.subsystem_laws.proofs.DeedWalk.{IsSeat, Stands, seat_of, IsEventwise, event_deed_is, IsDeedwise}
 use Rattle.subsystem_laws.proofs.RunLines.{AnyEvent, Goes, run_shows}
 use Rattle.subsystem_laws.proofs.RunLinks.{event_from}
 use Rattle.subsystem_laws.proofs.TracksKept.{Fair, fair_kept, opened_fair}
-use Rattle.subsystem_laws.proofs.Walks.{AreSo, hold_answer, device_so, mounted_so, event_so, replaced_so, unpaired_so}
+use Rattle.subsystem_laws.proofs.Walks.{AreSo, device_so, mounted_so, event_so, replaced_so, unpaired_so}
 
 -- Devices before and behind, pair by pair
 
@@ -80,11 +82,11 @@ module _ (r : MarksDevice → MarksDevice → Type 0) (own : (d : MarksDevice) �
   pairs_put n y [] h = tt
   pairs_put n y (m ∷ ms) h = put_if n y m ms (number_of m == n) h (pairs_put n y ms)
 
-  pairs_swept : (f : MarksDevice → Talk (Unit {0})) → ((d : MarksDevice) (t : Told) → r d (T.hold true (f d) t).state) → (ms : List Mounted) (pool : Pool) →
+  pairs_swept : (f : MarksDevice → Talk (Unit {0})) → ((d : MarksDevice) (t : CameTo (f d)) → r d t.state) → (ms : List Mounted) (pool : Pool) →
       Pairs r ms (sweep f ms pool).mounted
   unfolding H.sweep
   pairs_swept f h [] pool = tt
-  pairs_swept f h (m ∷ ms) pool = (h m.device (told_to pool m), pairs_swept f h ms (held_with pool m (f m.device)).told.pool)
+  pairs_swept f h (m ∷ ms) pool = (h m.device (told_came (f m.device) (told_to pool m)), pairs_swept f h ms (held_with pool m (f m.device)).told.pool)
 
 pairs_on : (r : MarksDevice → MarksDevice → Type 0) → ((x y z : MarksDevice) → r x y → r y z → r x z) → (xs ys zs : List MarksDevice) →
     EachPair r xs ys → EachPair r ys zs → EachPair r xs zs
@@ -115,10 +117,10 @@ module _ (Still : MarksDevice → MarksDevice → Type 0) (Made : Bool → Bool 
   abbrev pub KeepsEvent : Subsystem → Event → MarksDeed → Type 0
   KeepsEvent s e (Ends end) = ⊤
   KeepsEvent s e (Becomes d end) = (m : Mounted) → mounted_in s.mounted d.store.device ≡ Some m → Still m.device d
-  KeepsEvent s e (Asks d talk) = IsSeat s d × ((t : Told) → MadeBy s e d (T.hold true talk t).state)
-  KeepsEvent s e (Each pool f) = (d : MarksDevice) (t : Told) → MadeBy s e d (T.hold true (f d) t).state
+  KeepsEvent s e (Asks d talk) = IsSeat s d × ((t : CameTo talk) → MadeBy s e d t.state)
+  KeepsEvent s e (Each pool f) = (d : MarksDevice) (t : CameTo (f d)) → MadeBy s e d t.state
   KeepsEvent s e (Repairs pool) = ⊤
-  KeepsEvent s e (Lends a b) = IsSeat s b × ((t : Told) → Still b (T.hold true (lend by_plain b a.store.device) t).state)
+  KeepsEvent s e (Lends a b) = IsSeat s b × ((t : CameTo (lend by_plain b a.store.device)) → Still b t.state)
 
   pub record IsPairwise : Type 0 where
     pub own : (d : MarksDevice) → Still d d
@@ -151,18 +153,19 @@ module _ (Still : MarksDevice → MarksDevice → Type 0) (Made : Bool → Bool 
     becomes_shown s d h (Some m) = pairs_put Still k.own d.store.device (record m { device = d }) s.mounted h
 
     asks_shown : (lossy alone : Bool) (s : Subsystem) (d : MarksDevice) → IsSeat s d → (talk : Talk (Option EventEnd)) →
-        ((t : Told) → Made lossy alone d (T.hold true talk t).state) → (o : Option Mounted) → Shows lossy alone (asks s d.store.device o talk)
+        ((t : CameTo talk) → Made lossy alone d t.state) → (o : Option Mounted) → Shows lossy alone (asks s d.store.device o talk)
     asks_shown lossy alone s d seat talk h None = pairs_same (Made lossy alone) (made_own lossy alone) s.mounted
     asks_shown lossy alone s d seat talk h (Some m) =
         pairs_put (Made lossy alone) (made_own lossy alone) d.store.device (mounted_behind (held_with s.pool m talk)) s.mounted
-        (λ x there. subst (λ (z : MarksDevice). Made lossy alone z (held_with s.pool m talk).state) (sym (seat x there)) (h (told_to s.pool m)))
+        (λ x there. subst (λ (z : MarksDevice). Made lossy alone z (held_with s.pool m talk).state) (sym (seat x there))
+        (h (told_came talk (told_to s.pool m))))
 
     joined_shown : (z : Subsystem) (n : ℕ) (volume : Calls) (o : Option Mounted) → mounted_in z.mounted n ≡ o →
         Pairs Still z.mounted (joined z n volume o).mounted
     joined_shown z n volume None there = pairs_same Still k.own z.mounted
     joined_shown z n volume (Some m) there = put_same z n m (record m { device = join m.device; b = volume }) there (k.joins m.device)
 
-    lends_shown : (s : Subsystem) (a : ℕ) (d : MarksDevice) → IsSeat s d → ((t : Told) → Still d (T.hold true (lend by_plain d a) t).state) →
+    lends_shown : (s : Subsystem) (a : ℕ) (d : MarksDevice) → IsSeat s d → ((t : CameTo (lend by_plain d a)) → Still d t.state) →
         (o : Option Mounted) →
         mounted_in s.mounted d.store.device ≡ o → Pairs Still s.mounted (lends s a d.store.device o).mounted
     lends_shown s a d seat h None there = pairs_same Still k.own s.mounted
@@ -171,7 +174,8 @@ module _ (Still : MarksDevice → MarksDevice → Type 0) (Made : Bool → Bool 
         let z = behind_outcome s d.store.device o in
         pairs_on Still k.on (devices_of s) (devices_of z) (devices_of (joined z a o.told.a (mounted_in z.mounted a)))
         (put_same s d.store.device m (mounted_behind o) there
-        (subst (λ (x : MarksDevice). Still x (T.hold true (lend by_plain x a) (told_to s.pool m)).state) (sym (seat m there)) (h (told_to s.pool m))))
+        (subst (λ (x : MarksDevice). Still x (T.hold true (lend by_plain x a) (told_to s.pool m)).state) (sym (seat m there))
+        (h (told_came (lend by_plain d a) (told_to s.pool m)))))
         (joined_shown z a o.told.a (mounted_in z.mounted a) refl)
 
     happens_shown : (s : Subsystem) (e : Event) (x : MarksDeed) → KeepsEvent s e x → Shows (is_loss e) (fails_alone_by s e) (happens_by s x)
@@ -299,9 +303,9 @@ module _ (Still Made : MarksDevice → MarksDevice → Type 0) where
   }
 
   -- an answer is an event's end
-  pub ends_made : {X Y : Type 0} (d : MarksDevice) (talk : Talk X) (f : X → Y) → ((t : Told) → Made d (T.hold true talk t).state) →
-      (t : Told) → Made d (T.hold true (and_then talk (λ z a. Done z (f a))) t).state
-  ends_made d talk f h t = subst (Made d) (sym (hold_answer talk f t)) (h t)
+  pub ends_made : {X Y : Type 0} (d : MarksDevice) (talk : Talk X) (f : X → Y) → ((t : CameTo talk) → Made d t.state) →
+      (t : CameTo (and_then talk (λ z a. Done z (f a)))) → Made d t.state
+  ends_made d talk f h t = h (answered talk f t)
 
   pub becomes_so : (s : Subsystem) (d : MarksDevice) → Stands s d → (z : MarksDevice) → z.store.device ≡ d.store.device → Still d z → (end : EventEnd) →
       KeepsDeed s (Becomes z end)

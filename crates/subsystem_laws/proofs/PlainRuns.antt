@@ -6,17 +6,17 @@ use Rattle.deck_plan.specs.declared.event.EventLine.{EventLine}
 use Rattle.deck_text.specs.declared.line.DeviceLine.{DeviceLine}
 use Rattle.deck_text.specs.DeckLines.{DeckLines}
 use Rattle.plain_defs.specs.History.{OpenEntry, IsPlain}
+use Rattle.plain_defs.specs.Journal.{Plans}
 use Rattle.plain_defs.specs.PlainState.{PlainState}
+use Rattle.ckd_types.specs.declared.geometry.Geometry as geometries
 use Rattle.ckd_types.specs.declared.paths.Side.{Side}
 use Rattle.ckd_types.specs.declared.paths.Side.TheVariants.{A, B}
 use Rattle.loss_model.specs.declared.Loss.TheVariants as losses
 use Rattle.track_image.specs.Image.{Image}
 use Rattle.device_outside.specs.Interaction.{Interaction}
-use Rattle.device_outside.specs.Told as T
-use Rattle.device_outside.specs.Told.{Told}
 use Rattle.device_defs.specs.Orders.{join, split, restore, hold, resume, replace}
-use Rattle.device_defs.specs.Marks.{MarksDevice, MarksStore}
-use Rattle.device_laws.proofs.Had.{Had, held}
+use Rattle.device_defs.specs.Marks.{MarksDevice, MarksStore, new_device}
+use Rattle.device_laws.proofs.Had.{Had}
 use Rattle.device_laws.proofs.PlainCommand.{command_follows, follows_store}
 use Rattle.device_laws.proofs.PlainCuts.{reset_follows}
 use Rattle.device_laws.proofs.PlainEvents.{new_follows, start_follows}
@@ -39,6 +39,8 @@ use Rattle.subsystem_defs.specs.Refusals as R
 use Rattle.subsystem_defs.specs.Refusals.{first_cause, where_so, lent_by, active_by, is_alike, pair_fault}
 use Rattle.subsystem_defs.proofs.Unrefused.{first_none}
 use Rattle.subsystem_laws.specs.Served.{IsServedEvent, IsServed, IsServedDeck}
+use Rattle.subsystem_laws.specs.Came.{CameTo}
+use Rattle.subsystem_laws.proofs.Came.{came_had}
 use Rattle.subsystem_laws.proofs.RunLines.{MayAsk}
 use Rattle.subsystem_laws.proofs.Walks.{HasOwn, IsKept, AreSo, event_so, line_keeps, lines_keep_so, lines_end_so, behind_weaker}
 
@@ -57,8 +59,8 @@ plain_history d p = subst (λ (x : PlainState). IsPlain d.plans x d.history) p.f
 -- Deeds that leave each device's history plain
 
 leaves : {A : Type 0} {talk : Interaction Bool Image MarksDevice A} (d : MarksDevice) (p : Plainly d) → Had talk (λ y (_ : A). Follows p.number p.empty y) →
-    (t : Told) → Plainly (T.hold true talk t).state
-leaves d p h t = record { number = p.number; empty = p.empty; follows = held true h t }
+    (t : CameTo talk) → Plainly t.state
+leaves d p h t = record { number = p.number; empty = p.empty; follows = came_had h t }
 
 -- an order that changes nothing of what a plain device has
 stored : (d : MarksDevice) (z : MarksStore) → core_of z ≡ core_of d.store → Plainly d → Plainly (record d { store = z })
@@ -95,7 +97,7 @@ lent_is_idle x y is =
     (where_so y.store.paired Paired) (active_by x.history.running) (active_by y.history.running)
     (where_so (not (is_alike x.store y.store)) Geometry ∷ where_so (not x.store.a.up) Down ∷ where_so (not y.store.a.up) Down ∷ []) is)
 
-plain_kept : IsKept Plainly IsServedEvent
+pub plain_kept : IsKept Plainly IsServedEvent
 plain_kept = record {
   started = λ d path n may fault p. record {
     number = p.number;
@@ -108,10 +110,10 @@ plain_kept = record {
   cut = λ d path p. leaves d p (reset_follows p.number p.empty d p.follows path);
   lost_cache = λ d p. leaves d p (loss_follows p.number p.empty d p.follows losses.Cache);
   lost_store = λ d p. leaves d p (loss_follows p.number p.empty d p.follows losses.Store);
-  lost_side = λ d side fault p. leaves d p (loss_follows p.number p.empty d p.follows (losses.Side side));
+  lost_side = λ d side home p. leaves d p (loss_follows p.number p.empty d p.follows (losses.Side side));
   lost_power = λ d p. leaves d p (power_follows p.number p.empty d p.follows);
   held = λ d fault p. stored d (hold d).store refl p;
-  resumed = λ d fault p. stored d (resume d).store refl p;
+  resumed = λ d pair p. stored d (resume d).store refl p;
   replaced = λ d side fault p. replaced_side d side p;
   lent = λ x y fault p q. leaves y q (lend_follows q.number q.empty y q.follows (lent_is_idle x y fault) x.store.device);
   joins = λ d free p. stored d (join d).store refl p;
@@ -147,13 +149,15 @@ line_plain x s h p = line_keeps Plainly IsServedEvent plain_kept plain_own x s (
 
 -- Decks
 
+pub new_plainly : (number : ℕ) (on : geometries.Geometry) (n : ℕ) (plans : Plans) → 1 ≤ n → Plainly (new_device number on n plans)
+new_plainly number on n plans some = record { number = _; empty = _; follows = new_follows number on n plans (omega (arith, some)) }
+
 pub opened_plain : (deck : DeckLines) (ds : List DeviceLine) → All (λ (d : DeviceLine). 1 ≤ d.cylinders) ds → ArePlain (map (opened_device deck) ds)
 opened_plain deck [] h = tt
-opened_plain deck (d ∷ ds) h =
-    let some = All-head (λ (d : DeviceLine). 1 ≤ d.cylinders) d ds h in (
-      record { number = _; empty = _; follows = new_follows d.number d.geometry d.cylinders _ (omega (arith, some)) },
-      opened_plain deck ds (All-tail (λ (d : DeviceLine). 1 ≤ d.cylinders) d ds h),
-    )
+opened_plain deck (d ∷ ds) h = (
+  new_plainly d.number d.geometry d.cylinders _ (All-head (λ (d : DeviceLine). 1 ≤ d.cylinders) d ds h),
+  opened_plain deck ds (All-tail (λ (d : DeviceLine). 1 ≤ d.cylinders) d ds h),
+)
 
 pub run_stays_plain : (deck : DeckLines) → IsServedDeck deck → All (λ (x : Logged). All Plainly (devices_of x.happened.behind)) (run_of deck).events
 unfolding D.run_asked

@@ -3,12 +3,14 @@ use Rattle.std.proofs.Common.{◌≡◌, ◌==◌, ℕ, Bool, true, false, List,
 use Rattle.std.specs.Prelude.{not, ◌&&◌}
 use Rattle.ckd_types.specs.declared.paths.Side.{Side}
 use Rattle.ckd_types.specs.declared.paths.Side.TheVariants as sides
+use Rattle.ckd_types.specs.declared.geometry.Geometry.{Geometry}
 use Rattle.loss_model.specs.declared.Loss.TheVariants as losses
+use Rattle.plain_defs.specs.Journal.{Plans}
 use Rattle.deck_text.specs.declared.line.DeviceLine.{DeviceLine}
 use Rattle.deck_text.specs.DeckLines.{DeckLines}
 use Rattle.track_table.proofs.Places.{empty_places}
 use Rattle.device_defs.specs.Contents.{by_plain}
-use Rattle.device_defs.specs.Marks.{MarksDevice}
+use Rattle.device_defs.specs.Marks.{MarksDevice, new_device}
 use Rattle.device_defs.specs.Orders.{replace, hold}
 use Rattle.device_defs.specs.Start as S
 use Rattle.device_defs.specs.Start.{start}
@@ -19,7 +21,7 @@ use Rattle.subsystem_defs.specs.declared.end.OrderFault.TheVariants.{Same, Paire
 use Rattle.subsystem_defs.specs.Decks.{opened_device}
 use Rattle.subsystem_defs.specs.Refusals as R
 use Rattle.subsystem_defs.specs.Refusals.{pair_fault, unpair_fault, suspend_fault, replace_fault}
-use Rattle.subsystem_laws.proofs.LendBase.{at}
+use Rattle.subsystem_laws.proofs.Came.{at}
 use Rattle.subsystem_laws.proofs.RunLines.{AnyEvent}
 use Rattle.subsystem_laws.proofs.Walks.{AreSo, IsKept}
 use Rattle.subsystem_defs.proofs.Unrefused.{first_none, where_none, is_not}
@@ -82,10 +84,10 @@ steered_kept = record {
   cut = λ d path f. at (reset_steers by_plain d path f);
   lost_cache = λ d f. at (lose_steers by_plain d losses.Cache f);
   lost_store = λ d f. at (lose_steers by_plain d losses.Store f);
-  lost_side = λ d side fault f. at (lose_steers by_plain d (losses.Side side) f);
+  lost_side = λ d side home f. at (lose_steers by_plain d (losses.Side side) f);
   lost_power = λ d f. at (power_steers by_plain d f);
   held = λ d fault f. hold_steered d f fault;
-  resumed = λ d fault f. record { led = λ e. absurd (cc); half = f.half };
+  resumed = λ d pair f. record { led = λ e. absurd (cc); half = f.half };
   replaced = λ d side fault f. replaced_steered d f side fault;
   lent = λ x y fault e f. at (lend_steers by_plain y x.store.device (alone_of y f x fault) f);
   joins = λ d free f. record { led = λ e. ((f.led e).0, refl); half = f.half };
@@ -93,6 +95,9 @@ steered_kept = record {
   restored = λ d a is f. record { led = λ e. (refl, (f.led e).1); half = λ t e up. empty_places (tracks_of d.store) t false };
 }
 
+pub new_steered : (number : ℕ) (on : Geometry) (n : ℕ) (plans : Plans) → Steered (new_device number on n plans)
+new_steered number on n plans = record { led = λ e. absurd (cc); half = λ t e up. absurd (cc) }
+
 pub opened_steered : (deck : DeckLines) (ds : List DeviceLine) → AreSo Steered (map (opened_device deck) ds)
 opened_steered deck [] = tt
-opened_steered deck (d ∷ ds) = (record { led = λ e. absurd (cc); half = λ t e up. absurd (cc) }, opened_steered deck ds)
+opened_steered deck (d ∷ ds) = (new_steered d.number d.geometry d.cylinders (opened_device deck d).device.plans, opened_steered deck ds)

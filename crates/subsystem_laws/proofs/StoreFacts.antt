@@ -48,7 +48,7 @@ use Rattle.device_defs.specs.Losses.{
   call_failed,
 }
 use Rattle.device_defs.specs.Memory.{tried}
-use Rattle.device_defs.specs.Owed.{hear, modified_told, dropped_told, track_told, waiting_told, ended}
+use Rattle.device_defs.specs.Owed.{hear, ended}
 use Rattle.device_defs.specs.Store.{
   Store,
   tracks_of,

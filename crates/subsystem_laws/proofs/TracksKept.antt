@@ -13,8 +13,6 @@ use Rattle.track_image.specs.Image.{Image}
 use Rattle.track_table.proofs.Places.{empty_places}
 use Rattle.device_outside.specs.Interaction.{Interaction}
 use Rattle.device_outside.specs.Pool.{Call}
-use Rattle.device_outside.specs.Told as T
-use Rattle.device_outside.specs.Told.{Told}
 use Rattle.device_outside.specs.Volume as V
 use Rattle.device_outside.specs.Volume.{counted, counted_if}
 use Rattle.device_defs.specs.declared.counts.Counts.{Counts}
@@ -47,8 +45,10 @@ use Rattle.subsystem_defs.specs.Refusals as R
 use Rattle.subsystem_defs.specs.Refusals.{replace_fault, pair_fault, unpair_fault}
 use Rattle.subsystem_laws.specs.Causes.{KeepsTracks, KeepTracks}
 use Rattle.subsystem_laws.specs.Served.{IsServedDeck}
+use Rattle.subsystem_laws.specs.Came.{CameTo}
+use Rattle.subsystem_laws.proofs.Came.{at}
 use Rattle.subsystem_laws.proofs.GoodMarks.{Good, good_kept, home_before, by_lent, lent_is, restore_good, within, new_good}
-use Rattle.subsystem_laws.proofs.LendBase.{at, stays_still, lend_lends, lend_based, lent_counts}
+use Rattle.subsystem_laws.proofs.LendBase.{stays_still, lend_lends, lend_based, lent_counts}
 use Rattle.subsystem_laws.proofs.RunLines.{AnyEvent}
 use Rattle.subsystem_laws.proofs.Walks.{IsKept, AreSo, LeavesSo, run_keeps, behind_weaker}
 use Rattle.subsystem_laws.proofs.WholeOrders.{is_down}
@@ -96,9 +96,9 @@ module _ (d : MarksDevice) (f : Fair d) where
   -- in which of sides and store none more is lost
   unharmed_at : {X : Type 0} (b : Base) (i : Interaction Bool Image MarksDevice X) → failed_in b ≡ d.store.counts.failed →
       b.counts.losses.sides ≡ d.store.counts.losses.sides → b.counts.losses.store ≡ d.store.counts.losses.store → Based base_in Any b i →
-      (IsWholeOnA d.store → DeviceGoes by_plain d.store i) → IsUnharmed d.store → (t : Told) → IsUnharmed (T.hold true i t).state.store
+      (IsWholeOnA d.store → DeviceGoes by_plain d.store i) → IsUnharmed d.store → (t : CameTo i) → IsUnharmed t.state.store
   unharmed_at b i failed sides store x goes un t n =
-      let y = (T.hold true i t).state in
+      let y = t.state in
       let losses_are = (at (stays_still x) t).3 in
       let le : failed_in b ≤ top = subst (λ (k : ℕ). k ≤ top) (sym failed) f.most in
       let none : failed_in b ≡ 0 = none_less (failed_in b) y.store.counts.failed (at (never_falls x le) t) n.failed in
@@ -113,7 +113,7 @@ module _ (d : MarksDevice) (f : Fair d) where
 
   command_fair : (good : LeavesSo Good (command by_plain d)) → d.store.half ≡ None → LeavesSo Fair (command by_plain d)
   command_fair good none = λ t.
-      let y = (T.hold true (command by_plain d) t).state in
+      let y = t.state in
       let x = command_based by_plain d in
       let b = at (stays_still x) t in
       record {
@@ -127,7 +127,7 @@ module _ (d : MarksDevice) (f : Fair d) where
 
   second_fair : (good : LeavesSo Good (second by_plain d)) → LeavesSo Fair (second by_plain d)
   second_fair good = λ t.
-      let y = (T.hold true (second by_plain d) t).state in
+      let y = t.state in
       let x = second_based by_plain d in
       let b = at (stays_still x) t in
       record {
@@ -142,7 +142,7 @@ module _ (d : MarksDevice) (f : Fair d) where
 
   background_fair : (good : LeavesSo Good (background by_plain d)) → LeavesSo Fair (background by_plain d)
   background_fair good = λ t.
-      let y = (T.hold true (background by_plain d) t).state in
+      let y = t.state in
       let x = background_based by_plain d in
       let b = at (stays_still x) t in
       record {
@@ -156,7 +156,7 @@ module _ (d : MarksDevice) (f : Fair d) where
 
   reset_fair : (path : ℕ) → LeavesSo Fair (reset by_plain d path)
   reset_fair path = λ t.
-      let y = (T.hold true (reset by_plain d path) t).state in
+      let y = t.state in
       let x = based_any (reset_body by_plain d path) in
       let b = at (stays_still x) t in
       record {
@@ -169,7 +169,7 @@ module _ (d : MarksDevice) (f : Fair d) where
 
   power_fair : LeavesSo Fair (power by_plain d)
   power_fair = λ t.
-      let y = (T.hold true (power by_plain d) t).state in
+      let y = t.state in
       let x = power_based by_plain d in
       let b = at (stays_still x) t in
       record {
@@ -181,7 +181,7 @@ module _ (d : MarksDevice) (f : Fair d) where
             (λ whole. power_goes by_plain marks_are_faithful d whole) (f.un was) t;
       }
 
-  loss_un : (loss : Loss) (t : Told) → is_some d.store.lent ≡ false → IsUnharmed (T.hold true (lose by_plain d loss) t).state.store
+  loss_un : (loss : Loss) (t : CameTo (lose by_plain d loss)) → is_some d.store.lent ≡ false → IsUnharmed t.state.store
   loss_un losses.Cache t was n =
       unharmed_at (with_one_loss losses.Cache (kept d.store)) (lose by_plain d losses.Cache) refl refl refl (lose_based by_plain d losses.Cache)
       (λ whole. cache_goes by_plain marks_are_faithful d (f.good.well was) whole) (f.un was) t n
@@ -194,7 +194,7 @@ module _ (d : MarksDevice) (f : Fair d) where
 
   loss_fair : (loss : Loss) (good : LeavesSo Good (lose by_plain d loss)) → LeavesSo Fair (lose by_plain d loss)
   loss_fair loss good = λ t.
-      let y = (T.hold true (lose by_plain d loss) t).state in
+      let y = t.state in
       let x = lose_based by_plain d loss in
       let b = at (stays_still x) t in
       record {
@@ -211,7 +211,7 @@ module _ (d : MarksDevice) (f : Fair d) where
 
   lend_fair : (to : ℕ) (good : LeavesSo Good (lend by_plain d to)) → LeavesSo Fair (lend by_plain d to)
   lend_fair to good = λ t.
-      let y = (T.hold true (lend by_plain d to) t).state in
+      let y = t.state in
       let e = lend_lends d to t in
       record {
         good = good t;
@@ -252,10 +252,10 @@ fair_kept = record {
   cut = λ d path f. reset_fair d f path;
   lost_cache = λ d f. loss_fair d f losses.Cache (good_kept.lost_cache d f.good);
   lost_store = λ d f. loss_fair d f losses.Store (good_kept.lost_store d f.good);
-  lost_side = λ d side fault f. loss_fair d f (losses.Side side) (good_kept.lost_side d side fault f.good);
+  lost_side = λ d side home f. loss_fair d f (losses.Side side) (good_kept.lost_side d side home f.good);
   lost_power = λ d f. power_fair d f;
   held = λ d fault f. record { good = good_kept.held d fault f.good; most = f.most; un = λ home. (held_unharmed d (f.un home)).0 };
-  resumed = λ d fault f. record { good = good_kept.resumed d fault f.good; most = f.most; un = λ home. (held_unharmed d (f.un home)).1 };
+  resumed = λ d pair f. record { good = good_kept.resumed d pair f.good; most = f.most; un = λ home. (held_unharmed d (f.un home)).1 };
   replaced = λ d side fault f. replace_fair d f side fault (good_kept.replaced d side fault f.good);
   lent = λ x y fault e f. lend_fair y f x.store.device (good_kept.lent x y fault e.good f.good);
   joins = λ d single f. record { good = good_kept.joins d single f.good; most = f.most; un = λ home. (joined_unharmed d (f.un home)).0 };

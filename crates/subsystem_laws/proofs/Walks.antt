@@ -21,7 +21,7 @@ use Rattle.std.proofs.Common.{
   ◌∙◌,
   arith,
 }
-use Rattle.std.specs.Prelude.{All, ⊤, IfSome, if◌then◌else◌}
+use Rattle.std.specs.Prelude.{All, ⊤, IfSome, not, if◌then◌else◌}
 use Rattle.std.proofs.lemmas.Bool.{cond_both, eqb-true}
 use Rattle.std.proofs.lemmas.List.Elements.{All-nil, All-cons, All-head, All-tail}
 use Rattle.plain_defs.specs.History.{OpenEntry}
@@ -74,13 +74,15 @@ use Rattle.subsystem_defs.specs.Happening.{
 }
 use Rattle.subsystem_defs.specs.Lines.{Asked, Logged, line_logged, last_behind, run_lines}
 use Rattle.subsystem_defs.specs.Subsystem.{Mounted, Subsystem, number_of, devices_of, mounted_in, put_in, with_calls, unfailing}
-use Rattle.subsystem_defs.specs.declared.end.OrderFault.TheVariants.{Same, Paired}
+use Rattle.subsystem_defs.specs.declared.end.OrderFault.TheVariants.{Same, Paired, Unpaired}
 use Rattle.subsystem_defs.specs.Refusals as R
 use Rattle.subsystem_defs.specs.Refusals.{pair_fault, suspend_fault, resume_fault, fail_fault, replace_fault, unpair_fault}
+use Rattle.subsystem_laws.specs.Came.{CameTo}
+use Rattle.subsystem_laws.proofs.Came.{answered, told_came}
 use Rattle.subsystem_laws.proofs.DeedWalk.{Stands, seat_of, IsEventwise, event_deed_is}
 use Rattle.subsystem_laws.proofs.LendBase.{lend_lends}
 use Rattle.subsystem_laws.proofs.RunLines.{AnyEvent, MayAsk, all_asked, Logs, logs_end, logs_all, Goes, line_goes, lines_go}
-use Rattle.subsystem_defs.proofs.Unrefused.{first_none, where_none}
+use Rattle.subsystem_defs.proofs.Unrefused.{first_none, where_none, is_not}
 
 -- an answer changes nothing of the device behind it
 pub hold_answer : {S X Y : Type 0} (i : Interaction Bool Image S X) (f : X → Y) (t : Told) →
@@ -141,6 +143,15 @@ pub none_lent : (o : Option ℕ) → R.lent_by o ≡ None → is_some o ≡ fals
 none_lent (Some to) e = absurd (cc)
 none_lent None e = refl
 
+pub fail_home : (d : MarksDevice) (side : Side) → fail_fault d side ≡ None → is_some d.store.lent ≡ false
+unfolding R.fail_fault
+fail_home d side is = none_lent d.store.lent (first_none (R.lent_by d.store.lent) _ is).0
+
+resume_paired : (d : MarksDevice) → resume_fault d ≡ None → d.store.paired ≡ true
+unfolding R.resume_fault
+resume_paired d is =
+    is_not d.store.paired (where_none (not d.store.paired) Unpaired (first_none (R.where_so (not d.store.paired) Unpaired) _ is).0)
+
 abbrev pub IsFree : MarksDevice → Type 0
 IsFree d = (d.store.paired ≡ false) × (is_some d.store.lent ≡ false)
 
@@ -161,9 +172,9 @@ pub record HasOwn (May : Event → Type 0) : Type 0 where
   pub back : (d : ℕ) → May (events.Back d)
 
 module _ (P : MarksDevice → Type 0) where
-  -- so it is behind an interaction, where the outside is told
+  -- so it is behind an interaction, whatever is answered
   abbrev pub LeavesSo : {A : Type 0} → Talk A → Type 0
-  LeavesSo talk = (t : Told) → P (T.hold true talk t).state
+  LeavesSo talk = (t : CameTo talk) → P t.state
 
   -- what each deed keeps, where these events may come
   pub record IsKept (May : Event → Type 0) : Type 0 where
@@ -174,10 +185,10 @@ module _ (P : MarksDevice → Type 0) where
     pub cut : (d : MarksDevice) (path : ℕ) → P d → LeavesSo (reset by_plain d path)
     pub lost_cache : (d : MarksDevice) → P d → LeavesSo (lose by_plain d losses.Cache)
     pub lost_store : (d : MarksDevice) → P d → LeavesSo (lose by_plain d losses.Store)
-    pub lost_side : (d : MarksDevice) (side : Side) → fail_fault d side ≡ None → P d → LeavesSo (lose by_plain d (losses.Side side))
+    pub lost_side : (d : MarksDevice) (side : Side) → is_some d.store.lent ≡ false → P d → LeavesSo (lose by_plain d (losses.Side side))
     pub lost_power : (d : MarksDevice) → P d → LeavesSo (power by_plain d)
     pub held : (d : MarksDevice) → suspend_fault d ≡ None → P d → P (hold d)
-    pub resumed : (d : MarksDevice) → resume_fault d ≡ None → P d → P (resume d)
+    pub resumed : (d : MarksDevice) → (is_some d.store.lent ≡ true → d.store.paired ≡ true) → P d → P (resume d)
     pub replaced : (d : MarksDevice) (side : Side) → replace_fault d side ≡ None → P d → P (replace d side)
     pub lent : (x y : MarksDevice) → pair_fault x y ≡ None → P x → P y → LeavesSo (lend by_plain y x.store.device)
     pub joins : (d : MarksDevice) → IsFree d → P d → P (join d)
@@ -239,12 +250,12 @@ module _ (P : MarksDevice → Type 0) where
   unfolding H.sweep
   swept_so f h [] pool p = tt
   swept_so f h (m ∷ ms) pool p =
-      (h m.device p.0 (told_to pool m), swept_so f h ms (held_with pool m (f m.device)).told.pool p.1)
+      (h m.device p.0 (told_came (f m.device) (told_to pool m)), swept_so f h ms (held_with pool m (f m.device)).told.pool p.1)
 
   asked_so : (s : Subsystem) (n : ℕ) (talk : Talk (Option EventEnd)) → LeavesSo talk → AreSo s.mounted → (o : Option Mounted) →
       AreSo (asks s n o talk).behind.mounted
   asked_so s n talk h p None = p
-  asked_so s n talk h p (Some m) = put_so s.mounted n (mounted_behind (held_with s.pool m talk)) p (h (told_to s.pool m))
+  asked_so s n talk h p (Some m) = put_so s.mounted n (mounted_behind (held_with s.pool m talk)) p (h (told_came talk (told_to s.pool m)))
 
   becomes_so : (s : Subsystem) (n : ℕ) (d : MarksDevice) → P d → AreSo s.mounted → (o : Option Mounted) → AreSo (becomes s n o d).mounted
   becomes_so s n d new p None = p
@@ -262,9 +273,10 @@ module _ (P : MarksDevice → Type 0) where
     lends_so s a b p None is h = p
     lends_so s a b p (Some m) is h =
         let o = held_with s.pool m (lend by_plain m.device a) in
+        let t = told_came (lend by_plain m.device a) (told_to s.pool m) in
         let z = behind_outcome s b o in
-        let pz = put_so s.mounted b (mounted_behind o) p (h.lent m is (told_to s.pool m)) in
-        let number = (lend_lends m.device a (told_to s.pool m)).number ∙ mounted_number s.mounted b m is in
+        let pz = put_so s.mounted b (mounted_behind o) p (h.lent m is t) in
+        let number = (lend_lends m.device a t).number ∙ mounted_number s.mounted b m is in
         joined_so z a o.told.a pz (mounted_in z.mounted a) (mounted_so z.mounted a pz)
         (λ y at. h.single y (sym (put_other s.mounted a b (mounted_behind o) number h.other) ∙ at))
 
@@ -280,7 +292,7 @@ module _ (P : MarksDevice → Type 0) where
 
     -- an answer is an event's end
     answers : {X Y : Type 0} (talk : Talk X) (f : X → Y) → LeavesSo talk → LeavesSo (and_then talk (λ d a. Done d (f a)))
-    answers talk f h = λ t. subst P (sym (hold_answer talk f t)) (h t)
+    answers talk f h = λ t. h (answered talk f t)
 
     module _ (s : Subsystem) (p : AreSo s.mounted) where
       so_of : (d : MarksDevice) → Stands s d → P d
@@ -309,13 +321,13 @@ module _ (P : MarksDevice → Type 0) where
         lost_cache = λ may. k.lost_cache;
         lost_store = λ may. k.lost_store;
         lost_side = λ n d x here side fault may.
-            answers (lose by_plain d (losses.Side side)) (λ a. Some (ends_done a)) (k.lost_side d side fault (so_of d x));
+            answers (lose by_plain d (losses.Side side)) (λ a. Some (ends_done a)) (k.lost_side d side (fail_home d side fault) (so_of d x));
         lost_power = λ may. k.lost_power;
         repaired_cache = λ may. tt;
         repaired_store = λ may. tt;
         lent = λ a b x y z w fault may. may_lend x y z w fault;
         held = λ n d x fault may. k.held d fault (so_of d x);
-        resumed = λ n d x fault may. k.resumed d fault (so_of d x);
+        resumed = λ n d x fault may. k.resumed d (λ away. resume_paired d fault) (so_of d x);
       }
 
       -- one event

@@ -137,7 +137,7 @@ module _ (v w : List Track) (d : WholeDevice) where
   fail_fault_both A = refl
   fail_fault_both B = refl
 
-  suspend_fault_both : suspend_fault (marks_device v w d) ≡ suspend_fault d
+  pub suspend_fault_both : suspend_fault (marks_device v w d) ≡ suspend_fault d
   unfolding R.suspend_fault
   suspend_fault_both =
       ap (λ (b : Bool). R.first_cause (R.where_so (not d.store.paired) Unpaired ∷ R.where_so b Half

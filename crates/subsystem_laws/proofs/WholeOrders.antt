@@ -56,7 +56,7 @@ fault_some : (o : Option (HalfWrite Image)) → is_some (option_map half_mark o)
 fault_some None = refl
 fault_some (Some hw) = refl
 
-fault_both : (v w : List Track) (d : WholeDevice) (side : Side) → replace_fault (marks_device v w d) side ≡ replace_fault d side
+pub fault_both : (v w : List Track) (d : WholeDevice) (side : Side) → replace_fault (marks_device v w d) side ≡ replace_fault d side
 unfolding R.replace_fault
 fault_both v w d A =
     ap (λ (b : Bool). first_cause (lent_by d.store.lent ∷ where_so (not (R.has_side d.store A)) NoSide ∷ where_so d.store.a.up Up ∷ where_so b Half ∷ []))
@@ -72,7 +72,7 @@ is_down None true true more e = absurd (cc)
 is_down None false up more e = absurd (cc)
 is_down None true false more e = (refl, refl, refl)
 
-down_by : (d : WholeDevice) (side : Side) → replace_fault d side ≡ None → ((side_of d.store side).up ≡ false) × (R.has_side d.store side ≡ true) ×
+pub down_by : (d : WholeDevice) (side : Side) → replace_fault d side ≡ None → ((side_of d.store side).up ≡ false) × (R.has_side d.store side ≡ true) ×
     (is_some d.store.lent ≡ false)
 unfolding R.replace_fault
 down_by d side e =
@@ -82,7 +82,7 @@ unless_lent : {v w : List Track} {d : WholeDevice} {h : Held} → Stands v w d h
 unless_lent (in_order i) free = i
 unless_lent (is_away i) free = absurd (let lent = i.store.lent in cc)
 
-paired_by : (d : WholeDevice) (side : Side) → R.has_side d.store side ≡ true → side ≡ B → d.store.paired ≡ true
+pub paired_by : (d : WholeDevice) (side : Side) → R.has_side d.store side ≡ true → side ≡ B → d.store.paired ≡ true
 paired_by d A e is = absurd (cc)
 paired_by d B e is = e
 

@@ -9,3 +9,5 @@ pub mod Transfers
 pub mod Excused
 pub mod SoundHardware
 pub mod Recoveries
+pub mod Came
+pub mod CameAbout

@@ -1,6 +1,7 @@
 //! Laws of the subsystem: an event of its devices is what happens in a run. It has no code; its lemmas are over plain variables.
 #![tactic(auto)]
 
+mod about;
 mod causes;
 mod plain;
 mod promised;
@@ -9,6 +10,7 @@ mod transfers;
 mod waits;
 mod whole;
 
+pub use about::device_stays_excused;
 pub use causes::{
     calm_run_misses_nothing, checks_have_causes, lost_tracks_have_causes,
     no_call_fails_without_faults, read_run_checks_nothing, run_checks_nothing, run_excuses_devices,

@@ -12,6 +12,8 @@ use Rattle.device_defs.specs.Marks.{MarksStore}
 use Rattle.device_laws.proofs.NewDevices.{new_in_order, new_marks}
 use Rattle.device_laws.proofs.PlainEvents.{new_follows}
 use Rattle.device_laws.proofs.PlainTurns.{Follows}
+use Rattle.subsystem_laws.specs.CameAbout as about
+use Rattle.subsystem_laws.specs.CameAbout.{CameAbout}
 use Rattle.turn_laws.specs.Standing.{GiveBytes, Stands, new_device}
 
 pub new_stands : {K : Type 0} (d : ℕ) (g : Geometry) (n : ℕ) (plans : Plans) (u : Outside (List ℕ) K) → 1 ≤ n → n ≤ 64 →
@@ -25,4 +27,7 @@ new_stands d g n plans u some most a b gives = record {
   follows = subst (λ (m : MarksStore). Follows d (empty_state g n) (record { store = m; paths = fresh_paths; plans = plans; history = no_history; chain = None }))
       (sym (new_marks d g n)) (new_follows d g n plans (omega (arith, some)));
   gives = gives;
+  never = refl;
+  about = subst (λ (m : MarksStore). CameAbout (record { store = m; paths = fresh_paths; plans = plans; history = no_history; chain = None }))
+      (sym (new_marks d g n)) (about.opened d g n plans some);
 }

@@ -1,5 +1,5 @@
--- A device that stands beside the plain device of its history is sound, its history is a plain device's, and so is a new one.
-use Rattle.std.proofs.Common.{◌≡◌, ◌<◌, ℕ, Bool, true, false, List, sym, ap, subst}
+-- A device that stands beside the plain device of its history is sound, its history is a plain device's, and it is excused for what it lost.
+use Rattle.std.proofs.Common.{◌≡◌, ◌<◌, ◌^◌, ◌-◌, ℕ, Bool, true, false, List, sym, ap, subst}
 use Rattle.std.specs.Prelude.{is_some}
 use Rattle.ckd_types.specs.declared.record.Track.{Track}
 use Rattle.ckd_types.specs.Volume.{track_in}
@@ -8,12 +8,14 @@ use Rattle.plain_defs.specs.Loose.{firm}
 use Rattle.plain_defs.specs.PlainState.{empty_state}
 use Rattle.track_image.specs.Image.{Image}
 use Rattle.device_outside.specs.Outside.{Outside}
+use Rattle.device_defs.specs.Excused.{IsExcused}
 use Rattle.device_defs.specs.Sound.{IsSound, IsSoundAt, IsHeld, plain_device}
 use Rattle.device_defs.specs.Store.{tracks_of}
 use Rattle.device_laws.specs.Agrees.{Held, image_in}
 use Rattle.device_laws.specs.InOrder.{IsInOrder}
 use Rattle.device_laws.specs.Whole.{WholeDevice, marks_device}
 use Rattle.device_laws.proofs.PlainStores.{IsOf, core_of}
+use Rattle.subsystem_laws.proofs.Excusable.{excused_of}
 use Rattle.turn_laws.specs.Standing.{Stands}
 
 module _ (v w : List Track) (d : WholeDevice) (h : Held) (of : IsOf (plain_device d) (core_of (marks_device v w d).store)) where
@@ -42,3 +44,9 @@ stands_sound d u s = at_home s.plain s.firm d s.held s.follows.of (is_some d.sto
 pub stands_plainly : {K : Type 0} (d : WholeDevice) (u : Outside (List ℕ) K) → Stands d u →
     IsPlain d.plans (empty_state d.store.geometry d.store.cylinders) d.history
 stands_plainly d u s = s.follows.stands.plain
+
+pub stands_excused : {K : Type 0} (d : WholeDevice) (u : Outside (List ℕ) K) → Stands d u → d.store.counts.failed < 2 ^ 64 - 1 →
+    d.store.counts.losses.cache < 2 ^ 64 - 1 →
+    IsExcused d.plans (empty_state d.store.geometry d.store.cylinders) d.history.items d.store.lost d.store.counts
+stands_excused d u s failed cache =
+    excused_of (marks_device s.plain s.firm d) s.about (record { home = s.order.free; none = s.never }) failed cache

@@ -1,5 +1,5 @@
 -- A device goes on to stand beside the plain device of its history behind each event of a turn, where memory is had.
-use Rattle.std.proofs.Common.{◌≡◌, ◌≤◌, ◌*◌, ℕ, Bool, true, List, [], Option, Some, None, refl, sym, ap, subst, ◌∙◌}
+use Rattle.std.proofs.Common.{◌≡◌, ◌≤◌, ◌*◌, ℕ, Bool, true, false, List, [], Option, Some, None, refl, sym, ap, subst, ◌∙◌}
 use Rattle.std.specs.Prelude.{IfSome, option_map}
 use Rattle.ckd_types.specs.Ccw.{ccw_at}
 use Rattle.ckd_types.specs.declared.channel.Ccw.{Ccw}
@@ -29,6 +29,7 @@ use Rattle.device_defs.specs.Start as S
 use Rattle.device_defs.specs.Start.{start, start_fault}
 use Rattle.device_defs.specs.Store.{HalfWrite}
 use Rattle.loss_model.specs.declared.Loss.{Loss}
+use Rattle.loss_model.specs.declared.Loss.TheVariants as losses
 use Rattle.device_laws.specs.Standing.{LooksAt, RunsOn}
 use Rattle.device_laws.specs.Whole.{WholeDevice, WholeTwin, WholeTwins, Leaves, BehindCommand, marks_device}
 use Rattle.device_laws.proofs.Always.{Always}
@@ -44,7 +45,14 @@ use Rattle.device_laws.proofs.PlainLosses.{background_follows, loss_follows}
 use Rattle.device_laws.proofs.PlainSeconds.{second_follows}
 use Rattle.device_laws.proofs.PlainTurns.{Follows, RunsAt, ChainOf, none_mid}
 use Rattle.device_laws.proofs.WholeCommand.{command_whole}
-use Rattle.device_laws.proofs.WholeParts.{background_whole, loss_whole, second_whole, start_order, start_fault_same}
+use Rattle.device_laws.proofs.WholeParts.{background_whole, loss_whole, second_whole, start_order, start_fault_same, start_same}
+use Rattle.subsystem_laws.specs.CameAbout.{CameAbout}
+use Rattle.subsystem_laws.specs.Excused.{has_fresh}
+use Rattle.subsystem_laws.proofs.AboutRuns.{about_kept}
+use Rattle.subsystem_laws.specs.Came.{CameTo}
+use Rattle.subsystem_laws.proofs.Came.{came_had}
+use Rattle.subsystem_laws.proofs.Shapes.{Shape, background_shape, command_shape, lose_shape, none_fresh, second_shape}
+use Rattle.subsystem_laws.proofs.Walks.{LeavesSo}
 use Rattle.turn_laws.specs.Standing.{GiveBytes, Stands}
 use Rattle.turn_laws.proofs.Untold.{twinned}
 
@@ -99,16 +107,24 @@ module _ {K : Type 0} {d : WholeDevice} {u : Outside (List ℕ) K} (s : Stands d
       command_whole (n * 15) on (LooksAt n on) (chain_feeds n on) s.plain s.firm d s.held s.order refl refl none
       (λ chain q is needs. runs_looks n on chain q (runs_on none o runs chain is (chains chain is)) needs)
 
+  -- a loss of any kind
+  loss_about : (loss : Loss) → LeavesSo CameAbout (lose by_plain beside loss)
+  loss_about losses.Cache = about_kept.lost_cache beside s.about
+  loss_about losses.Store = about_kept.lost_store beside s.about
+  loss_about (losses.Side side) = about_kept.lost_side beside side s.order.free s.about
+
   has : Has [] u s.held
   has = record { a = s.untold.a; b = s.untold.b; slots = subst (λ (o : Option (List ℕ)). SlotsTold u.port.pool o []) (sym s.untold.slots) tt }
 
   module _ {hears : Hearing Image K} (heard : (k : K) (m : Message Image) (r : ReplyTo m) (l : K) → hears k m r l → r ≡ reply m)
       {e : WholeDevice} {z : Outside (List ℕ) K} where
     behind : {A : Type 0} {a : A} {p : List Track → Type 0} {i : Interaction (List ℕ) Image WholeDevice A} {j : Interaction Bool Image MarksDevice A} →
-        WholeTwins (Leaves p) i j s.held → Had j (λ y _. Follows num empty y) → Always i (λ y _. Continues d.plans d.history y) →
-        Ran (λ ok. ok ≡ true) hears i u e a z → Stands e z
-    behind {a = a} {p = p} {i = i} both had goes r =
-        let o = twinned [] true (WholeTwin (Leaves p)) (λ y _. Follows num empty y) heard s.held both had.holds s.untold r in
+        WholeTwins (Leaves p) i j s.held → Had j (λ y _. Follows num empty y) → LeavesSo CameAbout j →
+        ((t : CameTo j) → Shape d.history t.state.history) → Always i (λ y _. Continues d.plans d.history y) → Ran (λ ok. ok ≡ true) hears i u e a z →
+        Stands e z
+    behind {a = a} {p = p} {i = i} {j = j} both had abouts shapes goes r =
+        let o = twinned [] (WholeTwin (Leaves p)) heard s.held both s.untold r in
+        let t : CameTo j = record { state = o.state; answer = o.answer; is = o.came } in
         let same = (always_ran i (λ y _. Continues d.plans d.history y) goes.holds r).plans in
         record {
           plain = o.is.plain;
@@ -116,15 +132,20 @@ module _ {K : Type 0} {d : WholeDevice} {u : Outside (List ℕ) K} (s : Stands d
           held = o.holdings;
           untold = o.untold;
           order = o.is.is.order;
-          follows = own_follows num empty (marks_device o.is.plain o.is.firm e) (subst (λ (m : MarksDevice). Follows num empty m) (sym o.is.marks) o.had);
+          follows = own_follows num empty (marks_device o.is.plain o.is.firm e)
+              (subst (λ (m : MarksDevice). Follows num empty m) (sym o.is.marks) (came_had had t));
           gives = subst GiveBytes (sym same) s.gives;
+          about = subst CameAbout (sym o.is.marks) (abouts t);
+          never = subst (λ (m : MarksDevice). has_fresh m.history.items ≡ false) (sym o.is.marks) (none_fresh d.history o.state.history (shapes t) s.never);
         }
 
     pub command_stands : (a : Option Stepped) (o : OpenEntry) → d.store.half ≡ None → d.history.running ≡ Some o →
         ((chain : ChainState) → d.chain ≡ Some chain → IsChain chain) → Ran (λ ok. ok ≡ true) hears (command contents d) u e a z → Stands e z
     command_stands a o none runs chains r =
         behind (whole_of o none runs chains)
-        (command_follows num empty beside s.follows o runs (ap (option_map half_mark) none)) (command_goes contents d.plans d.history d (itself d)) r
+        (command_follows num empty beside s.follows o runs (ap (option_map half_mark) none))
+        (about_kept.commanded beside o runs (ap (option_map half_mark) none) s.about) (command_shape beside)
+        (command_goes contents d.plans d.history d (itself d)) r
 
     -- no data check comes of a command, nor of the other part of its write
     pub command_checks : (a : Option Stepped) (o : OpenEntry) → d.store.half ≡ None → d.history.running ≡ Some o →
@@ -143,16 +164,20 @@ module _ {K : Type 0} {d : WholeDevice} {u : Outside (List ℕ) K} (s : Stands d
     pub second_stands : (a : SecondEnd) (h : HalfWrite Image) → d.store.half ≡ Some h → Ran (λ ok. ok ≡ true) hears (second contents d) u e a z → Stands e z
     second_stands a h half r =
         behind (second_whole s.plain s.firm d s.held s.order (λ i is. (s.order.opened i is).suits))
-        (second_follows num empty beside s.follows (half_mark h) (ap (option_map half_mark) half)) (second_goes contents d.plans d.history d (itself d)) r
+        (second_follows num empty beside s.follows (half_mark h) (ap (option_map half_mark) half))
+        (about_kept.seconded beside (half_mark h) (ap (option_map half_mark) half) s.about) (second_shape beside)
+        (second_goes contents d.plans d.history d (itself d)) r
 
     pub background_stands : (a : Option Did) → d.store.half ≡ None → Ran (λ ok. ok ≡ true) hears (background contents d) u e a z → Stands e z
     background_stands a none r =
         behind (background_whole s.plain s.firm d s.held s.order none)
-        (background_follows num empty beside s.follows (ap (option_map half_mark) none)) (background_goes contents d.plans d.history d (itself d)) r
+        (background_follows num empty beside s.follows (ap (option_map half_mark) none))
+        (about_kept.worked beside (ap (option_map half_mark) none) s.about) (background_shape beside)
+        (background_goes contents d.plans d.history d (itself d)) r
 
     pub loss_stands : (loss : Loss) (a : Unit {0}) → Ran (λ ok. ok ≡ true) hears (lose contents d loss) u e a z → Stands e z
     loss_stands loss a r =
-        behind (loss_whole s.plain s.firm d s.held loss s.order) (loss_follows num empty beside s.follows loss)
+        behind (loss_whole s.plain s.firm d s.held loss s.order) (loss_follows num empty beside s.follows loss) (loss_about loss) (lose_shape beside loss)
         (lose_goes contents d.plans d.history d loss (itself d)) r
 
 -- the start of a program
@@ -169,4 +194,8 @@ start_stands d u path s least most none = record {
       start_follows d.store.device (empty_state d.store.geometry d.store.cylinders) (marks_device s.plain s.firm d) s.follows path least most
       (sym (start_fault_same s.plain s.firm d path) ∙ none);
   gives = s.gives;
+  about =
+      subst CameAbout (sym (start_same s.plain s.firm d path))
+      (about_kept.started (marks_device s.plain s.firm d) path d.store.device (least, most) (sym (start_fault_same s.plain s.firm d path) ∙ none) s.about);
+  never = s.never;
 }

@@ -1,6 +1,6 @@
 -- What holds behind the run of a device's event over a port that tells no pool, where memory is had and its volumes tell what they hold: the step over
--- marks has a device beside it of which holds what always holds behind that step.
-use Rattle.std.proofs.Common.{◌≡◌, ℕ, Bool, true, false, List, Option, Some, None, set, get_or, ap, sym, subst, ◌∙◌}
+-- marks can come to the device beside it.
+use Rattle.std.proofs.Common.{◌≡◌, ℕ, Bool, true, false, List, Option, Some, None, set, get_or, refl, ap, sym, subst, ◌∙◌}
 use Rattle.std.proofs.lemmas.List.{get_or_default}
 use Rattle.ckd_types.specs.declared.paths.Side.{Side}
 use Rattle.ckd_types.specs.declared.paths.Side.TheVariants as sides
@@ -13,8 +13,8 @@ use Rattle.device_outside.specs.Interaction.{Interaction}
 use Rattle.device_outside.specs.Outside.{Outside, view_of, with_view, Ran, done, tried, asked, read, wrote, told}
 use Rattle.device_outside.specs.After.{Holdings, holds_of, with_held, with_slots}
 use Rattle.turn_laws.specs.Standing.{Untold}
-use Rattle.device_laws.proofs.Had as H
-use Rattle.device_laws.proofs.Had.{BehindHad}
+use Rattle.subsystem_laws.specs.Came as C
+use Rattle.subsystem_laws.specs.Came.{Came, delivered}
 
 side_tells : {R K : Type 0} (w : Outside R K) (h : Holdings R) (side : Side) {v : VolumeView R} → Untold w h → view_of w side ≡ Some v →
     v.contents ≡ Some (holds_of h side)
@@ -38,63 +38,69 @@ asked_still w h p call a t = record { a = t.a; b = t.b; slots = ap (λ (o : Opti
 may_answer : (slots : Option (List ℕ)) (call : Call) (a : AnswerTo call) → slots ≡ None → MayAnswer slots call a
 may_answer slots call a is = subst (λ (o : Option (List ℕ)). MayAnswer o call a) (sym is) tt
 
--- the other one's end, and what holds of it
-pub record Twinned {R K S A T B : Type 0} (q : S → A → T → B → Holdings R → Type 0) (p : T → B → Type 0) (s : S) (a : A) (w : Outside R K) : Type 0 where
-  pub state : T
-  pub answer : B
-  pub holdings : Holdings R
-  pub untold : Untold w holdings
-  pub is : q s a state answer holdings
-  pub had : p state answer
+-- the other one's end, which it can come to
+pub record Twinned {R K I S A T B : Type 0} (q : S → A → T → B → Holdings R → Type 0) (j : Interaction Bool I T B) (s : S) (a : A) (w : Outside R K) : Type 0
+  where
+    pub state : T
+    pub answer : B
+    pub holdings : Holdings R
+    pub untold : Untold w holdings
+    pub is : q s a state answer holdings
+    pub came : Came j state answer
 
-module _ {R O I S A T B : Type 0} (z : R) (g : O) (q : S → A → T → B → Holdings R → Type 0) where
+module _ {R I S A T B : Type 0} (z : R) (q : S → A → T → B → Holdings R → Type 0) where
   -- behind a read
-  record GoesOn (k : Option R → Interaction R I S A) (l : Option O → Interaction O I T B) (h : Holdings R) (got : Option R) : Type 0 where
-    also : Option O
-    both : Both z g q (k got) (l also) h
+  record GoesOn (k : Option R → Interaction R I S A) (l : Option Bool → Interaction Bool I T B) (h : Holdings R) (got : Option R) : Type 0 where
+    ok : Bool
+    both : Both z true q (k got) (l (delivered ok)) h
 
-  after_got : (k : Option R → Interaction R I S A) (l : Option O → Interaction O I T B) (h : Holdings R) (side : Side) (n : ℕ) (got : Option R) →
-      Delivers (Some (holds_of h side)) n got → Both z g q (k None) (l None) h → Both z g q (k (Some (get_or (holds_of h side) n z))) (l (Some g)) h →
-      GoesOn k l h got
-  after_got k l h side n None d x y = record { also = None; both = x }
+  after_got : (k : Option R → Interaction R I S A) (l : Option Bool → Interaction Bool I T B) (h : Holdings R) (side : Side) (n : ℕ) (got : Option R) →
+      Delivers (Some (holds_of h side)) n got → Both z true q (k None) (l None) h →
+      Both z true q (k (Some (get_or (holds_of h side) n z))) (l (Some true)) h → GoesOn k l h got
+  after_got k l h side n None d x y = record { ok = false; both = x }
   after_got k l h side n (Some r) d x y = record {
-    also = Some g;
-    both = subst (λ (v : R). Both z g q (k (Some v)) (l (Some g)) h) (get_or_default (holds_of h side) n z r d.0 ∙ sym d.1) y;
+    ok = true;
+    both = subst (λ (v : R). Both z true q (k (Some v)) (l (Some true)) h) (get_or_default (holds_of h side) n z r d.0 ∙ sym d.1) y;
   }
 
   -- behind a write
-  record Wrote (k : Bool → Interaction R I S A) (l : Bool → Interaction O I T B) (h : Holdings R) (side : Side) (n : ℕ) (ok : Bool) (new : Option (List R)) :
+  record Wrote (k : Bool → Interaction R I S A) (l : Bool → Interaction Bool I T B) (h : Holdings R) (side : Side) (n : ℕ) (ok : Bool) (new : Option (List R)) :
       Type 0 where
     left : R
     holds : new ≡ Some (set (holds_of h side) n left)
-    both : Both z g q (k ok) (l ok) (with_held h side n left)
+    both : Both z true q (k ok) (l ok) (with_held h side n left)
 
-  after_put : (k : Bool → Interaction R I S A) (l : Bool → Interaction O I T B) (h : Holdings R) (side : Side) (n : ℕ) (b : R) (ok : Bool)
-      (new : Option (List R)) → Stores (Some (holds_of h side)) n b ok new → Both z g q (k true) (l true) (with_held h side n b) →
-      ((x : R) → Both z g q (k false) (l false) (with_held h side n x)) → Wrote k l h side n ok new
+  after_put : (k : Bool → Interaction R I S A) (l : Bool → Interaction Bool I T B) (h : Holdings R) (side : Side) (n : ℕ) (b : R) (ok : Bool)
+      (new : Option (List R)) → Stores (Some (holds_of h side)) n b ok new → Both z true q (k true) (l true) (with_held h side n b) →
+      ((x : R) → Both z true q (k false) (l false) (with_held h side n x)) → Wrote k l h side n ok new
   after_put k l h side n b true new e x y = record { left = b; holds = e; both = x }
   after_put k l h side n b false new e x y = record { left = e.0; holds = e.1; both = y e.0 }
 
-  module _ {K : Type 0} (p : T → B → Type 0) {hears : Hearing I K}
-      (heard : (k : K) (m : Message I) (r : ReplyTo m) (l : K) → hears k m r l → r ≡ reply m) where
-    pub twinned : {i : Interaction R I S A} {j : Interaction O I T B} (h : Holdings R) {u w : Outside R K} {s : S} {a : A} → Both z g q i j h →
-        BehindHad j p → Untold u h → Ran (λ ok. ok ≡ true) hears i u s a w → Twinned q p s a w
-    unfolding H.BehindHad
-    twinned h (both_done x) f t done = record { state = _; answer = _; holdings = h; untold = t; is = x; had = f }
-    twinned h (both_try x y) f t (tried true m r) = twinned h x f t r
-    twinned h (both_try x y) f t (tried false m r) = absurd (cc)
-    twinned h {u = u} (both_ask {call = call} e x) f t (asked {a = a} {p = port} says r) =
-        twinned (with_slots h call a) (x a (may_answer h.slots call a t.slots)) (f (unnumbered call a)) (asked_still u h port call a t) r
-    twinned h {u = u} (both_free {slot = slot} o x) f t (asked {a = a} {p = port} says r) =
-        twinned (with_slots h (FreeSlot slot) tt) x (f tt) (asked_still u h port (FreeSlot slot) tt t) r
-    twinned h {u = u} (both_read {side = side} {t = n} {k = k} {l = l} x y) f t (read {got = got} {v = v} {u = new} seen gives r) =
+  module _ {K : Type 0} {hears : Hearing I K} (heard : (k : K) (m : Message I) (r : ReplyTo m) (l : K) → hears k m r l → r ≡ reply m) where
+    -- what one of its answers comes to
+    by_one : {i j : Interaction Bool I T B} {s : S} {a : A} {w : Outside R K} → ((y : T) (b : B) → Came i y b → Came j y b) →
+        Twinned q i s a w → Twinned q j s a w
+    by_one f o = record { state = o.state; answer = o.answer; holdings = o.holdings; untold = o.untold; is = o.is; came = f o.state o.answer o.came }
+
+    pub twinned : {i : Interaction R I S A} {j : Interaction Bool I T B} (h : Holdings R) {u w : Outside R K} {s : S} {a : A} → Both z true q i j h →
+        Untold u h → Ran (λ ok. ok ≡ true) hears i u s a w → Twinned q j s a w
+    unfolding C.Came
+    twinned h (both_done x) t done = record { state = _; answer = _; holdings = h; untold = t; is = x; came = (refl, refl) }
+    twinned h (both_try x y) t (tried true m r) = by_one (λ y b c. c) (twinned h x t r)
+    twinned h (both_try x y) t (tried false m r) = absurd (cc)
+    twinned h {u = u} (both_ask {call = call} e x) t (asked {a = a} {p = port} says r) =
+        by_one (λ y b c. (unnumbered call a, c))
+        (twinned (with_slots h call a) (x a (may_answer h.slots call a t.slots)) (asked_still u h port call a t) r)
+    twinned h {u = u} (both_free {slot = slot} o x) t (asked {a = a} {p = port} says r) =
+        by_one (λ y b c. (tt, c)) (twinned (with_slots h (FreeSlot slot) tt) x (asked_still u h port (FreeSlot slot) tt t) r)
+    twinned h {u = u} (both_read {side = side} {t = n} {k = k} {l = l} x y) t (read {got = got} {v = v} {u = new} seen gives r) =
         let c = side_tells u h side t seen in
         let on = after_got k l h side n got (rw c at gives.delivers) x y in
-        twinned h on.both (f on.also) (has_same u h side new t (ap (λ (y : VolumeView _). y.contents) gives.after ∙ c)) r
-    twinned h {u = u} (both_write {side = side} {t = n} {r = b} {k = k} {l = l} x y) f t (wrote {ok = ok} {v = v} {u = new} seen takes r) =
+        by_one (λ y b c. (on.ok, c)) (twinned h on.both (has_same u h side new t (ap (λ (y : VolumeView _). y.contents) gives.after ∙ c)) r)
+    twinned h {u = u} (both_write {side = side} {t = n} {r = b} {k = k} {l = l} x y) t (wrote {ok = ok} {v = v} {u = new} seen takes r) =
         let c = side_tells u h side t seen in
         let put = after_put k l h side n b ok new.contents (rw c at takes.stores) x y in
-        twinned (with_held h side n put.left) put.both (f ok) (has_written u h side new n put.left t put.holds) r
-    twinned h {u = u} (both_tell {m = m} {l = l} x) f t (told {l = keeper} y hears had r) =
-        twinned h (x y) (subst (λ (r : ReplyTo m). BehindHad (l r) p) (sym (heard u.keeper m y keeper hears)) f)
-        (record { a = t.a; b = t.b; slots = t.slots }) r
+        by_one (λ y b c. (ok, c)) (twinned (with_held h side n put.left) put.both (has_written u h side new n put.left t put.holds) r)
+    twinned h {u = u} (both_tell {m = m} {l = l} x) t (told {l = keeper} y hears had r) =
+        by_one (λ z b c. subst (λ (r : ReplyTo m). Came (l r) z b) (heard u.keeper m y keeper hears) c)
+        (twinned h (x y) (record { a = t.a; b = t.b; slots = t.slots }) r)

@@ -1,5 +1,5 @@
 -- A device beside the plain device of its history, over volumes that tell what they hold and a port that tells nothing.
-use Rattle.std.specs.Prelude.{◌≡◌, ◌≤◌, ℕ, List, None}
+use Rattle.std.specs.Prelude.{◌≡◌, ◌≤◌, ℕ, false, List, None}
 use Rattle.ckd_types.specs.Ccw.{ccw_at}
 use Rattle.ckd_types.specs.declared.channel.Ccw.{Ccw}
 use Rattle.ckd_types.specs.declared.geometry.Geometry.{Geometry}
@@ -15,6 +15,8 @@ use Rattle.device_laws.specs.InOrder.{IsInOrder}
 use Rattle.device_laws.specs.NewDevice.{new_contents}
 use Rattle.device_laws.specs.Whole.{WholeDevice, marks_device}
 use Rattle.device_laws.proofs.PlainTurns.{Follows}
+use Rattle.subsystem_laws.specs.CameAbout.{CameAbout}
+use Rattle.subsystem_laws.specs.Excused.{has_fresh}
 
 -- each of a program's words gives bytes
 abbrev pub GivesAll : List Ccw → Type 0
@@ -31,7 +33,7 @@ pub record Untold {R K : Type 0} (w : Outside R K) (h : Holdings R) : Type 0 whe
   pub slots : h.slots ≡ None
 
 -- The device is in order with a plain volume and one without data of cache fast write, its history is a plain device's whose volume that is, and the
--- program that runs goes on as there
+-- program that runs goes on as there. Over marks it came about from a new device by its events and orders, and never got an empty volume on the way
 pub record Stands {K : Type 0} (d : WholeDevice) (u : Outside (List ℕ) K) : Type 0 where
   pub plain : List Track
   pub firm : List Track
@@ -40,6 +42,8 @@ pub record Stands {K : Type 0} (d : WholeDevice) (u : Outside (List ℕ) K) : Ty
   pub order : IsInOrder plain firm d.store held
   pub follows : Follows d.store.device (empty_state d.store.geometry d.store.cylinders) (marks_device plain firm d)
   pub gives : GiveBytes d.plans
+  pub about : CameAbout (marks_device plain firm d)
+  pub never : has_fresh d.history.items ≡ false
 
 -- a device to which nothing happened, on an empty volume
 abbrev pub new_device : ℕ → Geometry → ℕ → Plans → WholeDevice

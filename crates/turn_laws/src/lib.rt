@@ -1,13 +1,12 @@
-//! Laws of a device in a turn, whose port tells nothing: it goes on to stand beside the plain device of its history, and is sound.
-//! No code but law functions.
+//! Laws of a device in a turn, whose port tells nothing: it goes on to stand beside the plain device of its history, is sound, and is excused for what it
+//! lost. No code but law functions.
 #![tactic(auto)]
 
-ghost use Rattle.std.specs.Prelude.{◌≡◌, ◌≤◌, ◌*◌, [], false, true, length, slice_set, ℕ, List, Option, None, Some};
+ghost use Rattle.std.specs.Prelude.{◌≡◌, ◌≤◌, ◌<◌, ◌*◌, ◌^◌, ◌-◌, [], false, true, length, slice_set, ℕ, List, Option, None, Some};
 ghost use Rattle.ckd_chain.specs.Facts.{IsChain};
 ghost use Rattle.ckd_chain.specs.State.{ChainState};
 ghost use Rattle.ckd_types.specs.declared.geometry.Geometry.{Geometry};
 ghost use Rattle.ckd_types.specs.declared.paths.Side.{Side};
-ghost use Rattle.ckd_types.specs.declared.paths.Side.TheVariants.{B};
 ghost use Rattle.loss_model.specs.declared.Loss.{Loss};
 ghost use Rattle.plain_defs.specs.History.{IsPlain, OpenEntry, is_path_of};
 ghost use Rattle.plain_defs.specs.Journal.{Plans};
@@ -25,13 +24,15 @@ ghost use Rattle.device_defs.specs.declared.answers.Stepped.{Stepped};
 ghost use Rattle.device_defs.specs.Command.{command};
 ghost use Rattle.device_defs.specs.Contents.{contents};
 ghost use Rattle.device_defs.specs.Events.{second, background, lose};
+ghost use Rattle.device_defs.specs.Excused.{IsExcused};
 ghost use Rattle.device_defs.specs.Orders.{hold, replace, resume};
 ghost use Rattle.device_defs.specs.Pledge.{command_count, seat_counts};
 ghost use Rattle.device_defs.specs.Sound.{IsSound};
 ghost use Rattle.device_defs.specs.Start.{start, start_fault};
-ghost use Rattle.device_defs.specs.Store.{HalfWrite, OfBackground, side_of, tracks_of};
+ghost use Rattle.device_defs.specs.Store.{HalfWrite, OfBackground, tracks_of};
 ghost use Rattle.device_laws.specs.Agrees.{Held};
 ghost use Rattle.device_laws.specs.Whole.{WholeDevice};
+ghost use Rattle.subsystem_defs.specs.Refusals.{replace_fault, suspend_fault};
 ghost use Rattle.turn_laws.specs.Standing.{GiveBytes, Stands, new_device};
 
 /// Behind each event, whatever the port answers and whichever calls fail, the device stands beside the plain device of its history, where memory was
@@ -58,18 +59,26 @@ pub fn standing_device_is_sound()
         IsPlain d.plans (empty_state d.store.geometry d.store.cylinders) d.history }
 {}
 
+/// It is excused for what it lost and for its checks, while the counts of failed calls and of losses of the cache aren't at the greatest number, where they
+/// count no further.
+pub fn standing_device_is_excused()
+    ensures { (d : WholeDevice) (u : Outside (List ℕ) NoKeep) → Stands d u → d.store.counts.failed < 2 ^ 64 - 1 →
+        d.store.counts.losses.cache < 2 ^ 64 - 1 →
+        IsExcused d.plans (empty_state d.store.geometry d.store.cylinders) d.history.items d.store.lost d.store.counts }
+{}
+
 /// A new device on a volume of empty tracks stands so.
 pub fn new_device_stands()
     ensures { (d : ℕ) (g : Geometry) (n : ℕ) (plans : Plans) (u : Outside (List ℕ) NoKeep) → 1 ≤ n → n ≤ 64 → Tells u.a (empty_contents (n * 15)) →
         Tells u.b [] → GiveBytes plans → Stands (new_device d g n plans) u }
 {}
 
-/// So it does behind the orders that hold side B, resume it, or put a volume of as many tracks in place of a failed one.
+/// So it does behind the orders that hold side B, resume it, or put a volume of as many tracks in place of a failed one, where they aren't refused.
 pub fn orders_let_stand()
-    ensures held { (d : WholeDevice) (u : Outside (List ℕ) NoKeep) → Stands d u → Stands (hold d) u × Stands (resume d) u }
+    ensures held { (d : WholeDevice) (u : Outside (List ℕ) NoKeep) → Stands d u → suspend_fault d ≡ None → Stands (hold d) u }
+    ensures resumed { (d : WholeDevice) (u : Outside (List ℕ) NoKeep) → Stands d u → Stands (resume d) u }
     ensures replaced { (d : WholeDevice) (u : Outside (List ℕ) NoKeep) (side : Side) (v : VolumeView (List ℕ)) (l : List (List ℕ)) → Stands d u →
-        (side_of d.store side).up ≡ false → (side ≡ B → d.store.paired ≡ true) → v.contents ≡ Some l → length l ≡ tracks_of d.store →
-        Stands (replace d side) (with_view u side v) }
+        replace_fault d side ≡ None → v.contents ≡ Some l → length l ≡ tracks_of d.store → Stands (replace d side) (with_view u side v) }
 {}
 
 /// An event of a path changes the count of that path alone: the start of its next program, a command of its program that runs, and the second part of

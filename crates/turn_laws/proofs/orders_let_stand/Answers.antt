@@ -4,6 +4,7 @@ use Rattle.turn_laws.proofs.orders_let_stand.Goals as goal
 
 pub returns : goal.returns
 returns c = record {
-  held = λ d u s. (held_stands d u true s, held_stands d u false s);
-  replaced = λ d u side v l s down has tells long. replaced_stands d u v l tells long side s down has;
+  held = λ d u s fault. held_stands d u true (λ e. fault) s;
+  resumed = λ d u s. held_stands d u false (λ e. absurd (cc)) s;
+  replaced = λ d u side v l s fault tells long. replaced_stands d u v l tells long side s fault;
 }

@@ -1,6 +1,6 @@
-use Rattle.std.proofs.Common.{ℕ, List, ◌≡◌, ◌∙◌, sym, ap, subst}
+use Rattle.std.proofs.Common.{ℕ, List, ◌≡◌, ◌∙◌, Box, Global, sym, ap, subst}
 use Rattle.device_turn.specs.declared.counters.Counters.{Counters}
-use Rattle.device_turn.specs.Rule.{Still, Without}
+use Rattle.device_turn.specs.Rule.{Still, Without, boxed}
 use Rattle.device_turn.proofs.Views.{kept_through, still_set}
 use Rattle.device_turn.proofs.tests.count_one.Goals as goal
 
@@ -12,8 +12,8 @@ leave-requires-clause-keeps g c =
     let apart : Without c.enter.new.seat.number v.loaded = subst
     (λ (k : ℕ). Without k v.loaded) c.enter.new.seat.numbered
     (subst (λ (es : List (ℕ × ℕ)). Without v.number es) (sym loaded) e.3) in
-    let counted = c.counted-counted.ensures.counts in (
-      kept_through {P = ℕ} {H = Counters} (λ tag x. x.tag ≡ tag) v.pledge c.in-Got.counters c.counted-counted.result
-          (λ p h. c.counted-counted.ensures.tag ∙ h) e.4.0,
-      subst (λ (ws : List ℕ). Still ws v.loaded) (sym counted.1) (still_set c.in-Got.counters.counts _ counted.0 v.loaded apart e.4.1),
+    let counted = c.with_one-counted.ensures.counts in (
+      kept_through {P = ℕ} {H = Box Counters Global} (boxed (λ tag x. x.tag ≡ tag)) v.pledge c.in-Got.counters c.with_one-counted.result
+          (λ p h. c.with_one-counted.ensures.tag ∙ h) e.4.0,
+      subst (λ (ws : List ℕ). Still ws v.loaded) (sym counted.1) (still_set c.in-Got.counters.value.counts _ counted.0 v.loaded apart e.4.1),
     )

@@ -1,18 +1,38 @@
 use Rattle.std.proofs.Common.{All, sym, subst, arith}
 use Rattle.std.specs.List.{AllZip}
-use Rattle.path_turns.specs.Keeping.{IsFinished, KeepsAll, StaysKept}
+use Rattle.turn_seats.specs.Seating.{IsHome, Rests}
+use Rattle.path_turns.specs.Keeping.{IsFinished, StaysKept}
+use Rattle.path_threads.specs.Places.{IsPromisedFor, IsSpareAt, KeepsOrdered}
+use Rattle.path_threads.proofs.Holding.{home_rests, promised_rests, seated_on}
+use Rattle.path_threads.proofs.Sparing.{all_spare, promised_same}
 use Rattle.path_threads.proofs.Walking.{same_back, zip_long, zip_on}
 use Rattle.path_threads.proofs.run.run_paths.Goals as goal
 
+pub clear_all-requires : goal.clear_all-requires
+clear_all-requires g c = record {
+  operator = zip_on IsHome Rests IsHome home_rests _ _ _ c.in_ok-table.ensures.set.operator c.in_ok-seats.ensures.operator;
+  seats = seated_on _ _ _ c.deref-2.ensures.value c.in_ok-seats.ensures.seats;
+}
+
+pub all_walk-requires-clause-spare : goal.all_walk-requires-clause-spare
+all_walk-requires-clause-spare g c κs within =
+    let table = c.in_ok-table.ensures in
+    subst (λ ps. All (IsSpareAt ps c.in_ok-table.table.operator.items) c.args.orders.items) (sym c.deref-3.ensures.value)
+    (all_spare c.deref.result.now c.args.devices.items c.in_ok-table.places.items c.in_ok-table.table.operator.items c.args.orders.items table.promised table.allows c.requires.spare)
+
 pub returns-clause-kept : goal.returns-clause-kept
 returns-clause-kept g c =
+    let es = c.args.orders.items in
     let behind = c.in_ok-devices.devices in
     let new = c.finish_all.new.devices in
     let stay = subst (λ es. AllZip StaysKept es new) c.deref_mut.ensures.value c.in_ok-finish_all.ensures.stay in
-    let kept = c.in_ok-devices.ensures c.args.devices.items c.in_ok-turns.ensures.promised in
+    let first = promised_same _ _ c.args.devices.items c.in_ok-table.table.operator.items c.deref.ensures.value c.in_ok-table.ensures.promised in
+    let promised = zip_on (IsPromisedFor es) Rests (IsPromisedFor es) (λ d s z p r. promised_rests _ d s z p r) _ _ _ first c.in_ok-seats.ensures.operator in
+    let kept = c.in_ok-devices.ensures es c.args.devices.items promised in
     let k = behind.ok.0 in
-    subst (λ es. AllZip KeepsAll c.args.devices.items es) (sym (same_back behind.len new behind.items (omega (arith, k)) (zip_long StaysKept behind.items new stay)))
-    (zip_on KeepsAll StaysKept KeepsAll (λ d e z kept on. on _ kept) c.args.devices.items behind.items new kept stay)
+    subst (λ es. AllZip (KeepsOrdered c.args.orders.items) c.args.devices.items es)
+    (sym (same_back behind.len new behind.items (omega (arith, k)) (zip_long StaysKept behind.items new stay)))
+    (zip_on (KeepsOrdered es) StaysKept (KeepsOrdered es) (λ d e z kept on. on _ kept) c.args.devices.items behind.items new kept stay)
 
 pub returns-clause-finished : goal.returns-clause-finished
 returns-clause-finished g c =

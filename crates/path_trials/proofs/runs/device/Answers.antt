@@ -1,4 +1,4 @@
-use Rattle.std.proofs.Common.{[], Option, sym, ap, subst, arith}
+use Rattle.std.proofs.Common.{◌∙◌, List, ℕ, Option, sym, ap, subst, arith}
 use Rattle.std.specs.Prelude.{option_map}
 use Rattle.ckd_types.specs.declared.geometry.Geometry.TheVariants.{D3390}
 use Rattle.device_outside.specs.After.{Tells}

@@ -1,0 +1,134 @@
+-- The operator takes turns and gives them back.
+use Rattle.std.proofs.Common.{◌≡◌, ◌*◌, true, ℕ, List, [], ◌∷◌, Option, Some, None, refl, sym, ap, subst, ◌∙◌}
+use Rattle.std.specs.Prelude.{OnOk, Result, Ok, Err, is_some}
+use Rattle.std.specs.List.{AllZip}
+use Rattle.device_outside.specs.declared.volume.Volume as volumes
+use Rattle.device_defs.specs.declared.counts.Losses.{Losses}
+use Rattle.device_turn.specs.Answers.{Entered, MayLeave}
+use Rattle.device_turn.specs.Rule.{KeptBy, Still, away, worded}
+use Rattle.device_turn.specs.declared.enter.Enter.TheVariants.{Got}
+use Rattle.device_turn.specs.declared.holder.Holder.{Ghosts}
+use Rattle.device_turn.specs.declared.place.Turn.{Turn}
+use Rattle.device_turn.specs.declared.seat.TurnSeat.{TurnSeat}
+use Rattle.device_turn.specs.declared.view.View.{View}
+use Rattle.turn_seats.specs.Seating.{AreSeated, IsHome, Rests}
+use Rattle.turn_seats.specs.declared.seating.Seats.{Seats}
+use Rattle.device_core.specs.declared.device.Device.{Device}
+use Rattle.path_turns.specs.declared.promise.Promise.{Promise}
+use Rattle.device_core.specs.State.{device_of}
+use Rattle.device_defs.specs.Pledge.{Pledge, failures_of}
+use Rattle.device_laws.specs.Handed.{allowance_in}
+use Rattle.path_turns.specs.Keeping.{KeepsPromise, pledge_with, told_of}
+use Rattle.path_orders.specs.declared.device_orders.DeviceOrder.{DeviceOrder}
+use Rattle.path_orders.specs.declared.device_orders.DeviceOrder.TheVariants as orders
+use Rattle.path_orders.specs.Ordered.{HasSize, HaveLosses, IsOrdered, IsPledged, Suits}
+use Rattle.path_orders.specs.Spare.{IsSpare}
+use Rattle.path_threads.specs.declared.places.Place.{Place}
+use Rattle.path_threads.specs.Held.{IsHeld}
+use Rattle.path_threads.specs.Places.{Allows, IsPromised, SuitsSeat}
+use Rattle.path_threads.proofs.Walking.{rests_at}
+
+module _ {H P : Type 0} {G : Ghosts H P} where
+  pub held_from : (s z : TurnSeat H P G) (h : H) → z.seat.table_id ≡ s.seat.table_id → z.number ≡ s.number → z.made ≡ s.made →
+      Entered (KeptBy G.keeps) G.counts s.seat.me z.seat.me (Got h) → IsHeld s z h
+  held_from s z h own number made e = record {
+    own = own;
+    number_is = number;
+    made_is = made;
+    joined = ap (λ m. m.0.joined) e.1;
+    pledge = ap (λ m. m.0.pledge) e.1;
+    out = (ap (λ m. m.0.stage) e.1, ap (λ m. m.1) e.1, e.2);
+    may = e.4;
+  }
+
+  -- it is given back
+  pub rests_from : (s z y : TurnSeat H P G) (h : H) (word : ℕ) → IsHeld s z h → y.seat.table_id ≡ z.seat.table_id → y.number ≡ z.number → y.made ≡ z.made →
+      y.seat.me ≡ (away (worded word z.seat.me.0), []) → Rests s y
+  rests_from s z y h word held own number made is = record {
+    own = own ∙ held.own;
+    number_is = number ∙ held.number_is;
+    made_is = made ∙ held.made_is;
+    away = (ap (λ m. m.0.stage) is, ap (λ m. m.0.loaded) is, ap (λ m. m.1) is);
+    joined = ap (λ m. m.0.joined) is ∙ held.joined;
+    pledge = ap (λ m. m.0.pledge) is ∙ held.pledge;
+  }
+
+  pub home_rests : (t : Turn H P) (s z : TurnSeat H P G) → IsHome t s → Rests s z → IsHome t z
+  home_rests t s z home rests = record { at = rests_at 0 t s z home.at rests; made_is = rests.made_is ∙ home.made_is }
+
+  pub seated_on : (ts us : List (Turn H P)) (s : Seats H P G) → ts ≡ us → AreSeated ts s → AreSeated us s
+  seated_on ts us s same seated = subst (λ (l : List (Turn H P)). AreSeated l s) same seated
+
+  pub home_rest : (ts : List (Turn H P)) (ss : List (TurnSeat H P G)) → AllZip IsHome ts ss → AllZip Rests ss ss
+  home_rest [] [] h = tt
+  home_rest [] (s ∷ ss) h = absurd h
+  home_rest (t ∷ ts) [] h = absurd h
+  home_rest (t ∷ ts) (s ∷ ss) h = (
+    record { own = refl; number_is = refl; made_is = refl; away = h.0.at.away; joined = refl; pledge = refl },
+    home_rest ts ss h.1,
+  )
+
+module _ {V : Type 0} {G : volumes.Ghosts V} {N : Ghosts (Device V G) (Promise V G)} where
+  pub allows_rests : (place : Place) (s z : TurnSeat (Device V G) (Promise V G) N) → Allows place s → Rests s z → Allows place z
+  allows_rests place s z a rests = record { promise = a.promise; pledge = rests.pledge ∙ a.pledge; most = a.most; number = a.number }
+
+  pub promised_rests : (most : Losses) (d : Device V G) (s z : TurnSeat (Device V G) (Promise V G) N) → IsPromised most d s → Rests s z → IsPromised most d z
+  promised_rests most d s z p rests = record { promise = p.promise; pledge = rests.pledge ∙ p.pledge; made = p.made; allows = p.allows }
+
+pub on_ok : {A E P Q : Type 0} (r : Result A E) → OnOk r P → (P → Q) → OnOk r Q
+on_ok (Ok a) p f = f p
+on_ok (Err e) p f = tt
+
+-- behind an order the device may go back
+module _ {V : Type 0} {G : volumes.Ghosts V} where
+  pub may_order : (counts : Device V G → List ℕ) (v : View (Option (Promise V G))) (pledge : Option (Promise V G)) (p : Promise V G) (pledged : Pledge → Type 0) (d e : Device V G) →
+      v.pledge ≡ pledge → pledge ≡ Some p → pledged (pledge_with p.made.value p.most) → IsOrdered pledged d e → counts e ≡ counts d →
+      MayLeave (KeptBy KeepsPromise) counts v d → MayLeave (KeptBy KeepsPromise) counts v e
+  may_order counts v pledge p pledged d e same is so ordered counted may =
+      let kept : KeepsPromise p d = subst (λ (q : Option (Promise V G)). KeptBy KeepsPromise q d) (same ∙ is) may.0 in (
+        subst (λ (q : Option (Promise V G)). KeptBy KeepsPromise q e) (sym (same ∙ is)) (ordered.kept (pledge_with p.made.value p.most) so kept),
+        subst (λ (ws : List ℕ). Still ws v.loaded) (sym counted) may.1,
+      )
+
+-- A volume that may come to the device that was promised may come to the one that is held
+
+pub some_failures : (failed : ℕ) (o : Option ℕ) → is_some (failures_of failed o) ≡ true → is_some o ≡ true
+some_failures failed (Some n) is = refl
+some_failures failed None is = absurd (cc)
+
+module _ {V : Type 0} {G : volumes.Ghosts V} where
+  spare_pledged : (d : Device V G) (volume : V) (most : Losses) → IsSpare d volume → IsPledged (pledge_with d most) (G.view volume)
+  spare_pledged d volume most s = record {
+    tells = s.tells;
+    sure = λ is. s.sure (some_failures (device_of d).store.counts.failed (allowance_in (told_of d)) is);
+  }
+
+module _ {V : Type 0} {G : volumes.Ghosts V} {N : Ghosts (Device V G) (Promise V G)} where
+  pub held_size : (what : DeviceOrder V) (place : Place) (s z : TurnSeat (Device V G) (Promise V G) N) (d : Device V G) → Allows place s → SuitsSeat what s →
+      z.seat.me.0.pledge ≡ s.seat.me.0.pledge → KeptBy KeepsPromise z.seat.me.0.pledge d → HasSize what d
+  held_size (orders.Replace side volume) place s z d a suits same kept =
+      let by : KeepsPromise a.promise d = subst (λ (q : Option (Promise V G)). KeptBy KeepsPromise q d) (same ∙ a.pledge) kept in
+      (suits a.promise a.pledge).tracks ∙ ap (λ (n : ℕ). n * 15) (sym by.keeps.keeps.cylinders)
+  held_size (orders.Fail side) place s z d a suits same kept = tt
+  held_size orders.Suspend place s z d a suits same kept = tt
+  held_size orders.Resume place s z d a suits same kept = tt
+
+  suits_pledge : (what : DeviceOrder V) (place : Place) (s : TurnSeat (Device V G) (Promise V G) N) (a : Allows place s) → SuitsSeat what s →
+      Suits G.view what (pledge_with a.promise.made.value a.promise.most)
+  suits_pledge (orders.Replace side volume) place s a suits = spare_pledged a.promise.made.value volume a.promise.most (suits a.promise a.pledge)
+  suits_pledge (orders.Fail side) place s a suits = tt
+  suits_pledge orders.Suspend place s a suits = tt
+  suits_pledge orders.Resume place s a suits = tt
+
+  pub may_obey : (what : DeviceOrder V) (place : Place) (s z : TurnSeat (Device V G) (Promise V G) N) (d e : Device V G) → Allows place s → SuitsSeat what s →
+      IsHeld s z d → IsOrdered (λ p. HaveLosses place.most p × Suits G.view what p) d e → (counts : Device V G → List ℕ) → counts e ≡ counts d →
+      MayLeave (KeptBy KeepsPromise) counts z.seat.me.0 d → MayLeave (KeptBy KeepsPromise) counts z.seat.me.0 e
+  may_obey what place s z d e a suits held ordered counts counted may =
+      may_order counts z.seat.me.0 s.seat.me.0.pledge a.promise (λ p. HaveLosses place.most p × Suits G.view what p) d e held.pledge a.pledge
+      (a.most, suits_pledge what place s a suits) ordered counted may
+
+  pub may_have : (place : Place) (s z : TurnSeat (Device V G) (Promise V G) N) (d e : Device V G) → Allows place s →
+      IsHeld s z d → IsOrdered (HaveLosses place.most) d e → (counts : Device V G → List ℕ) → counts e ≡ counts d →
+      MayLeave (KeptBy KeepsPromise) counts z.seat.me.0 d → MayLeave (KeptBy KeepsPromise) counts z.seat.me.0 e
+  may_have place s z d e a held ordered counts counted may =
+      may_order counts z.seat.me.0 s.seat.me.0.pledge a.promise (HaveLosses place.most) d e held.pledge a.pledge a.most ordered counted may

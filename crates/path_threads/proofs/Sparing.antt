@@ -1,0 +1,94 @@
+-- A volume that may come to a device is one that may come to the device that was promised to its seat.
+use Rattle.std.proofs.Common.{◌≡◌, ◌==◌, ◌∙◌, ℕ, Bool, true, false, List, [], ◌∷◌, Option, Some, None, sym, ap, subst}
+use Rattle.std.specs.Prelude.{All, IfSome, if◌then◌else◌}
+use Rattle.std.specs.List.{AllZip}
+use Rattle.std.proofs.lemmas.List.Elements.{All-weaker}
+use Rattle.ckd_types.specs.declared.paths.Side.{Side}
+use Rattle.device_outside.specs.declared.volume.Volume.{Ghosts}
+use Rattle.device_defs.specs.declared.counts.Losses.{Losses}
+use Rattle.device_turn.specs.declared.holder.Holder as holders
+use Rattle.turn_seats.specs.Seating.{Rests}
+use Rattle.subsystem_core.specs.Devices.{device_at}
+use Rattle.device_core.specs.declared.device.Device.{Device}
+use Rattle.path_turns.specs.declared.promise.Promise.{Promise}
+use Rattle.path_orders.specs.declared.device_orders.DeviceOrder.{DeviceOrder}
+use Rattle.path_orders.specs.declared.device_orders.DeviceOrder.TheVariants as orders
+use Rattle.path_orders.specs.Spare.{IsSpare}
+use Rattle.path_threads.specs.declared.orders.Order.{Order}
+use Rattle.path_threads.specs.declared.orders.Order.TheVariants.{Event, Replace}
+use Rattle.path_threads.specs.declared.places.Place.{Place}
+use Rattle.path_threads.proofs.Setting.{SeatOf}
+use Rattle.path_threads.specs.Places.{Allows, IsPromised, IsPromisedFor, IsSpareAmong, IsSpareAt, SuitsAt, SuitsSeat, seat_at}
+
+some_same : {X : Type 0} {x y : X} → Some x ≡ Some y → x ≡ y
+some_same e = cc
+
+pub some_unit : {X : Type 0} (o : Option X) → IfSome o (λ x. Unit {0})
+some_unit None = tt
+some_unit (Some x) = tt
+
+module _ {V : Type 0} {G : Ghosts V} {N : holders.Ghosts (Device V G) (Promise V G)} where
+  -- at the device that was promised
+  same_number : (most : Losses) (d : Device V G) (place : Place) (s : SeatOf N) → IsPromised most d s → Allows place s → d.store.number ≡ place.number
+  same_number most d place s p a =
+      ap (λ (x : Device V G). x.store.number) (sym p.made)
+      ∙ ap (λ (q : Promise V G). q.made.value.store.number) (some_same (sym p.pledge ∙ a.pledge)) ∙ a.number
+
+  suits_promised : (most : Losses) (d : Device V G) (s : SeatOf N) (side : Side) (volume : V) → IsPromised most d s → IsSpare d volume →
+      SuitsSeat (orders.Replace side volume) s
+  suits_promised most d s side volume p h q is =
+      subst (λ (x : Device V G). IsSpare x volume) (sym p.made ∙ ap (λ (q : Promise V G). q.made.value) (some_same (sym p.pledge ∙ is))) h
+
+  spare_at : (most : Device V G → Losses) (n : ℕ) (side : Side) (volume : V) (ds : List (Device V G)) (places : List Place) (seats : List (SeatOf N)) →
+      AllZip (λ d s. IsPromised (most d) d s) ds seats → AllZip Allows places seats → IfSome (device_at ds n) (λ d. IsSpare d volume) →
+      SuitsAt places seats n (orders.Replace side volume)
+  spare_at most n side volume [] [] [] p a h = tt
+  spare_at most n side volume [] [] (s ∷ seats) p a h = absurd p
+  spare_at most n side volume [] (q ∷ places) [] p a h = tt
+  spare_at most n side volume [] (q ∷ places) (s ∷ seats) p a h = absurd p
+  spare_at most n side volume (d ∷ ds) places [] p a h = absurd p
+  spare_at most n side volume (d ∷ ds) [] (s ∷ seats) p a h = absurd a
+  spare_at most n side volume (d ∷ ds) (q ∷ places) (s ∷ seats) p a h =
+      subst (λ (k : ℕ). IfSome (if k == n then Some s else seat_at places seats n) (SuitsSeat (orders.Replace side volume))) (same_number (most d) d q s p.0 a.0)
+      (here (d.store.number == n) (spare_at most n side volume ds places seats p.1 a.1) h) where
+        here : (b : Bool) → (IfSome (device_at ds n) (λ d. IsSpare d volume) → SuitsAt places seats n (orders.Replace side volume)) →
+            IfSome (if b then Some d else device_at ds n) (λ d. IsSpare d volume) →
+            IfSome (if b then Some s else seat_at places seats n) (SuitsSeat (orders.Replace side volume))
+        here true rest h = suits_promised (most d) d s side volume p.0 h
+        here false rest h = rest h
+
+  spare_for : (most : Device V G → Losses) (ds : List (Device V G)) (places : List Place) (seats : List (SeatOf N)) → AllZip (λ d s. IsPromised (most d) d s) ds seats →
+      AllZip Allows places seats → (o : Order V) → IsSpareAmong ds o → IsSpareAt places seats o
+  spare_for most ds places seats p a (Event e) h = tt
+  spare_for most ds places seats p a (Replace n side volume) h = spare_at most n side volume ds places seats p a h
+
+  pub all_spare : (es : List (Order V)) (ds : List (Device V G)) (places : List Place) (seats : List (SeatOf N)) (os : List (Order V)) →
+      AllZip (IsPromisedFor es) ds seats → AllZip Allows places seats → All (IsSpareAmong ds) os → All (IsSpareAt places seats) os
+  all_spare es ds places seats os p a h = All-weaker (IsSpareAmong ds) (IsSpareAt places seats) (spare_for _ ds places seats p a) os h
+
+  pub promised_same : (es os : List (Order V)) (ds : List (Device V G)) (seats : List (SeatOf N)) → es ≡ os → AllZip (IsPromisedFor es) ds seats →
+      AllZip (IsPromisedFor os) ds seats
+  promised_same es os ds seats same p = subst (λ (l : List (Order V)). AllZip (IsPromisedFor l) ds seats) same p
+
+  -- and it stays so while the seats rest
+
+  seat_rests : (what : DeviceOrder V) (s z : SeatOf N) → Rests s z → SuitsSeat what s → SuitsSeat what z
+  seat_rests (orders.Replace side volume) s z rests f = λ p is. f p (sym rests.pledge ∙ is)
+  seat_rests (orders.Fail side) s z rests f = tt
+  seat_rests orders.Suspend s z rests f = tt
+  seat_rests orders.Resume s z rests f = tt
+
+  suits_rests : (places : List Place) (ss zs : List (SeatOf N)) (n : ℕ) (what : DeviceOrder V) → AllZip Rests ss zs → SuitsAt places ss n what → SuitsAt places zs n what
+  suits_rests [] ss zs n what r h = tt
+  suits_rests (q ∷ places) [] [] n what r h = tt
+  suits_rests (q ∷ places) [] (z ∷ zs) n what r h = absurd r
+  suits_rests (q ∷ places) (s ∷ ss) [] n what r h = absurd r
+  suits_rests (q ∷ places) (s ∷ ss) (z ∷ zs) n what r h = here (q.number == n) (suits_rests places ss zs n what r.1) h where
+    here : (b : Bool) → (SuitsAt places ss n what → SuitsAt places zs n what) → IfSome (if b then Some s else seat_at places ss n) (SuitsSeat what) →
+        IfSome (if b then Some z else seat_at places zs n) (SuitsSeat what)
+    here true rest h = seat_rests what s z r.0 h
+    here false rest h = rest h
+
+  pub spare_rests : (places : List Place) (ss zs : List (SeatOf N)) (o : Order V) → AllZip Rests ss zs → IsSpareAt places ss o → IsSpareAt places zs o
+  spare_rests places ss zs (Event e) r h = tt
+  spare_rests places ss zs (Replace n side volume) r h = suits_rests places ss zs n (orders.Replace side volume) r h

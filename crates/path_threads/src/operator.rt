@@ -1,0 +1,303 @@
+//! The operator's worker.
+
+ghost use Rattle.std.specs.Prelude.{◌≡◌, All, IfOk, OnOk, true};
+ghost use Rattle.std.specs.List.{AllZip};
+ghost use Rattle.turn_seats.specs.Seating.{IsHome, Rests};
+ghost use Rattle.path_threads.specs.Held.{IsHeld};
+ghost use Rattle.path_threads.specs.Places.{Allows, IsSpareAt, MayHave, SuitsAt, SuitsSeat};
+ghost use Rattle.path_orders.specs.Ordered.{HaveLosses, IsOrdered};
+
+use crate::orders::Order;
+use crate::places::Place;
+use crate::shared::{PoolOrder, Shared, SharedPool};
+use ckd_types::{DeviceNo, NoMemory};
+use device_core::Device;
+use device_outside::{Port, Volume};
+use device_turn::Enter;
+use path_orders::{DeviceOrder, lose, may_lose, order};
+use path_turns::{DeviceSeat, DeviceTurn};
+use std::sync::Wait;
+use std::thread::yield_now;
+use subsystem_defs::Event;
+
+/// The device, as soon as its turn is nobody's. Where another worker lacks memory it may never be.
+fn hold<R: Wait, V: Volume>(
+    rt: &R,
+    shared: &Shared,
+    turn: &DeviceTurn<V>,
+    seat: &mut DeviceSeat<V>,
+) -> Result<Device<V>, NoMemory>
+    requires { IsHome turn.now seat.old }
+    ensures { IfOk result (IsHeld seat.old seat.new) }
+{
+    for _ in rt.forever() {
+        if shared.is_stopped() {
+            return Err(NoMemory);
+        }
+        match turn.enter(seat) {
+            Enter::Got(device) => return Ok(device),
+            Enter::Taken { .. } => yield_now(),
+        }
+    }
+    unreachable!()
+}
+
+/// An order at one device.
+fn order_one<R: Wait, V: Volume, P: Port>(
+    rt: &R,
+    shared: &Shared,
+    turn: &DeviceTurn<V>,
+    seat: &mut DeviceSeat<V>,
+    place: &Place,
+    what: DeviceOrder<V>,
+    port: &mut P,
+) -> Result<(), NoMemory>
+    requires home { IsHome turn.now seat.old }
+    requires allows { Allows place.now seat.old }
+    requires suits { SuitsSeat what seat.old }
+    ensures { OnOk result (Rests seat.old seat.new) }
+{
+    let mut device = hold(rt, shared, turn, seat)?;
+    order(&mut device, what, place.most, port);
+    turn.leave(seat, device);
+    Ok(())
+}
+
+/// Whether a device may have what an order of all does to it.
+fn may_have<V: Volume>(device: &Device<V>, what: PoolOrder, place: &Place) -> bool
+    ensures { result ≡ true → MayHave what place.now device.now }
+{
+    match what.loss() {
+        Some(loss) => may_lose(device, loss, place.most),
+        None => true,
+    }
+}
+
+/// Whether all may have it that came before, and this device too.
+fn may_all<V: Volume>(may: bool, device: &Device<V>, what: PoolOrder, place: &Place) -> bool
+    ensures before { result ≡ true → may ≡ true }
+    ensures here { result ≡ true → MayHave what place.now device.now }
+{
+    if may {
+        return may_have(device, what, place);
+    }
+    false
+}
+
+/// What an order of all does to a device, where it is done.
+fn have<V: Volume, P: Port>(
+    device: &mut Device<V>,
+    what: PoolOrder,
+    place: &Place,
+    done: bool,
+    port: &mut P,
+)
+    requires { done ≡ true → MayHave what place.now device.old }
+    ensures { IsOrdered (HaveLosses place.now.most) device.old device.new }
+{
+    if !done {
+        return;
+    }
+    match what.loss() {
+        Some(loss) => lose(device, loss, place.most, port),
+        None => (),
+    }
+}
+
+/// The device behind that.
+fn had<V: Volume, P: Port>(
+    mut device: Device<V>,
+    what: PoolOrder,
+    place: &Place,
+    done: bool,
+    port: &mut P,
+) -> Device<V>
+    requires { done ≡ true → MayHave what place.now device }
+    ensures { IsOrdered (HaveLosses place.now.most) device result }
+{
+    have(&mut device, what, place, done, port);
+    device
+}
+
+/// Whether the pool does an order that all may have.
+fn order_now<R: Wait>(rt: &R, shared: &Shared, what: PoolOrder, may: bool) -> bool
+    ensures { result ≡ true → may ≡ true }
+{
+    if may {
+        return shared.order(rt, what);
+    }
+    false
+}
+
+/// An order of cache or store, with the turns of all devices, by rising number. What the devices lose by it they lose once all turns are taken.
+fn order_all<R: Wait, V: Volume, P: Port>(
+    rt: &R,
+    shared: &Shared,
+    turns: &[DeviceTurn<V>],
+    seats: &mut [DeviceSeat<V>],
+    places: &[Place],
+    what: PoolOrder,
+    may: bool,
+    port: &mut P,
+) -> Result<bool, NoMemory>
+    requires home { AllZip IsHome turns.now seats.old }
+    requires allows { AllZip Allows places.now seats.old }
+    ensures done { IfOk result (λ done. done ≡ true → may ≡ true) }
+    ensures rest { OnOk result (AllZip Rests seats.old seats.new) }
+{
+    if turns.is_empty() {
+        return Ok(order_now(rt, shared, what, may));
+    }
+    let (_, other_turns) = turns.split_at(1);
+    let (_, other_places) = places.split_at(1);
+    let (first, others) = seats.split_at_mut(1);
+    let device = hold(rt, shared, &turns[0], &mut first[0])?;
+    let may_here = may_all(may, &device, what, &places[0]);
+    let done = order_all(
+        rt,
+        shared,
+        other_turns,
+        others,
+        other_places,
+        what,
+        may_here,
+        port,
+    )?;
+    let behind = had(device, what, &places[0], done, port);
+    turns[0].leave(&mut first[0], behind);
+    Ok(done)
+}
+
+/// An order at the device of this number, where there is one.
+fn order_at<R: Wait, V: Volume, P: Port>(
+    rt: &R,
+    shared: &Shared,
+    turns: &[DeviceTurn<V>],
+    seats: &mut [DeviceSeat<V>],
+    places: &[Place],
+    d: DeviceNo,
+    what: DeviceOrder<V>,
+    port: &mut P,
+) -> Result<(), NoMemory>
+    requires home { AllZip IsHome turns.now seats.old }
+    requires allows { AllZip Allows places.now seats.old }
+    requires suits { SuitsAt places.now seats.old d what }
+    ensures { OnOk result (AllZip Rests seats.old seats.new) }
+{
+    if turns.is_empty() {
+        return Ok(());
+    }
+    let (_, other_turns) = turns.split_at(1);
+    let (_, other_places) = places.split_at(1);
+    let (first, others) = seats.split_at_mut(1);
+    if places[0].number == d {
+        return order_one(rt, shared, &turns[0], &mut first[0], &places[0], what, port);
+    }
+    order_at(rt, shared, other_turns, others, other_places, d, what, port)
+}
+
+/// An order of cache or store, which no device keeps out but by its losses.
+fn order_pool<R: Wait, V: Volume, P: Port>(
+    rt: &R,
+    shared: &Shared,
+    turns: &[DeviceTurn<V>],
+    seats: &mut [DeviceSeat<V>],
+    places: &[Place],
+    what: PoolOrder,
+    port: &mut P,
+) -> Result<(), NoMemory>
+    requires home { AllZip IsHome turns.now seats.old }
+    requires allows { AllZip Allows places.now seats.old }
+    ensures { OnOk result (AllZip Rests seats.old seats.new) }
+{
+    let _done = order_all(rt, shared, turns, seats, places, what, true, port)?;
+    Ok(())
+}
+
+/// An event, where it is the operator's.
+fn order_event<R: Wait, V: Volume, P: Port>(
+    rt: &R,
+    shared: &Shared,
+    turns: &[DeviceTurn<V>],
+    seats: &mut [DeviceSeat<V>],
+    places: &[Place],
+    event: &Event,
+    port: &mut P,
+) -> Result<(), NoMemory>
+    requires home { AllZip IsHome turns.now seats.old }
+    requires allows { AllZip Allows places.now seats.old }
+    ensures { OnOk result (AllZip Rests seats.old seats.new) }
+{
+    if let Some(what) = pool_order(event) {
+        return order_pool(rt, shared, turns, seats, places, what, port);
+    }
+    match event {
+        Event::FailVolume(d, side) => {
+            let what = DeviceOrder::Fail(*side);
+            order_at(rt, shared, turns, seats, places, *d, what, port)
+        }
+        Event::Suspend(d) => {
+            let what = DeviceOrder::Suspend;
+            order_at(rt, shared, turns, seats, places, *d, what, port)
+        }
+        Event::Resume(d) => {
+            let what = DeviceOrder::Resume;
+            order_at(rt, shared, turns, seats, places, *d, what, port)
+        }
+        _ => Ok(()),
+    }
+}
+
+fn pool_order(event: &Event) -> Option<PoolOrder> {
+    match event {
+        Event::FailCache => Some(PoolOrder::FailCache),
+        Event::FailStore => Some(PoolOrder::FailStore),
+        Event::RepairCache => Some(PoolOrder::RepairCache),
+        Event::RepairStore => Some(PoolOrder::RepairStore),
+        _ => None,
+    }
+}
+
+fn obey<R: Wait, V: Volume, P: Port>(
+    rt: &R,
+    shared: &Shared,
+    turns: &[DeviceTurn<V>],
+    seats: &mut [DeviceSeat<V>],
+    places: &[Place],
+    order: Order<V>,
+    port: &mut P,
+) -> Result<(), NoMemory>
+    requires home { AllZip IsHome turns.now seats.old }
+    requires allows { AllZip Allows places.now seats.old }
+    requires spare { IsSpareAt places.now seats.old order }
+    ensures { OnOk result (AllZip Rests seats.old seats.new) }
+{
+    match order {
+        Order::Event(event) => order_event(rt, shared, turns, seats, places, &event, port),
+        Order::Replace(d, side, volume) => {
+            let what = DeviceOrder::Replace(side, volume);
+            order_at(rt, shared, turns, seats, places, d, what, port)
+        }
+    }
+}
+
+/// The operator's worker: each order once, in their order.
+pub(crate) fn operate<R: Wait, V: Volume>(
+    rt: &R,
+    shared: &Shared,
+    turns: &[DeviceTurn<V>],
+    mut seats: Vec<DeviceSeat<V>>,
+    places: &[Place],
+    orders: Vec<Order<V>>,
+) -> Result<Vec<DeviceSeat<V>>, NoMemory>
+    requires home { AllZip IsHome turns.now seats.items }
+    requires allows { AllZip Allows places.now seats.items }
+    requires spare { All (IsSpareAt places.now seats.items) orders.items }
+    ensures { IfOk result (λ v. AllZip Rests seats.items v.items) }
+{
+    let mut port = SharedPool::new(rt, shared);
+    for order in orders {
+        obey(rt, shared, turns, &mut seats, places, order, &mut port)?;
+    }
+    Ok(seats)
+}

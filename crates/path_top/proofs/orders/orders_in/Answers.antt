@@ -1,0 +1,23 @@
+use Rattle.std.proofs.Common.{◌∙◌, ap}
+use Rattle.std.proofs.lemmas.List.{take_all}
+use Rattle.path_threads.specs.Places.{IsSpareAmong}
+use Rattle.path_top.specs.Orders.{orders_in}
+use Rattle.path_top.proofs.Adding.{lines_on, spare_on}
+use Rattle.path_top.proofs.Paired.{open_at}
+use Rattle.path_top.proofs.orders.orders_in.Goals as goal
+
+pub order_of-requires : goal.order_of-requires
+order_of-requires c = open_at _ c.args.lines.now c.loop-line.line-index c.line-item.result c.loop-line-test.true c.line-item.is c.requires
+
+pub loop-line-preserved : goal.loop-line-preserved
+loop-line-preserved c = record {
+  lines =
+      lines_on c.loop-line.orders.items c.add_order.new.orders.items c.in_ok-order_of.field-0 c.args.lines.now c.loop-line.line-index c.line-item.result
+      c.loop-line-test.true c.line-item.is c.in_ok-add_order.ensures c.in_ok-order_of.ensures.line c.loop-line.invariant.lines;
+  spare =
+      spare_on (IsSpareAmong c.args.sub.now.devices.items) c.loop-line.orders.items c.add_order.new.orders.items c.in_ok-order_of.field-0
+      c.in_ok-add_order.ensures c.loop-line.invariant.spare c.in_ok-order_of.ensures.spare;
+}
+
+pub returns-clause-lines : goal.returns-clause-lines
+returns-clause-lines c = c.loop-line.invariant.lines ∙ ap orders_in (take_all c.loop-line.line-index c.args.lines.now c.loop-line-test.false)

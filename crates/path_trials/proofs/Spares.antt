@@ -1,0 +1,28 @@
+-- New volumes may come to small devices.
+use Rattle.std.proofs.Common.{◌≡◌, ◌*◌, true, ℕ, List, [], ◌∷◌, Option, Some, None, refl, sym, ap, subst, ◌∙◌}
+use Rattle.std.specs.Prelude.{All, IfSome, if◌then◌else◌, ◌==◌, Bool, false}
+use Rattle.std.proofs.lemmas.List.Elements.{All-head, All-tail, All-weaker}
+use Rattle.device_outside.specs.declared.volume.Volume.{Ghosts}
+use Rattle.device_outside.specs.Disk.{Disk, disk_view, new_disk}
+use Rattle.subsystem_core.specs.Devices.{device_at}
+use Rattle.device_core.specs.declared.device.Device.{Device}
+use Rattle.path_orders.specs.Spare.{IsSpare}
+use Rattle.path_orders.proofs.Spares.{new_spare}
+use Rattle.path_threads.specs.declared.orders.Order.{Order}
+use Rattle.path_threads.specs.declared.orders.Order.TheVariants.{Event, Replace}
+use Rattle.path_threads.specs.Places.{IsSpareAmong}
+use Rattle.path_trials.specs.Small.{IsNew, IsSmall}
+
+module _ {G : Ghosts Disk} (seen : (v : Disk) → G.view v ≡ disk_view v) where
+  spare_at : (ds : List (Device Disk G)) (n : ℕ) (volume : Disk) → volume ≡ new_disk 1 [] [] → All IsSmall ds → IfSome (device_at ds n) (λ d. IsSpare d volume)
+  spare_at [] n volume is small = tt
+  spare_at (d ∷ ds) n volume is small = here (d.store.number == n) (spare_at ds n volume is (All-tail IsSmall d ds small)) where
+    here : (b : Bool) → IfSome (device_at ds n) (λ d. IsSpare d volume) → IfSome (if b then Some d else device_at ds n) (λ d. IsSpare d volume)
+    here true rest = new_spare d volume (seen volume ∙ ap disk_view is ∙ ap (λ (c : ℕ). disk_view (new_disk c [] [])) (sym (All-head IsSmall d ds small)))
+    here false rest = rest
+
+  pub all_spare : (ds : List (Device Disk G)) (os : List (Order Disk)) → All IsSmall ds → All IsNew os → All (IsSpareAmong ds) os
+  all_spare ds os small new = All-weaker IsNew (IsSpareAmong ds) one os new where
+    one : (o : Order Disk) → IsNew o → IsSpareAmong ds o
+    one (Event e) is = tt
+    one (Replace n side volume) is = spare_at ds n volume is small

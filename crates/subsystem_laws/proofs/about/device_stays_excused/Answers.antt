@@ -1,0 +1,5 @@
+use Rattle.subsystem_laws.proofs.Excusable.{excused_of}
+use Rattle.subsystem_laws.proofs.about.device_stays_excused.Goals as goal
+
+pub returns : goal.returns
+returns c = excused_of
