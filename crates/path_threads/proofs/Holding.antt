@@ -1,16 +1,17 @@
 -- The operator takes turns and gives them back.
-use Rattle.std.proofs.Common.{◌≡◌, ◌*◌, true, ℕ, List, [], ◌∷◌, Option, Some, None, refl, sym, ap, subst, ◌∙◌}
+use Rattle.std.proofs.Common.{◌≡◌, ◌*◌, true, ℕ, List, [], ◌∷◌, Option, Some, None, Box, Global, refl, sym, ap, subst, ◌∙◌}
 use Rattle.std.specs.Prelude.{OnOk, Result, Ok, Err, is_some}
 use Rattle.std.specs.List.{AllZip}
 use Rattle.device_outside.specs.declared.volume.Volume as volumes
 use Rattle.device_defs.specs.declared.counts.Losses.{Losses}
 use Rattle.device_turn.specs.Answers.{Entered, MayLeave}
-use Rattle.device_turn.specs.Rule.{KeptBy, Still, away, worded}
+use Rattle.device_turn.specs.Rule.{KeptBy, Still, away, boxed, counts_in, worded}
 use Rattle.device_turn.specs.declared.enter.Enter.TheVariants.{Got}
 use Rattle.device_turn.specs.declared.holder.Holder.{Ghosts}
 use Rattle.device_turn.specs.declared.place.Turn.{Turn}
 use Rattle.device_turn.specs.declared.seat.TurnSeat.{TurnSeat}
 use Rattle.device_turn.specs.declared.view.View.{View}
+use Rattle.device_turn.proofs.Members.{may_value}
 use Rattle.turn_seats.specs.Seating.{AreSeated, IsHome, Rests}
 use Rattle.turn_seats.specs.declared.seating.Seats.{Seats}
 use Rattle.device_core.specs.declared.device.Device.{Device}
@@ -29,16 +30,16 @@ use Rattle.path_threads.specs.Places.{Allows, IsPromised, SuitsSeat}
 use Rattle.path_threads.proofs.Walking.{rests_at}
 
 module _ {H P : Type 0} {G : Ghosts H P} where
-  pub held_from : (s z : TurnSeat H P G) (h : H) → z.seat.table_id ≡ s.seat.table_id → z.number ≡ s.number → z.made ≡ s.made →
-      Entered (KeptBy G.keeps) G.counts s.seat.me z.seat.me (Got h) → IsHeld s z h
-  held_from s z h own number made e = record {
+  pub held_from : (s z : TurnSeat H P G) (b : Box H Global) → z.seat.table_id ≡ s.seat.table_id → z.number ≡ s.number → z.made ≡ s.made →
+      Entered (KeptBy (boxed G.keeps)) (counts_in G.counts) s.seat.me z.seat.me (Got b) → IsHeld s z b.value
+  held_from s z b own number made e = record {
     own = own;
     number_is = number;
     made_is = made;
     joined = ap (λ m. m.0.joined) e.1;
     pledge = ap (λ m. m.0.pledge) e.1;
     out = (ap (λ m. m.0.stage) e.1, ap (λ m. m.1) e.1, e.2);
-    may = e.4;
+    may = may_value G.keeps G.counts z.seat.me.0 b e.4;
   }
 
   -- it is given back

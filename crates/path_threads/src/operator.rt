@@ -5,13 +5,14 @@ ghost use Rattle.std.specs.List.{AllZip};
 ghost use Rattle.turn_seats.specs.Seating.{IsHome, Rests};
 ghost use Rattle.path_threads.specs.Held.{IsHeld};
 ghost use Rattle.path_threads.specs.Places.{Allows, IsSpareAt, MayHave, SuitsAt, SuitsSeat};
-ghost use Rattle.path_orders.specs.Ordered.{HaveLosses, IsOrdered};
+ghost use Rattle.path_orders.specs.Ordered.{HasSize, HaveLosses, IsOrdered, Suits};
 
 use crate::orders::Order;
 use crate::places::Place;
 use crate::shared::{PoolOrder, Shared, SharedPool};
 use ckd_types::{DeviceNo, NoMemory};
 use device_core::Device;
+use device_defs::Losses;
 use device_outside::{Port, Volume};
 use device_turn::Enter;
 use path_orders::{DeviceOrder, lose, may_lose, order};
@@ -26,9 +27,9 @@ fn hold<R: Wait, V: Volume>(
     shared: &Shared,
     turn: &DeviceTurn<V>,
     seat: &mut DeviceSeat<V>,
-) -> Result<Device<V>, NoMemory>
+) -> Result<Box<Device<V>>, NoMemory>
     requires { IsHome turn.now seat.old }
-    ensures { IfOk result (IsHeld seat.old seat.new) }
+    ensures { IfOk result (λ b. IsHeld seat.old seat.new b.value) }
 {
     for _ in rt.forever() {
         if shared.is_stopped() {
@@ -40,6 +41,19 @@ fn hold<R: Wait, V: Volume>(
         }
     }
     unreachable!()
+}
+
+/// An order at a device in its room.
+fn order_held<V: Volume, P: Port>(
+    device: &mut Box<Device<V>>,
+    what: DeviceOrder<V>,
+    most: Losses,
+    port: &mut P,
+)
+    requires { HasSize what device.old.value }
+    ensures { IsOrdered (λ p. HaveLosses most p × Suits V.view what p) device.old.value device.new.value }
+{
+    order(&mut **device, what, most, port);
 }
 
 /// An order at one device.
@@ -58,7 +72,7 @@ fn order_one<R: Wait, V: Volume, P: Port>(
     ensures { OnOk result (Rests seat.old seat.new) }
 {
     let mut device = hold(rt, shared, turn, seat)?;
-    order(&mut device, what, place.most, port);
+    order_held(&mut device, what, place.most, port);
     turn.leave(seat, device);
     Ok(())
 }
@@ -74,46 +88,46 @@ fn may_have<V: Volume>(device: &Device<V>, what: PoolOrder, place: &Place) -> bo
 }
 
 /// Whether all may have it that came before, and this device too.
-fn may_all<V: Volume>(may: bool, device: &Device<V>, what: PoolOrder, place: &Place) -> bool
+fn may_all<V: Volume>(may: bool, device: &Box<Device<V>>, what: PoolOrder, place: &Place) -> bool
     ensures before { result ≡ true → may ≡ true }
-    ensures here { result ≡ true → MayHave what place.now device.now }
+    ensures here { result ≡ true → MayHave what place.now device.now.value }
 {
     if may {
-        return may_have(device, what, place);
+        return may_have(device.as_ref(), what, place);
     }
     false
 }
 
 /// What an order of all does to a device, where it is done.
 fn have<V: Volume, P: Port>(
-    device: &mut Device<V>,
+    device: &mut Box<Device<V>>,
     what: PoolOrder,
     place: &Place,
     done: bool,
     port: &mut P,
 )
-    requires { done ≡ true → MayHave what place.now device.old }
-    ensures { IsOrdered (HaveLosses place.now.most) device.old device.new }
+    requires { done ≡ true → MayHave what place.now device.old.value }
+    ensures { IsOrdered (HaveLosses place.now.most) device.old.value device.new.value }
 {
     if !done {
         return;
     }
     match what.loss() {
-        Some(loss) => lose(device, loss, place.most, port),
+        Some(loss) => lose(&mut **device, loss, place.most, port),
         None => (),
     }
 }
 
 /// The device behind that.
 fn had<V: Volume, P: Port>(
-    mut device: Device<V>,
+    mut device: Box<Device<V>>,
     what: PoolOrder,
     place: &Place,
     done: bool,
     port: &mut P,
-) -> Device<V>
-    requires { done ≡ true → MayHave what place.now device }
-    ensures { IsOrdered (HaveLosses place.now.most) device result }
+) -> Box<Device<V>>
+    requires { done ≡ true → MayHave what place.now device.value }
+    ensures { IsOrdered (HaveLosses place.now.most) device.value result.value }
 {
     have(&mut device, what, place, done, port);
     device

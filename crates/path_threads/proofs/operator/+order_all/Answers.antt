@@ -1,7 +1,8 @@
 use Rattle.std.proofs.Common.{get_or, sym, subst, ap, ◌∙◌, arith}
 use Rattle.device_defs.specs.Pledge.{seat_counts}
 use Rattle.device_turn.specs.Answers.{IsOut, MayLeave}
-use Rattle.device_turn.specs.Rule.{KeptBy}
+use Rattle.device_turn.specs.Rule.{KeptBy, boxed, counts_in}
+use Rattle.device_turn.proofs.Members.{may_boxed}
 use Rattle.device_core.specs.State.{device_of}
 use Rattle.turn_seats.specs.Seating.{IsHome, Rests}
 use Rattle.path_turns.specs.Keeping.{KeepsPromise}
@@ -33,7 +34,8 @@ leave-requires-clause-keeps g t c =
     let first = get_or c.split_at_mut-first.result.0.now 0 c.index-first-0.result in
     let allows = zip_first Allows c.args.places.now c.args.seats.now _ _ place c.index-first-0.result c.requires.allows parts.value parts.front_len
     (omega (arith, back)) c.index-places-0-2.is in
-    subst (λ z. MayLeave (KeptBy KeepsPromise) (λ d. seat_counts (device_of d)) z.seat.me.0 c.had-behind.result)
+    subst (λ z. MayLeave (KeptBy (boxed KeepsPromise)) (counts_in (λ d. seat_counts (device_of d))) z.seat.me.0 c.had-behind.result)
     (sym (one_set c.split_at_mut-first.result.0.now c.hold.new.seat c.index-first-0-2.result parts.front_len))
-    (may_have place first c.hold.new.seat c.in_ok-device.device c.had-behind.result allows c.in_ok-device.ensures c.had-behind.ensures
-    (λ d. seat_counts (device_of d)) c.had-behind.ensures.counts c.in_ok-device.ensures.may)
+    (may_boxed KeepsPromise (λ d. seat_counts (device_of d)) c.hold.new.seat.seat.me.0 c.had-behind.result
+    (may_have place first c.hold.new.seat c.in_ok-device.device.value c.had-behind.result.value allows c.in_ok-device.ensures c.had-behind.ensures
+    (λ d. seat_counts (device_of d)) c.had-behind.ensures.counts c.in_ok-device.ensures.may))
