@@ -6,7 +6,7 @@ use ckd_types::{DeviceNo, NoMemory, TrackNo};
 use device_outside::{Grant, Port, SlotGrant};
 use frame_pool::Pool;
 use loss_model::Loss;
-use std::sync::atomic::{AtomicBool, Ordering};
+use std::sync::atomic::{AtomicBool, AtomicU64, Ordering};
 use std::sync::{Mutex, Wait};
 
 /// What the workers share beside the turns: the pool, and whether one of them lacked memory.
@@ -14,6 +14,8 @@ use std::sync::{Mutex, Wait};
 pub(crate) struct Shared {
     pub pool: Mutex<Pool>,
     pub lacks: AtomicBool,
+    /// How many frames the pool gave. A device has a notice only where one was given since it had none.
+    pub given: AtomicU64,
 }
 
 /// An order of cache or store, which is one of all devices.
@@ -75,11 +77,16 @@ impl Shared {
         Shared {
             pool: Mutex::new(pool),
             lacks: AtomicBool::new(false),
+            given: AtomicU64::new(0),
         }
     }
 
     pub fn into_pool(self) -> Pool {
-        let Shared { pool, lacks: _ } = self;
+        let Shared {
+            pool,
+            lacks: _,
+            given: _,
+        } = self;
         pool.into_inner()
     }
 
@@ -112,6 +119,9 @@ impl Shared {
 pub(crate) struct SharedPool<'a, R: Wait> {
     rt: &'a R,
     pool: &'a Mutex<Pool>,
+    given: &'a AtomicU64,
+    /// Of each device, how many frames were given when it had no notice.
+    heard: [u64; 16],
     denials: u64,
 }
 
@@ -120,6 +130,8 @@ impl<'a, R: Wait> SharedPool<'a, R> {
         SharedPool {
             rt,
             pool: &shared.pool,
+            given: &shared.given,
+            heard: [u64::MAX; 16],
             denials: 0,
         }
     }
@@ -128,8 +140,18 @@ impl<'a, R: Wait> SharedPool<'a, R> {
 impl<'a, R: Wait> Port for SharedPool<'a, R> {
     ghost view = { λ p. no_pool p.denials };
 
+    /// Takes the lock only where a frame was given since the device had no notice.
     fn next_notice(&mut self, d: DeviceNo) -> Option<TrackNo> {
-        self.pool.lock(self.rt).next_notice(d)
+        let at = usize::from(d.get() % 16);
+        let given = self.given.load(Ordering::SeqCst);
+        if self.heard[at] == given {
+            return None;
+        }
+        let notice = self.pool.lock(self.rt).next_notice(d);
+        if notice.is_none() {
+            self.heard[at] = given;
+        }
+        notice
     }
 
     fn touch(&mut self, d: DeviceNo, t: TrackNo) -> bool {
@@ -143,7 +165,10 @@ impl<'a, R: Wait> Port for SharedPool<'a, R> {
             Ok(grant) => grant,
         };
         match grant {
-            Grant::Given => Ok(Grant::Given),
+            Grant::Given => {
+                self.given.fetch_add(1, Ordering::SeqCst);
+                Ok(Grant::Given)
+            }
             Grant::Denied => {
                 self.denials = self.denials.saturating_add(1);
                 Ok(Grant::Denied)
