@@ -9,6 +9,16 @@ use path_turns::{Came, DeviceSeat, DeviceTurn, Visitor, background_turn, path_tu
 use std::sync::Wait;
 use std::thread::yield_now;
 
+/// Another path's program runs there, as far as is seen.
+fn is_busy<V: Volume>(turn: &DeviceTurn<V>, seat: &mut DeviceSeat<V>, path: PathNo) -> bool {
+    for other in 1..5 {
+        if other != u64::from(path.get()) && turn.seen(seat, other) % 2 == 1 {
+            return true;
+        }
+    }
+    false
+}
+
 /// A path at one device, turn by turn, until nothing is left to do there.
 fn serve<R: Wait, V: Volume, G: Gate, P: Port>(
     rt: &R,
@@ -25,6 +35,10 @@ fn serve<R: Wait, V: Volume, G: Gate, P: Port>(
     for _ in rt.forever() {
         if shared.is_stopped() {
             return Err(NoMemory);
+        }
+        if is_busy(turn, seat, visitor.path) {
+            yield_now();
+            continue;
         }
         let came = match path_turn(turn, seat, visitor, port) {
             Err(NoMemory) => return shared.stop(),
