@@ -31,7 +31,7 @@ fn add_lost<V: Volume>(
 }
 
 /// The lost tracks of a device, in rising order.
-pub fn lost_in<V: Volume>(alloc: Global, device: &Device<V>) -> Result<Vec<TrackNo>, NoMemory>
+fn lost_in<V: Volume>(alloc: Global, device: &Device<V>) -> Result<Vec<TrackNo>, NoMemory>
     ensures { IfOk result (λ lost. lost.items ≡ lost_in device.now) }
 {
     let tracks = u16::from(device.cylinders()) * 15;

@@ -14,7 +14,6 @@ mod replace;
 mod run;
 mod work;
 
-pub use close::lost_in;
 pub use loosed::loosed_by;
 pub use open::open_deck;
 pub use pair::join;

@@ -15,9 +15,7 @@ use Rattle.plain_device.specs.Acted.{settled_act, paths_behind}
 use Rattle.track_image.specs.Image.{Image}
 use Rattle.device_outside.specs.Interaction.{Interaction, Done, Try, Ask, Read, Write, Tell, and_then}
 use Rattle.device_outside.specs.Keeper.{Message, ReplyTo, reply}
-use Rattle.device_outside.specs.Pool.{Call, AnswerTo, answer, after}
-use Rattle.device_outside.specs.Told as T
-use Rattle.device_outside.specs.Told.{Told, hold, calls_of, read_fails, write_fails, read_counted, write_counted}
+use Rattle.device_outside.specs.Pool.{Call, AnswerTo}
 use Rattle.device_defs.specs.declared.answers.Came.{Came}
 use Rattle.device_defs.specs.declared.answers.Came.TheVariants.{Ends, Checks, HalfOpen}
 use Rattle.device_defs.specs.declared.answers.Did.{Did}
@@ -138,25 +136,6 @@ clean_then f (clean_tell x) w = clean_tell (λ r. clean_then f (x r) w)
 pub clean_if : {I S A : Type 0} {q : S → A → Type 0} (b : Bool) {i j : Interaction Bool I S A} → Clean q i → Clean q j → Clean q (if b then i else j)
 clean_if true x y = x
 clean_if false x y = y
-
--- where the outside is told
-pub clean_held : {I S A : Type 0} {q : S → A → Type 0} {i : Interaction Bool I S A} → Clean q i → (t : Told) →
-    q (hold true i t).state (hold true i t).answer
-unfolding T.hold
-clean_held (clean_done x) t = x
-clean_held (clean_try x) t = clean_held (x true) t
-clean_held (clean_ask {call = call} x) t = clean_held (x (answer t.pool call)) (record t { pool = after t.pool call (answer t.pool call) })
-clean_held {q = q} (clean_read {side = side} {k = k} x y) t =
-    by_plan (read_fails (calls_of t side)) (clean_held x (read_counted t side)) (clean_held y (read_counted t side))
-  where
-    by_plan : (b : Bool) → q (hold true (k None) (read_counted t side)).state (hold true (k None) (read_counted t side)).answer →
-        q (hold true (k (Some true)) (read_counted t side)).state (hold true (k (Some true)) (read_counted t side)).answer →
-        q (hold true (k (if b then None else Some true)) (read_counted t side)).state
-        (hold true (k (if b then None else Some true)) (read_counted t side)).answer
-    by_plan true e f = e
-    by_plan false e f = f
-clean_held (clean_write {side = side} x) t = clean_held (x (if write_fails (calls_of t side) then false else true)) (write_counted t side)
-clean_held (clean_tell {m = m} x) t = clean_held (x (reply m)) t
 
 -- Images
 

@@ -1,32 +1,14 @@
--- What holds behind an interaction in which no call of a volume fails and memory is had, and so behind the run of it where the outside is told.
-use Rattle.std.proofs.Common.{◌≡◌, ◌≤◌, ◌<◌, ℕ, Bool, true, false, Option, Some, None, refl, arith}
+-- What holds behind an interaction in which no call of a volume fails and memory is had.
+use Rattle.std.proofs.Common.{◌≡◌, ℕ, Bool, true, false, Option, Some, None, refl}
 use Rattle.std.specs.Prelude.{if◌then◌else◌}
 use Rattle.ckd_types.specs.declared.paths.Side.{Side}
-use Rattle.track_image.specs.Image.{Image}
 use Rattle.device_outside.specs.Interaction.{Interaction, Done, Try, Ask, Read, Write, Tell, and_then}
 use Rattle.device_outside.specs.Keeper.{Message, ReplyTo, reply}
-use Rattle.device_outside.specs.Pool.{Call, AnswerTo, answer, after}
-use Rattle.device_outside.specs.Told as T
-use Rattle.device_outside.specs.Told.{Told, hold, calls_of, read_fails, write_fails, read_counted, write_counted}
+use Rattle.device_outside.specs.Pool.{Call, AnswerTo}
 use Rattle.device_defs.specs.Memory.{tried}
-use Rattle.device_laws.proofs.Based.{Base, Based, based_done, based_try, based_ask, based_read, based_write, based_tell}
 use Rattle.device_laws.proofs.Had as M
-use Rattle.device_laws.proofs.Had.{BehindHad, Had, held}
-use Rattle.device_laws.proofs.Lucky.{
-  Lucky,
-  lucky_done,
-  lucky_try,
-  lucky_ask,
-  lucky_read,
-  lucky_write,
-  lucky_tell,
-  failed_in,
-  top,
-  counted_rises,
-  counted_top,
-  never_falls,
-}
-use Rattle.device_laws.proofs.PlainEvents.{had_always}
+use Rattle.device_laws.proofs.Had.{BehindHad, Had}
+use Rattle.device_laws.proofs.Lucky.{Lucky, lucky_done, lucky_try, lucky_ask, lucky_read, lucky_write, lucky_tell}
 
 pub data Served {R I S A : Type 0} (q : S → A → Type 0) : Interaction R I S A → Type 0 where
   served_done : {s : S} {a : A} → q s a → Served q (Done s a)
@@ -81,37 +63,3 @@ served_if false x y = y refl
 
 pub served_tried : {R I S A : Type 0} {q : S → Option A → Type 0} (s : S) (i : Interaction R I S (Option A)) → Served q i → Served q (tried s i)
 served_tried s i x = served_try x
-
--- Behind a run that counts no failed call
-
-module _ {R S X : Type 0} {base : S → Base} {may : Call → Type 0} where
-  none_failed : (n : ℕ) {b : Base} (i : Interaction R Image S X) → Based base may b i → n < failed_in b → failed_in b ≤ top → (r : R) (w : Told) →
-      failed_in (base (hold r i w).state) ≡ n → ⊥
-  none_failed n i x lt le r w same = let more = held r (had_always (never_falls x le)) w in omega (arith, lt, more, same)
-
-  pub served_at : (q : S → X → Type 0) (r : R) (i : Interaction R Image S X) {b : Base} → Based base may b i → failed_in b < top → Served q i → (w : Told) →
-      failed_in (base (hold r i w).state) ≡ failed_in b → q (hold r i w).state (hold r i w).answer
-  unfolding T.hold
-  served_at q r (Done s a) (based_done e) lt (served_done x) w same = x
-  served_at q r (Try k) (based_try x) lt (served_try y) w same = served_at q r (k true) (x true) lt y w same
-  served_at q r (Ask call k) (based_ask m x) lt (served_ask y) w same =
-      let a = answer w.pool call in served_at q r (k a) (x a) lt (y a) (record w { pool = after w.pool call a }) same
-  served_at q r (Read side t k) {b = b} (based_read x) lt (served_read y) w same =
-      by_read (read_fails (calls_of w side)) (read_counted w side) same (λ v e. served_at q r (k (Some r)) (x (Some r)) lt (y r) v e)
-    where
-      by_read : (fails : Bool) (v : Told) → failed_in (base (hold r (k (if fails then None else Some r)) v).state) ≡ failed_in b →
-          ((v : Told) → failed_in (base (hold r (k (Some r)) v).state) ≡ failed_in b → q (hold r (k (Some r)) v).state (hold r (k (Some r)) v).answer) →
-          q (hold r (k (if fails then None else Some r)) v).state (hold r (k (if fails then None else Some r)) v).answer
-      by_read true v e f =
-          absurd (none_failed (failed_in b) (k None) (x None) (counted_rises (failed_in b) lt) (counted_top (failed_in b)) r v e)
-      by_read false v e f = f v e
-  served_at q r (Write side t z k) {b = b} (based_write x) lt (served_write y) w same =
-      by_write (write_fails (calls_of w side)) (write_counted w side) same (λ v e. served_at q r (k true) (x true) lt y v e)
-    where
-      by_write : (fails : Bool) (v : Told) → failed_in (base (hold r (k (if fails then false else true)) v).state) ≡ failed_in b →
-          ((v : Told) → failed_in (base (hold r (k true) v).state) ≡ failed_in b → q (hold r (k true) v).state (hold r (k true) v).answer) →
-          q (hold r (k (if fails then false else true)) v).state (hold r (k (if fails then false else true)) v).answer
-      by_write true v e f =
-          absurd (none_failed (failed_in b) (k false) (x false) (counted_rises (failed_in b) lt) (counted_top (failed_in b)) r v e)
-      by_write false v e f = f v e
-  served_at q r (Tell m k) (based_tell x) lt (served_tell y) w same = served_at q r (k (reply m)) (x (reply m)) lt y w same

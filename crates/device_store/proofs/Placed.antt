@@ -33,11 +33,6 @@ pub marked_of : (g : Geometry) (t : ℕ) (f : Option Frame) (modified : Bool) �
 marked_of g t None modified of = tt
 marked_of g t (Some f) modified of = of
 
--- where it is marked
-pub remarked : (g : Geometry) (frames : List (Option Frame)) (t : ℕ) (modified : Bool) → AreImagesOf g frames →
-    AreImagesOf g (slice_set frames t (with_mark modified (slice_index_or frames t None)))
-remarked g frames t modified are = reframed g frames t _ are (marked_of g t (slice_index_or frames t None) modified (are t))
-
 no_frames : (P : Frame → Type 0) (n t : ℕ) → IfSome (slice_index_or (replicate n None) t None) P
 no_frames P zero t = tt
 no_frames P (suc n) zero = tt
