@@ -108,13 +108,15 @@ one_usable deck line (is_mounted d v w h on_a on_b a b stands slots told_a told_
   where
     by_place : d.store.lent ≡ None → lent.Stands v w d h → Stands d (record { port = no_pool 0; a = on_a; b = on_b; keeper = tt {0} })
     by_place free (in_order i) = record {
-      plain = v;
-      firm = w;
-      held = record h { slots = None };
-      untold = record { a = side_tells on_a h.a a told_a; b = side_tells on_b h.b b told_b; slots = refl };
-      order = untold_order d.store h v w i;
-      follows = follows_so line (record { device = marks_device v w d; a = a; b = b }) p.follows;
-      gives = gives;
+      beside = record {
+        plain = v;
+        firm = w;
+        held = record h { slots = None };
+        untold = record { a = side_tells on_a h.a a told_a; b = side_tells on_b h.b b told_b; slots = refl };
+        order = untold_order d.store h v w i;
+        follows = follows_so line (record { device = marks_device v w d; a = a; b = b }) p.follows;
+        gives = gives;
+      };
       about = about;
       never = ap (λ (h : History). has_fresh h.items) p.none;
     }

@@ -15,7 +15,7 @@ use Rattle.plain_defs.specs.PlainState.{PlainState, empty_state}
 use Rattle.device_outside.specs.declared.volume.Volume.{Ghosts}
 use Rattle.device_outside.specs.Disk.{Disk, disk_view}
 use Rattle.device_defs.specs.Pledge.{fresh_count, is_kept_journal}
-use Rattle.turn_laws.proofs.Sound.{stands_plainly}
+use Rattle.turn_laws.proofs.Sound.{beside_plain}
 use Rattle.device_core.specs.declared.device.Device.{Device}
 use Rattle.device_core.specs.State.{device_of}
 use Rattle.deck_run.specs.Ending.{lost_in}
@@ -56,7 +56,7 @@ module _ {V : Type 0} {G : Ghosts V} (deck : DeckLines) where
     empty = empty_state (device_of e).store.geometry (device_of e).store.cylinders
 
     legal_by : (o : Option ℕ) → (device_of e).store.lent ≡ o → IsLegal (device_of e).plans empty (device_of e).history.items
-    legal_by None free = (stands_plainly (device_of e) (told_of e) (k.stands u.tells_it free)).legal
+    legal_by None free = (beside_plain (device_of e) (told_of e) (k.stands u.tells_it free).beside).legal
     legal_by (Some to) lent =
         subst (IsLegal (device_of e).plans empty) (sym (away (ap (λ (o : Option ℕ). is_some o) lent))) tt
 

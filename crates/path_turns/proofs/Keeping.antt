@@ -36,7 +36,8 @@ use Rattle.turn_laws.proofs.Counts.{
   others_set,
   same_counts,
 }
-use Rattle.turn_laws.proofs.Standing.{start_stands, command_stands, command_checks, second_stands, second_checks, background_stands}
+use Rattle.turn_laws.proofs.Beside.{command_checks, second_checks}
+use Rattle.turn_laws.proofs.Standing.{background_stands, command_stands, second_stands, stands_there, start_stands}
 use Rattle.device_store.specs.State.{outside}
 use Rattle.device_store.specs.declared.store.DeviceStore.{DeviceStore}
 use Rattle.device_core.specs.declared.device.Device.{Device}
@@ -119,10 +120,11 @@ module _ {V : Type 0} {G : Ghosts V} where
   pub stands_tells : {K : Type 0} (d : Device V G) (u : Outside (List ℕ) K) (port : PortView) (k : K) → u ≡ outside port d.store k → Stands (device_of d) u →
       (tells (told_of d).a && tells (told_of d).b) ≡ true
   stands_tells d u port k is s =
-      let t = s.untold in
+      let t = s.beside.untold in
+      let held = s.beside.held in
       and_both (tells (told_of d).a) (tells (told_of d).b)
-      (told_true (told_of d).a s.held.a (subst (λ (u : Outside _ _). Tells u.a s.held.a) is t.a))
-      (told_true (told_of d).b s.held.b (subst (λ (u : Outside _ _). Tells u.b s.held.b) is t.b))
+      (told_true (told_of d).a held.a (subst (λ (u : Outside _ _). Tells u.a held.a) is t.a))
+      (told_true (told_of d).b held.b (subst (λ (u : Outside _ _). Tells u.b held.b) is t.b))
 
   module _ (d e : Device V G) (old new : PortView) where
     abbrev pub u : Outside (List ℕ) NoKeep
@@ -138,30 +140,10 @@ module _ {V : Type 0} {G : Ghosts V} where
     of_keeps p k = record { keeps = k.keeps.keeps; allowance = k.keeps.allowance; none = k.keeps.none }
 
     pub of_stands : Stands (device_of d) (told_of d) → Stands (device_of d) u
-    of_stands s = record {
-      plain = s.plain;
-      firm = s.firm;
-      held = s.held;
-      untold = record { a = s.untold.a; b = s.untold.b; slots = s.untold.slots };
-      order = s.order;
-      follows = s.follows;
-      gives = s.gives;
-      about = s.about;
-      never = s.never;
-    }
+    of_stands s = stands_there (device_of d) (told_of d) u (λ h t. record { a = t.a; b = t.b; slots = t.slots }) s
 
     pub to_stands : Stands (device_of e) z → Stands (device_of e) (told_of e)
-    to_stands s = record {
-      plain = s.plain;
-      firm = s.firm;
-      held = s.held;
-      untold = record { a = s.untold.a; b = s.untold.b; slots = s.untold.slots };
-      order = s.order;
-      follows = s.follows;
-      gives = s.gives;
-      about = s.about;
-      never = s.never;
-    }
+    to_stands s = stands_there (device_of e) z (told_of e) (λ h t. record { a = t.a; b = t.b; slots = t.slots }) s
 
     -- behind an event that keeps the pledge and lets the device stand
     pub to_keeps : (p : Pledge) (tells_before : Bool) → StaysInTurn p (device_of e) (record { allowance = allowance_in z; tells = tells_before; told = p.told }) z →
@@ -198,7 +180,7 @@ module _ {V : Type 0} {G : Ghosts V} where
           let chains = chain_told d.past.running chain in
           to_keeps p _
           (command_kept contents hears p (handed_of p.told d) (device_of d) (device_of e) u z (of_keeps p k) home
-          (λ told. command_checks (of_stands (k.stands told home)) (λ _ m r l h. h) a runs.entry none runs.is chains r) a (ran_weaker (λ ok h. tt) r))
+          (λ told. command_checks (of_stands (k.stands told home)).beside (λ _ m r l h. h) a runs.entry none runs.is chains r) a (ran_weaker (λ ok h. tt) r))
           (λ told. command_stands (of_stands (k.stands told home)) (λ _ m r l h. h) a runs.entry none runs.is chains r)
 
       pub second_stays : {a : SecondEnd} (h : HalfWrite Image) → (device_of d).store.half ≡ Some h →
@@ -206,7 +188,7 @@ module _ {V : Type 0} {G : Ghosts V} where
       second_stays {a = a} h half r p k =
           to_keeps p _
           (second_kept contents hears p (handed_of p.told d) (device_of d) (device_of e) u z (of_keeps p k) home
-          (λ told. second_checks (of_stands (k.stands told home)) (λ _ m r l h. h) a r) a (ran_weaker (λ ok h. tt) r))
+          (λ told. second_checks (of_stands (k.stands told home)).beside (λ _ m r l h. h) a r) a (ran_weaker (λ ok h. tt) r))
           (λ told. second_stands (of_stands (k.stands told home)) (λ _ m r l h. h) a h half r)
 
       pub background_stays : {a : Option Did} → (device_of d).store.half ≡ None → Came (λ ok. ok ≡ true) (background contents (device_of d)) a → StaysKept d e

@@ -1,5 +1,6 @@
 pub mod Counts
 pub mod Untold
+pub mod Beside
 pub mod Standing
 pub mod Sound
 pub mod NewDevice

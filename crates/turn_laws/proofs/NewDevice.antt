@@ -19,14 +19,16 @@ use Rattle.turn_laws.specs.Standing.{GiveBytes, Stands, new_device}
 pub new_stands : {K : Type 0} (d : ℕ) (g : Geometry) (n : ℕ) (plans : Plans) (u : Outside (List ℕ) K) → 1 ≤ n → n ≤ 64 →
     Tells u.a (empty_contents (n * 15)) → Tells u.b [] → GiveBytes plans → Stands (new_device d g n plans) u
 new_stands d g n plans u some most a b gives = record {
-  plain = empty_volume n;
-  firm = empty_volume n;
-  held = record { a = empty_contents (n * 15); b = []; slots = None };
-  untold = record { a = a; b = b; slots = refl };
-  order = new_in_order d g n (record { a = empty_contents (n * 15); b = []; slots = None }) most refl;
-  follows = subst (λ (m : MarksStore). Follows d (empty_state g n) (record { store = m; paths = fresh_paths; plans = plans; history = no_history; chain = None }))
-      (sym (new_marks d g n)) (new_follows d g n plans (omega (arith, some)));
-  gives = gives;
+  beside = record {
+    plain = empty_volume n;
+    firm = empty_volume n;
+    held = record { a = empty_contents (n * 15); b = []; slots = None };
+    untold = record { a = a; b = b; slots = refl };
+    order = new_in_order d g n (record { a = empty_contents (n * 15); b = []; slots = None }) most refl;
+    follows = subst (λ (m : MarksStore). Follows d (empty_state g n) (record { store = m; paths = fresh_paths; plans = plans; history = no_history; chain = None }))
+        (sym (new_marks d g n)) (new_follows d g n plans (omega (arith, some)));
+    gives = gives;
+  };
   never = refl;
   about = subst (λ (m : MarksStore). CameAbout (record { store = m; paths = fresh_paths; plans = plans; history = no_history; chain = None }))
       (sym (new_marks d g n)) (about.opened d g n plans some);

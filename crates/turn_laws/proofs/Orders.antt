@@ -1,4 +1,5 @@
--- A device goes on to stand behind the orders that hold a side, resume it, or put an empty volume in place of a failed one, where they aren't refused.
+-- A device goes on beside the plain device of its history, and to stand so, behind the orders that hold a side, resume it, or put a volume of as many
+-- tracks in place of a failed one.
 use Rattle.std.proofs.Common.{◌≡◌, ◌∙◌, ℕ, Bool, true, false, List, Some, None, is_some, length, refl, sym, subst}
 use Rattle.ckd_types.specs.declared.paths.Side.{Side}
 use Rattle.ckd_types.specs.declared.paths.Side.TheVariants.{A, B}
@@ -6,7 +7,7 @@ use Rattle.device_outside.specs.Outside.{Outside, with_view}
 use Rattle.device_outside.specs.Volume.{VolumeView}
 use Rattle.device_defs.specs.Marks.{MarksDevice}
 use Rattle.device_defs.specs.Orders.{replace}
-use Rattle.device_defs.specs.Store.{tracks_of}
+use Rattle.device_defs.specs.Store.{side_of, tracks_of}
 use Rattle.device_laws.specs.Whole.{WholeDevice, holding, marks_device}
 use Rattle.device_laws.proofs.OrdersInOrder.{replace_order, replace_same}
 use Rattle.device_laws.proofs.PlainCommand.{follows_store}
@@ -19,23 +20,12 @@ use Rattle.subsystem_laws.specs.Excused.{has_fresh}
 use Rattle.subsystem_laws.proofs.AboutRuns.{about_kept}
 use Rattle.subsystem_laws.proofs.WholeHappens.{suspend_fault_both}
 use Rattle.subsystem_laws.proofs.WholeOrders.{down_by, fault_both, paired_by}
-use Rattle.turn_laws.specs.Standing.{Stands, Untold}
+use Rattle.turn_laws.specs.Standing.{IsBeside, Stands, Untold}
+use Rattle.turn_laws.proofs.Beside.{marks}
 
--- held, where that isn't refused, or resumed
-held_about : {K : Type 0} (d : WholeDevice) (u : Outside (List ℕ) K) (held : Bool) → (held ≡ true → suspend_fault d ≡ None) → (s : Stands d u) →
-    CameAbout (record (marks_device s.plain s.firm d) { store = record (marks_device s.plain s.firm d).store { held = held } })
-held_about d u true fault s =
-    about_kept.held (marks_device s.plain s.firm d) (suspend_fault_both s.plain s.firm d ∙ fault refl) s.about
-held_about d u false fault s =
-    about_kept.resumed (marks_device s.plain s.firm d) (λ away. at_home (is_some d.store.lent) s.order.free away) s.about
-  where
-    at_home : {X : Type 0} (b : Bool) → b ≡ false → b ≡ true → X
-    at_home true e f = absurd (cc)
-    at_home false e f = absurd (cc)
-
-pub held_stands : {K : Type 0} (d : WholeDevice) (u : Outside (List ℕ) K) (held : Bool) → (held ≡ true → suspend_fault d ≡ None) → Stands d u →
-    Stands (record d { store = record d.store { held = held } }) u
-held_stands d u held fault s = record {
+pub held_beside : {K : Type 0} (d : WholeDevice) (u : Outside (List ℕ) K) (held : Bool) → IsBeside d u →
+    IsBeside (record d { store = record d.store { held = held } }) u
+held_beside d u held s = record {
   plain = s.plain;
   firm = s.firm;
   held = s.held;
@@ -44,43 +34,57 @@ held_stands d u held fault s = record {
   follows = follows_store d.store.device (empty_state d.store.geometry d.store.cylinders) (marks_device s.plain s.firm d) s.follows
       (record (marks_device s.plain s.firm d).store { held = held }) refl;
   gives = s.gives;
-  never = s.never;
-  about = held_about d u held fault s;
 }
+
+-- held, where that isn't refused, or resumed
+held_about : {K : Type 0} (d : WholeDevice) (u : Outside (List ℕ) K) (held : Bool) → (held ≡ true → suspend_fault d ≡ None) → (s : Stands d u) →
+    CameAbout (record (marks s.beside) { store = record (marks s.beside).store { held = held } })
+held_about d u true fault s = about_kept.held (marks s.beside) (suspend_fault_both s.beside.plain s.beside.firm d ∙ fault refl) s.about
+held_about d u false fault s =
+    about_kept.resumed (marks s.beside) (λ away. at_home (is_some d.store.lent) s.beside.order.free away) s.about
+  where
+    at_home : {X : Type 0} (b : Bool) → b ≡ false → b ≡ true → X
+    at_home true e f = absurd (cc)
+    at_home false e f = absurd (cc)
+
+pub held_stands : {K : Type 0} (d : WholeDevice) (u : Outside (List ℕ) K) (held : Bool) → (held ≡ true → suspend_fault d ≡ None) → Stands d u →
+    Stands (record d { store = record d.store { held = held } }) u
+unfolding held_beside
+held_stands d u held fault s = record { beside = held_beside d u held s.beside; about = held_about d u held fault s; never = s.never }
 
 module _ {K : Type 0} (d : WholeDevice) (u : Outside (List ℕ) K) (v : VolumeView (List ℕ)) (l : List (List ℕ)) (tells : v.contents ≡ Some l)
     (long : length l ≡ tracks_of d.store) where
-  replaced_untold : (side : Side) (s : Stands d u) → Untold (with_view u side v) (holding s.held side l)
+  replaced_untold : (side : Side) (s : IsBeside d u) → Untold (with_view u side v) (holding s.held side l)
   replaced_untold A s = record { a = tells; b = s.untold.b; slots = s.untold.slots }
   replaced_untold B s = record { a = s.untold.a; b = tells; slots = s.untold.slots }
 
-  replaced_follows : (side : Side) (s : Stands d u) →
-      Follows d.store.device (empty_state d.store.geometry d.store.cylinders) (replace (marks_device s.plain s.firm d) side)
-  replaced_follows A s = follows_store d.store.device (empty_state d.store.geometry d.store.cylinders) (marks_device s.plain s.firm d) s.follows
-      (replace (marks_device s.plain s.firm d) A).store refl
-  replaced_follows B s = follows_store d.store.device (empty_state d.store.geometry d.store.cylinders) (marks_device s.plain s.firm d) s.follows
-      (replace (marks_device s.plain s.firm d) B).store refl
-
-  same_fields : (side : Side) (s : Stands d u) →
-      Follows (replace d side).store.device (empty_state (replace d side).store.geometry (replace d side).store.cylinders) (replace (marks_device s.plain s.firm d) side)
-  same_fields A s = replaced_follows A s
-  same_fields B s = replaced_follows B s
+  replaced_follows : (side : Side) (s : IsBeside d u) →
+      Follows (replace d side).store.device (empty_state (replace d side).store.geometry (replace d side).store.cylinders) (replace (marks s) side)
+  replaced_follows A s = follows_store d.store.device (empty_state d.store.geometry d.store.cylinders) (marks s) s.follows (replace (marks s) A).store refl
+  replaced_follows B s = follows_store d.store.device (empty_state d.store.geometry d.store.cylinders) (marks s) s.follows (replace (marks s) B).store refl
 
   replaced_never : (side : Side) → Stands d u → has_fresh (replace d side).history.items ≡ false
   replaced_never A s = s.never
   replaced_never B s = s.never
 
-  pub replaced_stands : (side : Side) → Stands d u → replace_fault d side ≡ None → Stands (replace d side) (with_view u side v)
-  replaced_stands side s fault = let is = down_by d side fault in record {
+  pub replaced_beside : (side : Side) → IsBeside d u → (side_of d.store side).up ≡ false → (side ≡ B → d.store.paired ≡ true) →
+      IsBeside (replace d side) (with_view u side v)
+  replaced_beside side s down paired = record {
     plain = s.plain;
     firm = s.firm;
     held = holding s.held side l;
     untold = replaced_untold side s;
-    order = replace_order s.plain s.firm d s.held side l s.order is.0 (paired_by d side is.1) long;
+    order = replace_order s.plain s.firm d s.held side l s.order down paired long;
     follows = subst (λ (m : MarksDevice). Follows (replace d side).store.device (empty_state (replace d side).store.geometry (replace d side).store.cylinders) m)
-        (sym (replace_same s.plain s.firm d s.held side)) (same_fields side s);
+        (sym (replace_same s.plain s.firm d s.held side)) (replaced_follows side s);
     gives = s.gives;
+  }
+
+  pub replaced_stands : (side : Side) → Stands d u → replace_fault d side ≡ None → Stands (replace d side) (with_view u side v)
+  unfolding replaced_beside
+  replaced_stands side s fault = let is = down_by d side fault in record {
+    beside = replaced_beside side s.beside is.0 (paired_by d side is.1);
     never = replaced_never side s;
-    about = subst CameAbout (sym (replace_same s.plain s.firm d s.held side))
-        (about_kept.replaced (marks_device s.plain s.firm d) side (fault_both s.plain s.firm d side ∙ fault) s.about);
+    about = subst CameAbout (sym (replace_same s.beside.plain s.beside.firm d s.beside.held side))
+        (about_kept.replaced (marks s.beside) side (fault_both s.beside.plain s.beside.firm d side ∙ fault) s.about);
   }

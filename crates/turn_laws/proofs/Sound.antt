@@ -16,7 +16,7 @@ use Rattle.device_laws.specs.InOrder.{IsInOrder}
 use Rattle.device_laws.specs.Whole.{WholeDevice, marks_device}
 use Rattle.device_laws.proofs.PlainStores.{IsOf, core_of}
 use Rattle.subsystem_laws.proofs.Excusable.{excused_of}
-use Rattle.turn_laws.specs.Standing.{Stands}
+use Rattle.turn_laws.specs.Standing.{IsBeside, Stands}
 
 module _ (v w : List Track) (d : WholeDevice) (h : Held) (of : IsOf (plain_device d) (core_of (marks_device v w d).store)) where
   plain_is : (t : ℕ) → image_in d.store v t ≡ record { geometry = d.store.geometry; track = track_in (plain_device d).volume t }
@@ -38,15 +38,15 @@ module _ (v w : List Track) (d : WholeDevice) (h : Held) (of : IsOf (plain_devic
   at_home true free i = tt
   at_home false free i = sound_at i
 
-pub stands_sound : {K : Type 0} (d : WholeDevice) (u : Outside (List ℕ) K) (s : Stands d u) → IsSound d s.held
-stands_sound d u s = at_home s.plain s.firm d s.held s.follows.of (is_some d.store.lent) s.order.free s.order
+pub beside_sound : {K : Type 0} (d : WholeDevice) (u : Outside (List ℕ) K) (s : IsBeside d u) → IsSound d s.held
+beside_sound d u s = at_home s.plain s.firm d s.held s.follows.of (is_some d.store.lent) s.order.free s.order
 
-pub stands_plainly : {K : Type 0} (d : WholeDevice) (u : Outside (List ℕ) K) → Stands d u →
+pub beside_plain : {K : Type 0} (d : WholeDevice) (u : Outside (List ℕ) K) → IsBeside d u →
     IsPlain d.plans (empty_state d.store.geometry d.store.cylinders) d.history
-stands_plainly d u s = s.follows.stands.plain
+beside_plain d u s = s.follows.stands.plain
 
 pub stands_excused : {K : Type 0} (d : WholeDevice) (u : Outside (List ℕ) K) → Stands d u → d.store.counts.failed < 2 ^ 64 - 1 →
     d.store.counts.losses.cache < 2 ^ 64 - 1 →
     IsExcused d.plans (empty_state d.store.geometry d.store.cylinders) d.history.items d.store.lost d.store.counts
 stands_excused d u s failed cache =
-    excused_of (marks_device s.plain s.firm d) s.about (record { home = s.order.free; none = s.never }) failed cache
+    excused_of (marks_device s.beside.plain s.beside.firm d) s.about (record { home = s.beside.order.free; none = s.never }) failed cache

@@ -1,23 +1,13 @@
--- A device goes on to stand beside the plain device of its history behind each event of a turn, where memory is had.
-use Rattle.std.proofs.Common.{◌≡◌, ◌≤◌, ◌*◌, ℕ, Bool, true, false, List, [], Option, Some, None, refl, sym, ap, subst, ◌∙◌}
-use Rattle.std.specs.Prelude.{IfSome, option_map}
-use Rattle.ckd_types.specs.Ccw.{ccw_at}
-use Rattle.ckd_types.specs.declared.channel.Ccw.{Ccw}
-use Rattle.ckd_types.specs.declared.geometry.Geometry.{Geometry}
-use Rattle.ckd_types.specs.declared.record.Track.{Track}
+-- A device that came about by its events and orders goes on to stand so beside the plain device of its history behind each event of a turn.
+use Rattle.std.proofs.Common.{◌≡◌, ◌≤◌, ℕ, Bool, true, false, List, Option, Some, None, sym, ap, subst, ◌∙◌}
+use Rattle.std.specs.Prelude.{option_map}
 use Rattle.ckd_chain.specs.Facts.{IsChain}
 use Rattle.ckd_chain.specs.State.{ChainState}
-use Rattle.plain_defs.specs.History.{OpenEntry, IsOpen}
-use Rattle.plain_defs.specs.Journal.{Plans, replay}
-use Rattle.plain_defs.specs.PlainState.{PlainState, empty_state}
-use Rattle.plain_defs.specs.Whole.{GivesBytes}
+use Rattle.plain_defs.specs.History.{OpenEntry}
 use Rattle.track_image.specs.Image.{Image}
 use Rattle.device_outside.specs.Interaction.{Interaction}
 use Rattle.device_outside.specs.Keeper.{Hearing, Message, ReplyTo, reply}
-use Rattle.device_outside.specs.After.{Has}
 use Rattle.device_outside.specs.Outside.{Outside, Ran}
-use Rattle.device_outside.specs.Slots.{SlotsTold}
-use Rattle.device_outside.proofs.Runs.{ran_weaker}
 use Rattle.device_defs.specs.declared.answers.Did.{Did}
 use Rattle.device_defs.specs.declared.answers.SecondEnd.{SecondEnd}
 use Rattle.device_defs.specs.declared.answers.Stepped.{Stepped}
@@ -30,172 +20,82 @@ use Rattle.device_defs.specs.Start.{start, start_fault}
 use Rattle.device_defs.specs.Store.{HalfWrite}
 use Rattle.loss_model.specs.declared.Loss.{Loss}
 use Rattle.loss_model.specs.declared.Loss.TheVariants as losses
-use Rattle.device_laws.specs.Standing.{LooksAt, RunsOn}
-use Rattle.device_laws.specs.Whole.{WholeDevice, WholeTwin, WholeTwins, Leaves, BehindCommand, marks_device}
-use Rattle.device_laws.proofs.Always.{Always}
-use Rattle.device_laws.proofs.ChainFeeds.{chain_feeds, runs_looks}
-use Rattle.device_laws.proofs.Had.{Had}
-use Rattle.device_laws.proofs.CleanParts.{Holds, command_clean, second_clean}
-use Rattle.device_laws.proofs.KeepLaws.{always_ran, clean_ran}
-use Rattle.device_laws.proofs.KeptEvents.{Continues, command_goes, second_goes, background_goes, lose_goes}
-use Rattle.device_laws.proofs.KeptHistories.{data_checks, extends_itself}
-use Rattle.device_laws.proofs.PlainCommand.{command_follows}
-use Rattle.device_laws.proofs.PlainEvents.{start_follows}
-use Rattle.device_laws.proofs.PlainLosses.{background_follows, loss_follows}
-use Rattle.device_laws.proofs.PlainSeconds.{second_follows}
-use Rattle.device_laws.proofs.PlainTurns.{Follows, RunsAt, ChainOf, none_mid}
-use Rattle.device_laws.proofs.WholeCommand.{command_whole}
-use Rattle.device_laws.proofs.WholeParts.{background_whole, loss_whole, second_whole, start_order, start_fault_same, start_same}
+use Rattle.device_laws.specs.Agrees.{Held}
+use Rattle.device_laws.specs.Whole.{WholeDevice}
+use Rattle.device_laws.proofs.WholeParts.{start_fault_same, start_same}
+use Rattle.subsystem_laws.specs.Came.{CameTo}
 use Rattle.subsystem_laws.specs.CameAbout.{CameAbout}
 use Rattle.subsystem_laws.specs.Excused.{has_fresh}
 use Rattle.subsystem_laws.proofs.AboutRuns.{about_kept}
-use Rattle.subsystem_laws.specs.Came.{CameTo}
-use Rattle.subsystem_laws.proofs.Came.{came_had}
 use Rattle.subsystem_laws.proofs.Shapes.{Shape, background_shape, command_shape, lose_shape, none_fresh, second_shape}
 use Rattle.subsystem_laws.proofs.Walks.{LeavesSo}
-use Rattle.turn_laws.specs.Standing.{GiveBytes, Stands}
-use Rattle.turn_laws.proofs.Untold.{twinned}
-
-itself : (d : WholeDevice) → Continues d.plans d.history d
-itself d = record { plans = refl; history = extends_itself d.history }
-
-own_follows : (num : ℕ) (empty : PlainState) (m : MarksDevice) → Follows num empty m → Follows m.store.device (empty_state m.store.geometry m.store.cylinders) m
-own_follows num empty m f =
-    subst (λ (x : PlainState). Follows m.store.device x m) f.base (subst (λ (n : ℕ). Follows n empty m) (sym f.number) f)
-
--- the chain of the program that runs, while no write is half done
-runs_by : (plans : Plans) (x : PlainState) (o : OpenEntry) (before : Option ChainState) (g : Geometry) (n : ℕ) (chain : ChainState) → before ≡ Some chain →
-    GiveBytes plans → 1 ≤ o.path → o.path ≤ 4 → RunsAt plans x (Some o) before → ChainOf g n before → IsChain chain → RunsOn n g chain
-runs_by plans x o None g n chain is gives least most at of c = absurd (cc)
-runs_by plans x o (Some origin) g n chain is gives least most at of c =
-    let same : origin ≡ chain = some_same origin chain is in
-    subst (λ (k : ChainState). IsChain k → RunsOn n g k) same
-    (λ c. record {
-      is = record { is = c; cylinders = of.1 };
-      geometry = of.0;
-      gives = λ i. subst (λ (l : List Ccw). GivesBytes (ccw_at l i)) (sym at.hand.words) (gives o.path o.ordinal least most i);
-    }) c
-  where
-    some_same : (x y : ChainState) → Some x ≡ Some y → x ≡ y
-    some_same x y e = cc
+use Rattle.turn_laws.specs.Standing.{Stands, Untold}
+use Rattle.turn_laws.proofs.Beside as B
+use Rattle.turn_laws.proofs.Beside.{
+  BesideBy,
+  marks,
+  background_beside,
+  beside_there,
+  command_beside,
+  loss_beside,
+  second_beside,
+  start_beside,
+}
 
 module _ {K : Type 0} {d : WholeDevice} {u : Outside (List ℕ) K} (s : Stands d u) where
-  abbrev num : ℕ
-  num = d.store.device
-
-  abbrev empty : PlainState
-  empty = empty_state d.store.geometry d.store.cylinders
-
-  abbrev beside : MarksDevice
-  beside = marks_device s.plain s.firm d
-
-  runs_on : (none : d.store.half ≡ None) (o : OpenEntry) → d.history.running ≡ Some o → (chain : ChainState) → d.chain ≡ Some chain → IsChain chain →
-      RunsOn d.store.cylinders d.store.geometry chain
-  runs_on none o runs chain is c =
-      let f = s.follows in
-      let whole : beside.store.half ≡ None = ap (option_map half_mark) none in
-      let start = (subst (λ (r : Option OpenEntry). IfSome r (IsOpen d.plans (replay d.plans empty d.history.items) d.history.items)) runs f.stands.plain.at).start in
-      runs_by d.plans (replay d.plans empty d.history.items) o f.before d.store.geometry d.store.cylinders chain
-      (sym (none_mid _ beside.store.half d.history.running f.before d.chain whole f.mid) ∙ is) s.gives start.least start.most
-      (subst (λ (r : Option OpenEntry). RunsAt d.plans (replay d.plans empty d.history.items) r f.before) runs f.runs) f.chain c
-
-  whole_of : (o : OpenEntry) (none : d.store.half ≡ None) → d.history.running ≡ Some o → ((chain : ChainState) → d.chain ≡ Some chain → IsChain chain) →
-      WholeTwins (Leaves (BehindCommand s.plain (d.store.cylinders * 15) d.chain)) (command contents d) (command by_plain beside) s.held
-  whole_of o none runs chains =
-      let n = d.store.cylinders in
-      let on = d.store.geometry in
-      command_whole (n * 15) on (LooksAt n on) (chain_feeds n on) s.plain s.firm d s.held s.order refl refl none
-      (λ chain q is needs. runs_looks n on chain q (runs_on none o runs chain is (chains chain is)) needs)
+  abbrev before : MarksDevice
+  before = marks s.beside
 
   -- a loss of any kind
-  loss_about : (loss : Loss) → LeavesSo CameAbout (lose by_plain beside loss)
-  loss_about losses.Cache = about_kept.lost_cache beside s.about
-  loss_about losses.Store = about_kept.lost_store beside s.about
-  loss_about (losses.Side side) = about_kept.lost_side beside side s.order.free s.about
-
-  has : Has [] u s.held
-  has = record { a = s.untold.a; b = s.untold.b; slots = subst (λ (o : Option (List ℕ)). SlotsTold u.port.pool o []) (sym s.untold.slots) tt }
+  loss_about : (loss : Loss) → LeavesSo CameAbout (lose by_plain before loss)
+  loss_about losses.Cache = about_kept.lost_cache before s.about
+  loss_about losses.Store = about_kept.lost_store before s.about
+  loss_about (losses.Side side) = about_kept.lost_side before side s.beside.order.free s.about
 
   module _ {hears : Hearing Image K} (heard : (k : K) (m : Message Image) (r : ReplyTo m) (l : K) → hears k m r l → r ≡ reply m)
       {e : WholeDevice} {z : Outside (List ℕ) K} where
-    behind : {A : Type 0} {a : A} {p : List Track → Type 0} {i : Interaction (List ℕ) Image WholeDevice A} {j : Interaction Bool Image MarksDevice A} →
-        WholeTwins (Leaves p) i j s.held → Had j (λ y _. Follows num empty y) → LeavesSo CameAbout j →
-        ((t : CameTo j) → Shape d.history t.state.history) → Always i (λ y _. Continues d.plans d.history y) → Ran (λ ok. ok ≡ true) hears i u e a z →
-        Stands e z
-    behind {a = a} {p = p} {i = i} {j = j} both had abouts shapes goes r =
-        let o = twinned [] (WholeTwin (Leaves p)) heard s.held both s.untold r in
-        let t : CameTo j = record { state = o.state; answer = o.answer; is = o.came } in
-        let same = (always_ran i (λ y _. Continues d.plans d.history y) goes.holds r).plans in
-        record {
-          plain = o.is.plain;
-          firm = o.is.firm;
-          held = o.holdings;
-          untold = o.untold;
-          order = o.is.is.order;
-          follows = own_follows num empty (marks_device o.is.plain o.is.firm e)
-              (subst (λ (m : MarksDevice). Follows num empty m) (sym o.is.marks) (came_had had t));
-          gives = subst GiveBytes (sym same) s.gives;
-          about = subst CameAbout (sym o.is.marks) (abouts t);
-          never = subst (λ (m : MarksDevice). has_fresh m.history.items ≡ false) (sym o.is.marks) (none_fresh d.history o.state.history (shapes t) s.never);
-        }
+    so_behind : {A : Type 0} {j : Interaction Bool Image MarksDevice A} → LeavesSo CameAbout j →
+        ((t : CameTo j) → Shape d.history t.state.history) → BesideBy j e z → Stands e z
+    so_behind abouts shapes b = record {
+      beside = b.beside;
+      about = subst CameAbout (sym b.is) (abouts b.to);
+      never = subst (λ (m : MarksDevice). has_fresh m.history.items ≡ false) (sym b.is)
+          (none_fresh d.history b.to.state.history (shapes b.to) s.never);
+    }
 
     pub command_stands : (a : Option Stepped) (o : OpenEntry) → d.store.half ≡ None → d.history.running ≡ Some o →
         ((chain : ChainState) → d.chain ≡ Some chain → IsChain chain) → Ran (λ ok. ok ≡ true) hears (command contents d) u e a z → Stands e z
     command_stands a o none runs chains r =
-        behind (whole_of o none runs chains)
-        (command_follows num empty beside s.follows o runs (ap (option_map half_mark) none))
-        (about_kept.commanded beside o runs (ap (option_map half_mark) none) s.about) (command_shape beside)
-        (command_goes contents d.plans d.history d (itself d)) r
-
-    -- no data check comes of a command, nor of the other part of its write
-    pub command_checks : (a : Option Stepped) (o : OpenEntry) → d.store.half ≡ None → d.history.running ≡ Some o →
-        ((chain : ChainState) → d.chain ≡ Some chain → IsChain chain) → Ran (λ ok. ok ≡ true) hears (command contents d) u e a z →
-        data_checks e.history ≡ data_checks d.history
-    command_checks a o none runs chains r =
-        clean_ran (λ y _. data_checks y.history ≡ data_checks d.history) (λ y _. Holds (data_checks d.history) y) [] s.held (whole_of o none runs chains)
-        (command_clean beside) (λ x y f. f) has (ran_weaker (λ ok h. tt) r)
-
-    pub second_checks : (a : SecondEnd) → Ran (λ ok. ok ≡ true) hears (second contents d) u e a z → data_checks e.history ≡ data_checks d.history
-    second_checks a r =
-        clean_ran (λ y _. data_checks y.history ≡ data_checks d.history) (λ y _. Holds (data_checks d.history) y) [] s.held
-        (second_whole s.plain s.firm d s.held s.order (λ i is. (s.order.opened i is).suits))
-        (second_clean beside) (λ x y f. f) has (ran_weaker (λ ok h. tt) r)
+        so_behind (about_kept.commanded before o runs (ap (option_map half_mark) none) s.about) (command_shape before)
+        (command_beside s.beside heard a o none runs chains r)
 
     pub second_stands : (a : SecondEnd) (h : HalfWrite Image) → d.store.half ≡ Some h → Ran (λ ok. ok ≡ true) hears (second contents d) u e a z → Stands e z
     second_stands a h half r =
-        behind (second_whole s.plain s.firm d s.held s.order (λ i is. (s.order.opened i is).suits))
-        (second_follows num empty beside s.follows (half_mark h) (ap (option_map half_mark) half))
-        (about_kept.seconded beside (half_mark h) (ap (option_map half_mark) half) s.about) (second_shape beside)
-        (second_goes contents d.plans d.history d (itself d)) r
+        so_behind (about_kept.seconded before (half_mark h) (ap (option_map half_mark) half) s.about) (second_shape before)
+        (second_beside s.beside heard a h half r)
 
     pub background_stands : (a : Option Did) → d.store.half ≡ None → Ran (λ ok. ok ≡ true) hears (background contents d) u e a z → Stands e z
     background_stands a none r =
-        behind (background_whole s.plain s.firm d s.held s.order none)
-        (background_follows num empty beside s.follows (ap (option_map half_mark) none))
-        (about_kept.worked beside (ap (option_map half_mark) none) s.about) (background_shape beside)
-        (background_goes contents d.plans d.history d (itself d)) r
+        so_behind (about_kept.worked before (ap (option_map half_mark) none) s.about) (background_shape before)
+        (background_beside s.beside heard a none r)
 
     pub loss_stands : (loss : Loss) (a : Unit {0}) → Ran (λ ok. ok ≡ true) hears (lose contents d loss) u e a z → Stands e z
-    loss_stands loss a r =
-        behind (loss_whole s.plain s.firm d s.held loss s.order) (loss_follows num empty beside s.follows loss) (loss_about loss) (lose_shape beside loss)
-        (lose_goes contents d.plans d.history d loss (itself d)) r
+    loss_stands loss a r = so_behind (loss_about loss) (lose_shape before loss) (loss_beside s.beside heard loss a r)
 
 -- the start of a program
 pub start_stands : {K : Type 0} (d : WholeDevice) (u : Outside (List ℕ) K) (path : ℕ) → Stands d u → 1 ≤ path → path ≤ 4 → start_fault d path ≡ None →
     Stands (start d path) u
-unfolding S.start
+unfolding S.start B.start_beside
 start_stands d u path s least most none = record {
-  plain = s.plain;
-  firm = s.firm;
-  held = s.held;
-  untold = s.untold;
-  order = start_order s.plain s.firm d s.held path s.order;
-  follows =
-      start_follows d.store.device (empty_state d.store.geometry d.store.cylinders) (marks_device s.plain s.firm d) s.follows path least most
-      (sym (start_fault_same s.plain s.firm d path) ∙ none);
-  gives = s.gives;
+  beside = start_beside d u path s.beside least most none;
   about =
-      subst CameAbout (sym (start_same s.plain s.firm d path))
-      (about_kept.started (marks_device s.plain s.firm d) path d.store.device (least, most) (sym (start_fault_same s.plain s.firm d path) ∙ none) s.about);
+      subst CameAbout (sym (start_same s.beside.plain s.beside.firm d path))
+      (about_kept.started (marks s.beside) path d.store.device (least, most) (sym (start_fault_same s.beside.plain s.beside.firm d path) ∙ none) s.about);
   never = s.never;
 }
+
+-- the same device over another outside of the same volumes, of whose slots nothing is told either
+pub stands_there : {K L : Type 0} (d : WholeDevice) (u : Outside (List ℕ) K) (w : Outside (List ℕ) L) → ((h : Held) → Untold u h → Untold w h) →
+    Stands d u → Stands d w
+unfolding B.beside_there
+stands_there d u w same s = record { beside = beside_there d u w same s.beside; about = s.about; never = s.never }

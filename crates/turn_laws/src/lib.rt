@@ -3,12 +3,11 @@
 #![tactic(auto)]
 
 ghost use Rattle.std.specs.Prelude.{◌≡◌, ◌≤◌, ◌<◌, ◌*◌, ◌^◌, ◌-◌, [], false, true, length, slice_set, ℕ, List, Option, None, Some};
-ghost use Rattle.ckd_chain.specs.Facts.{IsChain};
-ghost use Rattle.ckd_chain.specs.State.{ChainState};
 ghost use Rattle.ckd_types.specs.declared.geometry.Geometry.{Geometry};
 ghost use Rattle.ckd_types.specs.declared.paths.Side.{Side};
+ghost use Rattle.ckd_types.specs.declared.paths.Side.TheVariants.{B};
 ghost use Rattle.loss_model.specs.declared.Loss.{Loss};
-ghost use Rattle.plain_defs.specs.History.{IsPlain, OpenEntry, is_path_of};
+ghost use Rattle.plain_defs.specs.History.{IsPlain, is_path_of};
 ghost use Rattle.plain_defs.specs.Journal.{Plans};
 ghost use Rattle.plain_defs.specs.PlainState.{empty_state};
 ghost use Rattle.track_image.specs.Image.{Image};
@@ -28,34 +27,25 @@ ghost use Rattle.device_defs.specs.Excused.{IsExcused};
 ghost use Rattle.device_defs.specs.Orders.{hold, replace, resume};
 ghost use Rattle.device_defs.specs.Pledge.{command_count, seat_counts};
 ghost use Rattle.device_defs.specs.Sound.{IsSound};
-ghost use Rattle.device_defs.specs.Start.{start, start_fault};
-ghost use Rattle.device_defs.specs.Store.{HalfWrite, OfBackground, tracks_of};
+ghost use Rattle.device_defs.specs.Start.{start};
+ghost use Rattle.device_defs.specs.Store.{HalfWrite, OfBackground, side_of, tracks_of};
 ghost use Rattle.device_laws.specs.Agrees.{Held};
 ghost use Rattle.device_laws.specs.Whole.{WholeDevice};
 ghost use Rattle.subsystem_defs.specs.Refusals.{replace_fault, suspend_fault};
-ghost use Rattle.turn_laws.specs.Standing.{GiveBytes, Stands, new_device};
+ghost use Rattle.turn_laws.specs.Standing.{GiveBytes, IsBeside, IsKept, Stands, new_device};
 
 /// Behind each event, whatever the port answers and whichever calls fail, the device stands beside the plain device of its history, where memory was
-/// had and its volumes tell what they hold.
+/// had and its volumes tell what they hold; and it goes on to have come about by its events and orders.
 pub fn device_stands_on()
-    ensures starts { (d : WholeDevice) (u : Outside (List ℕ) NoKeep) (path : ℕ) → Stands d u → 1 ≤ path → path ≤ 4 → start_fault d path ≡ None →
-        Stands (start d path) u }
-    ensures command { (d e : WholeDevice) (u z : Outside (List ℕ) NoKeep) (a : Option Stepped) (o : OpenEntry) → Stands d u → d.store.half ≡ None →
-        d.history.running ≡ Some o → ((chain : ChainState) → d.chain ≡ Some chain → IsChain chain) →
-        Ran (λ ok. ok ≡ true) (λ _ m r _. r ≡ reply m) (command contents d) u e a z → Stands e z }
-    ensures second { (d e : WholeDevice) (u z : Outside (List ℕ) NoKeep) (a : SecondEnd) (h : HalfWrite Image) → Stands d u → d.store.half ≡ Some h →
-        Ran (λ ok. ok ≡ true) (λ _ m r _. r ≡ reply m) (second contents d) u e a z → Stands e z }
-    ensures background { (d e : WholeDevice) (u z : Outside (List ℕ) NoKeep) (a : Option Did) → Stands d u → d.store.half ≡ None →
-        Ran (λ ok. ok ≡ true) (λ _ m r _. r ≡ reply m) (background contents d) u e a z → Stands e z }
-    ensures lose { (d e : WholeDevice) (u z : Outside (List ℕ) NoKeep) (a : Unit {0}) (loss : Loss) → Stands d u →
-        Ran (λ ok. ok ≡ true) (λ _ m r _. r ≡ reply m) (lose contents d loss) u e a z → Stands e z }
+    ensures beside { IsKept IsBeside }
+    ensures stands { IsKept Stands }
 {}
 
 /// Its frames, its patches and what its volumes hold agree track by track with the plain device of its history, which is one that a plain device
 /// could have.
 pub fn standing_device_is_sound()
-    ensures sound { (d : WholeDevice) (u : Outside (List ℕ) NoKeep) → Stands d u → (h : Held) × Tells u.a h.a × Tells u.b h.b × IsSound d h }
-    ensures plain { (d : WholeDevice) (u : Outside (List ℕ) NoKeep) → Stands d u →
+    ensures sound { (d : WholeDevice) (u : Outside (List ℕ) NoKeep) → IsBeside d u → (h : Held) × Tells u.a h.a × Tells u.b h.b × IsSound d h }
+    ensures plain { (d : WholeDevice) (u : Outside (List ℕ) NoKeep) → IsBeside d u →
         IsPlain d.plans (empty_state d.store.geometry d.store.cylinders) d.history }
 {}
 
@@ -79,6 +69,14 @@ pub fn orders_let_stand()
     ensures resumed { (d : WholeDevice) (u : Outside (List ℕ) NoKeep) → Stands d u → Stands (resume d) u }
     ensures replaced { (d : WholeDevice) (u : Outside (List ℕ) NoKeep) (side : Side) (v : VolumeView (List ℕ)) (l : List (List ℕ)) → Stands d u →
         replace_fault d side ≡ None → v.contents ≡ Some l → length l ≡ tracks_of d.store → Stands (replace d side) (with_view u side v) }
+{}
+
+/// Beside the plain device it stays behind these orders whether or not they are refused, where what is replaced is down, and side B only of a pair.
+pub fn orders_leave_it_beside()
+    ensures held { (d : WholeDevice) (u : Outside (List ℕ) NoKeep) → IsBeside d u → IsBeside (hold d) u × IsBeside (resume d) u }
+    ensures replaced { (d : WholeDevice) (u : Outside (List ℕ) NoKeep) (side : Side) (v : VolumeView (List ℕ)) (l : List (List ℕ)) → IsBeside d u →
+        (side_of d.store side).up ≡ false → (side ≡ B → d.store.paired ≡ true) → v.contents ≡ Some l → length l ≡ tracks_of d.store →
+        IsBeside (replace d side) (with_view u side v) }
 {}
 
 /// An event of a path changes the count of that path alone: the start of its next program, a command of its program that runs, and the second part of
