@@ -67,7 +67,7 @@ module _ {V : Type 0} {G : Ghosts V} (deck : DeckLines) where
       good = k.keeps.keeps.checks u.tells_it;
       away = away;
       legal = legal_by (device_of e).store.lent refl;
-      paths = λ free. (k.stands u.tells_it free).follows.keeps;
+      paths = λ free. (k.stands u.tells_it free).beside.follows.keeps;
     }
 
     base : empty ≡ empty_state line.geometry line.cylinders
