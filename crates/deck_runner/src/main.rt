@@ -1,4 +1,5 @@
-//! The program: runs a deck of channel programs and writes a report, or runs its paths beside each other and writes a history; or checks a deck.
+//! The program: runs a deck of channel programs and writes a report, or runs its paths beside each other and writes a history; checks a deck; or
+//! runs a deck that is drawn from a seed and writes a summary.
 #![tactic(auto)]
 
 use ckd_outside::{Sink, Source, StdSink, StdSource};

@@ -1,5 +1,6 @@
 -- A device keeps what was pledged of it where a volume comes in the place of a failed side's.
 use Rattle.std.proofs.Common.{◌≡◌, ◌*◌, Bool, true, false, List, length, ℕ, Option, Some, None, refl, sym, ap, subst, ◌∙◌, arith}
+use Rattle.std.proofs.lemmas.Bool.{and_from, and_parts}
 use Rattle.std.specs.Prelude.{◌&&◌, is_some}
 use Rattle.ckd_types.specs.declared.paths.Side.{Side}
 use Rattle.ckd_types.specs.declared.paths.Side.TheVariants.{A, B}
@@ -42,14 +43,6 @@ record HasTracks (o : Option (List (List ℕ))) (n : ℕ) : Type 0 where
 has_tracks : (o : Option (List (List ℕ))) (n : ℕ) → TellsTracks o n → HasTracks o n
 has_tracks (Some all) n h = record { all = all; is = refl; long = h }
 has_tracks None n h = absurd h
-
-both_so : (a b : Bool) → (a && b) ≡ true → (a ≡ true) × (b ≡ true)
-both_so true b e = (refl, e)
-both_so false b e = absurd (cc)
-
-so_both : (a b : Bool) → a ≡ true → b ≡ true → (a && b) ≡ true
-so_both true b is e = e
-so_both false b is e = absurd (cc)
 
 -- a volume of which no call fails leaves no more calls that may
 
@@ -112,11 +105,11 @@ module _ (p : Pledge) (x : WholeDevice) (u : Told) (v : VolumeView (List ℕ)) (
       StaysInTurn p (replace x side) (handed p.told (with_view u side v)) (with_view u side v)
   replaced_keeps A k =
       sides_keep p x u (with_view u A v) (new_side (tracks_of x.store) true) x.store.b k
-      (λ told. so_both (is_some v.contents) (tells u.b) (is_there told) (both_so (tells u.a) (tells u.b) (k.keeps.tells told)).1)
+      (λ told. and_from (is_some v.contents) (tells u.b) (is_there told) (and_parts (tells u.a) (tells u.b) (k.keeps.tells told)).1)
       (stays_first p.failures x.store.counts.failed _ _ v.allowance is_sure k.keeps.failures)
   replaced_keeps B k =
       sides_keep p x u (with_view u B v) x.store.a (new_side (tracks_of x.store) true) k
-      (λ told. so_both (tells u.a) (is_some v.contents) (both_so (tells u.a) (tells u.b) (k.keeps.tells told)).0 (is_there told))
+      (λ told. and_from (tells u.a) (is_some v.contents) (and_parts (tells u.a) (tells u.b) (k.keeps.tells told)).0 (is_there told))
       (stays_second p.failures x.store.counts.failed _ _ v.allowance is_sure k.keeps.failures)
 
 same_counts : (x : WholeDevice) (side : Side) → seat_counts (replace x side) ≡ seat_counts x

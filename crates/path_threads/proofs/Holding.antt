@@ -11,7 +11,6 @@ use Rattle.device_turn.specs.declared.holder.Holder.{Ghosts}
 use Rattle.device_turn.specs.declared.place.Turn.{Turn}
 use Rattle.device_turn.specs.declared.seat.TurnSeat.{TurnSeat}
 use Rattle.device_turn.specs.declared.view.View.{View}
-use Rattle.device_turn.proofs.Members.{may_value}
 use Rattle.turn_seats.specs.Seating.{AreSeated, IsHome, Rests}
 use Rattle.turn_seats.specs.declared.seating.Seats.{Seats}
 use Rattle.device_core.specs.declared.device.Device.{Device}
@@ -27,33 +26,9 @@ use Rattle.path_orders.specs.Spare.{IsSpare}
 use Rattle.path_threads.specs.declared.places.Place.{Place}
 use Rattle.path_threads.specs.Held.{IsHeld}
 use Rattle.path_threads.specs.Places.{Allows, IsPromised, SuitsSeat}
-use Rattle.path_threads.proofs.Walking.{rests_at}
+use Rattle.path_threads.proofs.Walking.{rests_at, rests_same}
 
 module _ {H P : Type 0} {G : Ghosts H P} where
-  pub held_from : (s z : TurnSeat H P G) (b : Box H Global) → z.seat.table_id ≡ s.seat.table_id → z.number ≡ s.number → z.made ≡ s.made →
-      Entered (KeptBy (boxed G.keeps)) (counts_in G.counts) s.seat.me z.seat.me (Got b) → IsHeld s z b.value
-  held_from s z b own number made e = record {
-    own = own;
-    number_is = number;
-    made_is = made;
-    joined = ap (λ m. m.0.joined) e.1;
-    pledge = ap (λ m. m.0.pledge) e.1;
-    out = (ap (λ m. m.0.stage) e.1, ap (λ m. m.1) e.1, e.2);
-    may = may_value G.keeps G.counts z.seat.me.0 b e.4;
-  }
-
-  -- it is given back
-  pub rests_from : (s z y : TurnSeat H P G) (h : H) (word : ℕ) → IsHeld s z h → y.seat.table_id ≡ z.seat.table_id → y.number ≡ z.number → y.made ≡ z.made →
-      y.seat.me ≡ (away (worded word z.seat.me.0), []) → Rests s y
-  rests_from s z y h word held own number made is = record {
-    own = own ∙ held.own;
-    number_is = number ∙ held.number_is;
-    made_is = made ∙ held.made_is;
-    away = (ap (λ m. m.0.stage) is, ap (λ m. m.0.loaded) is, ap (λ m. m.1) is);
-    joined = ap (λ m. m.0.joined) is ∙ held.joined;
-    pledge = ap (λ m. m.0.pledge) is ∙ held.pledge;
-  }
-
   pub home_rests : (t : Turn H P) (s z : TurnSeat H P G) → IsHome t s → Rests s z → IsHome t z
   home_rests t s z home rests = record { at = rests_at 0 t s z home.at rests; made_is = rests.made_is ∙ home.made_is }
 
@@ -64,10 +39,7 @@ module _ {H P : Type 0} {G : Ghosts H P} where
   home_rest [] [] h = tt
   home_rest [] (s ∷ ss) h = absurd h
   home_rest (t ∷ ts) [] h = absurd h
-  home_rest (t ∷ ts) (s ∷ ss) h = (
-    record { own = refl; number_is = refl; made_is = refl; away = h.0.at.away; joined = refl; pledge = refl },
-    home_rest ts ss h.1,
-  )
+  home_rest (t ∷ ts) (s ∷ ss) h = (rests_same 0 t s h.0.at, home_rest ts ss h.1)
 
 module _ {V : Type 0} {G : volumes.Ghosts V} {N : Ghosts (Device V G) (Promise V G)} where
   pub allows_rests : (place : Place) (s z : TurnSeat (Device V G) (Promise V G) N) → Allows place s → Rests s z → Allows place z

@@ -1,6 +1,5 @@
 pub mod Walking
 pub mod Setting
 pub mod Holding
-pub mod Allowing
 pub mod Parting
 pub mod Sparing

@@ -1,5 +1,6 @@
 -- A volume that may come to a device is one that may come to the device that was promised to its seat.
 use Rattle.std.proofs.Common.{◌≡◌, ◌==◌, ◌∙◌, ℕ, Bool, true, false, List, [], ◌∷◌, Option, Some, None, sym, ap, subst}
+use Rattle.std.proofs.lemmas.Option.{same_Some}
 use Rattle.std.specs.Prelude.{All, IfSome, if◌then◌else◌}
 use Rattle.std.specs.List.{AllZip}
 use Rattle.std.proofs.lemmas.List.Elements.{All-weaker}
@@ -20,24 +21,17 @@ use Rattle.path_threads.specs.declared.places.Place.{Place}
 use Rattle.path_threads.proofs.Setting.{SeatOf}
 use Rattle.path_threads.specs.Places.{Allows, IsPromised, IsPromisedFor, IsSpareAmong, IsSpareAt, SuitsAt, SuitsSeat, seat_at}
 
-some_same : {X : Type 0} {x y : X} → Some x ≡ Some y → x ≡ y
-some_same e = cc
-
-pub some_unit : {X : Type 0} (o : Option X) → IfSome o (λ x. Unit {0})
-some_unit None = tt
-some_unit (Some x) = tt
-
 module _ {V : Type 0} {G : Ghosts V} {N : holders.Ghosts (Device V G) (Promise V G)} where
   -- at the device that was promised
   same_number : (most : Losses) (d : Device V G) (place : Place) (s : SeatOf N) → IsPromised most d s → Allows place s → d.store.number ≡ place.number
   same_number most d place s p a =
       ap (λ (x : Device V G). x.store.number) (sym p.made)
-      ∙ ap (λ (q : Promise V G). q.made.value.store.number) (some_same (sym p.pledge ∙ a.pledge)) ∙ a.number
+      ∙ ap (λ (q : Promise V G). q.made.value.store.number) (same_Some _ _ (sym p.pledge ∙ a.pledge)) ∙ a.number
 
   suits_promised : (most : Losses) (d : Device V G) (s : SeatOf N) (side : Side) (volume : V) → IsPromised most d s → IsSpare d volume →
       SuitsSeat (orders.Replace side volume) s
   suits_promised most d s side volume p h q is =
-      subst (λ (x : Device V G). IsSpare x volume) (sym p.made ∙ ap (λ (q : Promise V G). q.made.value) (some_same (sym p.pledge ∙ is))) h
+      subst (λ (x : Device V G). IsSpare x volume) (sym p.made ∙ ap (λ (q : Promise V G). q.made.value) (same_Some _ _ (sym p.pledge ∙ is))) h
 
   spare_at : (most : Device V G → Losses) (n : ℕ) (side : Side) (volume : V) (ds : List (Device V G)) (places : List Place) (seats : List (SeatOf N)) →
       AllZip (λ d s. IsPromised (most d) d s) ds seats → AllZip Allows places seats → IfSome (device_at ds n) (λ d. IsSpare d volume) →

@@ -177,7 +177,7 @@ fn all_walk<R: Threads + Wait + Sync, V: Volume + Send, G: Gate + Sync>(
 
 /// Runs the programs of the devices' plans, each path's in a thread of its own, with another thread for what the devices do by themselves, and one
 /// for the operator, who does each order once, in their order, unless it is refused. What is left then, this thread does. No program of the devices
-/// was started yet.
+/// was started yet. Where one worker lacks memory all stop, and the devices are dropped.
 pub fn run_paths<R: Threads + Wait + Sync, V: Volume + Send, G: Gate + Sync>(
     rt: &R,
     alloc: Global,

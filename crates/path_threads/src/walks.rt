@@ -26,14 +26,11 @@ fn serve<R: Wait, V: Volume, G: Gate, P: Port>(
         if shared.is_stopped() {
             return Err(NoMemory);
         }
-        let came = match path_turn(turn, seat, visitor, port) {
+        match path_turn(turn, seat, visitor, port) {
             Err(NoMemory) => return shared.stop(),
-            Ok(came) => came,
-        };
-        match came {
-            Came::Went => (),
-            Came::Again => yield_now(),
-            Came::Over => return Ok(()),
+            Ok(Came::Went) => (),
+            Ok(Came::Again) => yield_now(),
+            Ok(Came::Over) => return Ok(()),
         }
     }
     unreachable!()

@@ -1,5 +1,6 @@
 -- One line's order behind those before.
 use Rattle.std.proofs.Common.{◌≡◌, ◌<◌, ◌+◌, ◌∙◌, ◌++◌, ℕ, Bool, true, false, List, [], ◌∷◌, length, get_or, map, take, cond, Option, Some, None, All, IfSome, option_map, option_to_list, refl, sym, ap, subst}
+use Rattle.std.proofs.lemmas.Option.{same_Some}
 use Rattle.std.specs.Prelude.{if◌then◌else◌}
 use Rattle.std.proofs.lemmas.List.{map-append}
 use Rattle.std.proofs.lemmas.List.Elements.{All-append, All-cons, All-nil, filter_more}
@@ -7,13 +8,10 @@ use Rattle.deck_plan.specs.declared.event.EventLine.{EventLine}
 use Rattle.path_threads.specs.declared.orders.Order.{Order}
 use Rattle.path_top.specs.Orders.{is_order, line_of, order_line, orders_in}
 
-some_same : {X : Type 0} {x y : X} → Some x ≡ Some y → x ≡ y
-some_same e = cc
-
 module _ {V : Type 0} where
   one_line : (o : Option (Order V)) (b : Bool) (e : EventLine) → option_map line_of o ≡ (if b then Some e else None) →
       map line_of (option_to_list o) ≡ cond b (e ∷ []) []
-  one_line (Some x) true e is = ap (λ (y : EventLine). y ∷ []) (some_same is)
+  one_line (Some x) true e is = ap (λ (y : EventLine). y ∷ []) (same_Some _ _ is)
   one_line (Some x) false e is = absurd (cc)
   one_line None true e is = absurd (cc)
   one_line None false e is = refl

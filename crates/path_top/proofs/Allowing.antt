@@ -15,7 +15,7 @@ use Rattle.subsystem_laws.proofs.CallCounts.{one_few}
 use Rattle.path_top.specs.Excuses.{is_cache_loss, is_side_loss, is_store_loss}
 use Rattle.path_top.specs.Orders.{is_order, line_of, orders_in}
 
-counted_cons : {X : Type 0} (p : X → Bool) (x : X) (xs : List X) → count_by p (x ∷ xs) ≡ cond (p x) 1 0 + count_by p xs
+pub counted_cons : {X : Type 0} (p : X → Bool) (x : X) (xs : List X) → count_by p (x ∷ xs) ≡ cond (p x) 1 0 + count_by p xs
 counted_cons p x xs = sum_by-cons (λ y. cond (p y) 1 0) x xs
 
 -- so many more of each kind at most
@@ -30,7 +30,7 @@ none_more n = omega arith
 no_loss : (l : Losses) → IsMore l l 0 0 0
 no_loss l = record { cache = none_more l.cache; store = none_more l.store; sides = none_more l.sides }
 
-abbrev one_if : Bool → ℕ
+abbrev pub one_if : Bool → ℕ
 one_if b = cond b 1 0
 
 side_loss : (b : Bool) (side : Side) (l : Losses) → IsMore l (with_loss l (if b then Some (losses.Side side) else None)) 0 0 (one_if b)

@@ -1,5 +1,6 @@
 -- How often something failed of a device behind the run of its paths: at most as often as lines of the deck say.
 use Rattle.std.proofs.Common.{◌≡◌, ◌≤◌, ◌<◌, ◌+◌, ◌*◌, ◌-◌, ◌^◌, ◌∙◌, ℕ, suc, Bool, false, true, List, [], ◌∷◌, length, map, Ok, Option, Some, None, is_some, option_map, refl, sym, ap, subst, arith, le_trans}
+use Rattle.std.proofs.lemmas.Option.{same_Some}
 use Rattle.std.specs.Prelude.{if◌then◌else◌}
 use Rattle.std.proofs.lemmas.List.Sums.{count_by-le-length}
 use Rattle.ckd_outside.specs.Memory.{to_come}
@@ -39,12 +40,9 @@ record Allows (o : Option ℕ) (most : ℕ) : Type 0 where
   told : o ≡ Some calls
   few : calls ≤ most
 
-some_same : {X : Type 0} {x y : X} → Some x ≡ Some y → x ≡ y
-some_same e = cc
-
 stays_few : (o a : Option ℕ) (calls failed now most : ℕ) → o ≡ Some calls → calls ≤ most → failed ≡ 0 → StaysWithin (failures_of failed o) now a → now ≤ most
 stays_few (Some n) (Some left) calls failed now most told few none within =
-    let same : n ≡ calls = some_same told in omega (arith, same, few, none, within)
+    let same : n ≡ calls = same_Some _ _ told in omega (arith, same, few, none, within)
 stays_few (Some n) None calls failed now most told few none within = absurd within
 stays_few None a calls failed now most told few none within = absurd (cc)
 
@@ -61,7 +59,7 @@ module _ {G : Ghosts Disk} (views : (v : Disk) → G.view v ≡ disk_view v) whe
   side_allows : (o : Option Disk) (n : ℕ) → FailsWithin n (option_map G.view o) → Allows (allowance_of (option_map G.view o)) n
   side_allows None n within = record { calls = 0; told = refl; few = omega arith }
   side_allows (Some v) n within =
-      let plan : v.plan ≡ within.0 = some_same (ap (λ (w : VolumeView (List ℕ)). w.plan) (sym (views v)) ∙ within.1.0) in
+      let plan : v.plan ≡ within.0 = same_Some _ _ (ap (λ (w : VolumeView (List ℕ)). w.plan) (sym (views v)) ∙ within.1.0) in
       record {
         calls = to_come v.reads v.plan.reads + to_come v.writes v.plan.writes;
         told = ap (λ (w : VolumeView (List ℕ)). w.allowance) (views v);

@@ -1,5 +1,6 @@
 -- How many calls of volumes fail by the FAULT lines of a deck.
 use Rattle.std.proofs.Common.{◌≡◌, ◌≤◌, ◌+◌, ◌==◌, ◌&&◌, ◌∙◌, not, ℕ, suc, Bool, true, false, List, [], ◌∷◌, length, cond, Option, Some, None, refl, sym, ap, arith, eq-eqb}
+use Rattle.std.proofs.lemmas.Option.{same_Some}
 use Rattle.std.specs.Prelude.{count_by, if◌then◌else◌}
 use Rattle.std.proofs.lemmas.List.Sums.{count_by-le-length, sum_by-cons}
 use Rattle.deck_text.specs.declared.line.FaultLine.{FaultLine}
@@ -64,9 +65,6 @@ module _ (deck : DeckLines) (n : ℕ) where
   later : (part old rest more : ℕ) → more ≡ rest + part → old + more ≡ old + rest + part
   later part old rest more e = omega (arith, e)
 
-  some_same : {X : Type 0} {x y : X} → Some x ≡ Some y → x ≡ y
-  some_same e = cc
-
   -- one that is lent now
   pub one_lent : (ms : List Mounted) (b : ℕ) (m k : Mounted) → mounted_in ms b ≡ Some m → m.device.store.lent ≡ None →
       lent_faults deck n (put_in ms b k) ≡ lent_faults deck n ms + lent_part k
@@ -77,7 +75,7 @@ module _ (deck : DeckLines) (n : ℕ) where
         lent_faults deck n (if c then k ∷ ms else x ∷ put_in ms b k) ≡ lent_part x + lent_faults deck n ms + lent_part k
     by_test true is more =
         here (lent_part k) (lent_part x) (lent_faults deck n ms)
-        (part_of_none x.device.store.lent (faults_of deck (number_of x)) (ap (λ (y : Mounted). y.device.store.lent) (some_same is) ∙ free))
+        (part_of_none x.device.store.lent (faults_of deck (number_of x)) (ap (λ (y : Mounted). y.device.store.lent) (same_Some _ _ is) ∙ free))
     by_test false is more = later (lent_part k) (lent_part x) (lent_faults deck n ms) (lent_faults deck n (put_in ms b k)) (more is free)
 
   -- one that is lent as before
@@ -92,7 +90,7 @@ module _ (deck : DeckLines) (n : ℕ) where
     by_test true is more =
         ap (λ (o : Option ℕ). (if is_lent_to o n then faults_of deck (number_of k) else 0) + lent_faults deck n ms) lent
         ∙ ap (λ (i : ℕ). (if is_lent_to m.device.store.lent n then faults_of deck i else 0) + lent_faults deck n ms) number
-        ∙ ap (λ (y : Mounted). lent_part y + lent_faults deck n ms) (sym (some_same is))
+        ∙ ap (λ (y : Mounted). lent_part y + lent_faults deck n ms) (sym (same_Some _ _ is))
     by_test false is more = ap (λ (i : ℕ). lent_part x + i) (more is lent number)
 
 pub lent_part_is : (deck : DeckLines) (n : ℕ) (k : Mounted) → k.device.store.lent ≡ Some n →

@@ -1,5 +1,6 @@
 -- What a history tells of a device that finished.
 use Rattle.std.proofs.Common.{◌≡◌, ◌⊎◌, inl, inr, ◌≤◌, ◌∙◌, ◌+◌, ◌-◌, ◌++◌, ℕ, zero, suc, Bool, true, false, List, [], ◌∷◌, length, map, cond, Option, Some, None, is_some, refl, sym, ap, subst, arith, append_assoc}
+use Rattle.std.proofs.lemmas.Bool.{and_parts, not-true, or_cases}
 use Rattle.std.specs.Prelude.{◌==◌, ◌&&◌, ◌||◌, not, count_by, if◌then◌else◌}
 use Rattle.std.specs.List.{list_all}
 use Rattle.std.proofs.lemmas.Bool.{eqb-true}
@@ -14,6 +15,7 @@ use Rattle.plain_defs.specs.PlainState.{PathsState, PlainState, empty_state, is_
 use Rattle.device_defs.specs.Device.{Device}
 use Rattle.device_defs.specs.Pledge.{are_kept, ends_with_data_check}
 use Rattle.device_defs.specs.Start.{has_none_or_is_out, is_finished, is_shut, keeps_out, left, next_program, started_count}
+use Rattle.path_turns.proofs.Keeping.{none_of}
 use Rattle.path_top.specs.Histories.{IsToldBy, next_of, ran}
 use Rattle.path_top.specs.Told.{DeviceTold, left_of}
 
@@ -60,28 +62,6 @@ module _ (plans : Plans) (path : ℕ) where
   pub legal_planned : (s : PlainState) (xs : List Item) → IsLegal plans s xs → count_by (is_of_path path) xs ≤ length (planned plans path)
   legal_planned s xs legal = all_planned s [] xs (let none : count_by (is_of_path path) [] ≡ 0 = refl in omega (arith, none)) legal
 
--- Truth
-
-and_left : (b c : Bool) → (b && c) ≡ true → b ≡ true
-and_left true c e = refl
-and_left false c e = e
-
-and_right : (b c : Bool) → (b && c) ≡ true → c ≡ true
-and_right true c e = e
-and_right false c e = absurd (cc)
-
-or_true : (b c : Bool) → (b || c) ≡ true → (b ≡ true) ⊎ (c ≡ true)
-or_true true c e = inl refl
-or_true false c e = inr e
-
-not_true : (b : Bool) → not b ≡ true → b ≡ false
-not_true true e = absurd (cc)
-not_true false e = refl
-
-none_of : {X : Type 0} (o : Option X) → is_some o ≡ false → o ≡ None
-none_of (Some x) e = absurd (cc)
-none_of None e = refl
-
 home_shut : {X : Type 0} (o : Option X) (b : Bool) → (is_some o || b) ≡ true → o ≡ None → b ≡ true
 home_shut (Some x) b e none = absurd (cc)
 home_shut None b e none = e
@@ -90,11 +70,11 @@ home_shut None b e none = e
 module _ (test : ℕ → Bool) where
   of_four : (path : ℕ) → 1 ≤ path → path ≤ 4 → list_all test (1 ∷ 2 ∷ 3 ∷ 4 ∷ []) ≡ true → test path ≡ true
   of_four zero least most all = absurd (omega (arith, least))
-  of_four (suc zero) least most all = and_left (test 1) _ all
-  of_four (suc (suc zero)) least most all = and_left (test 2) _ (and_right (test 1) _ all)
-  of_four (suc (suc (suc zero))) least most all = and_left (test 3) _ (and_right (test 2) _ (and_right (test 1) _ all))
+  of_four (suc zero) least most all = (and_parts (test 1) _ all).0
+  of_four (suc (suc zero)) least most all = (and_parts (test 2) _ (and_parts (test 1) _ all).1).0
+  of_four (suc (suc (suc zero))) least most all = (and_parts (test 3) _ (and_parts (test 2) _ (and_parts (test 1) _ all).1).1).0
   of_four (suc (suc (suc (suc zero)))) least most all =
-      and_left (test 4) _ (and_right (test 3) _ (and_right (test 2) _ (and_right (test 1) _ all)))
+      (and_parts (test 4) _ (and_parts (test 3) _ (and_parts (test 2) _ (and_parts (test 1) _ all).1).1).1).0
   of_four (suc (suc (suc (suc (suc path))))) least most all = absurd (omega (arith, most))
 
 module _ {F P H : Type 0} (d : Device F P H) (lost : List ℕ) where
@@ -129,7 +109,7 @@ module _ {F P H : Type 0} (d : Device F P H) (lost : List ℕ) where
 
   module _ (o : IsOver) where
     idle : d.history.running ≡ None
-    idle = none_of d.history.running (not_true (is_some d.history.running) (and_left (not (is_some d.history.running)) _ o.over))
+    idle = none_of d.history.running (not-true (is_some d.history.running) (and_parts (not (is_some d.history.running)) _ o.over).0)
 
     started_is : (path : ℕ) → started_count d.history path ≡ ran telling path
     started_is path =
@@ -154,7 +134,7 @@ module _ {F P H : Type 0} (d : Device F P H) (lost : List ℕ) where
     out_is path free out =
         ap (λ (p : PathsState). is_admitted p path (next_of d.plans telling path)) (sym (paths_are free))
         ∙ ap (λ (n : ℕ). is_admitted d.paths path (program_of d.plans path (n + 1))) (sym (started_is path))
-        ∙ not_true (is_admitted d.paths path (next_program d path)) out
+        ∙ not-true (is_admitted d.paths path (next_program d path)) out
 
     by_test : (path : ℕ) → 1 ≤ path → path ≤ 4 → d.store.lent ≡ None → ((left d path == 0) ≡ true) ⊎ (keeps_out d path ≡ true) →
         (left_of telling path ≡ 0) ⊎ (is_admitted (replay d.plans empty d.history.items).paths path (next_of d.plans telling path) ≡ false)
@@ -162,7 +142,7 @@ module _ {F P H : Type 0} (d : Device F P H) (lost : List ℕ) where
     by_test path least most free (inr out) = inr (out_is path free out)
 
     shut : d.store.lent ≡ None → is_shut d ≡ true
-    shut free = home_shut d.store.lent (is_shut d) (and_right (not (is_some d.history.running)) _ o.over) free
+    shut free = home_shut d.store.lent (is_shut d) (and_parts (not (is_some d.history.running)) _ o.over).1 free
 
     pub told_so : IsToldBy d.plans empty telling
     told_so = record {
@@ -172,5 +152,5 @@ module _ {F P H : Type 0} (d : Device F P H) (lost : List ℕ) where
       all_ran = rest_is;
       away = o.away;
       kept_out = λ path least most free.
-          by_test path least most free (or_true (left d path == 0) (keeps_out d path) (of_four (has_none_or_is_out d) path least most (shut free)));
+          by_test path least most free (or_cases (left d path == 0) (keeps_out d path) (of_four (has_none_or_is_out d) path least most (shut free)));
     }

@@ -15,7 +15,7 @@ pub record AtMost (n most : Counts) : Type 0 where
   pub store : n.losses.store ≤ most.losses.store
   pub sides : n.losses.sides ≤ most.losses.sides
 
-none_less : (x y : ℕ) → x ≤ y → y ≡ 0 → x ≡ 0
+pub none_less : (x y : ℕ) → x ≤ y → y ≡ 0 → x ≡ 0
 none_less x y le none = omega (arith, le, none)
 
 zero_less : (x y : ℕ) → x ≤ y → (y == 0) ≡ true → (x == 0) ≡ true

@@ -40,6 +40,8 @@ use Rattle.subsystem_defs.proofs.Unrefused.{may_pair}
 use Rattle.subsystem_laws.proofs.Came.{told_came}
 use Rattle.subsystem_laws.proofs.FoundDevices.{number_found, same_found}
 use Rattle.subsystem_laws.proofs.LendBase.{Lent, lend_lends, lent_counts}
+use Rattle.subsystem_laws.proofs.Walks.{mounted_number}
+use Rattle.path_turns.proofs.Keeping.{none_of}
 use Rattle.path_top.specs.Excuses.{faults_of, lent_faults}
 use Rattle.path_top.specs.Pairs.{before_start, paired}
 use Rattle.path_top.proofs.Paired.{lines_keep}
@@ -123,14 +125,6 @@ module _ (deck : DeckLines) where
     by_test true is more = record { line = line; is = subst (IsNew deck f line) (let same : k ≡ m = cc in same) p.0 }
     by_test false is more = more is
 
-number_at : (ms : List Mounted) (n : ℕ) (m : Mounted) → mounted_in ms n ≡ Some m → number_of m ≡ n
-number_at [] n m at = absurd (cc)
-number_at (k ∷ ms) n m at = by_test (number_of k == n) refl at (number_at ms n m) where
-  by_test : (b : Bool) → (number_of k == n) ≡ b → (if b then Some k else mounted_in ms n) ≡ Some m → (mounted_in ms n ≡ Some m → number_of m ≡ n) →
-      number_of m ≡ n
-  by_test true e is more = let same : k ≡ m = cc in ap number_of (sym same) ∙ eqb-true (number_of k) n e
-  by_test false e is more = more is
-
 -- No call changes which are to fail
 
 plans_stay : {I S A : Type 0} (i : Interaction Bool I S A) (t : Told) → (T.hold true i t).told.a.plan ≡ t.a.plan
@@ -190,10 +184,6 @@ module _ (deck : DeckLines) (f : ℕ → ℕ) (line : DeviceLine) (m : Mounted) 
 same_mounted : {m k : Mounted} {o : Option Mounted} → o ≡ Some m → o ≡ Some k → m ≡ k
 same_mounted e f = cc
 
-none_lent : (o : Option ℕ) → is_some o ≡ false → o ≡ None
-none_lent (Some to) e = absurd (cc)
-none_lent None e = refl
-
 at_least : (x y z : ℕ) → z ≡ x + y → x ≤ z
 at_least x y z e = omega (arith, e)
 
@@ -212,7 +202,7 @@ module _ (deck : DeckLines) (ls : List DeviceLine) where
       (put_new deck f ls s.mounted n x p
       (λ line k there q.
       subst (λ (y : Mounted). IsNew deck f line (record y { device = join y.device; b = volume })) (same_mounted there at)
-      (joined_new deck f line k volume (subst (λ (i : ℕ). failing_in volume.plan ≤ f i) (sym (number_at s.mounted n k there) ∙ q.follows.number) few) q)))
+      (joined_new deck f line k volume (subst (λ (i : ℕ). failing_in volume.plan ≤ f i) (sym (mounted_number s.mounted n k there) ∙ q.follows.number) few) q)))
 
   module _ (s : Subsystem) (a b : ℕ) (m : Mounted) (at : mounted_in s.mounted b ≡ Some m) (free : m.device.store.lent ≡ None) (p : AreNew deck ls s.mounted) where
     abbrev o : Outcome MarksDevice (Unit {0})
@@ -262,7 +252,7 @@ module _ (deck : DeckLines) (ls : List DeviceLine) where
       let there : device_in (devices_of s) y.store.device ≡ Some y =
       ap (device_in (devices_of s)) (number_found s.mounted b y at) ∙ at in
       lend_on s x.store.device y.store.device p (mounted_in s.mounted y.store.device) refl
-      (λ m is. none_lent m.device.store.lent
+      (λ m is. none_of m.device.store.lent
       (ap (λ (d : MarksDevice). is_some d.store.lent) (same_found s.mounted y.store.device y m there is) ∙ (may_pair x y fault).free_y))
   order_on s p b x y at (Some f) fault = p
 

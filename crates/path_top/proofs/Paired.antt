@@ -1,5 +1,6 @@
 -- The lines before the first START line, one by one.
 use Rattle.std.proofs.Common.{◌≡◌, ◌<◌, ◌≤◌, ◌+◌, ◌∙◌, [], ◌∷◌, ℕ, zero, suc, Bool, true, false, List, length, take, get_or, arith, refl, sym, ap, subst}
+use Rattle.std.proofs.lemmas.Bool.{and_parts}
 use Rattle.std.specs.Prelude.{◌&&◌, fold, if◌then◌else◌}
 use Rattle.std.proofs.lemmas.List.{take_all}
 use Rattle.std.proofs.lemmas.List.Sums.{fold_more}
@@ -41,10 +42,6 @@ so_if : (b c : Bool) → b ≡ true → c ≡ true → (if b then c else false) 
 so_if true c e f = f
 so_if false c e f = absurd (cc)
 
-both_so : (b c : Bool) → (b && c) ≡ true → (b ≡ true) × (c ≡ true)
-both_so true c e = (refl, e)
-both_so false c e = absurd (cc)
-
 start_open : (b : Bool) (ns : List ℕ) (e : EventLine) (fs : List EventLine) → is_open_line ns e ≡ true → are_open_lines ns fs ≡ true →
     are_open_lines ns (if b then [] else e ∷ fs) ≡ true
 start_open true ns e fs one all = refl
@@ -56,18 +53,8 @@ before_open ns (e ∷ es) all =
     let both = if_so (is_open_line ns e) (are_open_lines ns es) all in
     start_open (is_start e) ns e (before_start es) both.0 (before_open ns es both.1)
 
-at_place : (ns : List ℕ) (e : EventLine) (fs : List EventLine) (j : ℕ) → j < length fs → are_open_lines ns fs ≡ true →
-    is_open_line ns (get_or fs j e) ≡ true
-at_place ns e [] j within all = absurd (omega (arith, within))
-at_place ns e (f ∷ fs) zero within all = (if_so (is_open_line ns f) (are_open_lines ns fs) all).0
-at_place ns e (f ∷ fs) (suc j) within all = at_place ns e fs j (omega (arith, within)) (if_so (is_open_line ns f) (are_open_lines ns fs) all).1
-
-pub open_at : (ns : List ℕ) (es : List EventLine) (i : ℕ) (e : EventLine) → i < length es → e ≡ get_or es i e → are_open_lines ns es ≡ true →
-    is_open_line ns e ≡ true
-open_at ns es i e inside is all = subst (λ (x : EventLine). is_open_line ns x ≡ true) (sym is) (at_place ns e es i inside all)
-
 pub pair_open : (ns : List ℕ) (a b : ℕ) → is_open_line ns (lines.Pair a b) ≡ true → (is_in a ns ≡ true) × (is_in b ns ≡ true)
-pair_open ns a b e = both_so (is_in a ns) (is_in b ns) e
+pair_open ns a b e = and_parts (is_in a ns) (is_in b ns) e
 
 -- What they leave, one line on
 

@@ -1,5 +1,6 @@
 -- The devices of a deck behind its first pairs are ready for the run of their paths.
 use Rattle.std.proofs.Common.{◌≡◌, ◌<◌, ◌≤◌, ◌∙◌, ℕ, zero, suc, Bool, true, false, List, [], ◌∷◌, length, map, Option, Some, None, is_some, refl, sym, ap, subst, arith, le_of_eq}
+use Rattle.std.proofs.lemmas.Bool.{and_from}
 use Rattle.std.specs.Prelude.{◌&&◌, slice_index_or}
 use Rattle.std.specs.List.{AllZip}
 use Rattle.deck_text.specs.declared.line.DeviceLine.{DeviceLine}
@@ -50,10 +51,6 @@ tells_so : (v : Option (VolumeView (List ℕ))) (l : List (List ℕ)) (u : Calls
 tells_so None l u told = refl
 tells_so (Some v) l u told = some_so v.contents l told.contents
 
-both_so : (b c : Bool) → b ≡ true → c ≡ true → (b && c) ≡ true
-both_so true c e f = f
-both_so false c e f = absurd (cc)
-
 abbrev outside_of : Stood → Outside (List ℕ) (Unit {0})
 outside_of x = record { port = no_pool 0; a = x.a; b = x.b; keeper = tt {0} }
 
@@ -102,7 +99,7 @@ one_usable deck line (is_mounted d v w h on_a on_b a b stands slots told_a told_
   counts = p.counts;
   own = side_within on_a h.a a (faults_of deck line.number) told_a (le_of_eq (ap failing_in p.own ∙ planned line.number deck.faults));
   mate = λ free pair. side_within on_b h.b b (lent_faults deck line.number (paired deck).mounted) told_b (p.mate free pair);
-  tells_it = both_so (tells on_a) (tells on_b) (tells_so on_a h.a a told_a) (tells_so on_b h.b b told_b);
+  tells_it = and_from (tells on_a) (tells on_b) (tells_so on_a h.a a told_a) (tells_so on_b h.b b told_b);
   stands = λ free. by_place free stands;
 }
   where

@@ -11,31 +11,6 @@ use Rattle.report_text.specs.Events.{ended_lines}
 use Rattle.path_top.specs.declared.journal.LooseCount.{LooseCount}
 use Rattle.path_top.specs.Journals.{act_line, act_lines, count_before, end_lines, item_lines, lines_of_items, loose_behind, loose_behind_all, loose_behind_item}
 
--- Counts of acts
-
-counted_if : (b : Bool) (k : ℕ) (acts : List Acted) → b ≡ true → (if b then suc (count_before k acts) else 0) ≡ suc (count_before k acts)
-counted_if true k acts e = refl
-counted_if false k acts e = absurd (cc)
-
-none_if : (b : Bool) (n : ℕ) → b ≡ false → (if b then n else 0) ≡ 0
-none_if true n e = absurd (cc)
-none_if false n e = refl
-
-module _ (k i : ℕ) (acts : List Acted) (a : Acted) (inside : i < length acts) (is : a ≡ get_or acts i a) where
-  at_act : count_before k (drop i acts) ≡ (if nat_le a.after k then suc (count_before k (drop (i + 1) acts)) else 0)
-  at_act =
-      at_drop_more (count_before k) acts i a inside
-      ∙ ap (λ (x : Acted). if nat_le x.after k then suc (count_before k (drop (i + 1) acts)) else 0) (sym is)
-
-  pub count_more : nat_le a.after k ≡ true → count_before k (drop i acts) ≡ suc (count_before k (drop (i + 1) acts))
-  count_more e = at_act ∙ counted_if (nat_le a.after k) k (drop (i + 1) acts) e
-
-  pub count_stops : nat_le a.after k ≡ false → count_before k (drop i acts) ≡ 0
-  count_stops e = at_act ∙ none_if (nat_le a.after k) (suc (count_before k (drop (i + 1) acts))) e
-
-pub count_all : (k i : ℕ) (acts : List Acted) → length acts ≤ i → count_before k (drop i acts) ≡ 0
-count_all k i acts past = at_drop_all (count_before k) acts i past
-
 pub count_least : (k : ℕ) (acts : List Acted) → count_before k acts ≤ length acts
 count_least k [] = omega arith
 count_least k (a ∷ acts) = by_test (count_least k acts) (nat_le a.after k) where

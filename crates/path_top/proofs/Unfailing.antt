@@ -1,5 +1,6 @@
 -- Where no line of a deck is a FAIL or a FAULT, its history has no equipment check and no lost track.
 use Rattle.std.proofs.Common.{◌≡◌, ◌≤◌, ◌+◌, ◌*◌, ◌==◌, ◌∙◌, ℕ, Bool, true, false, List, [], ◌∷◌, length, get_or, cond, Option, Some, None, is_some, refl, sym, ap, arith, eqb-true}
+use Rattle.std.proofs.lemmas.Bool.{and_parts, or_left, or_right}
 use Rattle.std.specs.Prelude.{◌&&◌, ◌||◌, not, nat_le, All, count_by, if◌then◌else◌}
 use Rattle.std.specs.List.{AllZip}
 use Rattle.std.proofs.lemmas.List.Elements.{All-cons, All-nil}
@@ -25,24 +26,16 @@ use Rattle.path_top.specs.Excuses.{excuses_of, faults_of, fails_nothing, is_cach
 use Rattle.path_top.specs.Histories.{AreToldOf, HasNoFailure, IsExcusedBy, IsToldOf}
 use Rattle.path_top.specs.Pairs.{paired}
 use Rattle.path_top.specs.Told.{DeviceTold}
+use Rattle.path_top.proofs.Allowing.{counted_cons, one_if}
 use Rattle.path_top.proofs.Marked.{none_marked, none_told}
+use Rattle.path_top.proofs.MoreExcused.{none_less}
 
 -- Nothing is counted
-
-both_true : (a b : Bool) → (a && b) ≡ true → (a ≡ true) × (b ≡ true)
-both_true true b e = (refl, e)
-both_true false b e = absurd (cc)
 
 none_left : (x y : ℕ) → x + y ≡ 0 → (x ≡ 0) × (y ≡ 0)
 none_left x y e = (omega (arith, e), omega (arith, e))
 
-count_cons : {X : Type 0} (p : X → Bool) (x : X) (xs : List X) → count_by p (x ∷ xs) ≡ cond (p x) 1 0 + count_by p xs
-count_cons p x xs = sum_by-cons (λ y. cond (p y) 1 0) x xs
-
-abbrev as_one : Bool → ℕ
-as_one b = cond b 1 0
-
-none_of : (b c : Bool) → (b ≡ true → c ≡ true) → as_one c ≡ 0 → as_one b ≡ 0
+none_of : (b c : Bool) → (b ≡ true → c ≡ true) → one_if c ≡ 0 → one_if b ≡ 0
 none_of true true h e = e
 none_of true false h e = absurd (let both : false ≡ true = h refl in cc)
 none_of false c h e = refl
@@ -50,19 +43,11 @@ none_of false c h e = refl
 none_counted : (p q : EventLine → Bool) → ((e : EventLine) → p e ≡ true → q e ≡ true) → (es : List EventLine) → count_by q es ≡ 0 → count_by p es ≡ 0
 none_counted p q h [] none = refl
 none_counted p q h (e ∷ es) none =
-    let both = none_left (cond (q e) 1 0) (count_by q es) (sym (count_cons q e es) ∙ none) in
+    let both = none_left (cond (q e) 1 0) (count_by q es) (sym (counted_cons q e es) ∙ none) in
     let first = none_of (p e) (q e) (h e) both.0 in
     let rest = none_counted p q h es both.1 in
-    let all = count_cons p e es in
+    let all = counted_cons p e es in
     omega (arith, all, first, rest)
-
-either_left : (a b : Bool) → a ≡ true → (a || b) ≡ true
-either_left true b e = refl
-either_left false b e = absurd (cc)
-
-either_right : (a b : Bool) → b ≡ true → (a || b) ≡ true
-either_right true b e = refl
-either_right false b e = e
 
 some_device : (o : Option ℕ) (n : ℕ) → is_device o n ≡ true → is_some o ≡ true
 some_device (Some d) n e = refl
@@ -70,10 +55,10 @@ some_device None n e = absurd (cc)
 
 module _ (deck : DeckLines) (none : fails_nothing deck ≡ true) where
   no_fault : length deck.faults ≡ 0
-  no_fault = eqb-true (length deck.faults) 0 (both_true (length deck.faults == 0) (count_by is_fail deck.events == 0) none).0
+  no_fault = eqb-true (length deck.faults) 0 (and_parts (length deck.faults == 0) (count_by is_fail deck.events == 0) none).0
 
   no_fail : count_by is_fail deck.events ≡ 0
-  no_fail = eqb-true (count_by is_fail deck.events) 0 (both_true (length deck.faults == 0) (count_by is_fail deck.events == 0) none).1
+  no_fail = eqb-true (count_by is_fail deck.events) 0 (and_parts (length deck.faults == 0) (count_by is_fail deck.events == 0) none).1
 
   no_lines : (fs : List FaultLine) (n : ℕ) → length fs ≡ 0 → count_by (λ (f : FaultLine). f.device == n) fs ≡ 0
   no_lines [] n e = refl
@@ -99,14 +84,14 @@ module _ (deck : DeckLines) (none : fails_nothing deck ≡ true) where
 
     no_cache : (excuses_of deck n).losses.cache ≡ 0
     no_cache =
-        none_counted is_cache_loss is_fail (λ e is. either_left (is_cache_loss e) (is_store_loss e || is_some (side_loss e)) is) deck.events no_fail
+        none_counted is_cache_loss is_fail (λ e is. or_left (is_cache_loss e) (is_store_loss e || is_some (side_loss e)) is) deck.events no_fail
 
     no_side : (excuses_of deck n).losses.sides ≡ 0
     no_side =
         none_counted (is_side_loss n) is_fail
         (λ e is.
-        either_right (is_cache_loss e) (is_store_loss e || is_some (side_loss e))
-        (either_right (is_store_loss e) (is_some (side_loss e)) (some_device (side_loss e) n is))) deck.events no_fail
+        or_right (is_cache_loss e) (is_store_loss e || is_some (side_loss e))
+        (or_right (is_store_loss e) (is_some (side_loss e)) (some_device (side_loss e) n is))) deck.events no_fail
 
 -- So nothing is excused
 
@@ -127,9 +112,9 @@ no_loss_in (a ∷ acts) none =
     by_test false e more = more (omega (arith, e))
 
 module _ (plans : Plans) (lost : List Bool) (c : Counts) (failed : c.failed ≡ 0) (sides : c.losses.sides ≡ 0) (kept : (t : ℕ) → get_or lost t false ≡ false) where
-  one_if : (b : Bool) → as_one b ≡ 0 → b ≡ false
-  one_if true e = absurd (cc)
-  one_if false e = refl
+  is_none_if : (b : Bool) → one_if b ≡ 0 → b ≡ false
+  is_none_if true e = absurd (cc)
+  is_none_if false e = refl
 
   plainly : (checked equipment write : Bool) → (checked && equipment && not false && (not false && (not write || (true && true)))) ≡ false →
       (checked && equipment) ≡ false
@@ -153,7 +138,7 @@ module _ (plans : Plans) (lost : List Bool) (c : Counts) (failed : c.failed ≡ 
       (ap (λ (n : ℕ). nat_le n 1) failed)) ∙ is)
 
   item_good : (state : PlainState) (x : Item) → losses_of x ≡ 0 → unexplained_item plans state lost c x ≡ 0 → ends_with_equipment_check x ≡ false
-  item_good state (items.Program e) none few = entry_good state e none (one_if (is_unexplained plans state lost c e) few)
+  item_good state (items.Program e) none few = entry_good state e none (is_none_if (is_unexplained plans state lost c e) few)
   item_good state (items.Act act) none few = refl
   item_good state (items.Reset path) none few = refl
   item_good state items.Fresh none few = refl
@@ -165,13 +150,10 @@ module _ (plans : Plans) (lost : List Bool) (c : Counts) (failed : c.failed ≡ 
   all_good state (x ∷ xs) none few =
       let losses = none_left (losses_of x) (loose_losses xs) none in
       let checks = none_left (unexplained_item plans state lost c x) (unexplained plans (replay_item plans state x) lost c xs) few in
-      let here : as_one (ends_with_equipment_check x) ≡ 0 = ap as_one (item_good state x losses.0 checks.0) in
+      let here : one_if (ends_with_equipment_check x) ≡ 0 = ap one_if (item_good state x losses.0 checks.0) in
       let rest = all_good (replay_item plans state x) xs losses.1 checks.1 in
-      let all = count_cons ends_with_equipment_check x xs in
+      let all = counted_cons ends_with_equipment_check x xs in
       omega (arith, all, here, rest)
-
-none_more : (x y : ℕ) → x ≤ y → y ≡ 0 → x ≡ 0
-none_more x y le none = omega (arith, le, none)
 
 -- Of a device of the history
 
@@ -184,8 +166,8 @@ module _ (deck : DeckLines) (none : fails_nothing deck ≡ true) where
       let failed = none_failed deck none n in
       let marks = is.is.tracks (none_may c failed (no_side deck none n) (no_cache deck none n)) in (
         all_good plans (marks_by many x.lost) c failed (no_side deck none n) (none_marked (marks_by many x.lost) marks) empty x.journal
-            (none_more (loose_losses x.journal) c.losses.cache is.is.loose (no_cache deck none n))
-            (none_more (unexplained plans empty (marks_by many x.lost) c x.journal) c.failed is.is.checks failed),
+            (none_less (loose_losses x.journal) c.losses.cache is.is.loose (no_cache deck none n))
+            (none_less (unexplained plans empty (marks_by many x.lost) c x.journal) c.failed is.is.checks failed),
         none_told many x.lost is.tracks marks,
       )
 

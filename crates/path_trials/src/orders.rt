@@ -1,9 +1,8 @@
 ghost use Rattle.std.specs.Prelude.{All, OnOk};
 ghost use Rattle.path_trials.specs.Small.{IsNew};
 
-use crate::runs::{add_reads, devices_of, pair_of, run};
+use crate::runs::{devices_of, pair_of, reads, run};
 use ckd_types::{DeviceNo, Side, TrackNo};
-use deck_plan::PathPlans;
 use device_outside::{MemVolume, NoGate};
 use path_threads::Order;
 use std::alloc::Global;
@@ -28,15 +27,6 @@ fn replace(alloc: Global, orders: &mut Orders, d: DeviceNo, side: Side) -> Resul
     let volume = MemVolume::new(alloc, 1, &[], &[])?;
     orders.push(Order::Replace(d, side, volume))?;
     Ok(())
-}
-
-/// Plans in which each path has so many programs that read.
-fn reads(alloc: Global, programs: usize) -> Result<PathPlans, Fail> {
-    let mut plans = PathPlans::new(alloc);
-    for path in 1..5 {
-        add_reads(alloc, &mut plans, path, programs)?;
-    }
-    Ok(plans)
 }
 
 #[test]

@@ -41,12 +41,7 @@ fn read(alloc: Global) -> Result<Program, Fail> {
 }
 
 /// Plans in which a path has so many programs that read.
-pub(crate) fn add_reads(
-    alloc: Global,
-    plans: &mut PathPlans,
-    path: u8,
-    programs: usize,
-) -> Result<(), Fail> {
+fn add_reads(alloc: Global, plans: &mut PathPlans, path: u8, programs: usize) -> Result<(), Fail> {
     let path = PathNo::new(path).ok_or("path")?;
     for _ in 0..programs {
         if plans.len(path) < 65535 {
@@ -132,16 +127,21 @@ pub(crate) fn run<R: Threads + Wait + Sync, G: Gate + Sync>(
     Ok(run_paths(rt, alloc, devices, pool, orders, gate)?)
 }
 
+/// Plans in which each path has so many programs that read.
+pub(crate) fn reads(alloc: Global, programs: usize) -> Result<PathPlans, Fail> {
+    let mut plans = PathPlans::new(alloc);
+    for path in 1..5 {
+        add_reads(alloc, &mut plans, path, programs)?;
+    }
+    Ok(plans)
+}
+
 #[test]
 fn each_path_runs_its_programs_on_each_device(rt: HostRuntime) -> Result<(), Fail> {
     let alloc = rt.alloc();
     let mut plans = Vec::new(alloc);
     for _ in 0..3 {
-        let mut all = PathPlans::new(alloc);
-        for path in 1..5 {
-            add_reads(alloc, &mut all, path, 20)?;
-        }
-        plans.push(all)?;
+        plans.push(reads(alloc, 20)?)?;
     }
     let devices = devices_of(alloc, plans)?;
     let ran = run(&rt, alloc, devices, Vec::new(alloc), &NoGate)?;

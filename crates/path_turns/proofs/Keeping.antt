@@ -1,5 +1,7 @@
 -- What an event leaves of a device in its turn.
 use Rattle.std.proofs.Common.{◌≡◌, ◌≤◌, ℕ, Bool, true, false, List, Option, Some, None, refl, sym, ap, subst, ◌∙◌}
+use Rattle.std.proofs.lemmas.Bool.{and_from}
+use Rattle.std.proofs.lemmas.Option.{same_Some}
 use Rattle.std.specs.Prelude.{◌&&◌, IfSome, is_some, option_map}
 use Rattle.ckd_chain.specs.Facts.{IsChain}
 use Rattle.ckd_chain.specs.State.{ChainState}
@@ -22,6 +24,7 @@ use Rattle.device_defs.specs.Events.{background, second}
 use Rattle.device_defs.specs.Pledge.{Pledge, command_count}
 use Rattle.device_defs.specs.Start.{start, start_fault}
 use Rattle.device_defs.specs.Store.{HalfWrite, Origin, OfCommand, OfCut, OfBackground}
+use Rattle.device_laws.proofs.DeviceHistory.{starts_where_idle}
 use Rattle.device_laws.specs.Handed.{StaysInTurn, allowance_in}
 use Rattle.device_laws.specs.Whole.{WholeDevice}
 use Rattle.device_laws.proofs.KeepLaws.{start_kept, command_kept, second_kept, background_kept, background_checks}
@@ -44,8 +47,7 @@ use Rattle.device_core.specs.declared.device.Device.{Device}
 use Rattle.device_core.specs.declared.past.Running.{Running}
 use Rattle.device_core.specs.State.{device_of, chain_of}
 use Rattle.path_turns.specs.Keeping.{KeepsPledge, Moves, StaysKept, handed_of, tells, told_of}
-use Rattle.path_turns.proofs.Visiting.{free_idle}
-use Rattle.path_turns.specs.Visits.{is_backgrounds, is_commands, is_of_background}
+use Rattle.path_turns.specs.Visits.{is_backgrounds, is_of_background}
 
 abbrev pub hears : Hearing Image NoKeep
 hears = λ _ m r _. r ≡ reply m
@@ -55,9 +57,7 @@ no_keep = record {}
 
 -- the chain of the program that runs, told of the device
 pub chain_told : (r : Option Running) → IfSome r (λ r. IsChain r.chain) → (chain : ChainState) → option_map chain_of r ≡ Some chain → IsChain chain
-chain_told (Some r) is chain e = subst IsChain (same e) is where
-  same : {x y : ChainState} → Some x ≡ Some y → x ≡ y
-  same e = cc
+chain_told (Some r) is chain e = subst IsChain (same_Some (chain_of r) chain e) is
 chain_told None is chain e = absurd (cc)
 
 -- the path's program is there
@@ -81,10 +81,6 @@ pub with_some : {X : Type 0} (o : Option X) (Q : Type 0) → is_some o ≡ true 
 with_some (Some x) Q is f = f x refl
 with_some None Q is f = absurd (cc)
 
-pub commands_open : {H : Type 0} (o : Option (HalfWrite H)) → is_commands o ≡ true → is_some o ≡ true
-commands_open (Some h) is = refl
-commands_open None is = absurd (cc)
-
 origin_own : (o : Origin) → is_of_background o ≡ true → o ≡ OfBackground
 origin_own OfBackground is = refl
 origin_own (OfCommand bypass e) is = absurd (cc)
@@ -98,10 +94,6 @@ told_true : {R : Type 0} (v : Option (VolumeView R)) (l : List R) → Tells v l 
 told_true None l t = refl
 told_true (Some v) l t = ap (λ (o : Option (List _)). is_some o) t
 
-and_both : (x y : Bool) → x ≡ true → y ≡ true → (x && y) ≡ true
-and_both true y e f = f
-and_both false y e f = absurd (cc)
-
 module _ {V : Type 0} {G : Ghosts V} where
   pub stays_same : (d : Device V G) → StaysKept d d
   stays_same d p s = s
@@ -113,16 +105,13 @@ module _ {V : Type 0} {G : Ghosts V} where
     counts = others_set (device_of d) (device_of d) path least most (record { counts = λ q no. refl });
   }
 
-  pub none_works : (d : Device V G) → Moves 5 d d
-  none_works d = record { stays = stays_same d; count = 0; counts = refl }
-
   -- a device that stands tells all
   pub stands_tells : {K : Type 0} (d : Device V G) (u : Outside (List ℕ) K) (port : PortView) (k : K) → u ≡ outside port d.store k → Stands (device_of d) u →
       (tells (told_of d).a && tells (told_of d).b) ≡ true
   stands_tells d u port k is s =
       let t = s.beside.untold in
       let held = s.beside.held in
-      and_both (tells (told_of d).a) (tells (told_of d).b)
+      and_from (tells (told_of d).a) (tells (told_of d).b)
       (told_true (told_of d).a held.a (subst (λ (u : Outside _ _). Tells u.a held.a) is t.a))
       (told_true (told_of d).b held.b (subst (λ (u : Outside _ _). Tells u.b held.b) is t.b))
 
@@ -268,5 +257,5 @@ module _ {V : Type 0} {G : Ghosts V} where
       stays = started_stays none;
       count = command_count (device_of e) path;
       counts = others_set (device_of d) (device_of e) path least most
-          (subst (λ (x : WholeDevice). OtherPaths path (device_of d).history x.history) (sym is) (start_counts (device_of d) path (free_idle (device_of d) path none)));
+          (subst (λ (x : WholeDevice). OtherPaths path (device_of d).history x.history) (sym is) (start_counts (device_of d) path (starts_where_idle (device_of d) path none)));
     }

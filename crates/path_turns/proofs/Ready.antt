@@ -1,6 +1,6 @@
 -- A device of which no program was started keeps what is pledged of it as it is, and has no counts.
 use Rattle.std.proofs.Common.{◌≡◌, ◌≤◌, ◌+◌, ◌*◌, ℕ, Bool, true, false, List, [], ◌∷◌, Option, Some, None, length, refl, sym, ap, subst, ◌∙◌, arith}
-use Rattle.std.specs.Prelude.{◌&&◌, count_by, if◌then◌else◌}
+use Rattle.std.specs.Prelude.{count_by, if◌then◌else◌}
 use Rattle.std.specs.List.{fold}
 use Rattle.ckd_types.specs.declared.geometry.Geometry.{Geometry}
 use Rattle.plain_defs.specs.declared.journal.Item.{Item}
@@ -22,14 +22,6 @@ use Rattle.turn_laws.proofs.NewDevice.{new_stands}
 use Rattle.device_core.specs.declared.device.Device.{Device}
 use Rattle.device_core.specs.State.{device_of, opened_device}
 use Rattle.path_turns.specs.Keeping.{IsReady, IsWithin, KeepsWithin, are_fresh, told_of}
-
-and_left : (x y : Bool) → (x && y) ≡ true → x ≡ true
-and_left true y e = refl
-and_left false y e = absurd (cc)
-
-and_right : (x y : Bool) → (x && y) ≡ true → y ≡ true
-and_right true y e = e
-and_right false y e = absurd (cc)
 
 -- nothing but empty volumes came
 module _ (p : Item → Bool) (fresh : p items.Fresh ≡ false) where

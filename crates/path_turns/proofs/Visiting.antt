@@ -9,8 +9,8 @@ use Rattle.device_outside.specs.Outside.{Outside, Ran}
 use Rattle.device_outside.proofs.Runs.{ended, joined, tries}
 use Rattle.device_defs.specs.declared.answers.StartFault.{StartFault}
 use Rattle.device_defs.specs.Device.{Device}
-use Rattle.device_defs.specs.Start as S
-use Rattle.device_defs.specs.Start.{fault_by, running_fault, start, start_fault}
+use Rattle.device_defs.specs.Start.{start, start_fault}
+use Rattle.device_laws.proofs.DeviceHistory.{starts_where_idle}
 use Rattle.path_turns.specs.Visits.{nothing, started_by, whatever}
 
 module _ {R I K S : Type 0} {had : Bool → Type 0} {hears : Hearing I K} {u : Outside R K} {s : S} where
@@ -30,21 +30,9 @@ module _ {R I K S : Type 0} {had : Bool → Type 0} {hears : Hearing I K} {u : O
     whatever_ran r = joined (λ s a. Done s tt) r (ended refl refl)
 
 module _ {F P H : Type 0} (d : Device F P H) (path : ℕ) where
-  idle_by : (r : Option OpenEntry) → running_fault d path r ≡ None → r ≡ None
-  idle_by None free = refl
-  idle_by (Some o) free = absurd (cc)
-
-  free_by : (l : Option ℕ) → fault_by d path l ≡ None → d.history.running ≡ None
-  free_by None free = idle_by d.history.running free
-  free_by (Some of) free = absurd (cc)
-
   -- where nothing keeps a path's next program out, none runs
-  pub free_idle : start_fault d path ≡ None → d.history.running ≡ None
-  unfolding S.start_fault
-  free_idle free = free_by d.store.lent free
-
   pub free_path : start_fault d path ≡ None → is_path_of d.history.running path ≡ false
-  free_path free = ap (λ (r : Option OpenEntry). is_path_of r path) (free_idle free)
+  free_path free = ap (λ (r : Option OpenEntry). is_path_of r path) (starts_where_idle d path free)
 
   module _ {R K : Type 0} {hears : Hearing Image K} (u z : Outside R K) (f : Option StartFault) where
     pub kept_out : {had : Bool → Type 0} (fault : StartFault) → f ≡ Some fault → Ran had hears (started_by d path f) u d tt u

@@ -68,18 +68,9 @@ module _ {V : Type 0} {G : Ghosts V} where
     pub count : ℕ
     pub counts : seat_counts (device_of e) ≡ slice_set (seat_counts (device_of d)) seat count
 
-  -- a device that is put into a turn, and what is promised of it there
-  pub record IsPromise (d : Device V G) (p : Promise V G) : Type 0 where
-    pub made : p.made.value ≡ d
-    pub within : IsWithin d.store.counts.losses p.most
-
   -- the device e behind a run keeps what was pledged of d before it, with so many losses in all
   abbrev pub KeepsWithin : Losses → Device V G → Device V G → Type 0
   KeepsWithin most d e = KeepsPledge (pledge_with d most) e
-
-  -- the same where no loss comes
-  abbrev pub KeepsAll : Device V G → Device V G → Type 0
-  KeepsAll d e = KeepsWithin d.store.counts.losses d e
 
   -- No program runs, and no write is half done. The device is lent, or each path has no program left, or the one that holds the device keeps it out
   pub record IsFinished (d : Device V G) : Type 0 where

@@ -39,6 +39,7 @@ pub struct Visitor<'a, G: Gate> {
 }
 
 impl<'a, G: Gate> Visitor<'a, G> {
+    /// Of this path's worker, before its first event.
     pub fn new(path: PathNo, gate: &'a G) -> Visitor<'a, G>
         ensures { result.path ≡ path }
     {

@@ -1,4 +1,5 @@
-//! One event of a worker at a device in its turn: of a path, or in the background; and what a turn keeps of a device.
+//! One event of a worker at a device in its turn: of a path, or in the background; what a turn keeps of a device; and devices that are finished
+//! behind a run.
 #![tactic(auto)]
 
 mod background;

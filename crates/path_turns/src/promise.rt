@@ -19,8 +19,10 @@ pub struct Promise<V: Volume> {
     pub most: Losses,
 }
 
+/// A turn with a device in it.
 pub type DeviceTurn<V> = Turn<Device<V>, Promise<V>>;
 
+/// A seat at such a turn.
 pub type DeviceSeat<V> = TurnSeat<Device<V>, Promise<V>>;
 
 /// The path of a seat: seats 1 to 4 are the paths'.

@@ -1,5 +1,6 @@
 -- A device goes on beside the plain device of its history behind each event of a turn, where memory is had.
 use Rattle.std.proofs.Common.{◌≡◌, ◌≤◌, ◌*◌, ℕ, Bool, true, List, [], Option, Some, None, refl, sym, ap, subst, ◌∙◌}
+use Rattle.std.proofs.lemmas.Option.{same_Some}
 use Rattle.std.specs.Prelude.{IfSome, option_map}
 use Rattle.ckd_types.specs.Ccw.{ccw_at}
 use Rattle.ckd_types.specs.declared.channel.Ccw.{Ccw}
@@ -63,16 +64,13 @@ runs_by : (plans : Plans) (x : PlainState) (o : OpenEntry) (before : Option Chai
     GiveBytes plans → 1 ≤ o.path → o.path ≤ 4 → RunsAt plans x (Some o) before → ChainOf g n before → IsChain chain → RunsOn n g chain
 runs_by plans x o None g n chain is gives least most at of c = absurd (cc)
 runs_by plans x o (Some origin) g n chain is gives least most at of c =
-    let same : origin ≡ chain = some_same origin chain is in
+    let same : origin ≡ chain = same_Some origin chain is in
     subst (λ (k : ChainState). IsChain k → RunsOn n g k) same
     (λ c. record {
       is = record { is = c; cylinders = of.1 };
       geometry = of.0;
       gives = λ i. subst (λ (l : List Ccw). GivesBytes (ccw_at l i)) (sym at.hand.words) (gives o.path o.ordinal least most i);
     }) c
-  where
-    some_same : (x y : ChainState) → Some x ≡ Some y → x ≡ y
-    some_same x y e = cc
 
 -- a device beside the plain one again, which over marks is what the step came to
 pub record BesideBy {K A : Type 0} (j : Interaction Bool Image MarksDevice A) (e : WholeDevice) (z : Outside (List ℕ) K) : Type 0 where

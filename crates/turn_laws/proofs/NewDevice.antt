@@ -14,10 +14,11 @@ use Rattle.device_laws.proofs.PlainEvents.{new_follows}
 use Rattle.device_laws.proofs.PlainTurns.{Follows}
 use Rattle.subsystem_laws.specs.CameAbout as about
 use Rattle.subsystem_laws.specs.CameAbout.{CameAbout}
-use Rattle.turn_laws.specs.Standing.{GiveBytes, Stands, new_device}
+use Rattle.subsystem_laws.specs.WholeStood.{opened}
+use Rattle.turn_laws.specs.Standing.{GiveBytes, Stands}
 
 pub new_stands : {K : Type 0} (d : ℕ) (g : Geometry) (n : ℕ) (plans : Plans) (u : Outside (List ℕ) K) → 1 ≤ n → n ≤ 64 →
-    Tells u.a (empty_contents (n * 15)) → Tells u.b [] → GiveBytes plans → Stands (new_device d g n plans) u
+    Tells u.a (empty_contents (n * 15)) → Tells u.b [] → GiveBytes plans → Stands (opened d g n plans) u
 new_stands d g n plans u some most a b gives = record {
   beside = record {
     plain = empty_volume n;

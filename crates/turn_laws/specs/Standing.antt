@@ -4,12 +4,11 @@ use Rattle.ckd_chain.specs.Facts.{IsChain}
 use Rattle.ckd_chain.specs.State.{ChainState}
 use Rattle.ckd_types.specs.Ccw.{ccw_at}
 use Rattle.ckd_types.specs.declared.channel.Ccw.{Ccw}
-use Rattle.ckd_types.specs.declared.geometry.Geometry.{Geometry}
 use Rattle.ckd_types.specs.declared.record.Track.{Track}
 use Rattle.loss_model.specs.declared.Loss.{Loss}
-use Rattle.plain_defs.specs.History.{OpenEntry, no_history}
+use Rattle.plain_defs.specs.History.{OpenEntry}
 use Rattle.plain_defs.specs.Journal.{Plans, program_of}
-use Rattle.plain_defs.specs.PlainState.{empty_state, fresh_paths}
+use Rattle.plain_defs.specs.PlainState.{empty_state}
 use Rattle.plain_defs.specs.Whole.{GivesBytes}
 use Rattle.track_image.specs.Image.{Image}
 use Rattle.device_outside.specs.declared.keep.NoKeep.{NoKeep}
@@ -26,7 +25,6 @@ use Rattle.device_defs.specs.Start.{start, start_fault}
 use Rattle.device_defs.specs.Store.{HalfWrite}
 use Rattle.device_laws.specs.Agrees.{Held}
 use Rattle.device_laws.specs.InOrder.{IsInOrder}
-use Rattle.device_laws.specs.NewDevice.{new_contents}
 use Rattle.device_laws.specs.Whole.{WholeDevice, marks_device}
 use Rattle.device_laws.proofs.PlainTurns.{Follows}
 use Rattle.subsystem_laws.specs.CameAbout.{CameAbout}
@@ -76,7 +74,3 @@ pub record IsKept (So : WholeDevice → Outside (List ℕ) NoKeep → Type 0) : 
       Ran (λ ok. ok ≡ true) (λ _ m r _. r ≡ reply m) (background contents d) u e a z → So e z
   pub lose : (d e : WholeDevice) (u z : Outside (List ℕ) NoKeep) (a : Unit {0}) (loss : Loss) → So d u →
       Ran (λ ok. ok ≡ true) (λ _ m r _. r ≡ reply m) (lose contents d loss) u e a z → So e z
-
--- a device to which nothing happened, on an empty volume
-abbrev pub new_device : ℕ → Geometry → ℕ → Plans → WholeDevice
-new_device d g n plans = record { store = new_contents d g n; paths = fresh_paths; plans = plans; history = no_history; chain = None }

@@ -32,38 +32,41 @@ ghost use Rattle.device_defs.specs.Store.{HalfWrite, OfBackground, side_of, trac
 ghost use Rattle.device_laws.specs.Agrees.{Held};
 ghost use Rattle.device_laws.specs.Whole.{WholeDevice};
 ghost use Rattle.subsystem_defs.specs.Refusals.{replace_fault, suspend_fault};
-ghost use Rattle.turn_laws.specs.Standing.{GiveBytes, IsBeside, IsKept, Stands, new_device};
+ghost use Rattle.subsystem_laws.specs.WholeStood.{opened};
+ghost use Rattle.turn_laws.specs.Standing.{GiveBytes, IsBeside, IsKept, Stands};
 
-/// Behind each event, whatever the port answers and whichever calls fail, the device stands beside the plain device of its history, where memory was
-/// had and its volumes tell what they hold; and it goes on to have come about by its events and orders.
+/// Behind a start that isn't refused, a command, a second part, what the device does by itself and a loss, whatever the port answers and whichever calls
+/// fail, the device is beside the plain device of its history, where memory was had and its volumes tell what they hold; and it goes on to have come
+/// about by its events and orders.
 pub fn device_stands_on()
     ensures beside { IsKept IsBeside }
     ensures stands { IsKept Stands }
 {}
 
-/// Its frames, its patches and what its volumes hold agree track by track with the plain device of its history, which is one that a plain device
-/// could have.
-pub fn standing_device_is_sound()
+/// The frames, the patches and the volumes' contents of a device beside the plain device of its history agree with it track by track, and that history is
+/// one that a plain device could have.
+pub fn device_beside_is_sound()
     ensures sound { (d : WholeDevice) (u : Outside (List ℕ) NoKeep) → IsBeside d u → (h : Held) × Tells u.a h.a × Tells u.b h.b × IsSound d h }
     ensures plain { (d : WholeDevice) (u : Outside (List ℕ) NoKeep) → IsBeside d u →
         IsPlain d.plans (empty_state d.store.geometry d.store.cylinders) d.history }
 {}
 
-/// It is excused for what it lost and for its checks, while the counts of failed calls and of losses of the cache aren't at the greatest number, where they
-/// count no further.
+/// A device that stands so is excused for what it lost and for its checks, while the counts of failed calls and of losses of the cache aren't at the
+/// greatest number, where they count no further.
 pub fn standing_device_is_excused()
     ensures { (d : WholeDevice) (u : Outside (List ℕ) NoKeep) → Stands d u → d.store.counts.failed < 2 ^ 64 - 1 →
         d.store.counts.losses.cache < 2 ^ 64 - 1 →
         IsExcused d.plans (empty_state d.store.geometry d.store.cylinders) d.history.items d.store.lost d.store.counts }
 {}
 
-/// A new device on a volume of empty tracks stands so.
+/// A new device on a volume of empty tracks stands beside the plain device of its history, as one that came about by its events and orders.
 pub fn new_device_stands()
     ensures { (d : ℕ) (g : Geometry) (n : ℕ) (plans : Plans) (u : Outside (List ℕ) NoKeep) → 1 ≤ n → n ≤ 64 → Tells u.a (empty_contents (n * 15)) →
-        Tells u.b [] → GiveBytes plans → Stands (new_device d g n plans) u }
+        Tells u.b [] → GiveBytes plans → Stands (opened d g n plans) u }
 {}
 
-/// So it does behind the orders that hold side B, resume it, or put a volume of as many tracks in place of a failed one, where they aren't refused.
+/// A device that stands so goes on to behind the orders that hold side B, resume it, or put a volume of as many tracks in place of a failed one, where they
+/// aren't refused.
 pub fn orders_let_stand()
     ensures held { (d : WholeDevice) (u : Outside (List ℕ) NoKeep) → Stands d u → suspend_fault d ≡ None → Stands (hold d) u }
     ensures resumed { (d : WholeDevice) (u : Outside (List ℕ) NoKeep) → Stands d u → Stands (resume d) u }
@@ -71,7 +74,8 @@ pub fn orders_let_stand()
         replace_fault d side ≡ None → v.contents ≡ Some l → length l ≡ tracks_of d.store → Stands (replace d side) (with_view u side v) }
 {}
 
-/// Beside the plain device it stays behind these orders whether or not they are refused, where what is replaced is down, and side B only of a pair.
+/// A device stays beside the plain device of its history behind these orders whether or not they are refused, where what is replaced is down, and side B
+/// only of a pair.
 pub fn orders_leave_it_beside()
     ensures held { (d : WholeDevice) (u : Outside (List ℕ) NoKeep) → IsBeside d u → IsBeside (hold d) u × IsBeside (resume d) u }
     ensures replaced { (d : WholeDevice) (u : Outside (List ℕ) NoKeep) (side : Side) (v : VolumeView (List ℕ)) (l : List (List ℕ)) → IsBeside d u →

@@ -3,11 +3,11 @@ use Rattle.std.proofs.lemmas.List.{take_all}
 use Rattle.path_threads.specs.Places.{IsSpareAmong}
 use Rattle.path_top.specs.Orders.{orders_in}
 use Rattle.path_top.proofs.Adding.{lines_on, spare_on}
-use Rattle.path_top.proofs.Paired.{open_at}
+use Rattle.deck_run.proofs.Going.{line_open_at}
 use Rattle.path_top.proofs.orders.orders_in.Goals as goal
 
 pub order_of-requires : goal.order_of-requires
-order_of-requires c = open_at _ c.args.lines.now c.loop-line.line-index c.line-item.result c.loop-line-test.true c.line-item.is c.requires
+order_of-requires c = line_open_at _ c.args.lines.now c.loop-line.line-index c.line-item.result c.loop-line-test.true c.line-item.is c.requires
 
 pub loop-line-preserved : goal.loop-line-preserved
 loop-line-preserved c = record {

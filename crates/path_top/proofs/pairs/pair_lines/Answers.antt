@@ -1,12 +1,13 @@
 use Rattle.std.proofs.Common.{◌∙◌, subst}
 use Rattle.deck_run.specs.Standing.{StandsAs}
-use Rattle.path_top.proofs.Paired.{open_at, one_line_on, all_lines_on}
+use Rattle.deck_run.proofs.Going.{line_open_at}
+use Rattle.path_top.proofs.Paired.{one_line_on, all_lines_on}
 use Rattle.path_top.proofs.pairs.pair_lines.Goals as goal
 
 pub pair_line-requires-clause-here : goal.pair_line-requires-clause-here
 pair_line-requires-clause-here g c =
     rw c.loop-line.invariant.numbers
-    (open_at _ c.args.lines.now c.loop-line.line-index c.line-item.result c.loop-line-test.true c.line-item.is c.requires.here)
+    (line_open_at _ c.args.lines.now c.loop-line.line-index c.line-item.result c.loop-line-test.true c.line-item.is c.requires.here)
 
 pub loop-line-preserved : goal.loop-line-preserved
 loop-line-preserved g c = record {

@@ -1,5 +1,5 @@
 use Rattle.turn_laws.proofs.Sound.{beside_sound, beside_plain}
-use Rattle.turn_laws.proofs.standing_device_is_sound.Goals as goal
+use Rattle.turn_laws.proofs.device_beside_is_sound.Goals as goal
 
 pub returns : goal.returns
 returns c = record {
