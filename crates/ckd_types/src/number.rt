@@ -65,6 +65,15 @@ impl PathNo {
         }
     }
 
+    /// The path of a number that is a path's.
+    pub fn of(number: u8) -> PathNo
+        requires least { 1 ≤ number }
+        requires most { number ≤ 4 }
+        ensures { result ≡ number }
+    {
+        PathNo(number)
+    }
+
     /// Its number.
     pub fn get(&self) -> u8
         ensures value { result ≡ self.now }

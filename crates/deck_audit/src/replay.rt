@@ -99,10 +99,10 @@ impl ReplayedDevice {
     fn any_may_start(&self, plans: &PathPlans) -> bool
         ensures { result ≡ any_may_start plans.now self.now }
     {
-        self.may_start(plans, PathNo::new(1).unwrap())
-            || self.may_start(plans, PathNo::new(2).unwrap())
-            || self.may_start(plans, PathNo::new(3).unwrap())
-            || self.may_start(plans, PathNo::new(4).unwrap())
+        self.may_start(plans, PathNo::of(1))
+            || self.may_start(plans, PathNo::of(2))
+            || self.may_start(plans, PathNo::of(3))
+            || self.may_start(plans, PathNo::of(4))
     }
 
     /// The owner holds the device, from one path or from every path with a program left.

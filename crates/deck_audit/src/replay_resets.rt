@@ -30,10 +30,10 @@ impl ReplayedDevice {
         ensures { self.new ≡ closed self.old }
     {
         self.running = None;
-        self.reset_waiting(PathNo::new(1).unwrap());
-        self.reset_waiting(PathNo::new(2).unwrap());
-        self.reset_waiting(PathNo::new(3).unwrap());
-        self.reset_waiting(PathNo::new(4).unwrap());
+        self.reset_waiting(PathNo::of(1));
+        self.reset_waiting(PathNo::of(2));
+        self.reset_waiting(PathNo::of(3));
+        self.reset_waiting(PathNo::of(4));
     }
 
     /// A command ended with equipment check or data check: it did nothing, and its path keeps the sense.

@@ -19,7 +19,7 @@ fn path_of(i: u16) -> PathNo
     requires { 1 ≤ i }
     ensures { result ≡ path_of i }
 {
-    PathNo::new(1 + ((i - 1) % 4) as u8).unwrap()
+    PathNo::of(1 + ((i - 1) % 4) as u8)
 }
 
 fn device_line(n: u8) -> DeviceLine

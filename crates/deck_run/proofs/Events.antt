@@ -75,7 +75,8 @@ use Rattle.subsystem_core.proofs.Found.{number_found, found_in}
 use Rattle.subsystem_laws.specs.WholeComes as laws
 use Rattle.subsystem_laws.specs.WholeComes.{subsystem_of, IsWhatCame}
 use Rattle.subsystem_laws.proofs.WholeHappens.{event_so}
-use Rattle.deck_run.specs.Owning.{GivesAll, PlansGive, IsOwn, AreOwn, AllOwn, ChainsStand, IsOpenOn}
+use Rattle.plain_defs.specs.Whole.{GiveBytes, GivesAll}
+use Rattle.deck_run.specs.Owning.{IsOwn, AreOwn, AllOwn, ChainsStand, IsOpenOn}
 use Rattle.deck_run.specs.Standing.{StandsAs, stood_of, all_stood}
 use Rattle.deck_run.specs.Counting.{more_calls}
 use Rattle.deck_run.specs.Recording.{IsTold}
@@ -106,10 +107,10 @@ own_chain ccws fixed g None on gives has = tt
 own_chain ccws fixed g (Some chain) on gives has =
     (ap (λ (f : Fixed). f.geometry) has.1 ∙ on, subst GivesAll (sym has.0) gives)
 
-pub own_so : (ccws : List Ccw) (fixed : Fixed) (d y : DefinedDevice) → fixed.geometry ≡ d.store.geometry → GivesAll ccws → PlansGive d.plans →
+pub own_so : (ccws : List Ccw) (fixed : Fixed) (d y : DefinedDevice) → fixed.geometry ≡ d.store.geometry → GivesAll ccws → GiveBytes d.plans →
     y.store.geometry ≡ d.store.geometry → y.plans ≡ d.plans → HasOf ccws fixed y.chain → IsOwn y
 own_so ccws fixed d y on gives plans is same has = record {
-  plans = subst PlansGive (sym same) plans;
+  plans = subst GiveBytes (sym same) plans;
   chain = own_chain ccws fixed y.store.geometry y.chain (on ∙ sym is) gives has;
 }
 
@@ -117,7 +118,7 @@ own_so ccws fixed d y on gives plans is same has = record {
 abbrev pub KeptOwn : DefinedDevice → DefinedDevice → Type 0
 KeptOwn d y = IsOwn y × (y.store.lent ≡ d.store.lent)
 
-own_of : (ccws : List Ccw) (fixed : Fixed) (d y : DefinedDevice) → fixed.geometry ≡ d.store.geometry → GivesAll ccws → PlansGive d.plans →
+own_of : (ccws : List Ccw) (fixed : Fixed) (d y : DefinedDevice) → fixed.geometry ≡ d.store.geometry → GivesAll ccws → GiveBytes d.plans →
     Is contents d.store.geometry d.store.cylinders (d.store.lent, d.store.device) y.store → y.plans ≡ d.plans → HasOf ccws fixed y.chain → KeptOwn d y
 own_of ccws fixed d y on gives plans is same has =
     (own_so ccws fixed d y on gives plans is.0 same has, ap (λ (p : Option ℕ × ℕ). p.0) is.1.1)

@@ -38,7 +38,8 @@ use Rattle.subsystem_core.specs.Devices.{numbers_of, devices_of, device_at, put_
 use Rattle.subsystem_laws.specs.WholeStood as laws
 use Rattle.subsystem_laws.specs.WholeStood.{Stood, devices_at, stood_in, HaveChains}
 use Rattle.ckd_types.specs.declared.geometry.Geometry.{Geometry}
-use Rattle.deck_run.specs.Owning.{GivesAll, IsOwn, AllOwn, ChainsStand}
+use Rattle.plain_defs.specs.Whole.{GivesAll}
+use Rattle.deck_run.specs.Owning.{IsOwn, AllOwn, ChainsStand}
 use Rattle.deck_run.specs.Standing.{stood_of, all_stood}
 
 some_same : {X : Type 0} {x y : X} → Some x ≡ Some y → x ≡ y

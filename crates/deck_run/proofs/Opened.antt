@@ -28,7 +28,8 @@ use Rattle.std.specs.Prelude.{option_map}
 use Rattle.std.proofs.lemmas.Bool.Decides.{nat_tests}
 use Rattle.std.proofs.lemmas.List.{length-take-le}
 use Rattle.ckd_types.specs.declared.geometry.Geometry.{Geometry}
-use Rattle.deck_run.specs.Owning.{PlansGive, IsOwn}
+use Rattle.plain_defs.specs.Whole.{GiveBytes}
+use Rattle.deck_run.specs.Owning.{IsOwn}
 use Rattle.deck_text.specs.declared.line.DeviceLine.{DeviceLine}
 use Rattle.deck_text.specs.DeckLines.{DeckLines}
 use Rattle.deck_text.specs.Plans.{plans_of}
@@ -140,5 +141,5 @@ module _ {V : Type 0} {G : Ghosts V} where
       (subst (λ (l : List defs.Mounted). AreMounted p (all_stood xs ++ stood_of x ∷ []) l) (sym (mapped_more (opened_device deck) ds d))
       (one_mounted are is))
 
-pub opened_own : (x : DefinedDevice) (n : ℕ) (g : Geometry) (cylinders : ℕ) (plans : Plans) → x ≡ opened_by n g cylinders plans → PlansGive plans → IsOwn x
+pub opened_own : (x : DefinedDevice) (n : ℕ) (g : Geometry) (cylinders : ℕ) (plans : Plans) → x ≡ opened_by n g cylinders plans → GiveBytes plans → IsOwn x
 opened_own x n g cylinders plans is gives = subst IsOwn (sym is) (record { plans = gives; chain = tt })

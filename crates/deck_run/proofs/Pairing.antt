@@ -42,7 +42,8 @@ use Rattle.subsystem_laws.specs.WholeStood.{Stood}
 use Rattle.subsystem_laws.proofs.WholeHappens.{event_so}
 use Rattle.subsystem_defs.proofs.Unrefused.{first_none, where_none}
 use Rattle.deck_run.specs.Ordered.{IsOrdered}
-use Rattle.deck_run.specs.Owning.{AllOwn, AreOwn, ChainsStand, GivesAll, IsOwn}
+use Rattle.plain_defs.specs.Whole.{GivesAll}
+use Rattle.deck_run.specs.Owning.{AllOwn, AreOwn, ChainsStand, IsOwn}
 use Rattle.deck_run.specs.Sides.{AreAccounted, Sides, all_sides, away_here, lent_here, one_if, paired_here, sides_of, total, volumes_here}
 use Rattle.deck_run.specs.Standing.{StandsAs, all_stood, stood_of}
 use Rattle.deck_run.specs.Sweeping.{order_end}

@@ -88,7 +88,8 @@ use Rattle.subsystem_defs.specs.Subsystem.{Mounted}
 use Rattle.subsystem_laws.specs.WholeComes as laws
 use Rattle.subsystem_laws.specs.WholeComes.{subsystem_of, IsWhatCame}
 use Rattle.subsystem_laws.proofs.WholeHappens.{event_so}
-use Rattle.deck_run.specs.Owning.{AllOwn, AreOwn, ChainsStand, GivesAll, IsOwn, PlansGive}
+use Rattle.plain_defs.specs.Whole.{GiveBytes, GivesAll}
+use Rattle.deck_run.specs.Owning.{AllOwn, AreOwn, ChainsStand, IsOwn}
 use Rattle.deck_run.specs.Standing.{StandsAs, stood_of, all_stood}
 use Rattle.deck_run.specs.Loosening.{acts_when, all_loosed, is_quiet}
 use Rattle.deck_run.specs.declared.all.Stock.{Stock}
@@ -272,7 +273,7 @@ device m = m.device
 
 cut_own : (d y : DefinedDevice) → IsPowered d y → IsOwn d → IsOwn y
 cut_own d y l own = record {
-  plans = subst PlansGive (sym l.plans) own.plans;
+  plans = subst GiveBytes (sym l.plans) own.plans;
   chain = subst (λ (o : Option ChainState). IfSome o (λ (c : ChainState). (c.fixed.geometry ≡ y.store.geometry) × GivesAll c.ccws)) (sym l.chain) tt;
 }
 

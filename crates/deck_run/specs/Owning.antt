@@ -1,11 +1,8 @@
 -- What the chain of a running program has of its device, and which events run.
 use Rattle.std.specs.Prelude.{◌≡◌, ◌≤◌, ℕ, List, [], ◌∷◌, IfSome}
-use Rattle.ckd_types.specs.Ccw.{ccw_at}
-use Rattle.ckd_types.specs.declared.channel.Ccw.{Ccw}
 use Rattle.ckd_chain.specs.Facts.{IsChain}
 use Rattle.ckd_chain.specs.State.{ChainState}
-use Rattle.plain_defs.specs.Journal.{Plans, program_of}
-use Rattle.plain_defs.specs.Whole.{GivesBytes}
+use Rattle.plain_defs.specs.Whole.{GiveBytes, GivesAll}
 use Rattle.device_outside.specs.declared.volume.Volume.{Ghosts}
 use Rattle.device_core.specs.declared.device.Device.{Device}
 use Rattle.device_core.specs.State.{device_of}
@@ -14,17 +11,9 @@ use Rattle.subsystem_defs.specs.declared.event.Event.{Event}
 use Rattle.subsystem_defs.specs.declared.event.Event.TheVariants as events
 use Rattle.deck_run.specs.Sides.{AreAccounted, all_sides}
 
--- each of its words gives bytes
-abbrev pub GivesAll : List Ccw → Type 0
-GivesAll ccws = (i : ℕ) → GivesBytes (ccw_at ccws i)
-
--- so do all programs of the four paths
-abbrev pub PlansGive : Plans → Type 0
-PlansGive plans = (path ordinal : ℕ) → 1 ≤ path → path ≤ 4 → GivesAll (program_of plans path ordinal)
-
 -- the chain that runs goes by the geometry of its device, and its words give bytes
 pub record IsOwn (d : WholeDevice) : Type 0 where
-  pub plans : PlansGive d.plans
+  pub plans : GiveBytes d.plans
   pub chain : IfSome d.chain (λ (c : ChainState). (c.fixed.geometry ≡ d.store.geometry) × GivesAll c.ccws)
 
 module _ {V : Type 0} {G : Ghosts V} where

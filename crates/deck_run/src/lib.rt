@@ -4,7 +4,6 @@
 mod all;
 mod close;
 mod event;
-mod giving;
 mod line;
 mod loosed;
 mod open;

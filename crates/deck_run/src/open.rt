@@ -9,10 +9,9 @@ ghost use Rattle.deck_run.specs.Owning.{AllOwn, AreOwn, IsOwn};
 ghost use Rattle.deck_run.specs.Sides.{AllFresh, IsFresh};
 ghost use Rattle.deck_run.specs.Standing.{StandsAs, all_stood, stood_of};
 
-use crate::giving::plans_give;
 use ckd_types::{DeviceNo, NoMemory};
 use deck_text::{Deck, DeviceLine};
-use device_core::Device;
+use device_core::{Device, plans_give};
 use device_outside::{MemBay, MemVolume};
 use frame_pool::Pool;
 use std::alloc::Global;

@@ -9,4 +9,4 @@ mod task;
 mod top;
 
 pub use task::Task;
-pub use top::{Status, code_of, deck_top, words_of, write_usage};
+pub use top::{MOST_READ, Status, code_of, deck_top, words_of, write_usage};

@@ -40,7 +40,7 @@ pub enum Status {
 }
 
 /// One byte more than a deck may have.
-const MOST_READ: usize = 16_777_217;
+pub const MOST_READ: usize = 16_777_217;
 
 /// The exit status of the program.
 pub fn code_of(status: Status) -> u8

@@ -7,6 +7,7 @@ mod counts;
 mod device;
 mod ending;
 mod events;
+mod giving;
 mod half;
 mod kept;
 mod log;
@@ -26,6 +27,7 @@ mod turns;
 
 pub use device::Device;
 pub use device_store::Peeked;
+pub use giving::plans_give;
 pub use log::Log;
 pub use past::{KeptPath, Past, Running, Stepped};
 pub use second::SecondStep;

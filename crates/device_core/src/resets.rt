@@ -14,7 +14,7 @@ pub(crate) fn path_at(at: usize) -> PathNo
     requires { at < 4 }
     ensures { result ≡ at + 1 }
 {
-    PathNo::new(at as u8 + 1).unwrap()
+    PathNo::of(at as u8 + 1)
 }
 
 /// A reset is done, where it waited.

@@ -15,6 +15,6 @@ pub use bay::{MemBay, Taken};
 pub use buffer::TrackBuffer;
 pub use gate::{Gate, NoGate};
 pub use keep::{Keep, NoKeep};
-pub use memory::MemVolume;
+pub use memory::{MemVolume, counted};
 pub use port::{Grant, NoFrames, Port, SlotGrant};
 pub use volume::Volume;

@@ -13,7 +13,7 @@ use std::marker::Model;
 
 /// One more, or the greatest number.
 #[tactic(auto, unfolding(crate::specs::Volume::counted))]
-pub(crate) fn one_more(n: u64) -> u64
+pub fn counted(n: u64) -> u64
     ensures value { result ≡ counted n }
     ensures later { n ≤ result }
     ensures more { result < 2 ^ 32 → n < result }
@@ -42,7 +42,7 @@ fn count_call(calls: &mut u64, numbers: &[u32]) -> bool
     ensures kept { to_come calls.new numbers.now ≤ to_come calls.old numbers.now }
     ensures lowered { IsTrue result → to_come calls.new numbers.now < to_come calls.old numbers.now }
 {
-    *calls = one_more(*calls);
+    *calls = counted(*calls);
     is_listed(*calls, numbers)
 }
 
@@ -148,7 +148,7 @@ impl Volume for MemVolume {
         ensures gives { ReadOf (disk_view self.old) t (delivery result into.new) (disk_view self.new) }
     {
         if count_call(&mut self.reads, &self.fail_reads) {
-            self.faults = one_more(self.faults);
+            self.faults = counted(self.faults);
             return Err(Failed);
         }
         self.held.deliver(t, into);
@@ -164,7 +164,7 @@ impl Volume for MemVolume {
         ensures takes { WriteOf (disk_view self.old) t bytes.now (is_ok result) (disk_view self.new) }
     {
         if count_call(&mut self.writes, &self.fail_writes) {
-            self.faults = one_more(self.faults);
+            self.faults = counted(self.faults);
             self.held.put(t, &[]);
             return Err(Failed);
         }

@@ -4,7 +4,7 @@ ghost use Rattle.device_outside.specs.declared.port.SlotGrant.TheVariants as slo
 ghost use Rattle.device_outside.specs.Pool.{NextNotice, Touch, WantFrame, SetModified, SetClean, DropFrame, WantSlot, FreeSlot, TellWaiting};
 ghost use Rattle.device_outside.specs.Outside.{PortView, Answered, WantedFrame, is_given, no_pool};
 
-use crate::memory::one_more;
+use crate::memory::counted;
 use ckd_types::{DeviceNo, NoMemory, TrackNo};
 
 /// Whether a track got a frame.
@@ -100,7 +100,7 @@ impl Port for NoFrames {
         ensures answer { result ≡ Ok grants.Denied }
         ensures answered { WantedFrame (no_pool self.old.denials) (WantFrame d t) is_given result (no_pool self.new.denials) }
     {
-        self.denials = one_more(self.denials);
+        self.denials = counted(self.denials);
         Ok(Grant::Denied)
     }
 

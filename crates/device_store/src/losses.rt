@@ -8,18 +8,17 @@ ghost use Rattle.device_defs.specs.Store.{has_level, is_loose, is_lost};
 ghost use Rattle.device_outside.specs.Keeper.{Heard};
 ghost use Rattle.device_outside.specs.Outside.{PortView, Ran};
 ghost use Rattle.event_notes.specs.Loose.{weight};
-ghost use Rattle.plain_defs.specs.Loose.{next_number};
 ghost use Rattle.loss_model.specs.declared.Loss.TheVariants as losses;
 ghost use Rattle.track_table.specs.Bits.{is_marked};
 ghost use Rattle.device_store.specs.State.{state_of, outside, surely, Takes};
 
 use crate::DeviceStore;
-use crate::marks::one_more;
 use ckd_types::TrackNo;
 use device_defs::Losses;
-use device_outside::{Keep, Volume};
+use device_outside::{Keep, Volume, counted};
 use duplex_pair::StaleMarks;
 use loss_model::Loss;
+use plain_defs::next_number;
 use track_image::TrackImage;
 use track_table::TrackBits;
 
@@ -28,17 +27,10 @@ fn count_loss(losses: &mut Losses, loss: Loss)
     ensures { losses.new ≡ one_more losses.old loss }
 {
     match loss {
-        Loss::Cache => losses.cache = one_more(losses.cache),
-        Loss::Store => losses.store = one_more(losses.store),
-        Loss::Side(_) => losses.sides = one_more(losses.sides),
+        Loss::Cache => losses.cache = counted(losses.cache),
+        Loss::Store => losses.store = counted(losses.store),
+        Loss::Side(_) => losses.sides = counted(losses.sides),
     }
-}
-
-/// The number goes from 65,535 to 0.
-fn next_number(n: u16) -> u16
-    ensures { result ≡ next_number n }
-{
-    if n == u16::MAX { 0 } else { n + 1 }
 }
 
 impl<V: Volume> DeviceStore<V> {

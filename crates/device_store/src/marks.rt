@@ -6,21 +6,13 @@ ghost use Rattle.device_store.specs.State.{state_of};
 use crate::DeviceStore;
 use ckd_types::{Side, TrackNo};
 use device_defs::Counts;
-use device_outside::Volume;
-
-/// One more, or the greatest number.
-#[tactic(auto, unfolding(device_outside::specs::Volume::counted))]
-pub(crate) fn one_more(n: u64) -> u64
-    ensures { result ≡ counted n }
-{
-    n.saturating_add(1)
-}
+use device_outside::{Volume, counted};
 
 fn count_failed(counts: &mut Counts, ok: bool)
     ensures { counts.new ≡ record counts.old { failed = counted_if (not ok) counts.old.failed } }
 {
     if !ok {
-        counts.failed = one_more(counts.failed);
+        counts.failed = counted(counts.failed);
     }
 }
 
@@ -28,7 +20,7 @@ fn count_failed(counts: &mut Counts, ok: bool)
 pub(crate) fn count_read(counts: &mut Counts, ok: bool)
     ensures { counts.new ≡ record counts.old { reads = counted counts.old.reads; failed = counted_if (not ok) counts.old.failed } }
 {
-    counts.reads = one_more(counts.reads);
+    counts.reads = counted(counts.reads);
     count_failed(counts, ok);
 }
 
@@ -36,7 +28,7 @@ pub(crate) fn count_read(counts: &mut Counts, ok: bool)
 pub(crate) fn count_write(counts: &mut Counts, ok: bool)
     ensures { counts.new ≡ record counts.old { writes = counted counts.old.writes; failed = counted_if (not ok) counts.old.failed } }
 {
-    counts.writes = one_more(counts.writes);
+    counts.writes = counted(counts.writes);
     count_failed(counts, ok);
 }
 

@@ -114,10 +114,6 @@ kept_boxed : {P H A : Type 0} (keeps : P → H → Type 0) (q : Option P) (b : B
 kept_boxed keeps None b kept = absurd kept
 kept_boxed keeps (Some p) b kept = kept
 
-pub may_value : {P H A : Type 0} (keeps : P → H → Type 0) (counts : H → List ℕ) (v : View (Option P)) (b : Box H A) →
-    MayLeave (KeptBy (boxed keeps)) (counts_in counts) v b → MayLeave (KeptBy keeps) counts v b.value
-may_value keeps counts v b may = (kept_value keeps v.pledge b b.value refl may.0, may.1)
-
 pub may_boxed : {P H A : Type 0} (keeps : P → H → Type 0) (counts : H → List ℕ) (v : View (Option P)) (b : Box H A) →
     MayLeave (KeptBy keeps) counts v b.value → MayLeave (KeptBy (boxed keeps)) (counts_in counts) v b
 may_boxed keeps counts v b may = (kept_boxed keeps v.pledge b may.0, may.1)

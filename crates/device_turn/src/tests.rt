@@ -1,4 +1,4 @@
-ghost use Rattle.std.specs.Prelude.{◌≡◌, ◌<◌, ◌+◌, [], ℕ, slice_set, true};
+ghost use Rattle.std.specs.Prelude.{◌≡◌, ◌<◌, ◌+◌, ℕ, slice_set, true};
 ghost use Rattle.std.specs.Thread.{IsSync};
 ghost use Rattle.device_turn.specs.Rule.{has};
 ghost use Rattle.device_turn.specs.Answers.{IsAway};

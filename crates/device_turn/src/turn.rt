@@ -1,4 +1,4 @@
-ghost use Rattle.std.specs.Prelude.{ℕ, ◌≡◌, ◌+◌, ◌<◌, ◌∷◌, [], Some, IfOk, IfErr, slice_index, true};
+ghost use Rattle.std.specs.Prelude.{ℕ, ◌≡◌, ◌+◌, ◌<◌, [], Some, IfOk, IfErr, slice_index, true};
 ghost use Rattle.device_turn.specs.Rule.{KeptBy, Still, away, both, boxed, counted, counts_in, has, newcomer, owned, view, worded, zeros};
 ghost use Rattle.device_turn.specs.Steps.{Agrees};
 ghost use Rattle.device_turn.specs.Answers.{Entered, IsAway, IsOut, MayLeave};

@@ -1,4 +1,4 @@
-ghost use Rattle.std.specs.Prelude.{◌≡◌, ◌≤◌, ◌*◌, None, is_some, true};
+ghost use Rattle.std.specs.Prelude.{◌≡◌, ◌*◌, None, is_some, true};
 ghost use Rattle.device_outside.specs.Volume.{counted};
 ghost use Rattle.device_defs.specs.Events.{one_more};
 ghost use Rattle.device_core.specs.State.{device_of};
@@ -9,7 +9,7 @@ ghost use Rattle.path_orders.specs.Ordered.{CanLose, HasSize, HaveLosses, IsOrde
 use ckd_types::Side;
 use device_core::Device;
 use device_defs::Losses;
-use device_outside::{Port, Volume};
+use device_outside::{Port, Volume, counted};
 use loss_model::Loss;
 use subsystem_core::{fail_fault, replace_fault, resume_fault, suspend_fault};
 
@@ -24,15 +24,6 @@ pub enum DeviceOrder<V> {
     Resume,
     /// A volume comes in the place of a failed side's, with every track stale.
     Replace(Side, V),
-}
-
-/// One more, or the greatest number.
-#[tactic(auto, unfolding(device_outside::specs::Volume::counted))]
-fn counted(n: u64) -> u64
-    ensures is { result ≡ counted n }
-    ensures more { n ≤ result }
-{
-    n.saturating_add(1)
 }
 
 /// The losses with one more.

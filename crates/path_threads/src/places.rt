@@ -1,4 +1,4 @@
-ghost use Rattle.std.specs.Prelude.{◌≡◌, All, IfOk, List, None, OnOk, Some};
+ghost use Rattle.std.specs.Prelude.{◌≡◌, All, IfOk, List};
 ghost use Rattle.std.specs.List.{AllZip};
 ghost use Rattle.path_turns.specs.Keeping.{IsReady, IsWithin};
 ghost use Rattle.path_threads.specs.declared.orders.Order.{Order};

@@ -1,4 +1,4 @@
-ghost use Rattle.std.specs.Prelude.{◌≡◌, ◌≤◌, All, IfOk};
+ghost use Rattle.std.specs.Prelude.{◌≡◌, All, IfOk};
 ghost use Rattle.std.specs.List.{AllZip};
 ghost use Rattle.std.specs.Thread.{IsSync};
 ghost use Rattle.path_turns.specs.Keeping.{IsFinished, IsReady};
@@ -61,14 +61,6 @@ fn two_walk<R: Threads + Wait + Sync, V: Volume + Send, G: Gate + Sync>(
     )
 }
 
-fn path(number: u8) -> PathNo
-    requires least { 1 ≤ number }
-    requires most { number ≤ 4 }
-    ensures { result ≡ number }
-{
-    PathNo::new(number).unwrap()
-}
-
 fn four_walk<R: Threads + Wait + Sync, V: Volume + Send, G: Gate + Sync>(
     rt: &R,
     shared: &Shared,
@@ -87,11 +79,11 @@ fn four_walk<R: Threads + Wait + Sync, V: Volume + Send, G: Gate + Sync>(
         || -> (Walked<V>, Walked<V>)
             requires { IsSync R.row × AllZip (IsAt 1) turns.now first.0.items × AllZip (IsAt 2) turns.now first.1.items }
             ensures { IfOk result.0 (λ v. AllZip (IsAt 1) turns.entry.now v.items) × IfOk result.1 (λ v. AllZip (IsAt 2) turns.entry.now v.items) }
-        { two_walk(rt, shared, turns, gate, (path(1), path(2)), first) },
+        { two_walk(rt, shared, turns, gate, (PathNo::of(1), PathNo::of(2)), first) },
         || -> (Walked<V>, Walked<V>)
             requires { IsSync R.row × AllZip (IsAt 3) turns.now second.0.items × AllZip (IsAt 4) turns.now second.1.items }
             ensures { IfOk result.0 (λ v. AllZip (IsAt 3) turns.entry.now v.items) × IfOk result.1 (λ v. AllZip (IsAt 4) turns.entry.now v.items) }
-        { two_walk(rt, shared, turns, gate, (path(3), path(4)), second) },
+        { two_walk(rt, shared, turns, gate, (PathNo::of(3), PathNo::of(4)), second) },
     )
 }
 

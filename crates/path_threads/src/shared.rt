@@ -114,6 +114,35 @@ impl Shared {
     }
 }
 
+/// A track that had a frame when the pool had given so many.
+#[derive(Clone, Copy, Debug, PartialEq, Eq)]
+struct Recent {
+    track: TrackNo,
+    given: u64,
+}
+
+/// Of each device, the track that was touched last.
+#[derive(Drop)]
+struct Touched {
+    devices: [Option<Recent>; 16],
+}
+
+impl Touched {
+    fn none() -> Touched {
+        Touched {
+            devices: [None; 16],
+        }
+    }
+
+    fn is_last(&self, d: DeviceNo, track: TrackNo, given: u64) -> bool {
+        self.devices[usize::from(d.get() % 16)] == Some(Recent { track, given })
+    }
+
+    fn set(&mut self, d: DeviceNo, track: TrackNo, given: u64) {
+        self.devices[usize::from(d.get() % 16)] = Some(Recent { track, given });
+    }
+}
+
 /// The pool as the workers see it: locked for each call, and so never while a volume is called. It tells no pool.
 #[derive(Drop)]
 pub(crate) struct SharedPool<'a, R: Wait> {
@@ -122,6 +151,7 @@ pub(crate) struct SharedPool<'a, R: Wait> {
     given: &'a AtomicU64,
     /// Of each device, how many frames were given when it had no notice.
     heard: [u64; 16],
+    touched: Touched,
     denials: u64,
 }
 
@@ -132,6 +162,7 @@ impl<'a, R: Wait> SharedPool<'a, R> {
             pool: &shared.pool,
             given: &shared.given,
             heard: [u64::MAX; 16],
+            touched: Touched::none(),
             denials: 0,
         }
     }
@@ -154,8 +185,17 @@ impl<'a, R: Wait> Port for SharedPool<'a, R> {
         notice
     }
 
+    /// Takes the lock only where another track was touched before, or a frame was given since.
     fn touch(&mut self, d: DeviceNo, t: TrackNo) -> bool {
-        self.pool.lock(self.rt).touch(d, t)
+        let given = self.given.load(Ordering::SeqCst);
+        if self.touched.is_last(d, t, given) {
+            return true;
+        }
+        let is_there = self.pool.lock(self.rt).touch(d, t);
+        if is_there {
+            self.touched.set(d, t, given);
+        }
+        is_there
     }
 
     #[tactic(auto, unfolding(device_outside::specs::Volume::counted))]

@@ -9,6 +9,9 @@ use path_turns::{Came, DeviceSeat, DeviceTurn, Visitor, background_turn, path_tu
 use std::sync::Wait;
 use std::thread::yield_now;
 
+/// Between two rounds in the background.
+const LONGEST_PAUSE: u32 = 16;
+
 /// A path at one device, turn by turn, until nothing is left to do there.
 fn serve<R: Wait, V: Volume, G: Gate, P: Port>(
     rt: &R,
@@ -63,24 +66,46 @@ pub(crate) fn walk<R: Wait, V: Volume, G: Gate>(
     Ok(seats)
 }
 
-/// A round in the background, and whether every device is finished and rests.
+/// What came of two devices: over where both are, and gone where one went.
+fn both(one: Came, other: Came) -> Came {
+    match one {
+        Came::Went => Came::Went,
+        Came::Over => other,
+        Came::Again => {
+            if other == Came::Went {
+                Came::Went
+            } else {
+                Came::Again
+            }
+        }
+    }
+}
+
+/// A round in the background. Over where every device is finished and rests.
 fn round<V: Volume, P: Port>(
     turns: &[DeviceTurn<V>],
     seats: &mut [DeviceSeat<V>],
     port: &mut P,
-) -> Result<bool, NoMemory>
+) -> Result<Came, NoMemory>
     requires { AllZip (IsAt 5) turns.now seats.old }
     ensures { OnOk result (AllZip (IsAt 5) turns.now seats.new) }
 {
-    let mut over = true;
+    let mut came = Came::Over;
     for i in 0..turns.len() {
-        let came = background_turn(&turns[i], &mut seats[i], port)?;
-        over = over && came == Came::Over;
+        let now = background_turn(&turns[i], &mut seats[i], port)?;
+        came = both(came, now);
     }
-    Ok(over)
+    Ok(came)
 }
 
-/// The worker of the background: round by round, until every device is finished and rests.
+/// Gives way so many times.
+fn give_way(times: u32) {
+    for _ in 0..times {
+        yield_now();
+    }
+}
+
+/// The worker of the background: round by round, until every device is finished and rests. Where nothing is to do it looks ever less often.
 pub(crate) fn work_behind<R: Wait, V: Volume>(
     rt: &R,
     shared: &Shared,
@@ -91,15 +116,18 @@ pub(crate) fn work_behind<R: Wait, V: Volume>(
     ensures { IfOk result (λ v. AllZip (IsAt 5) turns.now v.items) }
 {
     let mut port = SharedPool::new(rt, shared);
+    let mut pause: u32 = 1;
     for _ in rt.forever() {
         if shared.is_stopped() {
             return Err(NoMemory);
         }
         match round(turns, &mut seats, &mut port) {
             Err(NoMemory) => return shared.stop(),
-            Ok(true) => return Ok(seats),
-            Ok(false) => yield_now(),
+            Ok(Came::Over) => return Ok(seats),
+            Ok(Came::Went) => pause = 1,
+            Ok(Came::Again) => pause = pause.saturating_mul(2).min(LONGEST_PAUSE),
         }
+        give_way(pause);
     }
     unreachable!()
 }

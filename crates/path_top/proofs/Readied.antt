@@ -1,5 +1,5 @@
 -- The devices of a deck behind its first pairs are ready for the run of their paths.
-use Rattle.std.proofs.Common.{◌≡◌, ◌<◌, ◌≤◌, ◌∙◌, ℕ, zero, suc, Bool, true, false, List, [], ◌∷◌, length, map, Option, Some, None, is_some, refl, sym, ap, subst, arith, le_of_eq}
+use Rattle.std.proofs.Common.{◌≡◌, ◌<◌, ◌≤◌, ◌∙◌, ℕ, zero, suc, true, List, [], ◌∷◌, length, map, Option, Some, None, is_some, refl, sym, ap, subst, arith, le_of_eq}
 use Rattle.std.proofs.lemmas.Bool.{and_from}
 use Rattle.std.specs.Prelude.{◌&&◌, slice_index_or}
 use Rattle.std.specs.List.{AllZip}
@@ -9,7 +9,6 @@ use Rattle.deck_text.specs.Plans.{plans_of}
 use Rattle.plain_defs.specs.History.{History, no_history}
 use Rattle.plain_defs.specs.PlainState.{PlainState, empty_state}
 use Rattle.device_outside.specs.declared.volume.Volume.{Ghosts}
-use Rattle.device_outside.specs.After.{Tells}
 use Rattle.device_outside.specs.Both.{SideTold}
 use Rattle.device_outside.specs.Outside.{Outside, no_pool}
 use Rattle.device_outside.specs.Told.{Calls}
@@ -19,7 +18,8 @@ use Rattle.device_laws.specs.Lent.{in_order, is_away}
 use Rattle.device_laws.specs.Lent as lent
 use Rattle.device_laws.specs.Whole.{marks_device}
 use Rattle.device_laws.proofs.PlainTurns.{Follows}
-use Rattle.turn_laws.specs.Standing.{GiveBytes, Stands}
+use Rattle.plain_defs.specs.Whole.{GiveBytes}
+use Rattle.turn_laws.specs.Standing.{Stands}
 use Rattle.device_core.specs.declared.device.Device.{Device}
 use Rattle.device_core.specs.State.{device_of}
 use Rattle.subsystem_core.specs.declared.subsystem.Subsystem.{Subsystem}
@@ -28,6 +28,7 @@ use Rattle.subsystem_laws.specs.Excused.{has_fresh}
 use Rattle.subsystem_laws.specs.CameAbout.{CameAbout}
 use Rattle.subsystem_laws.proofs.Walks.{AreSo}
 use Rattle.subsystem_laws.specs.WholeStood.{Stood, IsMounted, is_mounted, AreMountedBy, one_more}
+use Rattle.subsystem_laws.proofs.AllSound.{side_tells}
 use Rattle.deck_run.specs.Owning.{AllOwn}
 use Rattle.deck_run.specs.Standing.{StandsAs, all_stood, stood_of}
 use Rattle.path_turns.proofs.Pooled.{untold_order}
@@ -38,10 +39,6 @@ use Rattle.path_top.proofs.Failing.{failing_in, planned}
 use Rattle.path_top.proofs.NewDevices.{AreNew, AreNewWith, IsNew}
 
 -- A device that is mounted
-
-side_tells : (v : Option (VolumeView (List ℕ))) (l : List (List ℕ)) (u : Calls) → SideTold v l u → Tells v l
-side_tells None l u told = tt
-side_tells (Some v) l u told = told.contents
 
 some_so : {X : Type 0} (o : Option X) (x : X) → o ≡ Some x → is_some o ≡ true
 some_so (Some y) x e = refl

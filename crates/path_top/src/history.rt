@@ -1,6 +1,6 @@
 //! The history of some devices: of each its journal, the programs that weren't started, and its lost tracks.
 
-ghost use Rattle.std.specs.Prelude.{◌≡◌, ◌≤◌, ◌++◌, ◌∷◌, [], None, map};
+ghost use Rattle.std.specs.Prelude.{◌≡◌, ◌++◌, ◌∷◌, [], None, map};
 ghost use Rattle.std.specs.List.{flat_map};
 ghost use Rattle.ckd_outside.specs.Causes.{HasCause};
 ghost use Rattle.ckd_outside.specs.Texts.{Puts, Writes};
@@ -39,14 +39,6 @@ fn put_left<V: Volume, K: Sink>(
     }
 }
 
-fn path(number: u8) -> PathNo
-    requires least { 1 ≤ number }
-    requires most { number ≤ 4 }
-    ensures { result ≡ number }
-{
-    PathNo::new(number).unwrap()
-}
-
 fn put_all_left<V: Volume, K: Sink>(
     sink: &mut K,
     buffer: &mut LineBuffer,
@@ -57,7 +49,7 @@ fn put_all_left<V: Volume, K: Sink>(
     ensures cause { HasCause (K.faults sink.old) (K.faults sink.new) result }
 {
     for number in 1..5 {
-        put_left(sink, buffer, device, path(number))?;
+        put_left(sink, buffer, device, PathNo::of(number))?;
     }
     Ok(())
 }

@@ -1,9 +1,8 @@
 //! The lines of a device's journal.
 
-ghost use Rattle.std.specs.Prelude.{◌≡◌, ◌++◌, ◌∷◌, []};
+ghost use Rattle.std.specs.Prelude.{◌≡◌, ◌++◌};
 ghost use Rattle.ckd_outside.specs.Causes.{HasCause};
 ghost use Rattle.ckd_outside.specs.Texts.{Puts};
-ghost use Rattle.plain_defs.specs.Loose.{next_number};
 ghost use Rattle.plain_defs.specs.declared.journal.Item.TheVariants as items;
 ghost use Rattle.report_text.specs.Ends.{data_lines, end_line, lines_text, sense_lines};
 ghost use Rattle.report_text.specs.Events.{ended_lines};
@@ -13,8 +12,8 @@ use crate::line::put_line;
 use ckd_outside::{Failed, LineBuffer, Sink};
 use ckd_types::{CommandEnd, DeviceNo, Sense};
 use deck_run::loosed_by;
-use plain_defs::{Act, Acted, Entry, Item};
-use report_text::{EndLine, ReportLine, put_data};
+use plain_defs::{Act, Acted, Entry, Item, next_number};
+use report_text::{EndLine, ReportLine, end_line, put_data};
 use run_report::how_over;
 
 /// How many tracks of a device are loose, and the number of its data of cache fast write.
@@ -22,12 +21,6 @@ use run_report::how_over;
 pub(crate) struct LooseCount {
     pub tracks: u16,
     pub number: u16,
-}
-
-fn next_number(n: u16) -> u16
-    ensures { result ≡ next_number n }
-{
-    if n == u16::MAX { 0 } else { n + 1 }
 }
 
 fn loose_behind(loose: LooseCount, act: &Act) -> LooseCount
@@ -135,18 +128,10 @@ fn put_sent_and_sense<K: Sink>(
     put_sense(sink, buffer, &end.sense)
 }
 
-fn end_line(d: DeviceNo, entry: &Entry, end: &CommandEnd) -> EndLine
+fn line_of(d: DeviceNo, entry: &Entry, end: &CommandEnd) -> EndLine
     ensures { result ≡ end_line entry.now.path d entry.now.ordinal end.now }
 {
-    EndLine {
-        path: entry.path,
-        device: d,
-        ordinal: entry.ordinal,
-        index: end.index,
-        status: end.status,
-        residual: end.residual,
-        note: end.note,
-    }
+    end_line(entry.path, d, entry.ordinal, end)
 }
 
 fn put_end<K: Sink>(
@@ -159,7 +144,7 @@ fn put_end<K: Sink>(
     ensures bytes { Puts (K.held sink.old) buffer.old (K.held sink.new) buffer.new result (lines_text (ended_lines entry.now.path d entry.now.ordinal end.now)) }
     ensures cause { HasCause (K.faults sink.old) (K.faults sink.new) result }
 {
-    put_line(sink, buffer, &ReportLine::End(end_line(d, entry, end)))?;
+    put_line(sink, buffer, &ReportLine::End(line_of(d, entry, end)))?;
     put_sent_and_sense(sink, buffer, end)
 }
 

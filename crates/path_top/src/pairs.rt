@@ -1,6 +1,6 @@
 //! The PAIR lines that stand before the first START line.
 
-ghost use Rattle.std.specs.Prelude.{◌≡◌, IfOk, OnOk, count_by, fold, length, true};
+ghost use Rattle.std.specs.Prelude.{◌≡◌, OnOk, count_by, fold, length, true};
 ghost use Rattle.deck_run.specs.Opening.{are_open_lines, is_open_line};
 ghost use Rattle.deck_run.specs.Owning.{AreOwn};
 ghost use Rattle.deck_run.specs.Standing.{StandsAs};

@@ -1,4 +1,4 @@
-ghost use Rattle.std.specs.Prelude.{◌≡◌, ◌≢◌, ◌⊎◌, ◌≤◌, ◌++◌, ◌∷◌, [], Ok, Err, Some, true, map, List, Option, ℕ};
+ghost use Rattle.std.specs.Prelude.{◌≡◌, ◌≢◌, ◌⊎◌, ◌≤◌, Ok, Err, Some, true, map, List, Option, ℕ};
 ghost use Rattle.ckd_outside.specs.Causes.{Rose};
 ghost use Rattle.deck_text.specs.DeckLines.{DeckLines};
 ghost use Rattle.deck_text.specs.Parse.{parsed};
@@ -10,14 +10,11 @@ use crate::history::write_history;
 use crate::run::{run_deck, unused_of};
 use ckd_outside::{ReadError, Sink, Source, read_up_to};
 use deck_text::{Deck, DeckFault, DeckWhy, Which, read_deck, write_limit, write_refused};
-use deck_top::{Status, write_usage};
+use deck_top::{MOST_READ, Status, write_usage};
 use device_outside::Gate;
 use std::alloc::Global;
 use std::sync::Wait;
 use std::thread::Threads;
-
-/// One byte more than a deck may have.
-const MOST_READ: usize = 16_777_217;
 
 fn refuse<K: Sink>(sink: &mut K, line: u32, why: DeckWhy) -> Status
     ensures told { TellsDeck result (Err (DeckFault.Refused line why)) (K.held sink.old) (K.held sink.new) }

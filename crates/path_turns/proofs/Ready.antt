@@ -17,7 +17,8 @@ use Rattle.device_laws.specs.Handed.{allowance_in}
 use Rattle.device_laws.specs.Whole.{WholeDevice}
 use Rattle.device_laws.proofs.KeptHistories.{AreNot, count_more}
 use Rattle.device_turn.specs.Rule.{zeros}
-use Rattle.turn_laws.specs.Standing.{GiveBytes, Stands}
+use Rattle.plain_defs.specs.Whole.{GiveBytes}
+use Rattle.turn_laws.specs.Standing.{Stands}
 use Rattle.turn_laws.proofs.NewDevice.{new_stands}
 use Rattle.device_core.specs.declared.device.Device.{Device}
 use Rattle.device_core.specs.State.{device_of, opened_device}

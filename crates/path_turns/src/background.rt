@@ -34,14 +34,17 @@ fn is_own<V: Volume>(device: &Device<V>) -> bool
     }
 }
 
-/// Over where the device is finished and rests.
+/// Over where the device is finished and rests; where it rests until others did something, again.
 fn rested<V: Volume>(device: &Device<V>, rests: bool) -> Came
     ensures { result ≡ Over → is_done (device_of device.now) ≡ true }
 {
-    if rests && device.finished() {
+    if !rests {
+        return Came::Went;
+    }
+    if device.finished() {
         Came::Over
     } else {
-        Came::Went
+        Came::Again
     }
 }
 

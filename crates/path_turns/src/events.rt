@@ -22,7 +22,7 @@ use device_outside::{Gate, Port, Volume};
 pub enum Came {
     /// An event was done.
     Went,
-    /// Others have the device, or hold it: this one tries again.
+    /// Others have the device, or hold it, or it waits for what others do: this one tries again.
     Again,
     /// Nothing is left to do here.
     Over,

@@ -46,10 +46,7 @@ pub fn path_turn<V: Volume, P: Port, G: Gate>(
     match turn.enter(seat) {
         Enter::Taken { .. } => Ok(Came::Again),
         Enter::Got(mut device) => {
-            let came = match path_visit(&mut device, visitor, port) {
-                Err(NoMemory) => return Err(NoMemory),
-                Ok(came) => came,
-            };
+            let came = path_visit(&mut device, visitor, port)?;
             turn.leave(seat, device);
             Ok(came)
         }
@@ -68,10 +65,7 @@ pub fn background_turn<V: Volume, P: Port>(
     match turn.enter(seat) {
         Enter::Taken { .. } => Ok(Came::Again),
         Enter::Got(mut device) => {
-            let came = match background_visit(&mut device, port) {
-                Err(NoMemory) => return Err(NoMemory),
-                Ok(came) => came,
-            };
+            let came = background_visit(&mut device, port)?;
             turn.leave(seat, device);
             Ok(came)
         }

@@ -1,3 +1,6 @@
+ghost use Rattle.std.specs.Prelude.{◌≡◌};
+ghost use Rattle.plain_defs.specs.Loose.{next_number};
+
 use ckd_types::{EndList, Growing, PathNo, TrackNo};
 use std::marker::Model;
 
@@ -61,3 +64,10 @@ pub enum Item {
 
 /// All that happened to a device, in its kept order.
 pub type Journal = Growing<Item>;
+
+/// The number that a device's data of cache fast write have once some are lost (own): from 65,535 it goes to 0.
+pub fn next_number(n: u16) -> u16
+    ensures { result ≡ next_number n }
+{
+    if n == u16::MAX { 0 } else { n + 1 }
+}

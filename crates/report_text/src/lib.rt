@@ -24,7 +24,7 @@ pub use keyword::{Keyword, keyword_text};
 pub use line::{EndLine, ReportLine};
 pub use numbers::number_in;
 pub use order::Order;
-pub use record::RunRecord;
+pub use record::{RunRecord, end_line};
 pub use report::{DeviceEnd, FrameEnd, write_report};
 pub use report_lines::{LineSpelling, put_data};
 pub use spelled::Respelling;

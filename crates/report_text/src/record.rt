@@ -55,7 +55,8 @@ impl Model for RunRecord {
     ghost invariant = { λ r. IsSpent r.kept.items r.bytes.items r.others.items };
 }
 
-fn end_line(path: PathNo, device: DeviceNo, ordinal: u16, end: &CommandEnd) -> EndLine
+/// The END line of a command of this program.
+pub fn end_line(path: PathNo, device: DeviceNo, ordinal: u16, end: &CommandEnd) -> EndLine
     ensures { result ≡ end_line path device ordinal end.now }
 {
     EndLine {

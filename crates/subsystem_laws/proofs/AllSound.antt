@@ -1,5 +1,5 @@
 -- Devices that stand as a run has them, each with the history of a plain device, are sound.
-use Rattle.std.proofs.Common.{◌≡◌, ◌<◌, ℕ, Bool, true, false, List, Option, Some, None, is_some, refl, sym, ap, subst}
+use Rattle.std.proofs.Common.{◌≡◌, ◌<◌, ℕ, Bool, true, false, List, Option, Some, None, is_some, sym, ap, subst}
 use Rattle.ckd_types.specs.declared.record.Track.{Track}
 use Rattle.ckd_types.specs.Volume.{track_in}
 use Rattle.plain_defs.specs.History.{plain_of}
@@ -22,7 +22,7 @@ use Rattle.subsystem_laws.specs.AllSound.{StandsSound, AreSound}
 use Rattle.subsystem_laws.specs.WholeStood.{Stood, IsMounted, is_mounted, AreMountedBy, no_more, one_more}
 use Rattle.subsystem_laws.proofs.PlainRuns.{ArePlain, Plainly}
 
-side_tells : (v : Option (VolumeView (List ℕ))) (l : List (List ℕ)) (u : Calls) → SideTold v l u → Tells v l
+pub side_tells : (v : Option (VolumeView (List ℕ))) (l : List (List ℕ)) (u : Calls) → SideTold v l u → Tells v l
 side_tells None l u told = tt
 side_tells (Some v) l u told = told.contents
 
@@ -42,17 +42,20 @@ module _ (v w : List Track) (d : WholeDevice) (h : Held) (of : IsOf (plain_devic
         (subst (λ (x : Image). IsHeld d.store h t (image_in d.store v t) x) (firm_is t) (i.agrees.held t lt));
   }
 
-  at_home : (b : Bool) → is_some d.store.lent ≡ b → b ≡ false → IsInOrder v w d.store h →
+  at_home : (b : Bool) → b ≡ false → IsInOrder v w d.store h →
       elim b as (λ (x : Bool). Type 0) [ true ↦ Unit {0} | false ↦ (t : ℕ) → t < tracks_of d.store → IsSoundAt d h t ]
-  at_home true is free i = tt
-  at_home false is free i = sound_at i
+  at_home true free i = tt
+  at_home false free i = sound_at i
+
+  pub in_order_sound : IsInOrder v w d.store h → IsSound d h
+  in_order_sound i = at_home (is_some d.store.lent) i.free i
 
   away : (b : Bool) → b ≡ true → elim b as (λ (x : Bool). Type 0) [ true ↦ Unit {0} | false ↦ (t : ℕ) → t < tracks_of d.store → IsSoundAt d h t ]
   away true is = tt
   away false is = absurd (cc)
 
   stands_sound : Stands v w d h → IsSound d h
-  stands_sound (in_order i) = at_home (is_some d.store.lent) refl i.free i
+  stands_sound (in_order i) = in_order_sound i
   stands_sound (is_away l) = away (is_some d.store.lent) l.store.lent
 
 one_sound : {mine : List ℕ} {x : Stood} {m : Mounted} → IsMounted mine x m → Plainly m.device → StandsSound x

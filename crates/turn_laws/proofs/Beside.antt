@@ -11,7 +11,7 @@ use Rattle.ckd_chain.specs.State.{ChainState}
 use Rattle.plain_defs.specs.History.{OpenEntry, IsOpen}
 use Rattle.plain_defs.specs.Journal.{Plans, replay}
 use Rattle.plain_defs.specs.PlainState.{PlainState, empty_state}
-use Rattle.plain_defs.specs.Whole.{GivesBytes}
+use Rattle.plain_defs.specs.Whole.{GiveBytes, GivesBytes}
 use Rattle.track_image.specs.Image.{Image}
 use Rattle.device_outside.specs.Interaction.{Interaction}
 use Rattle.device_outside.specs.Keeper.{Hearing, Message, ReplyTo, reply}
@@ -49,7 +49,7 @@ use Rattle.device_laws.proofs.WholeCommand.{command_whole}
 use Rattle.device_laws.proofs.WholeParts.{background_whole, loss_whole, second_whole, start_order, start_fault_same}
 use Rattle.subsystem_laws.specs.Came.{CameTo}
 use Rattle.subsystem_laws.proofs.Came.{came_had}
-use Rattle.turn_laws.specs.Standing.{GiveBytes, IsBeside, Untold}
+use Rattle.turn_laws.specs.Standing.{IsBeside, Untold}
 use Rattle.turn_laws.proofs.Untold.{twinned}
 
 itself : (d : WholeDevice) → Continues d.plans d.history d

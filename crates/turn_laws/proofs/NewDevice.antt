@@ -15,7 +15,8 @@ use Rattle.device_laws.proofs.PlainTurns.{Follows}
 use Rattle.subsystem_laws.specs.CameAbout as about
 use Rattle.subsystem_laws.specs.CameAbout.{CameAbout}
 use Rattle.subsystem_laws.specs.WholeStood.{opened}
-use Rattle.turn_laws.specs.Standing.{GiveBytes, Stands}
+use Rattle.plain_defs.specs.Whole.{GiveBytes}
+use Rattle.turn_laws.specs.Standing.{Stands}
 
 pub new_stands : {K : Type 0} (d : ℕ) (g : Geometry) (n : ℕ) (plans : Plans) (u : Outside (List ℕ) K) → 1 ≤ n → n ≤ 64 →
     Tells u.a (empty_contents (n * 15)) → Tells u.b [] → GiveBytes plans → Stands (opened d g n plans) u

@@ -2,14 +2,11 @@
 use Rattle.std.specs.Prelude.{◌≡◌, ◌≤◌, ℕ, false, true, List, Option, None, Some}
 use Rattle.ckd_chain.specs.Facts.{IsChain}
 use Rattle.ckd_chain.specs.State.{ChainState}
-use Rattle.ckd_types.specs.Ccw.{ccw_at}
-use Rattle.ckd_types.specs.declared.channel.Ccw.{Ccw}
 use Rattle.ckd_types.specs.declared.record.Track.{Track}
 use Rattle.loss_model.specs.declared.Loss.{Loss}
 use Rattle.plain_defs.specs.History.{OpenEntry}
-use Rattle.plain_defs.specs.Journal.{Plans, program_of}
 use Rattle.plain_defs.specs.PlainState.{empty_state}
-use Rattle.plain_defs.specs.Whole.{GivesBytes}
+use Rattle.plain_defs.specs.Whole.{GiveBytes}
 use Rattle.track_image.specs.Image.{Image}
 use Rattle.device_outside.specs.declared.keep.NoKeep.{NoKeep}
 use Rattle.device_outside.specs.After.{Holdings, Tells}
@@ -29,14 +26,6 @@ use Rattle.device_laws.specs.Whole.{WholeDevice, marks_device}
 use Rattle.device_laws.proofs.PlainTurns.{Follows}
 use Rattle.subsystem_laws.specs.CameAbout.{CameAbout}
 use Rattle.subsystem_laws.specs.Excused.{has_fresh}
-
--- each of a program's words gives bytes
-abbrev pub GivesAll : List Ccw → Type 0
-GivesAll ccws = (i : ℕ) → GivesBytes (ccw_at ccws i)
-
--- so do all programs of four paths
-abbrev pub GiveBytes : Plans → Type 0
-GiveBytes plans = (path ordinal : ℕ) → 1 ≤ path → path ≤ 4 → GivesAll (program_of plans path ordinal)
 
 -- the volumes tell these holdings, and of slots nothing is told
 pub record Untold {R K : Type 0} (w : Outside R K) (h : Holdings R) : Type 0 where

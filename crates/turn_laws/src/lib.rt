@@ -33,7 +33,8 @@ ghost use Rattle.device_laws.specs.Agrees.{Held};
 ghost use Rattle.device_laws.specs.Whole.{WholeDevice};
 ghost use Rattle.subsystem_defs.specs.Refusals.{replace_fault, suspend_fault};
 ghost use Rattle.subsystem_laws.specs.WholeStood.{opened};
-ghost use Rattle.turn_laws.specs.Standing.{GiveBytes, IsBeside, IsKept, Stands};
+ghost use Rattle.plain_defs.specs.Whole.{GiveBytes};
+ghost use Rattle.turn_laws.specs.Standing.{IsBeside, IsKept, Stands};
 
 /// Behind a start that isn't refused, a command, a second part, what the device does by itself and a loss, whatever the port answers and whichever calls
 /// fail, the device is beside the plain device of its history, where memory was had and its volumes tell what they hold; and it goes on to have come

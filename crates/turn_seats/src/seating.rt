@@ -107,6 +107,7 @@ pub fn clear<H: Holder<P>, P>(setting: Setting<H, P>) -> H
 }
 
 impl<H: Holder<P>, P> Table<H, P> {
+    /// No turns.
     pub fn new(alloc: Global) -> Table<H, P>
         ensures set { AreSet result }
         ensures none { result.operator.items ≡ [] }
@@ -124,6 +125,7 @@ impl<H: Holder<P>, P> Table<H, P> {
         }
     }
 
+    /// Adds a turn behind the others, and each worker's seat at it. Where memory is wanting the table is spoiled.
     pub fn push(&mut self, setting: Setting<H, P>) -> Result<(), NoMemory>
         requires old { AreSet self.old }
         requires more { IsSet setting }
@@ -149,6 +151,7 @@ impl<H: Holder<P>, P> Table<H, P> {
         Ok(())
     }
 
+    /// Takes the last turn out, with its seats.
     pub fn pop(&mut self) -> Setting<H, P>
         requires some { 0 < vec_len self.old.turns }
         requires set { AreSet self.old }

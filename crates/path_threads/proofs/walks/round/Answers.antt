@@ -18,5 +18,5 @@ pub loop-i-preserved : goal.loop-i-preserved
 loop-i-preserved g c =
     let at = zip_at (IsAt 5) c.args.turns.now c.loop-i.seats c.loop-i.i c.index-turns-i.result c.index-seats-i.result c.loop-i.invariant.0 c.loop-i-test.true in
     let rests = rests_at 5 (slice_index_or c.args.turns.now c.loop-i.i c.index-turns-i.result) (slice_index_or c.loop-i.seats c.loop-i.i c.index-seats-i.result)
-    c.background_turn.new.seat at c.in_ok-came.ensures.rests in
+    c.background_turn.new.seat at c.in_ok-now.ensures.rests in
     (zip_set (IsAt 5) c.args.turns.now c.loop-i.seats c.loop-i.i c.index-turns-i.result c.background_turn.new.seat c.loop-i.invariant.0 rests, refl)

@@ -5,4 +5,4 @@ use Rattle.path_turns.proofs.turns.background_turn.Goals as goal
 pub leave-requires-clause-keeps : goal.leave-requires-clause-keeps
 leave-requires-clause-keeps g c =
     may_leave 5 c.args.seat.now.seat.me c.enter.new.seat.seat.me c.in-Got.device c.background_visit.new.device c.in-Got.ensures.entered
-    (c.enter.new.seat.numbered ∙ (c.in-Got.ensures.own.2 ∙ c.requires.at.number_is)) c.in-Ok.ensures.moves
+    (c.enter.new.seat.numbered ∙ (c.in-Got.ensures.own.2 ∙ c.requires.at.number_is)) c.in_ok-came-in-Got.ensures.moves

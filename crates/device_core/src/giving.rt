@@ -1,7 +1,8 @@
-ghost use Rattle.std.specs.Prelude.{◌≡◌, ◌<◌, ◌≤◌, ℕ, All};
+//! What programs of bytes are.
+
+ghost use Rattle.std.specs.Prelude.{◌≡◌, ◌<◌, ℕ, All};
 ghost use Rattle.plain_defs.specs.Journal.{program_of};
-ghost use Rattle.plain_defs.specs.Whole.{GivesBytes};
-ghost use Rattle.turn_laws.specs.Standing.{GiveBytes, GivesAll};
+ghost use Rattle.plain_defs.specs.Whole.{GiveBytes, GivesAll, GivesBytes};
 
 use ckd_ccw::Program;
 use ckd_types::{Ccw, PathNo};
@@ -35,20 +36,12 @@ fn path_gives(plans: &PathPlans, path: PathNo)
     }
 }
 
-fn path_of(n: u8) -> PathNo
-    requires least { 1 ≤ n }
-    requires most { n ≤ 4 }
-    ensures { result ≡ n }
-{
-    PathNo::new(n).unwrap()
-}
-
 /// The words of the programs of four paths give bytes. No code but for the proof.
 pub fn plans_give(plans: &PathPlans)
     ensures { GiveBytes plans.now }
 {
-    path_gives(plans, path_of(1));
-    path_gives(plans, path_of(2));
-    path_gives(plans, path_of(3));
-    path_gives(plans, path_of(4));
+    path_gives(plans, PathNo::of(1));
+    path_gives(plans, PathNo::of(2));
+    path_gives(plans, PathNo::of(3));
+    path_gives(plans, PathNo::of(4));
 }

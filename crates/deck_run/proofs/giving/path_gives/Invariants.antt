@@ -1,8 +1,0 @@
-use Rattle.std.proofs.Common.{◌≡◌, ◌<◌, [], ℕ, length}
-use Rattle.std.specs.Prelude.{slice_index_or}
-use Rattle.deck_plan.specs.Plans.{plan_of}
-use Rattle.deck_run.specs.Owning.{GivesAll}
-use Rattle.deck_run.proofs.giving.path_gives.Given as goal
-
-abbrev pub invariant-loop-i : goal.invariant-loop-i
-invariant-loop-i l = ((k : ℕ) → k < l.i → GivesAll (slice_index_or (plan_of l.plans l.path) k [])) × (l.i-end ≡ length (plan_of l.plans l.path))
