@@ -8,7 +8,7 @@ ghost use Rattle.turn_seats.specs.Seating.{AreSet, IsSet};
 
 use crate::allowed::allowed;
 use crate::orders::Order;
-use ckd_types::{DeviceNo, NoMemory};
+use ckd_types::{DeviceNo, NoMemory, PathNo};
 use device_core::Device;
 use device_defs::Losses;
 use device_outside::Volume;
@@ -17,11 +17,19 @@ use std::alloc::Global;
 use std::snapshot::Snapshot;
 use turn_seats::{Setting, Table, clear, set};
 
-/// Which device stands in a turn, and how many losses it may have.
+/// Which device stands in a turn, how many losses it may have, and how many programs of each path wait there.
 #[derive(Clone, Copy, Debug, PartialEq, Eq)]
 pub(crate) struct Place {
     pub number: DeviceNo,
     pub most: Losses,
+    pub left: [u16; 4],
+}
+
+impl Place {
+    /// A program of this path waits there.
+    pub fn waits_for(&self, path: PathNo) -> bool {
+        self.left[usize::from(path.get() - 1)] > 0
+    }
 }
 
 type DeviceSetting<V> = Setting<Device<V>, Promise<V>>;
@@ -34,6 +42,15 @@ fn most_of<V: Volume>(device: &Device<V>, orders: &[Order<V>]) -> Losses
     ensures more { IsWithin device.now.store.counts.losses result }
 {
     allowed(device.losses(), device.number(), orders)
+}
+
+fn left_of<V: Volume>(device: &Device<V>) -> [u16; 4] {
+    [
+        device.left(PathNo::of(1)),
+        device.left(PathNo::of(2)),
+        device.left(PathNo::of(3)),
+        device.left(PathNo::of(4)),
+    ]
 }
 
 /// A device stands in a turn.
@@ -71,9 +88,10 @@ pub(crate) fn set_all<V: Volume>(
         let device = devices.remove(0);
         let number = device.number();
         let most = most_of(&device, orders);
+        let left = left_of(&device);
         let setting = set_one(alloc, device, most)?;
         table.push(setting)?;
-        places.push(Place { number, most })?;
+        places.push(Place { number, most, left })?;
     }
     Ok((table, places))
 }

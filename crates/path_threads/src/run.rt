@@ -38,6 +38,7 @@ fn two_walk<R: Threads + Wait + Sync, V: Volume + Send, G: Gate + Sync>(
     shared: &Shared,
     turns: &[DeviceTurn<V>],
     gate: &G,
+    places: &[Place],
     paths: (PathNo, PathNo),
     seats: (Row<V>, Row<V>),
 ) -> (Walked<V>, Walked<V>)
@@ -53,11 +54,11 @@ fn two_walk<R: Threads + Wait + Sync, V: Volume + Send, G: Gate + Sync>(
         || -> Walked<V>
             requires { IsSync R.row × AllZip (IsAt one) turns.now a.items }
             ensures { IfOk result (λ v. AllZip (IsAt one) turns.entry.now v.items) }
-        { walk(rt, shared, turns, a, one, gate) },
+        { walk(rt, shared, turns, a, places, one, gate) },
         || -> Walked<V>
             requires { IsSync R.row × AllZip (IsAt two) turns.now b.items }
             ensures { IfOk result (λ v. AllZip (IsAt two) turns.entry.now v.items) }
-        { walk(rt, shared, turns, b, two, gate) },
+        { walk(rt, shared, turns, b, places, two, gate) },
     )
 }
 
@@ -66,6 +67,7 @@ fn four_walk<R: Threads + Wait + Sync, V: Volume + Send, G: Gate + Sync>(
     shared: &Shared,
     turns: &[DeviceTurn<V>],
     gate: &G,
+    places: &[Place],
     first: (Row<V>, Row<V>),
     second: (Row<V>, Row<V>),
 ) -> ((Walked<V>, Walked<V>), (Walked<V>, Walked<V>))
@@ -79,11 +81,11 @@ fn four_walk<R: Threads + Wait + Sync, V: Volume + Send, G: Gate + Sync>(
         || -> (Walked<V>, Walked<V>)
             requires { IsSync R.row × AllZip (IsAt 1) turns.now first.0.items × AllZip (IsAt 2) turns.now first.1.items }
             ensures { IfOk result.0 (λ v. AllZip (IsAt 1) turns.entry.now v.items) × IfOk result.1 (λ v. AllZip (IsAt 2) turns.entry.now v.items) }
-        { two_walk(rt, shared, turns, gate, (PathNo::of(1), PathNo::of(2)), first) },
+        { two_walk(rt, shared, turns, gate, places, (PathNo::of(1), PathNo::of(2)), first) },
         || -> (Walked<V>, Walked<V>)
             requires { IsSync R.row × AllZip (IsAt 3) turns.now second.0.items × AllZip (IsAt 4) turns.now second.1.items }
             ensures { IfOk result.0 (λ v. AllZip (IsAt 3) turns.entry.now v.items) × IfOk result.1 (λ v. AllZip (IsAt 4) turns.entry.now v.items) }
-        { two_walk(rt, shared, turns, gate, (PathNo::of(3), PathNo::of(4)), second) },
+        { two_walk(rt, shared, turns, gate, places, (PathNo::of(3), PathNo::of(4)), second) },
     )
 }
 
@@ -150,7 +152,7 @@ fn all_walk<R: Threads + Wait + Sync, V: Volume + Send, G: Gate + Sync>(
                 AllZip (IsAt 3) turns.now high.0.items × AllZip (IsAt 4) turns.now high.1.items }
             ensures { IfOk result.0.0 (λ v. AllZip (IsAt 1) turns.entry.now v.items) × IfOk result.0.1 (λ v. AllZip (IsAt 2) turns.entry.now v.items) ×
                 IfOk result.1.0 (λ v. AllZip (IsAt 3) turns.entry.now v.items) × IfOk result.1.1 (λ v. AllZip (IsAt 4) turns.entry.now v.items) }
-        { four_walk(rt, shared, turns, gate, low, high) },
+        { four_walk(rt, shared, turns, gate, places, low, high) },
         || -> (Walked<V>, Walked<V>)
             requires { IsSync R.row × AllZip (IsAt 5) turns.now background.items × AllZip IsHome turns.now operator.items ×
                 AllZip Allows places.now operator.items × All (IsSpareAt places.now operator.items) orders.items }

@@ -2,6 +2,7 @@ ghost use Rattle.std.specs.Prelude.{◌≡◌, IfOk, OnOk};
 ghost use Rattle.std.specs.List.{AllZip};
 ghost use Rattle.turn_seats.specs.Seating.{IsAt, Rests};
 
+use crate::places::Place;
 use crate::shared::{Shared, SharedPool};
 use ckd_types::{NoMemory, PathNo};
 use device_outside::{Gate, Port, Volume};
@@ -9,7 +10,7 @@ use path_turns::{Came, DeviceSeat, DeviceTurn, Visitor, background_turn, path_tu
 use std::sync::Wait;
 use std::thread::yield_now;
 
-/// Between two rounds in the background.
+/// How often the background gives way between two rounds, at most.
 const LONGEST_PAUSE: u32 = 16;
 
 /// A path at one device, turn by turn, until nothing is left to do there.
@@ -39,12 +40,21 @@ fn serve<R: Wait, V: Volume, G: Gate, P: Port>(
     unreachable!()
 }
 
-/// A path's worker: device by device, in rising order.
+/// Whether the path has something to do at this turn.
+fn is_due(places: &[Place], at: usize, path: PathNo) -> bool {
+    match places.get(at) {
+        Some(place) => place.waits_for(path),
+        None => false,
+    }
+}
+
+/// A path's worker: device by device, in rising order. Where it has no programs it passes by, and so waits for nobody there.
 pub(crate) fn walk<R: Wait, V: Volume, G: Gate>(
     rt: &R,
     shared: &Shared,
     turns: &[DeviceTurn<V>],
     mut seats: Vec<DeviceSeat<V>>,
+    places: &[Place],
     path: PathNo,
     gate: &G,
 ) -> Result<Vec<DeviceSeat<V>>, NoMemory>
@@ -54,14 +64,16 @@ pub(crate) fn walk<R: Wait, V: Volume, G: Gate>(
     let mut port = SharedPool::new(rt, shared);
     let mut visitor = Visitor::new(path, gate);
     for i in 0..turns.len() {
-        serve(
-            rt,
-            shared,
-            &turns[i],
-            &mut seats[i],
-            &mut visitor,
-            &mut port,
-        )?;
+        if is_due(places, i, path) {
+            serve(
+                rt,
+                shared,
+                &turns[i],
+                &mut seats[i],
+                &mut visitor,
+                &mut port,
+            )?;
+        }
     }
     Ok(seats)
 }
