@@ -81,11 +81,17 @@ fn four_walk<R: Threads + Wait + Sync, V: Volume + Send, G: Gate + Sync>(
         || -> (Walked<V>, Walked<V>)
             requires { IsSync R.row × AllZip (IsAt 1) turns.now first.0.items × AllZip (IsAt 2) turns.now first.1.items }
             ensures { IfOk result.0 (λ v. AllZip (IsAt 1) turns.entry.now v.items) × IfOk result.1 (λ v. AllZip (IsAt 2) turns.entry.now v.items) }
-        { two_walk(rt, shared, turns, gate, places, (PathNo::of(1), PathNo::of(2)), first) },
+        {
+            let paths = (PathNo::of(1), PathNo::of(2));
+            two_walk(rt, shared, turns, gate, places, paths, first)
+        },
         || -> (Walked<V>, Walked<V>)
             requires { IsSync R.row × AllZip (IsAt 3) turns.now second.0.items × AllZip (IsAt 4) turns.now second.1.items }
             ensures { IfOk result.0 (λ v. AllZip (IsAt 3) turns.entry.now v.items) × IfOk result.1 (λ v. AllZip (IsAt 4) turns.entry.now v.items) }
-        { two_walk(rt, shared, turns, gate, places, (PathNo::of(3), PathNo::of(4)), second) },
+        {
+            let paths = (PathNo::of(3), PathNo::of(4));
+            two_walk(rt, shared, turns, gate, places, paths, second)
+        },
     )
 }
 
