@@ -9,7 +9,7 @@ use ckd_types::NoMemory;
 use std::alloc::Global;
 use std::sync::Wait;
 use std::test::Fail;
-use std::thread::{Threads, join};
+use std::thread::{Threads, join, yield_now};
 
 type CountersTurn = Turn<Counters, u64>;
 
@@ -41,6 +41,7 @@ fn count_one<R: Wait>(rt: &R, turn: &CountersTurn, seat: &mut CountersSeat)
             turn.leave(seat, counted);
             return;
         }
+        yield_now();
     }
     unreachable!()
 }
@@ -56,6 +57,7 @@ fn wait_for<R: Wait>(rt: &R, turn: &CountersTurn, seat: &mut CountersSeat, other
         if turn.seen(seat, other) >= least {
             return;
         }
+        yield_now();
     }
     unreachable!()
 }
