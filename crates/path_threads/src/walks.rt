@@ -40,15 +40,32 @@ fn serve<R: Wait, V: Volume, G: Gate, P: Port>(
     unreachable!()
 }
 
-/// Whether the path has something to do at this turn.
-fn is_due(places: &[Place], at: usize, path: PathNo) -> bool {
-    match places.get(at) {
-        Some(place) => place.waits_for(path),
-        None => false,
+/// A path at the device of a place. Where none of its programs waits it passes by, and so waits for nobody.
+fn visit<R: Wait, V: Volume, G: Gate, P: Port>(
+    rt: &R,
+    shared: &Shared,
+    turn: &DeviceTurn<V>,
+    seat: &mut DeviceSeat<V>,
+    place: Option<&Place>,
+    visitor: &mut Visitor<G>,
+    port: &mut P,
+) -> Result<(), NoMemory>
+    requires at { IsAt visitor.old.path turn.now seat.old }
+    ensures path { visitor.new.path ≡ visitor.old.path }
+    ensures rests { OnOk result (Rests seat.old seat.new) }
+{
+    match place {
+        Some(place) => {
+            if place.waits_for(visitor.path) {
+                return serve(rt, shared, turn, seat, visitor, port);
+            }
+            Ok(())
+        }
+        None => Ok(()),
     }
 }
 
-/// A path's worker: device by device, in rising order. Where it has no programs it passes by, and so waits for nobody there.
+/// A path's worker: device by device, in rising order.
 pub(crate) fn walk<R: Wait, V: Volume, G: Gate>(
     rt: &R,
     shared: &Shared,
@@ -64,16 +81,15 @@ pub(crate) fn walk<R: Wait, V: Volume, G: Gate>(
     let mut port = SharedPool::new(rt, shared);
     let mut visitor = Visitor::new(path, gate);
     for i in 0..turns.len() {
-        if is_due(places, i, path) {
-            serve(
-                rt,
-                shared,
-                &turns[i],
-                &mut seats[i],
-                &mut visitor,
-                &mut port,
-            )?;
-        }
+        visit(
+            rt,
+            shared,
+            &turns[i],
+            &mut seats[i],
+            places.get(i),
+            &mut visitor,
+            &mut port,
+        )?;
     }
     Ok(seats)
 }
