@@ -10,13 +10,13 @@ pub returns-in_err-put_left-clause-bytes : goal.returns-in_err-put_left-clause-b
 returns-in_err-put_left-clause-bytes g c =
     puts_stopped _ _ _ _ _ _ _ c.from_residual.ensures.1
     (lines_stopped _ _ _ _ _ _ _ _ _ _ c.loop-number.invariant.0
-    (left_on c.args.device.now.store.number (left (device_of c.args.device.now)) c.loop-number.number c.path.result c.loop-number-test.true c.path.ensures)
+    (left_on c.args.device.now.store.number (left (device_of c.args.device.now)) c.loop-number.number c.of.result c.loop-number-test.true c.of.ensures)
     c.in_err-put_left.ensures.bytes)
 
 pub loop-number-preserved : goal.loop-number-preserved
 loop-number-preserved g c = (
   lines_more _ _ _ _ _ _ _ _ _ _ c.loop-number.invariant.0
-      (left_on c.args.device.now.store.number (left (device_of c.args.device.now)) c.loop-number.number c.path.result c.loop-number-test.true c.path.ensures)
+      (left_on c.args.device.now.store.number (left (device_of c.args.device.now)) c.loop-number.number c.of.result c.loop-number-test.true c.of.ensures)
       c.in_ok-put_left.ensures.bytes,
   omega (arith, c.loop-number.invariant.1, c.in_ok-put_left.ensures.cause.later),
   omega (arith, c.loop-number.invariant.2),
