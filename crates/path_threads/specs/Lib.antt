@@ -1,3 +1,4 @@
 pub mod Allowed
 pub mod Places
 pub mod Held
+pub mod Walks

@@ -9,11 +9,13 @@ use loss_model::Loss;
 use std::sync::atomic::{AtomicBool, AtomicU64, Ordering};
 use std::sync::{Mutex, Wait};
 
-/// What the workers share beside the turns: the pool, and whether one of them lacked memory.
+/// What the workers share beside the turns: the pool, and whether one of them lacked memory, or a thread.
 #[derive(Drop)]
 pub(crate) struct Shared {
     pub pool: Mutex<Pool>,
     pub lacks: AtomicBool,
+    /// A worker got no thread of its own.
+    pub few: AtomicBool,
     /// How many frames the pool gave. A device has a notice only where one was given since it had none.
     pub given: AtomicU64,
 }
@@ -77,6 +79,7 @@ impl Shared {
         Shared {
             pool: Mutex::new(pool),
             lacks: AtomicBool::new(false),
+            few: AtomicBool::new(false),
             given: AtomicU64::new(0),
         }
     }
@@ -85,6 +88,7 @@ impl Shared {
         let Shared {
             pool,
             lacks: _,
+            few: _,
             given: _,
         } = self;
         pool.into_inner()
@@ -111,6 +115,16 @@ impl Shared {
 
     pub fn is_stopped(&self) -> bool {
         self.lacks.load(Ordering::SeqCst)
+    }
+
+    /// A worker got no thread of its own: what others would wait for may never be done meanwhile.
+    pub fn lack_threads(&self) {
+        self.few.store(true, Ordering::SeqCst);
+    }
+
+    /// Whether a worker may wait for what another does.
+    pub fn may_wait(&self) -> bool {
+        !self.few.load(Ordering::SeqCst)
     }
 }
 
