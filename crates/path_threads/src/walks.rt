@@ -1,6 +1,7 @@
 ghost use Rattle.std.specs.Prelude.{◌≡◌, IfOk, OnOk};
 ghost use Rattle.std.specs.List.{AllZip};
 ghost use Rattle.turn_seats.specs.Seating.{IsAt, Rests};
+ghost use Rattle.path_threads.specs.Rounds.{both};
 
 use crate::places::Place;
 use crate::shared::{Shared, SharedPool};
@@ -103,7 +104,9 @@ pub(crate) fn walk<R: Wait, V: Volume, G: Gate>(
 }
 
 /// What came of two devices: over where both are, and gone where one went.
-fn both(one: Came, other: Came) -> Came {
+fn both(one: Came, other: Came) -> Came
+    ensures { result ≡ both one other }
+{
     match one {
         Came::Went => Came::Went,
         Came::Over => other,
