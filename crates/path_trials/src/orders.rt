@@ -9,9 +9,9 @@ use std::alloc::Global;
 use std::test::Fail;
 use subsystem_defs::Event;
 
-type Orders = Vec<Order<MemVolume>>;
+pub(crate) type Orders = Vec<Order<MemVolume>>;
 
-fn order(orders: &mut Orders, event: Event) -> Result<(), Fail>
+pub(crate) fn order(orders: &mut Orders, event: Event) -> Result<(), Fail>
     requires { All IsNew orders.old.items }
     ensures { OnOk result (All IsNew orders.new.items) }
 {

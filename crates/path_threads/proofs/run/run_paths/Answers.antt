@@ -10,8 +10,8 @@ use Rattle.path_threads.proofs.run.run_paths.Goals as goal
 
 pub clear_all-requires : goal.clear_all-requires
 clear_all-requires g c = record {
-  operator = zip_on IsHome Rests IsHome home_rests _ _ _ c.in_ok-table.ensures.set.operator c.in_ok-seats.ensures.operator;
-  seats = seated_on _ _ _ c.deref-2.ensures.value c.in_ok-seats.ensures.seats;
+  operator = zip_on IsHome Rests IsHome home_rests _ _ _ c.in_ok-table.ensures.set.operator (rested g c);
+  seats = c.in_ok-seats.ensures.seats;
 }
 
 pub all_walk-requires-clause-spare : goal.all_walk-requires-clause-spare
