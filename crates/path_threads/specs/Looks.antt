@@ -24,6 +24,5 @@ noted_touch l d track given is_there =
 abbrev pub is_quiet : looks.Looks → ℕ → ℕ → Bool
 is_quiet l d given = is_same (slice_index_or l.quiet (d % 16) None) given
 
-abbrev pub noted_notice : looks.Looks → ℕ → ℕ → Option ℕ → looks.Looks
-noted_notice l d given (Some t) = l
-noted_notice l d given None = record l { quiet = slice_set l.quiet (d % 16) (Some given) }
+abbrev pub noted_notice : looks.Looks → ℕ → ℕ → Bool → looks.Looks
+noted_notice l d given none = if none then record l { quiet = slice_set l.quiet (d % 16) (Some given) } else l

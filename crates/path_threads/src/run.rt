@@ -9,10 +9,12 @@ use crate::operator::operate;
 use crate::orders::Order;
 use crate::places::{Place, clear_all, set_all};
 use crate::shared::Shared;
+use crate::rows::{Begun, Resting, Walked, Walks};
 use crate::walks::{walk, work_behind};
 use ckd_types::{NoMemory, PathNo};
 use device_core::Device;
 use device_outside::{Gate, Volume};
+use device_turn::{Holder, Turn};
 use frame_pool::Pool;
 use path_turns::{DeviceSeat, DeviceTurn, Promise, finish_all};
 use std::alloc::Global;
@@ -33,43 +35,24 @@ type Row<V> = Vec<DeviceSeat<V>>;
 
 type DeviceSeats<V> = Seats<Device<V>, Promise<V>>;
 
-type Walked<V> = Result<Row<V>, NoMemory>;
+type DeviceWalked<V> = Walked<Device<V>, Promise<V>>;
 
-/// What a worker's thread leaves: seats of this number rest at these turns.
-#[derive(Drop)]
-struct Resting<V: Volume> {
-    turns: Snapshot<Vec<DeviceTurn<V>>>,
-    number: u64,
-}
+type DeviceBegun<V> = Begun<Device<V>, Promise<V>>;
 
-impl<V: Volume> thread::Promise<Walked<V>> for Resting<V> {
-    ghost use Rattle.std.specs.Prelude.{IfOk};
-    ghost use Rattle.std.specs.List.{AllZip};
-    ghost use Rattle.turn_seats.specs.Seating.{IsAt};
-
-    ghost kept_by = { λ p r. IfOk r (λ v. AllZip (IsAt p.number) p.turns.value.items v.items) };
-}
-
-/// The thread of a worker, or what the worker left where it got none.
-type Begun<V> = Result<PromisedHandle<Walked<V>, Resting<V>>, Walked<V>>;
+type DeviceWalks<V> = Walks<Device<V>, Promise<V>>;
 
 /// A worker begins in a thread of its own. Where no thread can be made it works here, and from then on no worker waits.
-fn begin<'s, E, V: Volume + Send + 's, F: FnOnce() -> Walked<V> + Send + 's>(
+fn begin<'s, E, T: Send + Drop + 's, P: thread::Promise<T> + Drop, F: FnOnce() -> T + Send + 's>(
     threads: &Scope<'s, E>,
     shared: &Shared,
-    turns: &Vec<DeviceTurn<V>>,
-    number: u64,
+    promise: P,
     work: F,
-) -> Begun<V>
+) -> Result<PromisedHandle<T, P>, T>
     requires runs { F.pre work }
-    requires keeps { (r : _) → F.post work r → IfOk r (λ v. AllZip (IsAt number) turns.now.items v.items) }
-    ensures started { IfOk result (λ h. (h.promise.turns.value ≡ turns.now) × (h.promise.number ≡ number)) }
-    ensures refused { IfErr result (λ r. IfOk r (λ v. AllZip (IsAt number) turns.now.items v.items)) }
+    requires keeps { (r : _) → F.post work r → P.kept_by promise r }
+    ensures started { IfOk result (λ h. h.promise ≡ promise) }
+    ensures refused { IfErr result (λ r. P.kept_by promise r) }
 {
-    let promise = Resting {
-        turns: Snapshot::of(turns),
-        number,
-    };
     match threads.spawn_with(promise, work) {
         Ok(handle) => Ok(handle),
         Err(SpawnError { value }) => {
@@ -80,12 +63,12 @@ fn begin<'s, E, V: Volume + Send + 's, F: FnOnce() -> Walked<V> + Send + 's>(
 }
 
 /// The seats of a worker, once it is done.
-fn gather<R: Threads, V: Volume>(
+fn gather<R: Threads, H: Holder<P>, P>(
     rt: &R,
-    turns: &Vec<DeviceTurn<V>>,
+    turns: &Vec<Turn<H, P>>,
     number: u64,
-    begun: Begun<V>,
-) -> Walked<V>
+    begun: Begun<H, P>,
+) -> Walked<H, P>
     requires started { IfOk begun (λ h. (h.promise.turns.value ≡ turns.now) × (h.promise.number ≡ number)) }
     requires refused { IfErr begun (λ r. IfOk r (λ v. AllZip (IsAt number) turns.now.items v.items)) }
     ensures { IfOk result (λ v. AllZip (IsAt number) turns.now.items v.items) }
@@ -108,13 +91,16 @@ fn begin_path<'s, E, R: Wait + Sync, V: Volume + Send + 's, G: Gate + Sync>(
     path: PathNo,
     seats: Row<V>,
     gate: &'s G,
-) -> Begun<V>
+) -> DeviceBegun<V>
     requires { AllZip (IsAt path) turns.now.items seats.items }
     ensures started { IfOk result (λ h. (h.promise.turns.value ≡ turns.now) × (h.promise.number ≡ path)) }
     ensures refused { IfErr result (λ r. IfOk r (λ v. AllZip (IsAt path) turns.now.items v.items)) }
 {
-    let number = u64::from(path.get());
-    begin(threads, shared, turns, number, move || -> Walked<V>
+    let promise = Resting {
+        turns: Snapshot::of(turns),
+        number: u64::from(path.get()),
+    };
+    begin(threads, shared, promise, move || -> DeviceWalked<V>
         requires { AllZip (IsAt path) turns.now.items seats.items }
         ensures { IfOk result (λ v. AllZip (IsAt path) turns.entry.now.items v.items) }
     { walk(rt, shared, turns, seats, places, path, gate) })
@@ -127,26 +113,19 @@ fn begin_behind<'s, E, R: Wait + Sync, V: Volume + Send + 's>(
     shared: &'s Shared,
     turns: &'s Vec<DeviceTurn<V>>,
     seats: Row<V>,
-) -> Begun<V>
+) -> DeviceBegun<V>
     requires { AllZip (IsAt 5) turns.now.items seats.items }
     ensures started { IfOk result (λ h. (h.promise.turns.value ≡ turns.now) × (h.promise.number ≡ 5)) }
     ensures refused { IfErr result (λ r. IfOk r (λ v. AllZip (IsAt 5) turns.now.items v.items)) }
 {
-    begin(threads, shared, turns, 5, move || -> Walked<V>
+    let promise = Resting {
+        turns: Snapshot::of(turns),
+        number: 5,
+    };
+    begin(threads, shared, promise, move || -> DeviceWalked<V>
         requires { AllZip (IsAt 5) turns.now.items seats.items }
         ensures { IfOk result (λ v. AllZip (IsAt 5) turns.entry.now.items v.items) }
     { work_behind(rt, shared, turns, seats) })
-}
-
-/// What each worker left.
-#[derive(Drop)]
-struct Walks<V: Volume> {
-    first: Walked<V>,
-    second: Walked<V>,
-    third: Walked<V>,
-    fourth: Walked<V>,
-    background: Walked<V>,
-    operator: Walked<V>,
 }
 
 /// All workers run until each is done: the operator's here, each other one in a thread of its own.
@@ -160,7 +139,7 @@ fn all_walk<'s, E, R: Threads + Wait + Sync, V: Volume + Send + 's, G: Gate + Sy
     operator: Row<V>,
     places: &'s [Place],
     orders: Vec<Order<V>>,
-) -> Walks<V>
+) -> DeviceWalks<V>
     requires seats { AreSeated turns.now.items seats }
     requires operator { AllZip IsHome turns.now.items operator.items × AllZip Allows places.now operator.items }
     requires spare { All (IsSpareAt places.now operator.items) orders.items }
@@ -204,14 +183,14 @@ fn walk_all<R: Threads + Wait + Sync, V: Volume + Send, G: Gate + Sync>(
     operator: Row<V>,
     places: &[Place],
     orders: Vec<Order<V>>,
-) -> Walks<V>
+) -> DeviceWalks<V>
     requires seats { AreSeated turns.now.items seats }
     requires operator { AllZip IsHome turns.now.items operator.items × AllZip Allows places.now operator.items }
     requires spare { All (IsSpareAt places.now operator.items) orders.items }
     ensures walked { HaveWalked turns.now.items result }
     ensures operator { IfOk result.operator (λ v. AllZip Rests operator.items v.items) }
 {
-    scope(scope_env(), rt, move |threads| -> Walks<V>
+    scope(scope_env(), rt, move |threads| -> DeviceWalks<V>
         requires { AreSeated turns.now.items seats × AllZip IsHome turns.now.items operator.items × AllZip Allows places.now operator.items ×
             All (IsSpareAt places.now operator.items) orders.items }
         ensures { HaveWalked turns.entry.now.items result × IfOk result.operator (λ v. AllZip Rests operator.items v.items) }
@@ -221,7 +200,7 @@ fn walk_all<R: Threads + Wait + Sync, V: Volume + Send, G: Gate + Sync>(
 /// The seats, where no worker lacked memory.
 fn all_seats<V: Volume>(
     turns: &Vec<DeviceTurn<V>>,
-    walks: Walks<V>,
+    walks: DeviceWalks<V>,
 ) -> Result<(DeviceSeats<V>, Row<V>), NoMemory>
     requires { HaveWalked turns.now.items walks }
     ensures seats { IfOk result (λ r. AreSeated turns.now.items r.0) }

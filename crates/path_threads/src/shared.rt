@@ -207,11 +207,11 @@ impl Looks {
         }
     }
 
-    /// Behind a look at the pool: what notice it had for the device.
-    fn note_notice(&mut self, d: DeviceNo, given: u64, notice: Option<TrackNo>)
-        ensures { self.new ≡ noted_notice self.old d given notice }
+    /// Behind a look at the pool: whether it had no notice for the device.
+    fn note_notice(&mut self, d: DeviceNo, given: u64, none: bool)
+        ensures { self.new ≡ noted_notice self.old d given none }
     {
-        if notice.is_none() {
+        if none {
             self.quiet[usize::from(d.get() % 16)] = Some(given);
         }
     }
@@ -249,7 +249,8 @@ impl<'a, R: Wait> Port for SharedPool<'a, R> {
             return None;
         }
         let notice = self.pool.lock(self.rt).next_notice(d);
-        self.looks.note_notice(d, given, notice);
+        let none = notice.is_none();
+        self.looks.note_notice(d, given, none);
         notice
     }
 
