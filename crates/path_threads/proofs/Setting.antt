@@ -1,5 +1,5 @@
 -- Devices come into their turns, and leave them.
-use Rattle.std.proofs.Common.{◌≡◌, ◌<◌, List, [], ◌∷◌, ◌++◌, length, Some, Result, Ok, Err, refl, sym, ap, subst, ◌∙◌, arith, append_assoc, append-nil}
+use Rattle.std.proofs.Common.{◌≡◌, ◌<◌, ℕ, map, List, [], ◌∷◌, ◌++◌, length, Some, Result, Ok, Err, refl, sym, ap, subst, ◌∙◌, arith, append_assoc, append-nil}
 use Rattle.std.specs.Prelude.{All, IfOk, slice_index_or}
 use Rattle.std.specs.List.{AllZip, insert, remove}
 use Rattle.std.proofs.lemmas.List.Elements.{All-head, All-tail}
@@ -21,6 +21,12 @@ use Rattle.path_threads.specs.Allowed.{allowed_of}
 
 abbrev pub SeatOf : {V : Type 0} {G : Ghosts V} → holders.Ghosts (Device V G) (Promise V G) → Type 0
 SeatOf {V} {G} N = TurnSeat (Device V G) (Promise V G) N
+
+-- of each path
+pub of_four : (f : ℕ → ℕ) (w x y z : ℕ) → w ≡ f 1 → x ≡ f 2 → y ≡ f 3 → z ≡ f 4 → w ∷ x ∷ y ∷ z ∷ [] ≡ map f (1 ∷ 2 ∷ 3 ∷ 4 ∷ [])
+of_four f w x y z one two three four =
+    ap (λ (k : ℕ). k ∷ x ∷ y ∷ z ∷ []) one ∙ ap (λ (k : ℕ). f 1 ∷ k ∷ y ∷ z ∷ []) two ∙ ap (λ (k : ℕ). f 1 ∷ f 2 ∷ k ∷ z ∷ []) three
+    ∙ ap (λ (k : ℕ). f 1 ∷ f 2 ∷ f 3 ∷ k ∷ []) four
 
 module _ {V : Type 0} {G : Ghosts V} where
   -- a device that is ready keeps what is promised of it
