@@ -37,7 +37,7 @@ module _ {V : Type 0} {G : Ghosts V} where
   -- the devices that stand in turns have their places
   pub none_placed : (ds : List (Device V G)) (places : List Place) → places ≡ [] → HavePlaces ds places ds
   none_placed ds places none =
-      record { come = []; all = refl; placed = subst (λ (p : List Place). AllZip IsPlaceOf [] p) (sym none) tt }
+      record { come = []; all = refl; placed = subst (λ (p : List Place). AllZip (IsPlaceOf {V = V} {G = G}) [] p) (sym none) tt }
 
   pub one_placed : (ds : List (Device V G)) (places new : List Place) (rest less : List (Device V G)) (d : Device V G) (p : Place) → HavePlaces ds places rest →
       0 < length rest → d ≡ slice_index_or rest 0 d → less ≡ remove rest 0 → IsPlaceOf d p → new ≡ places ++ p ∷ [] → HavePlaces ds new less

@@ -104,7 +104,7 @@ module _ {V : Type 0} {G : Ghosts V} {N : holders.Ghosts (Device V G) (Promise V
   none_needed (Some s) = tt
   none_needed None = tt
 
-  fits : (places : List Place) (seats : List (SeatOf N)) → Option (ℕ × DeviceOrder V) → Type 0
+  abbrev fits : (places : List Place) (seats : List (SeatOf N)) → Option (ℕ × DeviceOrder V) → Type 0
   fits places seats o = IfSome o (λ x. SuitsAt places seats x.0 x.1)
 
   event_fits : (e : events.Event) (places : List Place) (seats : List (SeatOf N)) → fits places seats (device_order e)
@@ -122,6 +122,6 @@ module _ {V : Type 0} {G : Ghosts V} {N : holders.Ghosts (Device V G) (Promise V
   event_fits (told.Pair a d) places seats = tt
   event_fits told.Power places seats = tt
 
-  pub suits_event : (e : events.Event) (places : List Place) (seats : List (SeatOf N)) (d : ℕ) (what : DeviceOrder V) → device_order e ≡ Some (d, what) →
-      SuitsAt places seats d what
-  suits_event e places seats d what is = subst (fits places seats) is (event_fits e places seats)
+  pub suits_event : (e : events.Event) (places : List Place) (seats : List (SeatOf N)) (x : ℕ × DeviceOrder V) → device_order e ≡ Some x →
+      SuitsAt places seats x.0 x.1
+  suits_event e places seats x is = subst (fits places seats) is (event_fits e places seats)

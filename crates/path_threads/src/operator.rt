@@ -230,6 +230,25 @@ fn order_pool<R: Wait, V: Volume, P: Port>(
     Ok(())
 }
 
+/// An order at the device that it names.
+fn order_named<R: Wait, V: Volume, P: Port>(
+    rt: &R,
+    shared: &Shared,
+    turns: &[DeviceTurn<V>],
+    seats: &mut [DeviceSeat<V>],
+    places: &[Place],
+    named: (DeviceNo, DeviceOrder<V>),
+    port: &mut P,
+) -> Result<(), NoMemory>
+    requires home { AllZip IsHome turns.now seats.old }
+    requires allows { AllZip Allows places.now seats.old }
+    requires suits { SuitsAt places.now seats.old named.0 named.1 }
+    ensures { OnOk result (AllZip Rests seats.old seats.new) }
+{
+    let (d, what) = named;
+    order_at(rt, shared, turns, seats, places, d, what, port)
+}
+
 /// An event, where it is the operator's.
 fn order_event<R: Wait, V: Volume, P: Port>(
     rt: &R,
@@ -248,7 +267,7 @@ fn order_event<R: Wait, V: Volume, P: Port>(
         return order_pool(rt, shared, turns, seats, places, what, port);
     }
     match device_order(event) {
-        Some((d, what)) => order_at(rt, shared, turns, seats, places, d, what, port),
+        Some(named) => order_named(rt, shared, turns, seats, places, named, port),
         None => Ok(()),
     }
 }

@@ -17,8 +17,8 @@ clear_all-requires g c = record {
   seats = c.in_ok-seats.ensures.seats;
 }
 
-pub walk_all-requires-clause-spare : goal.walk_all-requires-clause-spare
-walk_all-requires-clause-spare g c κs within =
+pub walk_all-walks-requires-clause-spare : goal.walk_all-walks-requires-clause-spare
+walk_all-walks-requires-clause-spare g c κs within =
     let table = c.in_ok-table.ensures in
     subst (λ ps. All (IsSpareAt g.M.MakeVolume.makes ps c.in_ok-table.table.operator.items) c.args.orders.items) (sym c.deref-2.ensures.value)
     (all_spare g.M.MakeVolume.makes c.deref.result.now c.args.devices.items c.in_ok-table.places.items c.in_ok-table.table.operator.items c.args.orders.items table.promised table.allows c.requires.spare)
