@@ -24,6 +24,13 @@ use Rattle.path_threads.specs.declared.places.Place.{Place}
 use Rattle.path_threads.proofs.Setting.{SeatOf}
 use Rattle.path_threads.specs.Places.{Allows, IsPromised, IsPromisedFor, IsSpareAmong, IsSpareAt, SuitsAt, SuitsSeat, seat_at}
 
+module _ {V : Type 0} {G : Ghosts V} where
+  -- where each volume that may be made may come, so may this one
+  each_spare : {M : Type 0} (makes : M → V → Type 0) (maker : M) (o : Option (Device V G)) → IfSome o (λ d. (volume : V) → makes maker volume → IsSpare d volume) →
+      (volume : V) → makes maker volume → IfSome o (λ d. IsSpare d volume)
+  each_spare makes maker (Some d) h volume made = h volume made
+  each_spare makes maker None h volume made = tt
+
 module _ {V : Type 0} {G : Ghosts V} {N : holders.Ghosts (Device V G) (Promise V G)} where
   -- at the device that was promised
   same_number : (most : Losses) (d : Device V G) (place : Place) (s : SeatOf N) → IsPromised most d s → Allows place s → d.store.number ≡ place.number
@@ -53,11 +60,6 @@ module _ {V : Type 0} {G : Ghosts V} {N : holders.Ghosts (Device V G) (Promise V
             IfSome (if b then Some s else seat_at places seats n) (SuitsSeat (orders.Replace side volume))
         here true rest h = suits_promised (most d) d s side volume p.0 h
         here false rest h = rest h
-
-  each_spare : {M : Type 0} (makes : M → V → Type 0) (maker : M) (o : Option (Device V G)) → IfSome o (λ d. (volume : V) → makes maker volume → IsSpare d volume) →
-      (volume : V) → makes maker volume → IfSome o (λ d. IsSpare d volume)
-  each_spare makes maker (Some d) h volume made = h volume made
-  each_spare makes maker None h volume made = tt
 
   spare_for : {M : Type 0} (makes : M → V → Type 0) (most : Device V G → Losses) (ds : List (Device V G)) (places : List Place) (seats : List (SeatOf N)) →
       AllZip (λ d s. IsPromised (most d) d s) ds seats → AllZip Allows places seats → (o : Order M) → IsSpareAmong makes ds o → IsSpareAt makes places seats o
