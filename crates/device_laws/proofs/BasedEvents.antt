@@ -87,7 +87,15 @@ use Rattle.device_laws.proofs.Based.{
   unpatched_base,
   swept_base,
 }
-use Rattle.device_laws.proofs.BasedParts.{all_told_steady, losing_steady, cut_steady, image_steady, write_steady, second_steady, work_steady}
+use Rattle.device_laws.proofs.invariants.CallCounts.{
+  all_told_steady,
+  losing_steady,
+  half_cut_steady,
+  image_steady,
+  write_steady,
+  second_steady,
+  work_steady,
+}
 use Rattle.device_laws.proofs.WholeEvents.{turned_same}
 
 abbrev pub base_in : {F P H : Type 0} → Device F P H → Base
@@ -293,7 +301,7 @@ module _ {F P H R : Type 0} (c : Contents F P H R) where
         store = s;
         chain = None;
         paths = all_reset (reset_path d.paths path) d.history.waiting;
-      }) (tt {0})) (based_forget (cut_steady c d.store d.store.half)) (λ s _. based_done refl)
+      }) (tt {0})) (based_forget (half_cut_steady c d.store)) (λ s _. based_done refl)
 
   reset_by_body : (d : Device F P H) (path : ℕ) (o : Option OpenEntry) → Settled d (reset_by c d path o)
   reset_by_body d path (Some o) = based_if (o.path == path) (cut_path_body d path) (based_done refl)
