@@ -59,7 +59,7 @@ use Rattle.device_laws.proofs.walks.Within.{
   within_tell,
   within_weaker,
 }
-use Rattle.device_laws.proofs.walks.Moves.{Moves, stays, IsKept, moves_keep, IsEnded, ends_keep, Ends}
+use Rattle.device_laws.proofs.walks.Moves.{Shut, Moves, stays, IsKept, moves_keep, IsEnded, ends_keep, Ends}
 use Rattle.device_laws.proofs.walks.Reads.{hear_goes, all_told_goes, firm_told_goes, half_cut_goes, level_goes, image_goes}
 use Rattle.device_laws.proofs.walks.Writes.{write_comes, second_part_goes, work_comes}
 
@@ -100,13 +100,13 @@ module _ {F P H R : Type 0} (c : Contents F P H R) where
       by_loose true = refl
       by_loose false = acted_base z (Loosen t) refl
 
-  calls_kept : IsKept calls true c Counts
+  calls_kept : IsKept calls Shut c Counts
   calls_kept = record {
     reads = λ m n z ok is e. read_same m (base_of z) n ok is e;
     writes = λ m n z ok is e. write_same m (base_of z) n ok is e;
     falls_reading = λ m n z side pair is e. down_base _ side ∙ read_same m (base_of z) n false is e;
     falls_writing = λ m n z side pair is e. down_base _ side ∙ write_same m (base_of z) n false is e;
-    falls = λ n z side e. down_base z side ∙ e;
+    falls = λ n z side lost e. absurd (cc);
     takes = λ n z t e. taken_base z t ∙ e;
     levels = λ n z side t e. level_base z side t ∙ e;
     spoils = λ n z t is alone e. e;
@@ -145,11 +145,11 @@ module _ {F P H R : Type 0} (c : Contents F P H R) where
   Steady s i = Based base_of Hushed (base_of s) i
 
   moves_steady : {A : Type 0} (s : Store F P H) {i : Interaction R Image (Store F P H) A} →
-      Within calls Hushed (λ n z a. Moves calls true c (base_of s) s n z) (base_of s) i → Steady s i
+      Within calls Hushed (λ n z a. Moves calls Shut c (base_of s) s n z) (base_of s) i → Steady s i
   moves_steady s x = within_based (within_weaker x (λ n z a m. moves_keep {q = Counts} calls_kept refl m))
 
   ends_steady : {A : Type 0} (s : Store F P H) {i : Interaction R Image (Store F P H) A} →
-      Within calls Hushed (λ n z a. Ends calls true c (base_of s) s n z) (base_of s) i → Steady s i
+      Within calls Hushed (λ n z a. Ends calls Shut c (base_of s) s n z) (base_of s) i → Steady s i
   ends_steady s x = within_based (within_weaker x (λ n z a m. ends_keep {q = Counts} {g = Counts} calls_kept calls_ended refl m))
 
   -- Notices, what is told, losses and cuts

@@ -25,6 +25,7 @@ use Rattle.ckd_types.specs.declared.paths.Side.{Side}
 use Rattle.ckd_types.specs.declared.paths.Side.TheVariants as sides
 use Rattle.ckd_types.specs.declared.record.Edit.{Edit}
 use Rattle.loss_model.specs.declared.Loss.{Loss}
+use Rattle.loss_model.specs.declared.Loss.TheVariants as losses
 use Rattle.track_image.specs.Image.{Image}
 use Rattle.device_outside.specs.Interaction.{Interaction, Done}
 use Rattle.device_defs.specs.Choosing.{provisionally_written}
@@ -45,7 +46,7 @@ use Rattle.device_laws.proofs.Always.{Always, always_done, always_then}
 use Rattle.device_laws.proofs.PoolWalks.{asks_always, ended_asks}
 use Rattle.device_laws.proofs.Unlost.{clear_at}
 use Rattle.device_laws.proofs.walks.Within.{always, within_always, within_weaker}
-use Rattle.device_laws.proofs.walks.Moves.{Moves, stays, IsKept, moves_keep, IsEnded, ends_keep}
+use Rattle.device_laws.proofs.walks.Moves.{Kind, Shut, Half, Losing, Moves, stays, IsKept, moves_keep, IsEnded, ends_keep}
 use Rattle.device_laws.proofs.walks.Reads.{over_moves, unpatched_moves, unframed_moves, side_moves}
 use Rattle.device_laws.proofs.walks.Events.{command_leads, second_leads, background_leads, lose_leads, power_leads, reset_leads}
 
@@ -93,12 +94,12 @@ opened_side x t led level = record {
 }
 
 -- what moves of the sides leave
-record StaysSo (shut : Bool) (q : SideState → Type 0) : Type 0 where
+record StaysSo (kind : Kind) (q : SideState → Type 0) : Type 0 where
   a : (x : SideState) → q x → q (fallen_a x)
   b : (x : SideState) → q x → q (fallen_b x)
   levels : (x : SideState) (t : ℕ) → q x → q (marked_a x t false)
   stales : (x : SideState) (t : ℕ) → ((p : ℕ) → x.half ≡ Some p → p ≢ t) → q x → q (marked_a x t true)
-  firms : (x : SideState) (t : ℕ) → shut ≡ true → q x → q (marked_a x t true)
+  firms : (x : SideState) (t : ℕ) → kind ≡ Shut → q x → q (marked_a x t true)
   closes : (x : SideState) → q x → q (record x { half = None })
 
 module _ {F P H R : Type 0} (c : Contents F P H R) where
@@ -106,7 +107,7 @@ module _ {F P H R : Type 0} (c : Contents F P H R) where
   not_it None t p other e = absurd (cc)
   not_it (Some h) t p other e = λ is. let at : h.track ≡ p = cc in eqb-false h.track t other (at ∙ is)
 
-  module _ (shut : Bool) (q : SideState → Type 0) (so : StaysSo shut q) where
+  module _ (kind : Kind) (q : SideState → Type 0) (so : StaysSo kind q) where
     abbrev So : Store F P H → Type 0
     So z = q (state_of z)
 
@@ -128,13 +129,13 @@ module _ {F P H R : Type 0} (c : Contents F P H R) where
     provisional z t i e true f = f
     provisional z t i e false f = f
 
-    sides_kept : IsKept always shut c (λ n z. q (state_of z))
+    sides_kept : IsKept always kind c (λ n z. q (state_of z))
     sides_kept = record {
       reads = λ m n z ok is f. f;
       writes = λ m n z ok is f. f;
       falls_reading = λ m n z side pair is f. fall (read_counted z false) side f;
       falls_writing = λ m n z side pair is f. fall (write_counted z false) side f;
-      falls = λ n z side f. fall z side f;
+      falls = λ n z side lost f. fall z side f;
       takes = λ n z t f. marked z t false z.b.up (so.levels (state_of z) t f);
       levels = λ n z side t f. level z side t f;
       spoils = λ n z t is alone f. so.firms (state_of z) t is f;
@@ -163,7 +164,7 @@ module _ {F P H R : Type 0} (c : Contents F P H R) where
       pays = λ n z t o f. f;
     }
 
-  shut_so : StaysSo true IsShut
+  shut_so : StaysSo Shut IsShut
   shut_so = record {
     a = λ x f. record { led = λ e. absurd (cc); none = f.none };
     b = λ x f. record { led = λ e. absurd (cc); none = f.none };
@@ -173,13 +174,13 @@ module _ {F P H R : Type 0} (c : Contents F P H R) where
     closes = λ x f. record { led = f.led; none = refl };
   }
 
-  steered_so : StaysSo false IsSteered
-  steered_so = record {
+  steered_so : (kind : Kind) → (kind ≡ Shut → ⊥) → StaysSo kind IsSteered
+  steered_so kind other = record {
     a = λ x f. record { led = λ e. absurd (cc); half = λ t e up. absurd (cc) };
     b = λ x f. record { led = λ e. absurd (cc); half = f.half };
     levels = λ x t f. record { led = f.led; half = λ p e up. clear_at x.a.stale t p (cases_eq p t) (λ ne. f.half p e up) };
-    stales = λ x t other f. record { led = f.led; half = λ p e up. get_or-set_other x.a.stale t p true false (other p e) ∙ f.half p e up };
-    firms = λ x t is f. absurd (cc);
+    stales = λ x t apart f. record { led = f.led; half = λ p e up. get_or-set_other x.a.stale t p true false (apart p e) ∙ f.half p e up };
+    firms = λ x t is f. absurd (other is);
     closes = λ x f. record { led = f.led; half = λ t e. absurd (cc) };
   }
 
@@ -187,7 +188,7 @@ module _ {F P H R : Type 0} (c : Contents F P H R) where
   abbrev IsAlone : SideState → Type 0
   IsAlone x = IsLed x × (x.paired ≡ false)
 
-  alone_so : StaysSo false IsAlone
+  alone_so : StaysSo Half IsAlone
   alone_so = record {
     a = λ x f. (λ e. absurd (cc), f.1);
     b = λ x f. (λ e. absurd (cc), f.1);
@@ -198,7 +199,7 @@ module _ {F P H R : Type 0} (c : Contents F P H R) where
   }
 
   -- side A stays down
-  down_so : StaysSo true (λ x. x.a.up ≡ false)
+  down_so : StaysSo Shut (λ x. x.a.up ≡ false)
   down_so = record {
     a = λ x f. refl;
     b = λ x f. f;
@@ -210,13 +211,16 @@ module _ {F P H R : Type 0} (c : Contents F P H R) where
 
   pub lost_side_is_down : (s : Store F P H) (writing : Option ℕ) → (side_lost c s sides.A writing).a.up ≡ false
   lost_side_is_down s writing =
-      moves_keep {k = tt} {s = down s sides.A} (sides_kept true (λ x. x.a.up ≡ false) down_so) refl (side_moves s sides.A writing stays)
+      moves_keep {k = tt} {s = down s sides.A} (sides_kept Shut (λ x. x.a.up ≡ false) down_so) refl (side_moves s sides.A writing stays)
 
-  shut_kept : IsKept always true c (λ n z. IsShut (state_of z))
-  shut_kept = sides_kept true IsShut shut_so
+  shut_kept : IsKept always Shut c (λ n z. IsShut (state_of z))
+  shut_kept = sides_kept Shut IsShut shut_so
 
-  steered_kept : IsKept always false c (λ n z. IsSteered (state_of z))
-  steered_kept = sides_kept false IsSteered steered_so
+  half_kept : IsKept always Half c (λ n z. IsSteered (state_of z))
+  half_kept = sides_kept Half IsSteered (steered_so Half (λ e. absurd (cc)))
+
+  losing_kept : (loss : Loss) → IsKept always (Losing loss) c (λ n z. IsSteered (state_of z))
+  losing_kept loss = sides_kept (Losing loss) IsSteered (steered_so (Losing loss) (λ e. absurd (cc)))
 
   shut_ended : IsEnded {K = Unit {0}} c (λ n z. IsShut (state_of z)) (λ n z. IsSteered (state_of z))
   shut_ended = record {
@@ -252,16 +256,16 @@ module _ {F P H R : Type 0} (c : Contents F P H R) where
       within_always (within_weaker (background_leads always c tt d) (λ n e a m. ends_keep shut_kept shut_ended (no_half d.store none f) m))
 
   pub second_steers : (d : Device F P H) → IsSide d.store → Steers (second c d)
-  second_steers d f = within_always (within_weaker (second_leads always c tt d false) (λ n e a m. ends_keep steered_kept steered_ended f m))
+  second_steers d f = within_always (within_weaker (second_leads always c tt d Half) (λ n e a m. ends_keep half_kept steered_ended f m))
 
   pub lose_steers : (d : Device F P H) (loss : Loss) → IsSide d.store → Steers (lose c d loss)
-  lose_steers d loss f = within_always (within_weaker (lose_leads always c tt d loss) (λ n e a m. ends_keep steered_kept steered_ended f m))
+  lose_steers d loss f = within_always (within_weaker (lose_leads always c tt d loss) (λ n e a m. ends_keep (losing_kept loss) steered_ended f m))
 
   pub power_steers : (d : Device F P H) → IsSide d.store → Steers (power c d)
-  power_steers d f = within_always (within_weaker (power_leads always c tt d) (λ n e a m. ends_keep steered_kept steered_ended f m))
+  power_steers d f = within_always (within_weaker (power_leads always c tt d) (λ n e a m. ends_keep (losing_kept losses.Cache) steered_ended f m))
 
   pub reset_steers : (d : Device F P H) (path : ℕ) → IsSide d.store → Steers (reset c d path)
-  reset_steers d path f = within_always (within_weaker (reset_leads always false c tt d path) (λ n e a m. moves_keep steered_kept f m))
+  reset_steers d path f = within_always (within_weaker (reset_leads always Half c tt d path) (λ n e a m. moves_keep half_kept f m))
 
   -- a volume that is alone is lent
   pub lend_steers : (d : Device F P H) (to : ℕ) → d.store.paired ≡ false → IsSide d.store → Steers (lend c d to)
@@ -272,7 +276,7 @@ module _ {F P H R : Type 0} (c : Contents F P H R) where
     where
       left : IsAlone (state_of (over (tracks_of d.store) (given_up c) (begun d.store)))
       left =
-          moves_keep {k = tt} {s = begun d.store} (sides_kept false IsAlone alone_so) (f.led, alone)
+          moves_keep {k = tt} {s = begun d.store} (sides_kept Half IsAlone alone_so) (f.led, alone)
           (over_moves (given_up c) (λ t z m. unpatched_moves (without_frame z t) t (unframed_moves z t m)) (tracks_of d.store) (begun d.store) stays)
 
       lent : (z : Store F P H) → IsAlone (state_of z) → IsSide (lent_to z to)

@@ -5,6 +5,7 @@ use Rattle.ckd_types.specs.declared.paths.Side.{Side}
 use Rattle.ckd_types.specs.declared.paths.Side.TheVariants as sides
 use Rattle.ckd_types.specs.declared.record.Edit.{Edit}
 use Rattle.loss_model.specs.declared.Loss.{Loss}
+use Rattle.loss_model.specs.declared.Loss.TheVariants as losses
 use Rattle.plain_defs.specs.declared.journal.Act.TheVariants.{CfwLost}
 use Rattle.track_image.specs.Image.{Image}
 use Rattle.device_outside.specs.Interaction.{Interaction}
@@ -40,94 +41,100 @@ use Rattle.device_defs.specs.Writing.{write_counted, taken_a, half_opened}
 use Rattle.device_laws.proofs.Based.{Hushed}
 use Rattle.device_laws.proofs.walks.Within.{Policy, Within}
 
--- From store s on to another, and from what the policy kept before to what it keeps then. Where `shut`, no half write is open as the event
--- begins and no loss is noted in it, and only there is a loose track written to the volumes
-pub data Moves {K F P H R : Type 0} (w : Policy K) (shut : Bool) (c : Contents F P H R) (k : K) (s : Store F P H) : K → Store F P H → Type 0 where
-  stays : Moves w shut c k s k s
+-- What an event is: no half write is open as it begins, and only there is a loose track written to the volumes; one may be open; or it is one
+-- of a loss
+pub data Kind : Type 0 where
+  Shut : Kind
+  Half : Kind
+  Losing : Loss → Kind
+
+-- From store s on to another, and from what the policy kept before to what it keeps then
+pub data Moves {K F P H R : Type 0} (w : Policy K) (kind : Kind) (c : Contents F P H R) (k : K) (s : Store F P H) : K → Store F P H → Type 0 where
+  stays : Moves w kind c k s k s
   -- calls of the volumes
-  reads : {m n : K} {z : Store F P H} → Moves w shut c k s m z → (ok : Bool) → w.read m ok ≡ Some n → Moves w shut c k s n (read_counted z ok)
-  writes : {m n : K} {z : Store F P H} → Moves w shut c k s m z → (ok : Bool) → w.wrote m ok ≡ Some n → Moves w shut c k s n (write_counted z ok)
-  falls_reading : {m n : K} {z : Store F P H} → Moves w shut c k s m z → (side : Side) → z.paired ≡ true → w.read m false ≡ Some n →
-      Moves w shut c k s n (down (read_counted z false) side)
-  falls_writing : {m n : K} {z : Store F P H} → Moves w shut c k s m z → (side : Side) → z.paired ≡ true → w.wrote m false ≡ Some n →
-      Moves w shut c k s n (down (write_counted z false) side)
-  falls : {n : K} {z : Store F P H} → Moves w shut c k s n z → (side : Side) → Moves w shut c k s n (down z side)
+  reads : {m n : K} {z : Store F P H} → Moves w kind c k s m z → (ok : Bool) → w.read m ok ≡ Some n → Moves w kind c k s n (read_counted z ok)
+  writes : {m n : K} {z : Store F P H} → Moves w kind c k s m z → (ok : Bool) → w.wrote m ok ≡ Some n → Moves w kind c k s n (write_counted z ok)
+  falls_reading : {m n : K} {z : Store F P H} → Moves w kind c k s m z → (side : Side) → z.paired ≡ true → w.read m false ≡ Some n →
+      Moves w kind c k s n (down (read_counted z false) side)
+  falls_writing : {m n : K} {z : Store F P H} → Moves w kind c k s m z → (side : Side) → z.paired ≡ true → w.wrote m false ≡ Some n →
+      Moves w kind c k s n (down (write_counted z false) side)
+  falls : {n : K} {z : Store F P H} → Moves w kind c k s n z → (side : Side) → kind ≡ Losing (losses.Side side) → Moves w kind c k s n (down z side)
   -- what sides have of a track
-  takes : {n : K} {z : Store F P H} → Moves w shut c k s n z → (t : ℕ) → Moves w shut c k s n (taken_a z t)
-  levels : {n : K} {z : Store F P H} → Moves w shut c k s n z → (side : Side) (t : ℕ) → Moves w shut c k s n (with_stale z side t false)
-  spoils : {n : K} {z : Store F P H} → Moves w shut c k s n z → (t : ℕ) → shut ≡ true → z.paired ≡ false →
-      Moves w shut c k s n (with_stale z sides.A t true)
-  stales : {n : K} {z : Store F P H} → Moves w shut c k s n z → (t : ℕ) → half_is z.half t ≡ false → Moves w shut c k s n (stale_everywhere z t)
-  firms : {n : K} {z : Store F P H} → Moves w shut c k s n z → (t : ℕ) → shut ≡ true → is_loose z t ≡ true →
-      Moves w shut c k s n (stale_everywhere (hardened z t) t)
+  takes : {n : K} {z : Store F P H} → Moves w kind c k s n z → (t : ℕ) → Moves w kind c k s n (taken_a z t)
+  levels : {n : K} {z : Store F P H} → Moves w kind c k s n z → (side : Side) (t : ℕ) → Moves w kind c k s n (with_stale z side t false)
+  spoils : {n : K} {z : Store F P H} → Moves w kind c k s n z → (t : ℕ) → kind ≡ Shut → z.paired ≡ false →
+      Moves w kind c k s n (with_stale z sides.A t true)
+  stales : {n : K} {z : Store F P H} → Moves w kind c k s n z → (t : ℕ) → half_is z.half t ≡ false → Moves w kind c k s n (stale_everywhere z t)
+  firms : {n : K} {z : Store F P H} → Moves w kind c k s n z → (t : ℕ) → kind ≡ Shut → is_loose z t ≡ true →
+      Moves w kind c k s n (stale_everywhere (hardened z t) t)
   -- a track that is level on no side
-  marks : {n : K} {z : Store F P H} → Moves w shut c k s n z → (t : ℕ) (f : F) → frame_at z t ≡ Some f → c.modified f ≡ false →
-      Moves w shut c k s n (owes_modified (with_frame z t (Some (c.marked f true))) t)
-  hardens : {n : K} {z : Store F P H} → Moves w shut c k s n z → (t : ℕ) → is_loose z t ≡ true → Moves w shut c k s n (hardened_by_loss z t)
-  loses : {n : K} {z : Store F P H} → Moves w shut c k s n z → (t : ℕ) → half_is z.half t ≡ false → Moves w shut c k s n (with_lost z t)
+  marks : {n : K} {z : Store F P H} → Moves w kind c k s n z → (t : ℕ) (f : F) → frame_at z t ≡ Some f → c.modified f ≡ false →
+      Moves w kind c k s n (owes_modified (with_frame z t (Some (c.marked f true))) t)
+  hardens : {n : K} {z : Store F P H} → Moves w kind c k s n z → (t : ℕ) → is_loose z t ≡ true → Moves w kind c k s n (hardened_by_loss z t)
+  loses : {n : K} {z : Store F P H} → Moves w kind c k s n z → (t : ℕ) → half_is z.half t ≡ false → Moves w kind c k s n (with_lost z t)
   -- frames, patches and the queue
-  drops : {n : K} {z : Store F P H} → Moves w shut c k s n z → (t : ℕ) → is_clean c (frame_at z t) ≡ true → Moves w shut c k s n (with_frame z t None)
-  fills : {n : K} {z : Store F P H} → Moves w shut c k s n z → (t : ℕ) (i : Image) (patched : Bool) → is_some (patch_at z t) ≡ patched →
-      Moves w shut c k s n (with_frame z t (Some (c.frame i patched)))
-  frames : {n : K} {z : Store F P H} → Moves w shut c k s n z → (t : ℕ) (o : Option F) → Moves w shut c k s n (with_frame z t o)
-  unframes : {n : K} {z : Store F P H} → Moves w shut c k s n z → (t : ℕ) →
-      Moves w shut c k s n (with_owed (with_frame z t None) t (record (owed_at z t) { dropped = true }))
-  patches : {n : K} {z : Store F P H} → Moves w shut c k s n z → (t : ℕ) → Moves w shut c k s n (with_patch z t None)
-  unpatches : {n : K} {z : Store F P H} → Moves w shut c k s n z → (t slot : ℕ) →
-      Moves w shut c k s n (with_owed (with_patch z t None) t (record (owed_at z t) { freed = Some slot }))
-  queues : {n : K} {z : Store F P H} → Moves w shut c k s n z → (t : ℕ) → nat_lt (length z.queue) 64 ≡ true →
-      Moves w shut c k s n (record z { queue = z.queue ++ t ∷ [] })
-  dequeues : {n : K} {z : Store F P H} → Moves w shut c k s n z → (ts : List ℕ) → Moves w shut c k s n (record z { queue = ts })
+  drops : {n : K} {z : Store F P H} → Moves w kind c k s n z → (t : ℕ) → is_clean c (frame_at z t) ≡ true → Moves w kind c k s n (with_frame z t None)
+  fills : {n : K} {z : Store F P H} → Moves w kind c k s n z → (t : ℕ) (i : Image) (patched : Bool) → is_some (patch_at z t) ≡ patched →
+      Moves w kind c k s n (with_frame z t (Some (c.frame i patched)))
+  frames : {n : K} {z : Store F P H} → Moves w kind c k s n z → (t : ℕ) (o : Option F) → Moves w kind c k s n (with_frame z t o)
+  unframes : {n : K} {z : Store F P H} → Moves w kind c k s n z → (t : ℕ) →
+      Moves w kind c k s n (with_owed (with_frame z t None) t (record (owed_at z t) { dropped = true }))
+  patches : {n : K} {z : Store F P H} → Moves w kind c k s n z → (t : ℕ) → Moves w kind c k s n (with_patch z t None)
+  unpatches : {n : K} {z : Store F P H} → Moves w kind c k s n z → (t slot : ℕ) →
+      Moves w kind c k s n (with_owed (with_patch z t None) t (record (owed_at z t) { freed = Some slot }))
+  queues : {n : K} {z : Store F P H} → Moves w kind c k s n z → (t : ℕ) → nat_lt (length z.queue) 64 ≡ true →
+      Moves w kind c k s n (record z { queue = z.queue ++ t ∷ [] })
+  dequeues : {n : K} {z : Store F P H} → Moves w kind c k s n z → (ts : List ℕ) → Moves w kind c k s n (record z { queue = ts })
   -- edits
-  edits : {n : K} {z : Store F P H} → Moves w shut c k s n z → (t : ℕ) (e : Edit) → Moves w shut c k s n (with_edit z t e)
-  goes_fast : {n : K} {z : Store F P H} → Moves w shut c k s n z → (t : ℕ) (i : Image) (e : Edit) (slot : Option ℕ) →
-      Moves w shut c k s n (fast_written c z t i e slot)
-  goes_provisionally : {n : K} {z : Store F P H} → Moves w shut c k s n z → (t : ℕ) (i : Image) (e : Edit) →
-      Moves w shut c k s n (provisionally_written c z t i e)
-  goes_back : {n : K} {z : Store F P H} → Moves w shut c k s n z → Moves w shut c k s n (gone_back z)
-  loses_loose : {n : K} {z : Store F P H} → Moves w shut c k s n z → shut ≡ false → Moves w shut c k s n (acted (gone_back z) CfwLost)
+  edits : {n : K} {z : Store F P H} → Moves w kind c k s n z → (t : ℕ) (e : Edit) → Moves w kind c k s n (with_edit z t e)
+  goes_fast : {n : K} {z : Store F P H} → Moves w kind c k s n z → (t : ℕ) (i : Image) (e : Edit) (slot : Option ℕ) →
+      Moves w kind c k s n (fast_written c z t i e slot)
+  goes_provisionally : {n : K} {z : Store F P H} → Moves w kind c k s n z → (t : ℕ) (i : Image) (e : Edit) →
+      Moves w kind c k s n (provisionally_written c z t i e)
+  goes_back : {n : K} {z : Store F P H} → Moves w kind c k s n z → Moves w kind c k s n (gone_back z)
+  loses_loose : {n : K} {z : Store F P H} → Moves w kind c k s n z → kind ≡ Losing losses.Cache → Moves w kind c k s n (acted (gone_back z) CfwLost)
   -- a half write
-  closes : {n : K} {z : Store F P H} → Moves w shut c k s n z → Moves w shut c k s n (closed z)
-  cuts : {n : K} {z : Store F P H} → Moves w shut c k s n z → (h : HalfWrite H) (bypass : Bool) (e : Edit) → z.half ≡ Some h →
-      Moves w shut c k s n (record (with_edit z h.track e) { half = Some (record h { origin = OfCut bypass }) })
+  closes : {n : K} {z : Store F P H} → Moves w kind c k s n z → Moves w kind c k s n (closed z)
+  cuts : {n : K} {z : Store F P H} → Moves w kind c k s n z → (h : HalfWrite H) (bypass : Bool) (e : Edit) → z.half ≡ Some h →
+      Moves w kind c k s n (record (with_edit z h.track e) { half = Some (record h { origin = OfCut bypass }) })
   -- what is noted, and what is owed
-  notes : {n : K} {z : Store F P H} → Moves w shut c k s n z → (loss : Loss) → shut ≡ false → Moves w shut c k s n (with_loss z loss)
-  pays : {n : K} {z : Store F P H} → Moves w shut c k s n z → (t : ℕ) (o : Owed) → Moves w shut c k s n (with_owed z t o)
+  notes : {n : K} {z : Store F P H} → Moves w kind c k s n z → (loss : Loss) → kind ≡ Losing loss → Moves w kind c k s n (with_loss z loss)
+  pays : {n : K} {z : Store F P H} → Moves w kind c k s n z → (t : ℕ) (o : Owed) → Moves w kind c k s n (with_owed z t o)
 
 -- a half write is to be opened where side A took the track and side B takes writes
 abbrev pub MayOpen : {F P H : Type 0} → Store F P H → ℕ → Type 0
 MayOpen z t = (z.a.up ≡ true) × (takes_b z ≡ true) × (stale_at z.a t ≡ false)
 
 -- and at the end a half write may be opened
-pub data Ends {K F P H R : Type 0} (w : Policy K) (shut : Bool) (c : Contents F P H R) (k : K) (s : Store F P H) : K → Store F P H → Type 0 where
-  moved : {n : K} {z : Store F P H} → Moves w shut c k s n z → Ends w shut c k s n z
-  opens : {n : K} {z : Store F P H} → Moves w shut c k s n z → (t : ℕ) (i : Image) (origin : Origin) → MayOpen z t →
-      Ends w shut c k s n (half_opened c z t i origin)
-  then_pays : {n : K} {z : Store F P H} → Ends w shut c k s n z → (t : ℕ) (o : Owed) → Ends w shut c k s n (with_owed z t o)
+pub data Ends {K F P H R : Type 0} (w : Policy K) (kind : Kind) (c : Contents F P H R) (k : K) (s : Store F P H) : K → Store F P H → Type 0 where
+  moved : {n : K} {z : Store F P H} → Moves w kind c k s n z → Ends w kind c k s n z
+  opens : {n : K} {z : Store F P H} → Moves w kind c k s n z → (t : ℕ) (i : Image) (origin : Origin) → MayOpen z t →
+      Ends w kind c k s n (half_opened c z t i origin)
+  then_pays : {n : K} {z : Store F P H} → Ends w kind c k s n z → (t : ℕ) (o : Owed) → Ends w kind c k s n (with_owed z t o)
 
-module _ {K F P H R : Type 0} (w : Policy K) (shut : Bool) (c : Contents F P H R) (k : K) (s : Store F P H) where
+module _ {K F P H R : Type 0} (w : Policy K) (kind : Kind) (c : Contents F P H R) (k : K) (s : Store F P H) where
   -- so an interaction over the tracks moves them
   abbrev pub Goes : {A : Type 0} → K → Interaction R Image (Store F P H) A → Type 0
-  Goes n i = Within w Hushed (λ m z a. Moves w shut c k s m z) n i
+  Goes n i = Within w Hushed (λ m z a. Moves w kind c k s m z) n i
 
   -- and so where a half write may be opened at the end
   abbrev pub Comes : {A : Type 0} → K → Interaction R Image (Store F P H) A → Type 0
-  Comes n i = Within w Hushed (λ m z a. Ends w shut c k s m z) n i
+  Comes n i = Within w Hushed (λ m z a. Ends w kind c k s m z) n i
 
 -- An invariant, one field a move
 
-pub record IsKept {K F P H R : Type 0} (w : Policy K) (shut : Bool) (c : Contents F P H R) (q : K → Store F P H → Type 0) : Type 0 where
+pub record IsKept {K F P H R : Type 0} (w : Policy K) (kind : Kind) (c : Contents F P H R) (q : K → Store F P H → Type 0) : Type 0 where
   pub reads : (m n : K) (z : Store F P H) (ok : Bool) → w.read m ok ≡ Some n → q m z → q n (read_counted z ok)
   pub writes : (m n : K) (z : Store F P H) (ok : Bool) → w.wrote m ok ≡ Some n → q m z → q n (write_counted z ok)
   pub falls_reading : (m n : K) (z : Store F P H) (side : Side) → z.paired ≡ true → w.read m false ≡ Some n → q m z → q n (down (read_counted z false) side)
   pub falls_writing : (m n : K) (z : Store F P H) (side : Side) → z.paired ≡ true → w.wrote m false ≡ Some n → q m z →
       q n (down (write_counted z false) side)
-  pub falls : (n : K) (z : Store F P H) (side : Side) → q n z → q n (down z side)
+  pub falls : (n : K) (z : Store F P H) (side : Side) → kind ≡ Losing (losses.Side side) → q n z → q n (down z side)
   pub takes : (n : K) (z : Store F P H) (t : ℕ) → q n z → q n (taken_a z t)
   pub levels : (n : K) (z : Store F P H) (side : Side) (t : ℕ) → q n z → q n (with_stale z side t false)
-  pub spoils : (n : K) (z : Store F P H) (t : ℕ) → shut ≡ true → z.paired ≡ false → q n z → q n (with_stale z sides.A t true)
+  pub spoils : (n : K) (z : Store F P H) (t : ℕ) → kind ≡ Shut → z.paired ≡ false → q n z → q n (with_stale z sides.A t true)
   pub stales : (n : K) (z : Store F P H) (t : ℕ) → half_is z.half t ≡ false → q n z → q n (stale_everywhere z t)
-  pub firms : (n : K) (z : Store F P H) (t : ℕ) → shut ≡ true → is_loose z t ≡ true → q n z → q n (stale_everywhere (hardened z t) t)
+  pub firms : (n : K) (z : Store F P H) (t : ℕ) → kind ≡ Shut → is_loose z t ≡ true → q n z → q n (stale_everywhere (hardened z t) t)
   pub marks : (n : K) (z : Store F P H) (t : ℕ) (f : F) → frame_at z t ≡ Some f → c.modified f ≡ false → q n z →
       q n (owes_modified (with_frame z t (Some (c.marked f true))) t)
   pub hardens : (n : K) (z : Store F P H) (t : ℕ) → is_loose z t ≡ true → q n z → q n (hardened_by_loss z t)
@@ -145,22 +152,22 @@ pub record IsKept {K F P H R : Type 0} (w : Policy K) (shut : Bool) (c : Content
   pub goes_fast : (n : K) (z : Store F P H) (t : ℕ) (i : Image) (e : Edit) (slot : Option ℕ) → q n z → q n (fast_written c z t i e slot)
   pub goes_provisionally : (n : K) (z : Store F P H) (t : ℕ) (i : Image) (e : Edit) → q n z → q n (provisionally_written c z t i e)
   pub goes_back : (n : K) (z : Store F P H) → q n z → q n (gone_back z)
-  pub loses_loose : (n : K) (z : Store F P H) → shut ≡ false → q n z → q n (acted (gone_back z) CfwLost)
+  pub loses_loose : (n : K) (z : Store F P H) → kind ≡ Losing losses.Cache → q n z → q n (acted (gone_back z) CfwLost)
   pub closes : (n : K) (z : Store F P H) → q n z → q n (closed z)
   pub cuts : (n : K) (z : Store F P H) (h : HalfWrite H) (bypass : Bool) (e : Edit) → z.half ≡ Some h → q n z →
       q n (record (with_edit z h.track e) { half = Some (record h { origin = OfCut bypass }) })
-  pub notes : (n : K) (z : Store F P H) (loss : Loss) → shut ≡ false → q n z → q n (with_loss z loss)
+  pub notes : (n : K) (z : Store F P H) (loss : Loss) → kind ≡ Losing loss → q n z → q n (with_loss z loss)
   pub pays : (n : K) (z : Store F P H) (t : ℕ) (o : Owed) → q n z → q n (with_owed z t o)
 
-pub moves_keep : {K F P H R : Type 0} {w : Policy K} {shut : Bool} {c : Contents F P H R} {q : K → Store F P H → Type 0} {k : K} {s : Store F P H}
+pub moves_keep : {K F P H R : Type 0} {w : Policy K} {kind : Kind} {c : Contents F P H R} {q : K → Store F P H → Type 0} {k : K} {s : Store F P H}
     {n : K} {z : Store F P H} →
-    IsKept w shut c q → q k s → Moves w shut c k s n z → q n z
+    IsKept w kind c q → q k s → Moves w kind c k s n z → q n z
 moves_keep f x stays = x
 moves_keep f x (reads {z = z} m ok is) = f.reads _ _ z ok is (moves_keep f x m)
 moves_keep f x (writes {z = z} m ok is) = f.writes _ _ z ok is (moves_keep f x m)
 moves_keep f x (falls_reading {z = z} m side pair is) = f.falls_reading _ _ z side pair is (moves_keep f x m)
 moves_keep f x (falls_writing {z = z} m side pair is) = f.falls_writing _ _ z side pair is (moves_keep f x m)
-moves_keep f x (falls {z = z} m side) = f.falls _ z side (moves_keep f x m)
+moves_keep f x (falls {z = z} m side lost) = f.falls _ z side lost (moves_keep f x m)
 moves_keep f x (takes {z = z} m t) = f.takes _ z t (moves_keep f x m)
 moves_keep f x (levels {z = z} m side t) = f.levels _ z side t (moves_keep f x m)
 moves_keep f x (spoils {z = z} m t is alone) = f.spoils _ z t is alone (moves_keep f x m)
@@ -193,9 +200,9 @@ pub record IsEnded {K F P H R : Type 0} (c : Contents F P H R) (q g : K → Stor
   pub opens : (n : K) (z : Store F P H) (t : ℕ) (i : Image) (origin : Origin) → MayOpen z t → q n z → g n (half_opened c z t i origin)
   pub pays : (n : K) (z : Store F P H) (t : ℕ) (o : Owed) → g n z → g n (with_owed z t o)
 
-pub ends_keep : {K F P H R : Type 0} {w : Policy K} {shut : Bool} {c : Contents F P H R} {q g : K → Store F P H → Type 0} {k : K}
+pub ends_keep : {K F P H R : Type 0} {w : Policy K} {kind : Kind} {c : Contents F P H R} {q g : K → Store F P H → Type 0} {k : K}
     {s : Store F P H} {n : K} {z : Store F P H} →
-    IsKept w shut c q → IsEnded c q g → q k s → Ends w shut c k s n z → g n z
+    IsKept w kind c q → IsEnded c q g → q k s → Ends w kind c k s n z → g n z
 ends_keep f e x (moved {z = z} m) = e.weaker _ z (moves_keep f x m)
 ends_keep f e x (opens {z = z} m t i origin may) = e.opens _ z t i origin may (moves_keep f x m)
 ends_keep f e x (then_pays {z = z} m t o) = e.pays _ z t o (ends_keep f e x m)
