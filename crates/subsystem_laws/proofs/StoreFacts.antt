@@ -1,6 +1,6 @@
 -- What is said of which sides are up, of failed calls and of lost tracks stays so behind each event, where it bears a lost track more, one failed call
 -- more, and the fall of the side of a pair whose call failed.
-use Rattle.std.proofs.Common.{◌≡◌, ℕ, Bool, true, false, List, Option, Some, None, refl, subst}
+use Rattle.std.proofs.Common.{◌≡◌, ℕ, Bool, true, false, List, Some, subst}
 use Rattle.std.specs.Prelude.{slice_set, if◌then◌else◌}
 use Rattle.ckd_types.specs.declared.paths.Side.{Side}
 use Rattle.ckd_types.specs.declared.paths.Side.TheVariants as sides

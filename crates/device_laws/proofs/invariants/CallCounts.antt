@@ -1,12 +1,12 @@
 -- The parts of an event on its tracks change nothing of what a device is, and count their calls.
-use Rattle.std.proofs.Common.{◌≡◌, ℕ, Bool, true, false, Option, Some, None, is_some, refl, sym, ap, subst, ◌∙◌}
+use Rattle.std.proofs.Common.{[], ◌≡◌, ℕ, Bool, true, false, Option, Some, None, is_some, refl, ap, subst, ◌∙◌}
 use Rattle.std.specs.Prelude.{if◌then◌else◌}
 use Rattle.ckd_types.specs.declared.paths.Side.{Side}
 use Rattle.ckd_types.specs.declared.paths.Side.TheVariants.{A, B}
 use Rattle.ckd_types.specs.declared.record.Edit.{Edit}
 use Rattle.loss_model.specs.declared.Loss.{Loss}
 use Rattle.loss_model.specs.declared.Loss.TheVariants as losses
-use Rattle.plain_defs.specs.declared.journal.Act.TheVariants.{Loosen, Harden}
+use Rattle.plain_defs.specs.declared.journal.Act.TheVariants.{CfwLost, Loosen, Harden}
 use Rattle.track_image.specs.Image.{Image}
 use Rattle.device_outside.specs.Interaction.{Interaction}
 use Rattle.device_outside.specs.Pool.{Call}
@@ -14,15 +14,15 @@ use Rattle.device_defs.specs.declared.usage.Usage.{Usage}
 use Rattle.device_defs.specs.Background.{work}
 use Rattle.device_defs.specs.Choosing.{provisionally_written}
 use Rattle.device_defs.specs.Contents.{Contents}
-use Rattle.device_defs.specs.Cutting.{half_cut}
 use Rattle.device_defs.specs.Editing.{write}
-use Rattle.device_defs.specs.Effects.{hardened, loosened}
+use Rattle.device_defs.specs.Effects.{acted, gone_back, loose_lost, hardened, loosened}
 use Rattle.device_defs.specs.Events.{with_loss, lost_by, losing}
 use Rattle.device_defs.specs.Image.{level_bytes, image}
-use Rattle.device_defs.specs.Losses.{all_firm_told}
+use Rattle.device_defs.specs.Losses as L
+use Rattle.device_defs.specs.Losses.{over, down, settled, without_frame, side_lost, store_lost, all_firm_told}
 use Rattle.device_defs.specs.Owed.{hear, all_told}
 use Rattle.device_defs.specs.Second.{second_part}
-use Rattle.device_defs.specs.Store.{HalfWrite, Store, tracks_of, is_loose, with_stale}
+use Rattle.device_defs.specs.Store.{HalfWrite, Store, tracks_of, has_loose, is_loose, with_stale}
 use Rattle.device_defs.specs.Writing.{taken_a}
 use Rattle.device_laws.proofs.Based.{
   Base,
@@ -40,27 +40,24 @@ use Rattle.device_laws.proofs.Based.{
   write_base,
   stale_base,
   down_base,
-  side_base,
-  cache_base,
-  store_base,
   forget,
   kept,
   acted_base,
   based_forget,
 }
-use Rattle.device_laws.proofs.walks.Within.{
-  Policy,
-  Within,
-  within_done,
-  within_try,
-  within_ask,
-  within_read,
-  within_write,
-  within_tell,
-  within_weaker,
+use Rattle.device_laws.proofs.walks.Within.{Policy, Within, within_done, within_try, within_ask, within_read, within_write, within_tell, within_weaker}
+use Rattle.device_laws.proofs.walks.Moves.{Shut, Moves, stays, Ends, Goes, Comes, IsKept, moves_keep, IsEnded, ends_keep}
+use Rattle.device_laws.proofs.walks.Reads.{
+  over_moves,
+  side_moves,
+  swept_moves,
+  store_moves,
+  hear_goes,
+  all_told_goes,
+  firm_told_goes,
+  level_goes,
+  image_goes,
 }
-use Rattle.device_laws.proofs.walks.Moves.{Shut, Moves, stays, IsKept, moves_keep, IsEnded, ends_keep, Ends}
-use Rattle.device_laws.proofs.walks.Reads.{hear_goes, all_told_goes, firm_told_goes, half_cut_goes, level_goes, image_goes}
 use Rattle.device_laws.proofs.walks.Writes.{write_comes, second_part_goes, work_comes}
 
 -- what a device is goes along, with the calls that it counts
@@ -144,13 +141,17 @@ module _ {F P H R : Type 0} (c : Contents F P H R) where
   abbrev pub Steady : {A : Type 0} → Store F P H → Interaction R Image (Store F P H) A → Type 0
   Steady s i = Based base_of Hushed (base_of s) i
 
-  moves_steady : {A : Type 0} (s : Store F P H) {i : Interaction R Image (Store F P H) A} →
-      Within calls Hushed (λ n z a. Moves calls Shut c (base_of s) s n z) (base_of s) i → Steady s i
-  moves_steady s x = within_based (within_weaker x (λ n z a m. moves_keep {q = Counts} calls_kept refl m))
+  pub moves_count : (s : Store F P H) {n : Base} {z : Store F P H} → Moves calls Shut c (base_of s) s n z → base_of z ≡ n
+  moves_count s m = moves_keep {q = Counts} calls_kept refl m
 
-  ends_steady : {A : Type 0} (s : Store F P H) {i : Interaction R Image (Store F P H) A} →
-      Within calls Hushed (λ n z a. Ends calls Shut c (base_of s) s n z) (base_of s) i → Steady s i
-  ends_steady s x = within_based (within_weaker x (λ n z a m. ends_keep {q = Counts} {g = Counts} calls_kept calls_ended refl m))
+  pub ends_count : (s : Store F P H) {n : Base} {z : Store F P H} → Ends calls Shut c (base_of s) s n z → base_of z ≡ n
+  ends_count s m = ends_keep {q = Counts} {g = Counts} calls_kept calls_ended refl m
+
+  moves_steady : {A : Type 0} (s : Store F P H) {i : Interaction R Image (Store F P H) A} → Goes calls Shut c (base_of s) s (base_of s) i → Steady s i
+  moves_steady s x = within_based (within_weaker x (λ n z a m. moves_count s m))
+
+  pub ends_steady : {A : Type 0} (s : Store F P H) {i : Interaction R Image (Store F P H) A} → Comes calls Shut c (base_of s) s (base_of s) i → Steady s i
+  ends_steady s x = within_based (within_weaker x (λ n z a m. ends_count s m))
 
   -- Notices, what is told, losses and cuts
 
@@ -163,19 +164,30 @@ module _ {F P H R : Type 0} (c : Contents F P H R) where
   pub firm_steady : (n : ℕ) (s : Store F P H) → Steady s (all_firm_told c n s)
   firm_steady n s = moves_steady s (firm_told_goes n s stays)
 
+  pub side_base : (s : Store F P H) (side : Side) (writing : Option ℕ) → base_of (side_lost c s side writing) ≡ base_of s
+  side_base s side writing = moves_count (down s side) (side_moves s side writing stays) ∙ down_base s side
+
+  pub store_base : (s : Store F P H) → base_of (store_lost c s) ≡ base_of s
+  store_base s = moves_count s (store_moves s stays)
+
+  pub swept_base : (n : ℕ) (s : Store F P H) → base_of (over n (λ t z. settled c (without_frame z t) t) s) ≡ base_of s
+  swept_base n s = moves_count s (over_moves (λ t z. settled c (without_frame z t) t) swept_moves n s stays)
+
+  loose_by : (s : Store F P H) (x : Bool) → kept (record (if x then acted (gone_back s) CfwLost else s) { queue = [] }) ≡ kept s
+  loose_by s true = refl
+  loose_by s false = refl
+
   lost_base : (s : Store F P H) (loss : Loss) → kept (lost_by c s loss) ≡ kept s
-  lost_base s losses.Cache = cache_base c s
-  lost_base s losses.Store = ap forget (store_base c s)
-  lost_base s (losses.Side side) = ap forget (side_base c s side None)
+  unfolding L.cache_lost
+  lost_base s losses.Cache = ap forget (swept_base (tracks_of s) (record (loose_lost s) { queue = [] })) ∙ loose_by s (has_loose s)
+  lost_base s losses.Store = ap forget (store_base s)
+  lost_base s (losses.Side side) = ap forget (side_base s side None)
 
   -- a loss may be one of data of cache fast write
   pub losing_steady : (s : Store F P H) (loss : Loss) → Based kept Hushed (kept (with_loss s loss)) (losing c s loss)
   losing_steady s loss =
       let z = lost_by c (with_loss s loss) loss in
       subst (λ (x : Base). Based kept Hushed x (losing c s loss)) (lost_base (with_loss s loss) loss) (based_forget (firm_steady (tracks_of s) z))
-
-  pub half_cut_steady : (s : Store F P H) → Steady s (half_cut c s s.half)
-  half_cut_steady s = moves_steady s (half_cut_goes s stays)
 
   -- Images, writes, and work
 

@@ -1,23 +1,5 @@
 -- Side B is held only of a pair whose side A is up, and that has the track of an open half write: so it is behind each event, whatever calls fail.
-use Rattle.std.proofs.Common.{
-  ◌≡◌,
-  ◌≢◌,
-  ◌==◌,
-  ℕ,
-  Bool,
-  true,
-  false,
-  Option,
-  Some,
-  None,
-  set,
-  option_map,
-  refl,
-  sym,
-  ap,
-  subst,
-  ◌∙◌,
-}
+use Rattle.std.proofs.Common.{◌≡◌, ◌≢◌, ℕ, Bool, true, false, Option, Some, None, set, option_map, refl, sym, ap, subst, ◌∙◌}
 use Rattle.std.proofs.lemmas.Bool.{cases_eq, eqb-false}
 use Rattle.std.proofs.lemmas.List.{get_or-set_other}
 use Rattle.std.specs.Prelude.{if◌then◌else◌}
@@ -28,7 +10,6 @@ use Rattle.loss_model.specs.declared.Loss.{Loss}
 use Rattle.loss_model.specs.declared.Loss.TheVariants as losses
 use Rattle.track_image.specs.Image.{Image}
 use Rattle.device_outside.specs.Interaction.{Interaction, Done}
-use Rattle.device_defs.specs.Choosing.{provisionally_written}
 use Rattle.device_defs.specs.Command.{command}
 use Rattle.device_defs.specs.Contents.{Contents}
 use Rattle.device_defs.specs.Cutting.{reset, power}
@@ -39,14 +20,14 @@ use Rattle.device_defs.specs.Image.{read_counted}
 use Rattle.device_defs.specs.Losses.{over, down, side_lost, without_frame}
 use Rattle.device_defs.specs.Orders as K
 use Rattle.device_defs.specs.Orders.{lent_to, given_up, lend}
-use Rattle.device_defs.specs.Owed.{begun, waiting_count, ended}
+use Rattle.device_defs.specs.Owed.{begun, waiting_count}
 use Rattle.device_defs.specs.Store.{HalfWrite, SideMarks, Store, tracks_of, stale_at, half_is, is_loose, with_stale, with_frame}
-use Rattle.device_defs.specs.Writing.{write_counted, taken_a}
+use Rattle.device_defs.specs.Writing.{write_counted}
 use Rattle.device_laws.proofs.Always.{Always, always_done, always_then}
 use Rattle.device_laws.proofs.PoolWalks.{asks_always, ended_asks}
 use Rattle.device_laws.proofs.Unlost.{clear_at}
 use Rattle.device_laws.proofs.walks.Within.{always, within_always, within_weaker}
-use Rattle.device_laws.proofs.walks.Moves.{Kind, Shut, Half, Losing, Moves, stays, IsKept, moves_keep, IsEnded, ends_keep}
+use Rattle.device_laws.proofs.walks.Moves.{Kind, Shut, Half, Losing, stays, IsKept, moves_keep, IsEnded, ends_keep}
 use Rattle.device_laws.proofs.walks.Reads.{over_moves, unpatched_moves, unframed_moves, side_moves}
 use Rattle.device_laws.proofs.walks.Events.{command_leads, second_leads, background_leads, lose_leads, power_leads, reset_leads}
 

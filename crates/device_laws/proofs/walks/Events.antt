@@ -1,6 +1,5 @@
 -- One walk of whole events, into moves of the device's tracks and sides.
-use Rattle.std.proofs.Common.{◌≡◌, ◌==◌, zero, suc, ℕ, Bool, true, false, Option, Some, None, refl, sym, subst}
-use Rattle.std.specs.Prelude.{if◌then◌else◌}
+use Rattle.std.proofs.Common.{◌≡◌, ◌==◌, zero, suc, ℕ, Bool, Option, Some, None, refl, sym, subst}
 use Rattle.ckd_chain.specs.declared.progress.Progress.{Progress}
 use Rattle.ckd_chain.specs.declared.progress.Progress.TheVariants as progresses
 use Rattle.ckd_chain.specs.declared.progress.Settled.TheVariants.{Equipment}
@@ -44,8 +43,7 @@ use Rattle.device_defs.specs.Events.{with_loss, losing, second_turn, command_end
 use Rattle.device_defs.specs.Image.{Imaged, Has, NoBytes, BadTrack}
 use Rattle.device_defs.specs.Memory.{had_by}
 use Rattle.device_defs.specs.Outcomes.{Turn, ends_with, settles, checks, usage_of}
-use Rattle.device_defs.specs.Owed.{begun, hear, all_told, waiting_count, waiting_told, ended}
-use Rattle.device_defs.specs.Second.{second_part}
+use Rattle.device_defs.specs.Owed.{begun, hear, waiting_count}
 use Rattle.device_defs.specs.Store.{Origin, OfCommand, OfCut, OfBackground, HalfWrite, Store, tracks_of, is_lost}
 use Rattle.device_laws.proofs.Based.{Hushed, Any}
 use Rattle.device_laws.proofs.PoolWalks.{ended_asks}
@@ -76,7 +74,7 @@ module _ {K F P H R : Type 0} (w : Policy K) (kind : Kind) (c : Contents F P H R
   abbrev Looks : K → Interaction R Image (Store F P H) (Option Went) → Type 0
   Looks n i = Within w Hushed Went_to n i
 
-  abbrev Later : ℕ → ℕ → Type 0
+  abbrev pub Later : ℕ → ℕ → Type 0
   Later j first = (n : K) (chain : ChainState) (t : ℕ) (z : Store F P H) → Moves w kind c k s n z →
       Comes w kind c k s n (follow c j first chain t z)
 
@@ -124,7 +122,7 @@ module _ {K F P H R : Type 0} {w : Policy K} {kind : Kind} {c : Contents F P H R
     goes_comes j first z (Some (Over turn)) later m = within_done m
     goes_comes j first z (Some (On chain q)) later m = later _ chain q z m
 
-    follow_comes : (j first : ℕ) → Later w kind c k s j first
+    pub follow_comes : (j first : ℕ) → Later w kind c k s j first
     unfolding N.follow
     follow_comes zero first n chain t z m = within_done (moved m)
     follow_comes (suc j) first n chain t z m =

@@ -1,6 +1,6 @@
 -- The primitive moves of a device's tracks and sides, and what is kept by each is kept by all.
-use Rattle.std.proofs.Common.{◌≡◌, ℕ, Bool, true, false, List, [], ◌∷◌, ◌++◌, Option, Some, None, is_some}
-use Rattle.std.specs.Prelude.{if◌then◌else◌, length, nat_lt}
+use Rattle.std.proofs.Common.{[], ◌≡◌, ℕ, Bool, true, false, List, ◌∷◌, ◌++◌, Option, Some, None, is_some}
+use Rattle.std.specs.Prelude.{length, nat_lt}
 use Rattle.ckd_types.specs.declared.paths.Side.{Side}
 use Rattle.ckd_types.specs.declared.paths.Side.TheVariants as sides
 use Rattle.ckd_types.specs.declared.record.Edit.{Edit}
@@ -20,7 +20,6 @@ use Rattle.device_defs.specs.Owed.{is_clean}
 use Rattle.device_defs.specs.Second.{closed}
 use Rattle.device_defs.specs.Store.{
   Origin,
-  OfCommand,
   OfCut,
   HalfWrite,
   Store,

@@ -1,5 +1,5 @@
 -- One walk of what begins and ends an event, of failed calls and losses, and of the image of a track, into moves.
-use Rattle.std.proofs.Common.{◌≡◌, ◌+◌, zero, suc, ℕ, Bool, true, false, List, [], ◌∷◌, Option, Some, None, is_some, refl, ap, subst, ◌∙◌}
+use Rattle.std.proofs.Common.{[], ◌≡◌, ◌+◌, zero, suc, ℕ, Bool, true, false, Option, Some, None, is_some, refl, ap, ◌∙◌}
 use Rattle.std.specs.Prelude.{if◌then◌else◌, ◌==◌, length, nat_le, nat_lt}
 use Rattle.ckd_types.specs.declared.paths.Side.{Side}
 use Rattle.ckd_types.specs.declared.paths.Side.TheVariants as sides
@@ -7,11 +7,11 @@ use Rattle.ckd_types.specs.Parameters.{is_bypass}
 use Rattle.loss_model.specs.declared.Loss.{Loss}
 use Rattle.loss_model.specs.declared.Loss.TheVariants as losses
 use Rattle.track_image.specs.Image.{Image}
-use Rattle.device_outside.specs.Interaction.{Interaction, Done, and_then}
+use Rattle.device_outside.specs.Interaction.{Done}
 use Rattle.device_defs.specs.declared.usage.Usage.{Usage}
 use Rattle.device_defs.specs.Contents.{Contents}
 use Rattle.device_defs.specs.Cutting.{origin_cut, half_cut, half_ended, half_lost, loose_gone, powerless}
-use Rattle.device_defs.specs.Effects.{acted, gone_back, loose_lost}
+use Rattle.device_defs.specs.Effects.{loose_lost}
 use Rattle.device_defs.specs.Events.{with_loss, lost_by, losing}
 use Rattle.device_defs.specs.Image as I
 use Rattle.device_defs.specs.Image.{
@@ -73,19 +73,9 @@ use Rattle.device_defs.specs.Store.{
   with_lost,
 }
 use Rattle.device_defs.specs.Writing.{write_counted}
-use Rattle.device_laws.proofs.Based.{Hushed, Any}
+use Rattle.device_laws.proofs.Based.{Any}
 use Rattle.device_laws.proofs.PoolWalks.{hear_asks, told_asks, ended_asks, filled_asks, missed_asks}
-use Rattle.device_laws.proofs.walks.Within.{
-  Policy,
-  Within,
-  within_done,
-  within_ask,
-  within_read,
-  within_tell,
-  within_then,
-  within_if,
-  asks_within,
-}
+use Rattle.device_laws.proofs.walks.Within.{Policy, Within, within_done, within_ask, within_read, within_tell, within_then, within_if, asks_within}
 use Rattle.device_laws.proofs.walks.Moves.{
   Kind,
   Losing,
@@ -169,7 +159,7 @@ module _ {K F P H R : Type 0} {w : Policy K} {kind : Kind} {c : Contents F P H R
   unfolding L.side_lost
   side_moves z side writing m = over_moves (settled_but c writing) (but_moves writing) (tracks_of z) (down z side) m
 
-  swept_moves : {n : K} (t : ℕ) (z : Store F P H) → Moves w kind c k s n z → Moves w kind c k s n (settled c (without_frame z t) t)
+  pub swept_moves : {n : K} (t : ℕ) (z : Store F P H) → Moves w kind c k s n z → Moves w kind c k s n (settled c (without_frame z t) t)
   swept_moves t z m = settled_moves (without_frame z t) t (unframed_moves z t m)
 
   cache_moves : {n : K} (z : Store F P H) → kind ≡ Losing losses.Cache → Moves w kind c k s n z → Moves w kind c k s n (cache_lost c z)
@@ -187,7 +177,7 @@ module _ {K F P H R : Type 0} {w : Policy K} {kind : Kind} {c : Contents F P H R
       (stales gone t (ap (λ (h : Option (HalfWrite H)). half_is h t) (half_same z t (slot_in c (patch_at z t))) ∙ other))))
       (λ _. m)
 
-  store_moves : {n : K} (z : Store F P H) → Moves w kind c k s n z → Moves w kind c k s n (store_lost c z)
+  pub store_moves : {n : K} (z : Store F P H) → Moves w kind c k s n z → Moves w kind c k s n (store_lost c z)
   unfolding L.store_lost
   store_moves z m = over_moves (patch_lost c) patch_moves (tracks_of z) z m
 

@@ -1,5 +1,5 @@
 -- One walk of writes to the volumes, of the second part of one, and of work in the background, into moves.
-use Rattle.std.proofs.Common.{◌≡◌, ℕ, Bool, true, false, List, [], ◌∷◌, Option, Some, None, is_some, refl}
+use Rattle.std.proofs.Common.{[], ◌≡◌, ℕ, Bool, true, false, List, ◌∷◌, Option, Some, None, is_some, refl}
 use Rattle.std.specs.Prelude.{if◌then◌else◌, ◌||◌, not}
 use Rattle.ckd_types.specs.declared.paths.Side.{Side}
 use Rattle.ckd_types.specs.declared.paths.Side.TheVariants as sides
@@ -58,7 +58,7 @@ use Rattle.device_defs.specs.Editing.{
   write,
 }
 use Rattle.device_defs.specs.Effects.{with_edit}
-use Rattle.device_defs.specs.Image.{Got, read_counted, level_bytes, image_of, filled}
+use Rattle.device_defs.specs.Image.{Got, read_counted, image_of}
 use Rattle.device_defs.specs.Losses.{settled, framed_image}
 use Rattle.device_defs.specs.Owed.{is_clean}
 use Rattle.device_defs.specs.Second as D
@@ -70,7 +70,6 @@ use Rattle.device_defs.specs.Store.{
   OfBackground,
   HalfWrite,
   Store,
-  stale_at,
   has_level,
   takes_b,
   frame_at,
@@ -130,23 +129,12 @@ use Rattle.device_laws.proofs.walks.Moves.{
   goes_provisionally,
   closes,
   MayOpen,
-  Ends,
   Goes,
   Comes,
   moved,
   opens,
 }
-use Rattle.device_laws.proofs.walks.Reads.{
-  moves_if,
-  unpatched_moves,
-  settled_moves,
-  After,
-  read_after,
-  write_after,
-  failed_goes,
-  level_goes,
-  filled_goes,
-}
+use Rattle.device_laws.proofs.walks.Reads.{moves_if, unpatched_moves, settled_moves, After, read_after, write_after, failed_goes, level_goes, filled_goes}
 
 -- Where a half write may be opened
 
