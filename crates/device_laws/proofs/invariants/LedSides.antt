@@ -253,7 +253,8 @@ module _ {F P H R : Type 0} (c : Contents F P H R) where
   unfolding K.lend
   lend_steers d to alone f =
       always_then {f = event_ended c d} {p = λ y _. IsSide y.store} (always_done (lent (over (tracks_of d.store) (given_up c) (begun d.store)) left))
-      (λ y a g. always_then {f = λ z _. Done (record y { store = z }) a} (asks_always (ended_asks c IsSide (λ z t x. x) (waiting_count c d.store) y.store g)) (λ z _ x. always_done x))
+      (λ y a g. always_then {f = λ z _. Done (record y { store = z }) a}
+      (asks_always (ended_asks c IsSide (λ z t x. x) (waiting_count c d.store) y.store g)) (λ z _ x. always_done x))
     where
       left : IsAlone (state_of (over (tracks_of d.store) (given_up c) (begun d.store)))
       left =

@@ -66,13 +66,13 @@ use Rattle.device_laws.proofs.walks.Writes.{write_comes, second_part_goes, work_
 
 module _ {K F P H R : Type 0} (w : Policy K) (kind : Kind) (c : Contents F P H R) (k : K) (s : Store F P H) where
   -- behind a look: where the command goes on, no half write was opened
-  abbrev Went_to : K → Store F P H → Option Went → Type 0
-  Went_to n z None = Ends w kind c k s n z
-  Went_to n z (Some (Over turn)) = Ends w kind c k s n z
-  Went_to n z (Some (On chain t)) = Moves w kind c k s n z
+  abbrev WentTo : K → Store F P H → Option Went → Type 0
+  WentTo n z None = Ends w kind c k s n z
+  WentTo n z (Some (Over turn)) = Ends w kind c k s n z
+  WentTo n z (Some (On chain t)) = Moves w kind c k s n z
 
   abbrev Looks : K → Interaction R Image (Store F P H) (Option Went) → Type 0
-  Looks n i = Within w Hushed Went_to n i
+  Looks n i = Within w Hushed WentTo n i
 
   abbrev pub Later : ℕ → ℕ → Type 0
   Later j first = (n : K) (chain : ChainState) (t : ℕ) (z : Store F P H) → Moves w kind c k s n z →
@@ -103,7 +103,8 @@ module _ {K F P H R : Type 0} {w : Policy K} {kind : Kind} {c : Contents F P H R
         within_then (had_by (came_of_write c chain t)) (write_comes is_shut z u first t i e m) (λ n y o g. came_looks chain t y o g)
     went_looks u first t z i chain (progresses.Local act) m = within_done (moved m)
 
-    looked_looks : {n : K} (chain : ChainState) (first t : ℕ) (z : Store F P H) (o : Option Imaged) → Moves w kind c k s n z → Looks w kind c k s n (had_by (looked c chain first t) z o)
+    looked_looks : {n : K} (chain : ChainState) (first t : ℕ) (z : Store F P H) (o : Option Imaged) → Moves w kind c k s n z →
+        Looks w kind c k s n (had_by (looked c chain first t) z o)
     looked_looks chain first t z None m = within_done (moved m)
     looked_looks chain first t z (Some (Has i)) m =
         within_tried z _ (moved m) (went_looks (usage_of chain) first t z i (stepped chain (Some i)).chain (stepped chain (Some i)).progress m)
@@ -116,7 +117,7 @@ module _ {K F P H R : Type 0} {w : Policy K} {kind : Kind} {c : Contents F P H R
         within_if (is_lost z t) (λ _. within_done (moved m))
         (λ _. within_then (had_by (looked c chain first t)) (image_goes z (usage_of chain) t m) (λ n y o g. looked_looks chain first t y o g))
 
-    goes_comes : {n : K} (j first : ℕ) (z : Store F P H) (o : Option Went) → Later w kind c k s j first → Went_to w kind c k s n z o →
+    goes_comes : {n : K} (j first : ℕ) (z : Store F P H) (o : Option Went) → Later w kind c k s j first → WentTo w kind c k s n z o →
         Comes w kind c k s n (had_by (goes_on c (follow c j first)) z o)
     goes_comes j first z None later m = within_done m
     goes_comes j first z (Some (Over turn)) later m = within_done m
@@ -148,14 +149,16 @@ module _ {K F P H R : Type 0} {w : Policy K} {kind : Kind} {c : Contents F P H R
   answered_bodies d path chain (progresses.Write q e) m = out_bodies d path (checks chain Equipment) m
 
   module _ (is_shut : kind ≡ Shut) where
-    at_bodies : {n : K} (d : Device F P H) (path : ℕ) (chain : ChainState) (o : Option ℕ) → Moves w kind c k s n d.store → Bodies w kind c k s n (command_at c d path chain o)
+    at_bodies : {n : K} (d : Device F P H) (path : ℕ) (chain : ChainState) (o : Option ℕ) → Moves w kind c k s n d.store →
+        Bodies w kind c k s n (command_at c d path chain o)
     at_bodies d path chain (Some t) m =
         within_then (on_tracks c d path chain) (follow_comes is_shut (tracks_of d.store) t _ chain t d.store m) (λ n y o g. on_bodies d path chain y o g)
     at_bodies d path chain None m =
         within_try (λ ok _. within_if ok (λ _. answered_bodies d path (stepped chain None).chain (stepped chain None).progress (moved m))
         (λ _. within_done (moved m)))
 
-    pub by_bodies : {n : K} (d : Device F P H) (o : Option OpenEntry) (chain : Option ChainState) → Moves w kind c k s n d.store → Bodies w kind c k s n (command_by c d o chain)
+    pub by_bodies : {n : K} (d : Device F P H) (o : Option OpenEntry) (chain : Option ChainState) → Moves w kind c k s n d.store →
+        Bodies w kind c k s n (command_by c d o chain)
     by_bodies d (Some o) (Some chain) m =
         within_if (has_loss o.acts) (λ _. out_bodies d o.path (checks chain Equipment) (moved m)) (λ _. at_bodies d o.path chain (need_of chain) m)
     by_bodies d (Some o) None m = within_done (moved m)
@@ -190,12 +193,14 @@ module _ {K F P H R : Type 0} {w : Policy K} {kind : Kind} {c : Contents F P H R
         (asks_within (ended_asks c (λ y. Ends w kind c k s _ y) (λ y t x. then_pays x t _) (waiting_count c old.store) d.store m))
         (λ n z _ g. within_done g)
 
-    pub quiet_leaves : {n : K} (d : Device F P H) (body : Device F P H → Interaction R Image (Device F P H) A) → Bodies w kind c k s n (body (event_begun d)) →
+    pub quiet_leaves : {n : K} (d : Device F P H) (body : Device F P H → Interaction R Image (Device F P H) A) →
+        Bodies w kind c k s n (body (event_begun d)) →
         Leaves w kind c k s n (quiet_event c d body)
     quiet_leaves d body x = within_then (event_ended c d) (within_any x) (λ n y a g. ended_leaves d y a g)
 
     pub event_leaves : {n : K} (d : Device F P H) (body : Device F P H → Interaction R Image (Device F P H) A) → Moves w kind c k s n (begun d.store) →
-        ((m : K) (z : Store F P H) → Moves w kind c k s m z → Bodies w kind c k s m (body (record (event_begun d) { store = z }))) → Leaves w kind c k s n (event c d body)
+        ((m : K) (z : Store F P H) → Moves w kind c k s m z → Bodies w kind c k s m (body (record (event_begun d) { store = z }))) →
+        Leaves w kind c k s n (event c d body)
     event_leaves d body m x =
         quiet_leaves d (λ y. and_then (hear c 960 y.store) (λ z _. body (record y { store = z })))
         (within_then (λ z _. body (record (event_begun d) { store = z })) (hear_goes 960 (begun d.store) m) (λ n z _ g. x n z g))

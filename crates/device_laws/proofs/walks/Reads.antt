@@ -119,11 +119,13 @@ module _ {K F P H R : Type 0} (w : Policy K) (kind : Kind) (c : Contents F P H R
 module _ {K F P H R : Type 0} {w : Policy K} {kind : Kind} {c : Contents F P H R} {k : K} {s : Store F P H} where
   -- Changes that ask nothing
 
-  pub moves_if : {n : K} (b : Bool) (x y : Store F P H) → (b ≡ true → Moves w kind c k s n x) → (b ≡ false → Moves w kind c k s n y) → Moves w kind c k s n (if b then x else y)
+  pub moves_if : {n : K} (b : Bool) (x y : Store F P H) → (b ≡ true → Moves w kind c k s n x) → (b ≡ false → Moves w kind c k s n y) →
+      Moves w kind c k s n (if b then x else y)
   moves_if true x y f g = f refl
   moves_if false x y f g = g refl
 
-  pub over_moves : {n : K} (f : ℕ → Store F P H → Store F P H) → ((q : ℕ) (y : Store F P H) → Moves w kind c k s n y → Moves w kind c k s n (f q y)) → (j : ℕ) (z : Store F P H) →
+  pub over_moves : {n : K} (f : ℕ → Store F P H → Store F P H) → ((q : ℕ) (y : Store F P H) → Moves w kind c k s n y → Moves w kind c k s n (f q y)) →
+      (j : ℕ) (z : Store F P H) →
       Moves w kind c k s n z → Moves w kind c k s n (over j f z)
   unfolding L.over
   over_moves f h zero z m = m
@@ -155,7 +157,8 @@ module _ {K F P H R : Type 0} {w : Policy K} {kind : Kind} {c : Contents F P H R
   but_moves None q z m = settled_moves z q m
   but_moves (Some t) q z m = moves_if (q == t) z _ (λ _. m) (λ _. settled_moves z q m)
 
-  pub side_moves : {n : K} (z : Store F P H) (side : Side) (writing : Option ℕ) → Moves w kind c k s n (down z side) → Moves w kind c k s n (side_lost c z side writing)
+  pub side_moves : {n : K} (z : Store F P H) (side : Side) (writing : Option ℕ) → Moves w kind c k s n (down z side) →
+      Moves w kind c k s n (side_lost c z side writing)
   unfolding L.side_lost
   side_moves z side writing m = over_moves (settled_but c writing) (but_moves writing) (tracks_of z) (down z side) m
 
@@ -241,14 +244,16 @@ module _ {K F P H R : Type 0} {w : Policy K} {kind : Kind} {c : Contents F P H R
   write_after z true is x = writes x true is
   write_after z false is x = (writes x false is, λ side pair. falls_writing x side pair is)
 
-  pub failed_goes : {n : K} (z : Store F P H) (side : Side) (writing : Option ℕ) → After w kind c k s n false z → Goes w kind c k s n (call_failed c z side writing)
+  pub failed_goes : {n : K} (z : Store F P H) (side : Side) (writing : Option ℕ) → After w kind c k s n false z →
+      Goes w kind c k s n (call_failed c z side writing)
   failed_goes z side writing f =
       within_if z.paired (λ pair. firm_told_goes (tracks_of z) (side_lost c z side writing) (side_moves z side writing (f.1 side pair)))
       (λ _. within_done f.0)
 
   -- The image of a track
 
-  second_read_goes : {n : K} (fault : Option Side) (z : Store F P H) (got : Option R) → After w kind c k s n (is_some got) z → Goes w kind c k s n (second_read c fault z got)
+  second_read_goes : {n : K} (fault : Option Side) (z : Store F P H) (got : Option R) → After w kind c k s n (is_some got) z →
+      Goes w kind c k s n (second_read c fault z got)
   second_read_goes fault z (Some r) f = within_done f
   second_read_goes fault z None f = within_then (λ y _. Done y _) (failed_goes z sides.B None f) (λ n y _ g. within_done g)
 

@@ -185,7 +185,8 @@ module _ {K F P H R : Type 0} {w : Policy K} {kind : Kind} {c : Contents F P H R
   finished_goes : {n : K} (z : Store F P H) (t : ℕ) (i : Image) (bypass : Bool) → Moves w kind c k s n z → Goes w kind c k s n (finished c z t i bypass)
   finished_goes z t i bypass m = within_then (λ y _. Done y true) (done_goes z t i bypass m) (λ n y _ g. within_done g)
 
-  second_done_goes : {n : K} (z : Store F P H) (t : ℕ) (i : Image) (origin : Origin) → Moves w kind c k s n z → Goes w kind c k s n (second_done c z t i origin)
+  second_done_goes : {n : K} (z : Store F P H) (t : ℕ) (i : Image) (origin : Origin) → Moves w kind c k s n z →
+      Goes w kind c k s n (second_done c z t i origin)
   second_done_goes z t i (OfCommand bypass e) m = within_tell (λ r _. finished_goes (with_edit z t e) t i bypass (edits m t e))
   second_done_goes z t i (OfCut bypass) m = finished_goes z t i bypass m
   second_done_goes z t i OfBackground m = finished_goes z t i false m
@@ -217,7 +218,8 @@ module _ {K F P H R : Type 0} {w : Policy K} {kind : Kind} {c : Contents F P H R
   copied_goes t side z true f = within_done (levels f side t)
   copied_goes t side z false f = within_then (λ y _. Done y _) (failed_goes z side None f) (λ n y _ g. within_done g)
 
-  copy_read_goes : {n : K} (t : ℕ) (side : Side) (z : Store F P H) (o : Option R) → After w kind c k s n (is_some o) z → Goes w kind c k s n (copy_read c t side z o)
+  copy_read_goes : {n : K} (t : ℕ) (side : Side) (z : Store F P H) (o : Option R) → After w kind c k s n (is_some o) z →
+      Goes w kind c k s n (copy_read c t side z o)
   copy_read_goes t side z None f = within_then (λ y _. Done y _) (failed_goes z (other side) None f) (λ n y _ g. within_done g)
   copy_read_goes t side z (Some r) f = within_write (λ ok n is. copied_goes t side (write_counted z ok) ok (write_after z ok is f))
 
@@ -229,7 +231,8 @@ module _ {K F P H R : Type 0} {w : Policy K} {kind : Kind} {c : Contents F P H R
   unfilled_goes : {n : K} (z : Store F P H) (t : ℕ) (d : Option Did) → Moves w kind c k s n z → Goes w kind c k s n (unfilled c z t d)
   unfilled_goes z t d m = within_ask tt (λ _. within_done m)
 
-  staged_image_goes : {n : K} (t : ℕ) (z : Store F P H) (g : Got R) (o : Option Image) → Moves w kind c k s n z → Goes w kind c k s n (staged_image c t z g o)
+  staged_image_goes : {n : K} (t : ℕ) (z : Store F P H) (g : Got R) (o : Option Image) → Moves w kind c k s n z →
+      Goes w kind c k s n (staged_image c t z g o)
   staged_image_goes t z g None m = unfilled_goes z t _ m
   staged_image_goes t z g (Some i) m = within_then (λ y _. Done y _) (filled_goes z t i m) (λ n y _ x. within_done x)
 
@@ -267,7 +270,8 @@ module _ {K F P H R : Type 0} {w : Policy K} {kind : Kind} {c : Contents F P H R
         within_if tries (λ _. within_write (λ ok n is. alone_goes t (Some sides.A) sides.A (write_counted z ok) ok (write_after z ok is m)))
         (λ _. within_done (unwritten_moves z t m, λ e. absurd (cc)))
 
-    first_goes : {n : K} (t : ℕ) (r : R) (z : Store F P H) (ok : Bool) → z.a.up ≡ true → After w kind c k s n ok z → Writes w kind c k s n t (first_a c t r z ok)
+    first_goes : {n : K} (t : ℕ) (r : R) (z : Store F P H) (ok : Bool) → z.a.up ≡ true → After w kind c k s n ok z →
+        Writes w kind c k s n t (first_a c t r z ok)
     first_goes t r z true up f = within_done (takes f t, may_open z t up (takes_b z) refl)
     first_goes t r z false up f =
         within_then (λ y _. failed_a c t r (takes_b z) y) (failed_goes z sides.A (Some t) f) (λ n y _ g. failed_a_goes t r (takes_b z) y g)
@@ -280,11 +284,13 @@ module _ {K F P H R : Type 0} {w : Policy K} {kind : Kind} {c : Contents F P H R
         (λ _. within_write (λ ok n is. alone_goes t None sides.B (write_counted z ok) ok (write_after z ok is m)))
         (λ _. within_done (settled_moves z t m, λ e. absurd (cc))))
 
-    whole_goes : {n : K} (z : Store F P H) (t : ℕ) (i : Image) (e : Edit) (bypass : Bool) → Moves w kind c k s n z → Goes w kind c k s n (whole c z t i e bypass)
+    whole_goes : {n : K} (z : Store F P H) (t : ℕ) (i : Image) (e : Edit) (bypass : Bool) → Moves w kind c k s n z →
+        Goes w kind c k s n (whole c z t i e bypass)
     whole_goes z t i e bypass m =
         within_tell (λ r _. within_then (λ y _. Done y Whole) (done_goes (with_edit z t e) t i bypass (edits m t e)) (λ n y _ g. within_done g))
 
-    at_once_goes : {n : K} (z : Store F P H) (t : ℕ) (i : Image) (e : Edit) (bypass : Bool) → Moves w kind c k s n z → Goes w kind c k s n (at_once c z t i e bypass)
+    at_once_goes : {n : K} (z : Store F P H) (t : ℕ) (i : Image) (e : Edit) (bypass : Bool) → Moves w kind c k s n z →
+        Goes w kind c k s n (at_once c z t i e bypass)
     at_once_goes z t i e bypass m =
         within_then (λ y _. if has_level y t then whole c y t i e bypass else Done (settled c y t) Unwritten) (write_second_goes z t (c.bytes i) m)
         (λ n y _ g. within_if (has_level y t) (λ _. whole_goes y t i e bypass g) (λ _. within_done (settled_moves y t g)))
@@ -298,7 +304,8 @@ module _ {K F P H R : Type 0} {w : Policy K} {kind : Kind} {c : Contents F P H R
         (λ _. goes_comes (at_once_goes z t i e bypass m))
     through_by_comes t i e bypass halves was_loose z Unwritten m may = within_done (moved m)
 
-    through_comes : {n : K} (z : Store F P H) (t : ℕ) (i : Image) (e : Edit) (bypass halves : Bool) → Moves w kind c k s n z → Comes w kind c k s n (through c z t i e bypass halves)
+    through_comes : {n : K} (z : Store F P H) (t : ℕ) (i : Image) (e : Edit) (bypass halves : Bool) → Moves w kind c k s n z →
+        Comes w kind c k s n (through c z t i e bypass halves)
     unfolding E.through
     through_comes z t i e bypass halves m =
         within_then (λ y was_loose. and_then (write_first c y t (c.bytes i)) (λ x v. through_by c t i e bypass halves was_loose x v.took))
@@ -333,7 +340,8 @@ module _ {K F P H R : Type 0} {w : Policy K} {kind : Kind} {c : Contents F P H R
         (λ _. within_tell (λ ok _. within_if ok (λ _. written_comes z u first t old e choice m) (λ _. goes_comes (unchosen_goes z t choice m))))
         (λ _. written_comes z u first t old e choice m)
 
-    pub write_comes : {n : K} (z : Store F P H) (u : Usage) (first t : ℕ) (old : Image) (e : Edit) → Moves w kind c k s n z → Comes w kind c k s n (write c z u first t old e)
+    pub write_comes : {n : K} (z : Store F P H) (u : Usage) (first t : ℕ) (old : Image) (e : Edit) → Moves w kind c k s n z →
+        Comes w kind c k s n (write c z u first t old e)
     unfolding E.write
     write_comes z u first t old e m =
         within_tried z _ (moved m)
@@ -349,7 +357,8 @@ module _ {K F P H R : Type 0} {w : Policy K} {kind : Kind} {c : Contents F P H R
         within_then (λ y _. Done y _) (opened_comes z t i OfBackground was_loose m (may refl)) (λ n y _ g. within_done g)
     saved_by_comes t i d fault was_loose failed z Unwritten m may = within_done (moved m)
 
-    saved_comes : {n : K} (z : Store F P H) (t : ℕ) (i : Image) (d : Did) (fault : Option Side) → Moves w kind c k s n z → Comes w kind c k s n (saved c z t i d fault)
+    saved_comes : {n : K} (z : Store F P H) (t : ℕ) (i : Image) (d : Did) (fault : Option Side) → Moves w kind c k s n z →
+        Comes w kind c k s n (saved c z t i d fault)
     saved_comes z t i d fault m =
         within_tried z _ (moved m)
         (within_then (λ y e. Done y (Some e))
@@ -359,11 +368,13 @@ module _ {K F P H R : Type 0} {w : Policy K} {kind : Kind} {c : Contents F P H R
         (λ n x v h. saved_by_comes t i d fault was_loose v.fault x v.took h.0 h.1)))
         (λ n y e g. within_done g))
 
-    recovered_image_comes : {n : K} (t : ℕ) (z : Store F P H) (g : Got R) (o : Option Image) → Moves w kind c k s n z → Comes w kind c k s n (recovered_image c t z g o)
+    recovered_image_comes : {n : K} (t : ℕ) (z : Store F P H) (g : Got R) (o : Option Image) → Moves w kind c k s n z →
+        Comes w kind c k s n (recovered_image c t z g o)
     recovered_image_comes t z g None m = within_done (moved m)
     recovered_image_comes t z g (Some i) m = saved_comes z t i (Recovered t) g.fault m
 
-    recovered_bytes_comes : {n : K} (t : ℕ) (z : Store F P H) (g : Got R) (o : Option R) → Moves w kind c k s n z → Comes w kind c k s n (recovered_bytes c t z g o)
+    recovered_bytes_comes : {n : K} (t : ℕ) (z : Store F P H) (g : Got R) (o : Option R) → Moves w kind c k s n z →
+        Comes w kind c k s n (recovered_bytes c t z g o)
     recovered_bytes_comes t z g None m = within_done (moved m)
     recovered_bytes_comes t z g (Some r) m = within_tried z _ (moved m) (recovered_image_comes t z g (image_of c z t r) m)
 
