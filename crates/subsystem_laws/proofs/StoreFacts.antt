@@ -96,9 +96,9 @@ module _ {F P H R : Type 0} (c : Contents F P H R) (Q : Facts → Type 0) (bears
     spoils = λ n z t is alone f. f;
     stales = λ n z t other f. marked_so z t true z.paired f;
     firms = λ n z t is loose f. marked_so (hardened z t) t true z.paired f;
-    marks = λ n z t g is clean f. f;
-    hardens = λ n z t loose f. f;
-    loses = λ n z t half f. bears.loses (facts_of z) t f;
+    marks = λ n z t g bare is clean f. f;
+    hardens = λ n z t bare loose f. f;
+    loses = λ n z t bare none half f. bears.loses (facts_of z) t f;
     drops = λ n z t clean f. f;
     fills = λ n z t i patched is f. f;
     frames = λ n z t o f. f;
@@ -109,9 +109,9 @@ module _ {F P H R : Type 0} (c : Contents F P H R) (Q : Facts → Type 0) (bears
     dequeues = λ n z ts f. f;
     edits = λ n z t e f. f;
     goes_fast = λ n z t i e slot f. f;
-    goes_provisionally = λ n z t i e f. provisional_so z t i e (is_loose z t) f;
-    goes_back = λ n z f. f;
-    loses_loose = λ n z lossy f. f;
+    goes_provisionally = λ n z t i e is f. provisional_so z t i e (is_loose z t) f;
+    goes_back = λ n z some f. f;
+    loses_loose = λ n z lossy some f. f;
     closes = λ n z f. f;
     cuts = λ n z h bypass e is f. f;
     notes = λ n z loss lossy f. f;

@@ -109,9 +109,9 @@ module _ {F P H R : Type 0} (c : Contents F P H R) where
     spoils = λ n z t is alone e. e;
     stales = λ n z t half e. stale_base z t ∙ e;
     firms = λ n z t is loose e. stale_base (hardened z t) t ∙ acted_base z (Harden t) refl ∙ e;
-    marks = λ n z t f is clean e. e;
-    hardens = λ n z t loose e. acted_base z (Harden t) refl ∙ e;
-    loses = λ n z t half e. e;
+    marks = λ n z t f bare is clean e. e;
+    hardens = λ n z t bare loose e. acted_base z (Harden t) refl ∙ e;
+    loses = λ n z t bare none half e. e;
     drops = λ n z t clean e. e;
     fills = λ n z t i patched is e. e;
     frames = λ n z t o e. e;
@@ -122,9 +122,9 @@ module _ {F P H R : Type 0} (c : Contents F P H R) where
     dequeues = λ n z ts e. e;
     edits = λ n z t edit e. e;
     goes_fast = λ n z t i edit slot e. e;
-    goes_provisionally = λ n z t i edit e. provisional_base z t i edit ∙ e;
-    goes_back = λ n z e. e;
-    loses_loose = λ n z lossy e. absurd (cc);
+    goes_provisionally = λ n z t i edit is e. provisional_base z t i edit ∙ e;
+    goes_back = λ n z some e. e;
+    loses_loose = λ n z lossy some e. absurd (cc);
     closes = λ n z e. e;
     cuts = λ n z h bypass edit is e. e;
     notes = λ n z loss lossy e. absurd (cc);

@@ -122,9 +122,9 @@ module _ {F P H R : Type 0} (c : Contents F P H R) where
       spoils = λ n z t is alone f. so.firms (state_of z) t is f;
       stales = λ n z t other f. marked z t true z.paired (so.stales (state_of z) t (λ p e. not_it z.half t p other e) f);
       firms = λ n z t is loose f. marked (hardened z t) t true z.paired (so.firms (state_of z) t is f);
-      marks = λ n z t g is clean f. f;
-      hardens = λ n z t loose f. f;
-      loses = λ n z t half f. f;
+      marks = λ n z t g bare is clean f. f;
+      hardens = λ n z t bare loose f. f;
+      loses = λ n z t bare none half f. f;
       drops = λ n z t clean f. f;
       fills = λ n z t i patched is f. f;
       frames = λ n z t o f. f;
@@ -135,9 +135,9 @@ module _ {F P H R : Type 0} (c : Contents F P H R) where
       dequeues = λ n z ts f. f;
       edits = λ n z t e f. f;
       goes_fast = λ n z t i e slot f. f;
-      goes_provisionally = λ n z t i e f. provisional z t i e (is_loose z t) f;
-      goes_back = λ n z f. f;
-      loses_loose = λ n z lossy f. f;
+      goes_provisionally = λ n z t i e is f. provisional z t i e (is_loose z t) f;
+      goes_back = λ n z some f. f;
+      loses_loose = λ n z lossy some f. f;
       closes = λ n z f. so.closes (state_of z) f;
       cuts = λ n z h bypass e is f.
           subst (λ (o : Option ℕ). q (record (state_of z) { half = o })) (ap (option_map (λ (k : HalfWrite H). k.track)) is) f;

@@ -25,8 +25,11 @@ use Rattle.device_defs.specs.Store.{
   Store,
   stale_at,
   takes_b,
+  has_level,
+  has_loose,
   frame_at,
   patch_at,
+  is_lost,
   is_loose,
   half_is,
   owed_at,
@@ -46,6 +49,12 @@ pub data Kind : Type 0 where
   Shut : Kind
   Half : Kind
   Losing : Loss → Kind
+
+-- a track that is level on no side, of a device that isn't lent, and isn't lost yet
+pub record IsBare {F P H : Type 0} (z : Store F P H) (t : ℕ) : Type 0 where
+  pub lent : is_some z.lent ≡ false
+  pub there : is_lost z t ≡ false
+  pub none : has_level z t ≡ false
 
 -- From store s on to another, and from what the policy kept before to what it keeps then
 pub data Moves {K F P H R : Type 0} (w : Policy K) (kind : Kind) (c : Contents F P H R) (k : K) (s : Store F P H) : K → Store F P H → Type 0 where
@@ -67,10 +76,12 @@ pub data Moves {K F P H R : Type 0} (w : Policy K) (kind : Kind) (c : Contents F
   firms : {n : K} {z : Store F P H} → Moves w kind c k s n z → (t : ℕ) → kind ≡ Shut → is_loose z t ≡ true →
       Moves w kind c k s n (stale_everywhere (hardened z t) t)
   -- a track that is level on no side
-  marks : {n : K} {z : Store F P H} → Moves w kind c k s n z → (t : ℕ) (f : F) → frame_at z t ≡ Some f → c.modified f ≡ false →
+  marks : {n : K} {z : Store F P H} → Moves w kind c k s n z → (t : ℕ) (f : F) → IsBare z t → frame_at z t ≡ Some f → c.modified f ≡ false →
       Moves w kind c k s n (owes_modified (with_frame z t (Some (c.marked f true))) t)
-  hardens : {n : K} {z : Store F P H} → Moves w kind c k s n z → (t : ℕ) → is_loose z t ≡ true → Moves w kind c k s n (hardened_by_loss z t)
-  loses : {n : K} {z : Store F P H} → Moves w kind c k s n z → (t : ℕ) → half_is z.half t ≡ false → Moves w kind c k s n (with_lost z t)
+  hardens : {n : K} {z : Store F P H} → Moves w kind c k s n z → (t : ℕ) → IsBare z t → is_loose z t ≡ true →
+      Moves w kind c k s n (hardened_by_loss z t)
+  loses : {n : K} {z : Store F P H} → Moves w kind c k s n z → (t : ℕ) → IsBare z t → frame_at z t ≡ None → half_is z.half t ≡ false →
+      Moves w kind c k s n (with_lost z t)
   -- frames, patches and the queue
   drops : {n : K} {z : Store F P H} → Moves w kind c k s n z → (t : ℕ) → is_clean c (frame_at z t) ≡ true → Moves w kind c k s n (with_frame z t None)
   fills : {n : K} {z : Store F P H} → Moves w kind c k s n z → (t : ℕ) (i : Image) (patched : Bool) → is_some (patch_at z t) ≡ patched →
@@ -88,10 +99,11 @@ pub data Moves {K F P H R : Type 0} (w : Policy K) (kind : Kind) (c : Contents F
   edits : {n : K} {z : Store F P H} → Moves w kind c k s n z → (t : ℕ) (e : Edit) → Moves w kind c k s n (with_edit z t e)
   goes_fast : {n : K} {z : Store F P H} → Moves w kind c k s n z → (t : ℕ) (i : Image) (e : Edit) (slot : Option ℕ) →
       Moves w kind c k s n (fast_written c z t i e slot)
-  goes_provisionally : {n : K} {z : Store F P H} → Moves w kind c k s n z → (t : ℕ) (i : Image) (e : Edit) →
+  goes_provisionally : {n : K} {z : Store F P H} → Moves w kind c k s n z → (t : ℕ) (i : Image) (e : Edit) → kind ≡ Shut →
       Moves w kind c k s n (provisionally_written c z t i e)
-  goes_back : {n : K} {z : Store F P H} → Moves w kind c k s n z → Moves w kind c k s n (gone_back z)
-  loses_loose : {n : K} {z : Store F P H} → Moves w kind c k s n z → kind ≡ Losing losses.Cache → Moves w kind c k s n (acted (gone_back z) CfwLost)
+  goes_back : {n : K} {z : Store F P H} → Moves w kind c k s n z → has_loose z ≡ true → Moves w kind c k s n (gone_back z)
+  loses_loose : {n : K} {z : Store F P H} → Moves w kind c k s n z → kind ≡ Losing losses.Cache → has_loose z ≡ true →
+      Moves w kind c k s n (acted (gone_back z) CfwLost)
   -- a half write
   closes : {n : K} {z : Store F P H} → Moves w kind c k s n z → Moves w kind c k s n (closed z)
   cuts : {n : K} {z : Store F P H} → Moves w kind c k s n z → (h : HalfWrite H) (bypass : Bool) (e : Edit) → z.half ≡ Some h →
@@ -134,10 +146,10 @@ pub record IsKept {K F P H R : Type 0} (w : Policy K) (kind : Kind) (c : Content
   pub spoils : (n : K) (z : Store F P H) (t : ℕ) → kind ≡ Shut → z.paired ≡ false → q n z → q n (with_stale z sides.A t true)
   pub stales : (n : K) (z : Store F P H) (t : ℕ) → half_is z.half t ≡ false → q n z → q n (stale_everywhere z t)
   pub firms : (n : K) (z : Store F P H) (t : ℕ) → kind ≡ Shut → is_loose z t ≡ true → q n z → q n (stale_everywhere (hardened z t) t)
-  pub marks : (n : K) (z : Store F P H) (t : ℕ) (f : F) → frame_at z t ≡ Some f → c.modified f ≡ false → q n z →
+  pub marks : (n : K) (z : Store F P H) (t : ℕ) (f : F) → IsBare z t → frame_at z t ≡ Some f → c.modified f ≡ false → q n z →
       q n (owes_modified (with_frame z t (Some (c.marked f true))) t)
-  pub hardens : (n : K) (z : Store F P H) (t : ℕ) → is_loose z t ≡ true → q n z → q n (hardened_by_loss z t)
-  pub loses : (n : K) (z : Store F P H) (t : ℕ) → half_is z.half t ≡ false → q n z → q n (with_lost z t)
+  pub hardens : (n : K) (z : Store F P H) (t : ℕ) → IsBare z t → is_loose z t ≡ true → q n z → q n (hardened_by_loss z t)
+  pub loses : (n : K) (z : Store F P H) (t : ℕ) → IsBare z t → frame_at z t ≡ None → half_is z.half t ≡ false → q n z → q n (with_lost z t)
   pub drops : (n : K) (z : Store F P H) (t : ℕ) → is_clean c (frame_at z t) ≡ true → q n z → q n (with_frame z t None)
   pub fills : (n : K) (z : Store F P H) (t : ℕ) (i : Image) (patched : Bool) → is_some (patch_at z t) ≡ patched → q n z →
       q n (with_frame z t (Some (c.frame i patched)))
@@ -149,9 +161,9 @@ pub record IsKept {K F P H R : Type 0} (w : Policy K) (kind : Kind) (c : Content
   pub dequeues : (n : K) (z : Store F P H) (ts : List ℕ) → q n z → q n (record z { queue = ts })
   pub edits : (n : K) (z : Store F P H) (t : ℕ) (e : Edit) → q n z → q n (with_edit z t e)
   pub goes_fast : (n : K) (z : Store F P H) (t : ℕ) (i : Image) (e : Edit) (slot : Option ℕ) → q n z → q n (fast_written c z t i e slot)
-  pub goes_provisionally : (n : K) (z : Store F P H) (t : ℕ) (i : Image) (e : Edit) → q n z → q n (provisionally_written c z t i e)
-  pub goes_back : (n : K) (z : Store F P H) → q n z → q n (gone_back z)
-  pub loses_loose : (n : K) (z : Store F P H) → kind ≡ Losing losses.Cache → q n z → q n (acted (gone_back z) CfwLost)
+  pub goes_provisionally : (n : K) (z : Store F P H) (t : ℕ) (i : Image) (e : Edit) → kind ≡ Shut → q n z → q n (provisionally_written c z t i e)
+  pub goes_back : (n : K) (z : Store F P H) → has_loose z ≡ true → q n z → q n (gone_back z)
+  pub loses_loose : (n : K) (z : Store F P H) → kind ≡ Losing losses.Cache → has_loose z ≡ true → q n z → q n (acted (gone_back z) CfwLost)
   pub closes : (n : K) (z : Store F P H) → q n z → q n (closed z)
   pub cuts : (n : K) (z : Store F P H) (h : HalfWrite H) (bypass : Bool) (e : Edit) → z.half ≡ Some h → q n z →
       q n (record (with_edit z h.track e) { half = Some (record h { origin = OfCut bypass }) })
@@ -172,9 +184,9 @@ moves_keep f x (levels {z = z} m side t) = f.levels _ z side t (moves_keep f x m
 moves_keep f x (spoils {z = z} m t is alone) = f.spoils _ z t is alone (moves_keep f x m)
 moves_keep f x (stales {z = z} m t other) = f.stales _ z t other (moves_keep f x m)
 moves_keep f x (firms {z = z} m t is loose) = f.firms _ z t is loose (moves_keep f x m)
-moves_keep f x (marks {z = z} m t g is clean) = f.marks _ z t g is clean (moves_keep f x m)
-moves_keep f x (hardens {z = z} m t loose) = f.hardens _ z t loose (moves_keep f x m)
-moves_keep f x (loses {z = z} m t other) = f.loses _ z t other (moves_keep f x m)
+moves_keep f x (marks {z = z} m t g bare is clean) = f.marks _ z t g bare is clean (moves_keep f x m)
+moves_keep f x (hardens {z = z} m t bare loose) = f.hardens _ z t bare loose (moves_keep f x m)
+moves_keep f x (loses {z = z} m t bare none other) = f.loses _ z t bare none other (moves_keep f x m)
 moves_keep f x (drops {z = z} m t clean) = f.drops _ z t clean (moves_keep f x m)
 moves_keep f x (fills {z = z} m t i patched is) = f.fills _ z t i patched is (moves_keep f x m)
 moves_keep f x (frames {z = z} m t o) = f.frames _ z t o (moves_keep f x m)
@@ -185,9 +197,9 @@ moves_keep f x (queues {z = z} m t room) = f.queues _ z t room (moves_keep f x m
 moves_keep f x (dequeues {z = z} m ts) = f.dequeues _ z ts (moves_keep f x m)
 moves_keep f x (edits {z = z} m t e) = f.edits _ z t e (moves_keep f x m)
 moves_keep f x (goes_fast {z = z} m t i e slot) = f.goes_fast _ z t i e slot (moves_keep f x m)
-moves_keep f x (goes_provisionally {z = z} m t i e) = f.goes_provisionally _ z t i e (moves_keep f x m)
-moves_keep f x (goes_back {z = z} m) = f.goes_back _ z (moves_keep f x m)
-moves_keep f x (loses_loose {z = z} m lossy) = f.loses_loose _ z lossy (moves_keep f x m)
+moves_keep f x (goes_provisionally {z = z} m t i e is) = f.goes_provisionally _ z t i e is (moves_keep f x m)
+moves_keep f x (goes_back {z = z} m some) = f.goes_back _ z some (moves_keep f x m)
+moves_keep f x (loses_loose {z = z} m lossy some) = f.loses_loose _ z lossy some (moves_keep f x m)
 moves_keep f x (closes {z = z} m) = f.closes _ z (moves_keep f x m)
 moves_keep f x (cuts {z = z} m h bypass e is) = f.cuts _ z h bypass e is (moves_keep f x m)
 moves_keep f x (notes {z = z} m loss lossy) = f.notes _ z loss lossy (moves_keep f x m)

@@ -79,6 +79,7 @@ use Rattle.device_laws.proofs.walks.Within.{Policy, Within, within_done, within_
 use Rattle.device_laws.proofs.walks.Moves.{
   Kind,
   Losing,
+  IsBare,
   Moves,
   Goes,
   reads,
@@ -141,17 +142,20 @@ module _ {K F P H R : Type 0} {w : Policy K} {kind : Kind} {c : Contents F P H R
   pub unframed_moves : {n : K} (z : Store F P H) (t : ℕ) → Moves w kind c k s n z → Moves w kind c k s n (without_frame z t)
   unframed_moves z t m = moves_if (is_some (frame_at z t)) _ z (λ _. unframes m t) (λ _. m)
 
-  frame_moves : {n : K} (z : Store F P H) (t : ℕ) (o : Option F) → frame_at z t ≡ o → Moves w kind c k s n z → Moves w kind c k s n (by_frame c z t o)
-  frame_moves z t (Some f) is m =
-      moves_if (is_loose z t) _ _ (λ loose. hardens m t loose) (λ _. moves_if (c.modified f) z _ (λ _. m) (λ clean. marks m t f is clean))
-  frame_moves z t None is m =
-      moves_if (half_is z.half t) z _ (λ _. m) (λ other. unpatched_moves (with_lost z t) t (loses m t other))
+  frame_moves : {n : K} (z : Store F P H) (t : ℕ) (o : Option F) → frame_at z t ≡ o → IsBare z t → Moves w kind c k s n z →
+      Moves w kind c k s n (by_frame c z t o)
+  frame_moves z t (Some f) is bare m =
+      moves_if (is_loose z t) _ _ (λ loose. hardens m t bare loose) (λ _. moves_if (c.modified f) z _ (λ _. m) (λ clean. marks m t f bare is clean))
+  frame_moves z t None is bare m =
+      moves_if (half_is z.half t) z _ (λ _. m) (λ other. unpatched_moves (with_lost z t) t (loses m t bare is other))
 
   pub settled_moves : {n : K} (z : Store F P H) (t : ℕ) → Moves w kind c k s n z → Moves w kind c k s n (settled c z t)
   unfolding L.settled
   settled_moves z t m =
       moves_if (is_some z.lent) z _ (λ _. m)
-      (λ _. moves_if (is_lost z t) z _ (λ _. m) (λ _. moves_if (has_level z t) z _ (λ _. m) (λ _. frame_moves z t (frame_at z t) refl m)))
+      (λ lent. moves_if (is_lost z t) z _ (λ _. m)
+      (λ there. moves_if (has_level z t) z _ (λ _. m)
+      (λ none. frame_moves z t (frame_at z t) refl (record { lent = lent; there = there; none = none }) m)))
 
   but_moves : {n : K} (writing : Option ℕ) (q : ℕ) (z : Store F P H) → Moves w kind c k s n z → Moves w kind c k s n (settled_but c writing q z)
   but_moves None q z m = settled_moves z q m
@@ -169,7 +173,7 @@ module _ {K F P H R : Type 0} {w : Policy K} {kind : Kind} {c : Contents F P H R
   unfolding L.cache_lost
   cache_moves z lossy m =
       over_moves (λ t y. settled c (without_frame y t) t) swept_moves (tracks_of z) (record (loose_lost z) { queue = [] })
-      (dequeues (moves_if (has_loose z) _ z (λ _. loses_loose m lossy) (λ _. m)) [])
+      (dequeues (moves_if (has_loose z) _ z (λ some. loses_loose m lossy some) (λ _. m)) [])
 
   patch_moves : {n : K} (t : ℕ) (z : Store F P H) → Moves w kind c k s n z → Moves w kind c k s n (patch_lost c t z)
   patch_moves t z m =
@@ -201,7 +205,7 @@ module _ {K F P H R : Type 0} {w : Policy K} {kind : Kind} {c : Contents F P H R
   pub powerless_moves : {n : K} (z : Store F P H) → Moves w kind c k s n z → Moves w kind c k s n (powerless c z)
   powerless_moves z m =
       over_moves (λ t y. settled c (without_frame y t) t) swept_moves (tracks_of z) (record (half_lost c (loose_gone c z) z.half) { queue = [] })
-      (dequeues (half_lost_moves (loose_gone c z) z.half (moves_if (has_loose z) _ z (λ _. goes_back m) (λ _. m))) [])
+      (dequeues (half_lost_moves (loose_gone c z) z.half (moves_if (has_loose z) _ z (λ some. goes_back m some) (λ _. m))) [])
 
   -- Notices, and what is told
 

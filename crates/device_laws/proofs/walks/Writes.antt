@@ -315,7 +315,7 @@ module _ {K F P H R : Type 0} {w : Policy K} {kind : Kind} {c : Contents F P H R
 
     write_by_comes : {n : K} (u : Usage) (first t : ℕ) (i : Image) (e : Edit) (z : Store F P H) (choice : Choice) → Moves w kind c k s n z →
         Comes w kind c k s n (write_by c u first t i e z choice)
-    write_by_comes u first t i e z Provisional m = within_done (moved (goes_provisionally m t i e))
+    write_by_comes u first t i e z Provisional m = within_done (moved (goes_provisionally m t i e is_shut))
     write_by_comes u first t i e z (Fast slot) m = within_tell (λ r _. within_done (moved (goes_fast m t i e slot)))
     write_by_comes u first t i e z Through m = through_comes z t i e (is_bypass u.mode) (not (another_loose z first t)) m
 
