@@ -70,7 +70,7 @@ module _ {F P H R : Type 0} (c : Contents F P H R) where
     takes = λ n z t f. marked_still z t false z.b.up f;
     levels = λ n z side t f. level_still z side t f;
     spoils = λ n z t is alone f. f;
-    stales = λ n z t other f. marked_still z t true z.paired f;
+    stales = λ n z t other away f. marked_still z t true z.paired f;
     firms = λ n z t is loose f. absurd (cc);
     marks = λ n z t g bare is clean f. never (is_some z.lent) f.lent bare.lent;
     hardens = λ n z t bare loose f. never (is_some z.lent) f.lent bare.lent;

@@ -94,7 +94,7 @@ module _ {F P H R : Type 0} (c : Contents F P H R) (Q : Facts → Type 0) (bears
     takes = λ n z t f. marked_so z t false z.b.up f;
     levels = λ n z side t f. level_so z side t f;
     spoils = λ n z t is alone f. f;
-    stales = λ n z t other f. marked_so z t true z.paired f;
+    stales = λ n z t other away f. marked_so z t true z.paired f;
     firms = λ n z t is loose f. marked_so (hardened z t) t true z.paired f;
     marks = λ n z t g bare is clean f. f;
     hardens = λ n z t bare loose f. f;

@@ -107,7 +107,7 @@ module _ {F P H R : Type 0} (c : Contents F P H R) where
     takes = λ n z t e. taken_base z t ∙ e;
     levels = λ n z side t e. level_base z side t ∙ e;
     spoils = λ n z t is alone e. e;
-    stales = λ n z t half e. stale_base z t ∙ e;
+    stales = λ n z t half away e. stale_base z t ∙ e;
     firms = λ n z t is loose e. stale_base (hardened z t) t ∙ acted_base z (Harden t) refl ∙ e;
     marks = λ n z t f bare is clean e. e;
     hardens = λ n z t bare loose e. acted_base z (Harden t) refl ∙ e;
@@ -168,7 +168,7 @@ module _ {F P H R : Type 0} (c : Contents F P H R) where
   side_base s side writing = moves_count (down s side) (side_moves s side writing stays) ∙ down_base s side
 
   pub store_base : (s : Store F P H) → base_of (store_lost c s) ≡ base_of s
-  store_base s = moves_count s (store_moves s stays)
+  store_base s = moves_count s (store_moves s (λ e. absurd (cc)) stays)
 
   pub swept_base : (n : ℕ) (s : Store F P H) → base_of (over n (λ t z. settled c (without_frame z t) t) s) ≡ base_of s
   swept_base n s = moves_count s (over_moves (λ t z. settled c (without_frame z t) t) swept_moves n s stays)

@@ -120,7 +120,7 @@ module _ {F P H R : Type 0} (c : Contents F P H R) where
       takes = λ n z t f. marked z t false z.b.up (so.levels (state_of z) t f);
       levels = λ n z side t f. level z side t f;
       spoils = λ n z t is alone f. so.firms (state_of z) t is f;
-      stales = λ n z t other f. marked z t true z.paired (so.stales (state_of z) t (λ p e. not_it z.half t p other e) f);
+      stales = λ n z t other away f. marked z t true z.paired (so.stales (state_of z) t (λ p e. not_it z.half t p other e) f);
       firms = λ n z t is loose f. marked (hardened z t) t true z.paired (so.firms (state_of z) t is f);
       marks = λ n z t g bare is clean f. f;
       hardens = λ n z t bare loose f. f;

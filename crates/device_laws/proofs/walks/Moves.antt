@@ -72,7 +72,8 @@ pub data Moves {K F P H R : Type 0} (w : Policy K) (kind : Kind) (c : Contents F
   levels : {n : K} {z : Store F P H} → Moves w kind c k s n z → (side : Side) (t : ℕ) → Moves w kind c k s n (with_stale z side t false)
   spoils : {n : K} {z : Store F P H} → Moves w kind c k s n z → (t : ℕ) → kind ≡ Shut → z.paired ≡ false →
       Moves w kind c k s n (with_stale z sides.A t true)
-  stales : {n : K} {z : Store F P H} → Moves w kind c k s n z → (t : ℕ) → half_is z.half t ≡ false → Moves w kind c k s n (stale_everywhere z t)
+  stales : {n : K} {z : Store F P H} → Moves w kind c k s n z → (t : ℕ) → half_is z.half t ≡ false → (kind ≡ Losing losses.Cache → ⊥) →
+      Moves w kind c k s n (stale_everywhere z t)
   firms : {n : K} {z : Store F P H} → Moves w kind c k s n z → (t : ℕ) → kind ≡ Shut → is_loose z t ≡ true →
       Moves w kind c k s n (stale_everywhere (hardened z t) t)
   -- a track that is level on no side
@@ -144,7 +145,7 @@ pub record IsKept {K F P H R : Type 0} (w : Policy K) (kind : Kind) (c : Content
   pub takes : (n : K) (z : Store F P H) (t : ℕ) → q n z → q n (taken_a z t)
   pub levels : (n : K) (z : Store F P H) (side : Side) (t : ℕ) → q n z → q n (with_stale z side t false)
   pub spoils : (n : K) (z : Store F P H) (t : ℕ) → kind ≡ Shut → z.paired ≡ false → q n z → q n (with_stale z sides.A t true)
-  pub stales : (n : K) (z : Store F P H) (t : ℕ) → half_is z.half t ≡ false → q n z → q n (stale_everywhere z t)
+  pub stales : (n : K) (z : Store F P H) (t : ℕ) → half_is z.half t ≡ false → (kind ≡ Losing losses.Cache → ⊥) → q n z → q n (stale_everywhere z t)
   pub firms : (n : K) (z : Store F P H) (t : ℕ) → kind ≡ Shut → is_loose z t ≡ true → q n z → q n (stale_everywhere (hardened z t) t)
   pub marks : (n : K) (z : Store F P H) (t : ℕ) (f : F) → IsBare z t → frame_at z t ≡ Some f → c.modified f ≡ false → q n z →
       q n (owes_modified (with_frame z t (Some (c.marked f true))) t)
@@ -182,7 +183,7 @@ moves_keep f x (falls {z = z} m side lost) = f.falls _ z side lost (moves_keep f
 moves_keep f x (takes {z = z} m t) = f.takes _ z t (moves_keep f x m)
 moves_keep f x (levels {z = z} m side t) = f.levels _ z side t (moves_keep f x m)
 moves_keep f x (spoils {z = z} m t is alone) = f.spoils _ z t is alone (moves_keep f x m)
-moves_keep f x (stales {z = z} m t other) = f.stales _ z t other (moves_keep f x m)
+moves_keep f x (stales {z = z} m t other away) = f.stales _ z t other away (moves_keep f x m)
 moves_keep f x (firms {z = z} m t is loose) = f.firms _ z t is loose (moves_keep f x m)
 moves_keep f x (marks {z = z} m t g bare is clean) = f.marks _ z t g bare is clean (moves_keep f x m)
 moves_keep f x (hardens {z = z} m t bare loose) = f.hardens _ z t bare loose (moves_keep f x m)

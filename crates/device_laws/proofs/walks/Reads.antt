@@ -1,5 +1,5 @@
 -- One walk of what begins and ends an event, of failed calls and losses, and of the image of a track, into moves.
-use Rattle.std.proofs.Common.{[], ◌≡◌, ◌+◌, zero, suc, ℕ, Bool, true, false, Option, Some, None, is_some, refl, ap, ◌∙◌}
+use Rattle.std.proofs.Common.{[], ◌≡◌, ◌+◌, zero, suc, ℕ, Bool, true, false, Option, Some, None, is_some, refl, sym, ap, ◌∙◌}
 use Rattle.std.specs.Prelude.{if◌then◌else◌, ◌==◌, length, nat_le, nat_lt}
 use Rattle.ckd_types.specs.declared.paths.Side.{Side}
 use Rattle.ckd_types.specs.declared.paths.Side.TheVariants as sides
@@ -175,22 +175,22 @@ module _ {K F P H R : Type 0} {w : Policy K} {kind : Kind} {c : Contents F P H R
       over_moves (λ t y. settled c (without_frame y t) t) swept_moves (tracks_of z) (record (loose_lost z) { queue = [] })
       (dequeues (moves_if (has_loose z) _ z (λ some. loses_loose m lossy some) (λ _. m)) [])
 
-  patch_moves : {n : K} (t : ℕ) (z : Store F P H) → Moves w kind c k s n z → Moves w kind c k s n (patch_lost c t z)
-  patch_moves t z m =
+  patch_moves : {n : K} → (kind ≡ Losing losses.Cache → ⊥) → (t : ℕ) (z : Store F P H) → Moves w kind c k s n z → Moves w kind c k s n (patch_lost c t z)
+  patch_moves away t z m =
       let gone = unpatched_moves z t m in
       moves_if (is_some (patch_at z t)) _ z
       (λ _. moves_if (half_is z.half t) _ _ (λ _. gone)
       (λ other. settled_moves (stale_everywhere (without_patch c z t) t) t
-      (stales gone t (ap (λ (h : Option (HalfWrite H)). half_is h t) (half_same z t (slot_in c (patch_at z t))) ∙ other))))
+      (stales gone t (ap (λ (h : Option (HalfWrite H)). half_is h t) (half_same z t (slot_in c (patch_at z t))) ∙ other) away)))
       (λ _. m)
 
-  pub store_moves : {n : K} (z : Store F P H) → Moves w kind c k s n z → Moves w kind c k s n (store_lost c z)
+  pub store_moves : {n : K} (z : Store F P H) → (kind ≡ Losing losses.Cache → ⊥) → Moves w kind c k s n z → Moves w kind c k s n (store_lost c z)
   unfolding L.store_lost
-  store_moves z m = over_moves (patch_lost c) patch_moves (tracks_of z) z m
+  store_moves z away m = over_moves (patch_lost c) (patch_moves away) (tracks_of z) z m
 
   lost_moves : {n : K} (z : Store F P H) (loss : Loss) → kind ≡ Losing loss → Moves w kind c k s n z → Moves w kind c k s n (lost_by c z loss)
   lost_moves z losses.Cache lossy m = cache_moves z lossy m
-  lost_moves z losses.Store lossy m = store_moves z m
+  lost_moves z losses.Store lossy m = store_moves z (λ e. absurd (let both : Losing losses.Store ≡ Losing losses.Cache = sym lossy ∙ e in cc)) m
   lost_moves z (losses.Side side) lossy m = side_moves z side None (falls m side lossy)
 
   half_lost_moves : {n : K} (z : Store F P H) (o : Option (HalfWrite H)) → Moves w kind c k s n z → Moves w kind c k s n (half_lost c z o)
