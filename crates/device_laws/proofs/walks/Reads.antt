@@ -51,7 +51,7 @@ use Rattle.device_defs.specs.Losses.{
   all_firm_told,
   call_failed,
 }
-use Rattle.device_defs.specs.Owed.{hear, all_told, ended}
+use Rattle.device_defs.specs.Owed.{hear, all_told}
 use Rattle.device_defs.specs.Store.{
   Origin,
   OfCommand,
@@ -73,9 +73,8 @@ use Rattle.device_defs.specs.Store.{
   with_lost,
 }
 use Rattle.device_defs.specs.Writing.{write_counted}
-use Rattle.device_laws.proofs.Based.{Any}
-use Rattle.device_laws.proofs.PoolWalks.{hear_asks, told_asks, ended_asks, filled_asks, missed_asks}
-use Rattle.device_laws.proofs.walks.Within.{Policy, Within, within_done, within_ask, within_read, within_tell, within_then, within_if, asks_within}
+use Rattle.device_laws.proofs.PoolWalks.{hear_asks, told_asks, filled_asks, missed_asks}
+use Rattle.device_laws.proofs.walks.Within.{Policy, within_done, within_ask, within_read, within_tell, within_then, within_if, asks_within}
 use Rattle.device_laws.proofs.walks.Moves.{
   Kind,
   Losing,
@@ -309,8 +308,3 @@ module _ {K F P H R : Type 0} {w : Policy K} {kind : Kind} {c : Contents F P H R
   pub image_goes : {n : K} (z : Store F P H) (u : Usage) (t : ℕ) → Moves w kind c k s n z → Goes w kind c k s n (image c z u t)
   unfolding I.image
   image_goes z u t m = by_frame_goes z u t (frame_at z t) m
-
-  -- The end of an event
-
-  pub ended_goes : {n : K} (before : ℕ) (z : Store F P H) → Moves w kind c k s n z → Within w Any (λ m y a. Moves w kind c k s m y) n (ended c before z)
-  ended_goes before z m = asks_within (ended_asks c (λ y. Moves w kind c k s _ y) (λ y t x. pays x t _) before z m)
