@@ -1,12 +1,14 @@
 #!/usr/bin/env python3
-"""Writes a random deck whose paths are to run beside each other: bench/path_decks.py NUMBER [orders]
+"""Writes a random deck whose paths are to run beside each other: tests/stress/path_decks.py NUMBER [orders]
 
 2 to 16 devices, programs of all four paths, PAIR lines first; the same deck for the same number. With the word `orders` FAIL, REPAIR, REPLACE,
 SUSPEND and RESUME lines stand among the event lines. A kind of program is a function in KINDS; it gives a program's words.
 """
+import os
 import random
 import sys
 
+sys.path.insert(0, os.path.join(os.path.dirname(os.path.abspath(__file__)), "..", "..", "bench"))
 from kind_decks import HEADS, address, extent, locate
 
 CHAINED = 0x40
