@@ -8,26 +8,8 @@ use Rattle.plain_defs.specs.declared.journal.Acted.{Acted}
 use Rattle.plain_defs.specs.Legal.{AreInOrder, bare_part}
 use Rattle.plain_defs.specs.PlainState.{PlainState}
 use Rattle.plain_defs.specs.Program.{Part, first_part, acts_at, with_act, with_acts, acted_at, acted, stepped, part_of}
+use Rattle.plain_defs.proofs.ActLists.{acts_elsewhere, acts_here, with_acts_one}
 use Rattle.plain_defs.proofs.PartLemmas.{acted_beside, part_counts}
-
-acts_elsewhere : (acts : List Acted) (a : Acted) (n : ℕ) → (a.after == n) ≡ false → acts_at (acts ++ a ∷ []) n ≡ acts_at acts n
-acts_elsewhere [] a n other = ap (λ (b : Bool). cond b (a.act ∷ []) []) other
-acts_elsewhere (x ∷ acts) a n other = ap (λ (l : List Act). cond (x.after == n) (x.act ∷ l) l) (acts_elsewhere acts a n other)
-
-cond_front : (b : Bool) (x : Act) (xs ys : List Act) → cond b (x ∷ (xs ++ ys)) (xs ++ ys) ≡ cond b (x ∷ xs) xs ++ ys
-cond_front true x xs ys = refl
-cond_front false x xs ys = refl
-
-acts_here : (acts : List Acted) (a : Acted) (n : ℕ) → (a.after == n) ≡ true
-    → acts_at (acts ++ a ∷ []) n ≡ acts_at acts n ++ a.act ∷ []
-acts_here [] a n here = ap (λ (b : Bool). cond b (a.act ∷ []) []) here
-acts_here (x ∷ acts) a n here =
-    ap (λ (l : List Act). cond (x.after == n) (x.act ∷ l) l) (acts_here acts a n here)
-    ∙ cond_front (x.after == n) x.act (acts_at acts n) (a.act ∷ [])
-
-with_acts_one : (acts : List Act) (act : Act) (p : Part) → with_acts (acts ++ act ∷ []) p ≡ with_act (with_acts acts p) act
-with_acts_one [] act p = refl
-with_acts_one (x ∷ acts) act p = with_acts_one acts act (with_act p x)
 
 -- no act stands behind the last one
 pub no_acts : (from stop n : ℕ) (acts : List Acted) → AreInOrder from stop acts → stop ≤ n → acts_at acts n ≡ []

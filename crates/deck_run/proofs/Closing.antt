@@ -6,7 +6,6 @@ use Rattle.std.proofs.Common.{
   ◌∙◌,
   ◌+◌,
   ◌-◌,
-  ◌*◌,
   ◌++◌,
   arith,
   ℕ,
@@ -21,7 +20,6 @@ use Rattle.std.proofs.Common.{
   Option,
   Some,
   None,
-  cond,
   length,
   map,
   refl,
@@ -80,18 +78,6 @@ pub lost_none : (f : ℕ → Bool) (l all : List ℕ) (t n : ℕ) → n ≤ t �
 lost_none f l all t n past whole =
     let none : n - t ≡ 0 = omega (arith, past) in
     sym (whole ∙ ap (λ (k : ℕ). l ++ where_true f (range_with_len t k)) none ∙ append-nil l)
-
-few_if : (b : Bool) (t k : ℕ) (l : List ℕ) → length l ≤ k → length (cond b (t ∷ l) l) ≤ suc k
-few_if true t k l few = omega (arith, few)
-few_if false t k l few = omega (arith, few)
-
-few_lost : (f : ℕ → Bool) (t n : ℕ) → length (where_true f (range_with_len t n)) ≤ n
-few_lost f t zero = omega arith
-few_lost f t (suc n) = few_if (f t) t n (where_true f (range_with_len (t + 1) n)) (few_lost f (t + 1) n)
-
--- they are few
-pub few_all : (f : ℕ → Bool) (cylinders n : ℕ) → cylinders ≤ 64 → n ≡ length (where_true f (range_with_len 0 (cylinders * 15))) → n < 65536
-few_all f cylinders n most is = omega (arith, most, is, few_lost f 0 (cylinders * 15))
 
 -- Devices
 

@@ -1,6 +1,6 @@
 //! The lines at the end of a run.
 
-ghost use Rattle.std.specs.Prelude.{◌≡◌, ◌<◌, ◌++◌, IfOk, None, OnOk, length, map};
+ghost use Rattle.std.specs.Prelude.{◌≡◌, ◌++◌, IfOk, None, OnOk, map};
 ghost use Rattle.std.specs.List.{flat_map};
 ghost use Rattle.report_text.specs.declared.line.ReportLine.TheVariants as lines;
 ghost use Rattle.run_report.specs.Closing.{device_lines, frame_line};
@@ -57,14 +57,13 @@ fn record_end<V: Volume>(
     device: &Device<V>,
     lost: &[TrackNo],
 ) -> Result<(), NoMemory>
-    requires { length lost.now < 65536 }
     ensures { OnOk result (report.new ≡ report.old ++ device_lines
         (Counted device.now.store.number device.now.store.counts.reads device.now.store.counts.writes lost.now)) }
 {
     let totals = DeviceTotals::Calls {
         reads: device.reads(),
         writes: device.writes(),
-        lost: lost.len() as u16,
+        lost: lost.len() as u64,
     };
     report.push(ReportLine::Device(device.number(), totals))?;
     record_lost(report, device.number(), lost)?;

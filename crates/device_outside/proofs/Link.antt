@@ -8,9 +8,11 @@ use Rattle.device_outside.specs.Pool.{Pool, Call, FreeSlot, AnswerTo, answer, af
 use Rattle.device_outside.specs.Slots.{MayAsk, MayAnswer, Owns, gives_back, held_after, slots_after, SlotsTold}
 use Rattle.device_outside.specs.Volume.{Plan, Planned, Delivers, Stores, VolumeView, ReadOf, WriteOf, counted}
 use Rattle.device_outside.specs.Keeper.{Message, BeforeEdit, Firm, ReplyTo, reply, Hearing}
-use Rattle.device_outside.specs.Interaction.{Interaction}
+use Rattle.device_outside.specs.Interaction.{Interaction, Read, Write}
 use Rattle.device_outside.specs.Outside.{ByPool, Outside, view_of, with_view, Had, Ran, done, tried, asked, read, wrote, told}
 use Rattle.device_outside.specs.Told as H
+use Rattle.device_outside.specs.Hears as E
+use Rattle.device_outside.specs.Hears.{messages, HeardAll, heard_none, heard_next}
 use Rattle.device_outside.specs.Told.{Calls, Told, calls_of, read_counted, write_counted, read_fails, write_fails, Outcome, hold}
 use Rattle.device_outside.specs.After.{Holdings, holds_of, with_held, with_slots}
 use Rattle.device_outside.specs.Both.{Both, both_done, both_try, both_ask, both_free, both_read, both_write, both_tell, SideIs, PoolTold, TellsAll, Linked}
@@ -206,3 +208,69 @@ module _ {R O I K S A T B : Type 0} {had : Bool → Type 0} {hears : Hearing I K
       let o = linked h t (subst (λ (v : ReplyTo m). Both z g q (k y) (l v) h) e (x y)) r
       (record { pool = i.pool; mine = i.mine; slots = i.slots; shared = i.shared; a = i.a; b = i.b }) in
       record { state = o.state; answer = o.answer; holdings = o.holdings; told = o.told; ran = o.ran; is = o.is; tells = o.tells }
+
+-- What the keeper hears are the messages of the other one's run, in order
+
+keeper_stays : {R K : Type 0} (w : Outside R K) (side : Side) (v : VolumeView R) → (with_view w side v).keeper ≡ w.keeper
+keeper_stays w sides.A v = refl
+keeper_stays w sides.B v = refl
+
+module _ {R O I K S A T B : Type 0} {had : Bool → Type 0} {hears : Hearing I K} (others : List ℕ)
+    (memory : (ok : Bool) → had ok → ok ≡ true) (z : R) (g : O) (q : S → A → T → B → Holdings R → Type 0) where
+  pub linked_hears : {i : Interaction R I S A} {j : Interaction O I T B} (h : Holdings R)
+      (t : Told) {u w : Outside R K} {s : S} {a : A} → Both z g q i j h → Ran had hears i u s a w →
+      TellsAll others u h t → HeardAll hears u.keeper (messages g j t) w.keeper
+  unfolding E.messages
+  linked_hears h t (both_done x) done i = heard_none
+  linked_hears h t (both_try {k = k} {l = l} x y) (tried ok m r) i = linked_hears h t (try_both z g q k l h ok (memory ok m) x) r i
+  linked_hears h t {u = w} {w = last} (both_ask {call = call} {l = l} e x) (asked {a = a} {p = p} says r) i =
+      let f = said others i.mine w.port.pool p.pool t.pool call a e i.pool i.shared says.by_pool in
+      let b = unnumbered call a in
+      subst (λ (v : AnswerTo call). HeardAll hears w.keeper (messages g (l v) (record t { pool = after t.pool call v })) last.keeper) f.answer
+      (linked_hears (with_slots h call a) (record t { pool = after t.pool call b })
+      (x a (subst (λ (v : Option (List ℕ)). MayAnswer v call a) (sym i.slots) f.free)) r
+      (record {
+        pool = f.pool;
+        mine = slots_after i.mine call a;
+        slots =
+            with_slots_told h i.mine call a i.slots;
+        shared = f.shared;
+        a = i.a;
+        b = i.b;
+      }))
+  linked_hears h t {u = w} (both_free {slot = k} {l = l} e x) (asked {a = a} {p = p} says r) i =
+      let f = freed others i.mine w.port.pool p.pool t.pool k a (subst
+      (λ (v : Option (List ℕ)). MayAsk v (FreeSlot k)) i.slots e) i.pool i.shared says.by_pool in
+      linked_hears (with_slots h (FreeSlot k) tt) (record t { pool = after t.pool (FreeSlot 0) tt }) x r
+      (record {
+        pool = f.pool;
+        mine = slots_after i.mine (FreeSlot k) a;
+        slots =
+            with_slots_told h i.mine (FreeSlot k) a i.slots;
+        shared = f.shared;
+        a = i.a;
+        b = i.b;
+      })
+  linked_hears h t {u = w} {w = last} (both_read {side = side} {t = n} {k = k} {l = l} x y) (read {got = got} {v = v} {u = u} e gives r) i =
+      let f = side_is w h t side i e in
+      let d : Delivers (Some (holds_of h side)) n got = rw f.contents at gives.delivers in
+      let p : is_some got ≡ cond (read_fails (calls_of t side)) false true =
+      planned v.plan (calls_of t side).plan (λ (y : Plan). y.reads) v.reads (calls_of t side).reads
+      (is_some got) f.plan f.reads gives.planned in
+      subst (λ (c : K). HeardAll hears c (messages g (Read side n l) t) last.keeper) (keeper_stays w side u)
+      (linked_hears h (read_counted t side) (read_both z g q k l h side n got
+      (read_fails (calls_of t side)) p d x y) r (read_told w h t side n got i f gives))
+  linked_hears h t {u = w} {w = last} (both_write {side = side} {t = n} {r = b} {k = k} {l = l} x y) (wrote {ok = ok} {v = v} {u = u} e takes r) i =
+      let f = side_is w h t side i e in
+      let d : Stores (Some (holds_of h side)) n b ok u.contents = rw f.contents at takes.stores in
+      let p : ok ≡ cond (write_fails (calls_of t side)) false true =
+      planned v.plan (calls_of t side).plan (λ (y : Plan). y.writes) v.writes
+      (calls_of t side).writes ok f.plan f.writes takes.planned in
+      let m = write_both z g q k l h side n b ok (write_fails (calls_of t side)) u.contents p d x y in
+      subst (λ (c : K). HeardAll hears c (messages g (Write side n g l) t) last.keeper) (keeper_stays w side u)
+      (linked_hears (with_held h side n m.left) (write_counted t side) m.next r (write_told w h t side n b m.left ok i f takes m.holds))
+  linked_hears h t {u = w} (both_tell {m = m} {k = k} {l = l} x) (told {l = kept} y heard n r) i =
+      let e = had_reply m y memory n in
+      heard_next (subst (λ (v : ReplyTo m). hears w.keeper m v kept) e heard)
+      (linked_hears h t (subst (λ (v : ReplyTo m). Both z g q (k y) (l v) h) e (x y)) r
+      (record { pool = i.pool; mine = i.mine; slots = i.slots; shared = i.shared; a = i.a; b = i.b }))

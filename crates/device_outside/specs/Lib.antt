@@ -11,3 +11,4 @@ pub mod Outside
 pub mod Told
 pub mod After
 pub mod Both
+pub mod Hears

@@ -80,7 +80,7 @@ fn put_losses<V: Volume, K: Sink>(
     ensures cause { HasCause (K.faults sink.old) (K.faults sink.new) result }
 {
     let d = device.number();
-    let n = device.lost().len() as u16;
+    let n = device.lost().len() as u64;
     put_line(sink, buffer, &ReportLine::Device(d, DeviceTotals::Lost(n)))?;
     put_lost(sink, buffer, d, device.lost())
 }

@@ -1,3 +1,4 @@
+pub mod ActLists
 pub mod PartLemmas
 mod Rows
 mod GroupRows

@@ -1,4 +1,4 @@
-ghost use Rattle.std.specs.Prelude.{◌≡◌, All, ◌<◌, ◌≤◌, ◌*◌, ◌+◌, [], IfOk, IfSome, IsSome, None, OnOk, OnErr, length};
+ghost use Rattle.std.specs.Prelude.{◌≡◌, All, ◌<◌, ◌≤◌, ◌*◌, ◌+◌, [], ℕ, IfOk, IfSome, IsSome, None, OnOk, OnErr, length, take};
 ghost use Rattle.ckd_types.specs.Volume.{empty_volume};
 ghost use Rattle.ckd_chain.specs.Steps.{need_of};
 ghost use Rattle.plain_defs.specs.declared.journal.Act.TheVariants.{Harden, Loosen};
@@ -187,10 +187,11 @@ impl PlainDevice {
         }
     }
 
-    /// Does those acts of a program that stand behind so many of its ends.
+    /// Does those acts of a program that stand behind so many of its ends. At want of memory a front of them is done.
     pub fn act_behind(&mut self, alloc: Global, acts: &[Acted], ends: usize) -> Result<(), NoMemory>
         requires { All (λ a. IsActOn (self.old.cylinders * 15) a.act) acts.now }
         ensures done { OnOk result (self.new ≡ acts_done self.old (acts_at acts.now ends)) }
+        ensures front { OnErr result ((k : ℕ) × (self.new ≡ acts_done self.old (acts_at (take k acts.now) ends))) }
         ensures same { (self.new.geometry ≡ self.old.geometry) × (self.new.cylinders ≡ self.old.cylinders) }
     {
         for acted in acts {

@@ -1,4 +1,4 @@
-ghost use Rattle.std.specs.Prelude.{◌≡◌, ◌==◌, IfOk, OnOk};
+ghost use Rattle.std.specs.Prelude.{◌≡◌, ◌==◌, IfOk, OnOk, OnErr};
 ghost use Rattle.std.specs.List.{list_all};
 ghost use Rattle.ckd_types.specs.Ccw.{ccw_at};
 ghost use Rattle.ckd_rules.specs.Grouping.{is_free_for};
@@ -121,6 +121,7 @@ impl Paths {
     fn sensed(&mut self, alloc: Global, path: PathNo) -> Result<Settled, NoMemory>
         ensures how { IfOk result (λ how. how ≡ Sent (sense_for self.old path).bytes) }
         ensures after { OnOk result (self.new ≡ sensed self.old path) }
+        ensures same { OnErr result (self.new ≡ self.old) }
     {
         let at = usize::from(path.get() - 1);
         let bytes = Bytes::from_slice(alloc, &self.senses[at].bytes)?;
@@ -152,16 +153,19 @@ impl Paths {
     ) -> Result<Settled, NoMemory>
         ensures how { IfOk result (λ how. how ≡ settled_act geometry self.old path act) }
         ensures after { OnOk result (self.new ≡ paths_behind self.old path act) }
+        ensures same { OnErr result (self.new ≡ self.old) }
     {
         match act {
             LocalAct::Sense => self.sensed(alloc, path),
             LocalAct::Reserve | LocalAct::Steal => {
+                let how = self.sensed(alloc, path)?;
                 self.reserve.hold(self.groups.owner_of(path));
-                self.sensed(alloc, path)
+                Ok(how)
             }
             LocalAct::Release => {
+                let how = self.sensed(alloc, path)?;
                 self.reserve.free();
-                self.sensed(alloc, path)
+                Ok(how)
             }
             LocalAct::SenseId => {
                 let bytes = Bytes::from_slice(alloc, &sense_id_bytes(geometry))?;

@@ -138,7 +138,7 @@ fault_read faults.Geometry h = refl
 fault_read faults.NoSide h = refl
 fault_read faults.Down h = refl
 fault_read faults.Up h = refl
-fault_read (faults.NotLevel n) h = rw (count_read n h) refl
+fault_read (faults.NotLevel n) h = rw (short_read n h) refl
 fault_read faults.Half h = refl
 fault_read faults.Held h = refl
 fault_read faults.NotHeld h = refl
@@ -153,7 +153,7 @@ fault_solid faults.Geometry h = refl
 fault_solid faults.NoSide h = refl
 fault_solid faults.Down h = refl
 fault_solid faults.Up h = refl
-fault_solid (faults.NotLevel n) h = rw (count_solid n h) refl
+fault_solid (faults.NotLevel n) h = rw (short_solid n h) refl
 fault_solid faults.Half h = refl
 fault_solid faults.Held h = refl
 fault_solid faults.NotHeld h = refl
@@ -171,11 +171,11 @@ answer_solid (order_answers.Refused fault) h = fault_solid fault h
 
 pub totals_read : (x : DeviceTotals) → IsTotals x → totals_at (totals_words x) 0 ≡ Ok x
 unfolding is_key
-totals_read (totals.Calls reads writes lost) h = rw (long_read reads h.0, long_read writes h.1, short_read lost h.2) refl
-totals_read (totals.Lost n) h = rw (short_read n h) refl
+totals_read (totals.Calls reads writes lost) h = rw (long_read reads h.0, long_read writes h.1, long_read lost h.2) refl
+totals_read (totals.Lost n) h = rw (long_read n h) refl
 totals_read (totals.Lent n) h = rw (device_read n h) refl
 
 pub totals_solid : (x : DeviceTotals) → IsTotals x → are_solid (totals_words x) ≡ true
-totals_solid (totals.Calls reads writes lost) h = rw (long_solid reads h.0, long_solid writes h.1, short_solid lost h.2) refl
-totals_solid (totals.Lost n) h = rw (short_solid n h) refl
+totals_solid (totals.Calls reads writes lost) h = rw (long_solid reads h.0, long_solid writes h.1, long_solid lost h.2) refl
+totals_solid (totals.Lost n) h = rw (long_solid n h) refl
 totals_solid (totals.Lent n) h = rw (device_solid n h) refl

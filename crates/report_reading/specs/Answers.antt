@@ -88,7 +88,7 @@ fault_at ws i =
     else if is_key w words.NoSide then Ok faults.NoSide
     else if is_key w words.Down then Ok faults.Down
     else if is_key w words.Up then Ok faults.Up
-    else if is_key w words.NotLevel then count_at ws (i + 1) >>= (λ tracks. Ok (faults.NotLevel tracks))
+    else if is_key w words.NotLevel then short_at ws (i + 1) >>= (λ tracks. Ok (faults.NotLevel tracks))
     else if is_key w words.Half then Ok faults.Half
     else if is_key w words.Held then Ok faults.Held
     else if is_key w words.NotHeld then Ok faults.NotHeld
@@ -108,12 +108,12 @@ calls_at ws i =
     long_at ws i >>= (λ reads.
     key_at words.Writes ws (i + 1) >>= (λ one.
     long_at ws (i + 2) >>= (λ writes.
-    key_at words.Lost ws (i + 3) >>= (λ two. short_at ws (i + 4) >>= (λ lost. Ok (totals.Calls reads writes lost))))))
+    key_at words.Lost ws (i + 3) >>= (λ two. long_at ws (i + 4) >>= (λ lost. Ok (totals.Calls reads writes lost))))))
 
 abbrev pub totals_at : List (List ℕ) → ℕ → Result DeviceTotals LineFault
 totals_at ws i =
     word_at ws i >>= (λ w.
     if is_key w words.Reads then calls_at ws (i + 1)
-    else if is_key w words.Lost then short_at ws (i + 1) >>= (λ lost. Ok (totals.Lost lost))
+    else if is_key w words.Lost then long_at ws (i + 1) >>= (λ lost. Ok (totals.Lost lost))
     else if is_key w words.Lent then device_at ws (i + 1) >>= (λ device. Ok (totals.Lent device))
     else Err Word)

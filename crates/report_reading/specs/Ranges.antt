@@ -89,7 +89,7 @@ IsOver (how.Cut commands) = IsShort commands
 abbrev pub IsFault : OrderFault → Type 0
 IsFault (faults.Lent device) = IsDevice device
 IsFault (faults.Active path) = IsPath path
-IsFault (faults.NotLevel tracks) = IsCount tracks
+IsFault (faults.NotLevel tracks) = IsShort tracks
 IsFault _ = Unit {0}
 
 abbrev pub IsAnswer : OrderAnswer → Type 0
@@ -107,8 +107,8 @@ IsOrder (orders.Resume device) = IsDevice device
 IsOrder _ = Unit {0}
 
 abbrev pub IsTotals : DeviceTotals → Type 0
-IsTotals (totals.Calls reads writes lost) = IsLong reads × IsLong writes × IsShort lost
-IsTotals (totals.Lost lost) = IsShort lost
+IsTotals (totals.Calls reads writes lost) = IsLong reads × IsLong writes × IsLong lost
+IsTotals (totals.Lost lost) = IsLong lost
 IsTotals (totals.Lent device) = IsDevice device
 
 pub record IsEnd (e : EndLine) : Type 0 where

@@ -141,7 +141,7 @@ fn fault_range(fault: &OrderFault)
     match fault {
         OrderFault::Lent(device) => device_range(device),
         OrderFault::Active(path) => path_range(path),
-        OrderFault::NotLevel(tracks) => count_range(tracks),
+        OrderFault::NotLevel(tracks) => short_range(tracks),
         OrderFault::Same
         | OrderFault::Paired
         | OrderFault::Unpaired
@@ -197,9 +197,9 @@ fn totals_range(totals: &DeviceTotals)
         } => {
             long_range(reads);
             long_range(writes);
-            short_range(lost);
+            long_range(lost);
         }
-        DeviceTotals::Lost(lost) => short_range(lost),
+        DeviceTotals::Lost(lost) => long_range(lost),
         DeviceTotals::Lent(device) => device_range(device),
     }
 }

@@ -153,7 +153,7 @@ fn fault_at(words: &LineWords, i: usize) -> Result<OrderFault, LineFault>
     } else if is_key(word, Keyword::Up) {
         Ok(OrderFault::Up)
     } else if is_key(word, Keyword::NotLevel) {
-        Ok(OrderFault::NotLevel(count_at(words, i + 1)?))
+        Ok(OrderFault::NotLevel(short_at(words, i + 1)?))
     } else if is_key(word, Keyword::Half) {
         Ok(OrderFault::Half)
     } else if is_key(word, Keyword::Held) {
@@ -191,7 +191,7 @@ fn calls_at(words: &LineWords, i: usize) -> Result<DeviceTotals, LineFault>
     key_at(Keyword::Writes, words, i + 1)?;
     let writes = long_at(words, i + 2)?;
     key_at(Keyword::Lost, words, i + 3)?;
-    let lost = short_at(words, i + 4)?;
+    let lost = long_at(words, i + 4)?;
     Ok(DeviceTotals::Calls {
         reads,
         writes,
@@ -208,7 +208,7 @@ pub fn totals_at(words: &LineWords, i: usize) -> Result<DeviceTotals, LineFault>
     if is_key(word, Keyword::Reads) {
         calls_at(words, i + 1)
     } else if is_key(word, Keyword::Lost) {
-        Ok(DeviceTotals::Lost(short_at(words, i + 1)?))
+        Ok(DeviceTotals::Lost(long_at(words, i + 1)?))
     } else if is_key(word, Keyword::Lent) {
         Ok(DeviceTotals::Lent(device_at(words, i + 1)?))
     } else {

@@ -242,13 +242,13 @@ fn put_writes<K: Sink>(
     sink: &mut K,
     buffer: &mut LineBuffer,
     writes: u64,
-    lost: u16,
+    lost: u64,
 ) -> Result<(), Failed>
     ensures bytes { Puts (K.held sink.old) buffer.old (K.held sink.new) buffer.new result (all_spaced (writes_words writes lost)) }
     ensures cause { HasCause (K.faults sink.old) (K.faults sink.new) result }
 {
     put_count(sink, buffer, Keyword::Writes, writes)?;
-    put_count(sink, buffer, Keyword::Lost, u64::from(lost))
+    put_count(sink, buffer, Keyword::Lost, lost)
 }
 
 /// The calls of a device's volumes, and its lost tracks.
@@ -257,7 +257,7 @@ fn put_calls<K: Sink>(
     buffer: &mut LineBuffer,
     reads: u64,
     writes: u64,
-    lost: u16,
+    lost: u64,
 ) -> Result<(), Failed>
     ensures bytes { Puts (K.held sink.old) buffer.old (K.held sink.new) buffer.new result (all_spaced (totals_words (Calls reads writes lost))) }
     ensures cause { HasCause (K.faults sink.old) (K.faults sink.new) result }
@@ -276,7 +276,7 @@ impl Words for DeviceTotals {
                 writes,
                 lost,
             } => put_calls(sink, buffer, *reads, *writes, *lost),
-            DeviceTotals::Lost(lost) => put_count(sink, buffer, Keyword::Lost, u64::from(*lost)),
+            DeviceTotals::Lost(lost) => put_count(sink, buffer, Keyword::Lost, *lost),
             DeviceTotals::Lent(device) => {
                 put_count(sink, buffer, Keyword::Lent, u64::from(device.get()))
             }

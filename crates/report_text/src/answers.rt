@@ -69,7 +69,7 @@ pub enum OrderFault {
     Down,
     Up,
     /// So many tracks aren't level.
-    NotLevel(u32),
+    NotLevel(u16),
     Half,
     Held,
     NotHeld,
@@ -87,8 +87,8 @@ pub enum OrderAnswer {
 /// which device its volume is lent.
 #[derive(Clone, Copy, Debug, PartialEq, Eq)]
 pub enum DeviceTotals {
-    Calls { reads: u64, writes: u64, lost: u16 },
-    Lost(u16),
+    Calls { reads: u64, writes: u64, lost: u64 },
+    Lost(u64),
     Lent(DeviceNo),
 }
 

@@ -192,7 +192,7 @@ fault_whole faults.Geometry h = refl
 fault_whole faults.NoSide h = refl
 fault_whole faults.Down h = refl
 fault_whole faults.Up h = refl
-fault_whole (faults.NotLevel n) h = rw (count_whole n h) refl
+fault_whole (faults.NotLevel n) h = rw (short_whole n h) refl
 fault_whole faults.Half h = refl
 fault_whole faults.Held h = refl
 fault_whole faults.NotHeld h = refl
@@ -203,8 +203,8 @@ answer_whole (order_answers.Pending n) h = rw (count_whole n h) refl
 answer_whole (order_answers.Refused fault) h = fault_whole fault h
 
 totals_whole : (x : DeviceTotals) → IsTotals x → are_whole (totals_words x) ≡ true
-totals_whole (totals.Calls reads writes lost) h = rw (long_whole reads h.0, long_whole writes h.1, short_whole lost h.2) refl
-totals_whole (totals.Lost n) h = rw (short_whole n h) refl
+totals_whole (totals.Calls reads writes lost) h = rw (long_whole reads h.0, long_whole writes h.1, long_whole lost h.2) refl
+totals_whole (totals.Lost n) h = rw (long_whole n h) refl
 totals_whole (totals.Lent n) h = rw (device_whole n h) refl
 
 mark_whole : (modified : Bool) → is_whole (keyword_text (mark_key modified)) ≡ true

@@ -317,7 +317,7 @@ lost_known d n k most (t ∷ ts) all =
 
 module _ (s : MarksStore) (number : IsDevice s.device) (small : s.cylinders ≤ 64) (reads : s.counts.reads ≤ 1033065725952)
     (writes : s.counts.writes ≤ 1033065725952) where
-  few_lost : length (lost_tracks s) < 2 ^ 16
+  few_lost : length (lost_tracks s) < 2 ^ 64
   few_lost = let few = few_true (is_lost s) 0 (s.cylinders * 15) in omega (arith, few, small)
 
   end_known : (o : Option ℕ) → IfSome o IsDevice → All IsLine (device_lines (device_end_by s o))

@@ -60,7 +60,7 @@ fn refused_as(fault: OrderFault) -> report_text::OrderFault
         OrderFault::NoSide => report_text::OrderFault::NoSide,
         OrderFault::Down => report_text::OrderFault::Down,
         OrderFault::Up => report_text::OrderFault::Up,
-        OrderFault::NotLevel { n } => report_text::OrderFault::NotLevel(u32::from(n)),
+        OrderFault::NotLevel { n } => report_text::OrderFault::NotLevel(n),
         OrderFault::Half => report_text::OrderFault::Half,
         OrderFault::Held => report_text::OrderFault::Held,
         OrderFault::NotHeld => report_text::OrderFault::NotHeld,

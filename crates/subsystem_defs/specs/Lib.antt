@@ -2,6 +2,7 @@ pub mod Refusals
 pub mod Deeds
 pub mod Subsystem
 pub mod Happening
+pub mod Looks
 pub mod Beside
 pub mod Lines
 pub mod Closing

@@ -1,5 +1,4 @@
-use Rattle.std.proofs.Common.{◌∙◌, ◌∷◌, [], Bool, List, ap, arith, false, length, map, subst}
-use Rattle.std.specs.Prelude.{slice_index_or}
+use Rattle.std.proofs.Common.{◌∙◌, ◌∷◌, [], Bool, List, ap, length, map, subst}
 use Rattle.ckd_outside.specs.Texts.{Puts, Stops}
 use Rattle.ckd_outside.proofs.Lines.{puts_stopped}
 use Rattle.loss_model.specs.Lost.{lost_tracks}
@@ -8,17 +7,9 @@ use Rattle.report_text.specs.declared.line.ReportLine.{ReportLine}
 use Rattle.report_text.specs.declared.line.ReportLine.TheVariants as lines
 use Rattle.report_text.specs.Ends.{lines_text}
 use Rattle.deck_run.specs.Ending.{lost_in}
-use Rattle.deck_run.proofs.Closing.{few_all}
 use Rattle.path_top.proofs.Ended.{losses_are, lost_same}
 use Rattle.path_top.proofs.Texts.{lines_longer, lines_then}
 use Rattle.path_top.proofs.history.put_losses.Goals as goal
-
-pub overflow_cast-n : goal.overflow_cast-n
-overflow_cast-n g c =
-    let x = c.args.device.now in
-    let count = c.len-n.ensures ∙ ap (λ (l : List Bool). length (lost_tracks l)) c.lost.ensures ∙ ap (λ l. length l) (lost_same x x.store.lost_of_each) in
-    let few = few_all (λ t. slice_index_or x.store.lost t false) x.store.cylinders c.len-n.result x.store.most count in
-    search (arith, few)
 
 pub returns-in_err-put_line-clause-bytes : goal.returns-in_err-put_line-clause-bytes
 returns-in_err-put_line-clause-bytes g c =

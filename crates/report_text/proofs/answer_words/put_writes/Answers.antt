@@ -16,4 +16,4 @@ pub returns-clause-bytes : goal.returns-clause-bytes
 returns-clause-bytes g c =
     spaced_then _ _ _ _ _ _ (keyword_text words.Writes ∷ decimal c.args.writes ∷ [])
     (keyword_text words.Lost ∷ decimal c.args.lost ∷ []) _ c.in_ok-put_count.ensures.bytes
-    (rw c.from.ensures at c.put_count-2.ensures.bytes)
+    c.put_count-2.ensures.bytes
