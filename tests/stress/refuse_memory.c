@@ -3,6 +3,8 @@
 #include <errno.h>
 #include <stdio.h>
 #include <stdlib.h>
+#include <sys/syscall.h>
+#include <unistd.h>
 extern void *__libc_malloc(size_t), *__libc_calloc(size_t, size_t), *__libc_realloc(void *, size_t), *__libc_memalign(size_t, size_t);
 static long refused = -2, asked = 0;
 static int refuse(void) {
@@ -20,3 +22,5 @@ __attribute__((destructor)) static void tell(void) {
     FILE *file = path ? fopen(path, "w") : 0;
     if (file) { fprintf(file, "%ld\n", asked); fclose(file); }
 }
+/* A program may end without its destructors. */
+void _exit(int status) { tell(); for (;;) syscall(SYS_exit_group, status); }
