@@ -7,3 +7,4 @@ pub mod Seen
 pub mod Own
 pub mod Finds
 pub mod Leaves
+pub mod Keeps
