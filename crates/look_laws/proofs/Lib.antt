@@ -8,3 +8,4 @@ pub mod Own
 pub mod Finds
 pub mod Leaves
 pub mod Keeps
+mod LookRows
