@@ -45,7 +45,7 @@ use Rattle.device_defs.specs.Store.{
   with_frame,
   plain_at,
 }
-use Rattle.look_laws.specs.Looking.{is_written, is_written_at}
+use Rattle.look_laws.specs.Looking.{is_written, is_written_at, IsNowhere}
 use Rattle.look_laws.proofs.Own.{own_of, same_image, counted_own, unframed_own, begun_own, failed_seen, ended_seen}
 use Rattle.look_laws.proofs.Seen.{one_read, Seen, seen_done, seen_try, seen_ask, seen_a, seen_b, seen_then, seen_if}
 
@@ -131,7 +131,7 @@ module _ (s : MarksStore) (t : ℕ) (a b : Calls) where
 
   -- no side gave bytes, and no modified frame is there
   abbrev NoneIs : Option Side → Type 0
-  NoneIs None = (has_level s t ≡ false) × (is_modified by_plain (frame_at s t) ≡ false)
+  NoneIs None = IsNowhere s t
   NoneIs (Some side) = Failed s t a b side
 
   none_is : (fault : Option Side) → is_modified by_plain (frame_at s t) ≡ false → NoneGot s t a b fault → NoneIs fault
@@ -184,7 +184,7 @@ module _ (s : MarksStore) (t : ℕ) (a b : Calls) where
   PeekIs (Some (Track i)) = is_written_at s.half t ≡ false → i ≡ plain_at s t
   PeekIs (Some Lost) = is_lost s t ≡ true
   PeekIs (Some (Fault side)) =
-      (is_lost s t ≡ false) × (Failed s t a b side ⊎ ((has_level s t ≡ false) × (is_modified by_plain (frame_at s t) ≡ false)))
+      (is_lost s t ≡ false) × (Failed s t a b side ⊎ IsNowhere s t)
   PeekIs (Some (BadBytes side)) = ⊥
 
   pub record PeekSeen (z : MarksStore) (o : Option Peeked) : Type 0 where

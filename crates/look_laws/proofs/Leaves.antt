@@ -1,5 +1,5 @@
 -- What a look finds in a run, and what it leaves there.
-use Rattle.std.proofs.Common.{◌≡◌, ◌==◌, ◌&&◌, ◌||◌, not, ℕ, Bool, true, false, List, [], ◌∷◌, Option, Some, None, is_some, refl, sym, ap, subst, ◌∙◌, arith, inl, inr}
+use Rattle.std.proofs.Common.{◌≡◌, ◌==◌, ◌&&◌, ◌||◌, not, ℕ, Bool, true, false, List, [], ◌∷◌, Option, Some, None, is_some, refl, sym, ap, subst, ◌∙◌, arith, ◌⊎◌, inl, inr}
 use Rattle.std.specs.Prelude.{if◌then◌else◌}
 use Rattle.ckd_types.specs.declared.paths.Side.{Side}
 use Rattle.ckd_types.specs.declared.paths.Side.TheVariants.{A, B}
@@ -15,7 +15,7 @@ use Rattle.subsystem_defs.specs.Looks as L
 use Rattle.subsystem_defs.specs.Looks.{told_found, with_look, looked_at, looked}
 use Rattle.subsystem_defs.specs.Subsystem.{Mounted, Subsystem, number_of, mounted_in, put_in}
 use Rattle.subsystem_laws.proofs.Walks.{mounted_number}
-use Rattle.look_laws.specs.Looking.{is_written_at, IsPlainly, StaysOwn, HasFailed}
+use Rattle.look_laws.specs.Looking.{is_written_at, IsPlainly, StaysOwn, HasFailed, IsNowhere}
 use Rattle.look_laws.proofs.Finds.{Failed, PeekIs, Looks, peek_seen}
 use Rattle.look_laws.proofs.Own.{same_device, same_geometry, same_cylinders, same_lent, same_half, same_plain}
 use Rattle.look_laws.proofs.Seen.{seen_held}
@@ -116,6 +116,14 @@ module _ (s : Subsystem) (n t : ℕ) (m : Mounted) (there : mounted_in s.mounted
   failed_is : (side : Side) → Failed m.device.store t m.a m.b side → HasFailed m t side
   failed_is A h = record { level = h.0; fails = h.1.0; other = h.1.1 }
   failed_is B h = record { level = h.0; fails = h.1.0; other = h.1.1 }
+
+  fault_of : (side : Side) → PeekIs m.device.store t m.a m.b (Some (Fault side)) → HasFailed m t side ⊎ IsNowhere m.device.store t
+  fault_of side (kept, inl h) = inl (failed_is side h)
+  fault_of side (kept, inr h) = inr h
+
+  -- a fault is a failed call, or the track is in no place that a look asks
+  pub fault_is : (side : Side) → (looked s n t).found ≡ Fault side → HasFailed m t side ⊎ IsNowhere m.device.store t
+  fault_is side e = fault_of side (subst (λ (f : Peeked). PeekIs m.device.store t m.a m.b (Some f)) e found_so)
 
   fault_by : (side : Side) → has_sound_marks by_plain m.device.store t ≡ true → half_is m.device.store.half t ≡ false →
       PeekIs m.device.store t m.a m.b (Some (Fault side)) → HasFailed m t side

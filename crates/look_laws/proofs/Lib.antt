@@ -7,3 +7,5 @@ pub mod Seen
 pub mod Own
 pub mod Finds
 pub mod Leaves
+pub mod Keeps
+mod LookRows

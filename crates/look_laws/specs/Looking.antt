@@ -10,8 +10,11 @@ use Rattle.device_outside.specs.Pool.{Pool, counted_slots}
 use Rattle.device_outside.specs.Told.{read_fails}
 use Rattle.device_defs.specs.Background.{other}
 use Rattle.device_defs.specs.Contents.{by_plain}
+use Rattle.device_defs.specs.Marks.{MarksStore}
+use Rattle.device_defs.specs.Owed.{is_modified}
 use Rattle.device_defs.specs.Peek.{Peeked, Track, Lost, Fault, BadBytes, peek}
-use Rattle.device_defs.specs.Store.{Origin, OfCommand, OfCut, OfBackground, HalfWrite, side_of, level_at}
+use Rattle.device_defs.specs.Store.{Origin, OfCommand, OfCut, OfBackground, HalfWrite, side_of, level_at, has_level, frame_at}
+use Rattle.device_laws.specs.Whole.{WholeDevice}
 use Rattle.subsystem_defs.specs.Happening.{told_to}
 use Rattle.subsystem_defs.specs.Looks.{Looked, looked}
 use Rattle.subsystem_defs.specs.Subsystem.{Mounted, Subsystem, mounted_in, calls_behind}
@@ -59,6 +62,16 @@ pub record LeavesOwn (m k : Mounted) : Type 0 where
   pub paths : k.device.paths ≡ m.device.paths
   pub chain : k.device.chain ≡ m.device.chain
 
+-- and of a device whatever is answered, and whether or not memory is had
+pub record KeepsOwn (d e : WholeDevice) : Type 0 where
+  pub number : e.store.device ≡ d.store.device
+  pub geometry : e.store.geometry ≡ d.store.geometry
+  pub cylinders : e.store.cylinders ≡ d.store.cylinders
+  pub lent : e.store.lent ≡ d.store.lent
+  pub plans : e.plans ≡ d.plans
+  pub paths : e.paths ≡ d.paths
+  pub chain : e.chain ≡ d.chain
+
 -- the device is there behind the look, and so it is left
 pub record StaysOwn (s : Subsystem) (n t : ℕ) (m : Mounted) : Type 0 where
   pub mounted : Mounted
@@ -70,6 +83,10 @@ pub record HasFailed (m : Mounted) (t : ℕ) (side : Side) : Type 0 where
   pub level : level_at (side_of m.device.store side) t ≡ true
   pub fails : read_fails (calls_behind m side) ≡ true
   pub other : (level_at (side_of m.device.store (other side)) t ≡ false) ⊎ (read_fails (calls_behind m (other side)) ≡ true)
+
+-- no side has the track, and no modified frame
+abbrev pub IsNowhere : MarksStore → ℕ → Type 0
+IsNowhere s t = (has_level s t ≡ false) × (is_modified by_plain (frame_at s t) ≡ false)
 
 -- A keeper
 

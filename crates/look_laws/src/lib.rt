@@ -1,7 +1,7 @@
 //! Laws of a look at a track past the channel. It has no code; its lemmas are over plain variables.
 #![tactic(auto)]
 
-ghost use Rattle.std.specs.Prelude.{◌≡◌, ◌<◌, ℕ, false, true, List, Option, Some};
+ghost use Rattle.std.specs.Prelude.{◌≡◌, ◌⊎◌, ◌<◌, ℕ, false, true, List, Option, Some};
 ghost use Rattle.ckd_types.specs.declared.paths.Side.{Side};
 ghost use Rattle.ckd_types.specs.declared.record.Track.{Track};
 ghost use Rattle.device_outside.specs.Both.{TellsAll};
@@ -20,7 +20,7 @@ ghost use Rattle.subsystem_defs.specs.Looks.{looked};
 ghost use Rattle.subsystem_defs.specs.Subsystem.{Mounted, Subsystem, mounted_in};
 ghost use Rattle.subsystem_laws.specs.WholeComes.{subsystem_of, Changes, Asked};
 ghost use Rattle.subsystem_laws.specs.WholeStood.{Stood, AreMounted};
-ghost use Rattle.look_laws.specs.Looking.{is_written_at, IsLooked, IsPlainly, StaysOwn, HasFailed, look_messages, AskedWith};
+ghost use Rattle.look_laws.specs.Looking.{is_written_at, IsLooked, IsPlainly, StaysOwn, KeepsOwn, HasFailed, IsNowhere, look_messages, AskedWith};
 
 use device_outside::Keep;
 use track_image::TrackImage;
@@ -60,10 +60,20 @@ pub fn look_finds_plain()
 {}
 
 /// In the defined run a track is found to be lost only where it is, and a side's fault is told only where that side had the track and its next read fails, and
-/// where the other side hasn't the track or fails as well. The second is of tracks with sound marks on which no half write is open.
+/// where the other side hasn't the track or fails as well; or where no side has the track, and no modified frame. This isn't so of a track with sound marks on
+/// which no half write is open.
 pub fn fault_has_failed()
-    ensures fault { (s : Subsystem) (n t : ℕ) (m : Mounted) (side : Side) → mounted_in s.mounted n ≡ Some m →
+    ensures fault { (s : Subsystem) (n t : ℕ) (m : Mounted) (side : Side) → mounted_in s.mounted n ≡ Some m → (looked s n t).found ≡ Fault side →
+        HasFailed m t side ⊎ IsNowhere m.device.store t }
+    ensures sound { (s : Subsystem) (n t : ℕ) (m : Mounted) (side : Side) → mounted_in s.mounted n ≡ Some m →
         has_sound_marks by_plain m.device.store t ≡ true → half_is m.device.store.half t ≡ false → (looked s n t).found ≡ Fault side → HasFailed m t side }
     ensures lost { (s : Subsystem) (n t : ℕ) (m : Mounted) → mounted_in s.mounted n ≡ Some m → (looked s n t).found ≡ Lost →
         is_lost m.device.store t ≡ true }
+{}
+
+/// A look leaves of its device its number, its size, to whom it is lent, its plans, its paths and its chain as they were, whatever is answered and whether or not
+/// memory is had.
+pub fn look_keeps_own<K: Keep<TrackImage>>()
+    ensures { (d e : WholeDevice) (u z : Outside (List ℕ) K) (a : Option Peeked) (t : ℕ) → Ran (λ ok. Unit {0}) K.hears (peek contents d t) u e a z →
+        KeepsOwn d e }
 {}
