@@ -181,7 +181,7 @@ module _ (s : MarksStore) (t : ℕ) (a b : Calls) where
 
   abbrev pub PeekIs : Option Peeked → Type 0
   PeekIs None = ⊥
-  PeekIs (Some (Track i)) = is_written_at s.half t ≡ false → i ≡ plain_at s t
+  PeekIs (Some (Track i)) = (is_lost s t ≡ false) × (is_written_at s.half t ≡ false → i ≡ plain_at s t)
   PeekIs (Some Lost) = is_lost s t ≡ true
   PeekIs (Some (Fault side)) =
       (is_lost s t ≡ false) × (Failed s t a b side ⊎ IsNowhere s t)
@@ -197,7 +197,7 @@ module _ (s : MarksStore) (t : ℕ) (a b : Calls) where
   found_seen : (x y : Calls) (z : MarksStore) (o : Option Imaged) → is_lost s t ≡ false → own_of z ≡ own_of s → ImageIs o →
       Seen Peeks x y (had_by (λ u i. Done u (Some (peeked i))) z o)
   found_seen x y z None there own h = absurd h
-  found_seen x y z (Some (Has i)) there own h = seen_done (record { own = own; is = λ _. h })
+  found_seen x y z (Some (Has i)) there own h = seen_done (record { own = own; is = (there, λ _. h) })
   found_seen x y z (Some (NoBytes None)) there own h = seen_done (record { own = own; is = (there, inr h) })
   found_seen x y z (Some (NoBytes (Some side))) there own h = seen_done (record { own = own; is = (there, inl h) })
   found_seen x y z (Some (BadTrack side)) there own h = absurd h
@@ -231,7 +231,7 @@ module _ (s : MarksStore) (t : ℕ) (a b : Calls) where
   by_half None e there = imaged_seen there
   by_half (Some h) e there =
       seen_if (is_in_half by_plain s t h)
-      (λ yes. seen_try (seen_done (record { own = refl; is = half_seen h e (first_of (h.track == t) _ _ yes) })))
+      (λ yes. seen_try (seen_done (record { own = refl; is = (there, half_seen h e (first_of (h.track == t) _ _ yes)) })))
       (λ no. imaged_seen there)
 
   pub track_seen : Seen Peeks a b (peek_track by_plain s t)

@@ -57,7 +57,7 @@ module _ (s : Subsystem) (n t : ℕ) (m : Mounted) (there : mounted_in s.mounted
       (answer_by (held_with s.pool m (peek by_plain m.device t)).answer sees.is ∙ ap Some (sym found_is)) sees.is
 
   plainly : (f : Peeked) → is_written_at m.device.store.half t ≡ false → PeekIs m.device.store t m.a m.b (Some f) → IsPlainly m t f
-  plainly (Track i) may h = h may
+  plainly (Track i) may h = h.1 may
   plainly Lost may h = tt
   plainly (Fault side) may h = tt
   plainly (BadBytes side) may h = h
@@ -88,6 +88,15 @@ module _ (s : Subsystem) (n t : ℕ) (m : Mounted) (there : mounted_in s.mounted
 
   pub lost_is_lost : (looked s n t).found ≡ Lost → is_lost m.device.store t ≡ true
   lost_is_lost e = subst (λ (f : Peeked). PeekIs m.device.store t m.a m.b (Some f)) e found_so
+
+  only_lost : (f : Peeked) → is_lost m.device.store t ≡ true → PeekIs m.device.store t m.a m.b (Some f) → f ≡ Lost
+  only_lost (Track i) lost h = absurd (let there = h.0 in cc)
+  only_lost Lost lost h = refl
+  only_lost (Fault side) lost h = absurd (let there = h.0 in cc)
+  only_lost (BadBytes side) lost h = absurd h
+
+  pub lost_is_found : is_lost m.device.store t ≡ true → (looked s n t).found ≡ Lost
+  lost_is_found lost = only_lost (looked s n t).found lost found_so
 
   -- where a track has a copy, a fault is a failed call
 

@@ -59,9 +59,9 @@ pub fn look_finds_plain()
     ensures own { (s : Subsystem) (n t : ℕ) (m : Mounted) → mounted_in s.mounted n ≡ Some m → StaysOwn s n t m }
 {}
 
-/// In the defined run a track is found to be lost only where it is, and a side's fault is told only where that side had the track and its next read fails, and
-/// where the other side hasn't the track or fails as well; or where no side has the track, and no modified frame. This isn't so of a track with sound marks on
-/// which no half write is open.
+/// In the defined run a track is found to be lost where it is, and nowhere else. A side's fault is told only where that side had the track and its next
+/// read fails, and the other side hasn't the track or fails as well; or where no side has the track, and no modified frame. The last isn't so of a track
+/// with sound marks on which no half write is open.
 pub fn fault_has_failed()
     ensures fault { (s : Subsystem) (n t : ℕ) (m : Mounted) (side : Side) → mounted_in s.mounted n ≡ Some m → (looked s n t).found ≡ Fault side →
         HasFailed m t side ⊎ IsNowhere m.device.store t }
@@ -69,6 +69,7 @@ pub fn fault_has_failed()
         has_sound_marks by_plain m.device.store t ≡ true → half_is m.device.store.half t ≡ false → (looked s n t).found ≡ Fault side → HasFailed m t side }
     ensures lost { (s : Subsystem) (n t : ℕ) (m : Mounted) → mounted_in s.mounted n ≡ Some m → (looked s n t).found ≡ Lost →
         is_lost m.device.store t ≡ true }
+    ensures found { (s : Subsystem) (n t : ℕ) (m : Mounted) → mounted_in s.mounted n ≡ Some m → is_lost m.device.store t ≡ true → (looked s n t).found ≡ Lost }
 {}
 
 /// A look leaves of its device its number, its size, to whom it is lent, its plans, its paths and its chain as they were, whatever is answered and whether or not
