@@ -1,5 +1,5 @@
 -- Devices come into their turns, and leave them.
-use Rattle.std.proofs.Common.{◌≡◌, ◌<◌, List, [], ◌∷◌, ◌++◌, length, Some, Result, Ok, Err, refl, sym, ap, subst, ◌∙◌, arith, append_assoc, append-nil}
+use Rattle.std.proofs.Common.{◌≡◌, ◌<◌, ℕ, map, List, [], ◌∷◌, ◌++◌, length, Some, Result, Ok, Err, refl, sym, ap, subst, ◌∙◌, arith, append_assoc, append-nil}
 use Rattle.std.specs.Prelude.{All, IfOk, slice_index_or}
 use Rattle.std.specs.List.{AllZip, insert, remove}
 use Rattle.std.proofs.lemmas.List.Elements.{All-head, All-tail}
@@ -14,7 +14,7 @@ use Rattle.device_core.specs.declared.device.Device.{Device}
 use Rattle.path_turns.specs.declared.promise.Promise.{Promise}
 use Rattle.path_turns.specs.Keeping.{IsReady, IsWithin, KeepsPledge, KeepsPromise, KeepsWithin, pledge_with}
 use Rattle.path_turns.proofs.Ready.{ready_keeps}
-use Rattle.path_threads.specs.Places.{Allows, HaveCome, HaveLeft, IsPromised, IsPromisedFor, KeepPromises, KeepsOrdered}
+use Rattle.path_threads.specs.Places.{Allows, HaveCome, HaveLeft, HavePlaces, IsPlaceOf, IsPromised, IsPromisedFor, KeepPromises, KeepsOrdered}
 use Rattle.path_threads.specs.declared.places.Place.{Place}
 use Rattle.path_threads.specs.declared.orders.Order.{Order}
 use Rattle.path_threads.specs.Allowed.{allowed_of}
@@ -22,11 +22,38 @@ use Rattle.path_threads.specs.Allowed.{allowed_of}
 abbrev pub SeatOf : {V : Type 0} {G : Ghosts V} → holders.Ghosts (Device V G) (Promise V G) → Type 0
 SeatOf {V} {G} N = TurnSeat (Device V G) (Promise V G) N
 
+-- of each path
+pub of_four : (f : ℕ → ℕ) (w x y z : ℕ) → w ≡ f 1 → x ≡ f 2 → y ≡ f 3 → z ≡ f 4 → w ∷ x ∷ y ∷ z ∷ [] ≡ map f (1 ∷ 2 ∷ 3 ∷ 4 ∷ [])
+of_four f w x y z one two three four =
+    ap (λ (k : ℕ). k ∷ x ∷ y ∷ z ∷ []) one ∙ ap (λ (k : ℕ). f 1 ∷ k ∷ y ∷ z ∷ []) two ∙ ap (λ (k : ℕ). f 1 ∷ f 2 ∷ k ∷ z ∷ []) three
+    ∙ ap (λ (k : ℕ). f 1 ∷ f 2 ∷ f 3 ∷ k ∷ []) four
+
 module _ {V : Type 0} {G : Ghosts V} where
   -- a device that is ready keeps what is promised of it
   pub promise_kept : (d : Device V G) (p : Promise V G) → p.made.value ≡ d → IsWithin d.store.counts.losses p.most → IsReady d → KeepsPromise p d
   promise_kept d p made within ready =
       subst (λ (x : Device V G). KeepsPledge (pledge_with x p.most) d) (sym made) (ready_keeps d ready p.most within)
+
+  -- the devices that stand in turns have their places
+  pub none_placed : (ds : List (Device V G)) (places : List Place) → places ≡ [] → HavePlaces ds places ds
+  none_placed ds places none =
+      record { come = []; all = refl; placed = subst (λ (p : List Place). AllZip (IsPlaceOf {V = V} {G = G}) [] p) (sym none) tt }
+
+  pub one_placed : (ds : List (Device V G)) (places new : List Place) (rest less : List (Device V G)) (d : Device V G) (p : Place) → HavePlaces ds places rest →
+      0 < length rest → d ≡ slice_index_or rest 0 d → less ≡ remove rest 0 → IsPlaceOf d p → new ≡ places ++ p ∷ [] → HavePlaces ds new less
+  one_placed ds places new [] less d p have some is rest_is place new_is = absurd (omega (arith, some))
+  one_placed ds places new (x ∷ rest) less d p have some is rest_is place new_is = record {
+    come = have.come ++ x ∷ [];
+    all = have.all ∙ sym (append_assoc have.come (x ∷ []) rest) ∙ ap (λ (r : List (Device V G)). (have.come ++ x ∷ []) ++ r) (sym rest_is);
+    placed = subst (λ (q : List Place). AllZip IsPlaceOf (have.come ++ x ∷ []) q) (sym new_is)
+        (zip_snoc IsPlaceOf have.come places x p have.placed (subst (λ (y : Device V G). IsPlaceOf y p) is place));
+  }
+
+  pub all_placed : (ds : List (Device V G)) (places : List Place) (rest : List (Device V G)) → HavePlaces ds places rest → length rest ≡ 0 →
+      AllZip IsPlaceOf ds places
+  all_placed ds places [] have none =
+      subst (λ (d : List (Device V G)). AllZip IsPlaceOf d places) (sym (have.all ∙ append-nil have.come)) have.placed
+  all_placed ds places (x ∷ rest) have none = absurd (omega (arith, none))
 
 module _ {V : Type 0} {G : Ghosts V} {N : holders.Ghosts (Device V G) (Promise V G)} where
   pub promised_of : {E : Type 0} (most : Losses) (d : Device V G) (p : Promise V G) (r : Result (Setting (Device V G) (Promise V G) N) E) → p.made.value ≡ d →

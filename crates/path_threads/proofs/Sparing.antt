@@ -15,7 +15,10 @@ use Rattle.path_turns.specs.declared.promise.Promise.{Promise}
 use Rattle.path_orders.specs.declared.device_orders.DeviceOrder.{DeviceOrder}
 use Rattle.path_orders.specs.declared.device_orders.DeviceOrder.TheVariants as orders
 use Rattle.path_orders.specs.Spare.{IsSpare}
+use Rattle.path_threads.specs.Asked.{device_order}
 use Rattle.path_threads.specs.declared.orders.Order.{Order}
+use Rattle.subsystem_defs.specs.declared.event.Event as events
+use Rattle.subsystem_defs.specs.declared.event.Event.TheVariants as told
 use Rattle.path_threads.specs.declared.orders.Order.TheVariants.{Event, Replace}
 use Rattle.path_threads.specs.declared.places.Place.{Place}
 use Rattle.path_threads.proofs.Setting.{SeatOf}
@@ -86,3 +89,30 @@ module _ {V : Type 0} {G : Ghosts V} {N : holders.Ghosts (Device V G) (Promise V
   pub spare_rests : (places : List Place) (ss zs : List (SeatOf N)) (o : Order V) → AllZip Rests ss zs → IsSpareAt places ss o → IsSpareAt places zs o
   spare_rests places ss zs (Event e) r h = tt
   spare_rests places ss zs (Replace n side volume) r h = suits_rests places ss zs n (orders.Replace side volume) r h
+
+  -- an event is no order that brings a volume
+  none_needed : (o : Option (SeatOf N)) → IfSome o (λ s. Unit {0})
+  none_needed (Some s) = tt
+  none_needed None = tt
+
+  abbrev fits : (places : List Place) (seats : List (SeatOf N)) → Option (ℕ × DeviceOrder V) → Type 0
+  fits places seats o = IfSome o (λ x. SuitsAt places seats x.0 x.1)
+
+  event_fits : (e : events.Event) (places : List Place) (seats : List (SeatOf N)) → fits places seats (device_order e)
+  event_fits (told.FailVolume d side) places seats = none_needed (seat_at places seats d)
+  event_fits (told.Suspend d) places seats = none_needed (seat_at places seats d)
+  event_fits (told.Resume d) places seats = none_needed (seat_at places seats d)
+  event_fits (told.Start path d) places seats = tt
+  event_fits (told.Step d) places seats = tt
+  event_fits (told.Back d) places seats = tt
+  event_fits (told.Reset path d) places seats = tt
+  event_fits told.FailCache places seats = tt
+  event_fits told.FailStore places seats = tt
+  event_fits told.RepairCache places seats = tt
+  event_fits told.RepairStore places seats = tt
+  event_fits (told.Pair a d) places seats = tt
+  event_fits told.Power places seats = tt
+
+  pub suits_event : (e : events.Event) (places : List Place) (seats : List (SeatOf N)) (x : ℕ × DeviceOrder V) → device_order e ≡ Some x →
+      SuitsAt places seats x.0 x.1
+  suits_event e places seats x is = subst (fits places seats) is (event_fits e places seats)

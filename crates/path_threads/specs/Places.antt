@@ -1,5 +1,5 @@
 -- Devices in their turns.
-use Rattle.std.specs.Prelude.{◌≡◌, ℕ, ◌==◌, List, [], ◌∷◌, ◌++◌, All, IfSome, Option, None, Some, if◌then◌else◌}
+use Rattle.std.specs.Prelude.{◌≡◌, ℕ, ◌==◌, ◌-◌, Bool, List, [], ◌∷◌, ◌++◌, All, IfSome, Option, None, Some, if◌then◌else◌, map, nat_lt, slice_index_or}
 use Rattle.std.specs.List.{AllZip}
 use Rattle.device_outside.specs.declared.volume.Volume.{Ghosts}
 use Rattle.device_defs.specs.declared.counts.Losses.{Losses}
@@ -7,6 +7,8 @@ use Rattle.device_turn.specs.declared.holder.Holder as holders
 use Rattle.device_turn.specs.declared.seat.TurnSeat.{TurnSeat}
 use Rattle.subsystem_core.specs.Devices.{device_at}
 use Rattle.device_core.specs.declared.device.Device.{Device}
+use Rattle.device_core.specs.State.{device_of}
+use Rattle.device_defs.specs.Start.{left}
 use Rattle.loss_model.specs.declared.Loss.{Loss}
 use Rattle.loss_model.specs.declared.Loss.TheVariants.{Cache, Store}
 use Rattle.path_orders.specs.declared.device_orders.DeviceOrder.{DeviceOrder}
@@ -29,7 +31,25 @@ loss_by FailStore = Some Store
 loss_by RepairCache = None
 loss_by RepairStore = None
 
+-- a program of this path waits at the place
+abbrev pub waits_for : Place → ℕ → Bool
+waits_for place path = nat_lt 0 (slice_index_or place.left (path - 1) 0)
+
 module _ {V : Type 0} {G : Ghosts V} where
+  -- how many planned programs of each path weren't started
+  abbrev pub waiting_of : Device V G → List ℕ
+  waiting_of d = map (left (device_of d)) (1 ∷ 2 ∷ 3 ∷ 4 ∷ [])
+
+  -- the place of a device has its number, and how many programs wait there
+  abbrev pub IsPlaceOf : Device V G → Place → Type 0
+  IsPlaceOf d place = (place.number ≡ d.store.number) × (place.left ≡ waiting_of d)
+
+  -- the first of these devices have these places
+  pub record HavePlaces (devices : List (Device V G)) (places : List Place) (rest : List (Device V G)) : Type 0 where
+    pub come : List (Device V G)
+    pub all : devices ≡ come ++ rest
+    pub placed : AllZip IsPlaceOf come places
+
   -- the device may have what an order of all does to it
   abbrev pub MayHave : PoolOrder → Place → Device V G → Type 0
   MayHave order place d = IfSome (loss_by order) (λ (loss : Loss). MayLose loss place.most d)

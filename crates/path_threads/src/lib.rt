@@ -5,6 +5,7 @@ mod allowed;
 mod operator;
 mod orders;
 mod places;
+mod rows;
 mod run;
 mod shared;
 mod walks;

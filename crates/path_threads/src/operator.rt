@@ -4,6 +4,7 @@ ghost use Rattle.std.specs.Prelude.{◌≡◌, All, IfOk, OnOk, true};
 ghost use Rattle.std.specs.List.{AllZip};
 ghost use Rattle.turn_seats.specs.Seating.{IsHome, Rests};
 ghost use Rattle.path_threads.specs.Held.{IsHeld};
+ghost use Rattle.path_threads.specs.Asked.{device_order, pool_order};
 ghost use Rattle.path_threads.specs.Places.{Allows, IsSpareAt, MayHave, SuitsAt, SuitsSeat};
 ghost use Rattle.path_orders.specs.Ordered.{HasSize, HaveLosses, IsOrdered, Suits};
 
@@ -228,6 +229,25 @@ fn order_pool<R: Wait, V: Volume, P: Port>(
     Ok(())
 }
 
+/// An order at the device that it names.
+fn order_named<R: Wait, V: Volume, P: Port>(
+    rt: &R,
+    shared: &Shared,
+    turns: &[DeviceTurn<V>],
+    seats: &mut [DeviceSeat<V>],
+    places: &[Place],
+    named: (DeviceNo, DeviceOrder<V>),
+    port: &mut P,
+) -> Result<(), NoMemory>
+    requires home { AllZip IsHome turns.now seats.old }
+    requires allows { AllZip Allows places.now seats.old }
+    requires suits { SuitsAt places.now seats.old named.0 named.1 }
+    ensures { OnOk result (AllZip Rests seats.old seats.new) }
+{
+    let (d, what) = named;
+    order_at(rt, shared, turns, seats, places, d, what, port)
+}
+
 /// An event, where it is the operator's.
 fn order_event<R: Wait, V: Volume, P: Port>(
     rt: &R,
@@ -245,24 +265,28 @@ fn order_event<R: Wait, V: Volume, P: Port>(
     if let Some(what) = pool_order(event) {
         return order_pool(rt, shared, turns, seats, places, what, port);
     }
-    match event {
-        Event::FailVolume(d, side) => {
-            let what = DeviceOrder::Fail(*side);
-            order_at(rt, shared, turns, seats, places, *d, what, port)
-        }
-        Event::Suspend(d) => {
-            let what = DeviceOrder::Suspend;
-            order_at(rt, shared, turns, seats, places, *d, what, port)
-        }
-        Event::Resume(d) => {
-            let what = DeviceOrder::Resume;
-            order_at(rt, shared, turns, seats, places, *d, what, port)
-        }
-        _ => Ok(()),
+    match device_order(event) {
+        Some(named) => order_named(rt, shared, turns, seats, places, named, port),
+        None => Ok(()),
     }
 }
 
-fn pool_order(event: &Event) -> Option<PoolOrder> {
+/// The order of one device that an event is, and of which.
+fn device_order<V>(event: &Event) -> Option<(DeviceNo, DeviceOrder<V>)>
+    ensures { result ≡ device_order event.now }
+{
+    match event {
+        Event::FailVolume(d, side) => Some((*d, DeviceOrder::Fail(*side))),
+        Event::Suspend(d) => Some((*d, DeviceOrder::Suspend)),
+        Event::Resume(d) => Some((*d, DeviceOrder::Resume)),
+        _ => None,
+    }
+}
+
+/// The order of all devices that it is.
+fn pool_order(event: &Event) -> Option<PoolOrder>
+    ensures { result ≡ pool_order event.now }
+{
     match event {
         Event::FailCache => Some(PoolOrder::FailCache),
         Event::FailStore => Some(PoolOrder::FailStore),

@@ -3,7 +3,7 @@ ghost use Rattle.std.specs.List.{AllZip};
 ghost use Rattle.path_turns.specs.Keeping.{IsReady, IsWithin};
 ghost use Rattle.path_threads.specs.declared.orders.Order.{Order};
 ghost use Rattle.path_threads.specs.Allowed.{allowed_of};
-ghost use Rattle.path_threads.specs.Places.{Allows, IsPromised, IsPromisedFor, KeepPromises};
+ghost use Rattle.path_threads.specs.Places.{Allows, IsPlaceOf, IsPromised, IsPromisedFor, KeepPromises, waiting_of, waits_for};
 ghost use Rattle.turn_seats.specs.Seating.{AreSet, IsSet};
 
 use crate::allowed::allowed;
@@ -27,7 +27,9 @@ pub(crate) struct Place {
 
 impl Place {
     /// A program of this path waits there.
-    pub fn waits_for(&self, path: PathNo) -> bool {
+    pub fn waits_for(&self, path: PathNo) -> bool
+        ensures { result ≡ waits_for self.now path }
+    {
         self.left[usize::from(path.get() - 1)] > 0
     }
 }
@@ -44,7 +46,10 @@ fn most_of<V: Volume>(device: &Device<V>, orders: &[Order<V>]) -> Losses
     allowed(device.losses(), device.number(), orders)
 }
 
-fn left_of<V: Volume>(device: &Device<V>) -> [u16; 4] {
+/// How many programs of each path wait.
+fn left_of<V: Volume>(device: &Device<V>) -> [u16; 4]
+    ensures { result ≡ waiting_of device.now }
+{
     [
         device.left(PathNo::of(1)),
         device.left(PathNo::of(2)),
@@ -81,6 +86,7 @@ pub(crate) fn set_all<V: Volume>(
     ensures set { IfOk result (λ r. AreSet r.0) }
     ensures promised { IfOk result (λ r. AllZip (IsPromisedFor orders.now) devices.items r.0.operator.items) }
     ensures allows { IfOk result (λ r. AllZip Allows r.1.items r.0.operator.items) }
+    ensures places { IfOk result (λ r. AllZip IsPlaceOf devices.items r.1.items) }
 {
     let mut table = Table::new(alloc);
     let mut places = Vec::new(alloc);

@@ -1,23 +1,27 @@
-ghost use Rattle.std.specs.Prelude.{◌≡◌, All, IfOk};
+ghost use Rattle.std.specs.Prelude.{◌≡◌, All, IfErr, IfOk, Ok};
 ghost use Rattle.std.specs.List.{AllZip};
-ghost use Rattle.std.specs.Thread.{IsSync};
 ghost use Rattle.path_turns.specs.Keeping.{IsFinished, IsReady};
 ghost use Rattle.turn_seats.specs.Seating.{AreSeated, IsAt, IsHome, Rests};
 ghost use Rattle.path_threads.specs.Places.{Allows, IsSpareAt, IsSpareAmong, KeepsOrdered};
+ghost use Rattle.path_threads.specs.Walks.{HaveWalked};
 
 use crate::operator::operate;
 use crate::orders::Order;
 use crate::places::{Place, clear_all, set_all};
 use crate::shared::Shared;
+use crate::rows::{Begun, Resting, Walked, Walks};
 use crate::walks::{walk, work_behind};
 use ckd_types::{NoMemory, PathNo};
 use device_core::Device;
 use device_outside::{Gate, Volume};
+use device_turn::{Holder, Turn};
 use frame_pool::Pool;
 use path_turns::{DeviceSeat, DeviceTurn, Promise, finish_all};
 use std::alloc::Global;
+use std::snapshot::Snapshot;
 use std::sync::Wait;
-use std::thread::{Threads, join};
+use std::thread;
+use std::thread::{PromisedHandle, Scope, SpawnError, Threads, scope, scope_env};
 use turn_seats::{Seats, Table};
 
 /// The pool and the devices behind a run.
@@ -31,116 +35,116 @@ type Row<V> = Vec<DeviceSeat<V>>;
 
 type DeviceSeats<V> = Seats<Device<V>, Promise<V>>;
 
-type Walked<V> = Result<Row<V>, NoMemory>;
+type DeviceWalked<V> = Walked<Device<V>, Promise<V>>;
 
-fn two_walk<R: Threads + Wait + Sync, V: Volume + Send, G: Gate + Sync>(
-    rt: &R,
+type DeviceBegun<V> = Begun<Device<V>, Promise<V>>;
+
+type DeviceWalks<V> = Walks<Device<V>, Promise<V>>;
+
+/// A worker begins in a thread of its own. Where no thread can be made it works here, and from then on no worker waits.
+fn begin<'s, E, T: Send + Drop + 's, P: thread::Promise<T> + Drop, F: FnOnce() -> T + Send + 's>(
+    threads: &Scope<'s, E>,
     shared: &Shared,
-    turns: &[DeviceTurn<V>],
-    gate: &G,
-    places: &[Place],
-    paths: (PathNo, PathNo),
-    seats: (Row<V>, Row<V>),
-) -> (Walked<V>, Walked<V>)
-    requires first { AllZip (IsAt paths.0) turns.now seats.0.items }
-    requires second { AllZip (IsAt paths.1) turns.now seats.1.items }
-    ensures first { IfOk result.0 (λ v. AllZip (IsAt paths.0) turns.now v.items) }
-    ensures second { IfOk result.1 (λ v. AllZip (IsAt paths.1) turns.now v.items) }
+    promise: P,
+    work: F,
+) -> Result<PromisedHandle<T, P>, T>
+    requires runs { F.pre work }
+    requires keeps { (r : _) → F.post work r → P.kept_by promise r }
+    ensures started { IfOk result (λ h. h.promise ≡ promise) }
+    ensures refused { IfErr result (λ r. P.kept_by promise r) }
 {
-    let (a, b) = seats;
-    let (one, two) = paths;
-    join(
-        rt,
-        || -> Walked<V>
-            requires { IsSync R.row × AllZip (IsAt one) turns.now a.items }
-            ensures { IfOk result (λ v. AllZip (IsAt one) turns.entry.now v.items) }
-        { walk(rt, shared, turns, a, places, one, gate) },
-        || -> Walked<V>
-            requires { IsSync R.row × AllZip (IsAt two) turns.now b.items }
-            ensures { IfOk result (λ v. AllZip (IsAt two) turns.entry.now v.items) }
-        { walk(rt, shared, turns, b, places, two, gate) },
-    )
+    match threads.spawn_with(promise, work) {
+        Ok(handle) => Ok(handle),
+        Err(SpawnError { value }) => {
+            shared.lack_threads();
+            Err(value())
+        }
+    }
 }
 
-fn four_walk<R: Threads + Wait + Sync, V: Volume + Send, G: Gate + Sync>(
+/// The seats of a worker, once it is done.
+fn gather<R: Threads, H: Holder<P>, P>(
     rt: &R,
-    shared: &Shared,
-    turns: &[DeviceTurn<V>],
-    gate: &G,
-    places: &[Place],
-    first: (Row<V>, Row<V>),
-    second: (Row<V>, Row<V>),
-) -> ((Walked<V>, Walked<V>), (Walked<V>, Walked<V>))
-    requires first { AllZip (IsAt 1) turns.now first.0.items × AllZip (IsAt 2) turns.now first.1.items }
-    requires second { AllZip (IsAt 3) turns.now second.0.items × AllZip (IsAt 4) turns.now second.1.items }
-    ensures first { IfOk result.0.0 (λ v. AllZip (IsAt 1) turns.now v.items) × IfOk result.0.1 (λ v. AllZip (IsAt 2) turns.now v.items) }
-    ensures second { IfOk result.1.0 (λ v. AllZip (IsAt 3) turns.now v.items) × IfOk result.1.1 (λ v. AllZip (IsAt 4) turns.now v.items) }
+    turns: &Vec<Turn<H, P>>,
+    number: u64,
+    begun: Begun<H, P>,
+) -> Walked<H, P>
+    requires started { IfOk begun (λ h. (h.promise.turns.value ≡ turns.now) × (h.promise.number ≡ number)) }
+    requires refused { IfErr begun (λ r. IfOk r (λ v. AllZip (IsAt number) turns.now.items v.items)) }
+    ensures { IfOk result (λ v. AllZip (IsAt number) turns.now.items v.items) }
 {
-    join(
-        rt,
-        || -> (Walked<V>, Walked<V>)
-            requires { IsSync R.row × AllZip (IsAt 1) turns.now first.0.items × AllZip (IsAt 2) turns.now first.1.items }
-            ensures { IfOk result.0 (λ v. AllZip (IsAt 1) turns.entry.now v.items) × IfOk result.1 (λ v. AllZip (IsAt 2) turns.entry.now v.items) }
-        {
-            let paths = (PathNo::of(1), PathNo::of(2));
-            two_walk(rt, shared, turns, gate, places, paths, first)
-        },
-        || -> (Walked<V>, Walked<V>)
-            requires { IsSync R.row × AllZip (IsAt 3) turns.now second.0.items × AllZip (IsAt 4) turns.now second.1.items }
-            ensures { IfOk result.0 (λ v. AllZip (IsAt 3) turns.entry.now v.items) × IfOk result.1 (λ v. AllZip (IsAt 4) turns.entry.now v.items) }
-        {
-            let paths = (PathNo::of(3), PathNo::of(4));
-            two_walk(rt, shared, turns, gate, places, paths, second)
-        },
-    )
+    let _turns = turns;
+    let _number = number;
+    match begun {
+        Ok(handle) => handle.join(rt),
+        Err(walked) => walked,
+    }
 }
 
-/// The workers of the background and of the operator.
-fn other_walk<R: Threads + Wait + Sync, V: Volume + Send>(
-    rt: &R,
-    shared: &Shared,
-    turns: &[DeviceTurn<V>],
-    background: Row<V>,
-    operator: Row<V>,
-    places: &[Place],
-    orders: Vec<Order<V>>,
-) -> (Walked<V>, Walked<V>)
-    requires background { AllZip (IsAt 5) turns.now background.items }
-    requires operator { AllZip IsHome turns.now operator.items × AllZip Allows places.now operator.items }
-    requires spare { All (IsSpareAt places.now operator.items) orders.items }
-    ensures background { IfOk result.0 (λ v. AllZip (IsAt 5) turns.now v.items) }
-    ensures operator { IfOk result.1 (λ v. AllZip Rests operator.items v.items) }
+/// The worker of a path begins.
+fn begin_path<'s, E, R: Wait + Sync, V: Volume + Send + 's, G: Gate + Sync>(
+    rt: &'s R,
+    threads: &Scope<'s, E>,
+    shared: &'s Shared,
+    turns: &'s Vec<DeviceTurn<V>>,
+    places: &'s [Place],
+    path: PathNo,
+    seats: Row<V>,
+    gate: &'s G,
+) -> DeviceBegun<V>
+    requires { AllZip (IsAt path) turns.now.items seats.items }
+    ensures started { IfOk result (λ h. (h.promise.turns.value ≡ turns.now) × (h.promise.number ≡ path)) }
+    ensures refused { IfErr result (λ r. IfOk r (λ v. AllZip (IsAt path) turns.now.items v.items)) }
 {
-    join(
-        rt,
-        || -> Walked<V>
-            requires { IsSync R.row × AllZip (IsAt 5) turns.now background.items }
-            ensures { IfOk result (λ v. AllZip (IsAt 5) turns.entry.now v.items) }
-        { work_behind(rt, shared, turns, background) },
-        || -> Walked<V>
-            requires { IsSync R.row × AllZip IsHome turns.now operator.items × AllZip Allows places.now operator.items ×
-                All (IsSpareAt places.now operator.items) orders.items }
-            ensures { IfOk result (λ v. AllZip Rests operator.items v.items) }
-        { operate(rt, shared, turns, operator, places, orders) },
-    )
+    let promise = Resting {
+        turns: Snapshot::of(turns),
+        number: u64::from(path.get()),
+    };
+    begin(threads, shared, promise, move || -> DeviceWalked<V>
+        requires { AllZip (IsAt path) turns.now.items seats.items }
+        ensures { IfOk result (λ v. AllZip (IsAt path) turns.entry.now.items v.items) }
+    { walk(rt, shared, turns, seats, places, path, gate) })
 }
 
-/// All workers run until each is done.
-fn all_walk<R: Threads + Wait + Sync, V: Volume + Send, G: Gate + Sync>(
-    rt: &R,
-    shared: &Shared,
-    turns: &[DeviceTurn<V>],
-    gate: &G,
+/// The worker of the background begins.
+fn begin_behind<'s, E, R: Wait + Sync, V: Volume + Send + 's>(
+    rt: &'s R,
+    threads: &Scope<'s, E>,
+    shared: &'s Shared,
+    turns: &'s Vec<DeviceTurn<V>>,
+    seats: Row<V>,
+) -> DeviceBegun<V>
+    requires { AllZip (IsAt 5) turns.now.items seats.items }
+    ensures started { IfOk result (λ h. (h.promise.turns.value ≡ turns.now) × (h.promise.number ≡ 5)) }
+    ensures refused { IfErr result (λ r. IfOk r (λ v. AllZip (IsAt 5) turns.now.items v.items)) }
+{
+    let promise = Resting {
+        turns: Snapshot::of(turns),
+        number: 5,
+    };
+    begin(threads, shared, promise, move || -> DeviceWalked<V>
+        requires { AllZip (IsAt 5) turns.now.items seats.items }
+        ensures { IfOk result (λ v. AllZip (IsAt 5) turns.entry.now.items v.items) }
+    { work_behind(rt, shared, turns, seats) })
+}
+
+/// All workers run until each is done: the operator's here, each other one in a thread of its own.
+fn all_walk<'s, E, R: Threads + Wait + Sync, V: Volume + Send + 's, G: Gate + Sync>(
+    rt: &'s R,
+    threads: &Scope<'s, E>,
+    shared: &'s Shared,
+    turns: &'s Vec<DeviceTurn<V>>,
+    gate: &'s G,
     seats: DeviceSeats<V>,
     operator: Row<V>,
-    places: &[Place],
+    places: &'s [Place],
     orders: Vec<Order<V>>,
-) -> Result<(DeviceSeats<V>, Row<V>), NoMemory>
-    requires seats { AreSeated turns.now seats }
-    requires operator { AllZip IsHome turns.now operator.items × AllZip Allows places.now operator.items }
+) -> DeviceWalks<V>
+    requires seats { AreSeated turns.now.items seats }
+    requires operator { AllZip IsHome turns.now.items operator.items × AllZip Allows places.now operator.items }
     requires spare { All (IsSpareAt places.now operator.items) orders.items }
-    ensures seats { IfOk result (λ r. AreSeated turns.now r.0) }
-    ensures operator { IfOk result (λ r. AllZip Rests operator.items r.1.items) }
+    ensures walked { HaveWalked turns.now.items result }
+    ensures operator { IfOk result.operator (λ v. AllZip Rests operator.items v.items) }
 {
     let Seats {
         first,
@@ -149,35 +153,82 @@ fn all_walk<R: Threads + Wait + Sync, V: Volume + Send, G: Gate + Sync>(
         fourth,
         background,
     } = seats;
-    let low = (first, second);
-    let high = (third, fourth);
-    let ((low, high), (background, operator)) = join(
-        rt,
-        || -> ((Walked<V>, Walked<V>), (Walked<V>, Walked<V>))
-            requires { IsSync R.row × AllZip (IsAt 1) turns.now low.0.items × AllZip (IsAt 2) turns.now low.1.items ×
-                AllZip (IsAt 3) turns.now high.0.items × AllZip (IsAt 4) turns.now high.1.items }
-            ensures { IfOk result.0.0 (λ v. AllZip (IsAt 1) turns.entry.now v.items) × IfOk result.0.1 (λ v. AllZip (IsAt 2) turns.entry.now v.items) ×
-                IfOk result.1.0 (λ v. AllZip (IsAt 3) turns.entry.now v.items) × IfOk result.1.1 (λ v. AllZip (IsAt 4) turns.entry.now v.items) }
-        { four_walk(rt, shared, turns, gate, places, low, high) },
-        || -> (Walked<V>, Walked<V>)
-            requires { IsSync R.row × AllZip (IsAt 5) turns.now background.items × AllZip IsHome turns.now operator.items ×
-                AllZip Allows places.now operator.items × All (IsSpareAt places.now operator.items) orders.items }
-            ensures { IfOk result.0 (λ v. AllZip (IsAt 5) turns.entry.now v.items) × IfOk result.1 (λ v. AllZip Rests operator.items v.items) }
-        { other_walk(rt, shared, turns, background, operator, places, orders) },
-    );
+    let path = PathNo::of(1);
+    let first = begin_path(rt, threads, shared, turns, places, path, first, gate);
+    let path = PathNo::of(2);
+    let second = begin_path(rt, threads, shared, turns, places, path, second, gate);
+    let path = PathNo::of(3);
+    let third = begin_path(rt, threads, shared, turns, places, path, third, gate);
+    let path = PathNo::of(4);
+    let fourth = begin_path(rt, threads, shared, turns, places, path, fourth, gate);
+    let background = begin_behind(rt, threads, shared, turns, background);
+    let operator = operate(rt, shared, turns, operator, places, orders);
+    Walks {
+        first: gather(rt, turns, 1, first),
+        second: gather(rt, turns, 2, second),
+        third: gather(rt, turns, 3, third),
+        fourth: gather(rt, turns, 4, fourth),
+        background: gather(rt, turns, 5, background),
+        operator,
+    }
+}
+
+/// The workers in a scope of their threads.
+fn walk_all<R: Threads + Wait + Sync, V: Volume + Send, G: Gate + Sync>(
+    rt: &R,
+    shared: &Shared,
+    turns: &Vec<DeviceTurn<V>>,
+    gate: &G,
+    seats: DeviceSeats<V>,
+    operator: Row<V>,
+    places: &[Place],
+    orders: Vec<Order<V>>,
+) -> DeviceWalks<V>
+    requires seats { AreSeated turns.now.items seats }
+    requires operator { AllZip IsHome turns.now.items operator.items × AllZip Allows places.now operator.items }
+    requires spare { All (IsSpareAt places.now operator.items) orders.items }
+    ensures walked { HaveWalked turns.now.items result }
+    ensures operator { IfOk result.operator (λ v. AllZip Rests operator.items v.items) }
+{
+    scope(scope_env(), rt, move |threads| -> DeviceWalks<V>
+        requires { AreSeated turns.now.items seats × AllZip IsHome turns.now.items operator.items × AllZip Allows places.now operator.items ×
+            All (IsSpareAt places.now operator.items) orders.items }
+        ensures { HaveWalked turns.entry.now.items result × IfOk result.operator (λ v. AllZip Rests operator.items v.items) }
+    { all_walk(rt, threads, shared, turns, gate, seats, operator, places, orders) })
+}
+
+/// The seats, where no worker lacked memory.
+fn all_seats<V: Volume>(
+    turns: &Vec<DeviceTurn<V>>,
+    walks: DeviceWalks<V>,
+) -> Result<(DeviceSeats<V>, Row<V>), NoMemory>
+    requires { HaveWalked turns.now.items walks }
+    ensures seats { IfOk result (λ r. AreSeated turns.now.items r.0) }
+    ensures operator { IfOk result (λ r. walks.operator ≡ Ok r.1) }
+{
+    let _turns = turns;
+    let Walks {
+        first,
+        second,
+        third,
+        fourth,
+        background,
+        operator,
+    } = walks;
     let seats = Seats {
-        first: low.0?,
-        second: low.1?,
-        third: high.0?,
-        fourth: high.1?,
+        first: first?,
+        second: second?,
+        third: third?,
+        fourth: fourth?,
         background: background?,
     };
     Ok((seats, operator?))
 }
 
-/// Runs the programs of the devices' plans, each path's in a thread of its own, with another thread for what the devices do by themselves, and one
-/// for the operator, who does each order once, in their order, unless it is refused. What is left then, this thread does. No program of the devices
-/// was started yet. Where one worker lacks memory all stop, and the devices are dropped.
+/// Runs the programs of the devices' plans, each path's in a thread of its own, with another thread for what the devices do by themselves, while this
+/// one does each order of the operator once, in their order, unless it is refused. What is left then, this thread does too. Where no thread can be made
+/// for a worker no worker waits for another: what it would wait for is done at the end, by this thread alone. No program of the devices was started yet.
+/// Where one worker lacks memory all stop, and the devices are dropped.
 pub fn run_paths<R: Threads + Wait + Sync, V: Volume + Send, G: Gate + Sync>(
     rt: &R,
     alloc: Global,
@@ -198,7 +249,8 @@ pub fn run_paths<R: Threads + Wait + Sync, V: Volume + Send, G: Gate + Sync>(
         seats,
     } = table;
     let shared = Shared::new(pool);
-    let (seats, operator) = all_walk(rt, &shared, &turns, gate, seats, operator, &places, orders)?;
+    let walks = walk_all(rt, &shared, &turns, gate, seats, operator, &places, orders);
+    let (seats, operator) = all_seats(&turns, walks)?;
     let mut devices = clear_all(
         alloc,
         Table {

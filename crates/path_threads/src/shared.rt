@@ -1,5 +1,8 @@
 ghost use Rattle.std.specs.Prelude.{◌≡◌, IsErr};
+ghost use Rattle.path_threads.specs.Asked.{obeyed, obeys};
+ghost use Rattle.path_threads.specs.Looks.{has_frame, is_quiet, noted_notice, noted_touch};
 ghost use Rattle.path_threads.specs.Places.{loss_by};
+ghost use Rattle.path_threads.specs.declared.shared.PoolOrder.TheVariants as PoolOrder;
 ghost use Rattle.device_outside.specs.Outside.{no_pool};
 
 use ckd_types::{DeviceNo, NoMemory, TrackNo};
@@ -9,11 +12,13 @@ use loss_model::Loss;
 use std::sync::atomic::{AtomicBool, AtomicU64, Ordering};
 use std::sync::{Mutex, Wait};
 
-/// What the workers share beside the turns: the pool, and whether one of them lacked memory.
+/// What the workers share beside the turns: the pool, and whether one of them lacked memory, or a thread.
 #[derive(Drop)]
 pub(crate) struct Shared {
     pub pool: Mutex<Pool>,
     pub lacks: AtomicBool,
+    /// A worker got no thread of its own.
+    pub few: AtomicBool,
     /// How many frames the pool gave. A device has a notice only where one was given since it had none.
     pub given: AtomicU64,
 }
@@ -41,7 +46,10 @@ impl PoolOrder {
     }
 }
 
-fn fail_cache(pool: &mut Pool) -> bool {
+fn fail_cache(pool: &mut Pool) -> bool
+    ensures did { result ≡ obeys PoolOrder.FailCache pool.old.pool }
+    ensures pool { pool.new ≡ record pool.old { pool = obeyed PoolOrder.FailCache pool.old.pool } }
+{
     if !pool.cache_up() {
         return false;
     }
@@ -49,7 +57,10 @@ fn fail_cache(pool: &mut Pool) -> bool {
     true
 }
 
-fn fail_store(pool: &mut Pool) -> bool {
+fn fail_store(pool: &mut Pool) -> bool
+    ensures did { result ≡ obeys PoolOrder.FailStore pool.old.pool }
+    ensures pool { pool.new ≡ record pool.old { pool = obeyed PoolOrder.FailStore pool.old.pool } }
+{
     if !pool.store_up() {
         return false;
     }
@@ -58,18 +69,43 @@ fn fail_store(pool: &mut Pool) -> bool {
 }
 
 /// Where tracks wait the cache stays down, and so does the store.
-fn repair_cache(pool: &mut Pool) -> bool {
+fn repair_cache(pool: &mut Pool) -> bool
+    ensures did { result ≡ obeys PoolOrder.RepairCache pool.old.pool }
+    ensures pool { pool.new ≡ record pool.old { pool = obeyed PoolOrder.RepairCache pool.old.pool } }
+{
     if pool.cache_up() {
         return false;
     }
-    pool.repair_cache().is_ok()
+    match pool.repair_cache() {
+        Ok(()) => true,
+        Err(_) => false,
+    }
 }
 
-fn repair_store(pool: &mut Pool) -> bool {
+fn repair_store(pool: &mut Pool) -> bool
+    ensures did { result ≡ obeys PoolOrder.RepairStore pool.old.pool }
+    ensures pool { pool.new ≡ record pool.old { pool = obeyed PoolOrder.RepairStore pool.old.pool } }
+{
     if pool.store_up() {
         return false;
     }
-    pool.repair_store().is_ok()
+    match pool.repair_store() {
+        Ok(()) => true,
+        Err(_) => false,
+    }
+}
+
+/// What an order does to the pool, and whether it did.
+fn obey(pool: &mut Pool, order: PoolOrder) -> bool
+    ensures did { result ≡ obeys order pool.old.pool }
+    ensures pool { pool.new ≡ record pool.old { pool = obeyed order pool.old.pool } }
+{
+    match order {
+        PoolOrder::FailCache => fail_cache(pool),
+        PoolOrder::FailStore => fail_store(pool),
+        PoolOrder::RepairCache => repair_cache(pool),
+        PoolOrder::RepairStore => repair_store(pool),
+    }
 }
 
 impl Shared {
@@ -77,6 +113,7 @@ impl Shared {
         Shared {
             pool: Mutex::new(pool),
             lacks: AtomicBool::new(false),
+            few: AtomicBool::new(false),
             given: AtomicU64::new(0),
         }
     }
@@ -85,6 +122,7 @@ impl Shared {
         let Shared {
             pool,
             lacks: _,
+            few: _,
             given: _,
         } = self;
         pool.into_inner()
@@ -100,17 +138,21 @@ impl Shared {
 
     /// What an order does to the pool, and whether it did.
     pub fn order<R: Wait>(&self, rt: &R, order: PoolOrder) -> bool {
-        let mut pool = self.pool.lock(rt);
-        match order {
-            PoolOrder::FailCache => fail_cache(&mut pool),
-            PoolOrder::FailStore => fail_store(&mut pool),
-            PoolOrder::RepairCache => repair_cache(&mut pool),
-            PoolOrder::RepairStore => repair_store(&mut pool),
-        }
+        obey(&mut self.pool.lock(rt), order)
     }
 
     pub fn is_stopped(&self) -> bool {
         self.lacks.load(Ordering::SeqCst)
+    }
+
+    /// A worker got no thread of its own: what others would wait for may never be done meanwhile.
+    pub fn lack_threads(&self) {
+        self.few.store(true, Ordering::SeqCst);
+    }
+
+    /// Whether a worker may wait for what another does.
+    pub fn may_wait(&self) -> bool {
+        !self.few.load(Ordering::SeqCst)
     }
 }
 
@@ -121,25 +163,57 @@ struct Recent {
     given: u64,
 }
 
-/// Of each device, the track that was touched last.
+/// Of each device, the track that was touched last, and how many frames were given when it had no notice.
 #[derive(Drop)]
-struct Touched {
-    devices: [Option<Recent>; 16],
+struct Looks {
+    touched: [Option<Recent>; 16],
+    quiet: [Option<u64>; 16],
 }
 
-impl Touched {
-    fn none() -> Touched {
-        Touched {
-            devices: [None; 16],
+impl Looks {
+    fn none() -> Looks {
+        Looks {
+            touched: [None; 16],
+            quiet: [None; 16],
         }
     }
 
-    fn is_last(&self, d: DeviceNo, track: TrackNo, given: u64) -> bool {
-        self.devices[usize::from(d.get() % 16)] == Some(Recent { track, given })
+    /// Whether the track has a frame for sure, where so many were given.
+    fn has_frame(&self, d: DeviceNo, track: TrackNo, given: u64) -> bool
+        ensures { result ≡ has_frame self.now d track given }
+    {
+        match self.touched[usize::from(d.get() % 16)] {
+            Some(recent) => recent.track == track && recent.given == given,
+            None => false,
+        }
     }
 
-    fn set(&mut self, d: DeviceNo, track: TrackNo, given: u64) {
-        self.devices[usize::from(d.get() % 16)] = Some(Recent { track, given });
+    /// Behind a look at the pool: whether the track has a frame.
+    fn note_touch(&mut self, d: DeviceNo, track: TrackNo, given: u64, is_there: bool)
+        ensures { self.new ≡ noted_touch self.old d track given is_there }
+    {
+        if is_there {
+            self.touched[usize::from(d.get() % 16)] = Some(Recent { track, given });
+        }
+    }
+
+    /// Whether the device has no notice for sure, where so many frames were given.
+    fn is_quiet(&self, d: DeviceNo, given: u64) -> bool
+        ensures { result ≡ is_quiet self.now d given }
+    {
+        match self.quiet[usize::from(d.get() % 16)] {
+            Some(then) => then == given,
+            None => false,
+        }
+    }
+
+    /// Behind a look at the pool: whether it had no notice for the device.
+    fn note_notice(&mut self, d: DeviceNo, given: u64, none: bool)
+        ensures { self.new ≡ noted_notice self.old d given none }
+    {
+        if none {
+            self.quiet[usize::from(d.get() % 16)] = Some(given);
+        }
     }
 }
 
@@ -149,9 +223,7 @@ pub(crate) struct SharedPool<'a, R: Wait> {
     rt: &'a R,
     pool: &'a Mutex<Pool>,
     given: &'a AtomicU64,
-    /// Of each device, how many frames were given when it had no notice.
-    heard: [u64; 16],
-    touched: Touched,
+    looks: Looks,
     denials: u64,
 }
 
@@ -161,8 +233,7 @@ impl<'a, R: Wait> SharedPool<'a, R> {
             rt,
             pool: &shared.pool,
             given: &shared.given,
-            heard: [u64::MAX; 16],
-            touched: Touched::none(),
+            looks: Looks::none(),
             denials: 0,
         }
     }
@@ -173,28 +244,24 @@ impl<'a, R: Wait> Port for SharedPool<'a, R> {
 
     /// Takes the lock only where a frame was given since the device had no notice.
     fn next_notice(&mut self, d: DeviceNo) -> Option<TrackNo> {
-        let at = usize::from(d.get() % 16);
         let given = self.given.load(Ordering::SeqCst);
-        if self.heard[at] == given {
+        if self.looks.is_quiet(d, given) {
             return None;
         }
         let notice = self.pool.lock(self.rt).next_notice(d);
-        if notice.is_none() {
-            self.heard[at] = given;
-        }
+        let none = notice.is_none();
+        self.looks.note_notice(d, given, none);
         notice
     }
 
     /// Takes the lock only where another track was touched before, or a frame was given since.
     fn touch(&mut self, d: DeviceNo, t: TrackNo) -> bool {
         let given = self.given.load(Ordering::SeqCst);
-        if self.touched.is_last(d, t, given) {
+        if self.looks.has_frame(d, t, given) {
             return true;
         }
         let is_there = self.pool.lock(self.rt).touch(d, t);
-        if is_there {
-            self.touched.set(d, t, given);
-        }
+        self.looks.note_touch(d, t, given, is_there);
         is_there
     }
 

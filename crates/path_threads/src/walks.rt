@@ -1,6 +1,7 @@
 ghost use Rattle.std.specs.Prelude.{◌≡◌, IfOk, OnOk};
 ghost use Rattle.std.specs.List.{AllZip};
 ghost use Rattle.turn_seats.specs.Seating.{IsAt, Rests};
+ghost use Rattle.path_threads.specs.Rounds.{both};
 
 use crate::places::Place;
 use crate::shared::{Shared, SharedPool};
@@ -13,7 +14,7 @@ use std::thread::yield_now;
 /// How often the background gives way between two rounds, at most.
 const LONGEST_PAUSE: u32 = 16;
 
-/// A path at one device, turn by turn, until nothing is left to do there.
+/// A path at one device, turn by turn, until nothing is left to do there; and whether that is so. Where no worker may wait, until it would have to.
 fn serve<R: Wait, V: Volume, G: Gate, P: Port>(
     rt: &R,
     shared: &Shared,
@@ -21,7 +22,7 @@ fn serve<R: Wait, V: Volume, G: Gate, P: Port>(
     seat: &mut DeviceSeat<V>,
     visitor: &mut Visitor<G>,
     port: &mut P,
-) -> Result<(), NoMemory>
+) -> Result<bool, NoMemory>
     requires at { IsAt visitor.old.path turn.now seat.old }
     ensures path { visitor.new.path ≡ visitor.old.path }
     ensures rests { OnOk result (Rests seat.old seat.new) }
@@ -33,14 +34,19 @@ fn serve<R: Wait, V: Volume, G: Gate, P: Port>(
         match path_turn(turn, seat, visitor, port) {
             Err(NoMemory) => return shared.stop(),
             Ok(Came::Went) => (),
-            Ok(Came::Again) => yield_now(),
-            Ok(Came::Over) => return Ok(()),
+            Ok(Came::Again) => {
+                if !shared.may_wait() {
+                    return Ok(false);
+                }
+                yield_now();
+            }
+            Ok(Came::Over) => return Ok(true),
         }
     }
     unreachable!()
 }
 
-/// A path at the device of a place. Where none of its programs waits it passes by, and so waits for nobody.
+/// A path at the device of a place, and whether it is done there. Where none of its programs waits it passes by, and so waits for nobody.
 fn visit<R: Wait, V: Volume, G: Gate, P: Port>(
     rt: &R,
     shared: &Shared,
@@ -49,7 +55,7 @@ fn visit<R: Wait, V: Volume, G: Gate, P: Port>(
     place: Option<&Place>,
     visitor: &mut Visitor<G>,
     port: &mut P,
-) -> Result<(), NoMemory>
+) -> Result<bool, NoMemory>
     requires at { IsAt visitor.old.path turn.now seat.old }
     ensures path { visitor.new.path ≡ visitor.old.path }
     ensures rests { OnOk result (Rests seat.old seat.new) }
@@ -59,13 +65,13 @@ fn visit<R: Wait, V: Volume, G: Gate, P: Port>(
             if place.waits_for(visitor.path) {
                 return serve(rt, shared, turn, seat, visitor, port);
             }
-            Ok(())
+            Ok(true)
         }
-        None => Ok(()),
+        None => Ok(true),
     }
 }
 
-/// A path's worker: device by device, in rising order.
+/// A path's worker: device by device, in rising order, as far as it comes.
 pub(crate) fn walk<R: Wait, V: Volume, G: Gate>(
     rt: &R,
     shared: &Shared,
@@ -81,7 +87,7 @@ pub(crate) fn walk<R: Wait, V: Volume, G: Gate>(
     let mut port = SharedPool::new(rt, shared);
     let mut visitor = Visitor::new(path, gate);
     for i in 0..turns.len() {
-        visit(
+        let done = visit(
             rt,
             shared,
             &turns[i],
@@ -90,12 +96,17 @@ pub(crate) fn walk<R: Wait, V: Volume, G: Gate>(
             &mut visitor,
             &mut port,
         )?;
+        if !done {
+            return Ok(seats);
+        }
     }
     Ok(seats)
 }
 
 /// What came of two devices: over where both are, and gone where one went.
-fn both(one: Came, other: Came) -> Came {
+fn both(one: Came, other: Came) -> Came
+    ensures { result ≡ both one other }
+{
     match one {
         Came::Went => Came::Went,
         Came::Over => other,
@@ -133,7 +144,8 @@ fn give_way(times: u32) {
     }
 }
 
-/// The worker of the background: round by round, until every device is finished and rests. Where nothing is to do it looks ever less often.
+/// The worker of the background: round by round, until every device is finished and rests, or nothing is to do where no worker may wait. Otherwise it
+/// looks ever less often then.
 pub(crate) fn work_behind<R: Wait, V: Volume>(
     rt: &R,
     shared: &Shared,
@@ -153,7 +165,12 @@ pub(crate) fn work_behind<R: Wait, V: Volume>(
             Err(NoMemory) => return shared.stop(),
             Ok(Came::Over) => return Ok(seats),
             Ok(Came::Went) => pause = 1,
-            Ok(Came::Again) => pause = pause.saturating_mul(2).min(LONGEST_PAUSE),
+            Ok(Came::Again) => {
+                if !shared.may_wait() {
+                    return Ok(seats);
+                }
+                pause = pause.saturating_mul(2).min(LONGEST_PAUSE);
+            }
         }
         give_way(pause);
     }

@@ -21,7 +21,13 @@ const EXTENT: &[u8] = &[0x40, 0xc0, 0x10, 0, 0, 0, 0, 0, 0, 0, 0, 0, 0, 0, 0, 0x
 /// Locate record: one read of record 0 of track 0.
 const READ_ZERO: &[u8] = &[6, 0, 0, 1, 0, 0, 0, 0, 0, 0, 0, 0, 0, 0, 0, 0];
 
-fn word(alloc: Global, command: u8, flags: u8, count: u16, given: &[u8]) -> Result<Ccw, Fail> {
+pub(crate) fn word(
+    alloc: Global,
+    command: u8,
+    flags: u8,
+    count: u16,
+    given: &[u8],
+) -> Result<Ccw, Fail> {
     Ok(Ccw {
         command,
         flags,
@@ -57,14 +63,20 @@ pub(crate) fn one_read(alloc: Global, path: u8) -> Result<PathPlans, Fail> {
     Ok(plans)
 }
 
-fn device(alloc: Global, number: u8, plans: PathPlans) -> Result<Device<MemVolume>, Fail>
+/// A device with these plans, and which of its volume's writes fail.
+pub(crate) fn device(
+    alloc: Global,
+    number: u8,
+    plans: PathPlans,
+    failing: &[u32],
+) -> Result<Device<MemVolume>, Fail>
     ensures ready { IfOk result IsReady }
     ensures small { IfOk result IsSmall }
     ensures home { IfOk result (λ d. is_some (device_of d).store.lent ≡ false) }
 {
     plans_give(&plans);
     let number = DeviceNo::new(number).ok_or("device")?;
-    let volume = MemVolume::new(alloc, 1, &[], &[])?;
+    let volume = MemVolume::new(alloc, 1, &[], failing)?;
     match Device::open(alloc, number, Geometry::D3390, 1, volume, plans) {
         Ok(device) => Ok(device),
         Err(_) => Err("no memory".into()),
@@ -79,7 +91,7 @@ fn pair(alloc: Global, plans: PathPlans) -> Result<Device<MemVolume>, Fail>
     let track = TrackNo::new(0).ok_or("track")?;
     let mut volume = MemVolume::new(alloc, 1, &[], &[])?;
     volume.spoil(track, &[]);
-    let mut device = device(alloc, 0, plans)?;
+    let mut device = device(alloc, 0, plans, &[])?;
     device.join_volume(volume);
     Ok(device)
 }
@@ -105,7 +117,7 @@ pub(crate) fn devices_of(
     let mut devices = Vec::new(alloc);
     let mut number = 0;
     for plan in plans {
-        devices.push(device(alloc, number, plan)?)?;
+        devices.push(device(alloc, number, plan, &[])?)?;
         number = number.saturating_add(1);
     }
     Ok(devices)

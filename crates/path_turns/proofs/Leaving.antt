@@ -1,5 +1,5 @@
 -- A device goes back into its turn behind an event.
-use Rattle.std.proofs.Common.{◌≡◌, ℕ, List, Option, Box, Global, sym, ap, subst}
+use Rattle.std.proofs.Common.{◌≡◌, ℕ, List, Option, Some, None, Box, Global, sym, ap, subst}
 use Rattle.device_outside.specs.declared.volume.Volume.{Ghosts}
 use Rattle.device_defs.specs.Pledge.{seat_counts}
 use Rattle.device_turn.specs.Answers.{Entered, MayLeave}
@@ -27,3 +27,23 @@ module _ {V : Type 0} {G : Ghosts V} where
         subst (λ (ws : List ℕ). Still ws after.0.loaded) (sym moves.counts)
             (still_set (counts_of before.value) seat moves.count after.0.loaded apart e.4.1),
       )
+
+  unboxed : (p : Option (Promise V G)) (b : Box (Device V G) Global) → KeptBy (boxed KeepsPromise) p b → KeptBy KeepsPromise p b.value
+  unboxed None b h = h
+  unboxed (Some p) b h = h
+
+  -- what was in the turn keeps what was promised
+  pub out_kept : (me after : View (Option (Promise V G)) × List (ℕ × Option (Box (Device V G) Global))) (before : Box (Device V G) Global) →
+      Entered (KeptBy (boxed KeepsPromise)) (counts_in counts_of) me after (Got before) → KeptBy KeepsPromise me.0.pledge before.value
+  out_kept me after before e =
+      let same : after.0.pledge ≡ me.0.pledge = ap (λ (m : View (Option (Promise V G)) × List (ℕ × Option (Box (Device V G) Global))). m.0.pledge) e.1 in
+      subst (λ (p : Option (Promise V G)). KeptBy KeepsPromise p before.value) same (unboxed after.0.pledge before e.4.0)
+
+  -- and so does what goes back
+  pub back_kept : (seat : ℕ) (me after : View (Option (Promise V G)) × List (ℕ × Option (Box (Device V G) Global))) (before behind : Box (Device V G) Global) →
+      Entered (KeptBy (boxed KeepsPromise)) (counts_in counts_of) me after (Got before) →
+      after.0.number ≡ seat → Moves seat before.value behind.value → KeptBy KeepsPromise me.0.pledge behind.value
+  back_kept seat me after before behind e number moves =
+      let same : after.0.pledge ≡ me.0.pledge = ap (λ (m : View (Option (Promise V G)) × List (ℕ × Option (Box (Device V G) Global))). m.0.pledge) e.1 in
+      let kept = (may_leave seat me after before behind e number moves).0 in
+      subst (λ (p : Option (Promise V G)). KeptBy KeepsPromise p behind.value) same (unboxed after.0.pledge behind kept)

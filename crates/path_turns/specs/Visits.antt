@@ -5,6 +5,8 @@ use Rattle.track_image.specs.Image.{Image}
 use Rattle.device_outside.specs.Interaction.{Interaction, Done, Try, and_then}
 use Rattle.device_defs.specs.declared.answers.StartFault.{StartFault}
 use Rattle.device_defs.specs.declared.answers.StartFault.TheVariants.{Secondary, Busy, PlanDone, Shut, Reserved}
+use Rattle.device_defs.specs.declared.answers.Did.{Did}
+use Rattle.device_defs.specs.declared.answers.Did.TheVariants.{Nothing as DidNothing, Fault, BadBytes}
 use Rattle.device_defs.specs.Command.{command}
 use Rattle.device_defs.specs.Contents.{Contents}
 use Rattle.device_defs.specs.Cutting.{is_of_command}
@@ -41,6 +43,17 @@ module _ {H : Type 0} where
 
 abbrev pub half_came : Bool → Came
 half_came own = if own then Went else Again
+
+-- the background finds nothing to do by itself, or it can't be done
+abbrev pub is_idle : Did → Bool
+is_idle DidNothing = true
+is_idle (Fault side) = true
+is_idle (BadBytes side) = true
+is_idle _ = false
+
+-- it is over where it rests at a device that is finished
+abbrev pub rested_came : Bool → Bool → Came
+rested_came rests finished = if rests then (if finished then Over else Again) else Went
 
 module _ {F P H : Type 0} where
   abbrev pub has_own_half : Device F P H → ℕ → Bool

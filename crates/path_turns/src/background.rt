@@ -2,10 +2,11 @@ ghost use Rattle.std.specs.Prelude.{◌≡◌, IfOk, None, OnOk, false, is_some,
 ghost use Rattle.device_outside.specs.Outside.{where_ok};
 ghost use Rattle.device_defs.specs.Contents.{contents};
 ghost use Rattle.device_defs.specs.Events.{background};
+ghost use Rattle.device_defs.specs.Start.{is_finished};
 ghost use Rattle.device_core.specs.State.{device_of};
 ghost use Rattle.path_turns.specs.Comes.{Comes};
 ghost use Rattle.path_turns.specs.Keeping.{Moves};
-ghost use Rattle.path_turns.specs.Visits.{background_event, half_event, is_backgrounds, is_done, whatever};
+ghost use Rattle.path_turns.specs.Visits.{background_event, half_event, is_backgrounds, is_done, is_idle, rested_came, whatever};
 ghost use Rattle.path_turns.specs.declared.events.Came.TheVariants.{Over};
 
 use crate::events::{Came, is_lent};
@@ -15,7 +16,9 @@ use device_defs::Did;
 use device_outside::{Port, Volume};
 
 /// Nothing was left to do by itself, or it can't be done.
-fn is_idle(did: Did) -> bool {
+fn is_idle(did: Did) -> bool
+    ensures { result ≡ is_idle did }
+{
     match did {
         Did::Nothing => true,
         Did::Fault(_) => true,
@@ -36,7 +39,8 @@ fn is_own<V: Volume>(device: &Device<V>) -> bool
 
 /// Over where the device is finished and rests; where it rests until others did something, again.
 fn rested<V: Volume>(device: &Device<V>, rests: bool) -> Came
-    ensures { result ≡ Over → is_done (device_of device.now) ≡ true }
+    ensures over { result ≡ Over → is_done (device_of device.now) ≡ true }
+    ensures came { result ≡ rested_came rests (is_finished (device_of device.now)) }
 {
     if !rests {
         return Came::Went;

@@ -2,6 +2,7 @@ ghost use Rattle.std.specs.Prelude.{◌≡◌, ◌≤◌, IfOk, IfSome, None, On
 ghost use Rattle.ckd_chain.specs.Facts.{IsChain};
 ghost use Rattle.plain_defs.specs.History.{is_path_of};
 ghost use Rattle.device_outside.specs.Outside.{PortView, where_ok};
+ghost use Rattle.device_outside.specs.Volume.{counted};
 ghost use Rattle.device_defs.specs.Command.{command};
 ghost use Rattle.device_defs.specs.Contents.{contents};
 ghost use Rattle.device_defs.specs.Events.{second};
@@ -15,7 +16,7 @@ ghost use Rattle.path_turns.specs.declared.events.Came.TheVariants.{Went};
 use ckd_types::{NoMemory, PathNo};
 use device_core::{Device, HalfOrigin, NotStarted};
 use device_defs::StartFault;
-use device_outside::{Gate, Port, Volume};
+use device_outside::{Gate, Port, Volume, counted};
 
 /// What came of a look at a device.
 #[derive(Clone, Copy, Debug, PartialEq, Eq)]
@@ -51,17 +52,23 @@ impl<'a, G: Gate> Visitor<'a, G> {
         }
     }
 
+    /// The next event comes.
     fn before<V: Volume>(&mut self, device: &Device<V>)
-        ensures { (self.new.path ≡ self.old.path) × (self.new.gate ≡ self.old.gate) }
+        ensures same { (self.new.path ≡ self.old.path) × (self.new.gate ≡ self.old.gate) }
+        ensures calls { self.new.calls ≡ counted self.old.calls }
     {
-        self.calls = self.calls.saturating_add(1);
+        self.calls = counted(self.calls);
         self.gate
             .before_transfer(self.path, device.number(), self.calls);
     }
 
-    fn after<V: Volume>(&self, device: &Device<V>) {
-        self.gate
-            .after_transfer(self.path, device.number(), self.calls);
+    /// It was done. The gate is told the number that it was told before it.
+    fn after<V: Volume>(&self, device: &Device<V>) -> u64
+        ensures { result ≡ self.now.calls }
+    {
+        let calls = self.calls;
+        self.gate.after_transfer(self.path, device.number(), calls);
+        calls
     }
 }
 

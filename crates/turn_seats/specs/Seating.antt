@@ -1,5 +1,5 @@
 -- Seats that rest at turns.
-use Rattle.std.specs.Prelude.{◌≡◌, ℕ, List}
+use Rattle.std.specs.Prelude.{◌≡◌, ◌<◌, ℕ, List, vec_len, vec_capacity}
 use Rattle.std.specs.List.{AllZip}
 use Rattle.device_turn.specs.Answers.{IsAway}
 use Rattle.device_turn.specs.declared.holder.Holder.{Ghosts}
@@ -51,3 +51,17 @@ module _ {H P : Type 0} {G : Ghosts H P} where
   pub record AreSet (t : Table H P G) : Type 0 where
     pub operator : AllZip IsHome t.turns.items t.operator.items
     pub seats : AreSeated t.turns.items t.seats
+
+  -- two tables have the same turns and seats
+  abbrev pub IsSame : Table H P G → Table H P G → Type 0
+  IsSame t u =
+      (u.turns.items ≡ t.turns.items) × (u.operator.items ≡ t.operator.items) × (u.seats.first.items ≡ t.seats.first.items)
+      × (u.seats.second.items ≡ t.seats.second.items) × (u.seats.third.items ≡ t.seats.third.items) × (u.seats.fourth.items ≡ t.seats.fourth.items)
+      × (u.seats.background.items ≡ t.seats.background.items)
+
+  -- a table has room for one turn more
+  abbrev pub HasRoom : Table H P G → Type 0
+  HasRoom t =
+      (vec_len t.turns < vec_capacity t.turns) × (vec_len t.operator < vec_capacity t.operator) × (vec_len t.seats.first < vec_capacity t.seats.first)
+      × (vec_len t.seats.second < vec_capacity t.seats.second) × (vec_len t.seats.third < vec_capacity t.seats.third)
+      × (vec_len t.seats.fourth < vec_capacity t.seats.fourth) × (vec_len t.seats.background < vec_capacity t.seats.background)

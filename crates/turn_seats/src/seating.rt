@@ -1,6 +1,6 @@
-ghost use Rattle.std.specs.Prelude.{◌≡◌, ◌<◌, ◌+◌, ◌++◌, ◌∷◌, [], ℕ, IfOk, OnOk, Some, true, vec_len};
+ghost use Rattle.std.specs.Prelude.{◌≡◌, ◌<◌, ◌+◌, ◌++◌, ◌∷◌, [], ℕ, IfOk, OnErr, OnOk, Some, true, vec_len};
 ghost use Rattle.device_turn.specs.Rule.{KeptBy, has, zeros};
-ghost use Rattle.turn_seats.specs.Seating.{AreSet, IsAt, IsHome, IsSet};
+ghost use Rattle.turn_seats.specs.Seating.{AreSet, HasRoom, IsAt, IsHome, IsSame, IsSet};
 
 use ckd_types::NoMemory;
 use device_turn::{Holder, Turn, TurnSeat};
@@ -125,13 +125,30 @@ impl<H: Holder<P>, P> Table<H, P> {
         }
     }
 
-    /// Adds a turn behind the others, and each worker's seat at it. Where memory is wanting the table is spoiled.
+    /// Room for one turn more.
+    fn reserve(&mut self) -> Result<(), NoMemory>
+        ensures same { IsSame self.old self.new }
+        ensures room { OnOk result (HasRoom self.new) }
+    {
+        self.turns.reserve(1)?;
+        self.operator.reserve(1)?;
+        self.seats.first.reserve(1)?;
+        self.seats.second.reserve(1)?;
+        self.seats.third.reserve(1)?;
+        self.seats.fourth.reserve(1)?;
+        self.seats.background.reserve(1)?;
+        Ok(())
+    }
+
+    /// Adds a turn behind the others, and each worker's seat at it. Where memory is wanting the table stays as it is, and the turn goes.
     pub fn push(&mut self, setting: Setting<H, P>) -> Result<(), NoMemory>
         requires old { AreSet self.old }
         requires more { IsSet setting }
         ensures set { OnOk result (AreSet self.new) }
         ensures operator { OnOk result (self.new.operator.items ≡ self.old.operator.items ++ setting.operator ∷ []) }
+        ensures same { OnErr result (IsSame self.old self.new) }
     {
+        self.reserve()?;
         let Setting {
             turn,
             operator,
@@ -141,13 +158,13 @@ impl<H: Holder<P>, P> Table<H, P> {
             fourth,
             background,
         } = setting;
-        self.turns.push(turn)?;
-        self.operator.push(operator)?;
-        self.seats.first.push(first)?;
-        self.seats.second.push(second)?;
-        self.seats.third.push(third)?;
-        self.seats.fourth.push(fourth)?;
-        self.seats.background.push(background)?;
+        self.turns.push_reserved(turn);
+        self.operator.push_reserved(operator);
+        self.seats.first.push_reserved(first);
+        self.seats.second.push_reserved(second);
+        self.seats.third.push_reserved(third);
+        self.seats.fourth.push_reserved(fourth);
+        self.seats.background.push_reserved(background);
         Ok(())
     }
 

@@ -26,8 +26,17 @@ loop-i-preserved g c =
     c.loop-i-test.true in
     let own = subst (λ s. IsAt c.args.path (slice_index_or c.args.turns.now c.loop-i.i c.index-turns-i.result) s) (sym c.index_mut.ensures.value) at in
     let rests = rests_at c.args.path (slice_index_or c.args.turns.now c.loop-i.i c.index-turns-i.result) c.index_mut.result.now c.visit.new.seat own
-    c.in_ok-visit.ensures.rests in (
+    c.in_ok-done.ensures.rests in (
       c.visit.ensures.path ∙ c.loop-i.invariant.0,
       zip_set (IsAt c.args.path) c.args.turns.now c.loop-i.seats.items c.loop-i.i c.index-turns-i.result c.visit.new.seat c.loop-i.invariant.1 rests,
       refl,
     )
+
+pub returns-then-not-done : goal.returns-then-not-done
+returns-then-not-done g c =
+    let at = zip_at (IsAt c.args.path) c.args.turns.now c.loop-i.seats.items c.loop-i.i c.index-turns-i.result c.index_mut.result.now c.loop-i.invariant.1
+    c.loop-i-test.true in
+    let own = subst (λ s. IsAt c.args.path (slice_index_or c.args.turns.now c.loop-i.i c.index-turns-i.result) s) (sym c.index_mut.ensures.value) at in
+    let rests = rests_at c.args.path (slice_index_or c.args.turns.now c.loop-i.i c.index-turns-i.result) c.index_mut.result.now c.visit.new.seat own
+    c.in_ok-done.ensures.rests in
+    zip_set (IsAt c.args.path) c.args.turns.now c.loop-i.seats.items c.loop-i.i c.index-turns-i.result c.visit.new.seat c.loop-i.invariant.1 rests
