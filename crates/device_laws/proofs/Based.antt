@@ -1,6 +1,6 @@
 -- What a device is, and what it counts, goes along with the calls that its interactions make: reads and writes are counted, and those that
 -- fail; nothing else of it is changed, and only the end of an event tells how many tracks wait.
-use Rattle.std.proofs.Common.{◌≡◌, ◌==◌, ◌+◌, zero, suc, ℕ, Bool, true, false, List, [], ◌∷◌, ◌++◌, Option, Some, None, is_some, refl, ap, subst, ◌∙◌, arith}
+use Rattle.std.proofs.Common.{[], ◌≡◌, ◌+◌, ℕ, Bool, true, false, List, ◌∷◌, ◌++◌, Option, Some, None, is_some, refl, ap, subst, ◌∙◌, arith}
 use Rattle.std.specs.Prelude.{if◌then◌else◌, not, count_by}
 use Rattle.std.specs.List.{fold}
 use Rattle.ckd_types.specs.declared.geometry.Geometry.{Geometry}
@@ -12,29 +12,11 @@ use Rattle.device_outside.specs.Keeper.{Message, ReplyTo}
 use Rattle.device_outside.specs.Pool.{Call, TellWaiting, AnswerTo}
 use Rattle.device_outside.specs.Volume.{counted, counted_if}
 use Rattle.device_defs.specs.declared.counts.Counts.{Counts}
-use Rattle.device_defs.specs.Contents.{Contents}
-use Rattle.device_defs.specs.Losses as L
-use Rattle.device_defs.specs.Losses.{
-  over,
-  down,
-  slot_in,
-  gives_up,
-  without_frame,
-  without_patch,
-  by_frame,
-  settled,
-  settled_but,
-  stale_everywhere,
-  patch_lost,
-  side_lost,
-  cache_lost,
-  store_lost,
-}
-use Rattle.device_defs.specs.Effects.{acted, gone_back, loose_lost}
+use Rattle.device_defs.specs.Losses.{down, stale_everywhere}
+use Rattle.device_defs.specs.Effects.{acted}
 use Rattle.device_defs.specs.Memory.{tried, had_by, and_had}
-use Rattle.device_defs.specs.Store.{Store, tracks_of, has_level, has_loose, frame_at, patch_at, is_lost, is_loose, half_is, with_lost}
+use Rattle.device_defs.specs.Store.{Store}
 use Rattle.plain_defs.specs.declared.journal.Act.{Act}
-use Rattle.plain_defs.specs.declared.journal.Act.TheVariants.{Harden, CfwLost}
 use Rattle.device_defs.specs.Command.{is_loss}
 
 -- what it is, and what it counts
@@ -148,64 +130,9 @@ module _ {F P H : Type 0} where
   pub acted_base : (s : Store F P H) (act : Act) → is_loss act ≡ false → base_of (acted s act) ≡ base_of s
   acted_base s act e = ap (λ (n : ℕ). record (base_of s) { gone = n }) (one_act 0 s.acts act e)
 
-  pub over_base : (n : ℕ) (f : ℕ → Store F P H → Store F P H) → ((t : ℕ) (s : Store F P H) → base_of (f t s) ≡ base_of s) → (s : Store F P H) →
-      base_of (over n f s) ≡ base_of s
-  unfolding L.over
-  over_base zero f same s = refl
-  over_base (suc n) f same s = same n (over n f s) ∙ over_base n f same s
-
-  pub given_base : (s : Store F P H) (t : ℕ) (o : Option ℕ) → base_of (gives_up s t o) ≡ base_of s
-  given_base s t None = refl
-  given_base s t (Some slot) = refl
-
-  pub unframed_base : (s : Store F P H) (t : ℕ) → base_of (without_frame s t) ≡ base_of s
-  unframed_base s t = base_if (is_some (frame_at s t)) _ _ refl refl
-
   pub stale_base : (s : Store F P H) (t : ℕ) → base_of (stale_everywhere s t) ≡ base_of s
   stale_base s t = base_if s.paired _ _ refl refl
 
   pub down_base : (s : Store F P H) (side : Side) → base_of (down s side) ≡ base_of s
   down_base s A = refl
   down_base s B = refl
-
-  loose_by : (s : Store F P H) (x : Bool) → kept (record (if x then acted (gone_back s) CfwLost else s) { queue = [] }) ≡ kept s
-  loose_by s true = refl
-  loose_by s false = refl
-
-module _ {F P H R : Type 0} (c : Contents F P H R) where
-  pub unpatched_base : (s : Store F P H) (t : ℕ) → base_of (without_patch c s t) ≡ base_of s
-  unpatched_base s t = given_base s t (slot_in c (patch_at s t))
-
-  frame_base : (s : Store F P H) (t : ℕ) (o : Option F) → base_of (by_frame c s t o) ≡ base_of s
-  frame_base s t (Some f) = base_if (is_loose s t) _ _ (acted_base s (Harden t) refl) (base_if (c.modified f) _ _ refl refl)
-  frame_base s t None = base_if (half_is s.half t) _ _ refl (unpatched_base (with_lost s t) t)
-
-  pub settled_base : (s : Store F P H) (t : ℕ) → base_of (settled c s t) ≡ base_of s
-  unfolding L.settled
-  settled_base s t = base_if (is_some s.lent) _ _ refl (base_if (is_lost s t) _ _ refl (base_if (has_level s t) _ _ refl (frame_base s t (frame_at s t))))
-
-  settled_but_base : (writing : Option ℕ) (q : ℕ) (s : Store F P H) → base_of (settled_but c writing q s) ≡ base_of s
-  settled_but_base None q s = settled_base s q
-  settled_but_base (Some t) q s = base_if (q == t) _ _ refl (settled_base s q)
-
-  pub side_base : (s : Store F P H) (side : Side) (writing : Option ℕ) → base_of (side_lost c s side writing) ≡ base_of s
-  unfolding L.side_lost
-  side_base s side writing = over_base (tracks_of s) (settled_but c writing) (settled_but_base writing) (down s side) ∙ down_base s side
-
-  pub swept_base : (n : ℕ) (s : Store F P H) → base_of (over n (λ t z. settled c (without_frame z t) t) s) ≡ base_of s
-  swept_base n s = over_base n (λ t z. settled c (without_frame z t) t) (λ t z. settled_base (without_frame z t) t ∙ unframed_base z t) s
-
-  pub cache_base : (s : Store F P H) → kept (cache_lost c s) ≡ kept s
-  unfolding L.cache_lost
-  cache_base s = ap forget (swept_base (tracks_of s) (record (loose_lost s) { queue = [] })) ∙ loose_by s (has_loose s)
-
-  patch_base : (t : ℕ) (s : Store F P H) → base_of (patch_lost c t s) ≡ base_of s
-  patch_base t s =
-      base_if (is_some (patch_at s t)) _ _
-      (base_if (half_is s.half t) _ _ (unpatched_base s t)
-      (settled_base (stale_everywhere (without_patch c s t) t) t ∙ stale_base (without_patch c s t) t ∙ unpatched_base s t))
-      refl
-
-  pub store_base : (s : Store F P H) → base_of (store_lost c s) ≡ base_of s
-  unfolding L.store_lost
-  store_base s = over_base (tracks_of s) (patch_lost c) patch_base s

@@ -38,7 +38,7 @@ use Rattle.device_laws.proofs.BasedEvents.{
   lose_body,
   power_body,
 }
-use Rattle.device_laws.proofs.BasedParts.{all_told_steady}
+use Rattle.device_laws.proofs.invariants.CallCounts.{all_told_steady}
 use Rattle.device_laws.proofs.RanBased.{put_in, after_waits}
 
 -- what stands between an interaction that tells none, and the run of another behind it

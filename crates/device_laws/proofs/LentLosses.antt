@@ -1,41 +1,27 @@
 -- A loss leaves the journal of a device that is lent and has no data of cache fast write.
-use Rattle.std.proofs.Common.{◌≡◌, ◌==◌, ◌*◌, zero, suc, ℕ, Bool, true, false, List, [], Option, None, Some, is_some, refl, ap, ◌∙◌}
-use Rattle.std.specs.Prelude.{if◌then◌else◌}
+use Rattle.std.proofs.Common.{◌≡◌, ◌*◌, ℕ, Bool, true, false, List, [], Option, is_some, refl, ap}
+use Rattle.std.specs.Prelude.{if◌then◌else◌, slice_index_or}
 use Rattle.ckd_types.specs.declared.paths.Side.{Side}
 use Rattle.ckd_types.specs.declared.paths.Side.TheVariants as sides
 use Rattle.loss_model.specs.declared.Loss.{Loss}
-use Rattle.loss_model.specs.declared.Loss.TheVariants as losses
 use Rattle.plain_defs.specs.declared.journal.Act.{Act}
-use Rattle.plain_defs.specs.declared.journal.Act.TheVariants.{CfwLost}
+use Rattle.track_image.specs.Image.{Image}
 use Rattle.track_table.specs.Tracks.{least}
+use Rattle.device_outside.specs.Interaction.{Interaction}
 use Rattle.device_defs.specs.Contents.{Contents}
-use Rattle.device_defs.specs.Device.{Device, all_acted, event_begun}
-use Rattle.device_defs.specs.Effects.{acted, gone_back, loose_lost}
+use Rattle.device_defs.specs.Device.{Device, all_acted}
 use Rattle.device_defs.specs.Events as E
-use Rattle.device_defs.specs.Events.{with_loss, lost_by, losing, lose}
-use Rattle.device_defs.specs.Losses as L
-use Rattle.device_defs.specs.Losses.{
-  over,
-  down,
-  slot_in,
-  gives_up,
-  without_frame,
-  without_patch,
-  settled,
-  settled_but,
-  stale_everywhere,
-  patch_lost,
-  side_lost,
-  cache_lost,
-  store_lost,
-  firm_told,
-  all_firm_told,
-}
-use Rattle.device_defs.specs.Owed.{hear, waiting_count, ended}
-use Rattle.device_defs.specs.Store.{Store, tracks_of, frame_at, patch_at, has_loose, is_loose, half_is, owed_at}
-use Rattle.device_laws.proofs.Always.{Always, always_done, always_tell, always_then}
-use Rattle.device_laws.proofs.KeptEvents.{always_any, always_if}
-use Rattle.device_laws.proofs.PoolWalks.{asks_always, hear_asks}
+use Rattle.device_defs.specs.Events.{lose}
+use Rattle.device_defs.specs.Image.{read_counted}
+use Rattle.device_defs.specs.Losses.{down}
+use Rattle.device_defs.specs.Owed.{begun, waiting_count, ended}
+use Rattle.device_defs.specs.Store.{Store, has_loose, with_stale}
+use Rattle.device_defs.specs.Writing.{write_counted}
+use Rattle.device_laws.proofs.Always.{Always, always_done, always_then}
+use Rattle.device_laws.proofs.KeptEvents.{always_any}
+use Rattle.device_laws.proofs.walks.Within.{always, within_always, within_weaker}
+use Rattle.device_laws.proofs.walks.Moves.{Losing, Goes, stays, IsKept, moves_keep}
+use Rattle.device_laws.proofs.walks.Reads.{hear_goes, losing_goes}
 
 -- the acts, to whom it is lent, and which tracks are loose
 pub record Away : Type 0 where
@@ -47,92 +33,70 @@ pub record Away : Type 0 where
 abbrev pub away_of : {F P H : Type 0} → Store F P H → Away
 away_of s = record { acts = s.acts; lent = s.lent; loose = s.loose; cylinders = s.cylinders }
 
+-- it is lent, none of its tracks is loose, and this event has no acts
+record IsStill (x : Away) : Type 0 where
+  lent : is_some x.lent ≡ true
+  firm : is_some (least (x.cylinders * 15) (λ t. slice_index_or x.loose t false)) ≡ false
+  acts : x.acts ≡ []
+
+never : {X : Type 0} (b : Bool) → b ≡ true → b ≡ false → X
+never true e f = absurd (cc)
+never false e f = absurd (cc)
+
 module _ {F P H R : Type 0} (c : Contents F P H R) where
-  away_if : (b : Bool) (s z : Store F P H) {x : Away} → away_of s ≡ x → away_of z ≡ x → away_of (if b then s else z) ≡ x
-  away_if true s z e f = e
-  away_if false s z e f = f
+  abbrev Stays : Store F P H → Type 0
+  Stays z = IsStill (away_of z)
 
-  hear_away : (n : ℕ) (s : Store F P H) → Always (hear c n s) (λ y _. away_of y ≡ away_of s)
-  hear_away n s = asks_always (hear_asks c (λ z. away_of z ≡ away_of s) (λ z t clean e. e) n s refl)
+  down_still : (z : Store F P H) (side : Side) → Stays z → Stays (down z side)
+  down_still z sides.A f = f
+  down_still z sides.B f = f
 
-  firm_away : (n : ℕ) (s : Store F P H) → Always (all_firm_told c n s) (λ y _. away_of y ≡ away_of s)
-  unfolding L.all_firm_told
-  firm_away zero s = always_done refl
-  firm_away (suc n) s =
-      always_then (firm_away n s) (λ z _ e. always_if (owed_at z n).firm (always_tell (λ _. always_done e)) (always_done e))
+  level_still : (z : Store F P H) (side : Side) (t : ℕ) → Stays z → Stays (with_stale z side t false)
+  level_still z sides.A t f = f
+  level_still z sides.B t f = f
 
-  -- settling leaves a device that is lent
+  marked_still : (z : Store F P H) (t : ℕ) (x b : Bool) → Stays z →
+      Stays (if b then with_stale (with_stale z sides.A t x) sides.B t true else with_stale z sides.A t x)
+  marked_still z t x true f = f
+  marked_still z t x false f = f
 
-  settled_same : (s : Store F P H) (t : ℕ) → is_some s.lent ≡ true → settled c s t ≡ s
-  unfolding L.settled
-  settled_same s t lent = by_lent (is_some s.lent) lent _
-    where
-      by_lent : (b : Bool) → b ≡ true → (z : Store F P H) → (if b then s else z) ≡ s
-      by_lent true e z = refl
-      by_lent false e z = absurd (cc)
+  still_kept : (loss : Loss) → IsKept always (Losing loss) c (λ n z. IsStill (away_of z))
+  still_kept loss = record {
+    reads = λ m n z ok is f. f;
+    writes = λ m n z ok is f. f;
+    falls_reading = λ m n z side pair is f. down_still (read_counted z false) side f;
+    falls_writing = λ m n z side pair is f. down_still (write_counted z false) side f;
+    falls = λ n z side lost f. down_still z side f;
+    takes = λ n z t f. marked_still z t false z.b.up f;
+    levels = λ n z side t f. level_still z side t f;
+    spoils = λ n z t is alone f. f;
+    stales = λ n z t other away f. marked_still z t true z.paired f;
+    firms = λ n z t is loose f. absurd (cc);
+    marks = λ n z t g bare is clean f. never (is_some z.lent) f.lent bare.lent;
+    hardens = λ n z t bare loose f. never (is_some z.lent) f.lent bare.lent;
+    loses = λ n z t bare none half f. never (is_some z.lent) f.lent bare.lent;
+    drops = λ n z t clean f. f;
+    fills = λ n z t i patched is f. f;
+    frames = λ n z t o f. f;
+    unframes = λ n z t f. f;
+    patches = λ n z t f. f;
+    unpatches = λ n z t slot f. f;
+    queues = λ n z t room f. f;
+    dequeues = λ n z ts f. f;
+    edits = λ n z t e f. f;
+    goes_fast = λ n z t i e slot f. f;
+    goes_provisionally = λ n z t i e is f. absurd (cc);
+    goes_back = λ n z some f. never (has_loose z) some f.firm;
+    loses_loose = λ n z lossy some f. never (has_loose z) some f.firm;
+    closes = λ n z f. f;
+    cuts = λ n z h bypass e is f. f;
+    notes = λ n z noted lossy f. f;
+    pays = λ n z t o f. f;
+  }
 
-  unframed_away : (s : Store F P H) (t : ℕ) → away_of (without_frame s t) ≡ away_of s
-  unframed_away s t = away_if (is_some (frame_at s t)) _ s refl refl
-
-  given_away : (s : Store F P H) (t : ℕ) (o : Option ℕ) → away_of (gives_up s t o) ≡ away_of s
-  given_away s t None = refl
-  given_away s t (Some slot) = refl
-
-  abbrev IsLent : Store F P H → Type 0
-  IsLent s = is_some s.lent ≡ true
-
-  lent_still : (s z : Store F P H) → away_of z ≡ away_of s → IsLent s → IsLent z
-  lent_still s z e lent = ap (λ (x : Away). is_some x.lent) e ∙ lent
-
-  over_away : (n : ℕ) (f : ℕ → Store F P H → Store F P H) → ((t : ℕ) (z : Store F P H) → IsLent z → away_of (f t z) ≡ away_of z) → (s : Store F P H) →
-      IsLent s → away_of (over n f s) ≡ away_of s
-  unfolding L.over
-  over_away zero f same s lent = refl
-  over_away (suc n) f same s lent =
-      let e = over_away n f same s lent in same n (over n f s) (lent_still s (over n f s) e lent) ∙ e
-
-  gone_away : (t : ℕ) (z : Store F P H) → IsLent z → away_of (settled c (without_frame z t) t) ≡ away_of z
-  gone_away t z lent =
-      let e = unframed_away z t in ap (λ (x : Store F P H). away_of x) (settled_same (without_frame z t) t (lent_still z (without_frame z t) e lent)) ∙ e
-
-  but_away : (writing : Option ℕ) (t : ℕ) (z : Store F P H) → IsLent z → away_of (settled_but c writing t z) ≡ away_of z
-  but_away None t z lent = ap (λ (x : Store F P H). away_of x) (settled_same z t lent)
-  but_away (Some w) t z lent = away_if (t == w) z _ refl (ap (λ (x : Store F P H). away_of x) (settled_same z t lent))
-
-  stale_away : (z : Store F P H) (t : ℕ) → away_of (stale_everywhere z t) ≡ away_of z
-  stale_away z t = away_if z.paired _ _ refl refl
-
-  patch_away : (t : ℕ) (z : Store F P H) → IsLent z → away_of (patch_lost c t z) ≡ away_of z
-  patch_away t z lent =
-      let y = without_patch c z t in
-      let e = given_away z t (slot_in c (patch_at z t)) in
-      let f = stale_away y t ∙ e in
-      away_if (is_some (patch_at z t)) _ z
-      (away_if (half_is z.half t) y _ e
-      (ap (λ (x : Store F P H). away_of x) (settled_same (stale_everywhere y t) t (lent_still z (stale_everywhere y t) f lent)) ∙ f))
-      refl
-
-  down_away : (s : Store F P H) (side : Side) → away_of (down s side) ≡ away_of s
-  down_away s sides.A = refl
-  down_away s sides.B = refl
-
-  none_lost : (s : Store F P H) (b : Bool) → b ≡ false → away_of (record (if b then acted (gone_back s) CfwLost else s) { queue = [] }) ≡ away_of s
-  none_lost s true e = absurd (cc)
-  none_lost s false e = refl
-
-  lost_away : (s : Store F P H) (loss : Loss) → IsLent s → has_loose s ≡ false → away_of (lost_by c s loss) ≡ away_of s
-  unfolding L.cache_lost L.store_lost L.side_lost
-  lost_away s losses.Cache lent firm =
-      let z : Store F P H = record (loose_lost s) { queue = [] } in
-      let e = none_lost s (has_loose s) firm in
-      over_away (tracks_of s) (λ t y. settled c (without_frame y t) t) gone_away z (lent_still s z e lent) ∙ e
-  lost_away s losses.Store lent firm = over_away (tracks_of s) (patch_lost c) patch_away s lent
-  lost_away s (losses.Side side) lent firm =
-      let e = down_away s side in
-      over_away (tracks_of s) (settled_but c None) (but_away None) (down s side) (lent_still s (down s side) e lent) ∙ e
-
-  loose_same : (s z : Store F P H) → away_of z ≡ away_of s → has_loose z ≡ has_loose s
-  loose_same s z e = ap (λ (x : Away). is_some (least (x.cylinders * 15) (λ t. is_loose (record s { loose = x.loose }) t))) e
+  moves_still : {A : Type 0} (loss : Loss) (s : Store F P H) {i : Interaction R Image (Store F P H) A} → Stays s →
+      Goes always (Losing loss) c tt s tt i → Always i (λ z _. IsStill (away_of z))
+  moves_still loss s f x = within_always (within_weaker x (λ n z a m. moves_keep (still_kept loss) f m))
 
   acts_none : (d : Device F P H) (z : Store F P H) → z.acts ≡ [] → all_acted d.history z.acts ≡ d.history
   acts_none d z e = ap (λ (l : List Act). all_acted d.history l) e
@@ -143,12 +107,6 @@ module _ {F P H R : Type 0} (c : Contents F P H R) where
   unfolding E.lose
   lent_loses d loss lent firm =
       always_then
-      (always_then (hear_away 960 (event_begun d).store)
-      (λ s _ e.
-      let at : IsLent s = ap (λ (x : Away). is_some x.lent) e ∙ lent in
-      let none : has_loose s ≡ false = loose_same (event_begun d).store s e ∙ firm in
-      let z = lost_by c (with_loss s loss) loss in
-      always_then (firm_away (tracks_of s) z)
-      (λ y _ f. always_done (acts_none d y
-      (ap (λ (x : Away). x.acts) f ∙ ap (λ (x : Away). x.acts) (lost_away (with_loss s loss) loss at none) ∙ ap (λ (x : Away). x.acts) e)))))
+      (always_then (moves_still loss (begun d.store) (record { lent = lent; firm = firm; acts = refl }) (hear_goes 960 (begun d.store) stays))
+      (λ s _ f. always_then (moves_still loss s f (losing_goes s loss refl stays)) (λ y _ g. always_done (acts_none d y g.acts))))
       (λ y a h. always_then (always_any (ended c (waiting_count c d.store) y.store)) (λ z _ _. always_done h))

@@ -92,7 +92,6 @@ pub mod PlainOrders
 pub mod HistoryTold
 pub mod WholePower
 pub mod Based
-pub mod BasedParts
 pub mod BasedEvents
 pub mod KeptHistories
 pub mod KeptEvents
@@ -115,8 +114,6 @@ pub mod UncheckedEvents
 pub mod LentLosses
 pub mod GoneEvents
 pub mod Once
-pub mod SidesKept
-pub mod SidesEvents
 pub mod Served
 pub mod WriteLooks
 pub mod TouchedTracks
@@ -130,3 +127,5 @@ pub mod FramesEvents
 pub mod FramesLaws
 pub mod Recoveries
 pub mod RecoveryEvents
+pub mod walks
+pub mod invariants

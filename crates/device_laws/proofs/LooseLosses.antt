@@ -62,9 +62,9 @@ use Rattle.device_defs.specs.Store.{Origin, OfCommand, OfCut, OfBackground, Half
 use Rattle.device_laws.specs.Unharmed.{running_losses, all_losses}
 use Rattle.device_laws.proofs.Always as A
 use Rattle.device_laws.proofs.Always.{Behind, Always, always_done, always_try, always_then}
-use Rattle.device_laws.proofs.Based.{Base, Based, based_done, based_try, based_ask, based_read, based_write, based_tell, swept_base, store_base, side_base}
+use Rattle.device_laws.proofs.Based.{Base, Based, based_done, based_try, based_ask, based_read, based_write, based_tell}
 use Rattle.device_laws.proofs.BasedEvents.{follow_steady}
-use Rattle.device_laws.proofs.BasedParts.{hear_steady, firm_steady, second_steady, work_steady}
+use Rattle.device_laws.proofs.invariants.CallCounts.{swept_base, store_base, side_base, hear_steady, firm_steady, second_steady, work_steady}
 use Rattle.device_laws.proofs.KeptEvents.{always_any, always_if}
 
 -- Counts of acts and of items

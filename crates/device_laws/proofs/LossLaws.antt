@@ -216,7 +216,7 @@ module _ {F P H R K : Type 0} (c : Contents F P H R) {hears : Hearing Image K} w
 
     pub loss_unharmed : (loss : Loss) {a : Unit {0}} → MarksAreGood c d.store → Ran (λ ok. Unit {0}) hears (lose c d loss) u e a z → IsUnharmed e.store
     loss_unharmed losses.Cache good r n =
-        cache_event (lose c d losses.Cache) (lose_based c d losses.Cache) (λ whole. cache_goes c faithful d (marks_well c d.store good) whole) r n
+        cache_event (lose c d losses.Cache) (lose_based c d losses.Cache) (λ whole. cache_goes c d whole) r n
     loss_unharmed losses.Store good r n =
         absurd (some_counted d.store.counts.losses.store
         (ap (λ (l : Losses). l.store) (sym (ran_same (lose_based c d losses.Store) r).losses) ∙ n.store))
@@ -225,7 +225,7 @@ module _ {F P H R K : Type 0} (c : Contents F P H R) {hears : Hearing Image K} w
         (ap (λ (l : Losses). l.sides) (sym (ran_same (lose_based c d (losses.Side side)) r).losses) ∙ n.sides))
 
     pub power_unharmed : {a : Unit {0}} → Ran (λ ok. Unit {0}) hears (power c d) u e a z → IsUnharmed e.store
-    power_unharmed r = cache_event (power c d) (power_based c d) (λ whole. power_goes c faithful d whole) r
+    power_unharmed r = cache_event (power c d) (power_based c d) (λ whole. power_goes c d whole) r
 
 module _ {F P H : Type 0} (d : Device F P H) (un : IsUnharmed d.store) where
   pub held_unharmed : IsUnharmed (hold d).store × IsUnharmed (resume d).store

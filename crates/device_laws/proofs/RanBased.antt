@@ -35,7 +35,7 @@ use Rattle.device_defs.specs.Store.{Store, tracks_of}
 use Rattle.device_laws.specs.Handed.{allowance_of, in_all, allowance_in, waiting_of, waiting_in, HasWaiting, with_waiting}
 use Rattle.device_laws.proofs.Based.{Base, Hushed, Based, based_done, based_try, based_ask, based_read, based_write, based_tell}
 use Rattle.device_laws.proofs.BasedEvents.{base_in}
-use Rattle.device_laws.proofs.BasedParts.{all_told_steady}
+use Rattle.device_laws.proofs.invariants.CallCounts.{all_told_steady}
 
 -- Calls that fail
 

@@ -291,7 +291,7 @@ module _ {F P H R : Type 0} (c : Contents F P H R) where
   abbrev pub MayOpen : Store F P H → ℕ → Type 0
   MayOpen s t = (s.a.up ≡ true) × (takes_b s ≡ true) × (stale_at s.a t ≡ false)
 
-  opened_fine : (s : Store F P H) (t : ℕ) → MayOpen s t → Fine (core_of s) (record (core_of s) { half = Some t })
+  pub opened_fine : (s : Store F P H) (t : ℕ) → MayOpen s t → Fine (core_of s) (record (core_of s) { half = Some t })
   opened_fine s t may = record {
     lost = refl;
     up = refl;

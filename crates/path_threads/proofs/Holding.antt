@@ -1,12 +1,11 @@
 -- The operator takes turns and gives them back.
-use Rattle.std.proofs.Common.{◌≡◌, ◌*◌, true, ℕ, List, [], ◌∷◌, Option, Some, None, Box, Global, refl, sym, ap, subst, ◌∙◌}
+use Rattle.std.proofs.Common.{◌≡◌, ◌*◌, true, ℕ, List, [], ◌∷◌, Option, Some, None, refl, sym, ap, subst, ◌∙◌}
 use Rattle.std.specs.Prelude.{OnOk, Result, Ok, Err, is_some}
 use Rattle.std.specs.List.{AllZip}
 use Rattle.device_outside.specs.declared.volume.Volume as volumes
 use Rattle.device_defs.specs.declared.counts.Losses.{Losses}
-use Rattle.device_turn.specs.Answers.{Entered, MayLeave}
-use Rattle.device_turn.specs.Rule.{KeptBy, Still, away, boxed, counts_in, worded}
-use Rattle.device_turn.specs.declared.enter.Enter.TheVariants.{Got}
+use Rattle.device_turn.specs.Answers.{MayLeave}
+use Rattle.device_turn.specs.Rule.{KeptBy, Still}
 use Rattle.device_turn.specs.declared.holder.Holder.{Ghosts}
 use Rattle.device_turn.specs.declared.place.Turn.{Turn}
 use Rattle.device_turn.specs.declared.seat.TurnSeat.{TurnSeat}

@@ -1,5 +1,5 @@
 -- What the workers of paths and background leave.
-use Rattle.std.specs.Prelude.{ℕ, List, IfOk}
+use Rattle.std.specs.Prelude.{List, IfOk}
 use Rattle.std.specs.List.{AllZip}
 use Rattle.device_turn.specs.declared.holder.Holder.{Ghosts}
 use Rattle.device_turn.specs.declared.place.Turn.{Turn}

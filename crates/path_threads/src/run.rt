@@ -8,8 +8,8 @@ ghost use Rattle.path_threads.specs.Walks.{HaveWalked};
 use crate::operator::operate;
 use crate::orders::{MakeVolume, Order};
 use crate::places::{Place, clear_all, set_all};
-use crate::shared::Shared;
 use crate::rows::{Begun, Resting, Walked, Walks};
+use crate::shared::Shared;
 use crate::walks::{walk, work_behind};
 use ckd_types::{NoMemory, PathNo};
 use device_core::Device;
@@ -100,10 +100,15 @@ fn begin_path<'s, E, R: Wait + Sync, V: Volume + Send + 's, G: Gate + Sync>(
         turns: Snapshot::of(turns),
         number: u64::from(path.get()),
     };
-    begin(threads, shared, promise, move || -> DeviceWalked<V>
-        requires { AllZip (IsAt path) turns.now.items seats.items }
-        ensures { IfOk result (λ v. AllZip (IsAt path) turns.entry.now.items v.items) }
-    { walk(rt, shared, turns, seats, places, path, gate) })
+    begin(
+        threads,
+        shared,
+        promise,
+        move || -> DeviceWalked<V>
+            requires { AllZip (IsAt path) turns.now.items seats.items }
+            ensures { IfOk result (λ v. AllZip (IsAt path) turns.entry.now.items v.items) }
+        { walk(rt, shared, turns, seats, places, path, gate) },
+    )
 }
 
 /// The worker of the background begins.
@@ -122,10 +127,15 @@ fn begin_behind<'s, E, R: Wait + Sync, V: Volume + Send + 's>(
         turns: Snapshot::of(turns),
         number: 5,
     };
-    begin(threads, shared, promise, move || -> DeviceWalked<V>
-        requires { AllZip (IsAt 5) turns.now.items seats.items }
-        ensures { IfOk result (λ v. AllZip (IsAt 5) turns.entry.now.items v.items) }
-    { work_behind(rt, shared, turns, seats) })
+    begin(
+        threads,
+        shared,
+        promise,
+        move || -> DeviceWalked<V>
+            requires { AllZip (IsAt 5) turns.now.items seats.items }
+            ensures { IfOk result (λ v. AllZip (IsAt 5) turns.entry.now.items v.items) }
+        { work_behind(rt, shared, turns, seats) },
+    )
 }
 
 /// All workers run until each is done: the operator's here, each other one in a thread of its own.
@@ -199,15 +209,19 @@ fn walk_all<R: Threads + Wait + Sync, V: Volume + Send, M: MakeVolume<V>, G: Gat
     ensures walked { HaveWalked turns.now.items result }
     ensures operator { IfOk result.operator (λ v. AllZip Rests operator.items v.items) }
 {
-    scope(scope_env(), rt, move |threads| -> DeviceWalks<V>
-        requires { AreSeated turns.now.items seats × AllZip IsHome turns.now.items operator.items × AllZip Allows places.now operator.items ×
-            All (IsSpareAt M.makes places.now operator.items) orders.items }
-        ensures { HaveWalked turns.entry.now.items result × IfOk result.operator (λ v. AllZip Rests operator.items v.items) }
-    {
-        all_walk(
-            rt, alloc, threads, shared, turns, gate, seats, operator, places, orders,
-        )
-    })
+    scope(
+        scope_env(),
+        rt,
+        move |threads| -> DeviceWalks<V>
+            requires { AreSeated turns.now.items seats × AllZip IsHome turns.now.items operator.items × AllZip Allows places.now operator.items ×
+                All (IsSpareAt M.makes places.now operator.items) orders.items }
+            ensures { HaveWalked turns.entry.now.items result × IfOk result.operator (λ v. AllZip Rests operator.items v.items) }
+        {
+            all_walk(
+                rt, alloc, threads, shared, turns, gate, seats, operator, places, orders,
+            )
+        },
+    )
 }
 
 /// The seats, where no worker lacked memory.

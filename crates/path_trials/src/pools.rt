@@ -231,7 +231,9 @@ fn a_fast_write_gets_a_slot(rt: HostRuntime) -> Result<(), Fail> {
     devices.push(device(alloc, 0, plans, &[1])?)?;
     let ran = run(&rt, alloc, devices, Vec::new(alloc), &NoGate)?;
     for device in ran.devices.as_slice() {
-        assert!(rt; matches!(device.journal(), [Item::Program(entry)] if matches!(entry.how, How::Full)));
+        assert!(rt;
+            matches!(device.journal(), [Item::Program(entry)] if matches!(entry.how, How::Full))
+        );
     }
     Ok(())
 }

@@ -70,7 +70,7 @@ use Rattle.device_laws.proofs.PlainWalks.{
   opened_half,
   stale_same,
 }
-use Rattle.device_laws.proofs.SidesKept.{lost_same}
+use Rattle.device_laws.proofs.invariants.LedSides.{lost_side_is_down}
 use Rattle.deck_audit.specs.History.{back_half}
 use Rattle.run_report.specs.Answers.{back_answer}
 use Rattle.plain_defs.specs.History.{plain_of}
@@ -92,7 +92,7 @@ told_down (suc k) s is =
     had_then (told_down k s is) (λ z _ v. had_if (owed_at z k).firm (λ _. had_tell (had_done v)) (λ _. had_done v))
 
 lost_down : (s : MarksStore) → AIsDown (side_lost by_plain s A None)
-lost_down s = ap (λ (x : _). x.a.up) (lost_same by_plain s A None)
+lost_down s = lost_side_is_down by_plain s None
 
 -- a volume that is alone isn't failed by its call
 abbrev IsAlone : MarksStore → Type 0

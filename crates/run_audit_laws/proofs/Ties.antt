@@ -64,11 +64,22 @@ use Rattle.subsystem_defs.specs.Subsystem.{Mounted, Subsystem, devices_of, mount
 use Rattle.subsystem_defs.specs.declared.end.OrderFault.TheVariants.{Paired, Same}
 use Rattle.subsystem_defs.proofs.Unrefused.{first_none, where_none}
 use Rattle.subsystem_laws.proofs.DeedWalk.{IsDeedwise, IsSeat, Stands, deed_is, seat_of}
-use Rattle.subsystem_laws.proofs.FactsEvents.{background_leaves, command_leaves, lose_leaves, power_leaves, reset_leaves, second_leaves}
+use Rattle.subsystem_laws.proofs.StoreFacts.{
+  Bears,
+  Facts,
+  facts_of,
+  failed_more,
+  fallen,
+  background_leaves,
+  command_leaves,
+  lose_leaves,
+  power_leaves,
+  reset_leaves,
+  second_leaves,
+}
 use Rattle.subsystem_laws.proofs.FoundDevices.{number_found}
 use Rattle.subsystem_laws.proofs.LendBase.{at, stays_still}
 use Rattle.subsystem_laws.proofs.RunLines.{AnyEvent, Goes, MayAsk, all_asked, line_goes, lines_keep, logs_end, Logs}
-use Rattle.subsystem_laws.proofs.StoreFacts.{Bears, Facts, facts_of, failed_more, fallen}
 use Rattle.subsystem_laws.proofs.Walks.{hold_answer, mounted_number}
 use Rattle.run_audit_laws.proofs.Found.{mounted_too}
 use Rattle.run_audit_laws.proofs.LentDevices.{IsLent, lend_makes}
@@ -380,28 +391,28 @@ module _ (d : MarksDevice) where
   reset_tie : (path : ℕ) (t : Told) → tie (T.hold true (reset by_plain d path) t).state ≡ tie d
   reset_tie path t =
       kept_tie d (reset by_plain d path) (kept d.store) refl refl (based_any (reset_body by_plain d path))
-      (reset_leaves by_plain q (pair_bears d.store.paired).loses d path refl) t
+      (reset_leaves by_plain q (pair_bears d.store.paired) d path refl) t
 
   cache_tie : (t : Told) → tie (T.hold true (lose by_plain d losses.Cache) t).state ≡ tie d
   cache_tie t =
       kept_tie d (lose by_plain d losses.Cache) (with_one_loss losses.Cache (kept d.store)) refl refl (lose_based by_plain d losses.Cache)
-      (lose_leaves by_plain q (pair_bears d.store.paired).loses d losses.Cache refl (λ x is. is)) t
+      (lose_leaves by_plain q (pair_bears d.store.paired) d losses.Cache refl (λ x is. is)) t
 
   store_tie : (t : Told) → tie (T.hold true (lose by_plain d losses.Store) t).state ≡ tie d
   store_tie t =
       kept_tie d (lose by_plain d losses.Store) (with_one_loss losses.Store (kept d.store)) refl refl (lose_based by_plain d losses.Store)
-      (lose_leaves by_plain q (pair_bears d.store.paired).loses d losses.Store refl (λ x is. is)) t
+      (lose_leaves by_plain q (pair_bears d.store.paired) d losses.Store refl (λ x is. is)) t
 
   side_tie : (side : Side) (t : Told) → tie (T.hold true (lose by_plain d (losses.Side side)) t).state ≡ tie d
   side_tie side t =
       kept_tie d (lose by_plain d (losses.Side side)) (with_one_loss (losses.Side side) (kept d.store)) refl refl
       (lose_based by_plain d (losses.Side side))
-      (lose_leaves by_plain q (pair_bears d.store.paired).loses d (losses.Side side) refl (λ x is. fallen_pair d.store.paired x side is)) t
+      (lose_leaves by_plain q (pair_bears d.store.paired) d (losses.Side side) refl (λ x is. fallen_pair d.store.paired x side is)) t
 
   power_tie : (t : Told) → tie (T.hold true (power by_plain d) t).state ≡ tie d
   power_tie t =
       kept_tie d (power by_plain d) (with_one_loss losses.Cache (kept d.store)) refl refl (power_based by_plain d)
-      (power_leaves by_plain q (pair_bears d.store.paired).loses d refl) t
+      (power_leaves by_plain q (pair_bears d.store.paired) d refl) t
 
   start_tie : (path : ℕ) → tie (start d path) ≡ tie d
   unfolding S.start

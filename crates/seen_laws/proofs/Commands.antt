@@ -34,7 +34,7 @@ use Rattle.device_laws.specs.Standing.{RunsOn, LooksAt}
 use Rattle.device_laws.specs.Whole.{WholeDevice}
 use Rattle.device_laws.proofs.Based.{Base, kept, Any, Based, based_any}
 use Rattle.device_laws.proofs.BasedEvents.{base_in, fronted, front_based, command_body, command_based}
-use Rattle.device_laws.proofs.BasedParts.{hear_steady}
+use Rattle.device_laws.proofs.invariants.CallCounts.{hear_steady}
 use Rattle.device_laws.proofs.ChainFeeds.{chain_feeds, runs_looks}
 use Rattle.device_laws.proofs.QuietParts.{quiet_done, quiet_then, hear_quiet, ended_quiet}
 use Rattle.device_laws.proofs.WholeEvents.{turned_same}

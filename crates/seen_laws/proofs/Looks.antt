@@ -47,7 +47,7 @@ use Rattle.device_defs.specs.Memory.{tried as or_none}
 use Rattle.device_defs.specs.Sound.{DeviceStore}
 use Rattle.device_defs.specs.Store.{level_at, frame_at, with_frame}
 use Rattle.device_laws.proofs.Based.{Base, base_of, Hushed, Based, based_ask}
-use Rattle.device_laws.proofs.BasedParts.{level_steady, image_steady}
+use Rattle.device_laws.proofs.invariants.CallCounts.{level_steady, image_steady}
 use Rattle.device_laws.proofs.QuietParts.{Quiet, asks_quiet}
 use Rattle.seen_laws.specs.Seen as seen
 use Rattle.seen_laws.specs.Seen.{NotCalled, LastOf, ReadFrom, ReadNone, IsMissed, IsHit, Saw, SawNone}

@@ -38,7 +38,7 @@ use Rattle.device_defs.specs.Sound.{DeviceStore}
 use Rattle.device_defs.specs.Store.{frame_at, is_lost}
 use Rattle.device_laws.specs.Feeding.{Feeds}
 use Rattle.device_laws.proofs.Based.{base_of, Hushed, Based}
-use Rattle.device_laws.proofs.BasedParts.{write_steady}
+use Rattle.device_laws.proofs.invariants.CallCounts.{write_steady}
 use Rattle.device_laws.proofs.QuietParts.{Quiet, quiet_done, quiet_tell, quiet_ask, quiet_if, quiet_then, asks_quiet}
 use Rattle.seen_laws.specs.Seen as seen
 use Rattle.seen_laws.specs.Seen.{

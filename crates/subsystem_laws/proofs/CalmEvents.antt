@@ -365,7 +365,7 @@ module _ (d : MarksDevice) (f : Fair d) where
       cache_steady : is_some d.store.lent ≡ false → Always (lose by_plain d losses.Cache) (λ e _. Steady (core_of e.store))
       cache_steady was =
           where_quiet (lose_quiet by_plain marks_are_faithful d losses.Cache)
-          (lucky_weaker (cache_goes by_plain marks_are_faithful d (f.good.well was) (whole_on_a d (f.good.well was) (x.steady was) was whole))
+          (lucky_weaker (cache_goes by_plain d (whole_on_a d (f.good.well was) (x.steady was) was whole))
           (λ e _ g. steady_on (core_of d.store) (core_of e.store) g (x.steady was)))
 
       pub cache_calm : (t : CameTo (lose by_plain d losses.Cache)) → Calm t.state
@@ -395,7 +395,7 @@ module _ (d : MarksDevice) (f : Fair d) where
           calm_of y (good_kept.lost_power d f.good t)
           (λ home. let was = home_before d y b.2 false home in
           at (where_quiet (power_quiet d)
-          (lucky_weaker (power_goes by_plain marks_are_faithful d (whole_on_a d (f.good.well was) (x.steady was) was whole))
+          (lucky_weaker (power_goes by_plain d (whole_on_a d (f.good.well was) (x.steady was) was whole))
           (λ e _ g. steady_on (core_of d.store) (core_of e.store) g (x.steady was)))) t)
           (at (power_counts is_unserved (λ o k. refl) (λ p. refl) refl 0 d x.served) t)
 

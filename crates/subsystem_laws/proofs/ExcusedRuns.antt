@@ -86,13 +86,23 @@ use Rattle.subsystem_laws.proofs.Excusing.{
 }
 use Rattle.subsystem_laws.proofs.Explained.{its_own, new_are}
 use Rattle.subsystem_laws.proofs.ExplainedRuns.{run_is_explained}
-use Rattle.subsystem_laws.proofs.FactsEvents.{command_leaves, second_leaves, background_leaves, lose_leaves, power_leaves, reset_leaves}
+use Rattle.subsystem_laws.proofs.StoreFacts.{
+  Facts,
+  failed_more,
+  fallen,
+  Bears,
+  command_leaves,
+  second_leaves,
+  background_leaves,
+  lose_leaves,
+  power_leaves,
+  reset_leaves,
+}
 use Rattle.subsystem_laws.proofs.LendBase.{stays_still, lend_lends}
 use Rattle.subsystem_laws.proofs.Pairing.{KeepsDeed, deeds_of, IsPairwise, run_pairs, ends_made, becomes_so, started_number}
 use Rattle.subsystem_laws.proofs.PaidSides.{fresh_last, never_before, PaidFor, paid_kept, opened_paid, paid_of}
 use Rattle.subsystem_laws.proofs.RunLinks.{Linked, lines_linked}
 use Rattle.subsystem_laws.proofs.Shapes.{FirstAlone, Shape, command_shape, second_shape, background_shape, lose_shape, reset_shape, power_shape}
-use Rattle.subsystem_laws.proofs.StoreFacts.{Facts, failed_more, fallen, Bears}
 use Rattle.subsystem_laws.proofs.TracksKept.{Fair, fair_kept, opened_fair}
 use Rattle.subsystem_laws.proofs.Walks.{AreSo, run_keeps}
 
@@ -295,10 +305,10 @@ module _ (d : MarksDevice) where
       (at (background_leaves by_plain (LostSince since) (lost_bears since) d itself) t) (background_shape d t)
 
   lose_lost : (loss : Loss) (t : CameTo (lose by_plain d loss)) → LosesMore since t.state.store.lost
-  lose_lost losses.Cache t = at (lose_leaves by_plain (LostSince since) (lost_bears since).loses d losses.Cache itself (λ x h. h)) t
-  lose_lost losses.Store t = at (lose_leaves by_plain (LostSince since) (lost_bears since).loses d losses.Store itself (λ x h. h)) t
+  lose_lost losses.Cache t = at (lose_leaves by_plain (LostSince since) (lost_bears since) d losses.Cache itself (λ x h. h)) t
+  lose_lost losses.Store t = at (lose_leaves by_plain (LostSince since) (lost_bears since) d losses.Store itself (λ x h. h)) t
   lose_lost (losses.Side side) t =
-      at (lose_leaves by_plain (LostSince since) (lost_bears since).loses d (losses.Side side) itself (may_fall since side)) t
+      at (lose_leaves by_plain (LostSince since) (lost_bears since) d (losses.Side side) itself (may_fall since side)) t
 
   pub lose_made : (loss : Loss) (t : CameTo (lose by_plain d loss)) → Made d t.state
   lose_made loss t f never =
@@ -308,12 +318,12 @@ module _ (d : MarksDevice) where
   pub reset_made : (path : ℕ) (t : CameTo (reset by_plain d path)) → Made d t.state
   reset_made path t f never =
       event_since d f (reset by_plain d path) (kept d.store) (own_begins d) (based_any (reset_body by_plain d path)) t (reset_shape d path t).1
-      (at (reset_leaves by_plain (LostSince since) (lost_bears since).loses d path itself) t) (reset_shape d path t).0
+      (at (reset_leaves by_plain (LostSince since) (lost_bears since) d path itself) t) (reset_shape d path t).0
 
   pub power_made : (t : CameTo (power by_plain d)) → Made d t.state
   power_made t f never =
       event_since d f (power by_plain d) (with_one_loss losses.Cache (kept d.store)) (loss_begins d losses.Cache) (power_based by_plain d) t
-      (power_shape d t).1 (at (power_leaves by_plain (LostSince since) (lost_bears since).loses d itself) t) (power_shape d t).0
+      (power_shape d t).1 (at (power_leaves by_plain (LostSince since) (lost_bears since) d itself) t) (power_shape d t).0
 
 -- All events
 

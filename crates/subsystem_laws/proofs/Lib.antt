@@ -44,7 +44,6 @@ pub mod CallCounts
 pub mod FailedCalls
 pub mod ExplainedRuns
 pub mod StoreFacts
-pub mod FactsEvents
 pub mod Excusing
 pub mod Shapes
 pub mod PaidSides

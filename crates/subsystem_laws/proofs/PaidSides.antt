@@ -60,11 +60,22 @@ use Rattle.subsystem_laws.specs.Excused.{has_fresh, WasNeverLent}
 use Rattle.subsystem_laws.specs.Came.{CameTo}
 use Rattle.subsystem_laws.proofs.Came.{at}
 use Rattle.subsystem_laws.proofs.Excusing.{IsPaid}
-use Rattle.subsystem_laws.proofs.FactsEvents.{command_leaves, second_leaves, background_leaves, lose_leaves, power_leaves, reset_leaves}
+use Rattle.subsystem_laws.proofs.StoreFacts.{
+  Facts,
+  facts_of,
+  failed_more,
+  fallen,
+  Bears,
+  command_leaves,
+  second_leaves,
+  background_leaves,
+  lose_leaves,
+  power_leaves,
+  reset_leaves,
+}
 use Rattle.subsystem_laws.proofs.LendBase.{stays_still, lend_lends}
 use Rattle.subsystem_laws.proofs.RunLines.{AnyEvent}
 use Rattle.subsystem_laws.proofs.Shapes.{Shape, command_shape, second_shape, background_shape, lose_shape, reset_shape, power_shape}
-use Rattle.subsystem_laws.proofs.StoreFacts.{Facts, facts_of, failed_more, fallen, Bears}
 use Rattle.subsystem_laws.proofs.Walks.{AreSo, IsKept}
 
 -- Sides that are down
@@ -213,17 +224,17 @@ paid_kept = record {
       (λ p. at (background_leaves by_plain Paid paid_bears d p) t) (background_shape d t) f;
   cut = λ d path f t.
       event_paid d (reset by_plain d path) (kept d.store) refl refl (based_any (reset_body by_plain d path)) t
-      (λ p. at (reset_leaves by_plain Paid paid_bears.loses d path p) t) (reset_shape d path t).0 f;
+      (λ p. at (reset_leaves by_plain Paid paid_bears d path p) t) (reset_shape d path t).0 f;
   lost_cache = λ d f t.
       event_paid d (lose by_plain d losses.Cache) (with_one_loss losses.Cache (kept d.store)) refl refl (lose_based by_plain d losses.Cache) t
-      (λ p. at (lose_leaves by_plain Paid paid_bears.loses d losses.Cache p (λ x q. q)) t) (lose_shape d losses.Cache t) f;
+      (λ p. at (lose_leaves by_plain Paid paid_bears d losses.Cache p (λ x q. q)) t) (lose_shape d losses.Cache t) f;
   lost_store = λ d f t.
       event_paid d (lose by_plain d losses.Store) (with_one_loss losses.Store (kept d.store)) refl refl (lose_based by_plain d losses.Store) t
-      (λ p. at (lose_leaves by_plain Paid paid_bears.loses d losses.Store p (λ x q. q)) t) (lose_shape d losses.Store t) f;
+      (λ p. at (lose_leaves by_plain Paid paid_bears d losses.Store p (λ x q. q)) t) (lose_shape d losses.Store t) f;
   lost_side = λ d side home f t. side_lost_paid d side t;
   lost_power = λ d f t.
       event_paid d (power by_plain d) (with_one_loss losses.Cache (kept d.store)) refl refl (power_based by_plain d) t
-      (λ p. at (power_leaves by_plain Paid paid_bears.loses d p) t) (power_shape d t).0 f;
+      (λ p. at (power_leaves by_plain Paid paid_bears d p) t) (power_shape d t).0 f;
   held = λ d fault f. λ never none. let p = f (record { home = never.home; none = never.none }) none in record { pair = p.pair; alone = p.alone };
   resumed = λ d pair f. λ never none. let p = f (record { home = never.home; none = never.none }) none in record { pair = p.pair; alone = p.alone };
   replaced = λ d side fault f. replaced_paid d side f;

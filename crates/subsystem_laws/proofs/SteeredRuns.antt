@@ -15,8 +15,8 @@ use Rattle.device_defs.specs.Orders.{replace, hold}
 use Rattle.device_defs.specs.Start as S
 use Rattle.device_defs.specs.Start.{start}
 use Rattle.device_defs.specs.Store.{HalfWrite, side_of, tracks_of}
-use Rattle.device_laws.proofs.SidesEvents.{command_steers, second_steers, background_steers, lose_steers, power_steers, reset_steers, lend_steers}
-use Rattle.device_laws.proofs.SidesKept.{state_of, IsSteered}
+use Rattle.device_laws.proofs.invariants.LedSides.{command_steers, second_steers, background_steers, lose_steers, power_steers, reset_steers, lend_steers}
+use Rattle.device_laws.proofs.invariants.LedSides.{state_of, IsSteered}
 use Rattle.subsystem_defs.specs.declared.end.OrderFault.TheVariants.{Same, Paired, Unpaired, Down, Up, NoSide, Half}
 use Rattle.subsystem_defs.specs.Decks.{opened_device}
 use Rattle.subsystem_defs.specs.Refusals as R

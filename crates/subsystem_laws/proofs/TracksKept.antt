@@ -178,13 +178,13 @@ module _ (d : MarksDevice) (f : Fair d) where
         un = λ home.
             let was = home_before d y b.2 false home in
             unharmed_at (with_one_loss losses.Cache (kept d.store)) (power by_plain d) refl refl refl x
-            (λ whole. power_goes by_plain marks_are_faithful d whole) (f.un was) t;
+            (λ whole. power_goes by_plain d whole) (f.un was) t;
       }
 
   loss_un : (loss : Loss) (t : CameTo (lose by_plain d loss)) → is_some d.store.lent ≡ false → IsUnharmed t.state.store
   loss_un losses.Cache t was n =
       unharmed_at (with_one_loss losses.Cache (kept d.store)) (lose by_plain d losses.Cache) refl refl refl (lose_based by_plain d losses.Cache)
-      (λ whole. cache_goes by_plain marks_are_faithful d (f.good.well was) whole) (f.un was) t n
+      (λ whole. cache_goes by_plain d whole) (f.un was) t n
   loss_un losses.Store t was n =
       absurd (some_counted d.store.counts.losses.store
       (ap (λ (l : Losses). l.store) (sym (at (stays_still (lose_based by_plain d losses.Store)) t).3) ∙ n.store))

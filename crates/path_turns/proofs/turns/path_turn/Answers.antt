@@ -9,8 +9,7 @@ leave-requires-clause-keeps g c =
 
 pub returns-in_ok-came-in-Got-clause-came : goal.returns-in_ok-came-in-Got-clause-came
 returns-in_ok-came-in-Got-clause-came g c =
-    inr
-    (
+    inr (
       c.in-Got.device.value,
       out_kept c.args.seat.now.seat.me c.enter.new.seat.seat.me c.in-Got.device c.in-Got.ensures.entered,
       c.in_ok-came-in-Got.ensures.came,

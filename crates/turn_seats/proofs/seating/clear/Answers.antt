@@ -1,4 +1,4 @@
-use Rattle.std.proofs.Common.{◌≡◌, ◌<◌, ◌∙◌, ℕ, arith, subst}
+use Rattle.std.proofs.Common.{◌<◌, ◌∙◌, ℕ, arith, subst}
 use Rattle.device_turn.proofs.Members.{owns_all}
 use Rattle.turn_seats.proofs.seating.clear.Goals as goal
 

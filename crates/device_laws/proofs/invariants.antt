@@ -1,0 +1,2 @@
+pub mod CallCounts
+pub mod LedSides

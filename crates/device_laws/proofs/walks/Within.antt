@@ -1,0 +1,113 @@
+-- What holds behind an interaction, over the answers that a policy considers and with what it keeps along the way.
+use Rattle.std.proofs.Common.{◌≡◌, ℕ, Bool, true, false, Option, Some, None, is_some, refl}
+use Rattle.std.specs.Prelude.{if◌then◌else◌}
+use Rattle.ckd_types.specs.declared.paths.Side.{Side}
+use Rattle.device_outside.specs.Interaction.{Interaction, Done, Try, Ask, Read, Write, Tell, and_then}
+use Rattle.device_outside.specs.Keeper.{Message, BeforeEdit, Firm, ReplyTo}
+use Rattle.device_outside.specs.Pool.{Call, AnswerTo}
+use Rattle.device_defs.specs.Memory.{tried}
+use Rattle.device_laws.proofs.Always.{Always, always_done, always_try, always_ask, always_read, always_write, always_tell}
+use Rattle.device_laws.proofs.Based.{Any}
+use Rattle.device_laws.proofs.Lucky.{Lucky, lucky_done, lucky_try, lucky_ask, lucky_read, lucky_write, lucky_tell}
+use Rattle.device_laws.proofs.PoolWalks.{AsksPool, asks_done, asks_try, asks_ask}
+
+-- whether an answer on memory is considered, and what is kept behind a read or a write: none where its answer isn't considered
+pub record Policy (K : Type 0) : Type 0 where
+  pub had : Bool → Bool
+  pub read : K → Bool → Option K
+  pub wrote : K → Bool → Option K
+
+-- whether a keeper had memory for what it was told
+abbrev pub agreed : {I : Type 0} → (m : Message I) → ReplyTo m → Bool
+agreed (BeforeEdit d t i) r = r
+agreed (Firm d t i) r = true
+
+-- with these calls of the pool
+pub data Within {K R I S A : Type 0} (w : Policy K) (may : Call → Type 0) (q : K → S → A → Type 0) : K → Interaction R I S A → Type 0 where
+  within_done : {n : K} {s : S} {a : A} → q n s a → Within w may q n (Done s a)
+  within_try : {n : K} {k : Bool → Interaction R I S A} → ((ok : Bool) → w.had ok ≡ true → Within w may q n (k ok)) → Within w may q n (Try k)
+  within_ask : {n : K} {call : Call} {k : AnswerTo call → Interaction R I S A} → may call → ((a : AnswerTo call) → Within w may q n (k a)) →
+      Within w may q n (Ask call k)
+  within_read : {n : K} {side : Side} {t : ℕ} {k : Option R → Interaction R I S A} →
+      ((got : Option R) (m : K) → w.read n (is_some got) ≡ Some m → Within w may q m (k got)) → Within w may q n (Read side t k)
+  within_write : {n : K} {side : Side} {t : ℕ} {r : R} {k : Bool → Interaction R I S A} →
+      ((ok : Bool) (m : K) → w.wrote n ok ≡ Some m → Within w may q m (k ok)) → Within w may q n (Write side t r k)
+  within_tell : {n : K} {m : Message I} {k : ReplyTo m → Interaction R I S A} →
+      ((r : ReplyTo m) → w.had (agreed m r) ≡ true → Within w may q n (k r)) → Within w may q n (Tell m k)
+
+pub within_then : {K R I S T A B : Type 0} {w : Policy K} {may : Call → Type 0} {q : K → S → A → Type 0} {g : K → T → B → Type 0} {n : K}
+    {i : Interaction R I S A} (f : S → A → Interaction R I T B) → Within w may q n i →
+    ((m : K) (s : S) (a : A) → q m s a → Within w may g m (f s a)) → Within w may g n (and_then i f)
+within_then f (within_done x) more = more _ _ _ x
+within_then f (within_try x) more = within_try (λ ok is. within_then f (x ok is) more)
+within_then f (within_ask m x) more = within_ask m (λ a. within_then f (x a) more)
+within_then f (within_read x) more = within_read (λ got n is. within_then f (x got n is) more)
+within_then f (within_write x) more = within_write (λ ok n is. within_then f (x ok n is) more)
+within_then f (within_tell x) more = within_tell (λ r is. within_then f (x r is) more)
+
+pub within_weaker : {K R I S A : Type 0} {w : Policy K} {may : Call → Type 0} {q g : K → S → A → Type 0} {n : K} {i : Interaction R I S A} →
+    Within w may q n i → ((m : K) (s : S) (a : A) → q m s a → g m s a) → Within w may g n i
+within_weaker (within_done x) more = within_done (more _ _ _ x)
+within_weaker (within_try x) more = within_try (λ ok is. within_weaker (x ok is) more)
+within_weaker (within_ask m x) more = within_ask m (λ a. within_weaker (x a) more)
+within_weaker (within_read x) more = within_read (λ got n is. within_weaker (x got n is) more)
+within_weaker (within_write x) more = within_write (λ ok n is. within_weaker (x ok n is) more)
+within_weaker (within_tell x) more = within_tell (λ r is. within_weaker (x r is) more)
+
+-- with any calls
+pub within_any : {K R I S A : Type 0} {w : Policy K} {may : Call → Type 0} {q : K → S → A → Type 0} {n : K} {i : Interaction R I S A} →
+    Within w may q n i → Within w Any q n i
+within_any (within_done x) = within_done x
+within_any (within_try x) = within_try (λ ok is. within_any (x ok is))
+within_any (within_ask m x) = within_ask tt (λ a. within_any (x a))
+within_any (within_read x) = within_read (λ got n is. within_any (x got n is))
+within_any (within_write x) = within_write (λ ok n is. within_any (x ok n is))
+within_any (within_tell x) = within_tell (λ r is. within_any (x r is))
+
+pub within_if : {K R I S A : Type 0} {w : Policy K} {may : Call → Type 0} {q : K → S → A → Type 0} {n : K} (b : Bool) {i j : Interaction R I S A} →
+    (b ≡ true → Within w may q n i) → (b ≡ false → Within w may q n j) → Within w may q n (if b then i else j)
+within_if true x y = x refl
+within_if false x y = y refl
+
+pub within_tried : {K R I S A : Type 0} {w : Policy K} {may : Call → Type 0} {q : K → S → Option A → Type 0} {n : K} (s : S)
+    (i : Interaction R I S (Option A)) → q n s None → Within w may q n i → Within w may q n (tried s i)
+within_tried s i e x = within_try (λ ok _. within_if ok (λ _. x) (λ _. within_done e))
+
+-- what calls no volume keeps what the policy kept
+pub asks_within : {K R I S A : Type 0} {w : Policy K} {may : Call → Type 0} {q : K → S → A → Type 0} {n : K} {i : Interaction R I S A} →
+    AsksPool may (λ s a. q n s a) i → Within w may q n i
+asks_within (asks_done x) = within_done x
+asks_within {w = w} {q = q} {n = n} (asks_try x) = within_try (λ ok is. asks_within {w = w} {q = q} {n = n} (x ok))
+asks_within {w = w} {q = q} {n = n} (asks_ask m x) = within_ask m (λ a. asks_within {w = w} {q = q} {n = n} (x a))
+
+-- The policies
+
+-- whatever is answered
+abbrev pub always : Policy (Unit {0})
+always = record { had = λ ok. true; read = λ n ok. Some n; wrote = λ n ok. Some n }
+
+abbrev pub where_so : {K : Type 0} → K → Bool → Option K
+where_so n true = Some n
+where_so n false = None
+
+-- no call of a volume fails
+abbrev pub lucky : Policy (Unit {0})
+lucky = record { had = λ ok. true; read = where_so; wrote = where_so }
+
+pub within_always : {R I S A : Type 0} {may : Call → Type 0} {q : Unit {0} → S → A → Type 0} {n : Unit {0}} {i : Interaction R I S A} →
+    Within always may q n i → Always i (λ s a. q tt s a)
+within_always (within_done x) = always_done x
+within_always (within_try x) = always_try (λ ok. within_always (x ok refl))
+within_always (within_ask m x) = always_ask (λ a. within_always (x a))
+within_always (within_read x) = always_read (λ got. within_always (x got tt refl))
+within_always (within_write x) = always_write (λ ok. within_always (x ok tt refl))
+within_always (within_tell x) = always_tell (λ r. within_always (x r refl))
+
+pub within_lucky : {R I S A : Type 0} {may : Call → Type 0} {q : Unit {0} → S → A → Type 0} {n : Unit {0}} {i : Interaction R I S A} →
+    Within lucky may q n i → Lucky (λ s a. q tt s a) i
+within_lucky (within_done x) = lucky_done x
+within_lucky (within_try x) = lucky_try (λ ok. within_lucky (x ok refl))
+within_lucky (within_ask m x) = lucky_ask (λ a. within_lucky (x a))
+within_lucky (within_read x) = lucky_read (λ r. within_lucky (x (Some r) tt refl))
+within_lucky (within_write x) = lucky_write (within_lucky (x true tt refl))
+within_lucky (within_tell x) = lucky_tell (λ r. within_lucky (x r refl))
