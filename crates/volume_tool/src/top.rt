@@ -1,12 +1,14 @@
-ghost use Rattle.std.specs.Prelude.{◌≡◌, ◌≢◌, ◌⊎◌, ◌≤◌, IfSome, Some, None, [], map};
-ghost use Rattle.std.specs.List.{flat_map};
-ghost use Rattle.ckd_outside.specs.Pieces.{piece_text};
+ghost use Rattle.std.specs.Prelude.{◌≡◌, ◌≢◌, ◌⊎◌, ◌≤◌, ℕ, IfSome, Some, None, Ok, List, [], map};
 ghost use Rattle.ckd_outside.specs.Causes.{Rose, HasCause};
 ghost use Rattle.ckd_outside.specs.Texts.{Writes};
+ghost use Rattle.deck_text.specs.DeckLines.{DeckLines};
+ghost use Rattle.deck_text.specs.Parse.{parsed};
 ghost use Rattle.volume_file.specs.File.{ImageVolume, IsWhole, file_of};
-ghost use Rattle.volume_tool.specs.Answers.{IsWritten, Tells, TellsFault, TellsList, code_of, head_text};
-ghost use Rattle.volume_tool.specs.Answers.{task_by, task_of, track_text, trailing_text, usage_text};
+ghost use Rattle.volume_tool.specs.Answers.{Tells, TellsFault, TellsList, code_of, head_text};
+ghost use Rattle.volume_tool.specs.Answers.{task_of, track_text, trailing_text, usage_text};
 ghost use Rattle.volume_tool.specs.List.{rows_text};
+ghost use Rattle.volume_tool.specs.Save.{status_for};
+ghost use Rattle.volume_tool.specs.Written.{IsWritten};
 
 use crate::listing::{Row, read_listing, write_listing};
 use crate::save::serve_save;
@@ -252,7 +254,8 @@ fn serve<S: Source, K: Sink>(
 }
 
 /// Does what the words ask for, over a source and a sink. `list` reads a volume file and writes what its tracks
-/// hold; nothing is written before the file was read. A read fault is answered exactly where a read failed.
+/// hold; nothing is written before the file was read. `save D` reads a deck, runs it and looks at each track of its device D in
+/// rising order; nothing is written before the last look. A read fault is answered exactly where a read failed.
 pub fn volume_top<S: Source, K: Sink>(
     alloc: Global,
     words: &[&str],
@@ -270,6 +273,12 @@ pub fn volume_top<S: Source, K: Sink>(
         → task_of (map (λ w. w.now) words.now) ≡ Some Task.List
         → ¬ Rose (S.faults source.old) (S.faults source.new) → ¬ Rose (K.faults sink.old) (K.faults sink.new)
         → (result ≡ VolumeStatus.Done) ⊎ (result ≡ VolumeStatus.NoMemory) }
+
+    // Of every deck the file is written, or the reason why not that the defined run has.
+    ensures saves { (text : List ℕ) (d : DeckLines) (n : ℕ) → S.left source.old ≡ Some text
+        → task_of (map (λ w. w.now) words.now) ≡ Some (Task.Save n) → parsed text ≡ Ok d
+        → ¬ Rose (S.faults source.old) (S.faults source.new) → ¬ Rose (K.faults sink.old) (K.faults sink.new)
+        → (result ≡ status_for d n) ⊎ (result ≡ VolumeStatus.NoMemory) }
 {
     serve(alloc, words, source, sink)
 }
