@@ -6,6 +6,7 @@ use Rattle.std.proofs.Common.{
   ◌∙◌,
   ◌+◌,
   ◌-◌,
+  ◌*◌,
   ◌++◌,
   arith,
   ℕ,
