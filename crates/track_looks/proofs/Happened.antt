@@ -26,7 +26,7 @@ use Rattle.deck_run.proofs.Found.{stood_found, put_stood}
 use Rattle.deck_run.proofs.Telling.{FoundKnown, all_known, known_at}
 use Rattle.look_laws.specs.Looking.{is_written_at, IsLooked}
 use Rattle.look_laws.proofs.Talks.{look_so}
-use Rattle.track_looks.specs.declared.look.Look.{Look}
+use Rattle.track_looks.specs.declared.found.Look.{Look}
 use Rattle.track_looks.specs.Looking.{look_seen, IsAllowed, Looks}
 
 some_same : {X : Type 0} {x y : X} → Some x ≡ Some y → x ≡ y

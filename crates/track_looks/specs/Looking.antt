@@ -13,8 +13,8 @@ use Rattle.subsystem_core.specs.Comes.{AskedKept, AskedWith, Changes}
 use Rattle.subsystem_core.specs.Ends.{where_some}
 use Rattle.subsystem_defs.specs.Subsystem as runs
 use Rattle.subsystem_defs.specs.Subsystem.{mounted_in}
-use Rattle.track_looks.specs.declared.look.Look.{Look}
-use Rattle.track_looks.specs.declared.look.Look.TheVariants as looks
+use Rattle.track_looks.specs.declared.found.Look.{Look}
+use Rattle.track_looks.specs.declared.found.Look.TheVariants as looks
 
 abbrev pub look_seen : Look → Peeked
 look_seen (looks.Track image) = Track image

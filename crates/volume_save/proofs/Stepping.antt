@@ -60,9 +60,7 @@ use Rattle.device_defs.specs.Sound.{has_sound_marks}
 use Rattle.device_defs.specs.Store.{HalfWrite, tracks_of, is_lost, half_is}
 use Rattle.look_laws.specs.Looking.{is_writing, is_written_at, IsPlainly, StaysOwn}
 use Rattle.look_laws.proofs.Talks.{unwritten}
-use Rattle.look_laws.proofs.Finds.{look_finds_plain}
-use Rattle.look_laws.proofs.Leaves.{look_leaves_own}
-use Rattle.look_laws.proofs.Faults.{fault_has_failed, lost_is_lost}
+use Rattle.look_laws.proofs.Leaves.{fault_has_failed, fault_is, look_finds_plain, look_leaves_own, lost_is_lost}
 use Rattle.subsystem_core.specs.declared.subsystem.Subsystem.{Subsystem}
 use Rattle.subsystem_core.specs.Devices.{device_at}
 use Rattle.subsystem_defs.specs.Decks.{run_of}
@@ -310,8 +308,11 @@ found_other t (peeks.BadBytes side) = (λ e. cc, λ e. cc)
 
 by_half : (run : runs.Subsystem) (d t : ℕ) (side : Side) (m : Mounted) (b : Bool) → half_is m.device.store.half t ≡ b → mounted_in run.mounted d ≡ Some m →
     has_sound_marks by_plain m.device.store t ≡ true → (looked run d t).found ≡ peeks.Fault side → IsFault t side m
-by_half run d t side m true half there marks found = inl half
-by_half run d t side m false half there marks found = inr (fault_has_failed run d t m side there marks half found)
+by_half run d t side m true half there marks found = elim (fault_is run d t m there side found) [
+  | inl failed ↦ inl failed
+  | inr nowhere ↦ inr (half, nowhere)
+]
+by_half run d t side m false half there marks found = inl (fault_has_failed run d t m side there marks half found)
 
 not_none : (d : ℕ) (s : runs.Subsystem) (v : ImageVolume) → saving_at s d None ≡ Ok v → ⊥
 not_none d s v e = cc

@@ -31,7 +31,7 @@ use Rattle.device_defs.specs.Peek as peeks
 use Rattle.device_defs.specs.Peek.{Peeked}
 use Rattle.device_defs.specs.Sound.{plain_device}
 use Rattle.device_defs.specs.Store.{Store, tracks_of, is_lost, half_is}
-use Rattle.look_laws.specs.Looking.{is_writing, HasFailed}
+use Rattle.look_laws.specs.Looking.{is_writing, HasFailed, IsNowhere}
 use Rattle.subsystem_defs.specs.Decks.{run_of}
 use Rattle.subsystem_defs.specs.Looks.{Looked, looked}
 use Rattle.subsystem_defs.specs.Subsystem.{Mounted, Subsystem, mounted_in}
@@ -118,9 +118,9 @@ pub record HasDevice (s : Subsystem) (d : ℕ) (p : Mounted → Type 0) : Type 0
   pub there : mounted_in s.mounted d ≡ Some mounted
   pub is_so : p mounted
 
--- of a track that is in a half write of the background too, no more is said than that the look found this fault
+-- a read failed and no side gave the track, or in a half write of the background no side has it, and no modified frame
 abbrev pub IsFault : ℕ → Side → Mounted → Type 0
-IsFault t side m = (half_is m.device.store.half t ≡ true) ⊎ HasFailed m t side
+IsFault t side m = HasFailed m t side ⊎ ((half_is m.device.store.half t ≡ true) × IsNowhere m.device.store t)
 
 -- each refusal comes where this is so. Of a track, behind the looks at the tracks before it, all of which were found
 abbrev pub HasReason : Subsystem → ℕ → Unsaved → Type 0

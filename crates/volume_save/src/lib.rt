@@ -2,9 +2,9 @@
 #![tactic(auto)]
 
 mod deck;
-mod saved;
+mod saving;
 mod unsaved;
 
 pub use deck::saved_behind;
-pub use saved::saved;
+pub use saving::saved;
 pub use unsaved::Unsaved;

@@ -9,25 +9,17 @@ ghost use Rattle.subsystem_core.specs.Devices.{device_at, numbers_of};
 ghost use Rattle.subsystem_core.specs.Keepers.{TakesAll};
 ghost use Rattle.subsystem_defs.specs.Looks.{looked};
 ghost use Rattle.subsystem_defs.specs.Subsystem as runs;
+ghost use Rattle.deck_run.specs.Owning.{AreOwn};
 ghost use Rattle.deck_run.specs.Standing.{StandsAs};
 ghost use Rattle.track_looks.specs.Looking.{look_seen, IsAllowed, LooksKept, Looks};
 
-use ckd_types::{DeviceNo, NoMemory, Side, TrackNo};
+use crate::Look;
+use ckd_types::{DeviceNo, NoMemory, TrackNo};
 use device_core::Device;
 use device_outside::{Keep, NoKeep, Volume};
 use std::alloc::Global;
 use subsystem_core::{Peeked, Subsystem};
 use track_image::TrackImage;
-
-/// What a look at a track found: the track; or it is lost; or this side failed, the first one, and none gave bytes; or the bytes
-/// of this side are no track.
-#[derive(Debug, Drop)]
-pub enum Look {
-    Track(TrackImage),
-    Lost,
-    Fault(Side),
-    BadBytes(Side),
-}
 
 /// A copy of the image in a track's frame.
 fn frame_copied<V: Volume>(
@@ -75,6 +67,7 @@ pub fn look_with<V: Volume, K: Keep<TrackImage>>(
     requires takes { TakesAll K.takes keep.old sub.old.devices.items }
     ensures numbers { numbers_of sub.new.devices.items ≡ numbers_of sub.old.devices.items }
     ensures takes { TakesAll K.takes keep.new sub.new.devices.items }
+    ensures own { AreOwn sub.old.devices.items → AreOwn sub.new.devices.items }
     ensures looked { LooksKept (Heard K.hears K.takes) d t (had look_seen result) sub.old keep.old sub.new keep.new }
 {
     match sub.peek_track_with(d, t, keep) {
@@ -93,6 +86,7 @@ pub fn look<V: Volume>(
     requires here { is_in d (numbers_of sub.old.devices.items) ≡ true }
     requires track { IfSome (device_at sub.old.devices.items d) (λ x. t < x.store.cylinders * 15) }
     ensures numbers { numbers_of sub.new.devices.items ≡ numbers_of sub.old.devices.items }
+    ensures own { AreOwn sub.old.devices.items → AreOwn sub.new.devices.items }
     ensures looked { Looks d t (had look_seen result) sub.old sub.new }
     ensures happened { (run : runs.Subsystem) → StandsAs sub.old run → IsAllowed run d t
         → IfOk result (λ found. ((looked run d t).found ≡ look_seen found) × StandsAs sub.new (looked run d t).behind) }
