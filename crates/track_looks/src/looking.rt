@@ -22,11 +22,7 @@ use subsystem_core::{Peeked, Subsystem};
 use track_image::TrackImage;
 
 /// A copy of the image in a track's frame.
-fn frame_copied<V: Volume>(
-    alloc: Global,
-    device: &Device<V>,
-    t: TrackNo,
-) -> Result<Look, NoMemory>
+fn frame_copied<V: Volume>(alloc: Global, device: &Device<V>, t: TrackNo) -> Result<Look, NoMemory>
     requires { is_some (frame_at (state_of device.now.store) t) ≡ true }
     ensures { IfOk result (λ found. look_seen found ≡ defs.Track (frame_in (state_of device.now.store) t)) }
 {

@@ -137,7 +137,7 @@ module _ {V : Type 0} {G : Ghosts V} where
       (find sub.pool.pool.used [] (all_stood sub.devices.items) run.mounted d stands.mounted) (stood_found sub.devices.items d x at)
 
   -- a track of the volume is one of the device
-  pub track_below : (sub : Subsystem V G) (run : runs.Subsystem) (d t : ℕ) (v : ImageVolume) (x : Device V G) → StandsAs sub run → FitsRun run d v →
+  track_below : (sub : Subsystem V G) (run : runs.Subsystem) (d t : ℕ) (v : ImageVolume) (x : Device V G) → StandsAs sub run → FitsRun run d v →
       IsWhole v → t < length v.images → device_at sub.devices.items d ≡ Some x → t < x.store.cylinders * 15
   track_below sub run d t v x stands fits whole lt at =
       let s = stood_run sub run d x stands at in
@@ -145,6 +145,15 @@ module _ {V : Type 0} {G : Ghosts V} where
       let cylinders : x.store.cylinders ≡ v.cylinders =
       sym s.cylinders ∙ ap (λ (m : Mounted). m.device.store.cylinders) same ∙ fits.cylinders in
       omega (arith, whole.tracks, lt, cylinders)
+
+  tracks_by : (sub : Subsystem V G) (run : runs.Subsystem) (d t : ℕ) (v : ImageVolume) (o : Option (Device V G)) → StandsAs sub run → FitsRun run d v →
+      IsWhole v → t < length v.images → device_at sub.devices.items d ≡ o → IfSome o (λ x. t < x.store.cylinders * 15)
+  tracks_by sub run d t v (Some x) stands fits whole lt at = track_below sub run d t v x stands fits whole lt at
+  tracks_by sub run d t v None stands fits whole lt at = tt
+
+  pub all_below : (sub : Subsystem V G) (run : runs.Subsystem) (d t : ℕ) (v : ImageVolume) → StandsAs sub run → FitsRun run d v → IsWhole v →
+      t < length v.images → IfSome (device_at sub.devices.items d) (λ x. t < x.store.cylinders * 15)
+  all_below sub run d t v stands fits whole lt = tracks_by sub run d t v (device_at sub.devices.items d) stands fits whole lt refl
 
   -- an image that was found goes into the volume
   pub is_placed : (sub : Subsystem V G) (run : runs.Subsystem) (d t : ℕ) (v : ImageVolume) (i : Image) → StandsAs sub run → FitsRun run d v → IsWhole v →
@@ -210,6 +219,11 @@ rest_stops : (n : ℕ) (now : runs.Subsystem) (d t : ℕ) (v : ImageVolume) (why
 unfolding S.images_from
 rest_stops n now d t v why found = rw found refl
 
+refused_by : (run : runs.Subsystem) (d : ℕ) (m : Mounted) (o : Option Unsaved) → mounted_in run.mounted d ≡ Some m → refusal m.device.store ≡ o →
+    saving run d ≡ unless_refused o (tracks_saved run d m)
+unfolding S.saving
+refused_by run d m o there is = rw (there, is) refl
+
 module _ {V : Type 0} {G : Ghosts V} where
   pub looks_on : (run : runs.Subsystem) (d t count : ℕ) (old new : Subsystem V G) (v w : ImageVolume) (l : LooksLeft run d t count old v) →
       t < count → t < length v.images → GoesOnWith l.now d t v new w → LooksLeft run d (t + 1) count new w
@@ -239,11 +253,6 @@ module _ {V : Type 0} {G : Ghosts V} where
       ∙ ap (λ (images : List Image). Ok (record v { images = images })) (append-nil (take t v.images) ∙ take_all t v.images all)
 
   -- The first look
-
-  refused_by : (run : runs.Subsystem) (d : ℕ) (m : Mounted) (o : Option Unsaved) → mounted_in run.mounted d ≡ Some m → refusal m.device.store ≡ o →
-      saving run d ≡ unless_refused o (tracks_saved run d m)
-  unfolding S.saving
-  refused_by run d m o there is = rw (there, is) refl
 
   pub refused_first : (sub : Subsystem V G) (run : runs.Subsystem) (d : ℕ) (x : Device V G) (why : Unsaved) → StandsAs sub run →
       device_at sub.devices.items d ≡ Some x → refusal (device_of x).store ≡ Some why → saving run d ≡ Err why
@@ -280,12 +289,12 @@ module _ {V : Type 0} {G : Ghosts V} where
 
 -- Why nothing is saved
 
-pub gives_why : {A : Type 0} (why : Unsaved) (wanted : Result A Unsaved) → (why ≡ NoMemory → ⊥) → wanted ≡ Err why → Gives (Err why) wanted
-gives_why Lent wanted no is = sym is
-gives_why Half wanted no is = sym is
-gives_why (Lost t) wanted no is = sym is
-gives_why (Fault side) wanted no is = sym is
-gives_why NoMemory wanted no is = tt
+pub gives_why : {A : Type 0} (why : Unsaved) (wanted : Result A Unsaved) → wanted ≡ Err why → Gives (Err why) wanted
+gives_why Lent wanted is = sym is
+gives_why Half wanted is = sym is
+gives_why (Lost t) wanted is = sym is
+gives_why (Fault side) wanted is = sym is
+gives_why NoMemory wanted is = tt
 
 found_lost : (t q : ℕ) (p : Peeked) → image_found t p ≡ Err (Lost q) → (p ≡ peeks.Lost) × (t ≡ q)
 found_lost t q (peeks.Track image) e = absurd (cc)
@@ -314,6 +323,15 @@ by_half run d t side m true half there marks found = elim (fault_is run d t m th
 ]
 by_half run d t side m false half there marks found = inl (fault_has_failed run d t m side there marks half found)
 
+by_some : (run : runs.Subsystem) (d : ℕ) (m : Mounted) (why : Unsaved) (b c : Bool) → is_some m.device.store.lent ≡ b →
+    is_writing m.device.store.half ≡ c → mounted_in run.mounted d ≡ Some m → (if b then Some Lent else if c then Some Half else None) ≡ Some why →
+    HasReason run d why
+by_some run d m why true c lent half there is =
+    subst (HasReason run d) (some_same is) (record { mounted = m; there = there; is_so = lent })
+by_some run d m why false true lent half there is =
+    subst (HasReason run d) (some_same is) (record { mounted = m; there = there; is_so = half })
+by_some run d m why false false lent half there is = absurd (cc)
+
 not_none : (d : ℕ) (s : runs.Subsystem) (v : ImageVolume) → saving_at s d None ≡ Ok v → ⊥
 not_none d s v e = cc
 
@@ -341,15 +359,6 @@ module _ {V : Type 0} {G : Ghosts V} where
         }),
       )
   has_reason run d t count sub v NoMemory l whole lt found = tt
-
-  by_some : (run : runs.Subsystem) (d : ℕ) (m : Mounted) (why : Unsaved) (b c : Bool) → is_some m.device.store.lent ≡ b →
-      is_writing m.device.store.half ≡ c → mounted_in run.mounted d ≡ Some m → (if b then Some Lent else if c then Some Half else None) ≡ Some why →
-      HasReason run d why
-  by_some run d m why true c lent half there is =
-      subst (HasReason run d) (some_same is) (record { mounted = m; there = there; is_so = lent })
-  by_some run d m why false true lent half there is =
-      subst (HasReason run d) (some_same is) (record { mounted = m; there = there; is_so = half })
-  by_some run d m why false false lent half there is = absurd (cc)
 
   pub reason_first : (sub : Subsystem V G) (run : runs.Subsystem) (d : ℕ) (x : Device V G) (why : Unsaved) → StandsAs sub run →
       device_at sub.devices.items d ≡ Some x → refusal (device_of x).store ≡ Some why → HasReason run d why

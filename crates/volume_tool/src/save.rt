@@ -11,7 +11,9 @@ ghost use Rattle.volume_tool.specs.Written.{IsWritten};
 use crate::top::VolumeStatus;
 use ckd_outside::{Failed, Piece, ReadError, Sink, Source, read_up_to};
 use ckd_types::{DeviceNo, Side, TrackNo};
-use deck_text::{Deck, DeckFault, DeckWhy, Which, read_deck, write_limit, write_line, write_refused};
+use deck_text::{
+    Deck, DeckFault, DeckWhy, Which, read_deck, write_limit, write_line, write_refused,
+};
 use std::alloc::Global;
 use volume_file::{FileVolume, save};
 use volume_save::{Unsaved, saved_behind};
