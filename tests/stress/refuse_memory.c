@@ -1,6 +1,8 @@
 /* Counts the requests for memory of a program that is started with it (LD_PRELOAD), tells their number in the file ASKED,
-   and refuses the one whose number is REFUSED. */
+   and refuses the one whose number is REFUSED. The number is told at the end, also of a program that ends by _exit. */
+#define _GNU_SOURCE
 #include <errno.h>
+#include <fcntl.h>
 #include <stdio.h>
 #include <stdlib.h>
 #include <sys/syscall.h>
@@ -9,8 +11,7 @@ extern void *__libc_malloc(size_t), *__libc_calloc(size_t, size_t), *__libc_real
 static long refused = -2, asked = 0;
 static int refuse(void) {
     if (refused == -2) { const char *at = getenv("REFUSED"); refused = at ? atol(at) : -1; }
-    asked++;
-    return asked == refused;
+    return __atomic_add_fetch(&asked, 1, __ATOMIC_SEQ_CST) == refused;
 }
 void *malloc(size_t n) { if (refuse()) { errno = ENOMEM; return 0; } return __libc_malloc(n); }
 void *calloc(size_t n, size_t m) { if (refuse()) { errno = ENOMEM; return 0; } return __libc_calloc(n, m); }
@@ -19,8 +20,10 @@ void *aligned_alloc(size_t a, size_t n) { if (refuse()) { errno = ENOMEM; return
 int posix_memalign(void **p, size_t a, size_t n) { if (refuse()) return ENOMEM; *p = __libc_memalign(a, n); return *p ? 0 : ENOMEM; }
 __attribute__((destructor)) static void tell(void) {
     const char *path = getenv("ASKED");
-    FILE *file = path ? fopen(path, "w") : 0;
-    if (file) { fprintf(file, "%ld\n", asked); fclose(file); }
+    int file = path ? open(path, O_WRONLY | O_CREAT | O_TRUNC, 0666) : -1;
+    if (file >= 0) { dprintf(file, "%ld\n", asked); close(file); }
 }
-/* A program may end without its destructors. */
-void _exit(int status) { tell(); for (;;) syscall(SYS_exit_group, status); }
+void _exit(int status) {
+    tell();
+    for (;;) syscall(SYS_exit_group, status);
+}
