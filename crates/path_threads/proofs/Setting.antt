@@ -14,7 +14,7 @@ use Rattle.device_core.specs.declared.device.Device.{Device}
 use Rattle.path_turns.specs.declared.promise.Promise.{Promise}
 use Rattle.path_turns.specs.Keeping.{IsReady, IsWithin, KeepsPledge, KeepsPromise, KeepsWithin, pledge_with}
 use Rattle.path_turns.proofs.Ready.{ready_keeps}
-use Rattle.path_threads.specs.Places.{Allows, HaveCome, HaveLeft, HavePlaces, IsPlaceOf, IsPromised, IsPromisedFor, KeepPromises, KeepsOrdered}
+use Rattle.path_threads.specs.Places.{Allows, HaveCome, HaveLeft, HavePlaces, IsPlaceOf, IsPromised, IsPromisedFor, KeepPromises}
 use Rattle.path_threads.specs.declared.places.Place.{Place}
 use Rattle.path_threads.specs.declared.orders.Order.{Order}
 use Rattle.path_threads.specs.Allowed.{allowed_of}
@@ -70,7 +70,7 @@ module _ {V : Type 0} {G : Ghosts V} {N : holders.Ghosts (Device V G) (Promise V
     number = ap (λ (x : Device V G). x.store.number) p.made ∙ sym number;
   }
 
-  pub promised_for : (es : List (Order V)) (most : Losses) (d : Device V G) (s : SeatOf N) → most ≡ allowed_of es d → IsPromised most d s → IsPromisedFor es d s
+  pub promised_for : {M : Type 0} (es : List (Order M)) (most : Losses) (d : Device V G) (s : SeatOf N) → most ≡ allowed_of es d → IsPromised most d s → IsPromisedFor es d s
   promised_for es most d s is p = subst (λ (m : Losses). IsPromised m d s) is p
 
   pub none_allowed : (places : List Place) (seats : List (SeatOf N)) → places ≡ [] → seats ≡ [] → AllZip Allows places seats
@@ -78,16 +78,16 @@ module _ {V : Type 0} {G : Ghosts V} {N : holders.Ghosts (Device V G) (Promise V
   none_allowed [] (s ∷ seats) no_places no_seats = absurd (cc)
   none_allowed (p ∷ places) seats no_places no_seats = absurd (cc)
 
-  pub none_come : (es : List (Order V)) (ds : List (Device V G)) (seats : List (SeatOf N)) → seats ≡ [] → All IsReady ds → HaveCome es ds seats ds
+  pub none_come : {M : Type 0} (es : List (Order M)) (ds : List (Device V G)) (seats : List (SeatOf N)) → seats ≡ [] → All IsReady ds → HaveCome es ds seats ds
   none_come es ds seats none ready =
       record { come = []; all = refl; promised = subst (λ (s : List (SeatOf N)). AllZip (IsPromisedFor es) [] s) (sym none) tt; ready = ready }
 
-  pub first_ready : (es : List (Order V)) (ds : List (Device V G)) (seats : List (SeatOf N)) (rest : List (Device V G)) (d : Device V G) → HaveCome es ds seats rest → 0 < length rest →
+  pub first_ready : {M : Type 0} (es : List (Order M)) (ds : List (Device V G)) (seats : List (SeatOf N)) (rest : List (Device V G)) (d : Device V G) → HaveCome es ds seats rest → 0 < length rest →
       d ≡ slice_index_or rest 0 d → IsReady d
   first_ready es ds seats [] d come some is = absurd (omega (arith, some))
   first_ready es ds seats (x ∷ rest) d come some is = subst IsReady (sym is) (All-head IsReady x rest come.ready)
 
-  pub one_come : (es : List (Order V)) (ds : List (Device V G)) (seats new : List (SeatOf N)) (rest less : List (Device V G)) (d : Device V G) (s : SeatOf N) → HaveCome es ds seats rest →
+  pub one_come : {M : Type 0} (es : List (Order M)) (ds : List (Device V G)) (seats new : List (SeatOf N)) (rest less : List (Device V G)) (d : Device V G) (s : SeatOf N) → HaveCome es ds seats rest →
       0 < length rest → d ≡ slice_index_or rest 0 d → less ≡ remove rest 0 → IsPromisedFor es d s → new ≡ seats ++ s ∷ [] → HaveCome es ds new less
   one_come es ds seats new [] less d s come some is rest_is promised new_is = absurd (omega (arith, some))
   one_come es ds seats new (x ∷ rest) less d s come some is rest_is promised new_is =
@@ -99,42 +99,42 @@ module _ {V : Type 0} {G : Ghosts V} {N : holders.Ghosts (Device V G) (Promise V
         ready = subst (λ (r : List (Device V G)). All IsReady r) (sym rest_is) (All-tail IsReady x rest come.ready);
       }
 
-  pub all_come : (es : List (Order V)) (ds : List (Device V G)) (seats : List (SeatOf N)) (rest : List (Device V G)) → HaveCome es ds seats rest → length rest ≡ 0 → AllZip (IsPromisedFor es) ds seats
+  pub all_come : {M : Type 0} (es : List (Order M)) (ds : List (Device V G)) (seats : List (SeatOf N)) (rest : List (Device V G)) → HaveCome es ds seats rest → length rest ≡ 0 → AllZip (IsPromisedFor es) ds seats
   all_come es ds seats [] come none =
       subst (λ (d : List (Device V G)). AllZip (IsPromisedFor es) d seats) (sym (come.all ∙ append-nil come.come)) come.promised
   all_come es ds seats (x ∷ rest) come none = absurd (omega (arith, none))
 
-  nothing_left : (es : List (Order V)) (left : List (SeatOf N)) (behind : List (Device V G)) → left ≡ [] → behind ≡ [] → KeepPromises es left behind
-  nothing_left es left behind no_seats none [] h =
-      subst (λ (b : List (Device V G)). AllZip (KeepsOrdered es) [] b) (sym none) tt
-  nothing_left es [] behind no_seats none (d ∷ ds) h = absurd h
-  nothing_left es (s ∷ left) behind no_seats none (d ∷ ds) h = absurd (cc)
+  nothing_left : (most : Device V G → Losses) (left : List (SeatOf N)) (behind : List (Device V G)) → left ≡ [] → behind ≡ [] → KeepPromises most left behind
+  nothing_left most left behind no_seats none [] h =
+      subst (λ (b : List (Device V G)). AllZip (λ d e. KeepsWithin (most d) d e) [] b) (sym none) tt
+  nothing_left most [] behind no_seats none (d ∷ ds) h = absurd h
+  nothing_left most (s ∷ left) behind no_seats none (d ∷ ds) h = absurd (cc)
 
-  pub none_left : (es : List (Order V)) (seats : List (SeatOf N)) (behind : List (Device V G)) → behind ≡ [] → HaveLeft es seats seats behind
-  none_left es seats behind none = record { left = []; all = sym (append-nil seats); kept = nothing_left es [] behind refl none }
+  pub none_left : (most : Device V G → Losses) (seats : List (SeatOf N)) (behind : List (Device V G)) → behind ≡ [] → HaveLeft most seats seats behind
+  none_left most seats behind none = record { left = []; all = sym (append-nil seats); kept = nothing_left most [] behind refl none }
 
   -- what was promised is kept
-  promised_kept : (es : List (Order V)) (d e : Device V G) (s : SeatOf N) → IsPromisedFor es d s → KeptBy KeepsPromise s.seat.me.0.pledge e → KeepsOrdered es d e
-  promised_kept es d e s p kept =
+  promised_kept : (most : Device V G → Losses) (d e : Device V G) (s : SeatOf N) → IsPromised (most d) d s → KeptBy KeepsPromise s.seat.me.0.pledge e → KeepsWithin (most d) d e
+  promised_kept most d e s p kept =
       let by : KeepsPromise p.promise e = subst (λ (q : _). KeptBy KeepsPromise q e) p.pledge kept in
       subst (λ (l : Losses). KeepsWithin l d e) p.allows
       (subst (λ (x : Device V G). KeepsPledge (pledge_with x p.promise.most) e) p.made by)
 
-  pub one_left : (es : List (Order V)) (seats rest less : List (SeatOf N)) (s : SeatOf N) (behind new : List (Device V G)) (e : Device V G) → HaveLeft es seats rest behind →
-      rest ≡ less ++ s ∷ [] → KeptBy KeepsPromise s.seat.me.0.pledge e → new ≡ insert behind 0 e → HaveLeft es seats less new
-  one_left es seats rest less s behind new e left is kept new_is = record {
+  pub one_left : (most : Device V G → Losses) (seats rest less : List (SeatOf N)) (s : SeatOf N) (behind new : List (Device V G)) (e : Device V G) → HaveLeft most seats rest behind →
+      rest ≡ less ++ s ∷ [] → KeptBy KeepsPromise s.seat.me.0.pledge e → new ≡ insert behind 0 e → HaveLeft most seats less new
+  one_left most seats rest less s behind new e left is kept new_is = record {
     left = s ∷ left.left;
     all = left.all ∙ ap (λ (r : List (SeatOf N)). r ++ left.left) is ∙ append_assoc less (s ∷ []) left.left;
-    kept = subst (λ (b : List (Device V G)). KeepPromises es (s ∷ left.left) b) (sym (new_is ∙ in_front behind)) more;
+    kept = subst (λ (b : List (Device V G)). KeepPromises most (s ∷ left.left) b) (sym (new_is ∙ in_front behind)) more;
   } where
     in_front : (es : List (Device V G)) → insert es 0 e ≡ e ∷ es
     in_front [] = refl
     in_front (x ∷ es) = refl
 
-    more : KeepPromises es (s ∷ left.left) (e ∷ behind)
+    more : KeepPromises most (s ∷ left.left) (e ∷ behind)
     more [] h = absurd h
-    more (d ∷ ds) h = (promised_kept es d e s h.0 kept, left.kept ds h.1)
+    more (d ∷ ds) h = (promised_kept most d e s h.0 kept, left.kept ds h.1)
 
-  pub all_left : (es : List (Order V)) (seats rest : List (SeatOf N)) (behind : List (Device V G)) → HaveLeft es seats rest behind → rest ≡ [] → KeepPromises es seats behind
-  all_left es seats rest behind left none =
-      subst (λ (q : List (SeatOf N)). KeepPromises es q behind) (sym (left.all ∙ ap (λ (r : List (SeatOf N)). r ++ left.left) none)) left.kept
+  pub all_left : (most : Device V G → Losses) (seats rest : List (SeatOf N)) (behind : List (Device V G)) → HaveLeft most seats rest behind → rest ≡ [] → KeepPromises most seats behind
+  all_left most seats rest behind left none =
+      subst (λ (q : List (SeatOf N)). KeepPromises most q behind) (sym (left.all ∙ ap (λ (r : List (SeatOf N)). r ++ left.left) none)) left.kept

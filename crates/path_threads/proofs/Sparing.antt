@@ -24,6 +24,13 @@ use Rattle.path_threads.specs.declared.places.Place.{Place}
 use Rattle.path_threads.proofs.Setting.{SeatOf}
 use Rattle.path_threads.specs.Places.{Allows, IsPromised, IsPromisedFor, IsSpareAmong, IsSpareAt, SuitsAt, SuitsSeat, seat_at}
 
+module _ {V : Type 0} {G : Ghosts V} where
+  -- where each volume that may be made may come, so may this one
+  each_spare : {M : Type 0} (makes : M → V → Type 0) (maker : M) (o : Option (Device V G)) → IfSome o (λ d. (volume : V) → makes maker volume → IsSpare d volume) →
+      (volume : V) → makes maker volume → IfSome o (λ d. IsSpare d volume)
+  each_spare makes maker (Some d) h volume made = h volume made
+  each_spare makes maker None h volume made = tt
+
 module _ {V : Type 0} {G : Ghosts V} {N : holders.Ghosts (Device V G) (Promise V G)} where
   -- at the device that was promised
   same_number : (most : Losses) (d : Device V G) (place : Place) (s : SeatOf N) → IsPromised most d s → Allows place s → d.store.number ≡ place.number
@@ -54,18 +61,21 @@ module _ {V : Type 0} {G : Ghosts V} {N : holders.Ghosts (Device V G) (Promise V
         here true rest h = suits_promised (most d) d s side volume p.0 h
         here false rest h = rest h
 
-  spare_for : (most : Device V G → Losses) (ds : List (Device V G)) (places : List Place) (seats : List (SeatOf N)) → AllZip (λ d s. IsPromised (most d) d s) ds seats →
-      AllZip Allows places seats → (o : Order V) → IsSpareAmong ds o → IsSpareAt places seats o
-  spare_for most ds places seats p a (Event e) h = tt
-  spare_for most ds places seats p a (Replace n side volume) h = spare_at most n side volume ds places seats p a h
+  spare_for : {M : Type 0} (makes : M → V → Type 0) (most : Device V G → Losses) (ds : List (Device V G)) (places : List Place) (seats : List (SeatOf N)) →
+      AllZip (λ d s. IsPromised (most d) d s) ds seats → AllZip Allows places seats → (o : Order M) → IsSpareAmong makes ds o → IsSpareAt makes places seats o
+  spare_for makes most ds places seats p a (Event e) h = tt
+  spare_for makes most ds places seats p a (Replace n side maker) h =
+      λ volume made. spare_at most n side volume ds places seats p a (each_spare makes maker (device_at ds n) h volume made)
 
-  pub all_spare : (es : List (Order V)) (ds : List (Device V G)) (places : List Place) (seats : List (SeatOf N)) (os : List (Order V)) →
-      AllZip (IsPromisedFor es) ds seats → AllZip Allows places seats → All (IsSpareAmong ds) os → All (IsSpareAt places seats) os
-  all_spare es ds places seats os p a h = All-weaker (IsSpareAmong ds) (IsSpareAt places seats) (spare_for _ ds places seats p a) os h
+  pub all_spare : {M : Type 0} (makes : M → V → Type 0) (es : List (Order M)) (ds : List (Device V G)) (places : List Place) (seats : List (SeatOf N))
+      (os : List (Order M)) → AllZip (IsPromisedFor es) ds seats → AllZip Allows places seats → All (IsSpareAmong makes ds) os →
+      All (IsSpareAt makes places seats) os
+  all_spare makes es ds places seats os p a h =
+      All-weaker (IsSpareAmong makes ds) (IsSpareAt makes places seats) (spare_for makes _ ds places seats p a) os h
 
-  pub promised_same : (es os : List (Order V)) (ds : List (Device V G)) (seats : List (SeatOf N)) → es ≡ os → AllZip (IsPromisedFor es) ds seats →
+  pub promised_same : {M : Type 0} (es os : List (Order M)) (ds : List (Device V G)) (seats : List (SeatOf N)) → es ≡ os → AllZip (IsPromisedFor es) ds seats →
       AllZip (IsPromisedFor os) ds seats
-  promised_same es os ds seats same p = subst (λ (l : List (Order V)). AllZip (IsPromisedFor l) ds seats) same p
+  promised_same {M} es os ds seats same p = subst (λ (l : List (Order M)). AllZip (IsPromisedFor l) ds seats) same p
 
   -- and it stays so while the seats rest
 
@@ -86,9 +96,10 @@ module _ {V : Type 0} {G : Ghosts V} {N : holders.Ghosts (Device V G) (Promise V
     here true rest h = seat_rests what s z r.0 h
     here false rest h = rest h
 
-  pub spare_rests : (places : List Place) (ss zs : List (SeatOf N)) (o : Order V) → AllZip Rests ss zs → IsSpareAt places ss o → IsSpareAt places zs o
-  spare_rests places ss zs (Event e) r h = tt
-  spare_rests places ss zs (Replace n side volume) r h = suits_rests places ss zs n (orders.Replace side volume) r h
+  pub spare_rests : {M : Type 0} (makes : M → V → Type 0) (places : List Place) (ss zs : List (SeatOf N)) (o : Order M) → AllZip Rests ss zs →
+      IsSpareAt makes places ss o → IsSpareAt makes places zs o
+  spare_rests makes places ss zs (Event e) r h = tt
+  spare_rests makes places ss zs (Replace n side maker) r h = λ volume made. suits_rests places ss zs n (orders.Replace side volume) r (h volume made)
 
   -- an event is no order that brings a volume
   none_needed : (o : Option (SeatOf N)) → IfSome o (λ s. Unit {0})

@@ -22,16 +22,16 @@ abbrev pub with_loss : Losses → Option Loss → Losses
 with_loss l (Some loss) = one_more l loss
 with_loss l None = l
 
-module _ {V : Type 0} where
+module _ {M : Type 0} where
   -- and an order
-  abbrev pub loss_of : ℕ → Order V → Option Loss
+  abbrev pub loss_of : ℕ → Order M → Option Loss
   loss_of n (Event e) = event_loss n e
-  loss_of n (Replace d side volume) = None
+  loss_of n (Replace d side maker) = None
 
   -- one loss more for each order that is one of this device
-  abbrev pub allowed : Losses → ℕ → List (Order V) → Losses
+  abbrev pub allowed : Losses → ℕ → List (Order M) → Losses
   allowed l n [] = l
   allowed l n (o ∷ os) = allowed (with_loss l (loss_of n o)) n os
 
-  abbrev pub allowed_of : {G : Ghosts V} → List (Order V) → Device V G → Losses
+  abbrev pub allowed_of : {V : Type 0} {G : Ghosts V} → List (Order M) → Device V G → Losses
   allowed_of os d = allowed d.store.counts.losses d.store.number os

@@ -5,3 +5,4 @@ pub mod Walks
 pub mod Asked
 pub mod Rounds
 pub mod Looks
+pub mod Making

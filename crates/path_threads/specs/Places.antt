@@ -55,13 +55,14 @@ module _ {V : Type 0} {G : Ghosts V} where
   MayHave order place d = IfSome (loss_by order) (λ (loss : Loss). MayLose loss place.most d)
 
   -- the device behind the orders keeps what was pledged before, with the losses that they allow
-  abbrev pub KeepsOrdered : List (Order V) → Device V G → Device V G → Type 0
+  abbrev pub KeepsOrdered : {M : Type 0} → List (Order M) → Device V G → Device V G → Type 0
   KeepsOrdered es d e = KeepsWithin (allowed_of es d) d e
 
-  -- the volume of an order may come to the device that it names, where there is such a device
-  abbrev pub IsSpareAmong : List (Device V G) → Order V → Type 0
-  IsSpareAmong devices (Event e) = Unit {0}
-  IsSpareAmong devices (Replace n side volume) = IfSome (device_at devices n) (λ (d : Device V G). IsSpare d volume)
+  -- each volume that may be made for an order may come to the device that it names, where there is such a device
+  abbrev pub IsSpareAmong : {M : Type 0} → (M → V → Type 0) → List (Device V G) → Order M → Type 0
+  IsSpareAmong makes devices (Event e) = Unit {0}
+  IsSpareAmong makes devices (Replace n side maker) =
+      IfSome (device_at devices n) (λ (d : Device V G). (volume : V) → makes maker volume → IsSpare d volume)
 
 module _ {V : Type 0} {G : Ghosts V} {N : holders.Ghosts (Device V G) (Promise V G)} where
   -- the seat knows that so many losses may come to the device of this number
@@ -86,9 +87,9 @@ module _ {V : Type 0} {G : Ghosts V} {N : holders.Ghosts (Device V G) (Promise V
   abbrev pub SuitsAt : List Place → List (TurnSeat (Device V G) (Promise V G) N) → ℕ → DeviceOrder V → Type 0
   SuitsAt places seats n order = IfSome (seat_at places seats n) (SuitsSeat order)
 
-  abbrev pub IsSpareAt : List Place → List (TurnSeat (Device V G) (Promise V G) N) → Order V → Type 0
-  IsSpareAt places seats (Event e) = Unit {0}
-  IsSpareAt places seats (Replace n side volume) = SuitsAt places seats n (orders.Replace side volume)
+  abbrev pub IsSpareAt : {M : Type 0} → (M → V → Type 0) → List Place → List (TurnSeat (Device V G) (Promise V G) N) → Order M → Type 0
+  IsSpareAt makes places seats (Event e) = Unit {0}
+  IsSpareAt makes places seats (Replace n side maker) = (volume : V) → makes maker volume → SuitsAt places seats n (orders.Replace side volume)
 
   -- the seat knows what was promised: the device as it was, and so many losses
   pub record IsPromised (most : Losses) (d : Device V G) (s : TurnSeat (Device V G) (Promise V G) N) : Type 0 where
@@ -97,23 +98,24 @@ module _ {V : Type 0} {G : Ghosts V} {N : holders.Ghosts (Device V G) (Promise V
     pub made : promise.made.value ≡ d
     pub allows : promise.most ≡ most
 
-  abbrev pub IsPromisedFor : List (Order V) → Device V G → TurnSeat (Device V G) (Promise V G) N → Type 0
+  abbrev pub IsPromisedFor : {M : Type 0} → List (Order M) → Device V G → TurnSeat (Device V G) (Promise V G) N → Type 0
   IsPromisedFor es d s = IsPromised (allowed_of es d) d s
 
   -- the first of these devices stand in turns with these seats, and the rest are ready for theirs
-  pub record HaveCome (es : List (Order V)) (devices : List (Device V G)) (seats : List (TurnSeat (Device V G) (Promise V G) N)) (rest : List (Device V G)) :
+  pub record HaveCome {M : Type 0} (es : List (Order M)) (devices : List (Device V G)) (seats : List (TurnSeat (Device V G) (Promise V G) N)) (rest : List (Device V G)) :
       Type 0 where
     pub come : List (Device V G)
     pub all : devices ≡ come ++ rest
     pub promised : AllZip (IsPromisedFor es) come seats
     pub ready : All IsReady rest
 
-  -- devices that left their turns keep what was promised of them
-  abbrev pub KeepPromises : List (Order V) → List (TurnSeat (Device V G) (Promise V G) N) → List (Device V G) → Type 0
-  KeepPromises es seats behind = (before : List (Device V G)) → AllZip (IsPromisedFor es) before seats → AllZip (KeepsOrdered es) before behind
+  -- devices that left their turns keep what was promised of them, where each may have so many losses
+  abbrev pub KeepPromises : (Device V G → Losses) → List (TurnSeat (Device V G) (Promise V G) N) → List (Device V G) → Type 0
+  KeepPromises most seats behind =
+      (before : List (Device V G)) → AllZip (λ d s. IsPromised (most d) d s) before seats → AllZip (λ d e. KeepsWithin (most d) d e) before behind
 
   -- the last of these seats have no turn any more, and these are their devices
-  pub record HaveLeft (es : List (Order V)) (seats rest : List (TurnSeat (Device V G) (Promise V G) N)) (behind : List (Device V G)) : Type 0 where
+  pub record HaveLeft (most : Device V G → Losses) (seats rest : List (TurnSeat (Device V G) (Promise V G) N)) (behind : List (Device V G)) : Type 0 where
     pub left : List (TurnSeat (Device V G) (Promise V G) N)
     pub all : seats ≡ rest ++ left
-    pub kept : KeepPromises es left behind
+    pub kept : KeepPromises most left behind

@@ -26,7 +26,7 @@ fn event_loss(number: DeviceNo, event: Event) -> Option<Loss>
     }
 }
 
-fn loss_of<V>(number: DeviceNo, order: &Order<V>) -> Option<Loss>
+fn loss_of<M>(number: DeviceNo, order: &Order<M>) -> Option<Loss>
     ensures { result ≡ loss_of number order.now }
 {
     match order {
@@ -46,7 +46,7 @@ fn with_loss(losses: Losses, loss: Option<Loss>) -> Losses
 }
 
 /// How many losses the device of this number may have while these orders are done, where it had so many.
-pub(crate) fn allowed<V>(losses: Losses, number: DeviceNo, orders: &[Order<V>]) -> Losses
+pub(crate) fn allowed<M>(losses: Losses, number: DeviceNo, orders: &[Order<M>]) -> Losses
     ensures is { result ≡ allowed losses number orders.now }
     ensures more { IsWithin losses result }
 {

@@ -8,7 +8,7 @@ ghost use Rattle.path_threads.specs.Asked.{device_order, pool_order};
 ghost use Rattle.path_threads.specs.Places.{Allows, IsSpareAt, MayHave, SuitsAt, SuitsSeat};
 ghost use Rattle.path_orders.specs.Ordered.{HasSize, HaveLosses, IsOrdered, Suits};
 
-use crate::orders::Order;
+use crate::orders::{MakeVolume, Order};
 use crate::places::Place;
 use crate::shared::{PoolOrder, Shared, SharedPool};
 use ckd_types::{DeviceNo, NoMemory};
@@ -18,6 +18,7 @@ use device_outside::{Port, Volume};
 use device_turn::Enter;
 use path_orders::{DeviceOrder, lose, may_lose, order};
 use path_turns::{DeviceSeat, DeviceTurn};
+use std::alloc::Global;
 use std::sync::Wait;
 use std::thread::yield_now;
 use subsystem_defs::Event;
@@ -296,23 +297,28 @@ fn pool_order(event: &Event) -> Option<PoolOrder>
     }
 }
 
-fn obey<R: Wait, V: Volume, P: Port>(
+/// An order. The volume that it brings is made here: none is in memory before its order is done.
+fn obey<R: Wait, V: Volume, M: MakeVolume<V>, P: Port>(
     rt: &R,
+    alloc: Global,
     shared: &Shared,
     turns: &[DeviceTurn<V>],
     seats: &mut [DeviceSeat<V>],
     places: &[Place],
-    order: Order<V>,
+    order: Order<M>,
     port: &mut P,
 ) -> Result<(), NoMemory>
     requires home { AllZip IsHome turns.now seats.old }
     requires allows { AllZip Allows places.now seats.old }
-    requires spare { IsSpareAt places.now seats.old order }
+    requires spare { IsSpareAt M.makes places.now seats.old order }
     ensures { OnOk result (AllZip Rests seats.old seats.new) }
 {
     match order {
         Order::Event(event) => order_event(rt, shared, turns, seats, places, &event, port),
-        Order::Replace(d, side, volume) => {
+        Order::Replace(d, side, maker) => {
+            let Ok(volume) = maker.make(alloc) else {
+                return shared.stop();
+            };
             let what = DeviceOrder::Replace(side, volume);
             order_at(rt, shared, turns, seats, places, d, what, port)
         }
@@ -320,22 +326,25 @@ fn obey<R: Wait, V: Volume, P: Port>(
 }
 
 /// The operator's worker: each order once, in their order.
-pub(crate) fn operate<R: Wait, V: Volume>(
+pub(crate) fn operate<R: Wait, V: Volume, M: MakeVolume<V>>(
     rt: &R,
+    alloc: Global,
     shared: &Shared,
     turns: &[DeviceTurn<V>],
     mut seats: Vec<DeviceSeat<V>>,
     places: &[Place],
-    orders: Vec<Order<V>>,
+    orders: Vec<Order<M>>,
 ) -> Result<Vec<DeviceSeat<V>>, NoMemory>
     requires home { AllZip IsHome turns.now seats.items }
     requires allows { AllZip Allows places.now seats.items }
-    requires spare { All (IsSpareAt places.now seats.items) orders.items }
+    requires spare { All (IsSpareAt M.makes places.now seats.items) orders.items }
     ensures { IfOk result (λ v. AllZip Rests seats.items v.items) }
 {
     let mut port = SharedPool::new(rt, shared);
     for order in orders {
-        obey(rt, shared, turns, &mut seats, places, order, &mut port)?;
+        obey(
+            rt, alloc, shared, turns, &mut seats, places, order, &mut port,
+        )?;
     }
     Ok(seats)
 }

@@ -1,7 +1,6 @@
 ghost use Rattle.std.specs.Prelude.{◌≡◌, All, IfOk, List};
 ghost use Rattle.std.specs.List.{AllZip};
 ghost use Rattle.path_turns.specs.Keeping.{IsReady, IsWithin};
-ghost use Rattle.path_threads.specs.declared.orders.Order.{Order};
 ghost use Rattle.path_threads.specs.Allowed.{allowed_of};
 ghost use Rattle.path_threads.specs.Places.{Allows, IsPlaceOf, IsPromised, IsPromisedFor, KeepPromises, waiting_of, waits_for};
 ghost use Rattle.turn_seats.specs.Seating.{AreSet, IsSet};
@@ -39,7 +38,7 @@ type DeviceSetting<V> = Setting<Device<V>, Promise<V>>;
 type DeviceTable<V> = Table<Device<V>, Promise<V>>;
 
 /// How many losses a device may have while these orders are done.
-fn most_of<V: Volume>(device: &Device<V>, orders: &[Order<V>]) -> Losses
+fn most_of<V: Volume, M>(device: &Device<V>, orders: &[Order<M>]) -> Losses
     ensures is { result ≡ allowed_of orders.now device.now }
     ensures more { IsWithin device.now.store.counts.losses result }
 {
@@ -77,10 +76,10 @@ fn set_one<V: Volume>(
 }
 
 /// Each device stands in a turn.
-pub(crate) fn set_all<V: Volume>(
+pub(crate) fn set_all<V: Volume, M>(
     alloc: Global,
     mut devices: Vec<Device<V>>,
-    orders: &[Order<V>],
+    orders: &[Order<M>],
 ) -> Result<(DeviceTable<V>, Vec<Place>), NoMemory>
     requires { All IsReady devices.items }
     ensures set { IfOk result (λ r. AreSet r.0) }
@@ -108,7 +107,7 @@ pub(crate) fn clear_all<V: Volume>(
     mut table: DeviceTable<V>,
 ) -> Result<Vec<Device<V>>, NoMemory>
     requires { AreSet table }
-    ensures { (os : List (Order V)) → IfOk result (λ v. KeepPromises os table.operator.items v.items) }
+    ensures { (most : _) → IfOk result (λ v. KeepPromises most table.operator.items v.items) }
 {
     let mut devices = Vec::new(alloc);
     for _ in 0..table.turns.len() {

@@ -6,7 +6,7 @@ ghost use Rattle.path_threads.specs.Places.{Allows, IsSpareAt, IsSpareAmong, Kee
 ghost use Rattle.path_threads.specs.Walks.{HaveWalked};
 
 use crate::operator::operate;
-use crate::orders::Order;
+use crate::orders::{MakeVolume, Order};
 use crate::places::{Place, clear_all, set_all};
 use crate::rows::{Begun, Resting, Walked, Walks};
 use crate::shared::Shared;
@@ -139,8 +139,16 @@ fn begin_behind<'s, E, R: Wait + Sync, V: Volume + Send + 's>(
 }
 
 /// All workers run until each is done: the operator's here, each other one in a thread of its own.
-fn all_walk<'s, E, R: Threads + Wait + Sync, V: Volume + Send + 's, G: Gate + Sync>(
+fn all_walk<
+    's,
+    E,
+    R: Threads + Wait + Sync,
+    V: Volume + Send + 's,
+    M: MakeVolume<V>,
+    G: Gate + Sync,
+>(
     rt: &'s R,
+    alloc: Global,
     threads: &Scope<'s, E>,
     shared: &'s Shared,
     turns: &'s Vec<DeviceTurn<V>>,
@@ -148,11 +156,11 @@ fn all_walk<'s, E, R: Threads + Wait + Sync, V: Volume + Send + 's, G: Gate + Sy
     seats: DeviceSeats<V>,
     operator: Row<V>,
     places: &'s [Place],
-    orders: Vec<Order<V>>,
+    orders: Vec<Order<M>>,
 ) -> DeviceWalks<V>
     requires seats { AreSeated turns.now.items seats }
     requires operator { AllZip IsHome turns.now.items operator.items × AllZip Allows places.now operator.items }
-    requires spare { All (IsSpareAt places.now operator.items) orders.items }
+    requires spare { All (IsSpareAt M.makes places.now operator.items) orders.items }
     ensures walked { HaveWalked turns.now.items result }
     ensures operator { IfOk result.operator (λ v. AllZip Rests operator.items v.items) }
 {
@@ -172,7 +180,7 @@ fn all_walk<'s, E, R: Threads + Wait + Sync, V: Volume + Send + 's, G: Gate + Sy
     let path = PathNo::of(4);
     let fourth = begin_path(rt, threads, shared, turns, places, path, fourth, gate);
     let background = begin_behind(rt, threads, shared, turns, background);
-    let operator = operate(rt, shared, turns, operator, places, orders);
+    let operator = operate(rt, alloc, shared, turns, operator, places, orders);
     Walks {
         first: gather(rt, turns, 1, first),
         second: gather(rt, turns, 2, second),
@@ -184,19 +192,20 @@ fn all_walk<'s, E, R: Threads + Wait + Sync, V: Volume + Send + 's, G: Gate + Sy
 }
 
 /// The workers in a scope of their threads.
-fn walk_all<R: Threads + Wait + Sync, V: Volume + Send, G: Gate + Sync>(
+fn walk_all<R: Threads + Wait + Sync, V: Volume + Send, M: MakeVolume<V>, G: Gate + Sync>(
     rt: &R,
+    alloc: Global,
     shared: &Shared,
     turns: &Vec<DeviceTurn<V>>,
     gate: &G,
     seats: DeviceSeats<V>,
     operator: Row<V>,
     places: &[Place],
-    orders: Vec<Order<V>>,
+    orders: Vec<Order<M>>,
 ) -> DeviceWalks<V>
     requires seats { AreSeated turns.now.items seats }
     requires operator { AllZip IsHome turns.now.items operator.items × AllZip Allows places.now operator.items }
-    requires spare { All (IsSpareAt places.now operator.items) orders.items }
+    requires spare { All (IsSpareAt M.makes places.now operator.items) orders.items }
     ensures walked { HaveWalked turns.now.items result }
     ensures operator { IfOk result.operator (λ v. AllZip Rests operator.items v.items) }
 {
@@ -205,11 +214,11 @@ fn walk_all<R: Threads + Wait + Sync, V: Volume + Send, G: Gate + Sync>(
         rt,
         move |threads| -> DeviceWalks<V>
             requires { AreSeated turns.now.items seats × AllZip IsHome turns.now.items operator.items × AllZip Allows places.now operator.items ×
-                All (IsSpareAt places.now operator.items) orders.items }
+                All (IsSpareAt M.makes places.now operator.items) orders.items }
             ensures { HaveWalked turns.entry.now.items result × IfOk result.operator (λ v. AllZip Rests operator.items v.items) }
         {
             all_walk(
-                rt, threads, shared, turns, gate, seats, operator, places, orders,
+                rt, alloc, threads, shared, turns, gate, seats, operator, places, orders,
             )
         },
     )
@@ -247,16 +256,16 @@ fn all_seats<V: Volume>(
 /// one does each order of the operator once, in their order, unless it is refused. What is left then, this thread does too. Where no thread can be made
 /// for a worker no worker waits for another: what it would wait for is done at the end, by this thread alone. No program of the devices was started yet.
 /// Where one worker lacks memory all stop, and the devices are dropped.
-pub fn run_paths<R: Threads + Wait + Sync, V: Volume + Send, G: Gate + Sync>(
+pub fn run_paths<R: Threads + Wait + Sync, V: Volume + Send, M: MakeVolume<V>, G: Gate + Sync>(
     rt: &R,
     alloc: Global,
     devices: Vec<Device<V>>,
     pool: Pool,
-    orders: Vec<Order<V>>,
+    orders: Vec<Order<M>>,
     gate: &G,
 ) -> Result<Ran<V>, NoMemory>
     requires ready { All IsReady devices.items }
-    requires spare { All (IsSpareAmong devices.items) orders.items }
+    requires spare { All (IsSpareAmong M.makes devices.items) orders.items }
     ensures kept { IfOk result (λ r. AllZip (KeepsOrdered orders.items) devices.items r.devices.items) }
     ensures finished { IfOk result (λ r. All IsFinished r.devices.items) }
 {
@@ -267,7 +276,9 @@ pub fn run_paths<R: Threads + Wait + Sync, V: Volume + Send, G: Gate + Sync>(
         seats,
     } = table;
     let shared = Shared::new(pool);
-    let walks = walk_all(rt, &shared, &turns, gate, seats, operator, &places, orders);
+    let walks = walk_all(
+        rt, alloc, &shared, &turns, gate, seats, operator, &places, orders,
+    );
     let (seats, operator) = all_seats(&turns, walks)?;
     let mut devices = clear_all(
         alloc,

@@ -46,8 +46,8 @@ IsMoreBy n l more es = IsMore l more (count_by is_cache_loss es) (count_by is_st
 abbrev IsMoreFor : ℕ → Losses → Losses → EventLine → Type 0
 IsMoreFor n l more e = IsMore l more (one_if (is_cache_loss e)) (one_if (is_store_loss e)) (one_if (is_side_loss n e))
 
-module _ {V : Type 0} where
-  one_order : (n : ℕ) (l : Losses) (o : Order V) → IsMoreFor n l (with_loss l (loss_of n o)) (line_of o)
+module _ {M : Type 0} where
+  one_order : (n : ℕ) (l : Losses) (o : Order M) → IsMoreFor n l (with_loss l (loss_of n o)) (line_of o)
   one_order n l (Event (events.Start path d)) = no_loss l
   one_order n l (Event (events.Step d)) = no_loss l
   one_order n l (Event (events.Back d)) = no_loss l
@@ -61,9 +61,9 @@ module _ {V : Type 0} where
   one_order n l (Event (events.Suspend a)) = no_loss l
   one_order n l (Event (events.Resume a)) = no_loss l
   one_order n l (Event events.Power) = no_loss l
-  one_order n l (Replace d side volume) = no_loss l
+  one_order n l (Replace d side maker) = no_loss l
 
-  all_orders : (n : ℕ) (l : Losses) (os : List (Order V)) → IsMoreBy n l (allowed l n os) (map line_of os)
+  all_orders : (n : ℕ) (l : Losses) (os : List (Order M)) → IsMoreBy n l (allowed l n os) (map line_of os)
   all_orders n l [] = no_loss l
   all_orders n l (o ∷ os) =
       let one = one_order n l o in
@@ -100,7 +100,7 @@ wider n l more es fs h x = record {
     further : (x y a b : ℕ) → y ≤ x + a → a ≤ b → y ≤ x + b
     further x y a b le more = omega (arith, le, more)
 
-pub orders_allow : {V : Type 0} (n : ℕ) (l : Losses) (os : List (Order V)) (es : List EventLine) → map line_of os ≡ orders_in es →
+pub orders_allow : {M : Type 0} (n : ℕ) (l : Losses) (os : List (Order M)) (es : List EventLine) → map line_of os ≡ orders_in es →
     IsMore l (allowed l n os) (count_by is_cache_loss es) (count_by is_store_loss es) (count_by (is_side_loss n) es)
 orders_allow n l os es is =
     wider n l (allowed l n os) (orders_in es) es (λ p. fewer p is_order es) (subst (IsMoreBy n l (allowed l n os)) is (all_orders n l os))

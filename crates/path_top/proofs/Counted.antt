@@ -70,8 +70,8 @@ module _ {G : Ghosts Disk} (views : (v : Disk) → G.view v ≡ disk_view v) whe
   mate_allows None n within = record { calls = 0; told = refl; few = omega arith }
   mate_allows (Some v) n within = side_allows (Some v) n (within refl)
 
-  module _ (deck : DeckLines) (line : DeviceLine) (d e : Device Disk G) (u : IsOpened deck line d) (free : (device_of d).store.lent ≡ None)
-      (os : List (Order Disk)) (lines_are : map line_of os ≡ orders_in deck.events) (k : KeepsOrdered os d e) where
+  module _ {M : Type 0} (deck : DeckLines) (line : DeviceLine) (d e : Device Disk G) (u : IsOpened deck line d) (free : (device_of d).store.lent ≡ None)
+      (os : List (Order M)) (lines_are : map line_of os ≡ orders_in deck.events) (k : KeepsOrdered os d e) where
     a_allows : Allows (allowance_of (told_of d).a) (faults_of deck line.number)
     a_allows = side_allows (on_a d.store) (faults_of deck line.number) u.own
 

@@ -91,7 +91,7 @@ module _ {V : Type 0} {G : Ghosts V} (deck : DeckLines) where
       excused = λ free. by_line (λ plans p n. IsExcusedBy plans p n (excuses_of deck line.number) (told_by e)) (excused free);
     }
 
-module _ {G : Ghosts Disk} (views : (v : Disk) → G.view v ≡ disk_view v) (deck : DeckLines) (orders : List (Order Disk))
+module _ {G : Ghosts Disk} {M : Type 0} (views : (v : Disk) → G.view v ≡ disk_view v) (deck : DeckLines) (orders : List (Order M))
     (lines_are : map line_of orders ≡ orders_in deck.events) (few : (n : ℕ) → AreFew (excuses_of deck n)) where
   one_excused : (line : DeviceLine) (d e : Device Disk G) → IsOpened deck line d → KeepsOrdered orders d e → (device_of e).store.lent ≡ None →
       IsExcusedBy (device_of e).plans (empty_state (device_of e).store.geometry (device_of e).store.cylinders) ((device_of e).store.cylinders * 15)

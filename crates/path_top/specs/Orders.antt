@@ -42,6 +42,6 @@ event_line (events.Resume a) = lines.Resume a
 event_line events.Power = lines.Power
 
 -- and for an order
-abbrev pub line_of : {V : Type 0} → Order V → EventLine
+abbrev pub line_of : {M : Type 0} → Order M → EventLine
 line_of (Event e) = event_line e
-line_of (Replace d side volume) = lines.Replace d side
+line_of (Replace d side maker) = lines.Replace d side

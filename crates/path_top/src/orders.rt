@@ -4,15 +4,15 @@ ghost use Rattle.std.specs.Prelude.{◌≡◌, ◌++◌, All, IfOk, IfSome, OnOk
 ghost use Rattle.deck_run.specs.Opening.{are_open_lines, is_open_line};
 ghost use Rattle.device_outside.specs.Lists.{is_in};
 ghost use Rattle.deck_plan.specs.declared.event.EventLine.TheVariants as lines;
-ghost use Rattle.path_orders.specs.Spare.{IsSpare};
+ghost use Rattle.path_threads.specs.Making.{makes_empty};
 ghost use Rattle.path_threads.specs.Places.{IsSpareAmong};
 ghost use Rattle.path_top.specs.Orders.{is_order, line_of, order_line, orders_in};
-ghost use Rattle.subsystem_core.specs.Devices.{device_at, numbers_of};
+ghost use Rattle.subsystem_core.specs.Devices.{numbers_of};
 
 use ckd_types::{DeviceNo, NoMemory, Side};
 use deck_plan::EventLine;
 use device_outside::MemVolume;
-use path_threads::Order;
+use path_threads::{EmptyVolume, Order};
 use std::alloc::Global;
 use subsystem_core::Subsystem;
 use subsystem_defs::Event;
@@ -33,42 +33,24 @@ pub(crate) fn is_order(line: &EventLine) -> bool
     }
 }
 
-/// A volume of empty tracks for a side of the device. None of its calls fails.
-fn new_volume(alloc: Global, sub: &Subsystem<MemVolume>, d: DeviceNo) -> Result<MemVolume, NoMemory>
+/// A new volume for a side of the device, of as many cylinders.
+fn replacement(sub: &Subsystem<MemVolume>, d: DeviceNo, side: Side) -> Order<EmptyVolume>
     requires { is_in d (numbers_of sub.now.devices.items) ≡ true }
-    ensures { IfOk result (λ volume. IfSome (device_at sub.now.devices.items d) (λ device. IsSpare device volume)) }
+    ensures line { line_of result ≡ lines.Replace d side }
+    ensures spare { IsSpareAmong makes_empty sub.now.devices.items result }
 {
     let cylinders = sub.device(d).cylinders();
-    let volume = MemVolume::new(alloc, cylinders, &[], &[])?;
-    Ok(volume)
-}
-
-fn replacement(
-    alloc: Global,
-    sub: &Subsystem<MemVolume>,
-    d: DeviceNo,
-    side: Side,
-) -> Result<Order<MemVolume>, NoMemory>
-    requires { is_in d (numbers_of sub.now.devices.items) ≡ true }
-    ensures line { IfOk result (λ order. line_of order ≡ lines.Replace d side) }
-    ensures spare { IfOk result (λ order. IsSpareAmong sub.now.devices.items order) }
-{
-    let volume = new_volume(alloc, sub, d)?;
-    Ok(Order::Replace(d, side, volume))
+    Order::Replace(d, side, EmptyVolume { cylinders })
 }
 
 /// The order that a line asks for, with a new volume for REPLACE.
-fn order_of(
-    alloc: Global,
-    sub: &Subsystem<MemVolume>,
-    line: &EventLine,
-) -> Result<Option<Order<MemVolume>>, NoMemory>
+fn order_of(sub: &Subsystem<MemVolume>, line: &EventLine) -> Option<Order<EmptyVolume>>
     requires { is_open_line (numbers_of sub.now.devices.items) line.now ≡ true }
-    ensures line { IfOk result (λ order. option_map line_of order ≡ order_line line.now) }
-    ensures spare { IfOk result (λ order. IfSome order (IsSpareAmong sub.now.devices.items)) }
+    ensures line { option_map line_of result ≡ order_line line.now }
+    ensures spare { IfSome result (IsSpareAmong makes_empty sub.now.devices.items) }
 {
     let event = match line {
-        EventLine::Replace(d, side) => return Ok(Some(replacement(alloc, sub, *d, *side)?)),
+        EventLine::Replace(d, side) => return Some(replacement(sub, *d, *side)),
         EventLine::FailCache => Event::FailCache,
         EventLine::FailStore => Event::FailStore,
         EventLine::FailVolume(d, side) => Event::FailVolume(*d, *side),
@@ -76,14 +58,14 @@ fn order_of(
         EventLine::RepairStore => Event::RepairStore,
         EventLine::Suspend(a) => Event::Suspend(*a),
         EventLine::Resume(a) => Event::Resume(*a),
-        _ => return Ok(None),
+        _ => return None,
     };
-    Ok(Some(Order::Event(event)))
+    Some(Order::Event(event))
 }
 
 fn add_order(
-    orders: &mut Vec<Order<MemVolume>>,
-    order: Option<Order<MemVolume>>,
+    orders: &mut Vec<Order<EmptyVolume>>,
+    order: Option<Order<EmptyVolume>>,
 ) -> Result<(), NoMemory>
     ensures { OnOk result (orders.new.items ≡ orders.old.items ++ option_to_list order) }
 {
@@ -99,14 +81,14 @@ pub(crate) fn orders_in(
     alloc: Global,
     sub: &Subsystem<MemVolume>,
     lines: &[EventLine],
-) -> Result<Vec<Order<MemVolume>>, NoMemory>
+) -> Result<Vec<Order<EmptyVolume>>, NoMemory>
     requires { are_open_lines (numbers_of sub.now.devices.items) lines.now ≡ true }
     ensures lines { IfOk result (λ orders. map line_of orders.items ≡ orders_in lines.now) }
-    ensures spare { IfOk result (λ orders. All (IsSpareAmong sub.now.devices.items) orders.items) }
+    ensures spare { IfOk result (λ orders. All (IsSpareAmong makes_empty sub.now.devices.items) orders.items) }
 {
     let mut orders = Vec::new(alloc);
     for line in lines {
-        add_order(&mut orders, order_of(alloc, sub, line)?)?;
+        add_order(&mut orders, order_of(sub, line))?;
     }
     Ok(orders)
 }

@@ -8,21 +8,29 @@ use Rattle.subsystem_core.specs.Devices.{device_at}
 use Rattle.device_core.specs.declared.device.Device.{Device}
 use Rattle.path_orders.specs.Spare.{IsSpare}
 use Rattle.path_orders.proofs.Spares.{new_spare}
+use Rattle.path_threads.specs.declared.orders.EmptyVolume.{EmptyVolume}
 use Rattle.path_threads.specs.declared.orders.Order.{Order}
 use Rattle.path_threads.specs.declared.orders.Order.TheVariants.{Event, Replace}
+use Rattle.path_threads.specs.Making.{makes_empty}
 use Rattle.path_threads.specs.Places.{IsSpareAmong}
 use Rattle.path_trials.specs.Small.{IsNew, IsSmall}
 
 module _ {G : Ghosts Disk} (seen : (v : Disk) → G.view v ≡ disk_view v) where
-  spare_at : (ds : List (Device Disk G)) (n : ℕ) (volume : Disk) → volume ≡ new_disk 1 [] [] → All IsSmall ds → IfSome (device_at ds n) (λ d. IsSpare d volume)
-  spare_at [] n volume is small = tt
-  spare_at (d ∷ ds) n volume is small = here (d.store.number == n) (spare_at ds n volume is (All-tail IsSmall d ds small)) where
-    here : (b : Bool) → IfSome (device_at ds n) (λ d. IsSpare d volume) → IfSome (if b then Some d else device_at ds n) (λ d. IsSpare d volume)
-    here true rest = new_spare d volume (seen volume ∙ ap disk_view is ∙ ap (λ (c : ℕ). disk_view (new_disk c [] [])) (sym (All-head IsSmall d ds small)))
+  -- what is made for an order may come to this device
+  abbrev CanCome : EmptyVolume → Device Disk G → Type 0
+  CanCome empty d = (volume : Disk) → makes_empty empty volume → IsSpare d volume
+
+  spare_at : (ds : List (Device Disk G)) (n : ℕ) (empty : EmptyVolume) → empty.cylinders ≡ 1 → All IsSmall ds → IfSome (device_at ds n) (CanCome empty)
+  spare_at [] n empty is small = tt
+  spare_at (d ∷ ds) n empty is small = here (d.store.number == n) (spare_at ds n empty is (All-tail IsSmall d ds small)) where
+    here : (b : Bool) → IfSome (device_at ds n) (CanCome empty) → IfSome (if b then Some d else device_at ds n) (CanCome empty)
+    here true rest = λ volume made.
+        new_spare d volume (seen volume ∙ ap disk_view made
+        ∙ ap (λ (c : ℕ). disk_view (new_disk c [] [])) (is ∙ sym (All-head IsSmall d ds small)))
     here false rest = rest
 
-  pub all_spare : (ds : List (Device Disk G)) (os : List (Order Disk)) → All IsSmall ds → All IsNew os → All (IsSpareAmong ds) os
-  all_spare ds os small new = All-weaker IsNew (IsSpareAmong ds) one os new where
-    one : (o : Order Disk) → IsNew o → IsSpareAmong ds o
+  pub all_spare : (ds : List (Device Disk G)) (os : List (Order EmptyVolume)) → All IsSmall ds → All IsNew os → All (IsSpareAmong makes_empty ds) os
+  all_spare ds os small new = All-weaker IsNew (IsSpareAmong makes_empty ds) one os new where
+    one : (o : Order EmptyVolume) → IsNew o → IsSpareAmong makes_empty ds o
     one (Event e) is = tt
-    one (Replace n side volume) is = spare_at ds n volume is small
+    one (Replace n side empty) is = spare_at ds n empty is small

@@ -1,8 +1,8 @@
 -- Devices of one cylinder, and orders to them.
-use Rattle.std.specs.Prelude.{◌≡◌, []}
+use Rattle.std.specs.Prelude.{◌≡◌}
 use Rattle.device_outside.specs.declared.volume.Volume.{Ghosts}
-use Rattle.device_outside.specs.Disk.{Disk, new_disk}
 use Rattle.device_core.specs.declared.device.Device.{Device}
+use Rattle.path_threads.specs.declared.orders.EmptyVolume.{EmptyVolume}
 use Rattle.path_threads.specs.declared.orders.Order.{Order}
 use Rattle.path_threads.specs.declared.orders.Order.TheVariants.{Event, Replace}
 
@@ -10,6 +10,6 @@ abbrev pub IsSmall : {V : Type 0} {G : Ghosts V} → Device V G → Type 0
 IsSmall d = d.store.cylinders ≡ 1
 
 -- a volume that comes is a new one of as many cylinders
-abbrev pub IsNew : Order Disk → Type 0
+abbrev pub IsNew : Order EmptyVolume → Type 0
 IsNew (Event e) = Unit {0}
-IsNew (Replace n side volume) = volume ≡ new_disk 1 [] []
+IsNew (Replace n side empty) = empty.cylinders ≡ 1

@@ -3,13 +3,12 @@ ghost use Rattle.path_trials.specs.Small.{IsNew};
 
 use crate::runs::{devices_of, pair_of, reads, run};
 use ckd_types::{DeviceNo, Side, TrackNo};
-use device_outside::{MemVolume, NoGate};
-use path_threads::Order;
-use std::alloc::Global;
+use device_outside::NoGate;
+use path_threads::{EmptyVolume, Order};
 use std::test::Fail;
 use subsystem_defs::Event;
 
-pub(crate) type Orders = Vec<Order<MemVolume>>;
+pub(crate) type Orders = Vec<Order<EmptyVolume>>;
 
 pub(crate) fn order(orders: &mut Orders, event: Event) -> Result<(), Fail>
     requires { All IsNew orders.old.items }
@@ -20,12 +19,11 @@ pub(crate) fn order(orders: &mut Orders, event: Event) -> Result<(), Fail>
 }
 
 /// A new volume in the place of a failed side's.
-fn replace(alloc: Global, orders: &mut Orders, d: DeviceNo, side: Side) -> Result<(), Fail>
+fn replace(orders: &mut Orders, d: DeviceNo, side: Side) -> Result<(), Fail>
     requires { All IsNew orders.old.items }
     ensures { OnOk result (All IsNew orders.new.items) }
 {
-    let volume = MemVolume::new(alloc, 1, &[], &[])?;
-    orders.push(Order::Replace(d, side, volume))?;
+    orders.push(Order::Replace(d, side, EmptyVolume { cylinders: 1 }))?;
     Ok(())
 }
 
@@ -79,9 +77,9 @@ fn a_side_that_is_lost_gets_another_volume_while_paths_run(rt: HostRuntime) -> R
     let devices = pair_of(alloc, reads(alloc, 20)?)?;
     let d = DeviceNo::new(0).ok_or("device")?;
     let mut orders = Vec::new(alloc);
-    replace(alloc, &mut orders, d, Side::A)?;
+    replace(&mut orders, d, Side::A)?;
     order(&mut orders, Event::FailVolume(d, Side::A))?;
-    replace(alloc, &mut orders, d, Side::A)?;
+    replace(&mut orders, d, Side::A)?;
     let ran = run(&rt, alloc, devices, orders, &NoGate)?;
     for device in ran.devices.as_slice() {
         assert!(rt; device.finished());

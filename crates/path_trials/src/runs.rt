@@ -9,7 +9,7 @@ use deck_plan::PathPlans;
 use device_core::{Device, plans_give};
 use device_outside::{Gate, MemVolume, NoGate};
 use frame_pool::Pool;
-use path_threads::{Order, Ran, run_paths};
+use path_threads::{EmptyVolume, Order, Ran, run_paths};
 use std::alloc::Global;
 use std::sync::Wait;
 use std::test::Fail;
@@ -127,7 +127,7 @@ pub(crate) fn run<R: Threads + Wait + Sync, G: Gate + Sync>(
     rt: &R,
     alloc: Global,
     devices: Vec<Device<MemVolume>>,
-    orders: Vec<Order<MemVolume>>,
+    orders: Vec<Order<EmptyVolume>>,
     gate: &G,
 ) -> Result<Ran<MemVolume>, Fail>
     requires ready { All IsReady devices.items }

@@ -13,7 +13,7 @@ use Rattle.path_threads.proofs.operator.operate.Goals as goal
 pub loop-order-init : goal.loop-order-init
 loop-order-init g c = (
   home_rest _ _ c.requires.home,
-  subst (λ os. All (IsSpareAt c.args.places.now c.args.seats.items) os) (sym c.into_iter-order-iterator.ensures.into_iter_gives.0) c.requires.spare,
+  subst (λ os. All (IsSpareAt g.M.MakeVolume.makes c.args.places.now c.args.seats.items) os) (sym c.into_iter-order-iterator.ensures.into_iter_gives.0) c.requires.spare,
 )
 
 pub obey-requires-clause-home : goal.obey-requires-clause-home
@@ -30,9 +30,9 @@ pub obey-requires-clause-spare : goal.obey-requires-clause-spare
 obey-requires-clause-spare g c =
     let order = c.in-Some.order in
     let rest = into_iter_items c.next.new.self in
-    let all = subst (λ os. All (IsSpareAt c.args.places.now c.args.seats.items) os) c.in-Some.ensures.steps.0 c.loop-order.invariant.1 in
-    subst (λ ss. IsSpareAt c.args.places.now ss order) (sym c.deref_mut.ensures.value)
-    (spare_rests c.args.places.now c.args.seats.items c.loop-order.seats.items order c.loop-order.invariant.0 (All-head (IsSpareAt c.args.places.now c.args.seats.items) order rest all))
+    let all = subst (λ os. All (IsSpareAt g.M.MakeVolume.makes c.args.places.now c.args.seats.items) os) c.in-Some.ensures.steps.0 c.loop-order.invariant.1 in
+    subst (λ ss. IsSpareAt g.M.MakeVolume.makes c.args.places.now ss order) (sym c.deref_mut.ensures.value)
+    (spare_rests g.M.MakeVolume.makes c.args.places.now c.args.seats.items c.loop-order.seats.items order c.loop-order.invariant.0 (All-head (IsSpareAt g.M.MakeVolume.makes c.args.places.now c.args.seats.items) order rest all))
 
 pub loop-order-preserved : goal.loop-order-preserved
 loop-order-preserved g c =
@@ -42,5 +42,5 @@ loop-order-preserved g c =
     let k = behind.ok.0 in (
       subst (λ ss. AllZip Rests c.args.seats.items ss) (sym (same_back behind.len new behind.items (omega (arith, k)) (zip_long Rests behind.items new on)))
           (zip_on Rests Rests Rests rests_on _ _ _ c.loop-order.invariant.0 on),
-      All-rest (IsSpareAt c.args.places.now c.args.seats.items) c.in-Some.order _ _ c.in-Some.ensures.steps.0 c.loop-order.invariant.1,
+      All-rest (IsSpareAt g.M.MakeVolume.makes c.args.places.now c.args.seats.items) c.in-Some.order _ _ c.in-Some.ensures.steps.0 c.loop-order.invariant.1,
     )

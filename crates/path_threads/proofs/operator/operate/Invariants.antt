@@ -7,4 +7,4 @@ use Rattle.path_threads.proofs.operator.operate.Given as goal
 
 abbrev pub invariant-loop-order : goal.invariant-loop-order
 invariant-loop-order g l =
-    AllZip Rests l.initial.seats.items l.seats.items × All (IsSpareAt l.places l.initial.seats.items) (into_iter_items l.order-iterator)
+    AllZip Rests l.initial.seats.items l.seats.items × All (IsSpareAt g.M.MakeVolume.makes l.places l.initial.seats.items) (into_iter_items l.order-iterator)

@@ -3,6 +3,7 @@ use Rattle.std.specs.Prelude.{IfOk}
 use Rattle.std.specs.List.{AllZip}
 use Rattle.turn_seats.specs.Seating.{IsHome, Rests}
 use Rattle.path_turns.specs.Keeping.{IsFinished, StaysKept}
+use Rattle.path_threads.specs.Allowed.{allowed_of}
 use Rattle.path_threads.specs.Places.{IsPromisedFor, IsSpareAt, KeepsOrdered}
 use Rattle.path_threads.proofs.Holding.{home_rests, promised_rests}
 use Rattle.path_threads.proofs.Sparing.{all_spare, promised_same}
@@ -19,8 +20,8 @@ clear_all-requires g c = record {
 pub walk_all-walks-requires-clause-spare : goal.walk_all-walks-requires-clause-spare
 walk_all-walks-requires-clause-spare g c κs within =
     let table = c.in_ok-table.ensures in
-    subst (λ ps. All (IsSpareAt ps c.in_ok-table.table.operator.items) c.args.orders.items) (sym c.deref-2.ensures.value)
-    (all_spare c.deref.result.now c.args.devices.items c.in_ok-table.places.items c.in_ok-table.table.operator.items c.args.orders.items table.promised table.allows c.requires.spare)
+    subst (λ ps. All (IsSpareAt g.M.MakeVolume.makes ps c.in_ok-table.table.operator.items) c.args.orders.items) (sym c.deref-2.ensures.value)
+    (all_spare g.M.MakeVolume.makes c.deref.result.now c.args.devices.items c.in_ok-table.places.items c.in_ok-table.table.operator.items c.args.orders.items table.promised table.allows c.requires.spare)
 
 pub returns-clause-kept : goal.returns-clause-kept
 returns-clause-kept g c =
@@ -31,7 +32,7 @@ returns-clause-kept g c =
     let first = promised_same _ _ c.args.devices.items c.in_ok-table.table.operator.items c.deref.ensures.value c.in_ok-table.ensures.promised in
     let rested = subst (λ o. IfOk o (λ v. AllZip Rests c.in_ok-table.table.operator.items v.items)) c.in_ok-seats.ensures.operator c.walk_all-walks.ensures.operator in
     let promised = zip_on (IsPromisedFor es) Rests (IsPromisedFor es) (λ d s z p r. promised_rests _ d s z p r) _ _ _ first rested in
-    let kept = c.in_ok-devices.ensures es c.args.devices.items promised in
+    let kept = c.in_ok-devices.ensures (allowed_of es) c.args.devices.items promised in
     let k = behind.ok.0 in
     subst (λ es. AllZip (KeepsOrdered c.args.orders.items) c.args.devices.items es)
     (sym (same_back behind.len new behind.items (omega (arith, k)) (zip_long StaysKept behind.items new stay)))

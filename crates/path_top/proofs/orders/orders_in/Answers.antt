@@ -1,5 +1,6 @@
 use Rattle.std.proofs.Common.{◌∙◌, ap}
 use Rattle.std.proofs.lemmas.List.{take_all}
+use Rattle.path_threads.specs.Making.{makes_empty}
 use Rattle.path_threads.specs.Places.{IsSpareAmong}
 use Rattle.path_top.specs.Orders.{orders_in}
 use Rattle.path_top.proofs.Adding.{lines_on, spare_on}
@@ -12,11 +13,11 @@ order_of-requires c = line_open_at _ c.args.lines.now c.loop-line.line-index c.l
 pub loop-line-preserved : goal.loop-line-preserved
 loop-line-preserved c = record {
   lines =
-      lines_on c.loop-line.orders.items c.add_order.new.orders.items c.in_ok-order_of.field-0 c.args.lines.now c.loop-line.line-index c.line-item.result
-      c.loop-line-test.true c.line-item.is c.in_ok-add_order.ensures c.in_ok-order_of.ensures.line c.loop-line.invariant.lines;
+      lines_on c.loop-line.orders.items c.add_order.new.orders.items c.order_of.result c.args.lines.now c.loop-line.line-index c.line-item.result
+      c.loop-line-test.true c.line-item.is c.in_ok-add_order.ensures c.order_of.ensures.line c.loop-line.invariant.lines;
   spare =
-      spare_on (IsSpareAmong c.args.sub.now.devices.items) c.loop-line.orders.items c.add_order.new.orders.items c.in_ok-order_of.field-0
-      c.in_ok-add_order.ensures c.loop-line.invariant.spare c.in_ok-order_of.ensures.spare;
+      spare_on (IsSpareAmong makes_empty c.args.sub.now.devices.items) c.loop-line.orders.items c.add_order.new.orders.items c.order_of.result
+      c.in_ok-add_order.ensures c.loop-line.invariant.spare c.order_of.ensures.spare;
 }
 
 pub returns-clause-lines : goal.returns-clause-lines
