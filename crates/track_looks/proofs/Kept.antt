@@ -1,5 +1,5 @@
 -- What a look with a keeper came to, from what was told of it.
-use Rattle.std.proofs.Common.{◌≡◌, ◌∙◌, ℕ, List, Option, Some, None, Result, Ok, Err, IfOk, refl, sym, ap, subst}
+use Rattle.std.proofs.Common.{◌≡◌, ◌∙◌, ℕ, List, Some, None, Result, Ok, Err, IfOk, sym, ap, subst}
 use Rattle.std.specs.Prelude.{IfSome}
 use Rattle.ckd_types.specs.declared.memory.NoMemory.{NoMemory}
 use Rattle.track_image.specs.Image.{Image}

@@ -1,11 +1,10 @@
 -- What is the devices' own stays behind a look: each one's plans and chain, and where the volumes stand.
-use Rattle.std.proofs.Common.{◌≡◌, ◌∙◌, ℕ, List, Option, Some, is_some, refl, sym, ap, subst}
+use Rattle.std.proofs.Common.{◌≡◌, ◌∙◌, ℕ, List, Option, Some, is_some, sym, ap, subst}
 use Rattle.std.specs.Prelude.{IfSome, option_map}
 use Rattle.ckd_chain.specs.State.{ChainState}
 use Rattle.ckd_types.specs.declared.geometry.Geometry.{Geometry}
 use Rattle.plain_defs.specs.Whole.{GiveBytes, GivesAll}
 use Rattle.track_image.specs.Image.{Image}
-use Rattle.device_outside.specs.declared.keep.NoKeep.{NoKeep}
 use Rattle.device_outside.specs.declared.volume.Volume.{Ghosts}
 use Rattle.device_outside.specs.Keeper.{Hearing}
 use Rattle.device_defs.specs.Peek.{Peeked}

@@ -1,7 +1,6 @@
 -- What a look at a track of a device found, and what it left of the devices and of the pool.
 use Rattle.std.specs.Prelude.{◌≡◌, ℕ, false, Option, Some, IfSome}
 use Rattle.track_image.specs.Image.{Image}
-use Rattle.device_outside.specs.declared.keep.NoKeep.{NoKeep}
 use Rattle.device_outside.specs.declared.volume.Volume.{Ghosts}
 use Rattle.device_outside.specs.Keeper.{Hearing}
 use Rattle.device_defs.specs.Contents.{contents}

@@ -53,7 +53,10 @@ use Rattle.volume_save.specs.declared.unsaved.Unsaved.TheVariants.{Lent, Half}
 use Rattle.volume_save.specs.Saving as S
 use Rattle.volume_save.specs.Saving.{and_then, image_found, images_from, refusal, saving, tracks_saved, unless_refused, volume_with}
 
-ok_same : {A E : Type 0} {x y : A} → Ok {E = E} x ≡ Ok y → x ≡ y
+abbrev Same : {A : Type 0} → Result A Unsaved → Result A Unsaved → Type 0
+Same r q = r ≡ q
+
+ok_same : {A : Type 0} {x y : A} → Same (Ok x) (Ok y) → x ≡ y
 ok_same e = cc
 
 -- what came of one after another
@@ -61,10 +64,10 @@ ok_same e = cc
 pub record Both {A B E : Type 0} (r : Result A E) (f : A → Result B E) (b : B) : Type 0 where
   pub first : A
   pub was : r ≡ Ok first
-  pub then : f first ≡ Ok b
+  pub next : f first ≡ Ok b
 
 pub and_ok : {A B E : Type 0} (r : Result A E) (f : A → Result B E) (b : B) → and_then r f ≡ Ok b → Both r f b
-and_ok (Ok x) f b e = record { first = x; was = refl; then = e }
+and_ok (Ok x) f b e = record { first = x; was = refl; next = e }
 and_ok (Err why) f b e = absurd (cc)
 
 pub found_image : (t : ℕ) (p : Peeked) (i : Image) → image_found t p ≡ Ok i → p ≡ peeks.Track i
@@ -102,7 +105,7 @@ images_plain zero s d t m images there calm size e =
 images_plain (suc n) s d t m images there calm size e =
     let one = and_ok (image_found t (looked s d t).found)
     (λ image. and_then (images_from n (looked s d t).behind d (t + 1)) (λ more. Ok (image ∷ more))) images e in
-    let rest = and_ok (images_from n (looked s d t).behind d (t + 1)) (λ more. Ok (one.first ∷ more)) images one.then in
+    let rest = and_ok (images_from n (looked s d t).behind d (t + 1)) (λ more. Ok (one.first ∷ more)) images one.next in
     let stays : StaysOwn s d t m = look_leaves_own s d t m there in
     let k = stays.mounted in
     let plain : one.first ≡ image_on m.device.store.geometry (track_in m.device.store.plain t) =
@@ -110,7 +113,7 @@ images_plain (suc n) s d t m images there calm size e =
     let later : rest.first ≡ plain_images k (t + 1) =
     images_plain n (looked s d t).behind d (t + 1) k rest.first stays.there (calm_on m k stays.own calm)
     (omega (arith, size, ap length stays.own.plain)) rest.was in
-    sym (ok_same rest.then)
+    sym (ok_same rest.next)
     ∙ ap (λ (i : Image). i ∷ rest.first) plain
     ∙ ap (λ (l : List Image). image_on m.device.store.geometry (track_in m.device.store.plain t) ∷ l) (later ∙ same_images m k (t + 1) stays.own)
     ∙ sym (at_drop_more (map (image_on m.device.store.geometry)) m.device.store.plain t (empty_track t) (omega (arith, size)))
@@ -146,6 +149,6 @@ saving_plain s d m v there size e =
     let not = not_refused m so.0 in
     let all = and_ok (images_from (tracks_of m.device.store) s d 0)
     (λ images. Ok (volume_with m.device.store.geometry m.device.store.cylinders images)) v so.1 in
-    sym (ok_same all.then)
+    sym (ok_same all.next)
     ∙ ap (volume_with m.device.store.geometry m.device.store.cylinders)
     (images_plain (tracks_of m.device.store) s d 0 m all.first there not.calm (omega (arith, size not.home)) all.was)

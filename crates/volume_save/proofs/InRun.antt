@@ -1,5 +1,5 @@
 -- A device of a run that isn't lent: its plain volume is one, and its marks are sound.
-use Rattle.std.proofs.Common.{◌≡◌, ◌∙◌, ◌<◌, ◌&&◌, ◌||◌, not, ℕ, Bool, true, false, List, Option, Some, None, is_some, refl, sym, ap, subst}
+use Rattle.std.proofs.Common.{◌≡◌, ◌∙◌, ◌<◌, ◌&&◌, ◌||◌, not, ℕ, Bool, true, false, List, [], Option, Some, None, is_some, refl, sym, ap, subst}
 use Rattle.std.specs.Prelude.{IfSome, if◌then◌else◌, option_map}
 use Rattle.std.proofs.lemmas.Option.{none-some}
 use Rattle.ckd_types.specs.declared.record.Track.{Track}
@@ -30,8 +30,8 @@ some_same : {X : Type 0} {x y : X} → Some x ≡ Some y → x ≡ y
 some_same e = cc
 
 not_both : (b : Bool) → b ≡ true → b ≡ false → ⊥
-not_both true yes no = cc
-not_both false yes no = cc
+not_both true p q = cc
+not_both false p q = cc
 
 -- Marks say the same as what they stand for
 

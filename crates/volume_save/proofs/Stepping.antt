@@ -4,6 +4,7 @@ use Rattle.std.proofs.Common.{
   ◌∙◌,
   ◌<◌,
   ◌≤◌,
+  ◌⊎◌,
   ◌+◌,
   ◌-◌,
   ◌*◌,
@@ -137,7 +138,7 @@ module _ {V : Type 0} {G : Ghosts V} where
       (find sub.pool.pool.used [] (all_stood sub.devices.items) run.mounted d stands.mounted) (stood_found sub.devices.items d x at)
 
   -- a track of the volume is one of the device
-  pub track_below : (sub : Subsystem V G) (run : runs.Subsystem) (d t : ℕ) (v : ImageVolume) (x : Device V G) → StandsAs sub run → FitsRun run d v →
+  track_below : (sub : Subsystem V G) (run : runs.Subsystem) (d t : ℕ) (v : ImageVolume) (x : Device V G) → StandsAs sub run → FitsRun run d v →
       IsWhole v → t < length v.images → device_at sub.devices.items d ≡ Some x → t < x.store.cylinders * 15
   track_below sub run d t v x stands fits whole lt at =
       let s = stood_run sub run d x stands at in
@@ -145,6 +146,15 @@ module _ {V : Type 0} {G : Ghosts V} where
       let cylinders : x.store.cylinders ≡ v.cylinders =
       sym s.cylinders ∙ ap (λ (m : Mounted). m.device.store.cylinders) same ∙ fits.cylinders in
       omega (arith, whole.tracks, lt, cylinders)
+
+  tracks_by : (sub : Subsystem V G) (run : runs.Subsystem) (d t : ℕ) (v : ImageVolume) (o : Option (Device V G)) → StandsAs sub run → FitsRun run d v →
+      IsWhole v → t < length v.images → device_at sub.devices.items d ≡ o → IfSome o (λ x. t < x.store.cylinders * 15)
+  tracks_by sub run d t v (Some x) stands fits whole lt at = track_below sub run d t v x stands fits whole lt at
+  tracks_by sub run d t v None stands fits whole lt at = tt
+
+  pub all_below : (sub : Subsystem V G) (run : runs.Subsystem) (d t : ℕ) (v : ImageVolume) → StandsAs sub run → FitsRun run d v → IsWhole v →
+      t < length v.images → IfSome (device_at sub.devices.items d) (λ x. t < x.store.cylinders * 15)
+  all_below sub run d t v stands fits whole lt = tracks_by sub run d t v (device_at sub.devices.items d) stands fits whole lt refl
 
   -- an image that was found goes into the volume
   pub is_placed : (sub : Subsystem V G) (run : runs.Subsystem) (d t : ℕ) (v : ImageVolume) (i : Image) → StandsAs sub run → FitsRun run d v → IsWhole v →
@@ -210,10 +220,15 @@ rest_stops : (n : ℕ) (now : runs.Subsystem) (d t : ℕ) (v : ImageVolume) (why
 unfolding S.images_from
 rest_stops n now d t v why found = rw found refl
 
+refused_by : (run : runs.Subsystem) (d : ℕ) (m : Mounted) (o : Option Unsaved) → mounted_in run.mounted d ≡ Some m → refusal m.device.store ≡ o →
+    saving run d ≡ unless_refused o (tracks_saved run d m)
+unfolding S.saving
+refused_by run d m o there is = rw (there, is) refl
+
 module _ {V : Type 0} {G : Ghosts V} where
-  pub looks_on : (run : runs.Subsystem) (d t count : ℕ) (old new : Subsystem V G) (v w : ImageVolume) (l : LooksLeft run d t count old v) →
+  on_here : (run : runs.Subsystem) (d t count : ℕ) (old new : Subsystem V G) (v w : ImageVolume) (l : LooksLeft run d t count old v) →
       t < count → t < length v.images → GoesOnWith l.now d t v new w → LooksLeft run d (t + 1) count new w
-  looks_on run d t count old new v w l lt inside g =
+  on_here run d t count old new v w l lt inside g =
       let next : count - t ≡ suc (count - (t + 1)) = omega (arith, lt) in
       let on : t + 1 ≡ suc t = omega arith in
       record {
@@ -224,7 +239,12 @@ module _ {V : Type 0} {G : Ghosts V} where
         rest = l.rest ∙ ap (λ (n : ℕ). rest_of n l.now d t v) next ∙ rest_on (count - (t + 1)) l.now d t v w g.image g.found g.set inside;
       }
 
-  pub looks_stop : (run : runs.Subsystem) (d t count : ℕ) (sub : Subsystem V G) (v : ImageVolume) (why : Unsaved) (l : LooksLeft run d t count sub v) →
+  pub looks_on : (run : runs.Subsystem) (d t count track : ℕ) (old new : Subsystem V G) (v w : ImageVolume) (l : LooksLeft run d t count old v) →
+      track ≡ t → t < count → t < length v.images → GoesOnWith l.now d track v new w → LooksLeft run d (t + 1) count new w
+  looks_on run d t count track old new v w l at lt inside g =
+      on_here run d t count old new v w l lt inside (subst (λ (k : ℕ). GoesOnWith l.now d k v new w) at g)
+
+  looks_stop : (run : runs.Subsystem) (d t count : ℕ) (sub : Subsystem V G) (v : ImageVolume) (why : Unsaved) (l : LooksLeft run d t count sub v) →
       t < count → image_found t (looked l.now d t).found ≡ Err why → saving run d ≡ Err why
   looks_stop run d t count sub v why l lt found =
       let next : count - t ≡ suc (count - (t + 1)) = omega (arith, lt) in
@@ -239,11 +259,6 @@ module _ {V : Type 0} {G : Ghosts V} where
       ∙ ap (λ (images : List Image). Ok (record v { images = images })) (append-nil (take t v.images) ∙ take_all t v.images all)
 
   -- The first look
-
-  refused_by : (run : runs.Subsystem) (d : ℕ) (m : Mounted) (o : Option Unsaved) → mounted_in run.mounted d ≡ Some m → refusal m.device.store ≡ o →
-      saving run d ≡ unless_refused o (tracks_saved run d m)
-  unfolding S.saving
-  refused_by run d m o there is = rw (there, is) refl
 
   pub refused_first : (sub : Subsystem V G) (run : runs.Subsystem) (d : ℕ) (x : Device V G) (why : Unsaved) → StandsAs sub run →
       device_at sub.devices.items d ≡ Some x → refusal (device_of x).store ≡ Some why → saving run d ≡ Err why
@@ -280,12 +295,12 @@ module _ {V : Type 0} {G : Ghosts V} where
 
 -- Why nothing is saved
 
-pub gives_why : {A : Type 0} (why : Unsaved) (wanted : Result A Unsaved) → (why ≡ NoMemory → ⊥) → wanted ≡ Err why → Gives (Err why) wanted
-gives_why Lent wanted no is = sym is
-gives_why Half wanted no is = sym is
-gives_why (Lost t) wanted no is = sym is
-gives_why (Fault side) wanted no is = sym is
-gives_why NoMemory wanted no is = tt
+pub gives_why : {A : Type 0} (why : Unsaved) (wanted : Result A Unsaved) → wanted ≡ Err why → Gives (Err why) wanted
+gives_why Lent wanted is = sym is
+gives_why Half wanted is = sym is
+gives_why (Lost t) wanted is = sym is
+gives_why (Fault side) wanted is = sym is
+gives_why NoMemory wanted is = tt
 
 found_lost : (t q : ℕ) (p : Peeked) → image_found t p ≡ Err (Lost q) → (p ≡ peeks.Lost) × (t ≡ q)
 found_lost t q (peeks.Track image) e = absurd (cc)
@@ -314,11 +329,20 @@ by_half run d t side m true half there marks found = elim (fault_is run d t m th
 ]
 by_half run d t side m false half there marks found = inl (fault_has_failed run d t m side there marks half found)
 
+by_some : (run : runs.Subsystem) (d : ℕ) (m : Mounted) (why : Unsaved) (b c : Bool) → is_some m.device.store.lent ≡ b →
+    is_writing m.device.store.half ≡ c → mounted_in run.mounted d ≡ Some m → (if b then Some Lent else if c then Some Half else None) ≡ Some why →
+    HasReason run d why
+by_some run d m why true c lent half there is =
+    subst (HasReason run d) (some_same is) (record { mounted = m; there = there; is_so = lent })
+by_some run d m why false true lent half there is =
+    subst (HasReason run d) (some_same is) (record { mounted = m; there = there; is_so = half })
+by_some run d m why false false lent half there is = absurd (cc)
+
 not_none : (d : ℕ) (s : runs.Subsystem) (v : ImageVolume) → saving_at s d None ≡ Ok v → ⊥
 not_none d s v e = cc
 
 module _ {V : Type 0} {G : Ghosts V} where
-  pub has_reason : (run : runs.Subsystem) (d t count : ℕ) (sub : Subsystem V G) (v : ImageVolume) (why : Unsaved) (l : LooksLeft run d t count sub v) →
+  has_reason : (run : runs.Subsystem) (d t count : ℕ) (sub : Subsystem V G) (v : ImageVolume) (why : Unsaved) (l : LooksLeft run d t count sub v) →
       IsWhole v → t < length v.images → image_found t (looked l.now d t).found ≡ Err why → HasReason run d why
   has_reason run d t count sub v Lent l whole lt found = absurd ((found_other t (looked l.now d t).found).0 found)
   has_reason run d t count sub v Half l whole lt found = absurd ((found_other t (looked l.now d t).found).1 found)
@@ -341,15 +365,6 @@ module _ {V : Type 0} {G : Ghosts V} where
         }),
       )
   has_reason run d t count sub v NoMemory l whole lt found = tt
-
-  by_some : (run : runs.Subsystem) (d : ℕ) (m : Mounted) (why : Unsaved) (b c : Bool) → is_some m.device.store.lent ≡ b →
-      is_writing m.device.store.half ≡ c → mounted_in run.mounted d ≡ Some m → (if b then Some Lent else if c then Some Half else None) ≡ Some why →
-      HasReason run d why
-  by_some run d m why true c lent half there is =
-      subst (HasReason run d) (some_same is) (record { mounted = m; there = there; is_so = lent })
-  by_some run d m why false true lent half there is =
-      subst (HasReason run d) (some_same is) (record { mounted = m; there = there; is_so = half })
-  by_some run d m why false false lent half there is = absurd (cc)
 
   pub reason_first : (sub : Subsystem V G) (run : runs.Subsystem) (d : ℕ) (x : Device V G) (why : Unsaved) → StandsAs sub run →
       device_at sub.devices.items d ≡ Some x → refusal (device_of x).store ≡ Some why → HasReason run d why
@@ -381,3 +396,33 @@ module _ {V : Type 0} {G : Ghosts V} where
       saving_of deck d ≡ Ok v → IsWhole v → IsSaved deck d v
   is_saved sub deck d v served stands found whole =
       saved_by sub deck d v (mounted_in (run_of deck).behind.mounted d) refl served stands found whole
+
+-- At the end of a call
+
+pub gives_ok : (v : ImageVolume) (wanted : Result ImageVolume Unsaved) → wanted ≡ Ok v → Gives (Ok v) wanted
+gives_ok v wanted is = sym is
+
+module _ {V : Type 0} {G : Ghosts V} where
+  stop_by : (now : runs.Subsystem) (d t : ℕ) (v w : ImageVolume) (sub : Subsystem V G) (why : Unsaved) → GoesOn now d t v sub w (Err why) →
+      (why ≡ NoMemory) ⊎ (image_found t (looked now d t).found ≡ Err why)
+  stop_by now d t v w sub Lent g = inr g
+  stop_by now d t v w sub Half g = inr g
+  stop_by now d t v w sub (Lost q) g = inr g
+  stop_by now d t v w sub (Fault side) g = inr g
+  stop_by now d t v w sub NoMemory g = inl refl
+
+  pub gives_stop : (run : runs.Subsystem) (d t count track : ℕ) (old new : Subsystem V G) (v w : ImageVolume) (why : Unsaved)
+      (l : LooksLeft run d t count old v) → track ≡ t → t < count → GoesOn l.now d track v new w (Err why) → Gives {ImageVolume} (Err why) (saving run d)
+  gives_stop run d t count track old new v w why l at lt g =
+      elim (stop_by l.now d t v w new why (subst (λ (k : ℕ). GoesOn l.now d k v new w (Err why)) at g)) [
+        | inl none ↦ subst (λ (x : Unsaved). Gives {ImageVolume} (Err x) (saving run d)) (sym none) tt
+        | inr found ↦ gives_why why (saving run d) (looks_stop run d t count old v why l lt found)
+      ]
+
+  pub has_reason_by : (run : runs.Subsystem) (d t count track : ℕ) (old new : Subsystem V G) (v w : ImageVolume) (why : Unsaved)
+      (l : LooksLeft run d t count old v) → track ≡ t → IsWhole v → t < length v.images → GoesOn l.now d track v new w (Err why) → HasReason run d why
+  has_reason_by run d t count track old new v w why l at whole lt g =
+      elim (stop_by l.now d t v w new why (subst (λ (k : ℕ). GoesOn l.now d k v new w (Err why)) at g)) [
+        | inl none ↦ subst (λ (x : Unsaved). HasReason run d x) (sym none) tt
+        | inr found ↦ has_reason run d t count old v why l whole lt found
+      ]
