@@ -4,6 +4,7 @@ use Rattle.std.proofs.Common.{
   ◌∙◌,
   ◌<◌,
   ◌≤◌,
+  ◌⊎◌,
   ◌+◌,
   ◌-◌,
   ◌*◌,
@@ -225,9 +226,9 @@ unfolding S.saving
 refused_by run d m o there is = rw (there, is) refl
 
 module _ {V : Type 0} {G : Ghosts V} where
-  pub looks_on : (run : runs.Subsystem) (d t count : ℕ) (old new : Subsystem V G) (v w : ImageVolume) (l : LooksLeft run d t count old v) →
+  on_here : (run : runs.Subsystem) (d t count : ℕ) (old new : Subsystem V G) (v w : ImageVolume) (l : LooksLeft run d t count old v) →
       t < count → t < length v.images → GoesOnWith l.now d t v new w → LooksLeft run d (t + 1) count new w
-  looks_on run d t count old new v w l lt inside g =
+  on_here run d t count old new v w l lt inside g =
       let next : count - t ≡ suc (count - (t + 1)) = omega (arith, lt) in
       let on : t + 1 ≡ suc t = omega arith in
       record {
@@ -238,7 +239,12 @@ module _ {V : Type 0} {G : Ghosts V} where
         rest = l.rest ∙ ap (λ (n : ℕ). rest_of n l.now d t v) next ∙ rest_on (count - (t + 1)) l.now d t v w g.image g.found g.set inside;
       }
 
-  pub looks_stop : (run : runs.Subsystem) (d t count : ℕ) (sub : Subsystem V G) (v : ImageVolume) (why : Unsaved) (l : LooksLeft run d t count sub v) →
+  pub looks_on : (run : runs.Subsystem) (d t count track : ℕ) (old new : Subsystem V G) (v w : ImageVolume) (l : LooksLeft run d t count old v) →
+      track ≡ t → t < count → t < length v.images → GoesOnWith l.now d track v new w → LooksLeft run d (t + 1) count new w
+  looks_on run d t count track old new v w l at lt inside g =
+      on_here run d t count old new v w l lt inside (subst (λ (k : ℕ). GoesOnWith l.now d k v new w) at g)
+
+  looks_stop : (run : runs.Subsystem) (d t count : ℕ) (sub : Subsystem V G) (v : ImageVolume) (why : Unsaved) (l : LooksLeft run d t count sub v) →
       t < count → image_found t (looked l.now d t).found ≡ Err why → saving run d ≡ Err why
   looks_stop run d t count sub v why l lt found =
       let next : count - t ≡ suc (count - (t + 1)) = omega (arith, lt) in
@@ -336,7 +342,7 @@ not_none : (d : ℕ) (s : runs.Subsystem) (v : ImageVolume) → saving_at s d No
 not_none d s v e = cc
 
 module _ {V : Type 0} {G : Ghosts V} where
-  pub has_reason : (run : runs.Subsystem) (d t count : ℕ) (sub : Subsystem V G) (v : ImageVolume) (why : Unsaved) (l : LooksLeft run d t count sub v) →
+  has_reason : (run : runs.Subsystem) (d t count : ℕ) (sub : Subsystem V G) (v : ImageVolume) (why : Unsaved) (l : LooksLeft run d t count sub v) →
       IsWhole v → t < length v.images → image_found t (looked l.now d t).found ≡ Err why → HasReason run d why
   has_reason run d t count sub v Lent l whole lt found = absurd ((found_other t (looked l.now d t).found).0 found)
   has_reason run d t count sub v Half l whole lt found = absurd ((found_other t (looked l.now d t).found).1 found)
@@ -390,3 +396,33 @@ module _ {V : Type 0} {G : Ghosts V} where
       saving_of deck d ≡ Ok v → IsWhole v → IsSaved deck d v
   is_saved sub deck d v served stands found whole =
       saved_by sub deck d v (mounted_in (run_of deck).behind.mounted d) refl served stands found whole
+
+-- At the end of a call
+
+pub gives_ok : (v : ImageVolume) (wanted : Result ImageVolume Unsaved) → wanted ≡ Ok v → Gives (Ok v) wanted
+gives_ok v wanted is = sym is
+
+module _ {V : Type 0} {G : Ghosts V} where
+  stop_by : (now : runs.Subsystem) (d t : ℕ) (v w : ImageVolume) (sub : Subsystem V G) (why : Unsaved) → GoesOn now d t v sub w (Err why) →
+      (why ≡ NoMemory) ⊎ (image_found t (looked now d t).found ≡ Err why)
+  stop_by now d t v w sub Lent g = inr g
+  stop_by now d t v w sub Half g = inr g
+  stop_by now d t v w sub (Lost q) g = inr g
+  stop_by now d t v w sub (Fault side) g = inr g
+  stop_by now d t v w sub NoMemory g = inl refl
+
+  pub gives_stop : (run : runs.Subsystem) (d t count track : ℕ) (old new : Subsystem V G) (v w : ImageVolume) (why : Unsaved)
+      (l : LooksLeft run d t count old v) → track ≡ t → t < count → GoesOn l.now d track v new w (Err why) → Gives {ImageVolume} (Err why) (saving run d)
+  gives_stop run d t count track old new v w why l at lt g =
+      elim (stop_by l.now d t v w new why (subst (λ (k : ℕ). GoesOn l.now d k v new w (Err why)) at g)) [
+        | inl none ↦ subst (λ (x : Unsaved). Gives {ImageVolume} (Err x) (saving run d)) (sym none) tt
+        | inr found ↦ gives_why why (saving run d) (looks_stop run d t count old v why l lt found)
+      ]
+
+  pub has_reason_by : (run : runs.Subsystem) (d t count track : ℕ) (old new : Subsystem V G) (v w : ImageVolume) (why : Unsaved)
+      (l : LooksLeft run d t count old v) → track ≡ t → IsWhole v → t < length v.images → GoesOn l.now d track v new w (Err why) → HasReason run d why
+  has_reason_by run d t count track old new v w why l at whole lt g =
+      elim (stop_by l.now d t v w new why (subst (λ (k : ℕ). GoesOn l.now d k v new w (Err why)) at g)) [
+        | inl none ↦ subst (λ (x : Unsaved). HasReason run d x) (sym none) tt
+        | inr found ↦ has_reason run d t count old v why l whole lt found
+      ]

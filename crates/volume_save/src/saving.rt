@@ -94,7 +94,12 @@ pub fn saved<V: Volume>(
     let mut volume = FileVolume::new(alloc, device.geometry(), cylinders)?;
     let count = u16::from(cylinders) * HEADS;
     for t in 0..count {
-        save_track(alloc, sub, d, TrackNo::new(t).unwrap(), &mut volume)?;
+        let track = TrackNo::new(t).unwrap();
+        volume.is_whole();
+        match save_track(alloc, sub, d, track, &mut volume) {
+            Err(why) => return Err(why),
+            Ok(()) => (),
+        }
     }
     volume.is_whole();
     Ok(volume)
