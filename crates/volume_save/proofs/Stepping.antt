@@ -412,10 +412,10 @@ module _ {V : Type 0} {G : Ghosts V} where
   stop_by now d t v w sub NoMemory g = inl refl
 
   pub gives_stop : (run : runs.Subsystem) (d t count track : ℕ) (old new : Subsystem V G) (v w : ImageVolume) (why : Unsaved)
-      (l : LooksLeft run d t count old v) → track ≡ t → t < count → GoesOn l.now d track v new w (Err why) → Gives {ImageVolume} (Err why) (saving run d)
+      (l : LooksLeft run d t count old v) → track ≡ t → t < count → GoesOn l.now d track v new w (Err why) → Gives {A = ImageVolume} (Err why) (saving run d)
   gives_stop run d t count track old new v w why l at lt g =
       elim (stop_by l.now d t v w new why (subst (λ (k : ℕ). GoesOn l.now d k v new w (Err why)) at g)) [
-        | inl none ↦ subst (λ (x : Unsaved). Gives {ImageVolume} (Err x) (saving run d)) (sym none) tt
+        | inl none ↦ subst (λ (x : Unsaved). Gives {A = ImageVolume} (Err x) (saving run d)) (sym none) tt
         | inr found ↦ gives_why why (saving run d) (looks_stop run d t count old v why l lt found)
       ]
 
