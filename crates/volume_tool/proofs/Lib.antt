@@ -1,2 +1,4 @@
 pub mod Listed
 pub mod Complete
+pub mod Saved
+pub mod SaveComplete

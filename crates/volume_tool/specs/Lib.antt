@@ -1,2 +1,4 @@
 pub mod List
+pub mod Written
+pub mod Save
 pub mod Answers

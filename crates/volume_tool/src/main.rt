@@ -1,7 +1,8 @@
-//! Lists the tracks of a volume file.
+//! Writes the volume file of a device after a deck's run, and lists the tracks of such a file.
 #![tactic(auto)]
 
 mod listing;
+mod save;
 mod task;
 mod top;
 

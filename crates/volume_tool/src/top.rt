@@ -1,33 +1,51 @@
-ghost use Rattle.std.specs.Prelude.{◌≡◌, ◌≢◌, ◌⊎◌, ◌≤◌, IfSome, Some, None, [], map};
-ghost use Rattle.std.specs.List.{flat_map};
-ghost use Rattle.ckd_outside.specs.Pieces.{piece_text};
+ghost use Rattle.std.specs.Prelude.{◌≡◌, ◌≢◌, ◌⊎◌, ◌≤◌, ℕ, IfSome, Some, None, Ok, List, [], map};
 ghost use Rattle.ckd_outside.specs.Causes.{Rose, HasCause};
 ghost use Rattle.ckd_outside.specs.Texts.{Writes};
+ghost use Rattle.deck_text.specs.DeckLines.{DeckLines};
+ghost use Rattle.deck_text.specs.Parse.{parsed};
 ghost use Rattle.volume_file.specs.File.{ImageVolume, IsWhole, file_of};
-ghost use Rattle.volume_tool.specs.Answers.{IsWritten, Tells, TellsFault, TellsList, code_of, head_text};
-ghost use Rattle.volume_tool.specs.Answers.{task_by, task_of, track_text, trailing_text, usage_text};
+ghost use Rattle.volume_tool.specs.Answers.{Tells, TellsFault, TellsList, code_of, head_text};
+ghost use Rattle.volume_tool.specs.Answers.{task_of, track_text, trailing_text, usage_text};
 ghost use Rattle.volume_tool.specs.List.{rows_text};
+ghost use Rattle.volume_tool.specs.Save.{status_for};
+ghost use Rattle.volume_tool.specs.Written.{IsWritten};
 
 use crate::listing::{Row, read_listing, write_listing};
-use crate::task::Task;
-use ckd_outside::{Failed, LineBuffer, Piece, Sink, Source, flush, write_pieces};
-use ckd_types::{Geometry, TrackNo};
+use crate::save::serve_save;
+use crate::task::{Task, save_of, task_by};
+use ckd_outside::{Failed, Piece, Sink, Source};
+use ckd_types::{Geometry, Side, TrackNo};
+use deck_text::{DeckWhy, Which, write_line};
 use std::alloc::Global;
 use volume_file::LoadFault;
 
 /// How the program ends.
 #[derive(Clone, Copy, Debug, PartialEq, Eq)]
 pub enum VolumeStatus {
-    /// The list was written.
+    /// The list was written, or the file.
     Done,
+    /// The deck's first line that is refused, from 1 on, and its first reason, were written.
+    DeckRefused { line: u32, why: DeckWhy },
     /// A read failed, and nothing was written.
     ReadFault,
     /// A write failed: a front of what was to be written was taken.
     WriteFault,
+    /// The deck passes this limit, which was written.
+    Limit(Which),
     /// Memory is wanting, and nothing was written.
     NoMemory,
     /// The words name no task, and the usage was written.
     Usage,
+    /// The deck has no device of that number, which was written.
+    Device,
+    /// It is lent at the end of the run, which was written.
+    Lent,
+    /// A half write of a command is open then, or of one that was cut, which was written.
+    Half,
+    /// The first track that a look didn't find is lost, which was written.
+    Lost(TrackNo),
+    /// This side failed there, and no other side gave the track, which was written.
+    Fault(Side),
     /// The file's first field that is wrong or cut is one of its head, which was written.
     BadHead { offset: u32 },
     /// It is one of this track, which was written.
@@ -36,22 +54,13 @@ pub enum VolumeStatus {
     Trailing { offset: u32 },
 }
 
-fn task_by(word: &str) -> Option<Task>
-    ensures { result ≡ task_by word.now }
-{
-    if word.as_bytes() == b"list".as_slice() {
-        Some(Task::List)
-    } else {
-        None
-    }
-}
-
 #[tactic(auto, unfolding(crate::specs::Answers::task_of))]
 fn task_of(words: &[&str]) -> Option<Task>
     ensures { result ≡ task_of (map (λ w. w.now) words.now) }
 {
     match words {
         [word] => task_by(word),
+        [word, number] => save_of(word, number),
         _ => None,
     }
 }
@@ -62,10 +71,17 @@ pub fn code_of(status: VolumeStatus) -> u8
 {
     match status {
         VolumeStatus::Done => 0,
+        VolumeStatus::DeckRefused { .. } => 1,
         VolumeStatus::ReadFault => 2,
         VolumeStatus::WriteFault => 3,
+        VolumeStatus::Limit(_) => 4,
         VolumeStatus::NoMemory => 5,
         VolumeStatus::Usage => 6,
+        VolumeStatus::Device
+        | VolumeStatus::Lent
+        | VolumeStatus::Half
+        | VolumeStatus::Lost(_)
+        | VolumeStatus::Fault(_) => 7,
         VolumeStatus::BadHead { .. }
         | VolumeStatus::BadTrack { .. }
         | VolumeStatus::Trailing { .. } => 8,
@@ -81,16 +97,6 @@ pub fn words_of<'a>(arguments: Option<&'a [&'a str]>) -> &'a [&'a str]
         Some(words) => words,
         None => &[],
     }
-}
-
-/// Writes a line by itself.
-fn write_line<K: Sink>(sink: &mut K, pieces: &[Piece]) -> Result<(), Failed>
-    ensures bytes { Writes (K.held sink.old) (K.held sink.new) result (flat_map piece_text pieces.now) }
-    ensures cause { HasCause (K.faults sink.old) (K.faults sink.new) result }
-{
-    let mut buffer = LineBuffer::new();
-    write_pieces(sink, &mut buffer, pieces)?;
-    flush(sink, &mut buffer)
 }
 
 #[tactic(auto, unfolding(crate::specs::Answers::usage_text))]
@@ -242,12 +248,14 @@ fn serve<S: Source, K: Sink>(
 {
     match task_of(words) {
         Some(Task::List) => serve_list(alloc, source, sink),
+        Some(Task::Save(n)) => serve_save(alloc, n, source, sink),
         None => usage(sink),
     }
 }
 
 /// Does what the words ask for, over a source and a sink. `list` reads a volume file and writes what its tracks
-/// hold; nothing is written before the file was read. A read fault is answered exactly where a read failed.
+/// hold; nothing is written before the file was read. `save D` reads a deck, runs it and looks at each track of its device D in
+/// rising order; nothing is written before the last look. A read fault is answered exactly where a read failed.
 pub fn volume_top<S: Source, K: Sink>(
     alloc: Global,
     words: &[&str],
@@ -265,6 +273,12 @@ pub fn volume_top<S: Source, K: Sink>(
         → task_of (map (λ w. w.now) words.now) ≡ Some Task.List
         → ¬ Rose (S.faults source.old) (S.faults source.new) → ¬ Rose (K.faults sink.old) (K.faults sink.new)
         → (result ≡ VolumeStatus.Done) ⊎ (result ≡ VolumeStatus.NoMemory) }
+
+    // Of every deck the file is written, or the reason why not that the defined run has.
+    ensures saves { (text : List ℕ) (d : DeckLines) (n : ℕ) → S.left source.old ≡ Some text
+        → task_of (map (λ w. w.now) words.now) ≡ Some (Task.Save n) → parsed text ≡ Ok d
+        → ¬ Rose (S.faults source.old) (S.faults source.new) → ¬ Rose (K.faults sink.old) (K.faults sink.new)
+        → (result ≡ status_for d n) ⊎ (result ≡ VolumeStatus.NoMemory) }
 {
     serve(alloc, words, source, sink)
 }

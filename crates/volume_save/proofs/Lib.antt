@@ -1,0 +1,3 @@
+pub mod InRun
+pub mod Images
+pub mod Stepping
