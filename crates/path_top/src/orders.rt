@@ -63,16 +63,14 @@ fn order_of(sub: &Subsystem<MemVolume>, line: &EventLine) -> Option<Order<EmptyV
     Some(Order::Event(event))
 }
 
-fn add_order(
-    orders: &mut Vec<Order<EmptyVolume>>,
-    order: Option<Order<EmptyVolume>>,
-) -> Result<(), NoMemory>
-    ensures { OnOk result (orders.new.items ≡ orders.old.items ++ option_to_list order) }
+/// Adds what there is.
+fn add_some<T: Drop>(items: &mut Vec<T>, item: Option<T>) -> Result<(), NoMemory>
+    ensures { OnOk result (items.new.items ≡ items.old.items ++ option_to_list item) }
 {
-    let Some(order) = order else {
+    let Some(item) = item else {
         return Ok(());
     };
-    orders.push(order)?;
+    items.push(item)?;
     Ok(())
 }
 
@@ -86,9 +84,11 @@ pub(crate) fn orders_in(
     ensures lines { IfOk result (λ orders. map line_of orders.items ≡ orders_in lines.now) }
     ensures spare { IfOk result (λ orders. All (IsSpareAmong makes_empty sub.now.devices.items) orders.items) }
 {
+    // The kit's borrow checker has to be shown this type, which the orders hold.
+    let _none: Option<Event> = None;
     let mut orders = Vec::new(alloc);
     for line in lines {
-        add_order(&mut orders, order_of(sub, line))?;
+        add_some(&mut orders, order_of(sub, line))?;
     }
     Ok(orders)
 }

@@ -13,11 +13,11 @@ order_of-requires c = line_open_at _ c.args.lines.now c.loop-line.line-index c.l
 pub loop-line-preserved : goal.loop-line-preserved
 loop-line-preserved c = record {
   lines =
-      lines_on c.loop-line.orders.items c.add_order.new.orders.items c.order_of.result c.args.lines.now c.loop-line.line-index c.line-item.result
-      c.loop-line-test.true c.line-item.is c.in_ok-add_order.ensures c.order_of.ensures.line c.loop-line.invariant.lines;
+      lines_on c.loop-line.orders.items c.add_some.new.items.items c.order_of.result c.args.lines.now c.loop-line.line-index c.line-item.result
+      c.loop-line-test.true c.line-item.is c.in_ok-add_some.ensures c.order_of.ensures.line c.loop-line.invariant.lines;
   spare =
-      spare_on (IsSpareAmong makes_empty c.args.sub.now.devices.items) c.loop-line.orders.items c.add_order.new.orders.items c.order_of.result
-      c.in_ok-add_order.ensures c.loop-line.invariant.spare c.order_of.ensures.spare;
+      spare_on (IsSpareAmong makes_empty c.args.sub.now.devices.items) c.loop-line.orders.items c.add_some.new.items.items c.order_of.result
+      c.in_ok-add_some.ensures c.loop-line.invariant.spare c.order_of.ensures.spare;
 }
 
 pub returns-clause-lines : goal.returns-clause-lines

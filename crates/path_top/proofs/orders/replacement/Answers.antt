@@ -1,4 +1,4 @@
-use Rattle.std.proofs.Common.{◌∙◌, [], ap, subst, sym}
+use Rattle.std.proofs.Common.{◌≡◌, ◌∙◌, [], ap, subst, sym}
 use Rattle.std.specs.Prelude.{IfSome}
 use Rattle.device_outside.specs.Disk.{Disk, disk_view, new_disk}
 use Rattle.path_orders.specs.Spare.{IsSpare}
