@@ -106,7 +106,7 @@ module _ (n : ℕ) (before after held holds : Option (List ℕ)) (text : List �
   by_save (Limit which) t nr nw = absurd (no_fault d (faults.Limit which) (parsed t.text) (parsed_so t.text t.reads) t.told.0)
   by_save Device t nr nw =
       let same : t.told.0 ≡ d = same_deck d t.told.0 (parsed t.text) (parsed_so t.text t.reads) t.told.1 in
-      inl (sym (ap (λ b. if b then status_of (saving_of d n) else Device) (ap (λ (x : DeckLines). is_declared x n) (sym same) ∙ t.told.2.0)))
+      inl (sym (ap (λ b. if b then status_of (saving_of d n) else Device) (ap (λ (x : DeckLines). is_declared x n) (sym same) ∙ t.told.2)))
   by_save Lent t nr nw = inl (unsaved_so t.text _ t.reads t.told.0)
   by_save Half t nr nw = inl (unsaved_so t.text _ t.reads t.told.0)
   by_save (Lost q) t nr nw = inl (unsaved_so t.text _ t.reads t.told.0)

@@ -66,7 +66,7 @@ module _ (d : DeckLines) (n : ℕ) (held holds : Option (List ℕ)) where
   unsaved : (why : Unsaved) → is_declared d n ≡ true → saving_of d n ≡ Err why → HasReason (run_of d).behind n why → IsUnsaved (Ok d) n why
   unsaved why here is reason = record { lines = d; read = refl; declared = here; why_is = is; reason = reason }
 
-  pub why_told : (status : VolumeStatus) (why : Unsaved) → is_declared d n ≡ true → Gives {ImageVolume} (Err why) (saving_of d n) →
+  pub why_told : (status : VolumeStatus) (why : Unsaved) → is_declared d n ≡ true → Gives {A = ImageVolume} (Err why) (saving_of d n) →
       HasReason (run_of d).behind n why → TellsWhy status why held holds → Tells status
   why_told status whys.Lent here is reason told =
       by_written status Lent (unsaved_text whys.Lent) (declared_text d n (Err whys.Lent) here (sym is))
