@@ -1,32 +1,5 @@
 -- Of every deck the file is written, or why not, where nothing fails.
-use Rattle.std.proofs.Common.{
-  ◌≡◌,
-  ◌⊎◌,
-  ◌∙◌,
-  inl,
-  inr,
-  ◌<◌,
-  ◌≤◌,
-  ◌+◌,
-  ◌++◌,
-  ℕ,
-  true,
-  false,
-  List,
-  [],
-  length,
-  Option,
-  Some,
-  None,
-  Result,
-  Ok,
-  Err,
-  refl,
-  sym,
-  ap,
-  subst,
-  arith,
-}
+use Rattle.std.proofs.Common.{◌≡◌, ◌⊎◌, ◌∙◌, inl, inr, ◌≤◌, ◌++◌, ℕ, true, List, length, Option, Some, None, Result, Ok, Err, refl, sym, ap, subst, arith}
 use Rattle.std.specs.Prelude.{if◌then◌else◌}
 use Rattle.std.proofs.lemmas.Bool.{cases_lt}
 use Rattle.std.proofs.lemmas.Bool.Decides.{nat_tests}
@@ -60,7 +33,7 @@ use Rattle.volume_tool.specs.declared.top.VolumeStatus.TheVariants.{
   Trailing,
 }
 use Rattle.volume_tool.specs.Answers.{Tells}
-use Rattle.volume_tool.specs.Save.{is_declared, status_for, status_of, IsUnsaved, Reads, TellsRead, TellsSave}
+use Rattle.volume_tool.specs.Save.{is_declared, status_for, status_of, IsUnsaved, Reads, TellsSave}
 
 parse_long : (text : List ℕ) → 16777217 ≤ length text → parsed text ≡ Err (faults.Limit Size)
 parse_long text long = grind (arith, nat_tests)
