@@ -1,32 +1,5 @@
 -- Of every deck the file is written, or why not, where nothing fails.
-use Rattle.std.proofs.Common.{
-  ◌≡◌,
-  ◌⊎◌,
-  ◌∙◌,
-  inl,
-  inr,
-  ◌<◌,
-  ◌≤◌,
-  ◌+◌,
-  ◌++◌,
-  ℕ,
-  true,
-  false,
-  List,
-  [],
-  length,
-  Option,
-  Some,
-  None,
-  Result,
-  Ok,
-  Err,
-  refl,
-  sym,
-  ap,
-  subst,
-  arith,
-}
+use Rattle.std.proofs.Common.{◌≡◌, ◌⊎◌, ◌∙◌, inl, inr, ◌≤◌, ◌++◌, ℕ, true, List, length, Option, Some, None, Result, Ok, Err, refl, sym, ap, subst, arith}
 use Rattle.std.specs.Prelude.{if◌then◌else◌}
 use Rattle.std.proofs.lemmas.Bool.{cases_lt}
 use Rattle.std.proofs.lemmas.Bool.Decides.{nat_tests}
@@ -60,7 +33,7 @@ use Rattle.volume_tool.specs.declared.top.VolumeStatus.TheVariants.{
   Trailing,
 }
 use Rattle.volume_tool.specs.Answers.{Tells}
-use Rattle.volume_tool.specs.Save.{is_declared, status_for, status_of, IsUnsaved, Reads, TellsRead, TellsSave}
+use Rattle.volume_tool.specs.Save.{is_declared, status_for, status_of, IsUnsaved, Reads, TellsSave}
 
 parse_long : (text : List ℕ) → 16777217 ≤ length text → parsed text ≡ Err (faults.Limit Size)
 parse_long text long = grind (arith, nat_tests)
@@ -106,7 +79,7 @@ module _ (n : ℕ) (before after held holds : Option (List ℕ)) (text : List �
   by_save (Limit which) t nr nw = absurd (no_fault d (faults.Limit which) (parsed t.text) (parsed_so t.text t.reads) t.told.0)
   by_save Device t nr nw =
       let same : t.told.0 ≡ d = same_deck d t.told.0 (parsed t.text) (parsed_so t.text t.reads) t.told.1 in
-      inl (sym (ap (λ b. if b then status_of (saving_of d n) else Device) (ap (λ (x : DeckLines). is_declared x n) (sym same) ∙ t.told.2.0)))
+      inl (sym (ap (λ b. if b then status_of (saving_of d n) else Device) (ap (λ (x : DeckLines). is_declared x n) (sym same) ∙ t.told.2)))
   by_save Lent t nr nw = inl (unsaved_so t.text _ t.reads t.told.0)
   by_save Half t nr nw = inl (unsaved_so t.text _ t.reads t.told.0)
   by_save (Lost q) t nr nw = inl (unsaved_so t.text _ t.reads t.told.0)

@@ -1,9 +1,8 @@
 -- What an answer to `save` says, from what was written.
-use Rattle.std.proofs.Common.{◌≡◌, ◌⊎◌, inl, inr, ◌∙◌, ℕ, true, false, List, Option, Result, Ok, Err, refl, sym, ap, subst}
+use Rattle.std.proofs.Common.{◌≡◌, inl, inr, ◌∙◌, ℕ, true, false, List, Option, Result, Ok, Err, refl, sym, ap, subst}
 use Rattle.std.specs.Prelude.{if◌then◌else◌}
 use Rattle.std.specs.Io.KnownBytes.{Appends}
 use Rattle.ckd_outside.specs.Texts.{AppendsFront}
-use Rattle.deck_text.specs.declared.line.DeckFault.{DeckFault}
 use Rattle.deck_text.specs.DeckLines.{DeckLines}
 use Rattle.deck_text.specs.Parse.{parsed}
 use Rattle.subsystem_defs.specs.Decks.{run_of}
@@ -29,19 +28,7 @@ use Rattle.volume_tool.specs.declared.top.VolumeStatus.TheVariants.{
   BadTrack,
   Trailing,
 }
-use Rattle.volume_tool.specs.Save.{
-  device_text,
-  is_declared,
-  saved_text,
-  status_of,
-  text_for,
-  unsaved_text,
-  IsUnsaved,
-  Reads,
-  TellsDeck,
-  TellsSave,
-  TellsWhy,
-}
+use Rattle.volume_tool.specs.Save.{device_text, is_declared, saved_text, text_for, unsaved_text, IsUnsaved, Reads, TellsDeck, TellsSave, TellsWhy}
 use Rattle.volume_tool.specs.Written.{IsWritten}
 
 declared_text : (d : DeckLines) (n : ℕ) (r : Result ImageVolume Unsaved) → is_declared d n ≡ true → saving_of d n ≡ r → text_for d n ≡ saved_text r
@@ -66,7 +53,7 @@ module _ (d : DeckLines) (n : ℕ) (held holds : Option (List ℕ)) where
   unsaved : (why : Unsaved) → is_declared d n ≡ true → saving_of d n ≡ Err why → HasReason (run_of d).behind n why → IsUnsaved (Ok d) n why
   unsaved why here is reason = record { lines = d; read = refl; declared = here; why_is = is; reason = reason }
 
-  pub why_told : (status : VolumeStatus) (why : Unsaved) → is_declared d n ≡ true → Gives {ImageVolume} (Err why) (saving_of d n) →
+  pub why_told : (status : VolumeStatus) (why : Unsaved) → is_declared d n ≡ true → Gives {A = ImageVolume} (Err why) (saving_of d n) →
       HasReason (run_of d).behind n why → TellsWhy status why held holds → Tells status
   why_told status whys.Lent here is reason told =
       by_written status Lent (unsaved_text whys.Lent) (declared_text d n (Err whys.Lent) here (sym is))
