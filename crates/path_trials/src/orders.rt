@@ -23,6 +23,8 @@ fn replace(orders: &mut Orders, d: DeviceNo, side: Side) -> Result<(), Fail>
     requires { All IsNew orders.old.items }
     ensures { OnOk result (All IsNew orders.new.items) }
 {
+    // The kit's borrow checker has to be shown this type, which the orders hold.
+    let _none: Option<Event> = None;
     orders.push(Order::Replace(d, side, EmptyVolume { cylinders: 1 }))?;
     Ok(())
 }
