@@ -23,6 +23,7 @@ use Rattle.std.proofs.Common.{
   None,
   length,
   drop,
+  take,
   get_or,
   map,
   refl,
@@ -167,6 +168,14 @@ pub line_open_at : (ns : List ℕ) (es : List EventLine) (i : ℕ) (e : EventLin
 line_open_at ns [] i e within is all = absurd (omega arith)
 line_open_at ns (x ∷ es) zero e within is all = ap (is_open_line ns) is ∙ if_so _ _ all
 line_open_at ns (x ∷ es) (suc i) e within is all = line_open_at ns es i e (omega arith) is (then_so (is_open_line ns x) _ all)
+
+-- the first lines are open where all are
+pub front_open : (ns : List ℕ) (es : List EventLine) (n : ℕ) → are_open_lines ns es ≡ true → are_open_lines ns (take n es) ≡ true
+front_open ns es zero all = refl
+front_open ns [] (suc n) all = refl
+front_open ns (e ∷ es) (suc n) all =
+    subst (λ (b : Bool). (if b then are_open_lines ns (take n es) else false) ≡ true) (sym (if_so (is_open_line ns e) (are_open_lines ns es) all))
+    (front_open ns es n (then_so (is_open_line ns e) (are_open_lines ns es) all))
 
 all_both : (ts us : List Logged) → all_lines (ts ++ us) ≡ all_lines ts ++ all_lines us
 all_both [] us = refl

@@ -22,6 +22,7 @@ pub mod Passed
 pub mod Recorded
 pub mod Going
 pub mod Settling
+pub mod Fronts
 pub mod Closing
 pub mod Loosened
 pub mod Seen

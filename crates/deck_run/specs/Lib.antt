@@ -1,4 +1,5 @@
 pub mod Opening
+pub mod Fronts
 pub mod Sides
 pub mod Owning
 pub mod Standing

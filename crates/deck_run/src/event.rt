@@ -26,7 +26,8 @@ fn chain_stands<V: Volume>(device: &Device<V>)
     }
 }
 
-pub(crate) fn chains_stand<V: Volume>(devices: &[Device<V>])
+/// The chain of each program that runs stands on its device.
+pub fn chains_stand<V: Volume>(devices: &[Device<V>])
     ensures { ChainsStand devices.now }
 {
     for device in devices {

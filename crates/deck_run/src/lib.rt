@@ -13,7 +13,8 @@ mod replace;
 mod run;
 mod work;
 
+pub use event::chains_stand;
 pub use loosed::loosed_by;
 pub use open::open_deck;
 pub use pair::join;
-pub use run::{FinishedRun, run_deck};
+pub use run::{FinishedRun, run_deck, run_front};

@@ -1,13 +1,18 @@
-ghost use Rattle.std.specs.Prelude.{◌≡◌, ◌+◌, ◌++◌, ◌∷◌, [], All, IfOk, OnOk, length};
+ghost use Rattle.std.specs.Prelude.{◌≡◌, ◌≤◌, ◌+◌, ◌++◌, ◌∷◌, [], All, IfOk, OnOk, length, map, take, true};
 ghost use Rattle.report_text.specs.declared.line.ReportLine.TheVariants as lines;
 ghost use Rattle.run_report.specs.Report.{lines_of_run, report_lines};
 ghost use Rattle.subsystem_defs.specs.Decks.{run_of};
+ghost use Rattle.subsystem_defs.specs.Lines.{asked_by, last_behind, run_lines};
+ghost use Rattle.subsystem_defs.specs.Subsystem as runs;
 ghost use Rattle.subsystem_core.specs.Devices.{numbers_of};
 ghost use Rattle.subsystem_laws.specs.AllSound.{AreSound};
 ghost use Rattle.subsystem_laws.specs.Served.{IsServedDeck};
 ghost use Rattle.subsystem_laws.specs.SlotsApart.{AreApart};
 ghost use Rattle.subsystem_laws.specs.Transfers.{MovesByTable};
-ghost use Rattle.deck_run.specs.Opening.{WasRead, numbers_in};
+ghost use Rattle.deck_run.specs.Fronts.{front_of};
+ghost use Rattle.deck_run.specs.Opening.{WasRead, are_open_lines, numbers_in};
+ghost use Rattle.deck_run.specs.Owning.{AreOwn};
+ghost use Rattle.deck_run.specs.Recording.{all_lines};
 ghost use Rattle.deck_run.specs.Sides.{AreAccounted, all_sides};
 ghost use Rattle.deck_run.specs.Standing.{StandsAs, all_stood};
 
@@ -15,6 +20,7 @@ use crate::close::{record_devices, record_frames};
 use crate::line::do_line;
 use crate::open::open_deck;
 use ckd_types::NoMemory;
+use deck_plan::EventLine;
 use deck_text::Deck;
 use device_outside::{MemBay, MemVolume};
 use report_text::RunRecord;
@@ -28,7 +34,83 @@ pub struct FinishedRun {
     pub report: RunRecord,
 }
 
-/// The event lines of a deck over its devices.
+fn front(deck: &Deck, n: usize) -> &[EventLine]
+    requires { n ≤ length deck.now.events }
+    ensures { result.now ≡ take n deck.now.events }
+{
+    deck.schedule().as_slice().split_at(n).0
+}
+
+/// Event lines, one after another.
+fn do_lines(
+    alloc: Global,
+    sub: &mut Subsystem<MemVolume>,
+    report: &mut RunRecord,
+    lines: &[EventLine],
+) -> Result<(), NoMemory>
+    requires here { are_open_lines (numbers_of sub.old.devices.items) lines.now ≡ true }
+    requires own { AreOwn sub.old.devices.items }
+    ensures numbers { numbers_of sub.new.devices.items ≡ numbers_of sub.old.devices.items }
+    ensures own { OnOk result (AreOwn sub.new.devices.items) }
+    ensures stands { (run : runs.Subsystem) → StandsAs sub.old run
+        → OnOk result (StandsAs sub.new (last_behind run (run_lines (map asked_by lines.now) run))) }
+    ensures lines { (run : runs.Subsystem) → StandsAs sub.old run
+        → OnOk result (report.new ≡ report.old ++ all_lines (run_lines (map asked_by lines.now) run)) }
+{
+    for line in lines {
+        match do_line(alloc, sub, report, *line) {
+            Err(NoMemory) => return Err(NoMemory),
+            Ok(()) => (),
+        }
+    }
+    Ok(())
+}
+
+/// The first `n` event lines of a deck over its devices.
+fn run_first(
+    alloc: Global,
+    deck: &Deck,
+    n: usize,
+    bay: &mut MemBay,
+) -> Result<FinishedRun, NoMemory>
+    requires read { WasRead deck.now }
+    requires within { n ≤ length deck.now.events }
+    ensures stands { bay.old.spoiled ≡ [] → IfOk result (λ ran. StandsAs ran.sub (front_of deck.now n).behind) }
+    ensures lines { bay.old.spoiled ≡ [] → IfOk result (λ ran. ran.report ≡ lines_of_run (front_of deck.now n)) }
+    ensures numbers { IfOk result (λ ran. numbers_of ran.sub.devices.items ≡ numbers_in deck.now.devices) }
+    ensures own { IfOk result (λ ran. AreOwn ran.sub.devices.items) }
+    ensures made { OnOk result (bay.new.made ≡ bay.old.made + length deck.now.devices) }
+    ensures spoiled { bay.new.spoiled ≡ bay.old.spoiled }
+    ensures taken { bay.new.taken ≡ bay.old.taken }
+{
+    let mut sub = open_deck(alloc, deck, bay)?;
+    let mut report = RunRecord::new(alloc);
+    do_lines(alloc, &mut sub, &mut report, front(deck, n))?;
+    Ok(FinishedRun { sub, report })
+}
+
+/// Runs the first `n` event lines of a deck over volumes that the bay makes. Where no track is spoiled its devices are then those that
+/// the defined run of these lines leaves.
+pub fn run_front(
+    alloc: Global,
+    deck: &Deck,
+    n: usize,
+    bay: &mut MemBay,
+) -> Result<Subsystem<MemVolume>, NoMemory>
+    requires read { WasRead deck.now }
+    requires within { n ≤ length deck.now.events }
+    ensures stands { bay.old.spoiled ≡ [] → IfOk result (λ sub. StandsAs sub (front_of deck.now n).behind) }
+    ensures numbers { IfOk result (λ sub. numbers_of sub.devices.items ≡ numbers_in deck.now.devices) }
+    ensures own { IfOk result (λ sub. AreOwn sub.devices.items) }
+    ensures made { OnOk result (bay.new.made ≡ bay.old.made + length deck.now.devices) }
+    ensures spoiled { bay.new.spoiled ≡ bay.old.spoiled }
+    ensures taken { bay.new.taken ≡ bay.old.taken }
+{
+    let ran = run_first(alloc, deck, n, bay)?;
+    Ok(ran.sub)
+}
+
+/// All event lines of a deck over its devices.
 fn run_events(alloc: Global, deck: &Deck, bay: &mut MemBay) -> Result<FinishedRun, NoMemory>
     requires { WasRead deck.now }
     ensures stands { bay.old.spoiled ≡ [] → IfOk result (λ ran. StandsAs ran.sub (run_of deck.now).behind) }
@@ -39,15 +121,8 @@ fn run_events(alloc: Global, deck: &Deck, bay: &mut MemBay) -> Result<FinishedRu
     ensures spoiled { bay.new.spoiled ≡ bay.old.spoiled }
     ensures taken { bay.new.taken ≡ bay.old.taken }
 {
-    let mut sub = open_deck(alloc, deck, bay)?;
-    let mut report = RunRecord::new(alloc);
-    for line in deck.schedule().as_slice() {
-        match do_line(alloc, &mut sub, &mut report, *line) {
-            Err(NoMemory) => return Err(NoMemory),
-            Ok(()) => (),
-        }
-    }
-    Ok(FinishedRun { sub, report })
+    let ran = run_first(alloc, deck, deck.event_count(), bay)?;
+    Ok(ran)
 }
 
 /// Runs a deck over volumes that the bay makes. Where no track is spoiled its devices are those that the defined run leaves, and what

@@ -1,5 +1,6 @@
 pub mod Complete
 pub mod HandedBack
+pub mod Facts
 pub mod Summed
 pub mod Words
 pub mod Written

@@ -1,5 +1,5 @@
 -- What the top call answers, and what it then has written.
-use Rattle.std.specs.Prelude.{◌≡◌, ◌⊎◌, ◌<◌, ◌≤◌, ℕ, Bool, true, false, List, [], ◌∷◌, length, codes, Option, Some, None, Result, Ok, Err, if◌then◌else◌}
+use Rattle.std.specs.Prelude.{◌≡◌, ◌⊎◌, ◌<◌, ◌≤◌, ℕ, Bool, true, false, List, [], ◌∷◌, length, codes, Option, Some, None, Result, Ok, Err, All, if◌then◌else◌}
 use Rattle.std.specs.Str.{bytes_eq}
 use Rattle.std.specs.Io.KnownBytes.{Consumes, IsAtEnd, Appends}
 use Rattle.ckd_outside.specs.Texts.{AppendsFront}
@@ -17,6 +17,8 @@ use Rattle.deck_top.specs.declared.top.Status.TheVariants.{Reported, DeckRefused
 use Rattle.deck_top.specs.Handed.{TakesBack}
 use Rattle.device_outside.specs.Bay.{Bay}
 use Rattle.device_outside.specs.declared.bay.Spoiled.{Spoiled}
+use Rattle.promise_laws.specs.Kept.{KeepWrites}
+use Rattle.promise_laws.specs.Origins.{HaveOrigins}
 use Rattle.report_text.specs.Numbers.{number_in}
 use Rattle.report_text.specs.Summary.{summary_text}
 use Rattle.run_report.specs.Report.{report_of}
@@ -92,10 +94,14 @@ FrontOf (Ok d) Check spoiled held holds = AppendsFront held holds (canonical d)
 FrontOf (Ok d) task spoiled held holds = (text : List ℕ) × (spoiled ≡ [] → text ≡ output_of task d) × AppendsFront held holds text
 
 -- the report shows each device's history, which is one of a plain device; each equipment check is explained; and while each failure is repaired
--- before the next one comes nothing is missed
+-- before the next one comes nothing is missed. Each event brings into a journal only what an event of its kind may bring, a new volume at the
+-- UNPAIR alone that gives it back; and what each track is without data of cache fast write was made by the writes since then that were acknowledged,
+-- and by those of commands that were cut in their midst
 pub record RunsAsPromised (d : DeckLines) : Type 0 where
   pub shown : DeckRunsPlainly d
   pub promised : IsPromised d
+  pub origins : All HaveOrigins (run_of d).events
+  pub kept : All KeepWrites (run_of d).events
 
 -- what is done for a deck: its canonical text, or the report or the summary of its run, of which all is so that is promised, and whose volumes
 -- go back to the bay

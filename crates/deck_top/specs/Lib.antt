@@ -1,3 +1,4 @@
 pub mod Handed
 pub mod Answers
 pub mod Summing
+pub mod Facts

@@ -21,6 +21,7 @@ use ckd_types::NoMemory;
 use deck_run::FinishedRun;
 use deck_text::Deck;
 use device_outside::{MemBay, MemVolume};
+use promise_laws::{read_run_has_origins, read_run_keeps_writes};
 use report_laws::read_run_runs_plainly;
 use report_text::write_report;
 use std::alloc::Global;
@@ -45,6 +46,8 @@ pub(crate) fn run_deck(
     ensures taken { bay.new.taken ≡ bay.old.taken }
 {
     read_run_is_promised();
+    read_run_has_origins();
+    read_run_keeps_writes();
     read_run_runs_plainly();
     let ran = deck_run::run_deck(alloc, deck, bay)?;
     Ok(ran)

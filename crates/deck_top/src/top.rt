@@ -7,7 +7,13 @@ ghost use Rattle.device_outside.specs.Bay.{Bay};
 ghost use Rattle.deck_text.specs.Parse.{parsed};
 ghost use Rattle.deck_run.specs.Opening.{WasRead};
 ghost use Rattle.deck_gen.specs.Generated.{deck_of_seed};
-ghost use Rattle.deck_top.specs.Answers.{code_of, is_run, task_of, usage_text, IsServed, TellsDeck, TellsRead, TellsTask, Tells};
+ghost use Rattle.deck_text.specs.Canonical.{canonical};
+ghost use Rattle.deck_text.specs.Texts.{limit_text, refused_text};
+ghost use Rattle.run_report.specs.Report.{report_of};
+ghost use Rattle.deck_top.specs.Answers.{code_of, is_run, task_of, usage_text, IsServed, RunsAsPromised};
+ghost use Rattle.deck_top.specs.Answers.{TellsDeck, TellsRead, TellsTask, TellsUsage, Tells};
+ghost use Rattle.deck_top.specs.Facts.{IsRead, IsRefused, OfDeck, ReportsPlainly, SumsUp, WritesFront};
+ghost use Rattle.deck_top.specs.Handed.{TakesBack};
 
 use crate::report::report;
 use crate::summary::summarize;
@@ -255,6 +261,10 @@ fn serve<S: Source, K: Sink>(
 /// reads a deck and writes its canonical text; `generate SEED COUNT` reads nothing, runs the deck of that seed and so many programs
 /// in the same way, and writes the summary of its run. A read fault is answered exactly where a read failed. Where memory is lacking, or a
 /// write failed, the bay may have made volumes that don't come back.
+///
+/// Whatever the deck and the order of its events, the report of `run` shows for each program what a plain uncached volume gives when the
+/// programs run one after another. Only where something failed may a command end with equipment check instead, and each of these is
+/// explained. While each failure is repaired before the next one comes, no acknowledged write is missed.
 pub fn deck_top<S: Source, K: Sink>(
     alloc: Global,
     words: &[&str],
@@ -262,8 +272,40 @@ pub fn deck_top<S: Source, K: Sink>(
     sink: &mut K,
     bay: &mut MemBay,
 ) -> Status
+    // `run`: the report is that of the run; it shows of each device of the deck the programs of a plain device; what is promised of the
+    // run; and where its volumes are then.
+    ensures reported { result ≡ Status.Reported → task_of (map (λ w. w.now) words.now) ≡ Some Task.Run → bay.old.spoiled ≡ []
+        → OfDeck (S.left source.old) (S.left source.new) (λ d. Appends (K.held sink.old) (K.held sink.new) (report_of d)) }
+    ensures plain { result ≡ Status.Reported → task_of (map (λ w. w.now) words.now) ≡ Some Task.Run → bay.old.spoiled ≡ []
+        → OfDeck (S.left source.old) (S.left source.new) (ReportsPlainly (K.held sink.old) (K.held sink.new)) }
+    ensures promised { result ≡ Status.Reported → task_of (map (λ w. w.now) words.now) ≡ Some Task.Run
+        → OfDeck (S.left source.old) (S.left source.new) RunsAsPromised }
+    ensures volumes { result ≡ Status.Reported → task_of (map (λ w. w.now) words.now) ≡ Some Task.Run
+        → OfDeck (S.left source.old) (S.left source.new) (λ d. TakesBack d bay.old bay.new) }
+
+    // `check` and `generate`.
+    ensures checked { result ≡ Status.Reported → task_of (map (λ w. w.now) words.now) ≡ Some Task.Check
+        → OfDeck (S.left source.old) (S.left source.new) (λ d. Appends (K.held sink.old) (K.held sink.new) (canonical d)) }
+    ensures summed { (seed count : ℕ) → result ≡ Status.Reported → task_of (map (λ w. w.now) words.now) ≡ Some (Task.Generate seed count)
+        → SumsUp seed count bay.old bay.new (S.left source.old) (S.left source.new) (K.held sink.old) (K.held sink.new) }
+
+    // A deck that isn't taken, and words that name no task.
+    ensures refused { (line : ℕ) (why : DeckWhy) → result ≡ Status.DeckRefused line why → IsRefused (DeckFault.Refused line why)
+        (refused_text line why) (S.left source.old) (S.left source.new) (K.held sink.old) (K.held sink.new) }
+    ensures limit { (which : Which) → result ≡ Status.Limit which → IsRefused (DeckFault.Limit which)
+        (limit_text which) (S.left source.old) (S.left source.new) (K.held sink.old) (K.held sink.new) }
+    ensures usage { task_of (map (λ w. w.now) words.now) ≡ None
+        → TellsUsage result (S.left source.old) (S.left source.new) (K.held sink.old) (K.held sink.new) }
+
+    // All of it at once, with which answers there are to which words and texts, and the same deck in each.
     ensures told { Tells result (task_of (map (λ w. w.now) words.now)) bay.old bay.new
         (S.left source.old) (S.left source.new) (K.held sink.old) (K.held sink.new) }
+
+    // Faults of the outside, and want of memory: nothing is written, or a front of what was to be.
+    ensures faults { result ≡ Status.ReadFault → K.held sink.new ≡ K.held sink.old }
+    ensures front { (task : Task) → IsRead task → result ≡ Status.WriteFault → task_of (map (λ w. w.now) words.now) ≡ Some task
+        → WritesFront task bay.old (S.left source.old) (S.left source.new) (K.held sink.old) (K.held sink.new) }
+    ensures memory { result ≡ Status.NoMemory → K.held sink.new ≡ K.held sink.old }
     ensures read { result ≡ Status.ReadFault → Rose (S.faults source.old) (S.faults source.new) }
     ensures calm { result ≢ Status.ReadFault → S.faults source.new ≡ S.faults source.old }
     ensures write { result ≡ Status.WriteFault → Rose (K.faults sink.old) (K.faults sink.new) }

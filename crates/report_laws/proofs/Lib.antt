@@ -4,3 +4,5 @@ mod Places
 mod ShownEvents
 mod ShownDeeds
 mod ShownRuns
+mod SameDevices
+pub mod PlainReports

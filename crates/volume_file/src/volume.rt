@@ -61,7 +61,7 @@ impl FileVolume {
     }
 
     /// The volume of the images of all its tracks.
-    pub(crate) fn of(geometry: Geometry, cylinders: u8, images: Vec<TrackImage>) -> FileVolume
+    pub fn of(geometry: Geometry, cylinders: u8, images: Vec<TrackImage>) -> FileVolume
         requires { IsWhole (record { geometry = geometry; cylinders = cylinders; images = images.items }) }
         ensures { result ≡ record { geometry = geometry; cylinders = cylinders; images = images.items } }
     {

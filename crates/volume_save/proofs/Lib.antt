@@ -1,3 +1,5 @@
+pub mod Devices
+pub mod DeckTexts
 pub mod InRun
 pub mod Images
 pub mod Stepping

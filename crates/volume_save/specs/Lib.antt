@@ -1,2 +1,4 @@
+pub mod Devices
+pub mod DeckTexts
 pub mod Saving
 pub mod Stepping

@@ -2,9 +2,11 @@
 #![tactic(auto)]
 
 mod deck;
+mod device;
 mod saving;
 mod unsaved;
 
 pub use deck::saved_behind;
+pub use device::declared;
 pub use saving::saved;
 pub use unsaved::Unsaved;

@@ -1,4 +1,3 @@
 pub mod Listed
 pub mod Complete
-pub mod Declared
 pub mod SaveComplete

@@ -1,17 +1,15 @@
 -- Of every deck the file is written, or why not, where nothing fails.
-use Rattle.std.proofs.Common.{◌≡◌, ◌⊎◌, ◌∙◌, inl, inr, ◌≤◌, ◌++◌, ℕ, true, List, length, Option, Some, None, Result, Ok, Err, refl, sym, ap, subst, arith}
+use Rattle.std.proofs.Common.{◌≡◌, ◌⊎◌, ◌∙◌, inl, inr, ℕ, true, List, Option, Some, None, Ok, Err, refl, sym, ap, subst}
 use Rattle.std.specs.Prelude.{if◌then◌else◌}
-use Rattle.std.proofs.lemmas.Bool.{cases_lt}
-use Rattle.std.proofs.lemmas.Bool.Decides.{nat_tests}
-use Rattle.std.proofs.lemmas.List.{append-nil, length-append}
 use Rattle.std.proofs.lemmas.Option.{none-some}
-use Rattle.deck_text.specs.declared.line.DeckFault.{DeckFault}
 use Rattle.deck_text.specs.declared.line.DeckFault.TheVariants as faults
-use Rattle.deck_text.specs.declared.line.Which.TheVariants.{Size}
 use Rattle.deck_text.specs.DeckLines.{DeckLines}
 use Rattle.deck_text.specs.Parse.{parsed}
 use Rattle.volume_save.specs.declared.unsaved.Unsaved.{Unsaved}
+use Rattle.volume_save.specs.Devices.{is_declared}
+use Rattle.volume_save.specs.DeckTexts.{Reads}
 use Rattle.volume_save.specs.Saving.{saving_of}
+use Rattle.volume_save.proofs.DeckTexts.{no_fault, parsed_so, same_deck}
 use Rattle.volume_tool.specs.declared.task.Task.{Task}
 use Rattle.volume_tool.specs.declared.task.Task.TheVariants as tasks
 use Rattle.volume_tool.specs.declared.top.VolumeStatus.{VolumeStatus}
@@ -33,29 +31,11 @@ use Rattle.volume_tool.specs.declared.top.VolumeStatus.TheVariants.{
   Trailing,
 }
 use Rattle.volume_tool.specs.Answers.{Tells}
-use Rattle.volume_tool.specs.Save.{is_declared, status_for, status_of, IsUnsaved, Reads, TellsSave}
-
-parse_long : (text : List ℕ) → 16777217 ≤ length text → parsed text ≡ Err (faults.Limit Size)
-parse_long text long = grind (arith, nat_tests)
-
-no_fault : (d : DeckLines) (f : DeckFault) (deck : Result DeckLines DeckFault) → deck ≡ Ok d → deck ≡ Err f → ⊥
-no_fault d f deck p q = cc
-
-same_deck : (d e : DeckLines) (deck : Result DeckLines DeckFault) → deck ≡ Ok d → deck ≡ Ok e → e ≡ d
-same_deck d e deck p q = cc
-
--- a deck's text that was read is the whole one
-same_text : (text read : List ℕ) (after : Option (List ℕ)) (d : DeckLines) → Reads (Some text) after read → parsed text ≡ Ok d → read ≡ text
-same_text text read None d r p = absurd r.read
-same_text text read (Some rest) d r p = elim (cases_lt (length read) 16777217) [
-  | inl short ↦ sym (r.read ∙ ap (λ (l : List ℕ). read ++ l) (r.whole short) ∙ append-nil read)
-  | inr long ↦ absurd (no_fault d (faults.Limit Size) (parsed text) p
-      (parse_long text (omega (arith, ap length r.read, length-append read rest))))
-]
+use Rattle.volume_tool.specs.Save.{status_for, status_of, IsUnsaved, TellsSave}
 
 module _ (n : ℕ) (before after held holds : Option (List ℕ)) (text : List ℕ) (d : DeckLines) (is : before ≡ Some text) (p : parsed text ≡ Ok d) where
-  parsed_so : (read : List ℕ) → Reads before after read → parsed read ≡ Ok d
-  parsed_so read r = ap parsed (same_text text read after d (subst (λ b. Reads b after read) is r) p) ∙ p
+  read_so : (read : List ℕ) → Reads before after read → parsed read ≡ Ok d
+  read_so read r = parsed_so before after text read d is p r
 
   -- the status of this deck
   declared_so : (status : VolumeStatus) (e : DeckLines) → e ≡ d → is_declared e n ≡ true → status ≡ status_of (saving_of e n) → status ≡ status_for d n
@@ -65,20 +45,20 @@ module _ (n : ℕ) (before after held holds : Option (List ℕ)) (text : List �
 
   unsaved_so : (read : List ℕ) (why : Unsaved) → Reads before after read → IsUnsaved (parsed read) n why → status_of (Err why) ≡ status_for d n
   unsaved_so read why r u =
-      declared_so (status_of (Err why)) u.lines (same_deck d u.lines (parsed read) (parsed_so read r) u.read) u.declared (sym (ap status_of u.why_is))
+      declared_so (status_of (Err why)) u.lines (same_deck d u.lines (parsed read) (read_so read r) u.read) u.declared (sym (ap status_of u.why_is))
 
   by_save : (status : VolumeStatus) → TellsSave status n before after held holds → (status ≡ ReadFault → ⊥) → (status ≡ WriteFault → ⊥) →
       (status ≡ status_for d n) ⊎ (status ≡ NoMemory)
   by_save Done t nr nw =
-      inl (declared_so Done t.told.lines (same_deck d t.told.lines (parsed t.text) (parsed_so t.text t.reads) t.told.read) t.told.declared
+      inl (declared_so Done t.told.lines (same_deck d t.told.lines (parsed t.text) (read_so t.text t.reads) t.told.read) t.told.declared
       (sym (ap status_of t.told.saved.found)))
   by_save NoMemory t nr nw = inr refl
   by_save ReadFault t nr nw = absurd (nr refl)
   by_save WriteFault t nr nw = absurd (nw refl)
-  by_save (DeckRefused line why) t nr nw = absurd (no_fault d (faults.Refused line why) (parsed t.text) (parsed_so t.text t.reads) t.told.0)
-  by_save (Limit which) t nr nw = absurd (no_fault d (faults.Limit which) (parsed t.text) (parsed_so t.text t.reads) t.told.0)
+  by_save (DeckRefused line why) t nr nw = absurd (no_fault d (faults.Refused line why) (parsed t.text) (read_so t.text t.reads) t.told.0)
+  by_save (Limit which) t nr nw = absurd (no_fault d (faults.Limit which) (parsed t.text) (read_so t.text t.reads) t.told.0)
   by_save Device t nr nw =
-      let same : t.told.0 ≡ d = same_deck d t.told.0 (parsed t.text) (parsed_so t.text t.reads) t.told.1 in
+      let same : t.told.0 ≡ d = same_deck d t.told.0 (parsed t.text) (read_so t.text t.reads) t.told.1 in
       inl (sym (ap (λ b. if b then status_of (saving_of d n) else Device) (ap (λ (x : DeckLines). is_declared x n) (sym same) ∙ t.told.2)))
   by_save Lent t nr nw = inl (unsaved_so t.text _ t.reads t.told.0)
   by_save Half t nr nw = inl (unsaved_so t.text _ t.reads t.told.0)

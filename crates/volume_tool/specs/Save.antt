@@ -1,16 +1,12 @@
 -- What `save` writes for a deck, and what its answer says.
 use Rattle.std.specs.Prelude.{
   ◌≡◌,
-  ◌<◌,
-  ◌≤◌,
   ℕ,
-  Bool,
   true,
   false,
   List,
   [],
   ◌++◌,
-  length,
   codes,
   decimal,
   Option,
@@ -19,7 +15,7 @@ use Rattle.std.specs.Prelude.{
   Err,
   if◌then◌else◌,
 }
-use Rattle.std.specs.Io.KnownBytes.{Consumes, IsAtEnd, Appends}
+use Rattle.std.specs.Io.KnownBytes.{Appends}
 use Rattle.ckd_types.specs.declared.paths.Side.{Side}
 use Rattle.ckd_types.specs.declared.paths.Side.TheVariants as sides
 use Rattle.ckd_outside.specs.Texts.{AppendsFront}
@@ -28,12 +24,12 @@ use Rattle.deck_text.specs.declared.line.DeckFault.TheVariants as faults
 use Rattle.deck_text.specs.DeckLines.{DeckLines}
 use Rattle.deck_text.specs.Parse.{parsed}
 use Rattle.deck_text.specs.Texts as texts
-use Rattle.deck_run.specs.Opening.{numbers_in}
-use Rattle.device_outside.specs.Lists.{is_in}
 use Rattle.subsystem_defs.specs.Decks.{run_of}
 use Rattle.volume_file.specs.File.{ImageVolume, file_of}
 use Rattle.volume_save.specs.declared.unsaved.Unsaved.{Unsaved}
 use Rattle.volume_save.specs.declared.unsaved.Unsaved.TheVariants as whys
+use Rattle.volume_save.specs.Devices.{is_declared}
+use Rattle.volume_save.specs.DeckTexts.{Reads}
 use Rattle.volume_save.specs.Saving.{saving_of, HasReason, IsSaved}
 use Rattle.volume_tool.specs.declared.top.VolumeStatus.{VolumeStatus}
 use Rattle.volume_tool.specs.declared.top.VolumeStatus.TheVariants.{
@@ -92,10 +88,6 @@ status_of (Err (whys.Lost t)) = Lost t
 status_of (Err (whys.Fault side)) = Fault side
 status_of (Err whys.NoMemory) = NoMemory
 
--- the deck has a device of this number
-abbrev pub is_declared : DeckLines → ℕ → Bool
-is_declared d n = is_in n (numbers_in d.devices)
-
 -- how `save` of this device ends, and what it writes, where memory and the outside hold
 abbrev pub status_for : DeckLines → ℕ → VolumeStatus
 status_for d n = if is_declared d n then status_of (saving_of d n) else Device
@@ -146,12 +138,6 @@ TellsDeck (Fault side) n deck held holds = IsUnsaved deck n (whys.Fault side) ×
 TellsDeck WriteFault n deck held holds = FrontOf deck n held holds
 TellsDeck NoMemory n deck held holds = holds ≡ held
 TellsDeck _ n deck held holds = ⊥
-
--- the source gave this text: all of it, or its first 16,777,217 bytes
-pub record Reads (before after : Option (List ℕ)) (text : List ℕ) : Type 0 where
-  pub read : Consumes before after text
-  pub bound : length text ≤ 16777217
-  pub whole : length text < 16777217 → IsAtEnd after
 
 pub record TellsRead (status : VolumeStatus) (n : ℕ) (before after held holds : Option (List ℕ)) : Type 0 where
   pub text : List ℕ

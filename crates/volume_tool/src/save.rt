@@ -1,10 +1,11 @@
-ghost use Rattle.std.specs.Prelude.{◌≡◌, ◌≢◌, ◌≤◌, ℕ, IfSome, None, Ok, Err, true, false};
+ghost use Rattle.std.specs.Prelude.{◌≡◌, ◌≢◌, ◌≤◌, ℕ, Ok, Err, true};
 ghost use Rattle.ckd_outside.specs.Causes.{Rose, HasCause};
 ghost use Rattle.ckd_outside.specs.Texts.{Writes};
 ghost use Rattle.deck_text.specs.Parse.{parsed};
 ghost use Rattle.deck_run.specs.Opening.{WasRead};
 ghost use Rattle.volume_file.specs.File.{file_of};
-ghost use Rattle.volume_tool.specs.Save.{device_text, half_text, is_declared, lent_text, lost_text, side_fault_text, side_text};
+ghost use Rattle.volume_save.specs.Devices.{is_declared};
+ghost use Rattle.volume_tool.specs.Save.{device_text, half_text, lent_text, lost_text, side_fault_text, side_text};
 ghost use Rattle.volume_tool.specs.Save.{TellsDeck, TellsSave, TellsWhy};
 ghost use Rattle.volume_tool.specs.Written.{IsWritten};
 
@@ -16,24 +17,10 @@ use deck_text::{
 };
 use std::alloc::Global;
 use volume_file::{FileVolume, save};
-use volume_save::{Unsaved, saved_behind};
+use volume_save::{Unsaved, declared, saved_behind};
 
 /// One byte more than a deck may have.
 const MOST_READ: usize = 16_777_217;
-
-/// The device of this number, where the deck has it.
-fn declared(deck: &Deck, n: u64) -> Option<DeviceNo>
-    ensures some { IfSome result (λ d. (d ≡ n) × (is_declared deck.now n ≡ true)) }
-    ensures none { result ≡ None → is_declared deck.now n ≡ false }
-{
-    for i in 0..deck.device_count() {
-        let line = deck.device_at(i);
-        if u64::from(line.number.get()) == n {
-            return Some(line.number);
-        }
-    }
-    None
-}
 
 fn side_text(side: Side) -> &'static [u8]
     ensures { result.now ≡ side_text side }

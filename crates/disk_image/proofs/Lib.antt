@@ -1,0 +1,10 @@
+pub mod Steps
+pub mod Patches
+pub mod Tracks
+pub mod Fitting
+pub mod Fills
+pub mod Opened
+pub mod Created
+pub mod Views
+pub mod Found
+pub mod StoredTracks

@@ -1,0 +1,12 @@
+//! Laws of disk image files.
+
+ghost use Rattle.std.specs.Prelude.{◌≡◌, ℕ, List, true};
+ghost use Rattle.ckd_types.specs.declared.geometry.Geometry.{Geometry};
+ghost use Rattle.ckd_types.specs.declared.record.Track.{Track};
+ghost use Rattle.ckd_types.specs.Track.{Fits, track_bytes};
+ghost use Rattle.disk_image.specs.File.{fits_room, room_size};
+
+/// A track that fits its volume fits its room, and comes back from there.
+pub fn tracks_fit()
+    ensures { (g : Geometry) (t : Track) → Fits g t → fits_room (room_size g) (track_bytes t) ≡ true }
+{}

@@ -1,0 +1,4 @@
+pub mod Messages
+pub mod Keeping
+pub mod Quiet
+pub mod Firmness

@@ -1,0 +1,4 @@
+pub mod Driven
+pub mod Staging
+pub mod Ending
+pub mod Recalling

@@ -1,0 +1,4 @@
+pub mod Keeping
+pub mod Copying
+pub mod Sessions
+pub mod CopyRun
