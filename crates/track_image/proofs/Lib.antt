@@ -5,3 +5,4 @@ pub mod Sizes
 pub mod Places
 pub mod Packs
 pub mod Rooms
+pub mod TrackRooms

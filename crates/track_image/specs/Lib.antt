@@ -2,3 +2,4 @@ pub mod Image
 pub mod Packed
 pub mod Reading
 pub mod Room
+pub mod TrackRoom

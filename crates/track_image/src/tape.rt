@@ -35,7 +35,7 @@ pub(crate) fn make_room(bytes: &mut Vec<u8>) -> Result<(), NoMemory>
 }
 
 /// Adds bytes in room that was made.
-fn append(bytes: &mut Vec<u8>, more: &[u8])
+pub(crate) fn append(bytes: &mut Vec<u8>, more: &[u8])
     requires { length bytes.old.items + length more.now ≤ vec_capacity bytes.old }
     ensures items { bytes.new.items ≡ bytes.old.items ++ more.now }
     ensures room { vec_capacity bytes.old ≤ vec_capacity bytes.new }
