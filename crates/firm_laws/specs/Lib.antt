@@ -1,0 +1,2 @@
+pub mod FirmWrites
+pub mod Written
