@@ -1,7 +1,6 @@
 -- The firm writes of a history behind each change of it that there is.
 use Rattle.std.proofs.Common.{
   ◌≡◌,
-  ◌≤◌,
   ◌<◌,
   ◌+◌,
   ◌-◌,
@@ -29,7 +28,7 @@ use Rattle.std.proofs.Common.{
   ◌∙◌,
   arith,
 }
-use Rattle.std.specs.Prelude.{⊤, IsSome}
+use Rattle.std.specs.Prelude.{IsSome}
 use Rattle.std.proofs.lemmas.Bool.{ne_eqb, eq-eqb, cond_both}
 use Rattle.std.proofs.lemmas.List.{append-nil}
 use Rattle.ckd_types.specs.declared.channel.Ccw.{Ccw}
@@ -131,9 +130,6 @@ no_act acts q None none = refl
 -- Parts of a program
 
 module _ (path : ℕ) (ccws : List Ccw) (state : PlainState) where
-  abbrev now : List Acted → ℕ → Part
-  now acts k = part_of state path ccws acts k
-
   abbrev steps : List Acted → Part → List FirmWrite
   steps acts p = step_writes path ccws p p.next ++ acted_writes acts (stepped path ccws p) (stepped path ccws p).next
 
@@ -204,9 +200,6 @@ module _ (plans : Plans) where
   Works s None = Unit {0}
 
   module _ (s : PlainState) (o : OpenEntry) (g : Going s o) where
-    abbrev ccws : List Ccw
-    ccws = program_of plans o.path o.ordinal
-
     pub part_acts : (act : Act) → open_part plans s (with_one_act o act) ≡ with_act (open_part plans s o) act
     part_acts act = part_here o.path (program_of plans o.path o.ordinal) s o.acts (length o.ends) g.many g.runs act
 
@@ -248,12 +241,6 @@ module _ (plans : Plans) where
   -- Histories
 
   module _ (empty : PlainState) (h : History) where
-    abbrev s : PlainState
-    s = replay plans empty h.items
-
-    abbrev old : List FirmWrite
-    old = journal_writes plans empty h.items
-
     abbrev with_running : Option OpenEntry → List FirmWrite
     with_running r = journal_writes plans empty h.items ++ running_writes plans (replay plans empty h.items) r
 

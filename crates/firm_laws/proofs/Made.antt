@@ -1,31 +1,6 @@
 -- What an event that told some firm tracks made of its device's history, and that these are the firm writes that came to it.
-use Rattle.std.proofs.Common.{
-  ◌≡◌,
-  ◌≤◌,
-  ◌+◌,
-  ℕ,
-  suc,
-  Bool,
-  true,
-  false,
-  List,
-  [],
-  ◌∷◌,
-  ◌++◌,
-  Option,
-  Some,
-  None,
-  cond,
-  length,
-  append_assoc,
-  refl,
-  sym,
-  ap,
-  subst,
-  ◌∙◌,
-  arith,
-}
-use Rattle.std.specs.Prelude.{IsSome, if◌then◌else◌}
+use Rattle.std.proofs.Common.{◌≡◌, ◌+◌, ℕ, suc, Bool, List, [], ◌∷◌, ◌++◌, Option, Some, None, length, append_assoc, refl, sym, ap, subst, ◌∙◌, arith}
+use Rattle.std.specs.Prelude.{if◌then◌else◌}
 use Rattle.std.proofs.lemmas.Bool.{cond_both}
 use Rattle.std.proofs.lemmas.List.{append-nil}
 use Rattle.ckd_types.specs.declared.channel.Ccw.{Ccw}
@@ -42,34 +17,23 @@ use Rattle.plain_defs.specs.declared.journal.Act.{Act}
 use Rattle.plain_defs.specs.declared.journal.Act.TheVariants.{Loosen, Harden, CfwLost}
 use Rattle.plain_defs.specs.declared.journal.How.TheVariants.{Full}
 use Rattle.plain_defs.specs.Effect.{Effect, command_effect}
-use Rattle.plain_defs.specs.History.{OpenEntry, History, open_part, plain_of, with_end, closed, acted, acted_in, ended, checked}
-use Rattle.plain_defs.specs.Journal.{Plans, program_of, replay, replay_item}
+use Rattle.plain_defs.specs.History.{OpenEntry, History, open_part, plain_of, with_end, closed, acted_in, ended, checked}
+use Rattle.plain_defs.specs.Journal.{Plans, program_of, replay}
 use Rattle.plain_defs.specs.Loose.{is_loose_in, act_done}
 use Rattle.plain_defs.specs.PlainState.{LooseTrack, PathsState, PlainState}
-use Rattle.plain_defs.specs.Program.{Part, acts_done, ended_with, stepped, stepped_at, part_of}
+use Rattle.plain_defs.specs.Program.{Part, acts_done, stepped, stepped_at, part_of}
 use Rattle.plain_defs.proofs.PartLemmas.{acted_nothing, part_more}
 use Rattle.device_defs.specs.Device.{all_acted}
 use Rattle.device_defs.specs.Marks.{MarksDevice, MarksStore}
 use Rattle.device_laws.proofs.DevicePaths.{acts_keep_paths}
-use Rattle.device_laws.proofs.HistoryEnds.{all_reset_in, effect_at, one_longer, closed_state, running_is_open}
+use Rattle.device_laws.proofs.HistoryEnds.{effect_at, one_longer, closed_state, running_is_open}
 use Rattle.device_laws.proofs.OpenProgram.{no_acts, with_one_act}
-use Rattle.device_laws.proofs.PlainStores.{Core, core_of, loose_at, IsOf}
+use Rattle.device_laws.proofs.PlainStores.{Core, core_of, loose_at}
 use Rattle.device_laws.proofs.PlainTurns.{Follows}
 use Rattle.firm_laws.specs.FirmWrites.{FirmWrite, edit_writes, firm_writes}
-use Rattle.firm_laws.proofs.HistoryWrites.{
-  Going,
-  Works,
-  part_acts,
-  going_acts,
-  ended_written,
-  checked_written,
-  firmings,
-  Takes,
-  Behind,
-  acts_behind,
-}
+use Rattle.firm_laws.proofs.HistoryWrites.{Going, Works, part_acts, going_acts, ended_written, checked_written, firmings, Takes, Behind, acts_behind}
 use Rattle.firm_laws.proofs.SaidCommands.{EndSays}
-use Rattle.firm_laws.proofs.SaidWrites.{Noted, Edits, firmly, loosely}
+use Rattle.firm_laws.proofs.SaidWrites.{Noted, firmly, loosely}
 
 acts_volume : (acts : List Act) (p : PlainState) → Takes acts → (acts_done p acts).volume ≡ p.volume
 acts_volume [] p none = refl
@@ -140,9 +104,6 @@ module _ (plans : Plans) (empty : PlainState) where
   -- a command that ends makes no track loose or firm
   module _ (h : History) (o : OpenEntry) (g : Going plans (replay plans empty h.items) o) (i : ℕ)
       (next : (open_part plans (replay plans empty h.items) o).next ≡ Some i) (e : CommandEnd) where
-    abbrev s : PlainState
-    s = replay plans empty h.items
-
     abbrev loose : List LooseTrack
     loose = (open_part plans (replay plans empty h.items) o).state.loose
 
@@ -208,9 +169,6 @@ module _ (num : ℕ) (empty : PlainState) (d : MarksDevice) (f : Follows num emp
   noted_takes None u c x = x.takes
   noted_takes (Some e) u c (firmly v _ _ x off is) = x.takes
   noted_takes (Some e) u c (loosely _ _ x on) = x.takes
-
-  abbrev old : List FirmWrite
-  old = firm_writes d.plans empty d.history
 
   behind : (acts : List Act) → Takes acts → Behind d.plans empty d.store.plain d.history acts
   behind acts none = acts_behind d.plans empty d.store.plain acts d.history works f.of.volume none

@@ -13,7 +13,7 @@ use Rattle.ckd_chain.specs.declared.progress.Settled.{Settled}
 use Rattle.ckd_chain.specs.Fed as D
 use Rattle.ckd_chain.specs.Fed.{Fed, fed_image, fed_by, fed}
 use Rattle.ckd_chain.specs.State.{ChainState}
-use Rattle.ckd_chain.specs.Steps.{Stepped, opened_by, opened, stage_of, needed, need_of, standing, turned_by, stepped_by, stepped, word_of}
+use Rattle.ckd_chain.specs.Steps.{Stepped, opened_by, opened, stage_of, need_of, standing, turned_by, stepped_by, stepped, word_of}
 use Rattle.ckd_rules.specs.declared.order.LocalAct.{LocalAct}
 use Rattle.ckd_rules.specs.declared.order.Look.{Look}
 use Rattle.ckd_rules.specs.declared.stance.Stance.{Stance}
@@ -99,16 +99,10 @@ module _ (b : List Track) where
   CameSays edit w z (came.HalfOpen t) = Noted b w (core_of z)
 
   module _ (g : Geometry) (answer : LocalAct → Settled) where
-    abbrev fed_so : ℕ → ChainState → Fed
-    fed_so k chain = fed k (track_in b) answer chain
-
     -- the chain looks at this track, of a volume of this geometry
     pub record At (chain : ChainState) (t : ℕ) : Type 0 where
       pub needs : need_of chain ≡ Some t
       pub geometry : chain.fixed.geometry ≡ g
-
-    abbrev plain_image : ℕ → Image
-    plain_image t = record { geometry = g; track = track_in b t }
 
     abbrev WentSays : ChainState → List FirmWrite → MarksStore → Option Went → Type 0
     WentSays chain u z None = Noted b u (core_of z)

@@ -2,7 +2,6 @@
 use Rattle.std.proofs.Common.{
   ◌≡◌,
   ◌≤◌,
-  ◌*◌,
   ◌||◌,
   ℕ,
   zero,
@@ -29,7 +28,7 @@ use Rattle.std.proofs.Common.{
   inl,
   inr,
 }
-use Rattle.std.specs.Prelude.{◌⊎◌, if◌then◌else◌}
+use Rattle.std.specs.Prelude.{◌⊎◌}
 use Rattle.std.proofs.lemmas.Bool.{cond_both, cases_lt}
 use Rattle.std.proofs.lemmas.List.{length-set, get_or_past, get_or-set_same}
 use Rattle.ckd_types.specs.declared.geometry.Geometry.{Geometry}
@@ -39,8 +38,6 @@ use Rattle.ckd_types.specs.declared.record.Edit.{Edit}
 use Rattle.ckd_types.specs.declared.record.Track.{Track}
 use Rattle.ckd_types.specs.Edit.{apply_edit}
 use Rattle.ckd_types.specs.Volume.{track_in}
-use Rattle.ckd_rules.specs.Walk.{TrackEdit}
-use Rattle.loss_model.specs.declared.Loss.{Loss}
 use Rattle.loss_model.specs.declared.Loss.TheVariants as losses
 use Rattle.track_image.specs.Image.{Image}
 use Rattle.device_outside.specs.Interaction.{Interaction, Done, and_then}
@@ -74,6 +71,7 @@ use Rattle.device_defs.specs.Background.{
 use Rattle.device_defs.specs.Contents.{by_plain}
 use Rattle.device_defs.specs.Effects.{with_edit, loose_lost}
 use Rattle.device_defs.specs.Events.{with_loss, lost_by, losing}
+use Rattle.device_defs.specs.Image as I
 use Rattle.device_defs.specs.Image.{Got, Imaged}
 use Rattle.device_defs.specs.Losses as L
 use Rattle.device_defs.specs.Losses.{settled, without_frame, without_patch, patch_lost, call_failed, all_firm_told}
@@ -96,13 +94,11 @@ use Rattle.device_defs.specs.Store.{
   owed_at,
   plain_at,
   with_frame,
-  with_stale,
 }
 use Rattle.device_defs.specs.Writing as W
-use Rattle.device_defs.specs.Writing.{firm_first, write_first, opened}
-use Rattle.device_laws.proofs.PlainStores.{Core, core_of}
+use Rattle.device_defs.specs.Writing.{write_first}
+use Rattle.device_laws.proofs.PlainStores.{core_of}
 use Rattle.keeper_laws.proofs.FirmEvents.{half_image}
-use Rattle.keeper_laws.proofs.FirmStores.{half_track}
 use Rattle.firm_laws.specs.FirmWrites.{FirmWrite}
 use Rattle.firm_laws.proofs.SaidParts.{
   Imaging,
@@ -114,7 +110,6 @@ use Rattle.firm_laws.proofs.SaidParts.{
   filled_goes,
   image_has,
   done_goes,
-  at_none,
   firm_first_goes,
   here_settled,
   write_first_goes,
@@ -122,11 +117,9 @@ use Rattle.firm_laws.proofs.SaidParts.{
 }
 use Rattle.firm_laws.proofs.SaidStores.{
   Same,
-  same_itself,
   same_then,
   same_unframed,
   same_unpatched,
-  Step,
   step_patch,
   calm_settled,
   over_same,
@@ -250,7 +243,8 @@ module _ (b : List Track) (g : Geometry) where
   copies_note : {w : List FirmWrite} (s : MarksStore) (q : ℕ) (o : Option Side) → Now w s → Notes w (copy_by by_plain s q o)
   copies_note s q None x = tells_done (noted b s x)
   copies_note s q (Some side) x =
-      tells_read (copy_notes q side _ None (on_by None None b g s _ refl refl x)) (copy_notes q side _ (Some true) (on_by None None b g s _ refl refl x))
+      tells_read (copy_notes q side (I.read_counted s false) None (on_by None None b g s (I.read_counted s false) refl refl x))
+      (copy_notes q side (I.read_counted s true) (Some true) (on_by None None b g s (I.read_counted s true) refl refl x))
 
   staged_notes : {w : List FirmWrite} (q : ℕ) (s : MarksStore) (k : Got Bool) (r : Option Bool) → Now w s → Notes w (staged_bytes by_plain q s k r)
   staged_notes q s k None x = tells_ask (λ _. tells_done (noted b s x))

@@ -4,7 +4,6 @@ use Rattle.std.proofs.Common.{
   ◌≢◌,
   ◌<◌,
   ◌≤◌,
-  ◌==◌,
   ◌*◌,
   ℕ,
   zero,
@@ -72,44 +71,33 @@ use Rattle.device_defs.specs.Image.{
 use Rattle.device_defs.specs.Losses as L
 use Rattle.device_defs.specs.Losses.{settled, stale_everywhere, call_failed, all_firm_told, side_lost}
 use Rattle.device_defs.specs.Marks.{MarksStore}
-use Rattle.device_defs.specs.Owed.{hear, ended}
-use Rattle.device_defs.specs.Store.{HalfWrite, no_debt, tracks_of, level_at, frame_at, is_loose, owed_at, takes_b, plain_at, with_frame, with_patch, with_owed, with_stale}
+use Rattle.device_defs.specs.Owed.{hear}
+use Rattle.device_defs.specs.Store.{
+  HalfWrite,
+  no_debt,
+  tracks_of,
+  level_at,
+  frame_at,
+  is_loose,
+  owed_at,
+  takes_b,
+  plain_at,
+  with_frame,
+  with_patch,
+  with_owed,
+  with_stale,
+}
 use Rattle.device_defs.specs.Writing as W
-use Rattle.device_defs.specs.Writing.{Wrote, firm_first, unwritten, write_first, first_a, failed_a, alone_b, write_second, write_done, taken_a}
+use Rattle.device_defs.specs.Writing.{firm_first, unwritten, write_first, first_a, failed_a, alone_b, write_second, write_done, taken_a}
 use Rattle.device_laws.proofs.PlainStores.{Core, core_of, put_false}
-use Rattle.device_laws.proofs.PlainWalks.{framed_same, stale_same, taken_same}
-use Rattle.device_laws.proofs.PoolWalks.{hear_asks, ended_asks, done_asks, filled_asks}
+use Rattle.device_laws.proofs.PlainWalks.{framed_same}
+use Rattle.device_laws.proofs.PoolWalks.{hear_asks, done_asks, filled_asks}
 use Rattle.device_laws.proofs.WholeImage.{ahead_only}
 use Rattle.keeper_laws.proofs.FirmStores.{NotLoose, framed_track, owed_put}
 use Rattle.firm_laws.specs.FirmWrites.{FirmWrite}
 use Rattle.firm_laws.proofs.HistoryWrites.{firmings, Takes}
-use Rattle.firm_laws.proofs.SaidStores.{
-  Same,
-  same_everywhere,
-  calm_settled,
-  On,
-  on_same,
-  on_hardened,
-  owed_write,
-  owed_writes,
-  same_or_other,
-  Owes,
-  owes_side,
-}
-use Rattle.firm_laws.proofs.Tells.{
-  Tells,
-  tells_done,
-  tells_try,
-  tells_ask,
-  tells_read,
-  tells_write,
-  tells_named,
-  tells_told,
-  tells_then,
-  tells_weaker,
-  tells_if,
-  asks_tells,
-}
+use Rattle.firm_laws.proofs.SaidStores.{Same, same_everywhere, calm_settled, On, on_same, on_hardened, owed_write, owed_writes, same_or_other, Owes, owes_side}
+use Rattle.firm_laws.proofs.Tells.{Tells, tells_done, tells_try, tells_ask, tells_read, tells_write, tells_told, tells_then, tells_weaker, tells_if, asks_tells}
 
 -- a change of frames, patches and side marks alone
 same_by : (s z : MarksStore) → core_of z ≡ core_of s → z.owed ≡ s.owed → Same s z
@@ -163,10 +151,6 @@ module _ (h : Option (HalfWrite (Unit {0}))) (o : Option ℕ) (b : List Track) (
 
   pub on_framed : {w : List FirmWrite} (s : MarksStore) (q : ℕ) (f : Option Bool) → Is w s → Is w (with_frame s q f)
   on_framed s q f x = on_by s (with_frame s q f) (framed_same s q f) refl x
-
-  stale_on : {w : List FirmWrite} (s : MarksStore) (side : Side) (q : ℕ) (c : Bool) → Is w s → Is w (with_stale s side q c)
-  stale_on s A q c x = on_by s (with_stale s A q c) refl refl x
-  stale_on s B q c x = on_by s (with_stale s B q c) refl refl x
 
   -- The notices, and the end of an event
 

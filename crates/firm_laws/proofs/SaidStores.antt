@@ -22,7 +22,6 @@ use Rattle.std.proofs.Common.{
   is_some,
   length,
   set,
-  get_or,
   append_assoc,
   refl,
   sym,
@@ -33,14 +32,13 @@ use Rattle.std.proofs.Common.{
   inl,
   inr,
 }
-use Rattle.std.specs.Prelude.{◌⊎◌, ⊤, if◌then◌else◌}
-use Rattle.std.proofs.lemmas.Bool.{cond_both, cases_lt, eqb-true, eqb-false}
+use Rattle.std.specs.Prelude.{◌⊎◌, if◌then◌else◌}
+use Rattle.std.proofs.lemmas.Bool.{cond_both, eqb-true, eqb-false}
 use Rattle.std.proofs.lemmas.List.{append-nil, length-set, get_or-set_same, get_or-set_other}
 use Rattle.ckd_types.specs.declared.geometry.Geometry.{Geometry}
 use Rattle.ckd_types.specs.declared.paths.Side.{Side}
 use Rattle.ckd_types.specs.declared.record.Track.{Track}
 use Rattle.ckd_types.specs.Volume.{track_in}
-use Rattle.plain_defs.specs.declared.journal.Act.{Act}
 use Rattle.device_defs.specs.declared.owed.Owed.{Owed}
 use Rattle.device_defs.specs.Contents.{by_plain}
 use Rattle.device_defs.specs.Effects.{hardened}
@@ -62,21 +60,7 @@ use Rattle.device_defs.specs.Losses.{
   side_lost,
 }
 use Rattle.device_defs.specs.Marks.{MarksStore}
-use Rattle.device_defs.specs.Store.{
-  HalfWrite,
-  no_debt,
-  tracks_of,
-  has_level,
-  frame_at,
-  patch_at,
-  is_lost,
-  is_loose,
-  half_is,
-  owed_at,
-  with_frame,
-  with_lost,
-  with_owed,
-}
+use Rattle.device_defs.specs.Store.{HalfWrite, no_debt, tracks_of, has_level, frame_at, patch_at, is_lost, is_loose, half_is, owed_at, with_lost}
 use Rattle.device_laws.proofs.PlainStores.{Core, core_of, put_keeps}
 use Rattle.device_laws.proofs.PlainWalks.{framed_same, patch_same, everywhere_same, down_same}
 use Rattle.keeper_laws.proofs.FirmStores.{NotLoose, like_owed, like_everywhere, like_down, like_unframed, like_unpatched}

@@ -49,7 +49,7 @@ use Rattle.device_defs.specs.declared.answers.Took.{Took}
 use Rattle.device_defs.specs.declared.answers.Took.TheVariants.{Whole, Opened, Unwritten}
 use Rattle.device_defs.specs.declared.usage.Usage.{Usage}
 use Rattle.device_defs.specs.Choosing as C
-use Rattle.device_defs.specs.Choosing.{choose, fast_or_through, slot_by, may_be_fast, fast_written, provisionally_written}
+use Rattle.device_defs.specs.Choosing.{choose, fast_or_through, slot_by, may_be_fast, provisionally_written}
 use Rattle.device_defs.specs.Contents.{by_plain}
 use Rattle.device_defs.specs.Editing as E
 use Rattle.device_defs.specs.Editing.{whole, at_once, through, through_by, written, write_by, write_chosen, write, is_given, another_loose}
@@ -65,7 +65,7 @@ use Rattle.device_laws.proofs.PlainWalks.{framed_same}
 use Rattle.device_laws.proofs.PoolWalks.{done_asks}
 use Rattle.firm_laws.specs.FirmWrites.{FirmWrite}
 use Rattle.firm_laws.proofs.HistoryWrites.{firmings, firmings_loose, Takes, takes_loose}
-use Rattle.firm_laws.proofs.SaidParts.{at_none, firm_first_goes, here_settled, write_first_goes, write_second_goes}
+use Rattle.firm_laws.proofs.SaidParts.{firm_first_goes, here_settled, write_first_goes, write_second_goes}
 use Rattle.firm_laws.proofs.SaidStores.{On}
 use Rattle.firm_laws.proofs.Tells.{Tells, tells_done, tells_try, tells_ask, tells_named, tells_told, tells_then, tells_if, asks_tells}
 

@@ -1,7 +1,6 @@
 -- Behind a look, and behind the orders for which a volume is handed in, devices beside the plain device of their history are still so.
-use Rattle.std.proofs.Common.{◌≡◌, ℕ, Bool, true, List, [], Option, Some, None, is_some, refl, sym, ap, subst, ◌∙◌}
+use Rattle.std.proofs.Common.{◌≡◌, ℕ, Bool, true, Option, Some, None, refl, sym, ap, subst}
 use Rattle.std.specs.Prelude.{IfSome}
-use Rattle.ckd_types.specs.declared.geometry.Geometry.{Geometry}
 use Rattle.ckd_types.specs.declared.paths.Side.{Side}
 use Rattle.ckd_types.specs.Parameters.{is_bypass}
 use Rattle.plain_defs.specs.PlainState.{PlainState}
@@ -12,7 +11,7 @@ use Rattle.device_outside.specs.Told.{Calls}
 use Rattle.device_defs.specs.declared.usage.Usage.{Usage}
 use Rattle.device_defs.specs.Contents.{by_plain}
 use Rattle.device_defs.specs.Image as I
-use Rattle.device_defs.specs.Image.{Imaged, image, image_by, miss, missed, ahead}
+use Rattle.device_defs.specs.Image.{Imaged, image, image_by, miss, ahead}
 use Rattle.device_defs.specs.Marks.{MarksDevice, MarksStore}
 use Rattle.device_defs.specs.Memory.{had_by}
 use Rattle.device_defs.specs.Owed.{begun, waiting_count}

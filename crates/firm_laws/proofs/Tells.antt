@@ -1,7 +1,6 @@
 -- What an interaction over marks tells of firm tracks, one after another, and what holds behind it, where memory is had.
 use Rattle.std.proofs.Common.{◌≡◌, ◌==◌, ℕ, Bool, true, false, List, [], ◌∷◌, ◌++◌, Option, Some, None, append_assoc, refl, sym, subst, ap, ◌∙◌}
 use Rattle.std.specs.Prelude.{if◌then◌else◌}
-use Rattle.std.proofs.lemmas.Bool.{eq-eqb}
 use Rattle.std.proofs.lemmas.List.{append-nil}
 use Rattle.ckd_types.specs.declared.paths.Side.{Side}
 use Rattle.ckd_types.specs.declared.record.Track.{Track}
@@ -122,8 +121,8 @@ unfolding E.messages
 own_held (firms_done h) o = tt
 own_held (firms_try x) o = own_held x o
 own_held (firms_ask {call = call} x) o = own_held (x (answer o.pool call)) (record o { pool = after o.pool call (answer o.pool call) })
-own_held {k = k} (firms_read {side = side} {j = j} x y) o =
-    by_read (read_fails (calls_of o side)) (λ (i : Interaction Bool Image _ _). AreOf k (messages true i (read_counted o side))) j
+own_held {S = S} {X = X} {k = k} (firms_read {side = side} {j = j} x y) o =
+    by_read (read_fails (calls_of o side)) (λ (i : Interaction Bool Image S X). AreOf k (messages true i (read_counted o side))) j
     (own_held x (read_counted o side)) (own_held y (read_counted o side))
 own_held (firms_write {side = side} x) o = own_held (x (if write_fails (calls_of o side) then false else true)) (write_counted o side)
 own_held (firms_named x) o = own_held x o
@@ -143,12 +142,12 @@ other_firms k n (Firm d t i ∷ ms) other own =
     ap (λ (b : Bool). if b then (t, i.track) ∷ firms_in n ms else firms_in n ms) (ap (λ (m : ℕ). m == n) own.0 ∙ other)
     ∙ other_firms k n ms other own.1
 
+more_if : (b : Bool) (x : FirmWrite) (l r whole : List FirmWrite) → whole ≡ l ++ r →
+    (if b then x ∷ whole else whole) ≡ (if b then x ∷ l else l) ++ r
+more_if true x l r whole e = ap (λ (k : List FirmWrite). x ∷ k) e
+more_if false x l r whole e = e
+
 pub firms_more : (n : ℕ) (ms ns : List (Message Image)) → firms_in n (ms ++ ns) ≡ firms_in n ms ++ firms_in n ns
 firms_more n [] ns = refl
 firms_more n (BeforeEdit d t i ∷ ms) ns = firms_more n ms ns
-firms_more n (Firm d t i ∷ ms) ns = by_test (d == n)
-  where
-    by_test : (b : Bool) → (if b then (t, i.track) ∷ firms_in n (ms ++ ns) else firms_in n (ms ++ ns))
-        ≡ (if b then (t, i.track) ∷ firms_in n ms else firms_in n ms) ++ firms_in n ns
-    by_test true = ap (λ (l : List FirmWrite). (t, i.track) ∷ l) (firms_more n ms ns)
-    by_test false = firms_more n ms ns
+firms_more n (Firm d t i ∷ ms) ns = more_if (d == n) (t, i.track) (firms_in n ms) (firms_in n ns) (firms_in n (ms ++ ns)) (firms_more n ms ns)

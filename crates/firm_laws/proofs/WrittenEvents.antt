@@ -1,22 +1,19 @@
 -- The events of a device whose history is a plain device's tell the firm writes that come to it.
-use Rattle.std.proofs.Common.{◌≡◌, ◌*◌, ◌<◌, ◌==◌, ℕ, suc, Bool, true, false, List, [], ◌∷◌, ◌++◌, Option, Some, None, refl, sym, ap, subst, ◌∙◌, arith}
-use Rattle.std.specs.Prelude.{IsSome, if◌then◌else◌}
-use Rattle.std.proofs.lemmas.Bool.{cond_both, eqb-true}
+use Rattle.std.proofs.Common.{◌≡◌, ◌*◌, ◌==◌, ℕ, Bool, true, false, List, [], ◌∷◌, ◌++◌, Option, Some, None, refl, sym, ap, subst, ◌∙◌, arith}
+use Rattle.std.specs.Prelude.{if◌then◌else◌}
+use Rattle.std.proofs.lemmas.Bool.{cond_both}
 use Rattle.std.proofs.lemmas.List.{append-nil}
-use Rattle.ckd_types.specs.declared.channel.CommandEnd.{CommandEnd}
 use Rattle.ckd_types.specs.declared.paths.Side.{Side}
-use Rattle.ckd_types.specs.declared.geometry.Geometry.{Geometry}
 use Rattle.ckd_types.specs.declared.record.Edit.{Edit}
 use Rattle.ckd_types.specs.declared.record.Track.{Track}
 use Rattle.ckd_types.specs.Edit.{apply_edit}
 use Rattle.ckd_types.specs.Volume.{track_in}
-use Rattle.ckd_chain.specs.declared.mark.Stage.{Stage}
 use Rattle.ckd_chain.specs.declared.progress.Progress.{Progress}
 use Rattle.ckd_chain.specs.declared.progress.Progress.TheVariants as progresses
-use Rattle.ckd_chain.specs.declared.progress.Settled.TheVariants.{Written, Equipment}
-use Rattle.ckd_chain.specs.Fed.{Fed, ended_by, fed}
+use Rattle.ckd_chain.specs.declared.progress.Settled.TheVariants.{Equipment}
+use Rattle.ckd_chain.specs.Fed.{Fed, fed}
 use Rattle.ckd_chain.specs.State.{ChainState}
-use Rattle.ckd_chain.specs.Steps.{begin_with, opening_at, stage_for, needed, need_of, index_of, stepped, word_of}
+use Rattle.ckd_chain.specs.Steps.{begin_with, opening_at, stage_for, needed, need_of, index_of, stepped}
 use Rattle.ckd_rules.specs.declared.opening.Opening.{Opening}
 use Rattle.ckd_rules.specs.declared.opening.Opening.TheVariants as openings
 use Rattle.ckd_rules.specs.declared.stance.Stance.{Stance}
@@ -43,7 +40,7 @@ use Rattle.plain_defs.specs.History.{
 use Rattle.plain_defs.specs.Legal.{is_used}
 use Rattle.plain_defs.specs.Journal.{replay}
 use Rattle.plain_defs.specs.Loose.{is_loose_in}
-use Rattle.plain_defs.specs.PlainState.{LooseTrack, PathsState, PlainState, reset_path}
+use Rattle.plain_defs.specs.PlainState.{PlainState, reset_path}
 use Rattle.plain_device.specs.Acted.{settled_act, paths_behind}
 use Rattle.track_image.specs.Image.{Image}
 use Rattle.device_outside.specs.Interaction.{Interaction, Done, and_then}
@@ -51,27 +48,26 @@ use Rattle.device_defs.specs.declared.answers.Came.{Came}
 use Rattle.device_defs.specs.declared.answers.Came.TheVariants as came
 use Rattle.device_defs.specs.Background.{work}
 use Rattle.device_defs.specs.Command as N
-use Rattle.device_defs.specs.Command.{has_loss, came_out, on_tracks, answered_by, command_at, command_by, command, follow}
+use Rattle.device_defs.specs.Command.{has_loss, on_tracks, answered_by, command_at, command_by, command}
 use Rattle.device_defs.specs.Contents.{by_plain}
 use Rattle.device_defs.specs.Cutting as U
-use Rattle.device_defs.specs.Cutting.{counts_one_by, origin_cut, half_cut, reset_noted, path_cut, reset_by, reset, powered_off, power}
+use Rattle.device_defs.specs.Cutting.{counts_one_by, origin_cut, half_cut, reset_noted, reset_by, reset, powered_off, power}
 use Rattle.device_defs.specs.Device.{all_acted, all_reset, with_store, event_begun, event_ended, event}
 use Rattle.device_defs.specs.Effects.{gone_back, loose_lost}
 use Rattle.device_defs.specs.Events as V
 use Rattle.device_defs.specs.Events.{with_loss, losing, lose, background, second_turn, command_ended, second_ended, second_of, second}
 use Rattle.device_defs.specs.Marks.{MarksDevice, MarksStore}
-use Rattle.device_defs.specs.Outcomes.{Turn, checks, settles, ends_with, turned, turned_by, sense_kept, program_over, again}
-use Rattle.device_defs.specs.Owed.{begun, hear, waiting_count}
+use Rattle.device_defs.specs.Outcomes.{Turn, checks, settles, ends_with, turned, turned_by, sense_kept, program_over}
+use Rattle.device_defs.specs.Owed.{begun, waiting_count}
 use Rattle.device_defs.specs.Peek as P
-use Rattle.device_defs.specs.Peek.{peek_track, peek}
-use Rattle.device_defs.specs.Second as S
+use Rattle.device_defs.specs.Peek.{peek}
 use Rattle.device_defs.specs.Store.{Origin, OfCommand, OfCut, OfBackground, HalfWrite, no_debt, tracks_of, has_loose, with_frame, with_owed}
 use Rattle.device_laws.proofs.DeviceHistory.{next_is}
 use Rattle.device_laws.proofs.HistoryEnds.{effect_at}
 use Rattle.device_laws.proofs.PlainCommand.{on, at, one_more, the_effect, same_effect}
-use Rattle.device_laws.proofs.PlainCuts.{its_effect, its_edit, begins_at, its_track_is_firm}
-use Rattle.device_laws.proofs.PlainRules.{eff_of, by_opening, needs_by, fed_so, over_answer, asked_answer}
-use Rattle.device_laws.proofs.PlainStores.{Core, core_of, loose_at}
+use Rattle.device_laws.proofs.PlainCuts.{its_edit, its_track_is_firm}
+use Rattle.device_laws.proofs.PlainRules.{by_opening, needs_by, fed_so, over_answer, asked_answer}
+use Rattle.device_laws.proofs.PlainStores.{Core, core_of}
 use Rattle.device_laws.proofs.PlainTurns.{AtPart, RunsAt, Halfway, IsMid, IsMidOf, Follows, some_none, none_mid}
 use Rattle.device_laws.proofs.PlainWalks.{framed_same}
 use Rattle.device_laws.proofs.PoolWalks.{hear_asks, ended_asks}
@@ -80,11 +76,11 @@ use Rattle.keeper_laws.proofs.FirmEvents.{half_image}
 use Rattle.keeper_laws.proofs.FirmStores.{NotLoose, half_track}
 use Rattle.firm_laws.specs.FirmWrites.{FirmWrite, edit_writes, firm_writes}
 use Rattle.firm_laws.proofs.HistoryWrites.{act_by, cut_none, cut_one, power_none, power_one, later_written, idle_reset, idle_power}
-use Rattle.firm_laws.proofs.Made.{Later, later, works, goes, Made, only_acts, then_checked, then_ended, then_known, made_store}
-use Rattle.firm_laws.proofs.SaidCommands.{EndSays, CameSays, At, FollowSays, follow_says}
+use Rattle.firm_laws.proofs.Made.{later, works, goes, Made, only_acts, then_checked, then_ended, then_known, made_store}
+use Rattle.firm_laws.proofs.SaidCommands.{CameSays, FollowSays, follow_says}
 use Rattle.firm_laws.proofs.SaidEvents.{SecondSays, part_says, work_notes, store_notes, side_notes, track_notes, cache_tells}
 use Rattle.firm_laws.proofs.SaidParts.{at_none}
-use Rattle.firm_laws.proofs.SaidStores.{Same, same_itself, same_then, On, on_same}
+use Rattle.firm_laws.proofs.SaidStores.{Same, same_itself, On, on_same}
 use Rattle.firm_laws.proofs.SaidWrites.{Noted, noted}
 use Rattle.firm_laws.proofs.Tells.{Tells, tells_done, tells_try, tells_told, tells_then, tells_if, asks_tells}
 
@@ -106,6 +102,10 @@ on_first d told = record {
   geometry = refl;
 }
 
+-- nothing is told yet
+abbrev Untold : MarksStore → List FirmWrite → MarksStore → Type 0
+Untold s v z = (v ≡ []) × Same s z
+
 same_framed : (s z : MarksStore) (t : ℕ) (f : Option Bool) → Same s z → Same s (with_frame z t f)
 same_framed s z t f e = record { core = framed_same z t f ∙ e.core; room = e.room; free = e.free }
 
@@ -123,8 +123,8 @@ module _ (d : MarksDevice) (Q : List FirmWrite → MarksDevice → Type 0)
       Tells (λ u y (_ : A). Q u y) [] (event by_plain d body)
   event_tells body does =
       tells_then (event_ended by_plain d)
-      (tells_then {p = λ v z (_ : Unit {0}). (v ≡ []) × Same (begun d.store) z} (λ s _. body (record (event_begun d) { store = s }))
-      (asks_tells (hear_asks by_plain (λ z. ([] ≡ []) × Same (begun d.store) z) (λ z t clean e. (refl, same_framed (begun d.store) z t None e.1)) 960
+      (tells_then {p = λ v z (_ : Unit {0}). Untold (begun d.store) v z} (λ s _. body (record (event_begun d) { store = s }))
+      (asks_tells (hear_asks by_plain (Untold (begun d.store) []) (λ z t clean e. (e.0, same_framed (begun d.store) z t None e.1)) 960
       (begun d.store) (refl, same_itself (begun d.store))))
       (λ u s _ e. subst (λ (l : List FirmWrite). Tells (λ v y a. Q v y) l (body (record (event_begun d) { store = s }))) (sym e.0) (does s e.1)))
       (λ u y a k. end_tells u y a k)
@@ -151,9 +151,6 @@ module _ (num : ℕ) (empty : PlainState) (d : MarksDevice) (f : Follows num emp
   -- A command
 
   module _ (o : OpenEntry) (running : d.history.running ≡ Some o) where
-    abbrev state : PlainState
-    state = replay d.plans empty d.history.items
-
     -- the edit of the plain device's next command
     record Next (edit : Option TrackEdit) : Type 0 where
       word : ℕ
@@ -198,9 +195,6 @@ module _ (num : ℕ) (empty : PlainState) (d : MarksDevice) (f : Follows num emp
       whole_now s e =
           at_none (half_track d.store.half) s
           (subst (λ (h : Option (HalfWrite (Unit {0}))). On h (half_track d.store.half) d.store.plain d.store.geometry [] s) whole (on_now s e))
-
-      abbrev answers : _
-      answers = settled_act chain.fixed.geometry d.paths o.path
 
       fed_is : (s : MarksStore) → Same (begun d.store) s → (t : ℕ) → need_of chain ≡ Some t →
           (fed (tracks_of s) (track_in d.store.plain) (settled_act chain.fixed.geometry d.paths o.path) chain).edit ≡ the_edit
@@ -322,19 +316,13 @@ module _ (num : ℕ) (empty : PlainState) (d : MarksDevice) (f : Follows num emp
       subst (λ (r : Option OpenEntry). Tells (λ v y _. Left v y) u (command_ended by_plain (with_store (here s) z) t r d.chain done))
       (sym (ap (λ (h : History). h.running) l.is))
       (subst (λ (k : Option ChainState). Tells (λ v y _. Left v y) u (command_ended by_plain (with_store (here s) z) t (Some l.entry) k done)) (sym mid.is)
-      (tells_done (by_done done x)))
+      (tells_done (turn_left o running (Some (record { track = t; edit = e })) (mid_next o running t e mid) (with_store (here s) z) refl refl l.entry.path u
+      (second_turn by_plain mid.chain done).chain (second_turn by_plain mid.chain done).came (says done x))))
     where
-      by_done : (b : Bool) → SecondSays d.store.plain d.store.geometry t (OfCommand bypass e) u z b →
-          Left u (turned (with_store (here s) z) (later d.plans empty z.acts d.history o running (goes num empty d f o running)).entry.path
-          (second_turn by_plain mid.chain b))
-      by_done b x =
-          turn_left o running (Some (record { track = t; edit = e })) (mid_next o running t e mid) (with_store (here s) z) refl refl _ u
-          (second_turn by_plain mid.chain b).chain (second_turn by_plain mid.chain b).came (says b x)
-        where
-          says : (c : Bool) → SecondSays d.store.plain d.store.geometry t (OfCommand bypass e) u z c →
-              CameSays d.store.plain (Some (record { track = t; edit = e })) u z (second_turn by_plain mid.chain c).came
-          says true k = k
-          says false k = k
+      says : (c : Bool) → SecondSays d.store.plain d.store.geometry t (OfCommand bypass e) u z c →
+          CameSays d.store.plain (Some (record { track = t; edit = e })) u z (second_turn by_plain mid.chain c).came
+      says true k = k
+      says false k = k
 
   second_by : (t : ℕ) (origin : Origin) → IsMidOf (core_of d.store) t origin d.history.running f.before d.chain → (s z : MarksStore) (u : List FirmWrite)
       (done : Bool) → SecondSays d.store.plain d.store.geometry t origin u z done →
@@ -440,9 +428,6 @@ module _ (num : ℕ) (empty : PlainState) (d : MarksDevice) (f : Follows num emp
       Tells (λ u z (_ : Unit {0}). u ≡ cut_writes k) [] (half_cut by_plain s k)
   half_says s (Some h) plain = origin_says s h h.origin plain refl
   half_says s None plain = tells_done refl
-
-  abbrev old : List FirmWrite
-  old = firm_writes d.plans empty d.history
 
   -- the history behind a cut, with so many commands more than ended
   module _ (o : OpenEntry) (running : d.history.running ≡ Some o) (behind : ℕ → History)

@@ -1,38 +1,17 @@
 -- In a run the firm writes of a device behind an event are those before it, and then what it was told of firm tracks.
-use Rattle.std.proofs.Common.{
-  ◌≡◌,
-  ◌==◌,
-  ◌++◌,
-  ℕ,
-  Bool,
-  true,
-  false,
-  List,
-  [],
-  ◌∷◌,
-  Option,
-  Some,
-  None,
-  not,
-  is_some,
-  refl,
-  sym,
-  ap,
-  subst,
-  ◌∙◌,
-}
+use Rattle.std.proofs.Common.{◌≡◌, ◌==◌, ◌++◌, ℕ, Bool, true, false, List, [], ◌∷◌, Option, Some, None, not, is_some, refl, sym, ap, subst, ◌∙◌}
 use Rattle.std.specs.Prelude.{if◌then◌else◌}
 use Rattle.std.proofs.lemmas.Bool.{eqb-true, eq-eqb}
 use Rattle.std.proofs.lemmas.List.{append-nil}
+use Rattle.ckd_types.specs.declared.geometry.Geometry.{Geometry}
 use Rattle.ckd_types.specs.declared.paths.Side.{Side}
 use Rattle.ckd_types.specs.declared.paths.Side.TheVariants.{A, B}
-use Rattle.ckd_types.specs.declared.record.Track.{Track}
 use Rattle.loss_model.specs.declared.Loss.TheVariants as losses
+use Rattle.plain_defs.specs.History.{History}
+use Rattle.plain_defs.specs.Journal.{Plans}
 use Rattle.plain_defs.specs.PlainState.{PlainState, empty_state}
-use Rattle.track_image.specs.Image.{Image}
 use Rattle.device_outside.specs.Hears.{messages}
 use Rattle.device_outside.specs.Interaction.{Done, and_then}
-use Rattle.device_outside.specs.Keeper.{Message}
 use Rattle.device_outside.specs.Pool.{Pool, cache_failed, store_failed, power_lost, cache_repaired, store_repaired}
 use Rattle.device_outside.specs.Told.{Calls, Told, hold}
 use Rattle.device_defs.specs.Command.{command}
@@ -41,7 +20,7 @@ use Rattle.device_defs.specs.Cutting.{reset, power}
 use Rattle.device_defs.specs.Device.{event_begun}
 use Rattle.device_defs.specs.Events.{second, lose, background}
 use Rattle.device_defs.specs.Losses as L
-use Rattle.device_defs.specs.Losses.{without_frame, without_patch}
+use Rattle.device_defs.specs.Losses.{without_frame}
 use Rattle.device_defs.specs.Marks.{MarksDevice, MarksStore}
 use Rattle.device_defs.specs.Orders as O
 use Rattle.device_defs.specs.Orders.{replace, lend, lent_to, with_tracks, given_up}
@@ -100,8 +79,8 @@ use Rattle.firm_laws.specs.FirmWrites.{FirmWrite, firm_writes, firm_writes_of, f
 use Rattle.firm_laws.specs.Written.{HasWritten}
 use Rattle.firm_laws.proofs.HistoryWrites.{started_written}
 use Rattle.firm_laws.proofs.Made.{acts_written, made_written}
-use Rattle.firm_laws.proofs.SaidStores.{Same, same_itself, same_then, same_unframed, same_unpatched, over_same}
-use Rattle.firm_laws.proofs.Tells.{Tells, tells_done, tells_then, tells_held, all_firms, AreOf, own_held, own_firms, other_firms, firms_more}
+use Rattle.firm_laws.proofs.SaidStores.{Same, same_then, same_unframed, same_unpatched, over_same}
+use Rattle.firm_laws.proofs.Tells.{Tells, tells_done, tells_then, tells_held, all_firms, own_held, own_firms, other_firms, firms_more}
 use Rattle.firm_laws.proofs.WrittenEvents.{
   end_tells,
   Left,
@@ -193,9 +172,6 @@ module _ (n : ℕ) (m : Mounted) (s : Subsystem) (there : mounted_in s.mounted n
       other_firms d.store.device n (messages true talk o) other (own_held (own d.store.device (unseen d.store.device d refl)) o)
 
   module _ {X : Type 0} (d : MarksDevice) (x : Is d) (talk : Talk X) (own : Own d talk) where
-    abbrev of : Follows x.plain.number x.plain.empty d
-    of = x.plain.follows
-
     left_so : Tells (λ u y (_ : X). Left x.plain.number x.plain.empty d x.plain.follows x.told u y) [] talk →
         Had talk (λ y (_ : X). Follows x.plain.number x.plain.empty y) → (o : Told) →
         So (before ++ firms_in n (messages true talk o)) (hold true talk o).state
@@ -220,15 +196,6 @@ module _ (n : ℕ) (m : Mounted) (s : Subsystem) (there : mounted_in s.mounted n
         IsAt n (So (before ++ firms_in n (messages true talk (told_to s.pool y)))) (put_in s.mounted k (mounted_behind (held_with s.pool y talk)))
     put_so y is seat = by_test (k == n) refl
       where
-        o : Told
-        o = told_to s.pool y
-
-        z : Mounted
-        z = mounted_behind (held_with s.pool y talk)
-
-        w : List FirmWrite
-        w = firms_in n (messages true talk (told_to s.pool y))
-
         here : k ≡ n → IsAt n (So (before ++ firms_in n (messages true talk (told_to s.pool y))))
             (put_in s.mounted n (mounted_behind (held_with s.pool y talk)))
         here same =
@@ -264,7 +231,7 @@ module _ (n : ℕ) (m : Mounted) (s : Subsystem) (there : mounted_in s.mounted n
       let left = tells_held (λ u y _. Looked x.plain.number x.plain.empty d x.plain.follows x.told u y) (peek_left x.plain.number x.plain.empty d f x.told q) o in
       let sized = peek_sized d q o in
       let empty : empty_of y ≡ x.plain.empty =
-      ap (λ (g : _). empty_state g y.store.cylinders) sized.geometry ∙ ap (empty_state d.store.geometry) sized.cylinders ∙ sym f.base in (
+      ap (λ (g : Geometry). empty_state g y.store.cylinders) sized.geometry ∙ ap (empty_state d.store.geometry) sized.cylinders ∙ sym f.base in (
         sized.device ∙ x.number,
         ap (λ (e : PlainState). firm_writes y.plans e y.history) empty
             ∙ acts_written x.plain.number x.plain.empty d f u y left.0 left.1 left.2
@@ -289,9 +256,6 @@ module _ (n : ℕ) (m : Mounted) (s : Subsystem) (there : mounted_in s.mounted n
 
   module _ (f : MarksDevice → Talk (Unit {0})) (own : (d : MarksDevice) → Own d (f d))
       (main : (d : MarksDevice) → Is d → (o : Told) → So (before ++ firms_in n (messages true (f d) o)) (hold true (f d) o).state) where
-    abbrev rest_at : Mounted → List Mounted → Pool → List (Message Image)
-    rest_at x ms pool = swept_messages f ms (held_with pool x (f x.device)).told.pool
-
     others_none : (ms : List Mounted) (pool : Pool) → mounted_in ms n ≡ None → firms_in n (swept_messages f ms pool) ≡ []
     unfolding M.swept_messages
     others_none [] pool none = refl
@@ -362,9 +326,6 @@ module _ (n : ℕ) (m : Mounted) (s : Subsystem) (there : mounted_in s.mounted n
         Claim (Asks d (and_then talk (λ e a. Done e (f a))))
     asks_claim d talk f stands own tells had = by_found (mounted_in s.mounted d.store.device) refl
       where
-        all : Talk (Option EventEnd)
-        all = and_then talk (λ e a. Done e (f a))
-
         all_own : Own d (and_then talk (λ e a. Done e (f a)))
         all_own k g = firms_then (λ e a. Done e (f a)) (own k g) (λ u e a r. firms_done r)
 
@@ -395,10 +356,10 @@ module _ (n : ℕ) (m : Mounted) (s : Subsystem) (there : mounted_in s.mounted n
         let y = (hold true (lend by_plain m.device to) o).state in
         let left = tells_held (λ u y _. Alike m.device u y) (lend_alike m.device to) o in (
           left.2 ∙ now.0,
-          ap (λ (p : _). firm_writes p (empty_of y) y.history) left.1
-              ∙ ap (λ (g : _). firm_writes m.device.plans (empty_state g y.store.cylinders) y.history) left.3
+          ap (λ (p : Plans). firm_writes p (empty_of y) y.history) left.1
+              ∙ ap (λ (g : Geometry). firm_writes m.device.plans (empty_state g y.store.cylinders) y.history) left.3
               ∙ ap (λ (c : ℕ). firm_writes m.device.plans (empty_state m.device.store.geometry c) y.history) left.4
-              ∙ ap (λ (h : _). firm_writes m.device.plans (empty_of m.device) h) left.0,
+              ∙ ap (λ (h : History). firm_writes m.device.plans (empty_of m.device) h) left.0,
         )
 
     swept : (f : MarksDevice → Talk (Unit {0})) → ((d : MarksDevice) → Own d (f d)) →
