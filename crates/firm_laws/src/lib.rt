@@ -16,7 +16,7 @@ ghost use Rattle.subsystem_defs.specs.Subsystem.{Mounted, Subsystem, mounted_in}
 ghost use Rattle.subsystem_laws.specs.Served.{IsServedEvent};
 ghost use Rattle.subsystem_laws.proofs.PlainRuns.{ArePlain};
 ghost use Rattle.look_laws.specs.Looking.{look_messages};
-ghost use Rattle.keeper_laws.specs.Firmness.{IsTold, has_one};
+ghost use Rattle.keeper_laws.specs.Firmness.{told_firm, IsTold, has_one, IsFirm};
 ghost use Rattle.keeper_laws.specs.Messages.{event_messages};
 ghost use Rattle.firm_laws.specs.FirmWrites.{firm_writes_of, firms_in};
 ghost use Rattle.firm_laws.specs.Written.{HasWritten, behind_all, all_messages};
@@ -50,8 +50,11 @@ pub fn none_are_written_yet()
     ensures { (d : MarksDevice) → d.history ≡ no_history → firm_writes_of d ≡ [] }
 {}
 
-/// So behind any events, one after another, its firm writes are those before them, and then the tracks of all its Firm messages.
+/// So behind any events, one after another, its firm writes are those before them, and then the tracks of all its Firm messages; and its firm volume is the
+/// one before them, with the images of these put in.
 pub fn firm_is_written_so_far()
-    ensures { (s : Subsystem) (es : List Event) (n : ℕ) (m : Mounted) → ArePlain s.mounted → mounted_in s.mounted n ≡ Some m → IsTold m.device.store →
+    ensures writes { (s : Subsystem) (es : List Event) (n : ℕ) (m : Mounted) → ArePlain s.mounted → mounted_in s.mounted n ≡ Some m → IsTold m.device.store →
         has_one n s.mounted ≡ true → All IsServedEvent es → HasWritten (firm_writes_of m.device ++ firms_in n (all_messages s es)) (behind_all s es) n }
+    ensures firm { (s : Subsystem) (es : List Event) (n : ℕ) (m : Mounted) → mounted_in s.mounted n ≡ Some m → IsTold m.device.store →
+        has_one n s.mounted ≡ true → IsFirm (told_firm n (all_messages s es) m.device.store.firm) (behind_all s es) n }
 {}
