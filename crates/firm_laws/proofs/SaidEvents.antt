@@ -1,6 +1,7 @@
 -- The other parts of a device's events tell what they note as firm, and the other part of a command's write tells its edit.
 use Rattle.std.proofs.Common.{
   ◌≡◌,
+  ◌<◌,
   ◌≤◌,
   ◌||◌,
   ℕ,

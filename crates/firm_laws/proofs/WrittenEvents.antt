@@ -111,7 +111,7 @@ same_framed s z t f e = record { core = framed_same z t f ∙ e.core; room = e.r
 
 module _ (d : MarksDevice) (Q : List FirmWrite → MarksDevice → Type 0)
     (closed : (u : List FirmWrite) (y : MarksDevice) (z : MarksStore) → core_of z ≡ core_of y.store → Q u y → Q u (record y { store = z })) where
-  end_tells : {A : Type 0} (w : List FirmWrite) (y : MarksDevice) (a : A) → Q w y → Tells (λ u x (_ : A). Q u x) w (event_ended by_plain d y a)
+  pub end_tells : {A : Type 0} (w : List FirmWrite) (y : MarksDevice) (a : A) → Q w y → Tells (λ u x (_ : A). Q u x) w (event_ended by_plain d y a)
   end_tells w y a k =
       tells_then {p = λ v z (_ : Unit {0}). Q v (record y { store = z })} (λ z _. Done (record y { store = z }) a)
       (asks_tells (ended_asks by_plain (λ z. Q w (record y { store = z }))
@@ -206,7 +206,7 @@ module _ (num : ℕ) (empty : PlainState) (d : MarksDevice) (f : Follows num emp
           let k = one_more (chain.fixed.cylinders * 15) (omega (arith, some, cylinders)) in
           ap (λ (x : Fed). x.edit)
           (ap (λ (n : ℕ). fed n (track_in d.store.plain) (settled_act chain.fixed.geometry d.paths o.path) chain) (many ∙ sym k.1)
-          ∙ fed_so chain there.fresh d.paths o.path d.store.plain (settled_act chain.fixed.geometry d.paths o.path) k.0 t k.1 needs)
+          ∙ fed_so chain (there chain is).fresh d.paths o.path d.store.plain (settled_act chain.fixed.geometry d.paths o.path) k.0 t k.1 needs)
 
       tracked : (s : MarksStore) → Same (begun d.store) s → (t : ℕ) → need_of chain ≡ Some t →
           Tells (λ u y _. Left u y) [] (command_at by_plain (here s) o.path chain (Some t))
@@ -227,12 +227,12 @@ module _ (num : ℕ) (empty : PlainState) (d : MarksDevice) (f : Follows num emp
       -- it looks at no track
       none_edit : need_of chain ≡ None → the_edit ≡ None
       none_edit none = by_opening_of (opening_at chain).stance (opening_at chain).opening
-          (sym (needs_by chain there.fresh d.paths o.path d.store.plain) ∙ none)
+          (sym (needs_by chain (there chain is).fresh d.paths o.path d.store.plain) ∙ none)
         where
           by_opening_of : (z : Stance) (k : Opening) → needed (begin_with chain (opening_at chain)) (stage_for k) ≡ None →
-              (by_opening chain there.fresh d.paths o.path d.store.plain z k).edit ≡ None
-          by_opening_of z (openings.Over ending) free = (over_answer chain there.fresh d.paths o.path d.store.plain z ending).none
-          by_opening_of z (openings.Asks act) free = (asked_answer chain there.fresh d.paths o.path d.store.plain z act chain.fixed.geometry refl).none
+              (by_opening chain (there chain is).fresh d.paths o.path d.store.plain z k).edit ≡ None
+          by_opening_of z (openings.Over ending) free = (over_answer chain (there chain is).fresh d.paths o.path d.store.plain z ending).none
+          by_opening_of z (openings.Asks act) free = (asked_answer chain (there chain is).fresh d.paths o.path d.store.plain z act chain.fixed.geometry refl).none
           by_opening_of z (openings.Looks look) free = absurd (cc)
 
       answered : (s : MarksStore) → Same (begun d.store) s → the_edit ≡ None → (next : ChainState) (p : Progress) →

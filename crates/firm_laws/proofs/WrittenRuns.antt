@@ -147,13 +147,13 @@ module _ (n : ℕ) (m : Mounted) (s : Subsystem) (there : mounted_in s.mounted n
 
   -- the device at hand
   record Is (d : MarksDevice) : Type 0 where
-    plain : Plainly d
-    told : IsTold d.store
+    beside : Plainly d
+    tells : IsTold d.store
     number : d.store.device ≡ n
     writes : firm_writes_of d ≡ before
 
   mine : Is m.device
-  mine = record { plain = plain; told = told; number = now.0; writes = refl }
+  mine = record { beside = plain; tells = told; number = now.0; writes = refl }
 
   unseen : (k : ℕ) (d : MarksDevice) → d.store.device ≡ k → Rest k ⊥ [] d.store
   unseen k d is = (is, λ none. absurd none)
@@ -172,18 +172,18 @@ module _ (n : ℕ) (m : Mounted) (s : Subsystem) (there : mounted_in s.mounted n
       other_firms d.store.device n (messages true talk o) other (own_held (own d.store.device (unseen d.store.device d refl)) o)
 
   module _ {X : Type 0} (d : MarksDevice) (x : Is d) (talk : Talk X) (own : Own d talk) where
-    left_so : Tells (λ u y (_ : X). Left x.plain.number x.plain.empty d x.plain.follows x.told u y) [] talk →
-        Had talk (λ y (_ : X). Follows x.plain.number x.plain.empty y) → (o : Told) →
+    left_so : Tells (λ u y (_ : X). Left x.beside.number x.beside.empty d x.beside.follows x.tells u y) [] talk →
+        Had talk (λ y (_ : X). Follows x.beside.number x.beside.empty y) → (o : Told) →
         So (before ++ firms_in n (messages true talk o)) (hold true talk o).state
     left_so tells had o =
         let y = (hold true talk o).state in
         let u = all_firms (messages true talk o) in
-        let left = tells_held (λ u y (_ : X). Left x.plain.number x.plain.empty d x.plain.follows x.told u y) tells o in
+        let left = tells_held (λ u y (_ : X). Left x.beside.number x.beside.empty d x.beside.follows x.tells u y) tells o in
         let after = held true had o in (
-          after.number ∙ sym x.plain.follows.number ∙ x.number,
+          after.number ∙ sym x.beside.follows.number ∙ x.number,
           ap (λ (e : PlainState). firm_writes y.plans e y.history) (sym after.base)
-              ∙ made_written x.plain.number x.plain.empty d x.plain.follows u y left.0 after left.1
-              ∙ ap (λ (e : PlainState). firm_writes d.plans e d.history ++ u) x.plain.follows.base
+              ∙ made_written x.beside.number x.beside.empty d x.beside.follows u y left.0 after left.1
+              ∙ ap (λ (e : PlainState). firm_writes d.plans e d.history ++ u) x.beside.follows.base
               ∙ ap (λ (w : List FirmWrite). w ++ u) x.writes
               ∙ ap (λ (w : List FirmWrite). before ++ w) (sym (own_in d talk own x.number o)),
         )
@@ -226,15 +226,15 @@ module _ (n : ℕ) (m : Mounted) (s : Subsystem) (there : mounted_in s.mounted n
       let talk = peek by_plain d q in
       let y = (hold true talk o).state in
       let u = all_firms (messages true talk o) in
-      let f = x.plain.follows in
+      let f = x.beside.follows in
       let own : Own d talk = λ k g. peek_keeps k ⊥ d q g in
-      let left = tells_held (λ u y _. Looked x.plain.number x.plain.empty d x.plain.follows x.told u y) (peek_left x.plain.number x.plain.empty d f x.told q) o in
+      let left = tells_held (λ u y _. Looked x.beside.number x.beside.empty d x.beside.follows x.tells u y) (peek_left x.beside.number x.beside.empty d f x.tells q) o in
       let sized = peek_sized d q o in
-      let empty : empty_of y ≡ x.plain.empty =
+      let empty : empty_of y ≡ x.beside.empty =
       ap (λ (g : Geometry). empty_state g y.store.cylinders) sized.geometry ∙ ap (empty_state d.store.geometry) sized.cylinders ∙ sym f.base in (
         sized.device ∙ x.number,
         ap (λ (e : PlainState). firm_writes y.plans e y.history) empty
-            ∙ acts_written x.plain.number x.plain.empty d f u y left.0 left.1 left.2
+            ∙ acts_written x.beside.number x.beside.empty d f u y left.0 left.1 left.2
             ∙ ap (λ (e : PlainState). firm_writes d.plans e d.history ++ u) f.base
             ∙ ap (λ (w : List FirmWrite). w ++ u) x.writes
             ∙ ap (λ (w : List FirmWrite). before ++ w) (sym (own_in d talk own x.number o)),
@@ -321,8 +321,8 @@ module _ (n : ℕ) (m : Mounted) (s : Subsystem) (there : mounted_in s.mounted n
     stood d x same = subst (So before) (seat_of s d x m (ap (mounted_in s.mounted) same ∙ there)) now
 
     asks_claim : {X : Type 0} (d : MarksDevice) (talk : Talk X) (f : X → Option EventEnd) → Stands s d → Own d talk →
-        ((x : Is d) → Tells (λ u y (_ : X). Left x.plain.number x.plain.empty d x.plain.follows x.told u y) [] talk) →
-        ((x : Is d) → Had talk (λ y (_ : X). Follows x.plain.number x.plain.empty y)) →
+        ((x : Is d) → Tells (λ u y (_ : X). Left x.beside.number x.beside.empty d x.beside.follows x.tells u y) [] talk) →
+        ((x : Is d) → Had talk (λ y (_ : X). Follows x.beside.number x.beside.empty y)) →
         Claim (Asks d (and_then talk (λ e a. Done e (f a))))
     asks_claim d talk f stands own tells had = by_found (mounted_in s.mounted d.store.device) refl
       where
@@ -363,8 +363,8 @@ module _ (n : ℕ) (m : Mounted) (s : Subsystem) (there : mounted_in s.mounted n
         )
 
     swept : (f : MarksDevice → Talk (Unit {0})) → ((d : MarksDevice) → Own d (f d)) →
-        ((d : MarksDevice) (x : Is d) → Tells (λ u y (_ : Unit {0}). Left x.plain.number x.plain.empty d x.plain.follows x.told u y) [] (f d)) →
-        ((d : MarksDevice) (x : Is d) → Had (f d) (λ y (_ : Unit {0}). Follows x.plain.number x.plain.empty y)) → (pool : Pool) →
+        ((d : MarksDevice) (x : Is d) → Tells (λ u y (_ : Unit {0}). Left x.beside.number x.beside.empty d x.beside.follows x.tells u y) [] (f d)) →
+        ((d : MarksDevice) (x : Is d) → Had (f d) (λ y (_ : Unit {0}). Follows x.beside.number x.beside.empty y)) → (pool : Pool) →
         Claim (Each pool f)
     swept f own tells had pool = swept_so f own (λ d x o. left_so d x (f d) (own d) (tells d x) (had d x) o) s.mounted pool there one
 
@@ -373,30 +373,30 @@ module _ (n : ℕ) (m : Mounted) (s : Subsystem) (there : mounted_in s.mounted n
       ended = λ end. quiet_deed (Ends end) tt;
       started = λ d x path fault. quiet_deed (Becomes (start d path) (ends.Started (next_ordinal d path))) (started d path x fault);
       seconded = λ d x h is. asks_claim d (second by_plain d) (λ a. Some (ends.Second a)) x (λ k g. second_keeps k ⊥ d g)
-          (λ y. second_left y.plain.number y.plain.empty d y.plain.follows y.told h is)
-          (λ y. second_follows y.plain.number y.plain.empty d y.plain.follows h is);
+          (λ y. second_left y.beside.number y.beside.empty d y.beside.follows y.tells h is)
+          (λ y. second_follows y.beside.number y.beside.empty d y.beside.follows h is);
       commanded = λ d x whole o running. asks_claim d (command by_plain d) (end_of ends.Stepped) x (λ k g. command_keeps k ⊥ d whole g)
-          (λ y. command_left y.plain.number y.plain.empty d y.plain.follows y.told o running whole)
-          (λ y. command_follows y.plain.number y.plain.empty d y.plain.follows o running whole);
+          (λ y. command_left y.beside.number y.beside.empty d y.beside.follows y.tells o running whole)
+          (λ y. command_follows y.beside.number y.beside.empty d y.beside.follows o running whole);
       worked = λ d x whole. asks_claim d (background by_plain d) (end_of ends.Back) x (λ k g. background_keeps k ⊥ d whole g)
-          (λ y. background_left y.plain.number y.plain.empty d y.plain.follows y.told whole)
-          (λ y. background_follows y.plain.number y.plain.empty d y.plain.follows whole);
+          (λ y. background_left y.beside.number y.beside.empty d y.beside.follows y.tells whole)
+          (λ y. background_follows y.beside.number y.beside.empty d y.beside.follows whole);
       cut = λ d x path. asks_claim d (reset by_plain d path) (λ a. Some (ends_done a)) x (λ k g. reset_keeps k ⊥ d path g)
-          (λ y. reset_left y.plain.number y.plain.empty d y.plain.follows y.told path)
-          (λ y. reset_follows y.plain.number y.plain.empty d y.plain.follows path);
+          (λ y. reset_left y.beside.number y.beside.empty d y.beside.follows y.tells path)
+          (λ y. reset_follows y.beside.number y.beside.empty d y.beside.follows path);
       lost_cache = swept (λ d. lose by_plain d losses.Cache) (λ d k g. lose_keeps k ⊥ d losses.Cache g)
-          (λ d y. cache_left y.plain.number y.plain.empty d y.plain.follows y.told)
-          (λ d y. loss_follows y.plain.number y.plain.empty d y.plain.follows losses.Cache) (cache_failed s.pool);
+          (λ d y. cache_left y.beside.number y.beside.empty d y.beside.follows y.tells)
+          (λ d y. loss_follows y.beside.number y.beside.empty d y.beside.follows losses.Cache) (cache_failed s.pool);
       lost_store = swept (λ d. lose by_plain d losses.Store) (λ d k g. lose_keeps k ⊥ d losses.Store g)
-          (λ d y. store_left y.plain.number y.plain.empty d y.plain.follows y.told)
-          (λ d y. loss_follows y.plain.number y.plain.empty d y.plain.follows losses.Store) (store_failed s.pool);
+          (λ d y. store_left y.beside.number y.beside.empty d y.beside.follows y.tells)
+          (λ d y. loss_follows y.beside.number y.beside.empty d y.beside.follows losses.Store) (store_failed s.pool);
       lost_side = λ d x side fault.
           asks_claim d (lose by_plain d (losses.Side side)) (λ a. Some (ends_done a)) x (λ k g. lose_keeps k ⊥ d (losses.Side side) g)
-          (λ y. side_left y.plain.number y.plain.empty d y.plain.follows y.told side)
-          (λ y. loss_follows y.plain.number y.plain.empty d y.plain.follows (losses.Side side));
+          (λ y. side_left y.beside.number y.beside.empty d y.beside.follows y.tells side)
+          (λ y. loss_follows y.beside.number y.beside.empty d y.beside.follows (losses.Side side));
       lost_power = swept (power by_plain) (λ d k g. power_keeps k ⊥ d g)
-          (λ d y. power_left y.plain.number y.plain.empty d y.plain.follows y.told)
-          (λ d y. power_follows y.plain.number y.plain.empty d y.plain.follows) (power_lost s.pool);
+          (λ d y. power_left y.beside.number y.beside.empty d y.beside.follows y.tells)
+          (λ d y. power_follows y.beside.number y.beside.empty d y.beside.follows) (power_lost s.pool);
       repaired_cache = quiet_deed (Repairs (cache_repaired s.pool)) tt;
       repaired_store = quiet_deed (Repairs (store_repaired s.pool)) tt;
       lent = λ x y a b fault. quiet_deed (Lends x y) (λ o. lent_so x.store.device o, λ d g. g);

@@ -60,7 +60,7 @@ part_writes state path ccws acts zero = acted_writes acts (first_part state path
 part_writes state path ccws acts (suc k) =
     let p = part_of state path ccws acts k in
     let q = stepped path ccws p in
-    part_writes state path ccws acts k ++ step_writes path ccws p p.next ++ acted_writes acts q q.next
+    part_writes state path ccws acts k ++ (step_writes path ccws p p.next ++ acted_writes acts q q.next)
 
 -- of a program that was cut each effect counts, also that of which a half write was open. A new volume is no write
 abbrev pub item_writes : Plans → PlainState → Item → List FirmWrite
