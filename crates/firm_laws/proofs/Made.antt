@@ -173,21 +173,25 @@ module _ (num : ℕ) (empty : PlainState) (d : MarksDevice) (f : Follows num emp
   behind : (acts : List Act) → Takes acts → Behind d.plans empty d.store.plain d.history acts
   behind acts none = acts_behind d.plans empty d.store.plain acts d.history works f.of.volume none
 
+  acts_are : (u : List FirmWrite) (y : MarksDevice) → Noted d.store.plain u (core_of y.store) →
+      firm_writes d.plans empty (all_acted d.history y.store.acts) ≡ firm_writes d.plans empty d.history ++ u
+  acts_are u y x = (behind y.store.acts x.takes).written ∙ ap (λ (w : List FirmWrite). firm_writes d.plans empty d.history ++ w) (sym x.said)
+
   module _ (u : List FirmWrite) (y : MarksDevice) (plans : y.plans ≡ d.plans) (after : Follows num empty y) where
     -- the edit of a command as the plain device has it
     edit_is : (edit : Option TrackEdit) (state : PlainState) → state.volume ≡ d.store.plain →
         ((t : ℕ) → is_loose_in state.loose t ≡ loose_at (core_of y.store) t) → EndSays d.store.plain edit u (core_of y.store) →
         firmings d.store.plain y.store.acts ++ edit_writes state edit ≡ u
-    edit_is None state volume loose x = append-nil (firmings d.store.plain y.store.acts) ∙ sym x.said
-    edit_is (Some e) state volume loose (firmly v _ _ x off is) =
+    edit_is None state volume same x = append-nil (firmings d.store.plain y.store.acts) ∙ sym x.said
+    edit_is (Some e) state volume same (firmly v _ _ x off is) =
         let there = track_in state.volume e.track in
-        ap (λ (b : Bool). firmings d.store.plain y.store.acts ++ (if b then [] else (e.track, apply_edit e.edit there) ∷ [])) (loose e.track ∙ off)
+        ap (λ (b : Bool). firmings d.store.plain y.store.acts ++ (if b then [] else (e.track, apply_edit e.edit there) ∷ [])) (same e.track ∙ off)
         ∙ ap (λ (l : List Track). firmings d.store.plain y.store.acts ++ (e.track, apply_edit e.edit (track_in l e.track)) ∷ []) volume
         ∙ ap (λ (l : List FirmWrite). l ++ (e.track, apply_edit e.edit (track_in d.store.plain e.track)) ∷ []) (sym x.said)
         ∙ sym is
-    edit_is (Some e) state volume loose (loosely _ _ x on) =
+    edit_is (Some e) state volume same (loosely _ _ x on) =
         ap (λ (b : Bool). firmings d.store.plain y.store.acts ++ (if b then [] else (e.track, apply_edit e.edit (track_in state.volume e.track)) ∷ []))
-        (loose e.track ∙ on after.places)
+        (same e.track ∙ on after.places)
         ∙ append-nil (firmings d.store.plain y.store.acts) ∙ sym x.said
 
     same_plans : firm_writes y.plans empty y.history ≡ firm_writes d.plans empty y.history
@@ -224,19 +228,15 @@ module _ (num : ℕ) (empty : PlainState) (d : MarksDevice) (f : Follows num emp
         ∙ append_assoc (firm_writes d.plans empty d.history) (firmings d.store.plain acts) (edit_writes state edit)
         ∙ ap (λ (w : List FirmWrite). firm_writes d.plans empty d.history ++ w) (edit_is edit state volume loose x)
 
-    acts_are : (x : Noted d.store.plain u (core_of y.store)) →
-        firm_writes d.plans empty (all_acted d.history y.store.acts) ≡ firm_writes d.plans empty d.history ++ u
-    acts_are x = (behind y.store.acts x.takes).written ∙ ap (λ (w : List FirmWrite). firm_writes d.plans empty d.history ++ w) (sym x.said)
-
     by_made : Made u y → firm_writes d.plans empty y.history ≡ firm_writes d.plans empty d.history ++ u
-    by_made (only_acts is x) = ap (firm_writes d.plans empty) is ∙ acts_are x
+    by_made (only_acts is x) = ap (firm_writes d.plans empty) is ∙ acts_are u y x
     by_made (then_checked o e running is x) =
         let l = later d.plans empty y.store.acts d.history o running (goes o running) in
         let h : History = record d.history { running = Some l.entry } in
         ap (firm_writes d.plans empty) (is ∙ ap (λ (k : History). checked k e) l.is)
         ∙ checked_written d.plans empty h l.entry refl e
         ∙ ap (firm_writes d.plans empty) (sym l.is)
-        ∙ acts_are x
+        ∙ acts_are u y x
     by_made (then_ended o i e edit running next effect is x) = ended_is o i e edit running next effect is x
     by_made (then_known is) = is
 
@@ -248,6 +248,4 @@ module _ (num : ℕ) (empty : PlainState) (d : MarksDevice) (f : Follows num emp
   pub acts_written : (u : List FirmWrite) (y : MarksDevice) → y.plans ≡ d.plans → y.history ≡ all_acted d.history y.store.acts →
       Noted d.store.plain u (core_of y.store) → firm_writes y.plans empty y.history ≡ firm_writes d.plans empty d.history ++ u
   acts_written u y plans is x =
-      ap (λ (p : Plans). firm_writes p empty y.history) plans
-      ∙ ap (firm_writes d.plans empty) is
-      ∙ (behind y.store.acts x.takes).written ∙ ap (λ (w : List FirmWrite). firm_writes d.plans empty d.history ++ w) (sym x.said)
+      ap (λ (p : Plans). firm_writes p empty y.history) plans ∙ ap (firm_writes d.plans empty) is ∙ acts_are u y x

@@ -383,8 +383,11 @@ module _ (num : ℕ) (empty : PlainState) (d : MarksDevice) (f : Follows num emp
   cache_left =
       event_tells d Left closed (λ z. and_then (losing by_plain z.store losses.Cache) (λ s _. Done (with_store z s) tt))
       (λ s e. tells_then (λ z _. Done (with_store (here s) z) tt) (cache_tells s (λ t. e.free t ∙ told.free t))
-      (λ u z _ x. tells_done (refl, then_known
-      (cache_written s (no_acts s e) z.acts (ap (λ (c : Core). c.acts) x.1) ∙ ap (λ (l : List FirmWrite). firm_writes d.plans empty d.history ++ l) (sym x.0)))))
+      (λ u z _ x. tells_done (
+        refl,
+        then_known
+            (cache_written s (no_acts s e) z.acts (ap (λ (c : Core). c.acts) x.1) ∙ ap (λ (l : List FirmWrite). firm_writes d.plans empty d.history ++ l) (sym x.0)),
+      )))
 
   -- A look
 
@@ -477,10 +480,16 @@ module _ (num : ℕ) (empty : PlainState) (d : MarksDevice) (f : Follows num emp
         paths = all_reset (reset_path d.paths path) d.history.waiting;
       }) tt)
       (half_says d.store d.store.half refl)
-      (λ u z _ x. tells_done (refl, then_known (path_written path o running same ∙ ap (λ (l : List FirmWrite). firm_writes d.plans empty d.history ++ l)
-      (sym x)))))
-      (λ other. tells_done (refl, then_known
-      (later_written d.plans empty d.history path 0 o running other ∙ sym (append-nil (firm_writes d.plans empty d.history)))))
+      (λ u z _ x. tells_done (
+        refl,
+        then_known (path_written path o running same ∙ ap (λ (l : List FirmWrite). firm_writes d.plans empty d.history ++ l)
+            (sym x)),
+      )))
+      (λ other. tells_done (
+        refl,
+        then_known
+            (later_written d.plans empty d.history path 0 o running other ∙ sym (append-nil (firm_writes d.plans empty d.history))),
+      ))
   by_running path None none =
       tells_if (has_used d.history path)
       (λ _. tells_done (refl, then_known (idle_reset d.plans empty d.history path 0 none ∙ sym (append-nil (firm_writes d.plans empty d.history)))))
@@ -517,6 +526,9 @@ module _ (num : ℕ) (empty : PlainState) (d : MarksDevice) (f : Follows num emp
   power_left =
       tells_then (event_ended by_plain d)
       (tells_then (λ s _. Done (powered_off by_plain (event_begun d) s) tt) (half_says (begun d.store) (begun d.store).half refl)
-      (λ u z _ x. tells_done (refl, then_known (power_written d.history.running refl
-      ∙ ap (λ (l : List FirmWrite). firm_writes d.plans empty d.history ++ l) (sym x)))))
+      (λ u z _ x. tells_done (
+        refl,
+        then_known (power_written d.history.running refl
+            ∙ ap (λ (l : List FirmWrite). firm_writes d.plans empty d.history ++ l) (sym x)),
+      )))
       (λ u y a k. end_tells d Left closed u y a k)

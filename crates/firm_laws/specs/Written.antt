@@ -16,10 +16,12 @@ pub record HasWritten (ws : List FirmWrite) (s : Subsystem) (n : ℕ) : Type 0 w
 
 -- Events that come one after another
 
+-- the subsystem behind them
 abbrev pub behind_all : Subsystem → List Event → Subsystem
 behind_all s [] = s
 behind_all s (e ∷ es) = behind_all (happens s e).behind es
 
+-- and what keepers are told in them
 abbrev pub all_messages : Subsystem → List Event → List (Message Image)
 all_messages s [] = []
 all_messages s (e ∷ es) = event_messages s e ++ all_messages (happens s e).behind es
