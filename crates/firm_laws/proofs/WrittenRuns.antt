@@ -7,7 +7,7 @@ use Rattle.ckd_types.specs.declared.geometry.Geometry.{Geometry}
 use Rattle.ckd_types.specs.declared.paths.Side.{Side}
 use Rattle.ckd_types.specs.declared.paths.Side.TheVariants.{A, B}
 use Rattle.loss_model.specs.declared.Loss.TheVariants as losses
-use Rattle.plain_defs.specs.History.{History}
+use Rattle.plain_defs.specs.History.{OpenEntry, History}
 use Rattle.plain_defs.specs.Journal.{Plans}
 use Rattle.plain_defs.specs.PlainState.{PlainState, empty_state}
 use Rattle.device_outside.specs.Hears.{messages}
@@ -23,7 +23,7 @@ use Rattle.device_defs.specs.Losses as L
 use Rattle.device_defs.specs.Losses.{without_frame}
 use Rattle.device_defs.specs.Marks.{MarksDevice, MarksStore}
 use Rattle.device_defs.specs.Orders as O
-use Rattle.device_defs.specs.Orders.{replace, lend, lent_to, with_tracks, given_up}
+use Rattle.device_defs.specs.Orders.{restore, replace, lend, lent_to, with_tracks, given_up}
 use Rattle.device_defs.specs.Owed.{begun}
 use Rattle.device_defs.specs.Peek.{peek}
 use Rattle.device_defs.specs.Start as S
@@ -37,7 +37,7 @@ use Rattle.device_laws.proofs.PlainLosses.{loss_follows, background_follows}
 use Rattle.device_laws.proofs.PlainPower.{power_follows}
 use Rattle.device_laws.proofs.PlainSeconds.{second_follows}
 use Rattle.device_laws.proofs.PlainStores.{Core, core_of}
-use Rattle.device_laws.proofs.PlainTurns.{Follows}
+use Rattle.device_laws.proofs.PlainTurns.{IsAtHome, Follows}
 use Rattle.subsystem_defs.specs.declared.end.EventEnd.{EventEnd}
 use Rattle.subsystem_defs.specs.declared.end.EventEnd.TheVariants as ends
 use Rattle.subsystem_defs.specs.declared.event.Event.{Event}
@@ -77,7 +77,7 @@ use Rattle.keeper_laws.proofs.Sizes.{peek_sized}
 use Rattle.keeper_laws.proofs.Places.{IsAt, Leaves, place, put_at, put_here, first_at, later_at, deed_at, replaced_there, unpaired_there}
 use Rattle.firm_laws.specs.FirmWrites.{FirmWrite, firm_writes, firm_writes_of, firms_in}
 use Rattle.firm_laws.specs.Written.{HasWritten}
-use Rattle.firm_laws.proofs.HistoryWrites.{started_written}
+use Rattle.firm_laws.proofs.HistoryWrites.{started_written, emptied_written}
 use Rattle.firm_laws.proofs.Made.{acts_written, made_written}
 use Rattle.firm_laws.proofs.SaidStores.{Same, same_then, same_unframed, same_unpatched, over_same}
 use Rattle.firm_laws.proofs.Tells.{Tells, tells_done, tells_then, tells_held, all_firms, own_held, own_firms, other_firms, firms_more}
@@ -420,15 +420,19 @@ module _ (n : ℕ) (m : Mounted) (s : Subsystem) (there : mounted_in s.mounted n
   written_replaced d side volume =
       written before (replaced s d side volume).behind (replaced_there n (So before) s m there now d side volume (side_so side))
 
-  -- a device that isn't lent gets no other volume where a pair is taken apart
+  -- a device that was lent gets an empty volume where its pair is taken apart, while it runs nothing: that is no write
   abbrev AtHome : MarksDevice → Type 0
-  AtHome d = So before d × (d.store.lent ≡ None)
+  AtHome d = So before d × IsAtHome d.store.lent d.history.running
 
-  lent_none : (o : Option ℕ) (k : ℕ) → o ≡ None → is_lent_to o k ≡ true → ⊥
-  lent_none None k e lent = absurd (cc)
-  lent_none (Some to) k e lent = absurd (cc)
+  idle_lent : (o : Option ℕ) (k : ℕ) (r : Option OpenEntry) → is_lent_to o k ≡ true → IsAtHome o r → r ≡ None
+  idle_lent (Some to) k r lent home = home
+  idle_lent None k r lent home = absurd (cc)
 
-  pub written_unpaired : m.device.store.lent ≡ None → (d : ℕ) (volume : Calls) → HasWritten before (unpaired s d volume).behind n
-  written_unpaired home d volume =
-      let x = unpaired_there n AtHome s m there (now, home) (λ y g. g) d volume (λ y g lent. absurd (lent_none y.store.lent d g.1 lent)) in
+  restored : (k : ℕ) (d : MarksDevice) → AtHome d → is_lent_to d.store.lent k ≡ true → AtHome (restore d)
+  restored k d x lent =
+      ((x.0.0, emptied_written d.plans (empty_of d) d.history (idle_lent d.store.lent k d.history.running lent x.1) ∙ x.0.1), tt)
+
+  pub written_unpaired : (d : ℕ) (volume : Calls) → HasWritten before (unpaired s d volume).behind n
+  written_unpaired d volume =
+      let x = unpaired_there n AtHome s m there (now, plain.follows.home) (λ y g. g) d volume (restored d) in
       written before (unpaired s d volume).behind (record { mounted = x.mounted; there = x.there; is_so = x.is_so.0 })

@@ -1,7 +1,7 @@
 //! Laws that tie what a keeper is told as firm with the device's history. It has no code; its lemmas are over plain variables.
 #![tactic(auto)]
 
-ghost use Rattle.std.specs.Prelude.{◌≡◌, ℕ, true, List, [], ◌++◌, Ok, Some, None, All};
+ghost use Rattle.std.specs.Prelude.{◌≡◌, ℕ, true, List, [], ◌++◌, Ok, Some, All};
 ghost use Rattle.ckd_types.specs.declared.paths.Side.{Side};
 ghost use Rattle.deck_text.specs.DeckLines.{DeckLines};
 ghost use Rattle.deck_text.specs.Parse.{parsed};
@@ -22,8 +22,8 @@ ghost use Rattle.firm_laws.specs.FirmWrites.{firm_writes_of, firms_in};
 ghost use Rattle.firm_laws.specs.Written.{HasWritten, behind_all, all_messages};
 
 /// In a run the firm writes of a device behind an event are those before it, and then the tracks of its Firm messages of that event, in their order; so they
-/// are behind a look at any track of any device. Behind the orders for which a volume is handed in they are as they were: these tell nothing. Exactly one
-/// device has the number; where a pair is taken apart, it isn't lent.
+/// are behind a look at any track of any device. Behind the orders for which a volume is handed in they are as they were: these tell nothing, and the empty
+/// volume that a device gets back is no write. Exactly one device has the number.
 pub fn firm_is_written()
     ensures event { (s : Subsystem) (e : Event) (n : ℕ) (m : Mounted) → ArePlain s.mounted → mounted_in s.mounted n ≡ Some m → IsTold m.device.store →
         has_one n s.mounted ≡ true → HasWritten (firm_writes_of m.device ++ firms_in n (event_messages s e)) (happens s e).behind n }
@@ -32,7 +32,7 @@ pub fn firm_is_written()
     ensures replaced { (s : Subsystem) (d : ℕ) (side : Side) (volume : Calls) (n : ℕ) (m : Mounted) → ArePlain s.mounted →
         mounted_in s.mounted n ≡ Some m → IsTold m.device.store → HasWritten (firm_writes_of m.device) (replaced s d side volume).behind n }
     ensures unpaired { (s : Subsystem) (d : ℕ) (volume : Calls) (n : ℕ) (m : Mounted) → ArePlain s.mounted → mounted_in s.mounted n ≡ Some m →
-        IsTold m.device.store → m.device.store.lent ≡ None → HasWritten (firm_writes_of m.device) (unpaired s d volume).behind n }
+        IsTold m.device.store → HasWritten (firm_writes_of m.device) (unpaired s d volume).behind n }
 {}
 
 /// Each device is beside the plain device of its history where a deck that was read is opened, and behind each event of the paths that there are, each look

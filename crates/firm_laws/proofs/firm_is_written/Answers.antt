@@ -7,5 +7,5 @@ returns c = record {
   event = λ s e n m p there told one. written_event n m s there told (plain_there s p n m there) one e;
   look = λ s d q n m p there told. written_look n m s there told (plain_there s p n m there) d q;
   replaced = λ s d side volume n m p there told. written_replaced n m s there told (plain_there s p n m there) d side volume;
-  unpaired = λ s d volume n m p there told home. written_unpaired n m s there told (plain_there s p n m there) home d volume;
+  unpaired = λ s d volume n m p there told. written_unpaired n m s there told (plain_there s p n m there) d volume;
 }
