@@ -22,7 +22,22 @@ use Rattle.device_defs.specs.Owed.{waits, hear, all_told}
 use Rattle.device_defs.specs.Second.{second_part}
 use Rattle.device_defs.specs.Start.{start_fault, start}
 use Rattle.device_defs.specs.Writing.{write_first, write_second, write_done}
-use Rattle.device_defs.proofs.Stand.{Event as Moves, Suspend, Resume, Stand, all_happen, body_of, go, new_data, pair, stand, steps_of, works, write_of, write_zero}
+use Rattle.device_defs.proofs.Stand.{
+  Event as Moves,
+  Suspend,
+  Resume,
+  Stand,
+  all_happen,
+  body_of,
+  go,
+  new_data,
+  pair,
+  stand,
+  steps_of,
+  works,
+  write_of,
+  write_zero,
+}
 use Rattle.subsystem_defs.specs.declared.event.Event.{Event}
 use Rattle.subsystem_defs.specs.declared.event.Event.TheVariants as events
 use Rattle.subsystem_defs.specs.Deeds.{deed}

@@ -264,7 +264,8 @@ module _ (plans : Plans) where
         ∙ ap (λ (l : List FirmWrite). journal_writes plans empty h.items ++ l) (append-nil (item_writes plans (replay plans empty h.items) x))
 
     closed_written : (o : OpenEntry) (how : How) → firm_writes plans empty (closed h o how)
-        ≡ journal_writes plans empty h.items ++ part_writes (replay plans empty h.items) o.path (program_of plans o.path o.ordinal) o.acts (effects_of how o.ends)
+        ≡ journal_writes plans empty h.items
+        ++ part_writes (replay plans empty h.items) o.path (program_of plans o.path o.ordinal) o.acts (effects_of how o.ends)
     closed_written o how =
         last_item (entry_of o how) (resets_of h.waiting) []
         (resets_none (replay_item plans (replay plans empty h.items) (entry_of o how)) h.waiting)

@@ -377,7 +377,8 @@ module _ (h : Option (HalfWrite (Unit {0}))) (b : List Track) (g : Geometry) (q 
   taken_here : {w : List FirmWrite} (s : MarksStore) → Here w s → Here w (with_stale s B q false)
   taken_here s x = on_by h (Some q) b g s (with_stale s B q false) refl refl x
 
-  alone_goes : {w : List FirmWrite} (s : MarksStore) (fault : Option Side) (first : Side) (ok : Bool) → Here w s → Writes w (alone_b by_plain q fault first s ok)
+  alone_goes : {w : List FirmWrite} (s : MarksStore) (fault : Option Side) (first : Side) (ok : Bool) → Here w s →
+      Writes w (alone_b by_plain q fault first s ok)
   alone_goes s fault first ok x =
       tells_if ok (λ _. tells_done (taken_here s x))
       (λ _. tells_then (λ z _. Done (unwritten by_plain z q) (W.wrote Unwritten (Some first))) (failed_goes h (Some q) b g s B (Some q) x)

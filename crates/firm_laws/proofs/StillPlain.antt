@@ -50,7 +50,8 @@ module _ (Q : Core → Type 0) (hard : (c : Core) (t : ℕ) → Q c → loose_at
   miss_holds : (s : MarksStore) (u : Usage) → Holds s → Had (miss by_plain s u q) (λ z (_ : Option Imaged). Holds z)
   miss_holds s u w =
       had_then (bytes_hold Q hard s q w)
-      (λ z g x. asks_had (missed_asks by_plain Holds (λ y t i patched is k. framed_holds y t (Some patched) k) (λ v y t k. ahead_holds v y t k) u q z g g.bytes x))
+      (λ z g x. asks_had (missed_asks by_plain Holds (λ y t i patched is k. framed_holds y t (Some patched) k) (λ v y t k. ahead_holds v y t k) u q z g
+      g.bytes x))
 
   frame_holds : (s : MarksStore) (u : Usage) (f : Option Bool) → Holds s → Had (image_by by_plain s u q f) (λ z (_ : Option Imaged). Holds z)
   frame_holds s u None w = miss_holds s u w
@@ -87,7 +88,11 @@ peek_follows num empty d f q =
     let n = d.store.cylinders in
     had_then
     (had_then (track_holds (Walked p g n (core_of d.store)) (walked_hardened p g n (core_of d.store)) q (begun d.store)
-    (record { plain = d.store.plain; walks = walks_first num empty d f (begun d.store) refl; stays = record { loose = λ t firm. firm; plain = λ t firm. refl } }))
+    (record {
+      plain = d.store.plain;
+      walks = walks_first num empty d f (begun d.store) refl;
+      stays = record { loose = λ t firm. firm; plain = λ t firm. refl };
+    }))
     (λ z found w. had_done (walked_follow num empty d f z w)))
     (λ y a x. had_then (ended_same (waiting_count by_plain d.store) y.store) (λ z _ e. had_done (follows_store num empty y x z e)))
 

@@ -232,7 +232,8 @@ module _ (num : ℕ) (empty : PlainState) (d : MarksDevice) (f : Follows num emp
           by_opening_of : (z : Stance) (k : Opening) → needed (begin_with chain (opening_at chain)) (stage_for k) ≡ None →
               (by_opening chain (there chain is).fresh d.paths o.path d.store.plain z k).edit ≡ None
           by_opening_of z (openings.Over ending) free = (over_answer chain (there chain is).fresh d.paths o.path d.store.plain z ending).none
-          by_opening_of z (openings.Asks act) free = (asked_answer chain (there chain is).fresh d.paths o.path d.store.plain z act chain.fixed.geometry refl).none
+          by_opening_of z (openings.Asks act) free =
+              (asked_answer chain (there chain is).fresh d.paths o.path d.store.plain z act chain.fixed.geometry refl).none
           by_opening_of z (openings.Looks look) free = absurd (cc)
 
       answered : (s : MarksStore) → Same (begun d.store) s → the_edit ≡ None → (next : ChainState) (p : Progress) →
@@ -308,7 +309,8 @@ module _ (num : ℕ) (empty : PlainState) (d : MarksDevice) (f : Follows num emp
   mid_of h there = subst (λ (x : Option (HalfWrite (Unit {0}))). IsMid (core_of d.store) x d.history.running f.before d.chain) there f.mid
 
   its_second : (t : ℕ) (bypass : Bool) (e : Edit) → Halfway (core_of d.store) t e d.history.running f.before d.chain → (r : Option OpenEntry) →
-      d.history.running ≡ r → (s z : MarksStore) (u : List FirmWrite) (done : Bool) → SecondSays d.store.plain d.store.geometry t (OfCommand bypass e) u z done →
+      d.history.running ≡ r → (s z : MarksStore) (u : List FirmWrite) (done : Bool) →
+      SecondSays d.store.plain d.store.geometry t (OfCommand bypass e) u z done →
       Tells (λ v y _. Left v y) u (command_ended by_plain (with_store (here s) z) t (all_acted d.history z.acts).running d.chain done)
   its_second t bypass e mid None none s z u done x = absurd (some_none d.history.running mid.runs none)
   its_second t bypass e mid (Some o) running s z u done x =
@@ -386,7 +388,8 @@ module _ (num : ℕ) (empty : PlainState) (d : MarksDevice) (f : Follows num emp
       (λ u z _ x. tells_done (
         refl,
         then_known
-            (cache_written s (no_acts s e) z.acts (ap (λ (c : Core). c.acts) x.1) ∙ ap (λ (l : List FirmWrite). firm_writes d.plans empty d.history ++ l) (sym x.0)),
+            (cache_written s (no_acts s e) z.acts (ap (λ (c : Core). c.acts) x.1)
+            ∙ ap (λ (l : List FirmWrite). firm_writes d.plans empty d.history ++ l) (sym x.0)),
       )))
 
   -- A look

@@ -228,7 +228,8 @@ module _ (n : ℕ) (m : Mounted) (s : Subsystem) (there : mounted_in s.mounted n
       let u = all_firms (messages true talk o) in
       let f = x.beside.follows in
       let own : Own d talk = λ k g. peek_keeps k ⊥ d q g in
-      let left = tells_held (λ u y _. Looked x.beside.number x.beside.empty d x.beside.follows x.tells u y) (peek_left x.beside.number x.beside.empty d f x.tells q) o in
+      let left = tells_held (λ u z _. Looked x.beside.number x.beside.empty d x.beside.follows x.tells u z)
+      (peek_left x.beside.number x.beside.empty d f x.tells q) o in
       let sized = peek_sized d q o in
       let empty : empty_of y ≡ x.beside.empty =
       ap (λ (g : Geometry). empty_state g y.store.cylinders) sized.geometry ∙ ap (empty_state d.store.geometry) sized.cylinders ∙ sym f.base in (
