@@ -10,4 +10,6 @@ pub mod WrittenEvents
 pub mod StillPlain
 pub mod WrittenRuns
 pub mod WrittenSoFar
+pub mod OneNumber
+pub mod DrivenWrites
 mod FirmWriteRows
