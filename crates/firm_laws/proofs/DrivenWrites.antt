@@ -171,7 +171,9 @@ module _ (n : ℕ) where
       is = t.stays g (Comes e) ∙ x.is;
       stands =
           subst (λ (z : Subsystem). Stands z (firms (c.did g (Comes e)))) (sym (t.sub g (Comes e)))
-          (subst (Stands (happens (c.sub g) e).behind) (sym (t.comes g e ∙ ap (λ (k : ℕ). firms g ++ firms_in k (event_messages (c.sub g) e)) x.is)) (event_stands (c.sub g) (firms g) e may x.stands));
+          (subst (Stands (happens (c.sub g) e).behind)
+          (sym (t.comes g e ∙ ap (λ (k : ℕ). firms g ++ firms_in k (event_messages (c.sub g) e)) x.is))
+          (event_stands (c.sub g) (firms g) e may x.stands));
     }
     did_so g (Replaces d side) may x = record {
       is = t.stays g (Replaces d side) ∙ x.is;

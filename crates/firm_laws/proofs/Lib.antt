@@ -13,3 +13,4 @@ pub mod WrittenSoFar
 pub mod OneNumber
 pub mod DrivenWrites
 mod FirmWriteRows
+mod TellingRows
