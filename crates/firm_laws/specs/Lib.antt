@@ -1,0 +1,3 @@
+pub mod FirmWrites
+pub mod Written
+pub mod Telling
