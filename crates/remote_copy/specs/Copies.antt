@@ -1,17 +1,22 @@
 -- What a call that copies a track does.
-use Rattle.std.specs.Prelude.{◌≡◌, ℕ, ◌&&◌, not, Bool, true, false, Option, Some, None, Result, Ok, Err, IfOk, IsOk}
+use Rattle.std.specs.Prelude.{◌≡◌, ◌⊎◌, ◌<◌, ◌*◌, ℕ, ◌&&◌, not, Bool, true, false, Option, Some, None, Result, Ok, Err, IfOk, IsOk}
 use Rattle.ckd_outside.specs.declared.faults.Failed.{Failed}
+use Rattle.ckd_types.specs.declared.geometry.Geometry.{Geometry}
 use Rattle.ckd_types.specs.declared.memory.NoMemory.{NoMemory}
 use Rattle.ckd_types.specs.declared.record.Track.{Track}
 use Rattle.device_outside.specs.declared.volume.Volume.{Ghosts}
 use Rattle.device_outside.specs.Keeper.{Heard}
 use Rattle.device_defs.specs.Peek as peeks
 use Rattle.device_defs.specs.Peek.{Peeked}
+use Rattle.device_store.specs.declared.store.Peeked as looks
+use Rattle.device_store.specs.Images.{IsImageOf}
+use Rattle.device_store.specs.Looks.{IsPeeked, peeked_by}
+use Rattle.device_store.specs.State.{had, state_of}
+use Rattle.device_core.specs.declared.device.Device.{Device}
+use Rattle.subsystem_core.specs.declared.subsystem.Subsystem.{Subsystem}
 use Rattle.subsystem_defs.specs.Looks.{looked}
 use Rattle.subsystem_defs.specs.Subsystem.{mounted_in}
 use Rattle.track_looks.specs.Looking.{LooksKept}
-use Rattle.remote_copy.specs.declared.link.Link as links
-use Rattle.remote_copy.specs.declared.mirror.Mirror.{Mirror}
 use Rattle.remote_copy.specs.declared.remote.Remote.{Remote}
 use Rattle.remote_copy.specs.declared.remote.Remote.TheVariants.{Copied, Idle, Lost, Fault, BadBytes, LinkFault, Waits}
 use Rattle.remote_copy.specs.declared.state.MirrorState.{MirrorState}
@@ -52,36 +57,53 @@ LookedBy tracks t failed None old r new = (IsOk r → ⊥) × (new ≡ old)
 LookedBy tracks t true (Some found) old r new = (r ≡ Ok LinkFault) × (new ≡ old)
 LookedBy tracks t false (Some found) old r new = IsOk r × IfOk r (λ answer. AnswersBy tracks t found old answer new)
 
-module _ {V L : Type 0} {G : Ghosts V} {H : links.Ghosts L} where
-  -- nothing is changed
-  pub record IsUnchanged (old new : Mirror V L G H) : Type 0 where
-    pub sub : new.sub ≡ old.sub
-    pub sender : new.sender ≡ old.sender
+-- an image that was found is of this model, and says that it is this track
+abbrev pub IsImageFound : Geometry → ℕ → Peeked → Type 0
+IsImageFound g t (peeks.Track i) = IsImageOf g t i
+IsImageFound g t _ = Unit {0}
 
-  -- a track was looked at, with the sender as keeper
-  pub record LooksToCopy (tracks t : ℕ) (old : Mirror V L G H) (r : Result Remote NoMemory) (new : Mirror V L G H) : Type 0 where
+module _ {V : Type 0} {G : Ghosts V} where
+  -- nothing is changed
+  pub record IsUnchanged (old : Subsystem V G) (s : SenderView) (new : Subsystem V G) (z : SenderView) : Type 0 where
+    pub sub : new ≡ old
+    pub sender : z ≡ s
+
+  -- an image that was found there may be put
+  pub record MayPut (t : ℕ) (y : Device V G) (found : looks.Peeked) : Type 0 where
+    pub track : t < y.store.cylinders * 15
+    pub there : IsPeeked (state_of y.store) t found
+    pub image : IsImageFound y.store.geometry t (peeked_by (state_of y.store) t found)
+
+  -- the device was looked at, with the sender as keeper
+  pub record LooksAt (t : ℕ) (old : Subsystem V G) (s : SenderView) (x : Device V G) (r : Result looks.Peeked NoMemory) (new : Subsystem V G) (z : SenderView)
+      (y : Device V G) : Type 0 where
+    pub cylinders : y.store.cylinders ≡ x.store.cylinders
+    pub found : IfOk r (MayPut t y)
+    pub look : LooksKept (Heard hears_sent takes_sent) s.device t (had (peeked_by (state_of y.store) t) r) old s new z
+
+  -- a track was looked at, to be copied
+  pub record LooksToCopy (tracks t : ℕ) (old : Subsystem V G) (s : SenderView) (r : Result Remote NoMemory) (new : Subsystem V G) (z : SenderView) : Type 0 where
     pub found : Option Peeked
     pub heard : SenderView
-    pub looked : LooksKept (Heard hears_sent takes_sent) old.sender.device t found old.sub old.sender new.sub heard
-    pub answers : LookedBy tracks t (gets_suspended old.sender.state heard.state) found heard r new.sender
+    pub look : LooksKept (Heard hears_sent takes_sent) s.device t found old s new heard
+    pub answers : LookedBy tracks t (gets_suspended s.state heard.state) found heard r z
 
-  abbrev pub TrackBy : ℕ → ℕ → Bool → Mirror V L G H → Result Remote NoMemory → Mirror V L G H → Type 0
-  TrackBy tracks t true old r new = (r ≡ Ok Waits) × IsUnchanged old new
-  TrackBy tracks t false old r new = LooksToCopy tracks t old r new
+  abbrev pub TrackBy : ℕ → ℕ → Bool → Subsystem V G → SenderView → Result Remote NoMemory → Subsystem V G → SenderView → Type 0
+  TrackBy tracks t true old s r new z = (r ≡ Ok Waits) × IsUnchanged old s new z
+  TrackBy tracks t false old s r new z = LooksToCopy tracks t old s r new z
 
   -- whatever the volumes and the link tell
-  abbrev pub CopiedBy : ℕ → Option ℕ → (ℕ → Bool) → Mirror V L G H → Result Remote NoMemory → Mirror V L G H → Type 0
-  CopiedBy tracks None waits old r new = (r ≡ Ok Idle) × IsUnchanged old new
-  CopiedBy tracks (Some t) waits old r new = TrackBy tracks t (waits t) old r new
+  abbrev pub CopiedBy : ℕ → Option ℕ → (ℕ → Bool) → Subsystem V G → SenderView → Result Remote NoMemory → Subsystem V G → SenderView → Type 0
+  CopiedBy tracks None waits old s r new z = (r ≡ Ok Idle) × IsUnchanged old s new z
+  CopiedBy tracks (Some t) waits old s r new z = TrackBy tracks t (waits t) old s r new z
 
 -- Over a run
 
 -- what a look finds there is told, unless a put failed. No bytes are bad
 abbrev pub IsFoundAs : ℕ → Peeked → Remote → Type 0
-IsFoundAs t found LinkFault = Unit {0}
-IsFoundAs t (peeks.Track i) r = r ≡ Copied t
-IsFoundAs t peeks.Lost r = r ≡ Lost t
-IsFoundAs t (peeks.Fault side) r = r ≡ Fault side
+IsFoundAs t (peeks.Track i) r = (r ≡ Copied t) ⊎ (r ≡ LinkFault)
+IsFoundAs t peeks.Lost r = (r ≡ Lost t) ⊎ (r ≡ LinkFault)
+IsFoundAs t (peeks.Fault side) r = (r ≡ Fault side) ⊎ (r ≡ LinkFault)
 IsFoundAs t (peeks.BadBytes side) r = ⊥
 
 abbrev pub TrackAs : MirrorRun → ℕ → Bool → Remote → Type 0

@@ -6,6 +6,7 @@ use Rattle.track_image.specs.Image.{Image}
 use Rattle.device_outside.specs.declared.volume.Volume.{Ghosts}
 use Rattle.device_outside.specs.Keeper.{Message}
 use Rattle.device_defs.specs.Store.{Store, is_loose}
+use Rattle.subsystem_core.specs.declared.subsystem.Subsystem as code
 use Rattle.subsystem_defs.specs.declared.event.Event.{Event}
 use Rattle.subsystem_defs.specs.declared.event.Event.TheVariants as events
 use Rattle.subsystem_defs.specs.Happening.{happens, replaced, unpaired}
@@ -22,7 +23,7 @@ use Rattle.remote_copy.specs.declared.mirror.Mirror.{Mirror}
 use Rattle.remote_copy.specs.declared.state.MirrorState.{MirrorState}
 use Rattle.remote_copy.specs.declared.state.MirrorState.TheVariants.{Level, Suspended, Copying}
 use Rattle.remote_copy.specs.Linking.{LinkView, PutCalls}
-use Rattle.remote_copy.specs.Sending.{FirmWrite, IsLevelled, IsReached, firms_in, put_all}
+use Rattle.remote_copy.specs.Sending.{FirmWrite, IsLevelled, IsReached, SenderView, firms_in, put_all}
 
 -- Over a run
 
@@ -75,22 +76,26 @@ abbrev pub HasCopied : MirrorState → Bool → Type 0
 HasCopied (Copying below) copied = copied ≡ true
 HasCopied _ copied = Unit {0}
 
--- a mirror of the code stands as this one over a run. Before the first copy the far volume is a front of what was told as firm, and where
--- the link tells which puts fail, those before the first that fails
-pub record IsMirror {V L : Type 0} {G : Ghosts V} {H : links.Ghosts L} (x : Mirror V L G H) (c : MirrorRun) : Type 0 where
-  pub stands : StandsAs x.sub c.run
-  pub own : AreOwn x.sub.devices.items
-  pub device : x.sender.device ≡ c.device
+-- devices of the code and the sender among them stand as this one over a run. Before the first copy the far volume is a front of what was told
+-- as firm, and where the link tells which puts fail, those before the first that fails
+pub record MirrorsAs {V : Type 0} {G : Ghosts V} (sub : code.Subsystem V G) (s : SenderView) (c : MirrorRun) : Type 0 where
+  pub stands : StandsAs sub c.run
+  pub own : AreOwn sub.devices.items
+  pub device : s.device ≡ c.device
   pub mounted : Mounted
   pub there : mounted_in c.run.mounted c.device ≡ Some mounted
   pub one : has_one c.device c.run.mounted ≡ true
   pub home : mounted.device.store.lent ≡ None
   pub firm : mounted.device.store.firm ≡ put_all c.firms c.start
-  pub of : IsFarOf mounted x.sender.link
-  pub copies : HasCopied x.sender.state c.copied
-  pub far : IfSome x.sender.link.far (IsFar x.sender.state mounted.device.store.firm)
-  pub first : c.copied ≡ false → IfSome x.sender.link.far (IsLevelled c.firms c.start x.sender.state x.sender.sent)
-  pub exact : c.copied ≡ false → IfSome c.calls (λ p. IfSome x.sender.link.far (λ far. IsReached p c.firms c.start x.sender))
+  pub of : IsFarOf mounted s.link
+  pub copies : HasCopied s.state c.copied
+  pub far : IfSome s.link.far (IsFar s.state mounted.device.store.firm)
+  pub first : c.copied ≡ false → IfSome s.link.far (IsLevelled c.firms c.start s.state s.sent)
+  pub exact : c.copied ≡ false → IfSome c.calls (λ p. IfSome s.link.far (λ far. IsReached p c.firms c.start s))
+
+-- so does a mirror
+abbrev pub IsMirror : {V L : Type 0} {G : Ghosts V} {H : links.Ghosts L} → Mirror V L G H → MirrorRun → Type 0
+IsMirror x c = MirrorsAs x.sub x.sender c
 
 -- Copies
 

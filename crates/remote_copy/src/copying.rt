@@ -1,16 +1,13 @@
-ghost use Rattle.std.specs.Prelude.{◌≡◌, ◌<◌, ◌*◌, ℕ, IfOk, IfSome, None, OnOk, Some, false, is_some, true};
+ghost use Rattle.std.specs.Prelude.{◌≡◌, ◌<◌, ◌*◌, IfOk, IfSome, Ok, OnOk, true};
 ghost use Rattle.ckd_outside.specs.Causes.{Rose};
-ghost use Rattle.device_outside.specs.Lists.{is_in};
 ghost use Rattle.device_core.specs.State.{device_of};
-ghost use Rattle.device_defs.specs.Store.{frame_at, is_loose};
 ghost use Rattle.device_store.specs.Looks.{IsPeeked, peeked_by};
 ghost use Rattle.device_store.specs.State.{state_of};
 ghost use Rattle.look_laws.specs.Looking.{is_written_at};
 ghost use Rattle.subsystem_core.specs.Devices.{device_at, numbers_of};
 ghost use Rattle.remote_copy.specs.declared.remote.Remote.TheVariants.{LinkFault};
-ghost use Rattle.remote_copy.specs.declared.state.MirrorState.TheVariants.{Level};
-ghost use Rattle.remote_copy.specs.Copies.{AnswersAs, AnswersBy, CopiedBy, IsUnchanged, LooksToCopy, PutsCopy};
-ghost use Rattle.remote_copy.specs.Following.{Follows};
+ghost use Rattle.remote_copy.specs.Copies.{AnswersAs, AnswersBy, CopiedBy, IsImageFound, LooksAt, LooksToCopy, MayPut, PutsCopy};
+ghost use Rattle.remote_copy.specs.Following.{Follows, IsFarFor};
 ghost use Rattle.remote_copy.specs.Linking.{IsFarImage};
 ghost use Rattle.remote_copy.specs.Mirroring.{IsMirror, MirrorRun, copied_to, is_waiting, mirror_copied, next_track};
 ghost use Rattle.remote_copy.specs.Sending.{is_suspended};
@@ -86,16 +83,16 @@ fn put_copy<L: Link>(sender: &mut Sender<L>, tracks: u16, t: TrackNo, image: &Tr
     }
 }
 
-/// Puts what a look at a track of the device found.
+/// Puts what a look at a track of the device found, or tells why there is nothing to put.
 fn put_found<V: Volume, L: Link>(
     device: &Device<V>,
     sender: &mut Sender<L>,
     t: TrackNo,
     peeked: Peeked,
 ) -> Remote
-    requires track { t < sender.old.link.tracks }
+    requires fits { IsFarFor sender.old.link device.now }
+    requires track { t < device.now.store.cylinders * 15 }
     requires there { IsPeeked (state_of device.now.store) t peeked }
-    requires geometry { sender.old.link.geometry ≡ device.now.store.geometry }
     requires image { IsImageFound device.now.store.geometry t (peeked_by (state_of device.now.store) t peeked) }
     ensures { AnswersBy (device.now.store.cylinders * 15) t (peeked_by (state_of device.now.store) t peeked) sender.old result sender.new }
 {
@@ -110,40 +107,64 @@ fn put_found<V: Volume, L: Link>(
 }
 
 impl<V: Volume, L: Link> Mirror<V, L> {
-    /// The next track, which doesn't wait, by a look with the sender as keeper.
+    /// A look at a track of the device, with the sender as keeper.
+    fn look(&mut self, t: TrackNo) -> Result<Peeked, NoMemory>
+        requires track { IfSome (device_at self.old.sub.devices.items self.old.sender.device) (λ x. t < x.store.cylinders * 15) }
+        ensures numbers { numbers_of self.new.sub.devices.items ≡ numbers_of self.old.sub.devices.items }
+        ensures follows { Follows self.old.sender self.new.sender }
+        ensures found { IfSome (device_at self.old.sub.devices.items self.old.sender.device) (λ x. IfSome (device_at self.new.sub.devices.items
+            self.new.sender.device) (LooksAt t self.old.sub self.old.sender x result self.new.sub self.new.sender)) }
+    {
+        let d = self.sender.device();
+        self.sub.peek_track_with(d, t, &mut self.sender)
+    }
+
+    /// Puts what was found of a track.
+    fn put_next(&mut self, t: TrackNo, peeked: Peeked) -> Remote
+        requires found { IfSome (device_at self.old.sub.devices.items self.old.sender.device) (λ y. MayPut t y peeked) }
+        ensures sub { self.new.sub ≡ self.old.sub }
+        ensures follows { Follows self.old.sender self.new.sender }
+        ensures answers { IfSome (device_at self.old.sub.devices.items self.old.sender.device) (λ y. AnswersBy (y.store.cylinders * 15) t
+            (peeked_by (state_of y.store) t peeked) self.old.sender result self.new.sender) }
+    {
+        let d = self.sender.device();
+        put_found(self.sub.device(d), &mut self.sender, t, peeked)
+    }
+
+    /// The next track, which doesn't wait.
     fn copy_track(&mut self, t: TrackNo) -> Result<Remote, NoMemory>
         requires track { IfSome (device_at self.old.sub.devices.items self.old.sender.device) (λ x. t < x.store.cylinders * 15) }
         ensures numbers { numbers_of self.new.sub.devices.items ≡ numbers_of self.old.sub.devices.items }
-        ensures looks { IfSome (device_at self.old.sub.devices.items self.old.sender.device) (λ x. LooksToCopy (x.store.cylinders * 15) t self.old result self.new) }
+        ensures looks { IfSome (device_at self.old.sub.devices.items self.old.sender.device) (λ x. LooksToCopy (x.store.cylinders * 15) t
+            self.old.sub self.old.sender result self.new.sub self.new.sender) }
     {
-        let d = self.sender.device();
-        let suspended = is_suspended(self.sender.state());
-        match self.sub.peek_track_with(d, t, &mut self.sender) {
+        let suspended = is_suspended(self.state());
+        match self.look(t) {
             Err(NoMemory) => Err(NoMemory),
             Ok(peeked) => {
-                if is_suspended(self.sender.state()) && !suspended {
+                if is_suspended(self.state()) && !suspended {
                     return Ok(Remote::LinkFault);
                 }
-                Ok(put_found(self.sub.device(d), &mut self.sender, t, peeked))
+                Ok(self.put_next(t, peeked))
             }
         }
     }
 
-    /// Copies the next track, where the far volume isn't level: the first one while it is suspended, else the one behind those that
-    /// are copied. The look makes the reads of a command; a track below that it makes firm is put first. Behind the last track the
-    /// far volume is level. At want of memory the puts stay done, and the state that they led to.
+    /// Copies the next track, where the far volume isn't level: the first one while it is suspended, else the one after those that are
+    /// copied. The look makes the reads of a command; a track below that it makes firm is put first. After the last track the far
+    /// volume is level. At want of memory the puts stay done, and the state that they led to.
     pub fn copy_one(&mut self) -> Result<Remote, NoMemory>
         ensures numbers { numbers_of self.new.sub.devices.items ≡ numbers_of self.old.sub.devices.items }
         ensures copied { IfSome (device_at self.old.sub.devices.items self.old.sender.device) (λ x. CopiedBy (x.store.cylinders * 15)
-            (next_track self.old.sender.state) (is_waiting (device_of x).store) self.old result self.new) }
+            (next_track self.old.sender.state) (is_waiting (device_of x).store) self.old.sub self.old.sender result self.new.sub self.new.sender) }
         ensures follows { Follows self.old.sender self.new.sender }
-        ensures fault { IfOk result (λ r. r ≡ LinkFault → Rose self.old.sender.link.faults self.new.sender.link.faults
-            × (is_suspended self.new.sender.state ≡ true)) }
+        ensures fault { result ≡ Ok LinkFault → Rose self.old.sender.link.faults self.new.sender.link.faults
+            × (is_suspended self.new.sender.state ≡ true) }
         ensures mirrors { (c : MirrorRun) → IsMirror self.old c
             → OnOk result (IsMirror self.new (mirror_copied c (next_track self.old.sender.state))) }
         ensures answer { (c : MirrorRun) → IsMirror self.old c → IfOk result (AnswersAs c (next_track self.old.sender.state)) }
     {
-        let Some(next) = next_track(self.sender.state()) else {
+        let Some(next) = next_track(self.state()) else {
             return Ok(Remote::Idle);
         };
         let t = TrackNo::new(next).unwrap();
