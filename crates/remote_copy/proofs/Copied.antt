@@ -38,8 +38,9 @@ use Rattle.std.proofs.Common.{
   subst,
   arith,
 }
-use Rattle.std.specs.Prelude.{IfOk, IfSome, IsOk, OnOk, if◌then◌else◌, nat_lt}
-use Rattle.std.proofs.lemmas.Bool.{cases_eq, eqb-true}
+use Rattle.std.specs.Prelude.{IfOk, IfSome, IsOk, OnErr, OnOk, if◌then◌else◌, nat_lt}
+use Rattle.std.proofs.lemmas.Bool.{cases_eq, cases_lt, eqb-true}
+use Rattle.std.proofs.lemmas.Bool.Decides.{nat_tests}
 use Rattle.std.proofs.lemmas.List.{get_or_default, same_lists}
 use Rattle.ckd_types.specs.declared.memory.NoMemory.{NoMemory}
 use Rattle.ckd_types.specs.declared.record.Track.{Track}
@@ -120,7 +121,7 @@ use Rattle.remote_copy.specs.Mirroring.{
   waits_at,
   with_told,
 }
-use Rattle.remote_copy.specs.Sending.{IsSent, SenderView, hears_sent, is_suspended, takes_sent}
+use Rattle.remote_copy.specs.Sending.{IsSent, SenderView, hears_sent, is_suspended, state_behind, takes_sent}
 use Rattle.remote_copy.proofs.Keeping.{SendsSome, follows, ran_sends}
 use Rattle.remote_copy.proofs.Mirrors.{heard_mirrors}
 use Rattle.remote_copy.proofs.Mounts.{mounted_firmly}
@@ -128,10 +129,7 @@ use Rattle.remote_copy.proofs.Puttings.{far_size, size_by}
 use Rattle.remote_copy.proofs.Seats.{SameSeat, Sits, changed_sits}
 use Rattle.remote_copy.proofs.Sent.{copying_state}
 
-some_same : {X : Type 0} {x y : X} → Some x ≡ Some y → x ≡ y
-some_same e = cc
-
-either : {P : Type 0} (b : Bool) → (b ≡ true → P) → (b ≡ false → P) → P
+pub either : {P : Type 0} (b : Bool) → (b ≡ true → P) → (b ≡ false → P) → P
 either true x y = x refl
 either false x y = y refl
 
@@ -162,10 +160,10 @@ copied_free : (tracks t : ℕ) → is_suspended (copied_to tracks t) ≡ false
 copied_free tracks t = free_if tracks t (t + 1 == tracks)
 
 module _ (tracks t : ℕ) (x : Track) (old : SenderView) (r : Remote) (new : SenderView) (p : PutsCopy tracks t x old r new) where
-  copy_device : new.device ≡ old.device
+  pub copy_device : new.device ≡ old.device
   copy_device = ap (λ (s : SenderView). s.device) p.behind ∙ put_device tracks t p.result p.put ∙ p.is.device
 
-  copy_link : new.link ≡ p.put.link
+  pub copy_link : new.link ≡ p.put.link
   copy_link = ap (λ (s : SenderView). s.link) p.behind ∙ put_link tracks t p.result p.put
 
   copy_later : old.link.faults ≤ new.link.faults
@@ -367,7 +365,7 @@ alike_more f firm t u x lt below is le (inr other) =
         by_cases (inl lt) = lt
         by_cases (inr ge) = absurd (other (omega (arith, le, ge)))
 
-copied_far : (f firm : List Track) (t tracks : ℕ) (x : Track) → length f ≡ tracks → length firm ≡ tracks → t < tracks →
+pub copied_far : (f firm : List Track) (t tracks : ℕ) (x : Track) → length f ≡ tracks → length firm ≡ tracks → t < tracks →
     ((k : ℕ) → k < t → track_in f k ≡ track_in firm k) → x ≡ track_in firm t → (b : Bool) → (t + 1 == tracks) ≡ b →
     IsFar (if b then Level else Copying (t + 1)) firm (set f t x)
 copied_far f firm t tracks x long size lt below is true e =
@@ -382,7 +380,7 @@ copied_far f firm t tracks x long size lt below is true e =
 copied_far f firm t tracks x long size lt below is false e = λ u le. alike_more f firm t u x (omega (arith, lt, long)) below is le (cases_eq u t)
 
 -- Marks and images: what waits in the code waits in a run
-waits_same : {V : Type 0} {G : Ghosts V} (sub : Subsystem V G) (run : runs.Subsystem) (d t : ℕ) (x : Device V G) → StandsAs sub run →
+pub waits_same : {V : Type 0} {G : Ghosts V} (sub : Subsystem V G) (run : runs.Subsystem) (d t : ℕ) (x : Device V G) → StandsAs sub run →
     device_at sub.devices.items d ≡ Some x → waits_at (mounted_in run.mounted d) t ≡ is_waiting (device_of x).store t
 waits_same sub run d t x stands at =
     let k = known_at sub.devices.items run.mounted d x (all_known (all_stood sub.devices.items) run.mounted stands.mounted) at in
@@ -391,10 +389,10 @@ waits_same sub run d t x stands at =
     ∙ ap (λ (b : Bool). b || is_loose k.mounted.device.store t) (marked_same (device_of x).store.half t)
     ∙ ap (λ (l : List Bool). is_written_at (device_of x).store.half t || get_or l t false) k.is.loose
 
-or_fst : (a b : Bool) → (a || b) ≡ false → a ≡ false
+pub or_fst : (a b : Bool) → (a || b) ≡ false → a ≡ false
 or_fst true b e = absurd (cc)
 or_fst false b e = refl
 
-or_snd : (a b : Bool) → (a || b) ≡ false → b ≡ false
+pub or_snd : (a b : Bool) → (a || b) ≡ false → b ≡ false
 or_snd true b e = absurd (cc)
 or_snd false b e = e

@@ -32,10 +32,12 @@ use Rattle.std.proofs.Common.{
   arith,
 }
 use Rattle.std.specs.Prelude.{IfOk, IfSome, IsOk, OnOk, if◌then◌else◌}
+use Rattle.std.proofs.lemmas.Bool.{ltb-true}
 use Rattle.ckd_types.specs.declared.memory.NoMemory.{NoMemory}
 use Rattle.ckd_types.specs.declared.record.Track.{Track}
 use Rattle.ckd_types.specs.Volume.{track_in}
 use Rattle.ckd_outside.specs.declared.faults.Failed.{Failed}
+use Rattle.ckd_outside.specs.Causes.{Rose}
 use Rattle.track_image.specs.Image.{Image}
 use Rattle.device_outside.specs.declared.volume.Volume.{Ghosts}
 use Rattle.device_outside.specs.Hears.{HeardAll}
@@ -70,7 +72,7 @@ use Rattle.keeper_laws.proofs.Mounts.{mounted_is_quiet}
 use Rattle.keeper_laws.proofs.Quiet.{quiet_look}
 use Rattle.keeper_laws.proofs.There.{there_look}
 use Rattle.deck_run.specs.Standing.{StandsAs, all_stood, stood_of}
-use Rattle.deck_run.proofs.Events.{has_one}
+use Rattle.deck_run.proofs.Events.{HasOne, has_one}
 use Rattle.deck_run.proofs.Found.{put_stood, stood_found}
 use Rattle.track_looks.specs.Looking.{LooksKept}
 use Rattle.track_looks.proofs.Owning.{kept_looks_own}
@@ -93,6 +95,7 @@ use Rattle.remote_copy.specs.Copies.{
   behind_put,
   gets_suspended,
 }
+use Rattle.remote_copy.specs.Following.{Follows, IsFarFor, is_within}
 use Rattle.remote_copy.specs.Linking.{IsPut, LinkView, with_put}
 use Rattle.remote_copy.specs.Mirroring.{
   HasCopied,
@@ -108,7 +111,8 @@ use Rattle.remote_copy.specs.Mirroring.{
   with_told,
 }
 use Rattle.remote_copy.specs.Sending.{SenderView, hears_sent, is_suspended, state_behind, takes_sent}
-use Rattle.remote_copy.proofs.Copied.{copied_far, copy_device, copy_follows, copy_link, either, or_fst, or_snd, waits_same}
+use Rattle.remote_copy.proofs.Copied.{copied_far, copied_fault, copied_follows, copy_follows, copy_link, or_fst, or_snd, waits_same}
+use Rattle.remote_copy.proofs.Fitting.{far_for}
 use Rattle.remote_copy.proofs.Keeping.{follows, ran_sends}
 use Rattle.remote_copy.proofs.Mirrors.{heard_mirrors, if_any, some_size}
 use Rattle.remote_copy.proofs.Mounts.{mounted_firmly}
@@ -461,3 +465,91 @@ module _ {V : Type 0} {G : Ghosts V} (sub new : Subsystem V G) (s z : SenderView
       CopiedBy (x.store.cylinders * 15) (next_track s.state) (is_waiting (device_of x).store) sub s r new z → IfOk r (AnswersAs c (next_track s.state))
   copy_answers (Ok answer) d = (next_done answer (next_track s.state) refl d).answers
   copy_answers (Err e) d = tt
+
+-- The next track is one of the device
+
+next_below : (m : MirrorState) (tracks n : ℕ) → next_track m ≡ Some n → is_within m tracks ≡ true → 0 < tracks → n < tracks
+next_below Level tracks n e within some = absurd (cc)
+next_below (Suspended k) tracks n e within some = let none : 0 ≡ n = some_same e in omega (arith, some, none)
+next_below (Copying b) tracks n e within some = let same : b ≡ n = some_same e in let lt = ltb-true b tracks within in omega (arith, lt, same)
+
+-- and a track's number
+pub record IsNext {V : Type 0} {G : Ghosts V} (x : Device V G) (n : ℕ) : Type 0 where
+  pub below : n < x.store.cylinders * 15
+  pub few : n < 960
+
+module _ {V : Type 0} {G : Ghosts V} (sub : Subsystem V G) (s : SenderView) (here : is_in s.device (numbers_of sub.devices.items) ≡ true)
+    (fits : IfSome (device_at sub.devices.items s.device) (IsFarFor s.link)) (within : is_within s.state s.link.tracks ≡ true) where
+  pub next_is : (x : Device V G) → device_at sub.devices.items s.device ≡ Some x → (n : ℕ) → next_track s.state ≡ Some n → IsNext x n
+  next_is x at n e =
+      let f = far_for s.link sub.devices.items s.device x at fits in
+      let below : n < x.store.cylinders * 15 =
+      subst (λ (k : ℕ). n < k) f.1 (next_below s.state s.link.tracks n e within (omega (arith, f.1, x.store.some))) in
+      record { below = below; few = omega (arith, below, x.store.most) }
+
+  pub next_few : (n : ℕ) → next_track s.state ≡ Some n → n < 960
+  next_few n e = let one = has_one sub.devices.items s.device here in (next_is one.device one.found n e).few
+
+  pub next_at : (n : ℕ) → next_track s.state ≡ Some n → IfSome (device_at sub.devices.items s.device) (λ x. n < x.store.cylinders * 15)
+  next_at n e =
+      let one = has_one sub.devices.items s.device here in
+      subst (λ (o : Option (Device V G)). IfSome o (λ x. n < x.store.cylinders * 15)) (sym one.found) (next_is one.device one.found n e).below
+
+-- What a call comes to, of the device that is found
+
+module _ {V : Type 0} {G : Ghosts V} (sub new : Subsystem V G) (s z : SenderView) (here : is_in s.device (numbers_of sub.devices.items) ≡ true)
+    (r : Result Remote NoMemory)
+    (copied : IfSome (device_at sub.devices.items s.device)
+    (λ x. CopiedBy (x.store.cylinders * 15) (next_track s.state) (is_waiting (device_of x).store) sub s r new z)) where
+  abbrev one : HasOne sub.devices.items s.device
+  one = has_one sub.devices.items s.device here
+
+  done : CopiedBy (one.device.store.cylinders * 15) (next_track s.state) (is_waiting (device_of one.device).store) sub s r new z
+  done =
+      subst (λ (o : Option (Device V G)). IfSome o (λ x. CopiedBy (x.store.cylinders * 15) (next_track s.state) (is_waiting (device_of x).store) sub s r new z))
+      one.found copied
+
+  pub all_follow : Follows s z
+  all_follow = copied_follows (one.device.store.cylinders * 15) (next_track s.state) (is_waiting (device_of one.device).store) sub s r new z done
+
+  pub all_fault : r ≡ Ok LinkFault → Rose s.link.faults z.link.faults × (is_suspended z.state ≡ true)
+  all_fault is = copied_fault (one.device.store.cylinders * 15) (next_track s.state) (is_waiting (device_of one.device).store) sub s r new z done is
+
+  module _ (c : MirrorRun) (is : MirrorsAs sub s c) (fits : IfSome (device_at sub.devices.items s.device) (IsFarFor s.link))
+      (within : is_within s.state s.link.tracks ≡ true) where
+    long : s.link.tracks ≡ one.device.store.cylinders * 15
+    long = (far_for s.link sub.devices.items s.device one.device one.found fits).1
+
+    below : (t : ℕ) → next_track s.state ≡ Some t → t < one.device.store.cylinders * 15
+    below t e = (next_is sub s here fits within one.device one.found t e).below
+
+    pub all_mirrors : OnOk r (MirrorsAs new z (mirror_copied c (next_track s.state)))
+    all_mirrors = copy_mirrors sub new s z c is here one.device one.found long below r done
+
+    pub all_answer : IfOk r (AnswersAs c (next_track s.state))
+    all_answer = copy_answers sub new s z c is here one.device one.found long below r done
+
+-- and each of its cases
+
+module _ {V : Type 0} {G : Ghosts V} (old : Subsystem V G) (s : SenderView) where
+  abbrev CopiedAt : Option (Device V G) → Option ℕ → Result Remote NoMemory → Subsystem V G → SenderView → Type 0
+  CopiedAt o next r new z = IfSome o (λ x. CopiedBy (x.store.cylinders * 15) next (is_waiting (device_of x).store) old s r new z)
+
+  pub copied_idle : (o : Option (Device V G)) (next : Option ℕ) → next ≡ None → CopiedAt o next (Ok Idle) old s
+  copied_idle None next e = tt
+  copied_idle (Some x) next e =
+      subst (λ (q : Option ℕ). CopiedAt (Some x) q (Ok Idle) old s) (sym e) (refl, record { sub = refl; sender = refl })
+
+  pub copied_waits : (o : Option (Device V G)) (next : Option ℕ) (t : ℕ) → next ≡ Some t → IfSome o (λ x. true ≡ is_waiting (device_of x).store t) →
+      CopiedAt o next (Ok Waits) old s
+  copied_waits None next t e waits = tt
+  copied_waits (Some x) next t e waits =
+      subst (λ (q : Option ℕ). CopiedAt (Some x) q (Ok Waits) old s) (sym e)
+      (subst (λ (b : Bool). TrackBy (x.store.cylinders * 15) t b old s (Ok Waits) old s) waits (refl, record { sub = refl; sender = refl }))
+
+  pub copied_track : (o : Option (Device V G)) (next : Option ℕ) (t : ℕ) (r : Result Remote NoMemory) (new : Subsystem V G) (z : SenderView) → next ≡ Some t →
+      IfSome o (λ x. false ≡ is_waiting (device_of x).store t) → IfSome o (λ x. LooksToCopy (x.store.cylinders * 15) t old s r new z) → CopiedAt o next r new z
+  copied_track None next t r new z e waits l = tt
+  copied_track (Some x) next t r new z e waits l =
+      subst (λ (q : Option ℕ). CopiedAt (Some x) q r new z) (sym e)
+      (subst (λ (b : Bool). TrackBy (x.store.cylinders * 15) t b old s r new z) waits l)

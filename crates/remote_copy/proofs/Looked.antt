@@ -1,13 +1,15 @@
 -- A look with the sender as keeper: what it leaves of the devices and of the sender, and that what was found may be put.
-use Rattle.std.proofs.Common.{◌≡◌, ◌∙◌, ◌<◌, ◌*◌, ℕ, List, Option, Some, None, option_map, Result, Ok, Err, refl, sym, ap, subst, arith}
+use Rattle.std.proofs.Common.{◌≡◌, ◌∙◌, ◌<◌, ◌*◌, ℕ, Bool, true, false, List, Option, Some, None, option_map, Result, Ok, Err, refl, sym, ap, subst, arith}
 use Rattle.std.specs.Prelude.{IfOk, IfSome}
 use Rattle.ckd_types.specs.declared.geometry.Geometry.{Geometry}
 use Rattle.ckd_types.specs.declared.memory.NoMemory.{NoMemory}
 use Rattle.device_outside.specs.declared.volume.Volume.{Ghosts}
 use Rattle.device_outside.specs.Keeper.{Heard}
+use Rattle.device_outside.specs.Lists.{is_in}
 use Rattle.device_outside.specs.Outside.{where_ok}
 use Rattle.device_defs.specs.Contents.{contents}
 use Rattle.device_defs.specs.Peek.{Peeked, peek}
+use Rattle.device_defs.specs.Store.{frame_at}
 use Rattle.device_store.specs.declared.half.HalfWrite as halves
 use Rattle.device_store.specs.declared.store.Peeked as looks
 use Rattle.device_store.specs.Images.{IsImageOf}
@@ -19,9 +21,12 @@ use Rattle.subsystem_core.specs.declared.subsystem.Subsystem.{Subsystem}
 use Rattle.subsystem_core.specs.Comes.{AskedKept, Changes}
 use Rattle.subsystem_core.specs.Devices.{device_at, numbers_of}
 use Rattle.subsystem_core.specs.Ends.{where_some}
+use Rattle.deck_run.proofs.Events.{has_one}
 use Rattle.deck_run.proofs.Found.{again}
 use Rattle.track_looks.specs.Looking.{LooksKept}
-use Rattle.remote_copy.specs.Copies.{LooksAt, MayPut}
+use Rattle.remote_copy.specs.declared.remote.Remote.{Remote}
+use Rattle.remote_copy.specs.declared.remote.Remote.TheVariants.{LinkFault}
+use Rattle.remote_copy.specs.Copies.{AnswersBy, LookedBy, LooksAt, LooksToCopy, MayPut, gets_suspended}
 use Rattle.remote_copy.specs.Sending.{SenderView, hears_sent, takes_sent}
 use Rattle.remote_copy.proofs.Found.{ran_finds}
 use Rattle.remote_copy.proofs.Keeping.{SendsSome, ran_sends}
@@ -100,8 +105,8 @@ module _ {V : Type 0} {G : Ghosts V} (d t : ℕ) (old : Subsystem V G) (s : Send
         track = omega (arith, lt, seat.cylinders);
         there = so.0;
         image = ran_finds y.store.geometry t (device_of x) (device_of y) (peeked_by (state_of y.store) t p) (sym seat.geometry)
-            (subst (λ (g : Geometry). IfSome _ (λ f. IsImageOf g t f.image)) (sym seat.geometry) (x.store.frames_of_tracks t))
-            (subst (λ (g : Geometry). IfSome _ (λ h. IsImageOf g h.track h.image)) (sym seat.geometry) (half_so x.store.geometry x.store.half x.store.half_of_track)) so.1;
+            (subst (λ (g : Geometry). IfSome (frame_at (state_of x.store) t) (λ f. IsImageOf g t f.image)) (sym seat.geometry) (x.store.frames_of_tracks t))
+            (subst (λ (g : Geometry). IfSome (option_map half_of x.store.half) (λ h. IsImageOf g h.track h.image)) (sym seat.geometry) (half_so x.store.geometry x.store.half x.store.half_of_track)) so.1;
       }
 
   looks_by : (r : Result looks.Peeked NoMemory) → Peeks d t old s new z r →
@@ -131,4 +136,60 @@ module _ {V : Type 0} {G : Ghosts V} (d t : ℕ) (old : Subsystem V G) (s : Send
     cylinders = (seat_is d t old s new z (Err e) ch x y numbers at now).cylinders;
     found = tt;
     look = subst (λ (n : ℕ). LooksKept (Heard hears_sent takes_sent) n t None old s new z) mine (looks_by (Err e) ch);
+  }
+
+-- of the devices that are found
+module _ {V : Type 0} {G : Ghosts V} (t : ℕ) (old : Subsystem V G) (s : SenderView) (new : Subsystem V G) (z : SenderView) where
+  pub looks_found : (r : Result looks.Peeked NoMemory) → is_in s.device (numbers_of old.devices.items) ≡ true →
+      numbers_of new.devices.items ≡ numbers_of old.devices.items → IfSome (device_at old.devices.items s.device) (λ x. t < x.store.cylinders * 15) →
+      Peeks s.device t old s new z r → z.device ≡ s.device →
+      IfSome (device_at old.devices.items s.device) (λ x. IfSome (device_at new.devices.items z.device) (LooksAt t old s x r new z))
+  looks_found r here numbers lt ch same =
+      let one = has_one old.devices.items s.device here in
+      let sits = peeks_sit s.device t old s new z r ch s.device one.device one.found in
+      let below : t < one.device.store.cylinders * 15 =
+      subst (λ (o : Option (Device V G)). IfSome o (λ x. t < x.store.cylinders * 15)) one.found lt in
+      subst (λ (o : Option (Device V G)). IfSome o (λ x. IfSome (device_at new.devices.items z.device) (LooksAt t old s x r new z))) (sym one.found)
+      (subst (λ (n : ℕ). IfSome (device_at new.devices.items n) (LooksAt t old s one.device r new z)) (sym same)
+      (subst (λ (o : Option (Device V G)). IfSome o (LooksAt t old s one.device r new z)) (sym sits.found)
+      (peeks_look s.device t old s new z one.device sits.device numbers one.found sits.found r below ch refl)))
+
+  -- a copy from what was found so
+  pub copy_from : {r : Result looks.Peeked NoMemory} (p : Device V G → Type 0) → is_in s.device (numbers_of old.devices.items) ≡ true →
+      is_in z.device (numbers_of new.devices.items) ≡ true →
+      IfSome (device_at old.devices.items s.device) (λ x. IfSome (device_at new.devices.items z.device) (LooksAt t old s x r new z)) →
+      ((x y : Device V G) → device_at new.devices.items z.device ≡ Some y → LooksAt t old s x r new z y → p x) →
+      IfSome (device_at old.devices.items s.device) p
+  copy_from {r = r} p here there found goes =
+      let one = has_one old.devices.items s.device here in
+      let two = has_one new.devices.items z.device there in
+      let at = subst (λ (o : Option (Device V G)). IfSome o (λ x. IfSome (device_at new.devices.items z.device) (LooksAt t old s x r new z))) one.found found in
+      subst (λ (o : Option (Device V G)). IfSome o p) (sym one.found)
+      (goes one.device two.device two.found
+      (subst (λ (o : Option (Device V G)). IfSome o (LooksAt t old s one.device r new z)) two.found at))
+
+  -- memory was lacking
+  pub copy_lacked : (e : NoMemory) (x y : Device V G) → LooksAt t old s x (Err e) new z y → LooksToCopy (x.store.cylinders * 15) t old s (Err e) new z
+  copy_lacked e x y l = record { found = None; heard = z; look = l.look; answers = ((λ ok. ok), refl) }
+
+  -- a put failed
+  pub copy_faulted : (p : looks.Peeked) (x y : Device V G) → gets_suspended s.state z.state ≡ true → LooksAt t old s x (Ok p) new z y →
+      LooksToCopy (x.store.cylinders * 15) t old s (Ok LinkFault) new z
+  copy_faulted p x y failed l = record {
+    found = Some (peeked_by (state_of y.store) t p);
+    heard = z;
+    look = l.look;
+    answers = subst (λ (b : Bool). LookedBy (x.store.cylinders * 15) t b (Some (peeked_by (state_of y.store) t p)) z (Ok LinkFault) z) (sym failed) (refl, refl);
+  }
+
+  -- what was found is put, or told
+  pub copy_put : (p : looks.Peeked) (x y : Device V G) (answer : Remote) (last : Subsystem V G) (w : SenderView) → gets_suspended s.state z.state ≡ false →
+      last ≡ new → LooksAt t old s x (Ok p) new z y → AnswersBy (y.store.cylinders * 15) t (peeked_by (state_of y.store) t p) z answer w →
+      LooksToCopy (x.store.cylinders * 15) t old s (Ok answer) last w
+  copy_put p x y answer last w fine same l a = record {
+    found = Some (peeked_by (state_of y.store) t p);
+    heard = z;
+    look = subst (λ (u : Subsystem V G). LooksKept (Heard hears_sent takes_sent) s.device t (Some (peeked_by (state_of y.store) t p)) old s u z) (sym same) l.look;
+    answers = subst (λ (b : Bool). LookedBy (x.store.cylinders * 15) t b (Some (peeked_by (state_of y.store) t p)) z (Ok answer) w) (sym fine)
+        (tt, subst (λ (n : ℕ). AnswersBy (n * 15) t (peeked_by (state_of y.store) t p) z answer w) l.cylinders a);
   }

@@ -113,6 +113,12 @@ use Rattle.remote_copy.specs.Mirroring.{is_lending}
 some_same : {X : Type 0} {x y : X} → Some x ≡ Some y → x ≡ y
 some_same e = cc
 
+heads : {X : Type 0} {x y : X} {xs ys : List X} → x ∷ xs ≡ y ∷ ys → x ≡ y
+heads e = cc
+
+tails : {X : Type 0} {x y : X} {xs ys : List X} → x ∷ xs ≡ y ∷ ys → xs ≡ ys
+tails e = cc
+
 -- Seats
 
 pub record IsSeat (b x : Base) : Type 0 where
@@ -130,7 +136,7 @@ record Leaves {A : Type 0} (d : DefinedDevice) (talk : Talk A) : Type 0 where
   seat : IsSeat (kept d.store) base
   based : Based base_in Any base talk
 
-ran_leaves : {A K : Type 0} {had : _} {hears : Hearing Image K} {d e : DefinedDevice} {talk : Talk A} {a : A} {u z : Outside (List ℕ) K} → Leaves d talk →
+ran_leaves : {A K : Type 0} {had : Bool → Type 0} {hears : Hearing Image K} {d e : DefinedDevice} {talk : Talk A} {a : A} {u z : Outside (List ℕ) K} → Leaves d talk →
     Ran had hears talk u e a z → IsSeat (kept d.store) (kept e.store)
 ran_leaves l r =
     let same = ran_same l.based r in
@@ -360,7 +366,7 @@ module _ {V : Type 0} {G : Ghosts V} where
         refused_or up Up (if pools.all_waiting pool == 0 then Repairs repaired else Ends (answers.Pending (pools.all_waiting pool)))
         (cond_both (pools.all_waiting pool == 0) (Repairs repaired) (Ends (answers.Pending (pools.all_waiting pool))) Seated (λ _. tt) (λ _. tt))
 
-    pub deed_seated : (pool : pools.Pool) (e : Event) → may_come (numbers_of xs) e ≡ true → is_lending e n ≡ false →
+    deed_seated : (pool : pools.Pool) (e : Event) → may_come (numbers_of xs) e ≡ true → is_lending e n ≡ false →
         Seated (deed contents pool (devices_of xs) e)
     unfolding D.deed
     deed_seated pool (events.Start path m) may off = at_device m (starts path) may (λ x at. starts_seated path m x at)
@@ -493,12 +499,6 @@ module _ {V : Type 0} {G : Ghosts V} where
   still_by n (u ∷ us) [] same x at = absurd (cc)
   still_by n (u ∷ us) (v ∷ vs) same x at =
       next_sits n u v x us vs (seat_as u v (device_of u) (heads same) (same_seat u)) (still_by n us vs (tails same) x) (u.store.number == n) refl at
-    where
-      heads : {X : Type 0} {a b : X} {as bs : List X} → a ∷ as ≡ b ∷ bs → a ≡ b
-      heads e = cc
-
-      tails : {X : Type 0} {a b : X} {as bs : List X} → a ∷ as ≡ b ∷ bs → as ≡ bs
-      tails e = cc
 
   pub still_sits : (n : ℕ) (old new : List (Device V G)) (x : Device V G) → AreStill old new → device_at old n ≡ Some x → Sits n new x
   still_sits n old new x still at = still_by n old new still.0 x at

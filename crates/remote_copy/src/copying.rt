@@ -131,7 +131,13 @@ impl<V: Volume, L: Link> Mirror<V, L> {
         put_found(self.sub.device(d), &mut self.sender, t, peeked)
     }
 
-    /// The next track, which doesn't wait.
+    fn waits(&self, t: TrackNo) -> bool
+        ensures { IfSome (device_at self.now.sub.devices.items self.now.sender.device) (λ x. result ≡ is_waiting (device_of x).store t) }
+    {
+        is_waiting(self.sub.device(self.sender.device()), t)
+    }
+
+    /// A track that doesn't wait.
     fn copy_track(&mut self, t: TrackNo) -> Result<Remote, NoMemory>
         requires track { IfSome (device_at self.old.sub.devices.items self.old.sender.device) (λ x. t < x.store.cylinders * 15) }
         ensures numbers { numbers_of self.new.sub.devices.items ≡ numbers_of self.old.sub.devices.items }
@@ -150,6 +156,22 @@ impl<V: Volume, L: Link> Mirror<V, L> {
         }
     }
 
+    /// The next track, where there is one and it doesn't wait.
+    fn copy_next(&mut self) -> Result<Remote, NoMemory>
+        ensures numbers { numbers_of self.new.sub.devices.items ≡ numbers_of self.old.sub.devices.items }
+        ensures copied { IfSome (device_at self.old.sub.devices.items self.old.sender.device) (λ x. CopiedBy (x.store.cylinders * 15)
+            (next_track self.old.sender.state) (is_waiting (device_of x).store) self.old.sub self.old.sender result self.new.sub self.new.sender) }
+    {
+        let Some(next) = next_track(self.state()) else {
+            return Ok(Remote::Idle);
+        };
+        let t = TrackNo::new(next).unwrap();
+        if self.waits(t) {
+            return Ok(Remote::Waits);
+        }
+        self.copy_track(t)
+    }
+
     /// Copies the next track, where the far volume isn't level: the first one while it is suspended, else the one after those that are
     /// copied. The look makes the reads of a command; a track below that it makes firm is put first. After the last track the far
     /// volume is level. At want of memory the puts stay done, and the state that they led to.
@@ -164,13 +186,6 @@ impl<V: Volume, L: Link> Mirror<V, L> {
             → OnOk result (IsMirror self.new (mirror_copied c (next_track self.old.sender.state))) }
         ensures answer { (c : MirrorRun) → IsMirror self.old c → IfOk result (AnswersAs c (next_track self.old.sender.state)) }
     {
-        let Some(next) = next_track(self.state()) else {
-            return Ok(Remote::Idle);
-        };
-        let t = TrackNo::new(next).unwrap();
-        if is_waiting(self.sub.device(self.sender.device()), t) {
-            return Ok(Remote::Waits);
-        }
-        self.copy_track(t)
+        self.copy_next()
     }
 }

@@ -1,0 +1,1 @@
+use Rattle.remote_copy.proofs.copying.Mirror.put_next.Goals as goal

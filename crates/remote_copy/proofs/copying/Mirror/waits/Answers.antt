@@ -1,0 +1,1 @@
+use Rattle.remote_copy.proofs.copying.Mirror.waits.Goals as goal
