@@ -63,10 +63,10 @@ if_any p None all = tt
 if_any p (Some x) all = all x
 
 if_told : {X : Type 0} (p : X → Type 0) (o : Option X) (x : X) → o ≡ Some x → p x → IfSome o p
-if_told p o x is so = subst (λ (q : Option X). IfSome q p) (sym is) so
+if_told {X = X} p o x is so = subst (λ (q : Option X). IfSome q p) (sym is) so
 
 at_told : {X : Type 0} (p : X → Type 0) (o : Option X) (x : X) → o ≡ Some x → IfSome o p → p x
-at_told p o x is so = subst (λ (q : Option X). IfSome q p) is so
+at_told {X = X} p o x is so = subst (λ (q : Option X). IfSome q p) is so
 
 module _ (s z : SenderView) (ws : List FirmWrite) (firm : List Track) (sends : SendsAll s ws z) where
   suspended_far : (k : ℕ) → z.state ≡ Suspended k → IfSome z.link.far (IsFar z.state (put_all ws firm))
@@ -132,6 +132,42 @@ module _ (s z : SenderView) (ws : List FirmWrite) (firm : List Track) (sends : S
   exact_behind None fs start is = tt
   exact_behind (Some p) fs start is = reached_some p fs start s.link.far refl is
 
+far_as_long : (o : Option (List Track)) (n k : ℕ) → n ≡ k → IfSome o (λ f. length f ≡ n) → IfSome o (λ f. length f ≡ k)
+far_as_long None n k is size = tt
+far_as_long (Some f) n k is size = size ∙ is
+
+pub event_ends : {X E : Type 0} (A : X → Type 0) (B : Type 0) (r : Result X E) → IfOk r (λ end. A end × B) → IfOk r A
+event_ends A B (Ok end) happened = happened.0
+event_ends A B (Err why) happened = tt
+
+-- At the beginning
+
+begun_far : (o : Option (List Track)) (firm : List Track) → IfSome o (λ far. far ≡ firm) → IfSome o (IsFar Level firm)
+begun_far None firm is = tt
+begun_far (Some far) firm is = is
+
+begun_long : (o : Option (List Track)) (firm : List Track) (n : ℕ) → length firm ≡ n → IfSome o (λ far. far ≡ firm) → IfSome o (λ far. length far ≡ n)
+begun_long None firm n long is = tt
+begun_long (Some far) firm n long is = ap (λ (l : List Track). length l) is ∙ long
+
+begun_first : (o : Option (List Track)) (firm : List Track) → IfSome o (λ far. far ≡ firm) → IfSome o (IsLevelled [] firm Level 0)
+begun_first None firm is = tt
+begun_first (Some far) firm is = (is, omega arith)
+
+begun_reached : (p q : PutCalls) (s : SenderView) (firm : List Track) (o : Option (List Track)) → s.state ≡ Level → s.sent ≡ 0 → s.link.calls ≡ Some q →
+    p ≡ q → s.link.far ≡ o → IfSome o (λ far. far ≡ firm) → IfSome o (λ far. IsReached p [] firm s)
+begun_reached p q s firm None on none calls same told is = tt
+begun_reached p q s firm (Some far) on none calls same told is = record {
+  far = told ∙ ap Some is;
+  sent = none ∙ omega arith;
+  state = (on, calls ∙ ap Some (sym same));
+}
+
+begun_exact : (s : SenderView) (firm : List Track) (o : Option PutCalls) → s.state ≡ Level → s.sent ≡ 0 → s.link.calls ≡ o →
+    IfSome s.link.far (λ far. far ≡ firm) → IfSome o (λ p. IfSome s.link.far (λ far. IsReached p [] firm s))
+begun_exact s firm None on none calls is = tt
+begun_exact s firm (Some p) on none calls is = begun_reached p p s firm s.link.far on none calls refl refl is
+
 -- Behind something in which the sender was told this
 
 module _ {V : Type 0} {G : Ghosts V} where
@@ -140,10 +176,6 @@ module _ {V : Type 0} {G : Ghosts V} where
       mounted_in run.mounted n ≡ Some m → length m.device.store.firm ≡ m.device.store.cylinders * 15
   firm_long sub run n m here stands there =
       let one = events.has_one sub.devices.items n here in (mounted_firmly sub run n one.device m stands one.found there).firm.tracks
-
-  far_as_long : (o : Option (List Track)) (n k : ℕ) → n ≡ k → IfSome o (λ f. length f ≡ n) → IfSome o (λ f. length f ≡ k)
-  far_as_long None n k is size = tt
-  far_as_long (Some f) n k is size = size ∙ is
 
   module _ (sub new : Subsystem V G) (s z : SenderView) (c : MirrorRun) (is : MirrorsAs sub s c) (here : is_in s.device (numbers_of sub.devices.items) ≡ true)
       (next : runs.Subsystem) (stands : StandsAs new next) (own : AreOwn new.devices.items) (one : has_one c.device next.mounted ≡ true)
@@ -217,10 +249,6 @@ module _ {V : Type 0} {G : Ghosts V} where
 
   -- Events
 
-  pub event_ends : {X E : Type 0} (A : X → Type 0) (B : Type 0) (r : Result X E) → IfOk r (λ end. A end × B) → IfOk r A
-  event_ends A B (Ok end) happened = happened.0
-  event_ends A B (Err why) happened = tt
-
   module _ {X E : Type 0} (sub new : Subsystem V G) (s z : SenderView) (c : MirrorRun) (is : MirrorsAs sub s c)
       (here : is_in s.device (numbers_of sub.devices.items) ≡ true)
       (sits : (x : Device V G) → device_at sub.devices.items s.device ≡ Some x → Sits s.device new.devices.items x) where
@@ -243,15 +271,12 @@ module _ {V : Type 0} {G : Ghosts V} where
 
   module _ {X E : Type 0} (sub new : Subsystem V G) (s : SenderView) (c : MirrorRun) (is : MirrorsAs sub s c)
       (here : is_in s.device (numbers_of sub.devices.items) ≡ true) (numbers : numbers_of new.devices.items ≡ numbers_of sub.devices.items) where
-    here_behind : is_in s.device (numbers_of new.devices.items) ≡ true
-    here_behind = ap (is_in s.device) numbers ∙ here
-
     pub replace_mirrors : (A : X → Type 0) (d : ℕ) (side : Side) (r : Result X E) → OnOk r (AreOwn new.devices.items) →
         IfOk r (λ end. (x : Device V G) → device_at sub.devices.items s.device ≡ Some x → Sits s.device new.devices.items x) →
         IfOk r (λ end. A end × StandsAs new (replaced c.run d side unfailing).behind) → OnOk r (MirrorsAs new s (mirror_did c (Replaces d side)))
     replace_mirrors A d side (Ok end) own sits happened =
         still_mirrors sub new s s c is here (replaced c.run d side unfailing).behind happened.1 own
-        (one_behind new (replaced c.run d side unfailing).behind s.device c.device here_behind is.device happened.1)
+        (one_behind new (replaced c.run d side unfailing).behind s.device c.device (ap (is_in s.device) numbers ∙ here) is.device happened.1)
         (there_replaced c.device is.mounted c.run is.there d side unfailing) sits
         (firm_replaced c.device is.mounted c.run is.there
         (mounted_is_told sub.pool.pool (all_stood sub.devices.items) c.run.mounted c.device is.mounted is.stands.mounted is.there) d side unfailing)
@@ -262,7 +287,7 @@ module _ {V : Type 0} {G : Ghosts V} where
         IfOk r (λ end. A end × StandsAs new (unpaired c.run a unfailing).behind) → OnOk r (MirrorsAs new s (mirror_did c (Unpairs a)))
     unpair_mirrors A a (Ok end) own sits happened =
         still_mirrors sub new s s c is here (unpaired c.run a unfailing).behind happened.1 own
-        (one_behind new (unpaired c.run a unfailing).behind s.device c.device here_behind is.device happened.1)
+        (one_behind new (unpaired c.run a unfailing).behind s.device c.device (ap (is_in s.device) numbers ∙ here) is.device happened.1)
         (there_unpaired c.device is.mounted c.run is.there a unfailing) sits
         (firm_unpaired c.device is.mounted c.run is.there
         (mounted_is_told sub.pool.pool (all_stood sub.devices.items) c.run.mounted c.device is.mounted is.stands.mounted is.there) is.home a unfailing)
@@ -270,57 +295,31 @@ module _ {V : Type 0} {G : Ghosts V} where
 
   -- What the results of orders leave of a device
 
-  module _ {E : Type 0} (n : ℕ) (old new : Subsystem V G) where
-    abbrev AllSit : Type 0
-    AllSit = (x : Device V G) → device_at old.devices.items n ≡ Some x → Sits n new.devices.items x
+  abbrev AllSit : ℕ → Subsystem V G → Subsystem V G → Type 0
+  AllSit n old new = (x : Device V G) → device_at old.devices.items n ≡ Some x → Sits n new.devices.items x
 
+  module _ {E : Type 0} (n : ℕ) (old new : Subsystem V G) where
     pub replaced_sitting : (d : ℕ) (side : Side) (volume : V) (o : Option (Device V G)) (r : Result ends.EventEnd E) →
-        IfOk r (λ end. Replaced d side volume o old end new) → IfOk r (λ end. AllSit)
+        IfOk r (λ end. Replaced d side volume o old end new) → IfOk r (λ end. AllSit n old new)
     replaced_sitting d side volume o (Ok end) came = λ x at. replaced_sits n old new x at d side volume o end came
     replaced_sitting d side volume o (Err why) came = tt
 
     pub replaced_all : (d : ℕ) (side : Side) (volume : V) (o : Option (Device V G)) (r : Result ends.EventEnd E) → IsOk r →
-        IfOk r (λ end. Replaced d side volume o old end new) → AllSit
+        IfOk r (λ end. Replaced d side volume o old end new) → AllSit n old new
     replaced_all d side volume o (Ok end) had came = λ x at. replaced_sits n old new x at d side volume o end came
-    replaced_all d side volume o (Err why) had came = absurd had
+    replaced_all d side volume o (Err why) had came = absurd (cc)
 
     pub unpaired_sitting : (a : ℕ) (volume : V) (o : Option (Device V G)) (r : Result ends.EventEnd E) →
-        IfOk r (λ end. Unpaired a volume o old end new) → IfOk r (λ end. AllSit)
+        IfOk r (λ end. Unpaired a volume o old end new) → IfOk r (λ end. AllSit n old new)
     unpaired_sitting a volume o (Ok end) came = λ x at. unpaired_sits n old new x at a volume o end came
     unpaired_sitting a volume o (Err why) came = tt
 
     pub unpaired_all : (a : ℕ) (volume : V) (o : Option (Device V G)) (r : Result ends.EventEnd E) →
-        IfOk r (λ end. Unpaired a volume o old end new) → OnErr r ((new.pool ≡ old.pool) × AreStill old.devices.items new.devices.items) → AllSit
+        IfOk r (λ end. Unpaired a volume o old end new) → OnErr r ((new.pool ≡ old.pool) × AreStill old.devices.items new.devices.items) → AllSit n old new
     unpaired_all a volume o (Ok end) came lacked = λ x at. unpaired_sits n old new x at a volume o end came
     unpaired_all a volume o (Err why) came lacked = λ x at. still_sits n old.devices.items new.devices.items x lacked.1 at
 
   -- The beginning
-
-  begun_far : (o : Option (List Track)) (firm : List Track) → IfSome o (λ far. far ≡ firm) → IfSome o (IsFar Level firm)
-  begun_far None firm is = tt
-  begun_far (Some far) firm is = is
-
-  begun_long : (o : Option (List Track)) (firm : List Track) (n : ℕ) → length firm ≡ n → IfSome o (λ far. far ≡ firm) → IfSome o (λ far. length far ≡ n)
-  begun_long None firm n long is = tt
-  begun_long (Some far) firm n long is = ap (λ (l : List Track). length l) is ∙ long
-
-  begun_first : (o : Option (List Track)) (firm : List Track) → IfSome o (λ far. far ≡ firm) → IfSome o (IsLevelled [] firm Level 0)
-  begun_first None firm is = tt
-  begun_first (Some far) firm is = (is, omega arith)
-
-  begun_reached : (p q : PutCalls) (s : SenderView) (firm : List Track) (o : Option (List Track)) → s.state ≡ Level → s.sent ≡ 0 → s.link.calls ≡ Some q →
-      p ≡ q → s.link.far ≡ o → IfSome o (λ far. far ≡ firm) → IfSome o (λ far. IsReached p [] firm s)
-  begun_reached p q s firm None level none calls same told is = tt
-  begun_reached p q s firm (Some far) level none calls same told is = record {
-    far = told ∙ ap Some is;
-    sent = none ∙ omega arith;
-    state = (level, calls ∙ ap Some (sym same));
-  }
-
-  begun_exact : (s : SenderView) (firm : List Track) (o : Option PutCalls) → s.state ≡ Level → s.sent ≡ 0 → s.link.calls ≡ o →
-      IfSome s.link.far (λ far. far ≡ firm) → IfSome o (λ p. IfSome s.link.far (λ far. IsReached p [] firm s))
-  begun_exact s firm None level none calls is = tt
-  begun_exact s firm (Some p) level none calls is = begun_reached p p s firm s.link.far level none calls refl refl is
 
   pub begun_mirrors : (sub : Subsystem V G) (run : runs.Subsystem) (d : ℕ) (m : Mounted) (v : LinkView) → is_in d (numbers_of sub.devices.items) ≡ true →
       IfSome (device_at sub.devices.items d) (λ x. x.store.pair.lent ≡ None) → IfSome (device_at sub.devices.items d) (IsFarFor v) →

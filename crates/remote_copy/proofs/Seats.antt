@@ -25,7 +25,7 @@ use Rattle.device_defs.specs.Events.{background, lose, second}
 use Rattle.device_defs.specs.Peek.{Peeked, peek}
 use Rattle.device_defs.specs.Orders.{hold, join, lend, replace, restore, resume, split}
 use Rattle.device_defs.specs.Start as starting
-use Rattle.device_defs.specs.Start.{start, start_fault}
+use Rattle.device_defs.specs.Start.{next_ordinal, start, start_fault}
 use Rattle.device_laws.proofs.Based.{Any, Base, Based, based_done, based_then, kept}
 use Rattle.device_laws.proofs.BasedEvents.{
   base_in,
@@ -206,8 +206,8 @@ module _ {V : Type 0} {G : Ghosts V} where
   seat_as : (x y : Device V G) (d : DefinedDevice) → device_of y ≡ d → IsSeat (kept (device_of x).store) (kept d.store) → SameSeat x y
   seat_as x y d is seat = subst (λ (e : DefinedDevice). IsSeat (kept (device_of x).store) (kept e.store)) (sym is) seat
 
-  then_seat : {x y z : Device V G} → SameSeat x y → SameSeat y z → SameSeat x z
-  then_seat a b = record {
+  then_seat : (x y z : Device V G) → SameSeat x y → SameSeat y z → SameSeat x z
+  then_seat x y z a b = record {
     device = b.device ∙ a.device;
     geometry = b.geometry ∙ a.geometry;
     cylinders = b.cylinders ∙ a.cylinders;
@@ -333,7 +333,7 @@ module _ {V : Type 0} {G : Ghosts V} where
 
     start_seated : (path m : ℕ) (x : Device V G) (o : Option StartFault) → device_at xs m ≡ Some x → Seated (start_by (device_of x) path o)
     start_seated path m x (Some fault) at = tt
-    start_seated path m x None at = becomes_seated m x (start (device_of x) path) _ at (started_seat (device_of x) path)
+    start_seated path m x None at = becomes_seated m x (start (device_of x) path) (answers.Started (next_ordinal (device_of x) path)) at (started_seat (device_of x) path)
 
     starts_seated : (path m : ℕ) (x : Device V G) → device_at xs m ≡ Some x → Seated (starts path (device_of x))
     starts_seated path m x at =
@@ -483,7 +483,7 @@ module _ {V : Type 0} {G : Ghosts V} where
         let first = changed_sits n m _ old.devices.items p.between x ch
         (seat_as ch.before ch.behind (split (device_of ch.before)) ch.is_so.device (same_seat ch.before)) at in
         let last = restored_sits n m volume p.restored first.device first.found in
-        record { device = last.device; found = last.found; seat = then_seat first.seat last.seat }
+        record { device = last.device; found = last.found; seat = then_seat x first.device last.device first.seat last.seat }
 
     unpaired_by_sits : (m : ℕ) (volume : V) (o : Option OrderFault) (end : ends.EventEnd) → UnpairedBy m volume o old end new → Sits n new.devices.items x
     unpaired_by_sits m volume (Some fault) end came = sits_still n old.devices.items new.devices.items x came.1.1 at

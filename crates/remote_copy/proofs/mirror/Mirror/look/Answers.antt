@@ -2,7 +2,7 @@ use Rattle.std.proofs.Common.{ℕ, subst}
 use Rattle.remote_copy.proofs.Fitting.{follows_fits, still_here, takes_all}
 use Rattle.remote_copy.proofs.Keeping.{follows, still_within}
 use Rattle.remote_copy.proofs.Looked.{Peeks, looks_found, peeks_send, peeks_sit}
-use Rattle.remote_copy.proofs.copying.Mirror.look.Goals as goal
+use Rattle.remote_copy.proofs.mirror.Mirror.look.Goals as goal
 
 pub peek_track_with-requires-clause-here : goal.peek_track_with-requires-clause-here
 peek_track_with-requires-clause-here g c = rw c.device-d.ensures c.args.self.now.here

@@ -4,7 +4,7 @@ use Rattle.remote_copy.proofs.Fitting.{follows_fits, still_here, takes_all}
 use Rattle.remote_copy.proofs.Keeping.{came_sends, follows, still_within}
 use Rattle.remote_copy.proofs.Mirrors.{event_ends, event_mirrors}
 use Rattle.remote_copy.proofs.Seats.{came_sits}
-use Rattle.remote_copy.proofs.event.Mirror.event.Goals as goal
+use Rattle.remote_copy.proofs.mirror.Mirror.event.Goals as goal
 
 pub do_event_with-requires-clause-takes : goal.do_event_with-requires-clause-takes
 do_event_with-requires-clause-takes g c =

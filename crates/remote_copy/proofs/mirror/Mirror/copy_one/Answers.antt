@@ -1,5 +1,5 @@
 use Rattle.remote_copy.proofs.CopyRuns.{all_answer, all_fault, all_follow, all_mirrors}
-use Rattle.remote_copy.proofs.copying.Mirror.copy_one.Goals as goal
+use Rattle.remote_copy.proofs.mirror.Mirror.copy_one.Goals as goal
 
 pub returns-clause-follows : goal.returns-clause-follows
 returns-clause-follows g c =

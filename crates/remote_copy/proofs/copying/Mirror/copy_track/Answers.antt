@@ -1,1 +1,0 @@
-use Rattle.remote_copy.proofs.copying.Mirror.copy_track.Goals as goal

@@ -1,0 +1,1 @@
+use Rattle.remote_copy.proofs.mirror.Mirror.copy_track.Goals as goal

@@ -1,0 +1,1 @@
+use Rattle.remote_copy.proofs.mirror.Mirror.put_next.Goals as goal
