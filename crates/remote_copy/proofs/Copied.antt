@@ -59,6 +59,9 @@ use Rattle.device_defs.specs.Contents.{contents}
 use Rattle.device_defs.specs.Peek as peeks
 use Rattle.device_defs.specs.Peek.{Peeked, peek}
 use Rattle.device_defs.specs.Store.{is_loose, tracks_of}
+use Rattle.device_store.specs.declared.store.Peeked as looks
+use Rattle.device_store.specs.Looks.{peeked_by}
+use Rattle.device_store.specs.State.{state_of}
 use Rattle.device_core.specs.declared.device.Device.{Device}
 use Rattle.device_core.specs.State.{device_of}
 use Rattle.frame_pool.specs.Shared.{shared_view}
@@ -98,6 +101,7 @@ use Rattle.remote_copy.specs.Copies.{
   IsUnchanged,
   LookedBy,
   LooksToCopy,
+  MayPut,
   PutsCopy,
   TrackAs,
   TrackBy,
@@ -105,7 +109,7 @@ use Rattle.remote_copy.specs.Copies.{
   behind_put,
   gets_suspended,
 }
-use Rattle.remote_copy.specs.Following.{Follows, is_within}
+use Rattle.remote_copy.specs.Following.{Follows, IsFarFor, is_within}
 use Rattle.remote_copy.specs.Linking.{IsPut, LinkView, Puts, with_put}
 use Rattle.remote_copy.specs.Mirroring.{
   HasCopied,
@@ -122,16 +126,20 @@ use Rattle.remote_copy.specs.Mirroring.{
   with_told,
 }
 use Rattle.remote_copy.specs.Sending.{IsSent, SenderView, hears_sent, is_suspended, state_behind, takes_sent}
+use Rattle.remote_copy.proofs.Fitting.{far_for, follows_fits}
 use Rattle.remote_copy.proofs.Keeping.{SendsSome, follows, ran_sends}
 use Rattle.remote_copy.proofs.Mirrors.{heard_mirrors}
 use Rattle.remote_copy.proofs.Mounts.{mounted_firmly}
 use Rattle.remote_copy.proofs.Puttings.{far_size, size_by}
-use Rattle.remote_copy.proofs.Seats.{SameSeat, Sits, changed_sits}
+use Rattle.remote_copy.proofs.Seats.{sits_still}
 use Rattle.remote_copy.proofs.Sent.{copying_state}
 
 pub either : {P : Type 0} (b : Bool) → (b ≡ true → P) → (b ≡ false → P) → P
 either true x y = x refl
 either false x y = y refl
+
+pub same_ok : {X E : Type 0} {x y : X} (r : Result X E) → r ≡ Ok x → r ≡ Ok y → x ≡ y
+same_ok r e f = cc
 
 -- The put of a copy
 
@@ -179,8 +187,8 @@ module _ (tracks t : ℕ) (x : Track) (old : SenderView) (r : Remote) (new : Sen
       (failed_so p.result is p.is.put.cause.failed)
     where
       failed_so : (q : Result (Unit {0}) Failed) → q ≡ Err e → OnErr q (Rose old.link.faults p.put.link.faults) → Rose old.link.faults p.put.link.faults
-      failed_so (Ok y) no rose = absurd (cc)
-      failed_so (Err f) yes rose = rose
+      failed_so (Ok y) off rose = absurd (cc)
+      failed_so (Err f) off rose = rose
 
   pub copy_follows : Follows old new
   copy_follows = record {
@@ -260,6 +268,25 @@ answers_within tracks t found s r z a lt same within =
     by_found (peeks.Fault side) b = kept b.1
     by_found (peeks.BadBytes side) b = kept b.1
 
+-- of the device that is found
+module _ {V : Type 0} {G : Ghosts V} (t : ℕ) (sub : Subsystem V G) (s z : SenderView) (y : Device V G) (p : looks.Peeked) (r : Remote)
+    (at : device_at sub.devices.items s.device ≡ Some y) (fits : IfSome (device_at sub.devices.items s.device) (IsFarFor s.link))
+    (found : IfSome (device_at sub.devices.items s.device) (λ x. MayPut t x p))
+    (a : AnswersBy (y.store.cylinders * 15) t (peeked_by (state_of y.store) t p) s r z) where
+  pub put_follows : Follows s z
+  put_follows = answers_follow (y.store.cylinders * 15) t (peeked_by (state_of y.store) t p) s r z a
+
+  pub put_fits : is_in s.device (numbers_of sub.devices.items) ≡ true → IfSome (device_at sub.devices.items z.device) (IsFarFor z.link)
+  put_fits here =
+      follows_fits s z sub.devices.items sub.devices.items here fits put_follows
+      (λ x there. sits_still s.device sub.devices.items sub.devices.items x refl there)
+
+  pub put_within : is_within s.state s.link.tracks ≡ true → is_within z.state z.link.tracks ≡ true
+  put_within within =
+      answers_within (y.store.cylinders * 15) t (peeked_by (state_of y.store) t p) s r z a
+      (subst (λ (o : Option (Device V G)). IfSome o (λ x. MayPut t x p)) at found).track
+      (sym (far_for s.link sub.devices.items s.device y at fits).1) within
+
 and_fst : (a b : Bool) → (a && b) ≡ true → a ≡ true
 and_fst true b e = refl
 and_fst false b e = absurd (cc)
@@ -279,19 +306,16 @@ looked_follows : (tracks t : ℕ) (failed : Bool) (o : Option Peeked) (s : Sende
 looked_follows tracks t failed None s r z l = still_follows s z l.1
 looked_follows tracks t true (Some found) s r z l = still_follows s z l.1
 looked_follows tracks t false (Some found) s (Ok answer) z l = answers_follow tracks t found s answer z l.1
-looked_follows tracks t false (Some found) s (Err e) z l = absurd l.0
+looked_follows tracks t false (Some found) s (Err e) z l = absurd (let no = l.0 in cc)
 
 -- a fault of the link raised its count
 looked_fault : (tracks t : ℕ) (failed : Bool) (o : Option Peeked) (s : SenderView) (r : Result Remote NoMemory) (z : SenderView) →
     LookedBy tracks t failed o s r z → r ≡ Ok LinkFault → (failed ≡ true) ⊎ (Rose s.link.faults z.link.faults × (is_suspended z.state ≡ true))
-looked_fault tracks t failed None s r z l is = absurd (l.0 (subst (λ (q : Result Remote NoMemory). IsOk q) (sym is) tt))
+looked_fault tracks t failed None s r z l is = absurd (l.0 (subst (λ (q : Result Remote NoMemory). IsOk q) (sym is) refl))
 looked_fault tracks t true (Some found) s r z l is = inl refl
 looked_fault tracks t false (Some found) s (Err e) z l is = absurd (cc)
-looked_fault tracks t false (Some found) s (Ok answer) z l is = inr (by_found found l.1 (ok_same is))
+looked_fault tracks t false (Some found) s (Ok answer) z l is = inr (by_found found l.1 (same_ok (Ok answer) refl is))
   where
-    ok_same : {X E : Type 0} {x y : X} → Ok {E = E} x ≡ Ok y → x ≡ y
-    ok_same e = cc
-
     by_found : (f : Peeked) → AnswersBy tracks t f s answer z → answer ≡ LinkFault → Rose s.link.faults z.link.faults × (is_suspended z.state ≡ true)
     by_found (peeks.Track i) a e =
         let on = copy_fault tracks t i.track s answer z a e in (cause_by tracks t i.track s answer z a a.result refl on, on)
@@ -341,11 +365,11 @@ copied_follows tracks (Some t) waits old s r new z c = by_test (waits t) c
 pub copied_fault : {V : Type 0} {G : Ghosts V} (tracks : ℕ) (next : Option ℕ) (waits : ℕ → Bool) (old : Subsystem V G) (s : SenderView)
     (r : Result Remote NoMemory) (new : Subsystem V G) (z : SenderView) → CopiedBy tracks next waits old s r new z → r ≡ Ok LinkFault →
     Rose s.link.faults z.link.faults × (is_suspended z.state ≡ true)
-copied_fault tracks None waits old s r new z c is = absurd (let no : Ok {E = NoMemory} Idle ≡ Ok LinkFault = sym c.0 ∙ is in cc)
+copied_fault tracks None waits old s r new z c is = absurd (let no : Idle ≡ LinkFault = same_ok r c.0 is in cc)
 copied_fault tracks (Some t) waits old s r new z c is = by_test (waits t) c
   where
     by_test : (b : Bool) → TrackBy tracks t b old s r new z → Rose s.link.faults z.link.faults × (is_suspended z.state ≡ true)
-    by_test true d = absurd (let no : Ok {E = NoMemory} Waits ≡ Ok LinkFault = sym d.0 ∙ is in cc)
+    by_test true d = absurd (let no : Waits ≡ LinkFault = same_ok r d.0 is in cc)
     by_test false d = look_fault tracks t old s r new z d is
 
 -- Over a run

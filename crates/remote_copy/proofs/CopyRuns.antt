@@ -111,7 +111,7 @@ use Rattle.remote_copy.specs.Mirroring.{
   with_told,
 }
 use Rattle.remote_copy.specs.Sending.{SenderView, hears_sent, is_suspended, state_behind, takes_sent}
-use Rattle.remote_copy.proofs.Copied.{copied_far, copied_fault, copied_follows, copy_follows, copy_link, or_fst, or_snd, waits_same}
+use Rattle.remote_copy.proofs.Copied.{copied_far, copied_fault, copied_follows, copy_follows, copy_link, or_fst, or_snd, same_ok, waits_same}
 use Rattle.remote_copy.proofs.Fitting.{far_for}
 use Rattle.remote_copy.proofs.Keeping.{follows, ran_sends}
 use Rattle.remote_copy.proofs.Mirrors.{heard_mirrors, if_any, some_size}
@@ -407,17 +407,14 @@ module _ {V : Type 0} {G : Ghosts V} (tracks t : ℕ) (sub new : Subsystem V G) 
         IsCopied answer
     by_look true answer e l = record {
       mirrors = same_mirrors l.1;
-      found = found_as answer (subst (IsFoundAs t f) (sym (ok_same l.0)) (fault_as f plain_is));
+      found = found_as answer (subst (IsFoundAs t f) (sym (same_ok (Ok answer) refl l.0)) (fault_as f plain_is));
     }
-      where
-        ok_same : {X E : Type 0} {x y : X} → Ok {E = E} x ≡ Ok y → x ≡ y
-        ok_same e = cc
     by_look false answer e l = by_found answer f refl e l.1
 
   looked_copy : (answer : Remote) (h : SenderView) (o : Option Peeked) → LooksKept (Heard hears_sent takes_sent) s.device t o sub s new h →
       LookedBy tracks t (gets_suspended s.state h.state) o h (Ok answer) z → IsCopied answer
   looked_copy answer h (Some f) k l = by_look h f k (gets_suspended s.state h.state) answer refl l
-  looked_copy answer h None k l = absurd (l.0 tt)
+  looked_copy answer h None k l = absurd (l.0 refl)
 
   pub copy_is : (answer : Remote) → LooksToCopy tracks t sub s (Ok answer) new z → IsCopied answer
   copy_is answer l = looked_copy answer l.heard l.found l.look l.answers
@@ -434,22 +431,19 @@ module _ {V : Type 0} {G : Ghosts V} (sub new : Subsystem V G) (s z : SenderView
   unchanged same =
       subst (λ (y : SenderView). MirrorsAs new y c) (sym same.sender) (subst (λ (u : Subsystem V G). MirrorsAs u s c) (sym same.sub) is)
 
-  ok_same : {X E : Type 0} {x y : X} → Ok {E = E} x ≡ Ok y → x ≡ y
-  ok_same e = cc
-
   waits_run : (t : ℕ) → waits_at (mounted_in c.run.mounted c.device) t ≡ is_waiting (device_of x).store t
   waits_run t = waits_same sub c.run c.device t x is.stands (ap (device_at sub.devices.items) (sym is.device) ∙ at)
 
   track_done : (t : ℕ) (answer : Remote) → next_track s.state ≡ Some t → (b : Bool) → waits_at (mounted_in c.run.mounted c.device) t ≡ b →
       TrackBy (x.store.cylinders * 15) t b sub s (Ok answer) new z →
       MirrorsAs new z (if b then c else mirror_looked c t) × TrackAs c t b answer
-  track_done t answer next true e d = (unchanged d.1, ok_same d.0)
+  track_done t answer next true e d = (unchanged d.1, same_ok (Ok answer) refl d.0)
   track_done t answer next false e d =
       let so = copy_is (x.store.cylinders * 15) t sub new s z c is here (within t next) long next e answer d in (so.mirrors, so.found)
 
   next_done : (answer : Remote) (next : Option ℕ) → next_track s.state ≡ next →
       CopiedBy (x.store.cylinders * 15) next (is_waiting (device_of x).store) sub s (Ok answer) new z → IsDone next answer
-  next_done answer None e d = record { mirrors = unchanged d.1; answers = ok_same d.0 }
+  next_done answer None e d = record { mirrors = unchanged d.1; answers = same_ok (Ok answer) refl d.0 }
   next_done answer (Some t) e d =
       let so = track_done t answer e (waits_at (mounted_in c.run.mounted c.device) t) refl
       (subst (λ (b : Bool). TrackBy (x.store.cylinders * 15) t b sub s (Ok answer) new z) (sym (waits_run t)) d) in

@@ -39,12 +39,12 @@ use Rattle.remote_copy.specs.Copies.{IsImageFound}
 
 -- A track that is read says where it was read
 
-ok_same : {X E : Type 0} {x y : X} → Ok {E = E} x ≡ Ok y → x ≡ y
-ok_same e = cc
+same_ok : {X E : Type 0} {x y : X} (r : Result X E) → r ≡ Ok x → r ≡ Ok y → x ≡ y
+same_ok r e f = cc
 
 home_by : (b : Bool) (h : Cchh) (z : Result Record ℕ) (rest : Result (List Record) ℕ) (x : Track) →
     (if b then z >>= (λ first. rest >>= (λ others. Ok (record { home = h; records = first ∷ others }))) else Err 0) ≡ Ok x → x.home ≡ h
-home_by true h (Ok first) (Ok others) x e = ap (λ (y : Track). y.home) (sym (ok_same e))
+home_by true h (Ok first) (Ok others) x e = ap (λ (y : Track). y.home) (sym (same_ok _ refl e))
 home_by true h (Ok first) (Err at) x e = absurd (cc)
 home_by true h (Err at) rest x e = absurd (cc)
 home_by false h z rest x e = absurd (cc)
@@ -154,7 +154,8 @@ module _ (g : Geometry) (t : ℕ) where
   half_by : (s : StoreOf) (h : HalfWrite Image) (b : Bool) → ((h.track == t) && not (is_some (frame_at s t)) && not (has_level s t)) ≡ b → s.geometry ≡ g →
       FramesFit (frame_at s t) → IsImageOf g h.track h.image →
       Finds (if b then tried s (Done s (Some (peeks.Track h.image))) else peek_image contents s t)
-  half_by s h true e is frames of = always_try (λ ok. in_half_finds s h ok (and_first (h.track == t) _ e) of)
+  half_by s h true e is frames of = always_try (λ ok. in_half_finds s h ok
+      (and_first (h.track == t) (not (is_some (frame_at s t))) (and_first ((h.track == t) && not (is_some (frame_at s t))) (not (has_level s t)) e)) of)
   half_by s h false e is frames of = image_finds s is frames
 
   half_finds : (s : StoreOf) (o : Option (HalfWrite Image)) → s.geometry ≡ g → FramesFit (frame_at s t) → HalfFits o → Finds (peek_half contents s t o)

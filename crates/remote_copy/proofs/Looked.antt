@@ -168,9 +168,20 @@ module _ {V : Type 0} {G : Ghosts V} (t : ℕ) (old : Subsystem V G) (s : Sender
       (goes one.device two.device two.found
       (subst (λ (o : Option (Device V G)). IfSome o (LooksAt t old s one.device r new z)) two.found at))
 
+  -- what was found may be put
+  pub may_from : (p : looks.Peeked) → is_in s.device (numbers_of old.devices.items) ≡ true → is_in z.device (numbers_of new.devices.items) ≡ true →
+      IfSome (device_at old.devices.items s.device) (λ x. IfSome (device_at new.devices.items z.device) (LooksAt t old s x (Ok p) new z)) →
+      IfSome (device_at new.devices.items z.device) (λ y. MayPut t y p)
+  may_from p here there found =
+      let one = has_one old.devices.items s.device here in
+      let two = has_one new.devices.items z.device there in
+      let at = subst (λ (o : Option (Device V G)). IfSome o (λ x. IfSome (device_at new.devices.items z.device) (LooksAt t old s x (Ok p) new z))) one.found found in
+      subst (λ (o : Option (Device V G)). IfSome o (λ y. MayPut t y p)) (sym two.found)
+      (subst (λ (o : Option (Device V G)). IfSome o (LooksAt t old s one.device (Ok p) new z)) two.found at).found
+
   -- memory was lacking
   pub copy_lacked : (e : NoMemory) (x y : Device V G) → LooksAt t old s x (Err e) new z y → LooksToCopy (x.store.cylinders * 15) t old s (Err e) new z
-  copy_lacked e x y l = record { found = None; heard = z; look = l.look; answers = ((λ ok. ok), refl) }
+  copy_lacked e x y l = record { found = None; heard = z; look = l.look; answers = ((λ ok. absurd (cc)), refl) }
 
   -- a put failed
   pub copy_faulted : (p : looks.Peeked) (x y : Device V G) → gets_suspended s.state z.state ≡ true → LooksAt t old s x (Ok p) new z y →
@@ -191,5 +202,5 @@ module _ {V : Type 0} {G : Ghosts V} (t : ℕ) (old : Subsystem V G) (s : Sender
     heard = z;
     look = subst (λ (u : Subsystem V G). LooksKept (Heard hears_sent takes_sent) s.device t (Some (peeked_by (state_of y.store) t p)) old s u z) (sym same) l.look;
     answers = subst (λ (b : Bool). LookedBy (x.store.cylinders * 15) t b (Some (peeked_by (state_of y.store) t p)) z (Ok answer) w) (sym fine)
-        (tt, subst (λ (n : ℕ). AnswersBy (n * 15) t (peeked_by (state_of y.store) t p) z answer w) l.cylinders a);
+        (refl, subst (λ (n : ℕ). AnswersBy (n * 15) t (peeked_by (state_of y.store) t p) z answer w) l.cylinders a);
   }

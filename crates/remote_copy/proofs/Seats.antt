@@ -220,7 +220,7 @@ module _ {V : Type 0} {G : Ghosts V} where
     pub found : device_at ys n ≡ Some device
     pub seat : SameSeat x device
 
-  sits_still : (n : ℕ) (xs ys : List (Device V G)) (x : Device V G) → ys ≡ xs → device_at xs n ≡ Some x → Sits n ys x
+  pub sits_still : (n : ℕ) (xs ys : List (Device V G)) (x : Device V G) → ys ≡ xs → device_at xs n ≡ Some x → Sits n ys x
   sits_still n xs ys x same at =
       record { device = x; found = ap (λ (l : List (Device V G)). device_at l n) same ∙ at; seat = same_seat x }
 

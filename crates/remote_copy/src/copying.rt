@@ -6,7 +6,7 @@ ghost use Rattle.device_store.specs.State.{state_of};
 ghost use Rattle.look_laws.specs.Looking.{is_written_at};
 ghost use Rattle.subsystem_core.specs.Devices.{device_at, numbers_of};
 ghost use Rattle.remote_copy.specs.declared.remote.Remote.TheVariants.{LinkFault};
-ghost use Rattle.remote_copy.specs.Copies.{AnswersAs, AnswersBy, CopiedBy, IsImageFound, LooksAt, LooksToCopy, MayPut, PutsCopy};
+ghost use Rattle.remote_copy.specs.Copies.{AnswersAs, AnswersBy, CopiedBy, IsImageFound, LooksAt, LooksToCopy, MayPut, PutsCopy, gets_suspended};
 ghost use Rattle.remote_copy.specs.Following.{Follows, IsFarFor};
 ghost use Rattle.remote_copy.specs.Linking.{IsFarImage};
 ghost use Rattle.remote_copy.specs.Mirroring.{IsMirror, MirrorRun, copied_to, is_waiting, mirror_copied, next_track};
@@ -27,6 +27,13 @@ fn is_suspended(state: MirrorState) -> bool
         MirrorState::Suspended { .. } => true,
         _ => false,
     }
+}
+
+/// Whether a put failed between these.
+fn gets_suspended(before: MirrorState, now: MirrorState) -> bool
+    ensures { result ≡ gets_suspended before now }
+{
+    is_suspended(now) && !is_suspended(before)
 }
 
 /// The next track to be copied.
@@ -144,11 +151,11 @@ impl<V: Volume, L: Link> Mirror<V, L> {
         ensures looks { IfSome (device_at self.old.sub.devices.items self.old.sender.device) (λ x. LooksToCopy (x.store.cylinders * 15) t
             self.old.sub self.old.sender result self.new.sub self.new.sender) }
     {
-        let suspended = is_suspended(self.state());
+        let before = self.state();
         match self.look(t) {
             Err(NoMemory) => Err(NoMemory),
             Ok(peeked) => {
-                if is_suspended(self.state()) && !suspended {
+                if gets_suspended(before, self.state()) {
                     return Ok(Remote::LinkFault);
                 }
                 Ok(self.put_next(t, peeked))

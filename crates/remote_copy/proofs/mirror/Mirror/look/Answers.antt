@@ -8,7 +8,7 @@ pub peek_track_with-requires-clause-here : goal.peek_track_with-requires-clause-
 peek_track_with-requires-clause-here g c = rw c.device-d.ensures c.args.self.now.here
 
 pub peek_track_with-requires-clause-track : goal.peek_track_with-requires-clause-track
-peek_track_with-requires-clause-track g c = rw c.device-d.ensures c.requires
+peek_track_with-requires-clause-track g c = rw c.device-d.ensures c.requires.track
 
 pub peek_track_with-requires-clause-takes : goal.peek_track_with-requires-clause-takes
 peek_track_with-requires-clause-takes g c =
@@ -43,5 +43,5 @@ returns-clause-found g c =
     let new = c.peek_track_with.new in
     let ch = subst (λ (n : ℕ). Peeks n c.args.t old.sub old.sender new.self new.keep c.peek_track_with.result) c.device-d.ensures
     c.peek_track_with.ensures.looked in
-    looks_found c.args.t old.sub old.sender new.self new.keep c.peek_track_with.result old.here c.peek_track_with.ensures.numbers c.requires ch
+    looks_found c.args.t old.sub old.sender new.self new.keep c.peek_track_with.result old.here c.peek_track_with.ensures.numbers c.requires.track ch
     (returns-clause-follows g c).device
