@@ -274,7 +274,7 @@ module _ {V : Type 0} {G : Ghosts V} (sub : Subsystem V G) (c : MirrorRun) (sinc
       (λ far. subst (λ (m : MirrorState). IsFar m is.mounted.device.store.firm far) (sym on) tt)
 
   not_since : {P : Type 0} → c.copied ≡ false → P
-  not_since no = absurd (let both : true ≡ false = sym since ∙ no in cc)
+  not_since off = absurd (let both : true ≡ false = sym since ∙ off in cc)
 
   pub put_mirrors : MirrorsAs sub z c
   put_mirrors =
@@ -296,8 +296,8 @@ module _ {V : Type 0} {G : Ghosts V} (sub : Subsystem V G) (c : MirrorRun) (sinc
         };
         copies = subst (HasCopied z.state) (sym since) (has_copied z.state);
         far = subst (λ (v : LinkView). IsFarNow z.state v.far) (sym link) (put_far_by p.result refl p.is.put.far);
-        first = λ no. not_since no;
-        exact = λ no. not_since no;
+        first = λ off. not_since off;
+        exact = λ off. not_since off;
       }
 
 -- What is copied so far, behind a look in which no put failed
@@ -484,11 +484,6 @@ module _ {V : Type 0} {G : Ghosts V} (sub : Subsystem V G) (s : SenderView) (her
   pub next_few : (n : ℕ) → next_track s.state ≡ Some n → n < 960
   next_few n e = let one = has_one sub.devices.items s.device here in (next_is one.device one.found n e).few
 
-  pub next_at : (n : ℕ) → next_track s.state ≡ Some n → IfSome (device_at sub.devices.items s.device) (λ x. n < x.store.cylinders * 15)
-  next_at n e =
-      let one = has_one sub.devices.items s.device here in
-      subst (λ (o : Option (Device V G)). IfSome o (λ x. n < x.store.cylinders * 15)) (sym one.found) (next_is one.device one.found n e).below
-
 -- What a call comes to, of the device that is found
 
 module _ {V : Type 0} {G : Ghosts V} (sub new : Subsystem V G) (s z : SenderView) (here : is_in s.device (numbers_of sub.devices.items) ≡ true)
@@ -522,28 +517,3 @@ module _ {V : Type 0} {G : Ghosts V} (sub new : Subsystem V G) (s z : SenderView
 
     pub all_answer : IfOk r (AnswersAs c (next_track s.state))
     all_answer = copy_answers sub new s z c is here one.device one.found long below r done
-
--- and each of its cases
-
-module _ {V : Type 0} {G : Ghosts V} (old : Subsystem V G) (s : SenderView) where
-  abbrev CopiedAt : Option (Device V G) → Option ℕ → Result Remote NoMemory → Subsystem V G → SenderView → Type 0
-  CopiedAt o next r new z = IfSome o (λ x. CopiedBy (x.store.cylinders * 15) next (is_waiting (device_of x).store) old s r new z)
-
-  pub copied_idle : (o : Option (Device V G)) (next : Option ℕ) → next ≡ None → CopiedAt o next (Ok Idle) old s
-  copied_idle None next e = tt
-  copied_idle (Some x) next e =
-      subst (λ (q : Option ℕ). CopiedAt (Some x) q (Ok Idle) old s) (sym e) (refl, record { sub = refl; sender = refl })
-
-  pub copied_waits : (o : Option (Device V G)) (next : Option ℕ) (t : ℕ) → next ≡ Some t → IfSome o (λ x. true ≡ is_waiting (device_of x).store t) →
-      CopiedAt o next (Ok Waits) old s
-  copied_waits None next t e waits = tt
-  copied_waits (Some x) next t e waits =
-      subst (λ (q : Option ℕ). CopiedAt (Some x) q (Ok Waits) old s) (sym e)
-      (subst (λ (b : Bool). TrackBy (x.store.cylinders * 15) t b old s (Ok Waits) old s) waits (refl, record { sub = refl; sender = refl }))
-
-  pub copied_track : (o : Option (Device V G)) (next : Option ℕ) (t : ℕ) (r : Result Remote NoMemory) (new : Subsystem V G) (z : SenderView) → next ≡ Some t →
-      IfSome o (λ x. false ≡ is_waiting (device_of x).store t) → IfSome o (λ x. LooksToCopy (x.store.cylinders * 15) t old s r new z) → CopiedAt o next r new z
-  copied_track None next t r new z e waits l = tt
-  copied_track (Some x) next t r new z e waits l =
-      subst (λ (q : Option ℕ). CopiedAt (Some x) q r new z) (sym e)
-      (subst (λ (b : Bool). TrackBy (x.store.cylinders * 15) t b old s r new z) waits l)
