@@ -1,0 +1,6 @@
+use Rattle.std.proofs.Common.{◌≡◌, drop}
+use Rattle.device_outside.specs.Lists.{is_in}
+use Rattle.remote_copy.proofs.link.is_listed.Given as goal
+
+abbrev pub invariant-loop-n : goal.invariant-loop-n
+invariant-loop-n l = is_in l.put (drop l.n-index l.numbers) ≡ is_in l.put l.numbers

@@ -1,0 +1,1 @@
+use Rattle.remote_copy.proofs.mirror.Mirror.waits.Goals as goal

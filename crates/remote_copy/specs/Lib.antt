@@ -1,0 +1,6 @@
+pub mod Linking
+pub mod FarVolume
+pub mod Sending
+pub mod Following
+pub mod Mirroring
+pub mod Copies
