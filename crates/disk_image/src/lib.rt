@@ -11,6 +11,7 @@ mod laws;
 mod layout;
 mod opening;
 mod room;
+mod std_file;
 mod storing;
 mod volume;
 
@@ -22,5 +23,6 @@ pub use laws::tracks_fit;
 pub use layout::{Layout, place_of, room_size};
 pub use opening::open_image;
 pub use room::{TrackRoom, read_room, write_room};
+pub use std_file::StdFile;
 pub use storing::store_volume;
 pub use volume::{TrackFault, find_bad, load_volume};

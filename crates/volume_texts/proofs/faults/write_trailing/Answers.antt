@@ -1,5 +1,5 @@
-use Rattle.volume_tool.specs.Answers.{trailing_text}
-use Rattle.volume_tool.proofs.top.write_trailing.Goals as goal
+use Rattle.volume_texts.specs.Faults.{trailing_text}
+use Rattle.volume_texts.proofs.faults.write_trailing.Goals as goal
 
 pub returns-clause-bytes : goal.returns-clause-bytes
 unfolding trailing_text

@@ -1,8 +1,8 @@
 use Rattle.std.proofs.Common.{◌≤◌, drop}
 use Rattle.std.specs.List.{flat_map}
 use Rattle.ckd_outside.proofs.Lines.{Put}
-use Rattle.volume_tool.specs.List.{track_line}
-use Rattle.volume_tool.proofs.listing.write_rows.Given as goal
+use Rattle.volume_texts.specs.List.{track_line}
+use Rattle.volume_texts.proofs.listing.write_rows.Given as goal
 
 -- the rows so far were put
 abbrev pub invariant-loop-row : goal.invariant-loop-row

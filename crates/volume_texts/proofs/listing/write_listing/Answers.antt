@@ -1,5 +1,5 @@
 use Rattle.ckd_outside.proofs.Lines.{stops_longer, stops_then, moves_then, written_front, written_all}
-use Rattle.volume_tool.proofs.listing.write_listing.Goals as goal
+use Rattle.volume_texts.proofs.listing.write_listing.Goals as goal
 
 pub returns-in_err-write_volume-clause-bytes : goal.returns-in_err-write_volume-clause-bytes
 returns-in_err-write_volume-clause-bytes g c =

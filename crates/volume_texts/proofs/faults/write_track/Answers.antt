@@ -1,6 +1,6 @@
 use Rattle.std.proofs.Common.{◌∙◌}
-use Rattle.volume_tool.specs.Answers.{track_text}
-use Rattle.volume_tool.proofs.top.write_track.Goals as goal
+use Rattle.volume_texts.specs.Faults.{track_text}
+use Rattle.volume_texts.proofs.faults.write_track.Goals as goal
 
 pub returns-clause-bytes : goal.returns-clause-bytes
 unfolding track_text

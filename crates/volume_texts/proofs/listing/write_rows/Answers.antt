@@ -1,7 +1,7 @@
 use Rattle.std.proofs.Common.{arith}
 use Rattle.ckd_outside.proofs.Lines.{put_more, put_stopped, puts_stopped}
-use Rattle.volume_tool.proofs.Listed.{lines_step}
-use Rattle.volume_tool.proofs.listing.write_rows.Goals as goal
+use Rattle.volume_texts.proofs.Rows.{lines_step}
+use Rattle.volume_texts.proofs.listing.write_rows.Goals as goal
 
 pub returns-in_err-write_row-clause-bytes : goal.returns-in_err-write_row-clause-bytes
 returns-in_err-write_row-clause-bytes g c =

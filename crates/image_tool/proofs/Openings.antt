@@ -1,0 +1,108 @@
+-- What opening a file told.
+use Rattle.std.proofs.Common.{◌≡◌, ◌⊎◌, inl, inr, ℕ, ◌*◌, ◌/◌, ◌-◌, Bool, true, false, cond, List, ⊤, Option, Some, None, Result, Ok, Err, refl, sym, ap, subst, ◌∙◌}
+use Rattle.ckd_types.specs.declared.geometry.Geometry.{Geometry}
+use Rattle.disk_image.specs.declared.fault.ImageFault.{ImageFault}
+use Rattle.disk_image.specs.declared.fault.ImageFault.TheVariants.{BadHead, BadLength, BadTrack, Compressed, FileFault, NoMemory, Parts}
+use Rattle.disk_image.specs.declared.layout.Layout.{Layout}
+use Rattle.disk_image.specs.declared.volume.TrackFault.{TrackFault}
+use Rattle.disk_image.specs.Image.{TellsOpening}
+use Rattle.disk_image.specs.Opening.{◌>>=◌, head_in, layout_by, model_in, opening, rest_in}
+use Rattle.disk_image.specs.Volume.{Told, faults_in}
+use Rattle.image_tool.specs.Reading.{Finds, IsChecked, IsHeld, IsOpened, checking}
+
+-- ---- no opening names a track
+
+abbrev IsPlain : {A : Type 0} → Result A ImageFault → Type 0
+IsPlain (Err (BadTrack t offset)) = ⊥
+IsPlain r = Unit {0}
+
+plain_if : {A : Type 0} (b : Bool) (x y : Result A ImageFault) → IsPlain x → IsPlain y → IsPlain (cond b x y)
+plain_if true x y p q = p
+plain_if false x y p q = q
+
+plain_bind : {A B : Type 0} (r : Result A ImageFault) (f : A → Result B ImageFault) → IsPlain r → ((x : A) → IsPlain (f x)) → IsPlain (r >>= f)
+plain_bind (Ok x) f p q = q x
+plain_bind (Err (BadTrack t offset)) f p q = absurd p
+plain_bind (Err (BadHead offset)) f p q = tt
+plain_bind (Err (BadLength size)) f p q = tt
+plain_bind (Err Compressed) f p q = tt
+plain_bind (Err Parts) f p q = tt
+plain_bind (Err FileFault) f p q = tt
+plain_bind (Err NoMemory) f p q = tt
+
+model_plain : (field : List ℕ) → IsPlain (model_in field)
+model_plain field = plain_if _ _ _ tt (plain_if _ _ _ tt tt)
+
+rest_plain : (g : Geometry) (field : List ℕ) → IsPlain (rest_in g field)
+rest_plain g field = plain_if _ _ _ (plain_if _ _ _ (plain_if _ _ _ tt tt) tt) tt
+
+head_plain : (field : List ℕ) → IsPlain (head_in field)
+unfolding head_in
+head_plain field =
+    plain_if _ _ _ tt
+    (plain_if _ _ _ (plain_if _ _ _ (plain_bind (model_in field) (λ g. rest_in g field) (model_plain field) (λ g. rest_plain g field)) tt) tt)
+
+layout_plain : (g : Geometry) (size : ℕ) → IsPlain (layout_by g size)
+unfolding layout_by
+layout_plain g size = plain_if _ _ _ tt tt
+
+names_no_track : (all : List ℕ) (t offset : ℕ) → opening all ≡ Err (BadTrack t offset) → ⊥
+names_no_track all t offset is =
+    subst (λ (r : Result Layout ImageFault). IsPlain r) is
+    (plain_bind _ _ (head_plain _) (λ g. layout_plain g _))
+
+-- ---- what was told is found
+
+pub told_on : (file : Option (List ℕ)) (P Q : List ℕ → Type 0) → ((all : List ℕ) → P all → Q all) → Told file P → Told file Q
+told_on None P Q on told = tt
+told_on (Some all) P Q on told = on all told
+
+pub opened : (file : Option (List ℕ)) (l : Layout) → (let r : Result Layout ImageFault = Ok l in TellsOpening file r)
+    → Told file (λ all. opening all ≡ Ok l)
+opened None l told = tt
+opened (Some all) l told = sym told
+
+-- a file that is refused
+pub refused : {A : Type 0} (IsSo : List ℕ → Result A ImageFault → Type 0) (file : Option (List ℕ)) (e : ImageFault)
+    → ((all : List ℕ) → opening all ≡ Err e → IsSo all (Err e)) → (let r : Result Layout ImageFault = Err e in TellsOpening file r)
+    → Finds IsSo file (Err e)
+refused IsSo file FileFault so told = tt
+refused IsSo file NoMemory so told = tt
+refused IsSo None (BadHead offset) so told = tt
+refused IsSo None (BadLength size) so told = tt
+refused IsSo None (BadTrack t offset) so told = tt
+refused IsSo None Compressed so told = tt
+refused IsSo None Parts so told = tt
+refused IsSo (Some all) (BadHead offset) so told = so all (sym told)
+refused IsSo (Some all) (BadLength size) so told = so all (sym told)
+refused IsSo (Some all) (BadTrack t offset) so told = so all (sym told)
+refused IsSo (Some all) Compressed so told = so all (sym told)
+refused IsSo (Some all) Parts so told = so all (sym told)
+
+pub not_opened : (file : Option (List ℕ)) (e : ImageFault) → (let r : Result Layout ImageFault = Err e in TellsOpening file r) → Finds IsOpened file (Err e)
+not_opened file e told = refused IsOpened file e (λ all is. is) told
+
+pub not_checked : (file : Option (List ℕ)) (e : ImageFault) → (let r : Result Layout ImageFault = Err e in TellsOpening file r) → Finds IsChecked file (Err e)
+not_checked file e told =
+    refused IsChecked file e
+    (λ all is. ap (λ (r : Result Layout ImageFault). r >>= (λ l. Ok (faults_in l.geometry (l.cylinders * 15) all))) is) told
+
+held_not : (e : ImageFault) (all : List ℕ) → opening all ≡ Err e → IsHeld all (Err e)
+held_not (BadTrack t offset) all is = absurd (names_no_track all t offset is)
+held_not (BadHead offset) all is = is
+held_not (BadLength size) all is = is
+held_not Compressed all is = is
+held_not Parts all is = is
+held_not FileFault all is = is
+held_not NoMemory all is = is
+
+pub not_held : (file : Option (List ℕ)) (e : ImageFault) → (let r : Result Layout ImageFault = Err e in TellsOpening file r) → Finds IsHeld file (Err e)
+not_held file e told = refused IsHeld file e (held_not e) told
+
+-- a call of the file failed, or memory ran out
+pub early : {A : Type 0} (IsSo : List ℕ → Result A ImageFault → Type 0) (file : Option (List ℕ)) (e : ImageFault) → (e ≡ FileFault) ⊎ (e ≡ NoMemory)
+    → Finds IsSo file (Err e)
+early IsSo file e why = elim why [
+  | inl is ↦ subst (λ (x : ImageFault). Finds IsSo file (Err x)) (sym is) tt
+  | inr is ↦ subst (λ (x : ImageFault). Finds IsSo file (Err x)) (sym is) tt
+]
