@@ -1,5 +1,5 @@
 -- What a task needs is there, and nothing fails: it is done.
-use Rattle.std.proofs.Common.{◌≡◌, ◌⊎◌, inl, inr, ℕ, zero, suc, ◌+◌, ◌*◌, ◌<◌, ◌≤◌, Bool, true, false, List, [], ◌∷◌, ◌++◌, Option, Some, None, Result, Ok, Err, refl, sym, ap, subst, ◌∙◌, arith}
+use Rattle.std.proofs.Common.{◌≡◌, ◌⊎◌, inl, inr, ℕ, zero, suc, ◌+◌, ◌*◌, ◌<◌, ◌≤◌, Bool, true, false, List, [], ◌∷◌, ◌++◌, length, Option, Some, None, Result, Ok, Err, refl, sym, ap, subst, ◌∙◌, arith}
 use Rattle.std.specs.Io.KnownBytes.{Consumes, IsAtEnd}
 use Rattle.std.proofs.lemmas.Bool.{false≢true}
 use Rattle.std.proofs.lemmas.List.{append-nil}
@@ -80,15 +80,15 @@ no_faults : (v : ImageVolume) (all : List ℕ) → IsWhole v → Holds v all →
 no_faults v all w h zero few = refl
 no_faults v all w h (suc n) few =
     let before : n < v.cylinders * 15 = omega (arith, few) in
-    let within = omega (arith, before, w.tracks) in
+    let within : n < length v.images = omega (arith, before, w.tracks) in
     let one : suc n ≡ n + 1 = omega arith in
     ap (λ (k : ℕ). faults_in v.geometry k all) one
     ∙ faults_more v.geometry n all
     ∙ ap (λ (l : List TrackFault). l ++ fault_at v.geometry all n) (no_faults v all w h n (omega (arith, few)))
     ∙ good_track v all n (w.placed n within) (h.tracks n before)
 
-not_one : (f : TrackFault) (xs : List TrackFault) → xs ≡ [] → xs ≡ f ∷ [] → ⊥
-not_one f xs none one = cc
+not_cons : (f : TrackFault) (fs xs : List TrackFault) → xs ≡ [] → xs ≡ f ∷ fs → ⊥
+not_cons f fs xs none some = cc
 
 same_ok : {A : Type 0} (r : Result A ImageFault) (x y : A) → r ≡ Ok x → r ≡ Ok y → x ≡ y
 same_ok r x y p q = cc
@@ -102,7 +102,7 @@ none_bad v all t offset w h bad =
     let within : t < v.cylinders * 15 = subst (λ (l : Layout). t < l.cylinders * 15) same bad.within in
     let first : faults_in v.geometry (t + 1) all ≡ record { track = t; offset = offset } ∷ [] =
     subst (λ (l : Layout). faults_in l.geometry (t + 1) all ≡ record { track = t; offset = offset } ∷ []) same bad.first in
-    not_one _ (faults_in v.geometry (t + 1) all) (no_faults v all w h (t + 1) (omega (arith, within))) first
+    not_cons _ [] (faults_in v.geometry (t + 1) all) (no_faults v all w h (t + 1) (omega (arith, within))) first
 
 -- ---- the volume of a source
 
@@ -171,7 +171,7 @@ module _ (status : ImageStatus) (nr : status ≡ ReadFault → ⊥) (nw : status
   by_found : (all : List ℕ) (found : Result (List TrackFault) ImageFault) → checking all ≡ Ok [] → Finds IsChecked (Some all) found
       → status ≡ check_status found → IsOver status
   by_found all (Ok []) good is so = inl so
-  by_found all (Ok (f ∷ found)) good is so = absurd (not_one f [] refl (same_ok (checking all) [] (f ∷ found) good is))
+  by_found all (Ok (f ∷ found)) good is so = absurd (not_cons f found [] refl (same_ok (checking all) [] (f ∷ found) good is))
   by_found all (Err e) good is so = by_refusal IsChecked all e is (not_both (checking all) [] e good) so
 
   by_check : (all : List ℕ) (held holds : Option (List ℕ)) → checking all ≡ Ok [] → Checks status (Some all) held holds → IsOver status

@@ -1,14 +1,13 @@
 -- What opening a file told.
-use Rattle.std.proofs.Common.{◌≡◌, ◌⊎◌, inl, inr, ℕ, ◌*◌, ◌/◌, ◌-◌, Bool, true, false, cond, List, ⊤, Option, Some, None, Result, Ok, Err, refl, sym, ap, subst, ◌∙◌}
+use Rattle.std.proofs.Common.{◌≡◌, ◌⊎◌, inl, inr, ℕ, ◌*◌, Bool, true, false, cond, List, Option, Some, None, Result, Ok, Err, refl, sym, ap, subst, ◌∙◌}
 use Rattle.ckd_types.specs.declared.geometry.Geometry.{Geometry}
 use Rattle.disk_image.specs.declared.fault.ImageFault.{ImageFault}
 use Rattle.disk_image.specs.declared.fault.ImageFault.TheVariants.{BadHead, BadLength, BadTrack, Compressed, FileFault, NoMemory, Parts}
 use Rattle.disk_image.specs.declared.layout.Layout.{Layout}
-use Rattle.disk_image.specs.declared.volume.TrackFault.{TrackFault}
 use Rattle.disk_image.specs.Image.{TellsOpening}
 use Rattle.disk_image.specs.Opening.{◌>>=◌, head_in, layout_by, model_in, opening, rest_in}
 use Rattle.disk_image.specs.Volume.{Told, faults_in}
-use Rattle.image_tool.specs.Reading.{Finds, IsChecked, IsHeld, IsOpened, checking}
+use Rattle.image_tool.specs.Reading.{Finds, IsChecked, IsHeld, IsOpened}
 
 -- ---- no opening names a track
 

@@ -1,6 +1,10 @@
 -- What was found in a file is told.
-use Rattle.std.proofs.Common.{◌≡◌, ◌⊎◌, inl, inr, ℕ, ◌+◌, ◌*◌, ◌<◌, List, [], ◌∷◌, ⊤, Option, Some, None, Result, Ok, Err, refl, sym, ap, subst, ◌∙◌}
+use Rattle.std.proofs.Common.{◌≡◌, ◌⊎◌, inl, inr, ℕ, ◌+◌, ◌*◌, ◌<◌, Bool, true, false, List, [], ◌∷◌, length, Option, Some, None, Result, Ok, Err, refl, sym, ap, subst, ◌∙◌}
+use Rattle.std.specs.Prelude.{◌==◌}
+use Rattle.std.specs.List.{flat_map}
 use Rattle.std.specs.Io.KnownBytes.{Appends}
+use Rattle.std.proofs.lemmas.Bool.{eqb-true, false≢true}
+use Rattle.std.proofs.lemmas.List.{nil_from_length}
 use Rattle.std.proofs.KnownBytes.{Appends-nil}
 use Rattle.ckd_types.specs.declared.geometry.Geometry.{Geometry}
 use Rattle.disk_image.specs.declared.fault.ImageFault.{ImageFault}
@@ -12,10 +16,13 @@ use Rattle.disk_image.specs.Opening.{◌>>=◌, opening}
 use Rattle.disk_image.specs.Volume.{Holds, HasTracks, TellsBad, Told, faults_in, layout_of}
 use Rattle.volume_file.specs.File.{ImageVolume, IsWhole}
 use Rattle.image_tool.specs.declared.status.ImageStatus.{ImageStatus}
-use Rattle.image_tool.specs.declared.status.ImageStatus.TheVariants.{Done, NoMemory, WriteFault}
+use Rattle.image_tool.specs.declared.status.ImageStatus.TheVariants.{BadTracks, Done, NoMemory}
 use Rattle.image_tool.specs.Reading.{Checks, Finds, IsChecked, IsFirstBad, IsHeld, Shows, checking, found_status, refused_by}
-use Rattle.image_tool.specs.Texts.{fault_text, found_text}
+use Rattle.image_tool.specs.Texts.{fault_text, found_text, good_text, track_text}
 use Rattle.image_tool.specs.Written.{IsWritten}
+
+none_cons : (f : TrackFault) (found : List TrackFault) → f ∷ found ≡ [] → ⊥
+none_cons f found is = cc
 
 -- ---- a check
 
@@ -94,7 +101,13 @@ module _ (text : ImageVolume → List ℕ) (status : ImageStatus) (file held hol
 
 -- ---- bad tracks or none
 
-pub none_written : (found : List TrackFault) (status : ImageStatus) (held holds : Option (List ℕ)) → found ≡ []
-    → IsWritten status (found_status []) held holds (found_text []) → IsWritten status (found_status found) held holds (found_text found)
-none_written found status held holds none written =
-    subst (λ (x : List TrackFault). IsWritten status (found_status x) held holds (found_text x)) (sym none) written
+pub none_written : (found : List TrackFault) (b : Bool) (status : ImageStatus) (held holds : Option (List ℕ)) → b ≡ (length found == 0) → b ≡ true
+    → IsWritten status Done held holds good_text → IsWritten status (found_status found) held holds (found_text found)
+none_written [] b status held holds is yes written = written
+none_written (f ∷ found) b status held holds is yes written =
+    absurd (none_cons f found (nil_from_length (f ∷ found) (eqb-true (length (f ∷ found)) 0 (sym is ∙ yes))))
+
+pub some_written : (found : List TrackFault) (b : Bool) (status : ImageStatus) (held holds : Option (List ℕ)) → b ≡ (length found == 0) → b ≡ false
+    → IsWritten status BadTracks held holds (flat_map track_text found) → IsWritten status (found_status found) held holds (found_text found)
+some_written [] b status held holds is no written = absurd (false≢true (sym no ∙ is))
+some_written (f ∷ found) b status held holds is no written = written

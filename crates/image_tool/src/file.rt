@@ -51,29 +51,44 @@ impl DiskFile for NoFile {
     }
 }
 
-/// How a task's file is opened.
-fn options_for(task: Task) -> OpenOptions {
-    let mut options = OpenOptions::new();
+/// Whether a task writes its file.
+fn is_written(task: Task) -> bool {
     match task {
-        Task::New { .. } => options.read(true).write(true).create(true),
-        Task::FromVolume => options.read(true).write(true),
-        Task::Check | Task::List | Task::ToVolume => options.read(true),
-    };
-    options
+        Task::New { .. } | Task::FromVolume => true,
+        Task::Check | Task::List | Task::ToVolume => false,
+    }
+}
+
+/// Whether its file may be one that isn't there.
+fn is_made(task: Task) -> bool {
+    match task {
+        Task::New { .. } => true,
+        _ => false,
+    }
 }
 
 /// Holds a file against other processes: alone where it is written, and against those that write where it is read.
-fn is_locked(task: Task, file: &File) -> bool {
-    match task {
-        Task::New { .. } | Task::FromVolume => file.try_lock().is_ok(),
-        Task::Check | Task::List | Task::ToVolume => file.try_lock_shared().is_ok(),
+fn is_held(task: Task, file: &File) -> bool {
+    if is_written(task) {
+        file.try_lock().is_ok()
+    } else {
+        file.try_lock_shared().is_ok()
     }
 }
 
 /// The file of a task, where it can be opened, and no other process holds it.
 pub fn open_for(rt: &HostRuntime, task: Task, path: &str) -> Option<File> {
-    match options_for(task).open(rt, path) {
-        Ok(file) if is_locked(task, &file) => Some(file),
-        _ => None,
+    let mut options = OpenOptions::new();
+    options
+        .read(true)
+        .write(is_written(task))
+        .create(is_made(task));
+    let Ok(file) = options.open(rt, path) else {
+        return None;
+    };
+    if is_held(task, &file) {
+        Some(file)
+    } else {
+        None
     }
 }

@@ -42,8 +42,14 @@ fn run<F: DiskFile>(rt: &HostRuntime, words: &[&str], file: &mut F) -> ExitCode 
 fn serve(rt: &HostRuntime, arguments: Option<&[&str]>) -> ExitCode {
     let words = words_of(arguments);
     match file_of(rt, words) {
-        Some(file) => run(rt, words, &mut StdFile::new(file)),
-        None => run(rt, words, &mut NoFile::new()),
+        Some(file) => {
+            let mut file = StdFile::new(file);
+            run(rt, words, &mut file)
+        }
+        None => {
+            let mut file = NoFile::new();
+            run(rt, words, &mut file)
+        }
     }
 }
 
