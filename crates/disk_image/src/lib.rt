@@ -19,7 +19,7 @@ pub use creating::create;
 pub use fault::ImageFault;
 pub use file::DiskFile;
 pub use image::DiskImage;
-pub use laws::tracks_fit;
+pub use laws::{held_once, tracks_fit};
 pub use layout::{Layout, place_of, room_size};
 pub use opening::open_image;
 pub use room::{TrackRoom, read_room, write_room};

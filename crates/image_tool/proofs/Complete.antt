@@ -1,27 +1,22 @@
 -- What a task needs is there, and nothing fails: it is done.
 use Rattle.std.proofs.Common.{◌≡◌, ◌⊎◌, inl, inr, ℕ, zero, suc, ◌+◌, ◌*◌, ◌<◌, ◌≤◌, Bool, true, false, List, [], ◌∷◌, ◌++◌, length, Option, Some, None, Result, Ok, Err, refl, sym, ap, subst, ◌∙◌, arith}
+use Rattle.ckd_types.specs.declared.geometry.Geometry.{Geometry}
 use Rattle.std.specs.Io.KnownBytes.{Consumes, IsAtEnd}
 use Rattle.std.proofs.lemmas.Bool.{false≢true}
 use Rattle.std.proofs.lemmas.List.{append-nil}
-use Rattle.ckd_types.specs.declared.geometry.Geometry.{Geometry}
-use Rattle.ckd_types.specs.declared.geometry.Cchh.{Cchh}
-use Rattle.ckd_types.specs.Geometry.{cchh_of}
-use Rattle.ckd_types.specs.Track.{track_bytes}
-use Rattle.track_image.specs.Reading.{reading}
-use Rattle.track_image.proofs.Tracks.{reading_again}
 use Rattle.disk_image.specs.declared.fault.ImageFault.{ImageFault}
 use Rattle.disk_image.specs.declared.fault.ImageFault.TheVariants as faults
 use Rattle.disk_image.specs.declared.layout.Layout.{Layout}
 use Rattle.disk_image.specs.declared.volume.TrackFault.{TrackFault}
-use Rattle.disk_image.specs.File.{place_of, track_in}
 use Rattle.disk_image.specs.Opening.{opening}
-use Rattle.disk_image.specs.Volume.{Holds, Told, fault_at, fault_by, faults_in, layout_of}
+use Rattle.disk_image.specs.Volume.{Holds, Told, fault_at, faults_in, layout_of}
 use Rattle.disk_image.proofs.Found.{faults_more}
+use Rattle.disk_image.proofs.Once.{good_track}
 use Rattle.volume_file.specs.declared.fault.LoadFault.{LoadFault}
 use Rattle.volume_file.specs.declared.fault.LoadFault.TheVariants as loads
 use Rattle.volume_file.specs.Answers.{TellsFault}
 use Rattle.volume_texts.specs.List.{list_text}
-use Rattle.volume_file.specs.File.{ImageVolume, IsPlaced, IsWhole, file_of, image_in}
+use Rattle.volume_file.specs.File.{ImageVolume, IsWhole, file_of}
 use Rattle.volume_file.specs.Loading.{loading}
 use Rattle.volume_file.proofs.ReadSo.{not_refused}
 use Rattle.volume_file.proofs.Through.{loads_back}
@@ -64,17 +59,6 @@ use Rattle.image_tool.specs.Written.{IsWritten, Outside}
 use Rattle.image_tool.proofs.Stored.{self_alike}
 
 -- ---- no track of an image that holds a volume is bad
-
-good_track : (v : ImageVolume) (all : List ℕ) (t : ℕ) → IsPlaced v.geometry t (image_in v t) → track_in v.geometry all t ≡ track_bytes (image_in v t).track
-    → fault_at v.geometry all t ≡ []
-good_track v all t p is =
-    let i = image_in v t in
-    let read : reading v.geometry (cchh_of t) (track_in v.geometry all t) ≡ Ok i.track =
-    ap (reading v.geometry (cchh_of t)) is
-    ∙ ap (λ (g : Geometry). reading g (cchh_of t) (track_bytes i.track)) (sym p.model)
-    ∙ ap (λ (x : Cchh). reading i.geometry x (track_bytes i.track)) (sym p.home)
-    ∙ reading_again i.geometry i.track p.fits in
-    ap (fault_by t (place_of v.geometry t)) read
 
 no_faults : (v : ImageVolume) (all : List ℕ) → IsWhole v → Holds v all → (n : ℕ) → n ≤ v.cylinders * 15 → faults_in v.geometry n all ≡ []
 no_faults v all w h zero few = refl
