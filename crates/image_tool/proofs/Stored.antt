@@ -14,15 +14,15 @@ use Rattle.disk_image.specs.Volume.{Holds, Told, layout_of}
 use Rattle.volume_file.specs.File.{ImageVolume}
 use Rattle.image_tool.specs.declared.status.ImageStatus.{ImageStatus}
 use Rattle.image_tool.specs.Reading.{refused_by}
-use Rattle.image_tool.specs.Storing.{HasVolume, StoredBy, StoresWhole, TellsGiven, is_alike, is_same_model}
+use Rattle.image_tool.specs.Storing.{HasVolume, StoredBy, StoresWhole, TellsGiven, TellsNew, is_alike, is_same_model}
 use Rattle.image_tool.specs.Written.{Outside}
 
 -- ---- a new image
 
-pub no_bytes : (file now : Option (List ℕ)) (size : ℕ) → now ≡ file → IsLong file size → size ≡ 0 → IsEmpty now
-no_bytes None now size same long none = subst IsEmpty (sym same) tt
-no_bytes (Some []) now size same long none = subst IsEmpty (sym same) refl
-no_bytes (Some (b ∷ bytes)) now size same long none = absurd (omega (arith, long, none))
+pub no_bytes : (file : Option (List ℕ)) (size : ℕ) → IsLong file size → size ≡ 0 → IsEmpty file
+no_bytes None size long none = tt
+no_bytes (Some []) size long none = refl
+no_bytes (Some (b ∷ bytes)) size long none = absurd (omega (arith, long, none))
 
 pub some_bytes : (file : Option (List ℕ)) (size : ℕ) → IsLong file size → 0 < size → Told file (λ all. all ≢ [])
 some_bytes None size long some = tt
@@ -98,3 +98,11 @@ opened_as file l k same opens = subst (λ (x : Layout). Told file (λ all. openi
 
 pub opened_now : (file now : Option (List ℕ)) (l : Layout) → now ≡ file → Told file (λ all. opening all ≡ Ok l) → Told now (λ all. opening all ≡ Ok l)
 opened_now file now l same opens = subst (λ (h : Option (List ℕ)). Told h (λ all. opening all ≡ Ok l)) (sym same) opens
+
+pub long_now : (file now : Option (List ℕ)) (size : ℕ) → now ≡ file → IsLong file size → IsLong now size
+long_now file now size same long = subst (λ (h : Option (List ℕ)). IsLong h size) (sym same) long
+
+pub new_on : (status : ImageStatus) (g : Geometry) (cylinders : ℕ) (file now files held holds : Option (List ℕ)) → now ≡ file
+    → TellsNew status g cylinders now files held holds → TellsNew status g cylinders file files held holds
+new_on status g cylinders file now files held holds same told =
+    subst (λ (h : Option (List ℕ)). TellsNew status g cylinders h files held holds) same told

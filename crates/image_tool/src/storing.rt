@@ -1,5 +1,6 @@
 ghost use Rattle.std.specs.Prelude.{◌≡◌, ◌≢◌, ◌≤◌, ◌*◌, IsErrOf, Ok, OnOk};
 ghost use Rattle.ckd_outside.specs.Causes.{Rose};
+ghost use Rattle.disk_image.specs.Calls.{IsLong};
 ghost use Rattle.disk_image.specs.Image.{HasEmpty, IsEmpty, IsLayoutOf};
 ghost use Rattle.disk_image.specs.Opening.{opening};
 ghost use Rattle.disk_image.specs.Volume.{Told, layout_of};
@@ -78,6 +79,28 @@ fn make<F: DiskFile>(
     }
 }
 
+/// Makes an image of a file of so many bytes, if these are none.
+fn make_new<K: Sink, F: DiskFile>(
+    alloc: Global,
+    geometry: Geometry,
+    cylinders: u8,
+    size: u64,
+    sink: &mut K,
+    file: &mut F,
+) -> ImageStatus
+    requires long { IsLong (F.held file.old) size }
+    requires most { cylinders ≤ 64 }
+    ensures told { TellsNew result geometry cylinders (F.held file.old) (F.held file.new) (K.held sink.old) (K.held sink.new) }
+    ensures write { result ≡ ImageStatus.WriteFault → Rose (K.faults sink.old) (K.faults sink.new) }
+    ensures read { result ≢ ImageStatus.ReadFault }
+    ensures file { result ≡ ImageStatus.FileFault → Rose (F.faults file.old) (F.faults file.new) }
+{
+    if size > 0 {
+        return full(sink);
+    }
+    make(alloc, file, geometry, cylinders)
+}
+
 /// Makes an image of a file, if that has no bytes.
 pub(crate) fn serve_new<K: Sink, F: DiskFile>(
     alloc: Global,
@@ -92,13 +115,10 @@ pub(crate) fn serve_new<K: Sink, F: DiskFile>(
     ensures read { result ≢ ImageStatus.ReadFault }
     ensures file { result ≡ ImageStatus.FileFault → Rose (F.faults file.old) (F.faults file.new) }
 {
-    let Ok(size) = file.len() else {
-        return ImageStatus::FileFault;
-    };
-    if size > 0 {
-        return full(sink);
+    match file.len() {
+        Ok(size) => make_new(alloc, geometry, cylinders, size, sink, file),
+        Err(_) => ImageStatus::FileFault,
     }
-    make(alloc, file, geometry, cylinders)
 }
 
 fn is_same_model(a: Geometry, b: Geometry) -> bool
