@@ -206,9 +206,11 @@ bad_one (Some all) held g n t offset same is so told =
 pub bad_first : (first held : Option (List ℕ)) (l : Layout) (n t : ℕ) (e : ImageFault) → held ≡ first → t ≡ n → n < l.cylinders * 15
     → Told first (λ all. faults_in l.geometry n all ≡ []) → TellsTrack held l.geometry t e → TellsBad first l e
 bad_first first held l n t (BadTrack u offset) same is less so told =
-    let less_u : u < l.cylinders * 15 = omega (arith, told.0, is, less) in
-    (less_u, bad_one first held l.geometry n u offset same (told.0 ∙ is) so
-    (subst (λ (k : ℕ). Told held (λ all. fault_at l.geometry all k ≡ record { track = k; offset = offset } ∷ [])) (sym told.0) told.1))
+    let less_u : u < l.cylinders * 15 = omega (arith, told.0, is, less) in (
+      less_u,
+      bad_one first held l.geometry n u offset same (told.0 ∙ is) so
+          (subst (λ (k : ℕ). Told held (λ all. fault_at l.geometry all k ≡ record { track = k; offset = offset } ∷ [])) (sym told.0) told.1),
+    )
 bad_first first held l n t NoMemory same is less so told = tt
 bad_first first held l n t FileFault same is less so told = tt
 bad_first first held l n t (BadHead offset) same is less so told = absurd told

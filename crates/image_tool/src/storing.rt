@@ -60,12 +60,7 @@ fn create_whole<F: DiskFile>(
 }
 
 /// Makes an image of a file without bytes.
-fn make<F: DiskFile>(
-    alloc: Global,
-    file: &mut F,
-    geometry: Geometry,
-    cylinders: u8,
-) -> ImageStatus
+fn make<F: DiskFile>(alloc: Global, file: &mut F, geometry: Geometry, cylinders: u8) -> ImageStatus
     requires empty { IsEmpty (F.held file.old) }
     requires most { cylinders ≤ 64 }
     ensures made { MadeBy result geometry cylinders (F.held file.new) }

@@ -47,11 +47,7 @@ impl Spelling<TrackFault> for TrackSpelling {
     ghost text = { track_text };
 
     #[tactic(auto, unfolding(crate::specs::Texts::track_text))]
-    fn put<K: Sink>(
-        sink: &mut K,
-        buffer: &mut LineBuffer,
-        it: &TrackFault,
-    ) -> Result<(), Failed> {
+    fn put<K: Sink>(sink: &mut K, buffer: &mut LineBuffer, it: &TrackFault) -> Result<(), Failed> {
         let pieces = [
             Piece::Text(b"bad image track "),
             Piece::Number(u64::from(it.track.get())),
@@ -139,5 +135,10 @@ pub(crate) fn write_usage<K: Sink>(sink: &mut K) -> Result<(), Failed>
     ensures bytes { Writes (K.held sink.old) (K.held sink.new) result usage_text }
     ensures cause { HasCause (K.faults sink.old) (K.faults sink.new) result }
 {
-    write_line(sink, &[Piece::Text(b"usage: new 3390|3380 C FILE, check FILE, list FILE, to-volume FILE, from-volume FILE\n")])
+    write_line(
+        sink,
+        &[Piece::Text(
+            b"usage: new 3390|3380 C FILE, check FILE, list FILE, to-volume FILE, from-volume FILE\n",
+        )],
+    )
 }

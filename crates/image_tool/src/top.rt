@@ -50,10 +50,12 @@ fn serve<S: Source, K: Sink, F: DiskFile>(
     ensures file { result ≡ ImageStatus.FileFault → Rose (F.faults file.old) (F.faults file.new) }
 {
     match task_of(words) {
-        Some(Task::New {
-            geometry,
-            cylinders,
-        }) => serve_new(alloc, geometry, cylinders, sink, file),
+        Some(
+            Task::New {
+                geometry,
+                cylinders,
+            },
+        ) => serve_new(alloc, geometry, cylinders, sink, file),
         Some(Task::Check) => serve_check(alloc, sink, file),
         Some(Task::List) => serve_list(alloc, sink, file),
         Some(Task::ToVolume) => serve_to_volume(alloc, sink, file),
