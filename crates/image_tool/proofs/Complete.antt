@@ -144,13 +144,13 @@ module _ (status : ImageStatus) (nr : status ≡ ReadFault → ⊥) (nw : status
 
   by_refusal : {A : Type 0} (IsSo : List ℕ → Result A ImageFault → Type 0) (all : List ℕ) (e : ImageFault) → Finds IsSo (Some all) (Err e)
       → (IsSo all (Err e) → ⊥) → status ≡ refused_by e → IsOver status
-  by_refusal IsSo all faults.FileFault is no so = absurd (nf so)
-  by_refusal IsSo all faults.NoMemory is no so = inr so
-  by_refusal IsSo all (faults.BadHead offset) is no so = absurd (no is)
-  by_refusal IsSo all (faults.BadLength size) is no so = absurd (no is)
-  by_refusal IsSo all (faults.BadTrack t offset) is no so = absurd (no is)
-  by_refusal IsSo all faults.Compressed is no so = absurd (no is)
-  by_refusal IsSo all faults.Parts is no so = absurd (no is)
+  by_refusal IsSo all faults.FileFault is never so = absurd (nf so)
+  by_refusal IsSo all faults.NoMemory is never so = inr so
+  by_refusal IsSo all (faults.BadHead offset) is never so = absurd (never is)
+  by_refusal IsSo all (faults.BadLength size) is never so = absurd (never is)
+  by_refusal IsSo all (faults.BadTrack t offset) is never so = absurd (never is)
+  by_refusal IsSo all faults.Compressed is never so = absurd (never is)
+  by_refusal IsSo all faults.Parts is never so = absurd (never is)
 
   by_found : (all : List ℕ) (found : Result (List TrackFault) ImageFault) → checking all ≡ Ok [] → Finds IsChecked (Some all) found
       → status ≡ check_status found → IsOver status

@@ -103,11 +103,11 @@ module _ (text : ImageVolume → List ℕ) (status : ImageStatus) (file held hol
 
 pub none_written : (found : List TrackFault) (b : Bool) (status : ImageStatus) (held holds : Option (List ℕ)) → b ≡ (length found == 0) → b ≡ true
     → IsWritten status Done held holds good_text → IsWritten status (found_status found) held holds (found_text found)
-none_written [] b status held holds is yes written = written
-none_written (f ∷ found) b status held holds is yes written =
-    absurd (none_cons f found (nil_from_length (f ∷ found) (eqb-true (length (f ∷ found)) 0 (sym is ∙ yes))))
+none_written [] b status held holds is empty written = written
+none_written (f ∷ found) b status held holds is empty written =
+    absurd (none_cons f found (nil_from_length (f ∷ found) (eqb-true (length (f ∷ found)) 0 (sym is ∙ empty))))
 
 pub some_written : (found : List TrackFault) (b : Bool) (status : ImageStatus) (held holds : Option (List ℕ)) → b ≡ (length found == 0) → b ≡ false
     → IsWritten status BadTracks held holds (flat_map track_text found) → IsWritten status (found_status found) held holds (found_text found)
-some_written [] b status held holds is no written = absurd (false≢true (sym no ∙ is))
-some_written (f ∷ found) b status held holds is no written = written
+some_written [] b status held holds is more written = absurd (false≢true (sym more ∙ is))
+some_written (f ∷ found) b status held holds is more written = written

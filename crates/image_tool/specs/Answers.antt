@@ -42,7 +42,7 @@ code_of BadTracks = 8
 code_of (BadVolume fault) = 8
 code_of FileFault = 9
 
-abbrev pub task_by : List ℕ → Option Task
+unfoldable pub task_by : List ℕ → Option Task
 task_by word =
     if bytes_eq word (codes "check") then Some tasks.Check
     else if bytes_eq word (codes "list") then Some tasks.List
@@ -58,7 +58,7 @@ new_of None n = None
 new_of (Some g) None = None
 new_of (Some g) (Some n) = Some (tasks.New g n)
 
-abbrev pub new_by : List ℕ → List ℕ → List ℕ → Option Task
+unfoldable pub new_by : List ℕ → List ℕ → List ℕ → Option Task
 new_by word model cylinders = if bytes_eq word (codes "new") then new_of (model_by model) (number_in 1 64 cylinders) else None
 
 -- a word and a file name a task, or a word, a model, a number and a file

@@ -49,7 +49,7 @@ pub(crate) fn refuse<K: Sink>(sink: &mut K, fault: ImageFault) -> ImageStatus
     ensures read { result ≢ ImageStatus.ReadFault }
     ensures file { result ≡ ImageStatus.FileFault → fault ≡ ImageFault.FileFault }
 {
-    match write_fault(sink, fault) {
+    match write_fault(sink, &fault) {
         Ok(()) => refused_by(fault),
         Err(_) => ImageStatus::WriteFault,
     }

@@ -22,6 +22,7 @@ pub enum Task {
 /// The most cylinders of a volume.
 const MOST_CYLINDERS: u64 = 64;
 
+#[tactic(auto, unfolding(crate::specs::Answers::task_by))]
 fn task_by(word: &str) -> Option<Task>
     ensures task { result ≡ task_by word.now }
     ensures small { IfSome result (λ task. IsSmall task) }
@@ -68,6 +69,7 @@ fn new_of(model: Option<Geometry>, cylinders: Option<u64>) -> Option<Task>
     }
 }
 
+#[tactic(auto, unfolding(crate::specs::Answers::new_by))]
 fn new_by(word: &str, model: &str, cylinders: &str) -> Option<Task>
     ensures task { result ≡ new_by word.now model.now cylinders.now }
     ensures small { IfSome result (λ task. IsSmall task) }

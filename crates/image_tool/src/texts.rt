@@ -60,11 +60,11 @@ impl Spelling<TrackFault> for TrackSpelling {
 }
 
 /// Tells why a file is refused. Of a call that failed, and of want of memory, nothing is told.
-pub(crate) fn write_fault<K: Sink>(sink: &mut K, fault: ImageFault) -> Result<(), Failed>
-    ensures bytes { Writes (K.held sink.old) (K.held sink.new) result (fault_text fault) }
+pub(crate) fn write_fault<K: Sink>(sink: &mut K, fault: &ImageFault) -> Result<(), Failed>
+    ensures bytes { Writes (K.held sink.old) (K.held sink.new) result (fault_text fault.now) }
     ensures cause { HasCause (K.faults sink.old) (K.faults sink.new) result }
 {
-    match fault {
+    match *fault {
         ImageFault::BadHead { offset } => write_number(sink, b"head offset", u64::from(offset)),
         ImageFault::BadLength { size } => write_number(sink, b"length", size),
         ImageFault::Compressed => write_word(sink, b"compressed"),
