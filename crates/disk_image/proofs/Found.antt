@@ -45,10 +45,11 @@ use Rattle.track_image.specs.Reading.{reading}
 use Rattle.volume_file.specs.File.{ImageVolume, empty_image, image_in}
 use Rattle.disk_image.specs.declared.fault.ImageFault.{ImageFault}
 use Rattle.disk_image.specs.declared.fault.ImageFault.TheVariants.{BadHead, BadLength, BadTrack, Compressed, FileFault, NoMemory, Parts}
+use Rattle.disk_image.specs.declared.layout.Layout.{Layout}
 use Rattle.disk_image.specs.declared.volume.TrackFault.{TrackFault}
 use Rattle.disk_image.specs.Calls.{IsRoom}
 use Rattle.disk_image.specs.File.{place_of, track_in, track_in_room}
-use Rattle.disk_image.specs.Volume.{HasTracks, IsFault, Notes, TellsBad, Told, TellsTrack, fault_at, fault_by, faults_by, faults_in}
+use Rattle.disk_image.specs.Volume.{HasTracks, IsFault, IsHanded, Notes, TellsBad, Told, TellsTrack, fault_at, fault_by, faults_by, faults_in}
 
 -- what is so of the bytes in a room is so of the track in the file
 told_at : (held : Option (List ℕ)) (g : Geometry) (t : ℕ) (room bytes : List ℕ) (P : List ℕ → Type 0) → IsRoom held g t room
@@ -137,18 +138,6 @@ fault_noted held g t (BadLength size) xs ys told noted = absurd noted
 fault_noted held g t Compressed xs ys told noted = absurd noted
 fault_noted held g t Parts xs ys told noted = absurd noted
 
--- a bad track in a file that is as it was
-pub bad_first : (first held : Option (List ℕ)) (g : Geometry) (t : ℕ) (e : ImageFault) → held ≡ first → TellsTrack held g t e → TellsBad first g e
-bad_first first held g t (BadTrack u offset) same told =
-    subst (λ (h : Option (List ℕ)). Told h (λ all. fault_at g all u ≡ record { track = u; offset = offset } ∷ [])) same
-    (subst (λ (k : ℕ). Told held (λ all. fault_at g all k ≡ record { track = k; offset = offset } ∷ [])) (sym told.0) told.1)
-bad_first first held g t NoMemory same told = tt
-bad_first first held g t FileFault same told = tt
-bad_first first held g t (BadHead offset) same told = absurd told
-bad_first first held g t (BadLength size) same told = absurd told
-bad_first first held g t Compressed same told = absurd told
-bad_first first held g t Parts same told = absurd told
-
 -- the same, where the file is as it was
 pub tracks_push : (first held : Option (List ℕ)) (v w : ImageVolume) (g : Geometry) (n t : ℕ) (i : Image) → held ≡ first → t ≡ n
     → w ≡ record v { images = set v.images t i } → n < length v.images → v.geometry ≡ g → Told first (HasTracks v n)
@@ -164,7 +153,7 @@ range_push n =
     ∙ map-range_with_len_more (λ (x : ℕ). x) 0 n n (omega arith)
     ∙ ap (λ (l : List ℕ). l ++ n ∷ []) (map-id (range_with_len 0 n))
 
-faults_more : (g : Geometry) (n : ℕ) (all : List ℕ) → faults_in g (n + 1) all ≡ faults_in g n all ++ fault_at g all n
+pub faults_more : (g : Geometry) (n : ℕ) (all : List ℕ) → faults_in g (n + 1) all ≡ faults_in g n all ++ fault_at g all n
 faults_more g n all =
     ap (flat_map (fault_at g all)) (range_push n)
     ∙ flat_map-append (fault_at g all) (range_with_len 0 n) (n ∷ [])
@@ -188,3 +177,69 @@ no_faults (Some all) g xs none = none
 pub no_tracks : (held : Option (List ℕ)) (v : ImageVolume) → Told held (HasTracks v 0)
 no_tracks None v = tt
 no_tracks (Some all) v = λ t less. absurd (omega (arith, less))
+
+-- no track so far is bad
+pub good_push : (first held : Option (List ℕ)) (g : Geometry) (n t : ℕ) → held ≡ first → t ≡ n → Told first (λ all. faults_in g n all ≡ [])
+    → Told held (λ all. fault_at g all t ≡ []) → Told first (λ all. faults_in g (n + 1) all ≡ [])
+good_push None held g n t same is so good = tt
+good_push (Some all) held g n t same is so good =
+    let here : fault_at g all t ≡ [] = subst (λ (h : Option (List ℕ)). Told h (λ x. fault_at g x t ≡ [])) same good in
+    faults_more g n all
+    ∙ ap (λ (l : List TrackFault). l ++ fault_at g all n) so
+    ∙ subst (λ (k : ℕ). fault_at g all k ≡ []) is here
+
+pub none_bad : (held : Option (List ℕ)) (g : Geometry) → Told held (λ all. faults_in g 0 all ≡ [])
+none_bad None g = tt
+none_bad (Some all) g = refl
+
+bad_one : (first held : Option (List ℕ)) (g : Geometry) (n t offset : ℕ) → held ≡ first → t ≡ n → Told first (λ all. faults_in g n all ≡ [])
+    → Told held (λ all. fault_at g all t ≡ record { track = t; offset = offset } ∷ [])
+    → Told first (λ all. faults_in g (t + 1) all ≡ record { track = t; offset = offset } ∷ [])
+bad_one None held g n t offset same is so told = tt
+bad_one (Some all) held g n t offset same is so told =
+    let here : fault_at g all t ≡ record { track = t; offset = offset } ∷ [] =
+    subst (λ (h : Option (List ℕ)). Told h (λ x. fault_at g x t ≡ record { track = t; offset = offset } ∷ [])) same told in
+    let none : faults_in g t all ≡ [] = ap (λ (k : ℕ). faults_in g k all) is ∙ so in
+    faults_more g t all ∙ ap (λ (l : List TrackFault). l ++ fault_at g all t) none ∙ here
+
+-- the first bad track of a file that is as it was
+pub bad_first : (first held : Option (List ℕ)) (l : Layout) (n t : ℕ) (e : ImageFault) → held ≡ first → t ≡ n → n < l.cylinders * 15
+    → Told first (λ all. faults_in l.geometry n all ≡ []) → TellsTrack held l.geometry t e → TellsBad first l e
+bad_first first held l n t (BadTrack u offset) same is less so told =
+    let less_u : u < l.cylinders * 15 = omega (arith, told.0, is, less) in (
+      less_u,
+      bad_one first held l.geometry n u offset same (told.0 ∙ is) so
+          (subst (λ (k : ℕ). Told held (λ all. fault_at l.geometry all k ≡ record { track = k; offset = offset } ∷ [])) (sym told.0) told.1),
+    )
+bad_first first held l n t NoMemory same is less so told = tt
+bad_first first held l n t FileFault same is less so told = tt
+bad_first first held l n t (BadHead offset) same is less so told = absurd told
+bad_first first held l n t (BadLength size) same is less so told = absurd told
+bad_first first held l n t Compressed same is less so told = absurd told
+bad_first first held l n t Parts same is less so told = absurd told
+
+-- a fault that isn't that of a track
+pub handed_on : (e : ImageFault) → ((t offset : ℕ) → e ≡ BadTrack t offset → ⊥) → IsHanded e e
+handed_on (BadTrack t offset) other = absurd (other t offset refl)
+handed_on NoMemory other = refl
+handed_on FileFault other = refl
+handed_on (BadHead offset) other = refl
+handed_on (BadLength size) other = refl
+handed_on Compressed other = refl
+handed_on Parts other = refl
+
+early_by : (held : Option (List ℕ)) (g : Geometry) (t : ℕ) (fault e : ImageFault) → TellsTrack held g t fault → IsHanded fault e
+    → (e ≡ FileFault) ⊎ (e ≡ NoMemory)
+early_by held g t (BadTrack u offset) e told is = inr is
+early_by held g t NoMemory e told is = inr is
+early_by held g t FileFault e told is = inl is
+early_by held g t (BadHead offset) e told is = absurd told
+early_by held g t (BadLength size) e told is = absurd told
+early_by held g t Compressed e told is = absurd told
+early_by held g t Parts e told is = absurd told
+
+-- what is left of a track's fault once that was noted
+pub early_handed : (held : Option (List ℕ)) (g : Geometry) (t : ℕ) (fault : ImageFault) (A : Type 0) (r : Result A ImageFault) → TellsTrack held g t fault
+    → IfErr r (λ e. IsHanded fault e) → IfErr r (λ e. (e ≡ FileFault) ⊎ (e ≡ NoMemory))
+early_handed held g t fault A (Ok x) told is = tt
+early_handed held g t fault A (Err e) told is = early_by held g t fault e told is

@@ -8,3 +8,4 @@ pub mod Created
 pub mod Views
 pub mod Found
 pub mod StoredTracks
+pub mod Once

@@ -70,9 +70,15 @@ abbrev pub Notes : ImageFault → List TrackFault → List TrackFault → Type 0
 Notes (BadTrack u offset) xs ys = ys ≡ xs ++ record { track = u; offset = offset } ∷ []
 Notes _ xs ys = ⊥
 
--- why the tracks of a file are no volume
-abbrev pub TellsBad : Option (List ℕ) → Geometry → ImageFault → Type 0
-TellsBad held g (BadTrack t offset) = Told held (λ all. fault_at g all t ≡ record { track = t; offset = offset } ∷ [])
-TellsBad held g FileFault = ⊤
-TellsBad held g NoMemory = ⊤
-TellsBad held g _ = ⊥
+-- one fault is handed on, unless it is that of a track, which leaves want of memory alone
+abbrev pub IsHanded : ImageFault → ImageFault → Type 0
+IsHanded (BadTrack t offset) e = e ≡ NoMemory
+IsHanded fault e = e ≡ fault
+
+-- why the tracks of a file of this layout are no volume: the first of them that is bad
+abbrev pub TellsBad : Option (List ℕ) → Layout → ImageFault → Type 0
+TellsBad held l (BadTrack t offset) =
+    (t < l.cylinders * 15) × Told held (λ all. faults_in l.geometry (t + 1) all ≡ record { track = t; offset = offset } ∷ [])
+TellsBad held l FileFault = ⊤
+TellsBad held l NoMemory = ⊤
+TellsBad held l _ = ⊥

@@ -4,7 +4,7 @@ ghost use Rattle.ckd_outside.specs.Causes.{Rose};
 ghost use Rattle.volume_file.specs.File.{IsPlaced};
 ghost use Rattle.disk_image.specs.Image.{IsLayoutOf};
 ghost use Rattle.disk_image.specs.File.{room_size, track_in};
-ghost use Rattle.disk_image.specs.Volume.{HasTracks, IsFault, Notes, TellsBad, TellsTrack, Told, fault_at, faults_by, faults_in};
+ghost use Rattle.disk_image.specs.Volume.{HasTracks, IsFault, IsHanded, Notes, TellsBad, TellsTrack, Told, fault_at, faults_by, faults_in};
 
 use crate::layout::place_of;
 use crate::{DiskFile, ImageFault, Layout, TrackRoom, read_room};
@@ -76,7 +76,7 @@ pub fn load_volume<F: DiskFile>(
     ensures geometry { IfOk result (λ v. v.geometry ≡ layout.geometry) }
     ensures cylinders { IfOk result (λ v. v.cylinders ≡ layout.cylinders) }
     ensures tracks { IfOk result (λ v. Told (F.held file.old) (HasTracks v (layout.cylinders * 15))) }
-    ensures bad { IfErr result (λ fault. TellsBad (F.held file.old) layout.geometry fault) }
+    ensures bad { IfErr result (λ fault. TellsBad (F.held file.old) layout fault) }
     ensures held { F.held file.new ≡ F.held file.old }
     ensures later { F.faults file.old ≤ F.faults file.new }
     ensures cause { IsErrOf result ImageFault.FileFault → Rose (F.faults file.old) (F.faults file.new) }
@@ -105,6 +105,7 @@ fn note(found: &mut Vec<TrackFault>, fault: TrackFault) -> Result<(), ImageFault
 fn note_fault(found: &mut Vec<TrackFault>, fault: ImageFault) -> Result<(), ImageFault>
     ensures noted { OnOk result (Notes fault found.old.items found.new.items) }
     ensures early { IfErr result (λ e. (e ≡ fault) ⊎ (e ≡ ImageFault.NoMemory)) }
+    ensures handed { IfErr result (λ e. IsHanded fault e) }
 {
     match fault {
         ImageFault::BadTrack { track, offset } => note(found, TrackFault { track, offset }),
@@ -124,6 +125,7 @@ fn note_bad<F: DiskFile>(
 ) -> Result<(), ImageFault>
     requires { length room.old ≡ room_size geometry }
     ensures noted { OnOk result (Told (F.held file.old) (λ all. found.new.items ≡ found.old.items ++ fault_at geometry all t)) }
+    ensures early { IfErr result (λ e. (e ≡ ImageFault.FileFault) ⊎ (e ≡ ImageFault.NoMemory)) }
     ensures size { length room.new ≡ length room.old }
     ensures held { F.held file.new ≡ F.held file.old }
     ensures later { F.faults file.old ≤ F.faults file.new }
@@ -144,6 +146,7 @@ pub fn find_bad<F: DiskFile>(
     requires { IsLayoutOf (F.held file.old) layout }
     ensures faults { IfOk result (λ found. Told (F.held file.old)
         (λ all. found.items ≡ faults_in layout.geometry (layout.cylinders * 15) all)) }
+    ensures early { IfErr result (λ e. (e ≡ ImageFault.FileFault) ⊎ (e ≡ ImageFault.NoMemory)) }
     ensures held { F.held file.new ≡ F.held file.old }
     ensures later { F.faults file.old ≤ F.faults file.new }
     ensures cause { IsErrOf result ImageFault.FileFault → Rose (F.faults file.old) (F.faults file.new) }

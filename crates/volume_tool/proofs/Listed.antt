@@ -1,20 +1,15 @@
 -- The rows of the tracks that were read so far.
-use Rattle.std.proofs.Common.{◌≡◌, ℕ, ◌+◌, ◌*◌, ◌<◌, List, [], ◌∷◌, ◌++◌, length, drop, get_or, Option, refl, sym, ap, subst, ◌∙◌, arith}
-use Rattle.std.specs.List.{flat_map}
+use Rattle.std.proofs.Common.{◌≡◌, ℕ, ◌+◌, ◌*◌, List, [], ◌∷◌, ◌++◌, length, Option, refl, sym, ap, subst, ◌∙◌, arith}
 use Rattle.std.specs.Io.KnownBytes.{Consumes, IsAtEnd}
-use Rattle.std.proofs.lemmas.List.{at_drop_more}
 use Rattle.ckd_types.specs.declared.geometry.Geometry.{Geometry}
 use Rattle.track_image.specs.Image.{Image}
 use Rattle.volume_file.specs.Answers.{IsProgress, Progress}
 use Rattle.volume_file.specs.File.{IsPlaced, file_of, head_of, track_part}
 use Rattle.volume_file.proofs.ReadSo.{ReadSo, ended, reads_on, so_far, starts_so, whole}
-use Rattle.volume_tool.specs.declared.listing.Row.{Row}
-use Rattle.volume_tool.specs.List.{Lists, row_of, rows_from, track_line}
-
-rows_push : (t n : ℕ) (images : List Image) (i : Image) → n ≡ t + length images
-    → rows_from t (images ++ i ∷ []) ≡ rows_from t images ++ row_of n i ∷ []
-rows_push t n [] i is = ap (λ (x : ℕ). row_of x i ∷ []) (omega (arith, is))
-rows_push t n (j ∷ images) i is = ap (λ (l : List Row). row_of t j ∷ l) (rows_push (t + 1) n images i (omega (arith, is)))
+use Rattle.volume_texts.specs.declared.listing.Row.{Row}
+use Rattle.volume_texts.specs.List.{row_of, rows_from}
+use Rattle.volume_texts.proofs.Rows.{rows_push}
+use Rattle.volume_tool.specs.List.{Lists}
 
 pub record Listed (before now : Option (List ℕ)) (p : Progress) (rows : List Row) : Type 0 where
   pub images : List Image
@@ -59,8 +54,3 @@ lists_all before now after p g cylinders rows l all g_is cylinders_is read end =
       each = l.each;
     } in
     subst (λ (x : Geometry). Lists before after x cylinders rows) (sym g_is) (subst (λ (x : ℕ). Lists before after p.geometry x rows) (sym cylinders_is) made)
-
--- the lines of the rows that are left, one row on
-pub lines_step : (rows : List Row) (i : ℕ) → i < length rows
-    → flat_map track_line (drop i rows) ≡ track_line (get_or rows i (record { track = 0; records = 0; bytes = 0 })) ++ flat_map track_line (drop (i + 1) rows)
-lines_step rows i inside = at_drop_more (flat_map track_line) rows i (record { track = 0; records = 0; bytes = 0 }) inside

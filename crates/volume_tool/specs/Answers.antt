@@ -1,5 +1,5 @@
 -- What the top call answers, and what it then has written.
-use Rattle.std.specs.Prelude.{◌≡◌, ◌⊎◌, ℕ, List, [], ◌∷◌, ◌++◌, codes, decimal, Option, Some, None, if◌then◌else◌}
+use Rattle.std.specs.Prelude.{◌≡◌, ◌⊎◌, ℕ, List, [], ◌∷◌, codes, Option, Some, None, if◌then◌else◌}
 use Rattle.std.specs.Str.{bytes_eq}
 use Rattle.std.specs.Io.KnownBytes.{Appends}
 use Rattle.ckd_outside.specs.Texts.{AppendsFront}
@@ -9,6 +9,9 @@ use Rattle.volume_file.specs.declared.fault.LoadFault.TheVariants as faults
 use Rattle.volume_file.specs.File.{ImageVolume}
 use Rattle.volume_file.specs.Loading.{loading}
 use Rattle.volume_file.specs.Answers.{IsRefused}
+use Rattle.volume_texts.specs.Faults.{head_text, refused_text, track_text, trailing_text}
+use Rattle.volume_texts.specs.Given.{IsFile}
+use Rattle.volume_texts.specs.List.{list_text}
 use Rattle.volume_tool.specs.declared.task.Task.{Task}
 use Rattle.volume_tool.specs.declared.task.Task.TheVariants as tasks
 use Rattle.volume_tool.specs.declared.top.VolumeStatus.{VolumeStatus}
@@ -29,7 +32,6 @@ use Rattle.volume_tool.specs.declared.top.VolumeStatus.TheVariants.{
   BadTrack,
   Trailing,
 }
-use Rattle.volume_tool.specs.List.{IsFile, list_text}
 use Rattle.volume_tool.specs.Save.{TellsSave}
 use Rattle.volume_tool.specs.Written.{IsWritten}
 
@@ -71,23 +73,6 @@ task_of (word ∷ number ∷ other ∷ words) = None
 
 unfoldable pub usage_text : List ℕ
 usage_text = codes "usage: save D, list\n"
-
-unfoldable pub head_text : ℕ → List ℕ
-head_text offset = codes "bad file head offset " ++ (decimal offset ++ codes "\n")
-
-unfoldable pub track_text : ℕ → ℕ → List ℕ
-track_text track offset = codes "bad file track " ++ (decimal track ++ (codes " offset " ++ (decimal offset ++ codes "\n")))
-
-unfoldable pub trailing_text : ℕ → List ℕ
-trailing_text offset = codes "bad file trailing offset " ++ (decimal offset ++ codes "\n")
-
--- what is written of a file that is refused
-abbrev pub refused_text : LoadFault → List ℕ
-refused_text (faults.BadHead offset) = head_text offset
-refused_text (faults.BadTrack track offset) = track_text track offset
-refused_text (faults.Trailing offset) = trailing_text offset
-refused_text faults.ReadFault = []
-refused_text faults.NoMemory = []
 
 -- the answer to a file that couldn't be loaded
 abbrev pub TellsFault : VolumeStatus → LoadFault → Option (List ℕ) → Option (List ℕ) → Type 0

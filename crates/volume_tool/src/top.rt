@@ -4,13 +4,13 @@ ghost use Rattle.ckd_outside.specs.Texts.{Writes};
 ghost use Rattle.deck_text.specs.DeckLines.{DeckLines};
 ghost use Rattle.deck_text.specs.Parse.{parsed};
 ghost use Rattle.volume_file.specs.File.{ImageVolume, IsWhole, file_of};
-ghost use Rattle.volume_tool.specs.Answers.{Tells, TellsFault, TellsList, code_of, head_text};
-ghost use Rattle.volume_tool.specs.Answers.{task_of, track_text, trailing_text, usage_text};
-ghost use Rattle.volume_tool.specs.List.{rows_text};
+ghost use Rattle.volume_texts.specs.Faults.{head_text, track_text, trailing_text};
+ghost use Rattle.volume_texts.specs.List.{rows_text};
+ghost use Rattle.volume_tool.specs.Answers.{Tells, TellsFault, TellsList, code_of, task_of, usage_text};
 ghost use Rattle.volume_tool.specs.Save.{status_for};
 ghost use Rattle.volume_tool.specs.Written.{IsWritten};
 
-use crate::listing::{Row, read_listing, write_listing};
+use crate::listing::read_listing;
 use crate::save::serve_save;
 use crate::task::{Task, save_of, task_by};
 use ckd_outside::{Failed, Piece, Sink, Source};
@@ -18,6 +18,7 @@ use ckd_types::{Geometry, Side, TrackNo};
 use deck_text::{DeckWhy, Which, write_line};
 use std::alloc::Global;
 use volume_file::LoadFault;
+use volume_texts::{Row, write_head, write_listing, write_track, write_trailing};
 
 /// How the program ends.
 #[derive(Clone, Copy, Debug, PartialEq, Eq)]
@@ -105,47 +106,6 @@ fn write_usage<K: Sink>(sink: &mut K) -> Result<(), Failed>
     ensures cause { HasCause (K.faults sink.old) (K.faults sink.new) result }
 {
     write_line(sink, &[Piece::Text(b"usage: save D, list\n")])
-}
-
-#[tactic(auto, unfolding(crate::specs::Answers::head_text))]
-fn write_head<K: Sink>(sink: &mut K, offset: u32) -> Result<(), Failed>
-    ensures bytes { Writes (K.held sink.old) (K.held sink.new) result (head_text offset) }
-    ensures cause { HasCause (K.faults sink.old) (K.faults sink.new) result }
-{
-    let pieces = [
-        Piece::Text(b"bad file head offset "),
-        Piece::Number(u64::from(offset)),
-        Piece::Text(b"\n"),
-    ];
-    write_line(sink, &pieces)
-}
-
-#[tactic(auto, unfolding(crate::specs::Answers::track_text))]
-fn write_track<K: Sink>(sink: &mut K, track: TrackNo, offset: u32) -> Result<(), Failed>
-    ensures bytes { Writes (K.held sink.old) (K.held sink.new) result (track_text track offset) }
-    ensures cause { HasCause (K.faults sink.old) (K.faults sink.new) result }
-{
-    let pieces = [
-        Piece::Text(b"bad file track "),
-        Piece::Number(u64::from(track.get())),
-        Piece::Text(b" offset "),
-        Piece::Number(u64::from(offset)),
-        Piece::Text(b"\n"),
-    ];
-    write_line(sink, &pieces)
-}
-
-#[tactic(auto, unfolding(crate::specs::Answers::trailing_text))]
-fn write_trailing<K: Sink>(sink: &mut K, offset: u32) -> Result<(), Failed>
-    ensures bytes { Writes (K.held sink.old) (K.held sink.new) result (trailing_text offset) }
-    ensures cause { HasCause (K.faults sink.old) (K.faults sink.new) result }
-{
-    let pieces = [
-        Piece::Text(b"bad file trailing offset "),
-        Piece::Number(u64::from(offset)),
-        Piece::Text(b"\n"),
-    ];
-    write_line(sink, &pieces)
 }
 
 fn bad_head<K: Sink>(sink: &mut K, offset: u32) -> VolumeStatus

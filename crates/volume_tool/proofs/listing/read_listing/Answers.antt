@@ -4,7 +4,7 @@ use Rattle.track_image.specs.Image.{Image}
 use Rattle.volume_file.proofs.Told.{caused_behind}
 use Rattle.volume_file.proofs.ReadSo.{end_told, head_told, track_told}
 use Rattle.volume_tool.specs.declared.listing.Listing.{Listing}
-use Rattle.volume_tool.specs.List.{row_of}
+use Rattle.volume_texts.specs.List.{row_of}
 use Rattle.volume_tool.proofs.Listed.{lists_all, lists_none, lists_on}
 use Rattle.volume_tool.proofs.listing.read_listing.Goals as goal
 

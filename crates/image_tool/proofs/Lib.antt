@@ -1,0 +1,4 @@
+pub mod Openings
+pub mod Telling
+pub mod Stored
+pub mod Complete

@@ -1,7 +1,0 @@
-use Rattle.std.proofs.Common.{◌∙◌}
-use Rattle.volume_tool.specs.Answers.{track_text}
-use Rattle.volume_tool.proofs.top.write_track.Goals as goal
-
-pub returns-clause-bytes : goal.returns-clause-bytes
-unfolding track_text
-returns-clause-bytes g c = rw (c.from.ensures ∙ c.get.ensures.value, c.from-2.ensures) at c.write_line.ensures.bytes
