@@ -21,6 +21,7 @@ const LOCATE: &[u8] = &[1, 0, 0, 1, 0, 0, 0, 0, 0, 0, 0, 0, 0, 0, 0, 0];
 
 /// What is written first, and then.
 const FIRST: &[u8] = &[0x11, 0x22, 0x33, 0x44, 0x55, 0x66, 0x77, 0x88];
+
 const SECOND: &[u8] = &[0xaa, 0xbb, 0xcc, 0xdd, 0xee, 0xff, 0x00, 0x11];
 
 /// More calls than it takes to copy all tracks twice, with a fault between.
@@ -63,11 +64,7 @@ fn devices(alloc: Global, d: DeviceNo) -> Result<Subsystem<MemVolume>, Fail> {
 }
 
 /// A mirror of that device, over a link of which these puts fail.
-fn mirrored(
-    alloc: Global,
-    d: DeviceNo,
-    fail: &[u32],
-) -> Result<Mirror<MemVolume, MemLink>, Fail> {
+fn mirrored(alloc: Global, d: DeviceNo, fail: &[u32]) -> Result<Mirror<MemVolume, MemLink>, Fail> {
     let sub = devices(alloc, d)?;
     if !sub.has_device(d) {
         return Err("device".into());

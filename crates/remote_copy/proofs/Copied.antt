@@ -1,44 +1,6 @@
 -- A copy of a track: what it makes of the sender, and that the mirror stands over the run behind the look.
-use Rattle.std.proofs.Common.{
-  ◌≡◌,
-  ◌≢◌,
-  ◌∙◌,
-  ◌≤◌,
-  ◌<◌,
-  ◌+◌,
-  ◌*◌,
-  ◌==◌,
-  ◌||◌,
-  ◌&&◌,
-  ◌⊎◌,
-  inl,
-  inr,
-  ℕ,
-  Bool,
-  true,
-  false,
-  List,
-  length,
-  length-set,
-  get_or,
-  set,
-  get_or-set_same,
-  get_or-set_other,
-  Option,
-  Some,
-  None,
-  option_map,
-  Result,
-  Ok,
-  Err,
-  not,
-  refl,
-  sym,
-  ap,
-  subst,
-  arith,
-}
-use Rattle.std.specs.Prelude.{IfOk, IfSome, IsOk, OnErr, OnOk, if◌then◌else◌, nat_lt}
+use Rattle.std.proofs.Common.{◌≡◌, ◌≢◌, ◌∙◌, ◌≤◌, ◌<◌, ◌+◌, ◌*◌, ◌==◌, ◌||◌, ◌&&◌, ◌⊎◌, inl, inr, ℕ, Bool, true, false, List, length, length-set, get_or, set, get_or-set_same, get_or-set_other, Option, Some, None, Result, Ok, Err, not, refl, sym, ap, subst, arith}
+use Rattle.std.specs.Prelude.{IfSome, IsOk, OnErr, if◌then◌else◌}
 use Rattle.std.proofs.lemmas.Bool.{cases_eq, cases_lt, eqb-true}
 use Rattle.std.proofs.lemmas.Bool.Decides.{nat_tests}
 use Rattle.std.proofs.lemmas.List.{get_or_default, same_lists}
@@ -48,91 +10,36 @@ use Rattle.ckd_types.specs.Track.{empty_track}
 use Rattle.ckd_types.specs.Volume.{track_in}
 use Rattle.ckd_outside.specs.declared.faults.Failed.{Failed}
 use Rattle.ckd_outside.specs.Causes.{Rose}
-use Rattle.track_image.specs.Image.{Image}
 use Rattle.device_outside.specs.declared.volume.Volume.{Ghosts}
-use Rattle.device_outside.specs.Hears.{HeardAll}
-use Rattle.device_outside.specs.Keeper.{Heard, Hearing}
 use Rattle.device_outside.specs.Lists.{is_in}
-use Rattle.device_outside.specs.Outside.{Ran}
-use Rattle.device_outside.specs.Pool as pools
-use Rattle.device_defs.specs.Contents.{contents}
 use Rattle.device_defs.specs.Peek as peeks
 use Rattle.device_defs.specs.Peek.{Peeked, peek}
-use Rattle.device_defs.specs.Store.{is_loose, tracks_of}
+use Rattle.device_defs.specs.Store.{is_loose}
 use Rattle.device_store.specs.declared.store.Peeked as looks
 use Rattle.device_store.specs.Looks.{peeked_by}
 use Rattle.device_store.specs.State.{state_of}
 use Rattle.device_core.specs.declared.device.Device.{Device}
 use Rattle.device_core.specs.State.{device_of}
-use Rattle.frame_pool.specs.Shared.{shared_view}
 use Rattle.subsystem_core.specs.declared.subsystem.Subsystem.{Subsystem}
 use Rattle.subsystem_core.specs.Devices.{device_at, numbers_of}
-use Rattle.subsystem_core.specs.Ends.{where_some}
-use Rattle.subsystem_defs.specs.Looks.{looked}
 use Rattle.subsystem_defs.specs.Subsystem as runs
 use Rattle.subsystem_defs.specs.Subsystem.{Mounted, mounted_in}
-use Rattle.subsystem_laws.specs.WholeComes as laws
-use Rattle.subsystem_laws.specs.WholeComes.{subsystem_of}
-use Rattle.look_laws.specs.Looking.{AskedWith, IsLooked, IsPlainly, is_written_at, look_messages}
-use Rattle.look_laws.proofs.Hears.{look_is_heard}
-use Rattle.look_laws.proofs.Leaves.{look_finds_plain}
-use Rattle.look_laws.proofs.Talks.{look_so, marked_same}
-use Rattle.keeper_laws.specs.Quiet.{IsQuiet, StaysQuiet}
-use Rattle.keeper_laws.proofs.FirmMounts.{mounted_is_told}
-use Rattle.keeper_laws.proofs.FirmNumbers.{one_look}
-use Rattle.keeper_laws.proofs.FirmRuns.{firm_look}
-use Rattle.keeper_laws.proofs.Mounts.{mounted_is_quiet}
-use Rattle.keeper_laws.proofs.Quiet.{quiet_look}
-use Rattle.keeper_laws.proofs.There.{there_look}
-use Rattle.deck_run.specs.Standing.{StandsAs, all_stood, stood_of}
-use Rattle.deck_run.proofs.Found.{put_stood, stood_found}
+use Rattle.look_laws.specs.Looking.{is_written_at}
+use Rattle.look_laws.proofs.Talks.{marked_same}
+use Rattle.deck_run.specs.Standing.{StandsAs, all_stood}
 use Rattle.deck_run.proofs.Telling.{all_known, known_at}
-use Rattle.track_looks.specs.Looking.{LooksKept}
-use Rattle.track_looks.proofs.Owning.{kept_looks_own}
 use Rattle.remote_copy.specs.declared.remote.Remote.{Remote}
 use Rattle.remote_copy.specs.declared.remote.Remote.TheVariants.{BadBytes, Copied, Fault, Idle, LinkFault, Lost, Waits}
 use Rattle.remote_copy.specs.declared.state.MirrorState.{MirrorState}
-use Rattle.remote_copy.specs.declared.state.MirrorState.TheVariants.{Copying, Level, Suspended}
-use Rattle.remote_copy.specs.Copies.{
-  AnswersAs,
-  AnswersBy,
-  CopiedBy,
-  IsFoundAs,
-  IsUnchanged,
-  LookedBy,
-  LooksToCopy,
-  MayPut,
-  PutsCopy,
-  TrackAs,
-  TrackBy,
-  answer_put,
-  behind_put,
-  gets_suspended,
-}
+use Rattle.remote_copy.specs.declared.state.MirrorState.TheVariants.{Copying, Level}
+use Rattle.remote_copy.specs.Copies.{AnswersBy, CopiedBy, LookedBy, LooksToCopy, MayPut, PutsCopy, TrackBy, answer_put, behind_put, gets_suspended}
 use Rattle.remote_copy.specs.Following.{Follows, IsFarFor, is_within}
-use Rattle.remote_copy.specs.Linking.{IsPut, LinkView, Puts, with_put}
-use Rattle.remote_copy.specs.Mirroring.{
-  HasCopied,
-  IsFar,
-  IsFarOf,
-  MirrorRun,
-  MirrorsAs,
-  copied_to,
-  is_waiting,
-  mirror_copied,
-  mirror_looked,
-  next_track,
-  waits_at,
-  with_told,
-}
-use Rattle.remote_copy.specs.Sending.{IsSent, SenderView, hears_sent, is_suspended, state_behind, takes_sent}
+use Rattle.remote_copy.specs.Linking.{LinkView}
+use Rattle.remote_copy.specs.Mirroring.{IsFar, copied_to, is_waiting, waits_at}
+use Rattle.remote_copy.specs.Sending.{SenderView, is_suspended, state_behind}
 use Rattle.remote_copy.proofs.Fitting.{far_for, follows_fits}
 use Rattle.remote_copy.proofs.Keeping.{SendsSome, follows, ran_sends}
-use Rattle.remote_copy.proofs.Mirrors.{heard_mirrors}
-use Rattle.remote_copy.proofs.Mounts.{mounted_firmly}
-use Rattle.remote_copy.proofs.Puttings.{far_size, size_by}
 use Rattle.remote_copy.proofs.Seats.{sits_still}
-use Rattle.remote_copy.proofs.Sent.{copying_state}
 
 pub either : {P : Type 0} (b : Bool) → (b ≡ true → P) → (b ≡ false → P) → P
 either true x y = x refl
@@ -142,6 +49,9 @@ pub same_ok : {X E : Type 0} {x y : X} (r : Result X E) → r ≡ Ok x → r ≡
 same_ok r e f = cc
 
 -- The put of a copy
+
+pub set_to : (put new : SenderView) (m k : MirrorState) → new ≡ record put { state = m } → m ≡ k → new ≡ record put { state = k }
+set_to put new m k is same = is ∙ ap (λ (n : MirrorState). record put { state = n }) same
 
 -- the sender keeps its device, and the link its sizes
 module _ (tracks t : ℕ) (r : Result (Unit {0}) Failed) where

@@ -1,37 +1,6 @@
 -- A mirror stands over a run behind each copy of a track, and the copy answers as the run's look.
-use Rattle.std.proofs.Common.{
-  ◌≡◌,
-  ◌∙◌,
-  ◌<◌,
-  ◌+◌,
-  ◌*◌,
-  ◌==◌,
-  ◌&&◌,
-  ◌⊎◌,
-  inl,
-  inr,
-  ℕ,
-  Bool,
-  true,
-  false,
-  List,
-  length,
-  set,
-  Option,
-  Some,
-  None,
-  option_map,
-  Result,
-  Ok,
-  Err,
-  not,
-  refl,
-  sym,
-  ap,
-  subst,
-  arith,
-}
-use Rattle.std.specs.Prelude.{IfOk, IfSome, IsOk, OnOk, if◌then◌else◌}
+use Rattle.std.proofs.Common.{◌≡◌, ◌∙◌, ◌<◌, ◌+◌, ◌*◌, ◌==◌, ◌&&◌, ◌⊎◌, inl, inr, ℕ, Bool, true, false, List, length, Option, Some, None, Result, Ok, Err, not, refl, sym, ap, subst, arith}
+use Rattle.std.specs.Prelude.{IfOk, IfSome, OnOk, if◌then◌else◌}
 use Rattle.std.proofs.lemmas.Bool.{ltb-true}
 use Rattle.ckd_types.specs.declared.memory.NoMemory.{NoMemory}
 use Rattle.ckd_types.specs.declared.record.Track.{Track}
@@ -60,24 +29,24 @@ use Rattle.subsystem_defs.specs.Subsystem as runs
 use Rattle.subsystem_defs.specs.Subsystem.{Mounted, mounted_in}
 use Rattle.subsystem_laws.specs.WholeComes as laws
 use Rattle.subsystem_laws.specs.WholeComes.{subsystem_of}
-use Rattle.look_laws.specs.Looking.{AskedWith, IsLooked, IsPlainly, is_written_at, look_messages}
+use Rattle.look_laws.specs.Looking.{IsLooked, IsPlainly, is_written_at, look_messages}
 use Rattle.look_laws.proofs.Hears.{look_is_heard}
 use Rattle.look_laws.proofs.Leaves.{look_finds_plain}
 use Rattle.look_laws.proofs.Talks.{look_so}
-use Rattle.keeper_laws.specs.Quiet.{IsQuiet, StaysQuiet}
+use Rattle.keeper_laws.specs.Quiet.{StaysQuiet}
 use Rattle.keeper_laws.proofs.FirmMounts.{mounted_is_told}
 use Rattle.keeper_laws.proofs.FirmNumbers.{one_look}
 use Rattle.keeper_laws.proofs.FirmRuns.{firm_look}
 use Rattle.keeper_laws.proofs.Mounts.{mounted_is_quiet}
 use Rattle.keeper_laws.proofs.Quiet.{quiet_look}
 use Rattle.keeper_laws.proofs.There.{there_look}
-use Rattle.deck_run.specs.Standing.{StandsAs, all_stood, stood_of}
+use Rattle.deck_run.specs.Standing.{all_stood, stood_of}
 use Rattle.deck_run.proofs.Events.{HasOne, has_one}
 use Rattle.deck_run.proofs.Found.{put_stood, stood_found}
 use Rattle.track_looks.specs.Looking.{LooksKept}
 use Rattle.track_looks.proofs.Owning.{kept_looks_own}
 use Rattle.remote_copy.specs.declared.remote.Remote.{Remote}
-use Rattle.remote_copy.specs.declared.remote.Remote.TheVariants.{BadBytes, Copied, Fault, Idle, LinkFault, Lost, Waits}
+use Rattle.remote_copy.specs.declared.remote.Remote.TheVariants.{LinkFault}
 use Rattle.remote_copy.specs.declared.state.MirrorState.{MirrorState}
 use Rattle.remote_copy.specs.declared.state.MirrorState.TheVariants.{Copying, Level, Suspended}
 use Rattle.remote_copy.specs.Copies.{
@@ -118,7 +87,7 @@ use Rattle.remote_copy.proofs.Mirrors.{heard_mirrors, if_any, some_size}
 use Rattle.remote_copy.proofs.Mounts.{mounted_firmly}
 use Rattle.remote_copy.proofs.Puttings.{SendsAll, far_size, size_by}
 use Rattle.remote_copy.proofs.Seats.{Sits, changed_sits, seat_of_own}
-use Rattle.remote_copy.proofs.Sent.{copying_state, none_stays}
+use Rattle.remote_copy.proofs.Sent.{copying_state}
 
 some_same : {X : Type 0} {x y : X} → Some x ≡ Some y → x ≡ y
 some_same e = cc

@@ -1,5 +1,5 @@
 -- A far volume that has the tracks of a device takes all that a keeper may be told of it, and still has its tracks behind an event.
-use Rattle.std.proofs.Common.{◌≡◌, ◌∙◌, ◌<◌, ◌*◌, ℕ, true, List, length, get_or, Option, Some, refl, sym, ap, subst, arith}
+use Rattle.std.proofs.Common.{◌≡◌, ◌∙◌, ◌<◌, ◌*◌, ℕ, true, List, length, get_or, Option, Some, sym, ap, subst, arith}
 use Rattle.std.specs.Prelude.{IfSome}
 use Rattle.std.proofs.lemmas.Option.{slice_get-get_or}
 use Rattle.track_image.specs.Image.{Image}

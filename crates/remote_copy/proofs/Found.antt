@@ -8,17 +8,16 @@ use Rattle.ckd_types.specs.declared.record.Record.{Record}
 use Rattle.ckd_types.specs.declared.record.Track.{Track}
 use Rattle.ckd_types.specs.Geometry.{cchh_of}
 use Rattle.track_image.specs.Image.{Image}
-use Rattle.track_image.specs.Reading as readings
 use Rattle.track_image.specs.Reading.{◌>>=◌, reading}
 use Rattle.track_cache.specs.declared.frames.Frame.{Frame}
 use Rattle.nv_store.specs.declared.patches.Stored.{Stored}
 use Rattle.nv_store.specs.Patch.{PatchView, applies, patched_image}
-use Rattle.device_outside.specs.Interaction.{Interaction, Done, Read, Write, and_then}
+use Rattle.device_outside.specs.Interaction.{Interaction, Done, and_then}
 use Rattle.device_outside.specs.Keeper.{Hearing}
 use Rattle.device_outside.specs.Outside.{Outside, Ran}
 use Rattle.device_outside.specs.Pool.{Call}
 use Rattle.device_defs.specs.Contents.{contents, image_read, image_with, patched_by}
-use Rattle.device_defs.specs.Device.{event_begun, event_ended, with_store}
+use Rattle.device_defs.specs.Device.{event_begun, with_store}
 use Rattle.device_defs.specs.Image as images
 use Rattle.device_defs.specs.Image.{Got, Has, Imaged, ahead, delivered, hit, image, image_by, image_of, level_bytes, miss, missed}
 use Rattle.device_defs.specs.Memory.{had_by, tried}
@@ -29,11 +28,11 @@ use Rattle.device_defs.specs.Store.{HalfWrite, frame_at, has_level, is_lost, pat
 use Rattle.device_laws.specs.Whole.{WholeDevice}
 use Rattle.device_laws.proofs.Always as always
 use Rattle.device_laws.proofs.Always.{Always, Behind, always_ask, always_done, always_then, always_try, always_weaker}
-use Rattle.device_laws.proofs.Based.{Base, Based, base_of, based_ask, based_done, based_read, based_tell, based_try, based_write}
+use Rattle.device_laws.proofs.Based.{Base, Based, based_ask, based_done, based_read, based_tell, based_try, based_write}
 use Rattle.device_laws.proofs.invariants.CallCounts.{level_steady}
 use Rattle.device_laws.proofs.KeepLaws.{always_ran}
 use Rattle.device_laws.proofs.KeptEvents.{always_any, always_if}
-use Rattle.device_store.specs.Images.{IsHalfOf, IsImageOf}
+use Rattle.device_store.specs.Images.{IsImageOf}
 use Rattle.device_store.specs.Looks.{StoreOf}
 use Rattle.remote_copy.specs.Copies.{IsImageFound}
 

@@ -1,9 +1,8 @@
 -- A mirror that begins stands over a run, and stands over it behind each event and order.
-use Rattle.std.proofs.Common.{◌≡◌, ◌∙◌, ◌<◌, ◌*◌, ◌⊎◌, inl, inr, ℕ, Bool, true, false, List, [], ◌++◌, length, Option, Some, None, option_map, Result, Ok, Err, refl, sym, ap, subst, arith}
+use Rattle.std.proofs.Common.{◌≡◌, ◌∙◌, ◌*◌, ◌⊎◌, inl, inr, ℕ, Bool, true, List, [], ◌++◌, length, Option, Some, None, option_map, Result, Ok, Err, refl, sym, ap, subst, arith}
 use Rattle.std.specs.Prelude.{IfOk, IfSome, IsOk, OnErr, OnOk}
 use Rattle.ckd_types.specs.declared.paths.Side.{Side}
 use Rattle.ckd_types.specs.declared.record.Track.{Track}
-use Rattle.ckd_types.specs.Volume.{track_in}
 use Rattle.track_image.specs.Image.{Image}
 use Rattle.device_outside.specs.declared.volume.Volume.{Ghosts}
 use Rattle.device_outside.specs.Hears.{HeardAll}
@@ -28,17 +27,16 @@ use Rattle.keeper_laws.proofs.There.{there_event, there_replaced, there_unpaired
 use Rattle.deck_run.specs.Owning.{AreOwn}
 use Rattle.deck_run.specs.Standing.{StandsAs, all_stood}
 use Rattle.deck_run.proofs.Events as events
-use Rattle.deck_run.proofs.Telling.{all_known, known_at}
-use Rattle.line_drive.specs.Driven.{Comes, Occurred, Replaces, Unpairs}
+use Rattle.line_drive.specs.Driven.{Comes, Replaces, Unpairs}
 use Rattle.remote_copy.specs.declared.state.MirrorState.{MirrorState}
 use Rattle.remote_copy.specs.declared.state.MirrorState.TheVariants.{Copying, Level, Suspended}
 use Rattle.remote_copy.specs.Following.{IsFarFor}
 use Rattle.remote_copy.specs.Linking.{LinkView, PutCalls}
-use Rattle.remote_copy.specs.Mirroring.{HasCopied, IsFar, IsFarOf, MirrorRun, MirrorsAs, mirror_begun, mirror_did, with_told}
+use Rattle.remote_copy.specs.Mirroring.{HasCopied, IsFar, MirrorRun, MirrorsAs, mirror_begun, mirror_did, with_told}
 use Rattle.remote_copy.specs.Sending.{FirmWrite, IsLevelled, IsReached, SenderView, firms_in, hears_sent, is_suspended, put_all, takes_sent}
 use Rattle.remote_copy.proofs.Fitting.{far_for}
 use Rattle.remote_copy.proofs.Mounts.{home_so, mounted_firmly, one_mounted}
-use Rattle.remote_copy.proofs.Puttings.{SendsAll, Stays, far_size, heard_sends, put_all_more, stays, told_is_put}
+use Rattle.remote_copy.proofs.Puttings.{SendsAll, far_size, heard_sends, put_all_more, stays, told_is_put}
 use Rattle.remote_copy.proofs.Reached.{reaches}
 use Rattle.remote_copy.proofs.Seats.{Sits, replaced_sits, still_sits, unpaired_sits}
 use Rattle.remote_copy.proofs.Sent.{CopiesOn, PutsAll, StopsAt, copying, copying_state, level, levelled, none_stays, suspended_same}

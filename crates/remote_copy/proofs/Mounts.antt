@@ -2,7 +2,6 @@
 use Rattle.std.proofs.Common.{◌≡◌, ◌∙◌, ◌==◌, ◌≤◌, ◌<◌, ℕ, Bool, true, false, List, [], ◌∷◌, Option, Some, None, not, is_some, refl, sym, ap, subst, arith}
 use Rattle.std.specs.Prelude.{if◌then◌else◌, nat_lt}
 use Rattle.std.proofs.lemmas.Bool.{eqb-true, ltb-true}
-use Rattle.ckd_types.specs.declared.geometry.Geometry.{Geometry}
 use Rattle.ckd_types.specs.declared.record.Track.{Track}
 use Rattle.ckd_types.specs.Volume.{IsVolume}
 use Rattle.device_outside.specs.declared.volume.Volume.{Ghosts}
@@ -23,7 +22,7 @@ use Rattle.keeper_laws.specs.Firmness.{has_one}
 use Rattle.deck_run.specs.Standing.{StandsAs, all_stood, stood_of}
 use Rattle.deck_run.proofs.Events as events
 use Rattle.deck_run.proofs.Found.{stood_found}
-use Rattle.deck_run.proofs.Telling.{AreKnown, FoundKnown, all_known, known_at}
+use Rattle.deck_run.proofs.Telling.{AreKnown, all_known}
 use Rattle.remote_copy.proofs.Seats.{Sits}
 
 some_same : {X : Type 0} {x y : X} → Some x ≡ Some y → x ≡ y

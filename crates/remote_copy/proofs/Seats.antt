@@ -3,7 +3,6 @@
 use Rattle.std.proofs.Common.{◌≡◌, ◌∙◌, ◌==◌, ℕ, Bool, true, false, List, [], ◌∷◌, Option, Some, None, is_some, refl, sym, ap, subst}
 use Rattle.std.specs.Prelude.{if◌then◌else◌, not}
 use Rattle.std.proofs.lemmas.Bool.{cond_both, eq-eqb, eqb-true}
-use Rattle.ckd_types.specs.declared.geometry.Geometry.{Geometry}
 use Rattle.ckd_types.specs.declared.paths.Side.{Side}
 use Rattle.ckd_types.specs.declared.paths.Side.TheVariants.{A, B}
 use Rattle.ckd_types.specs.Fixed.{Fixed}
@@ -12,7 +11,7 @@ use Rattle.loss_model.specs.declared.Loss.{Loss}
 use Rattle.loss_model.specs.declared.Loss.TheVariants as losses
 use Rattle.track_image.specs.Image.{Image}
 use Rattle.device_outside.specs.declared.volume.Volume.{Ghosts}
-use Rattle.device_outside.specs.Interaction.{Interaction, Done, and_then}
+use Rattle.device_outside.specs.Interaction.{Done, and_then}
 use Rattle.device_outside.specs.Keeper.{Hearing}
 use Rattle.device_outside.specs.Lists.{is_in}
 use Rattle.device_outside.specs.Outside.{Outside, Ran}
@@ -44,32 +43,7 @@ use Rattle.device_core.specs.State.{DefinedDevice, device_of}
 use Rattle.frame_pool.specs.Shared.{Shared}
 use Rattle.subsystem_core.specs.declared.end.EventEnd as ends
 use Rattle.subsystem_core.specs.declared.subsystem.Subsystem.{Subsystem}
-use Rattle.subsystem_core.specs.Comes.{
-  AreStill,
-  BecameBy,
-  CameKept,
-  CameKeptBy,
-  Changes,
-  IsReplaced,
-  IsRestored,
-  IsSplit,
-  JoinsKept,
-  OwnDeed,
-  Parts,
-  Replaced,
-  ReplacedBy,
-  Restored,
-  SweptBy,
-  SweepsKept,
-  Talk,
-  Unpaired,
-  UnpairedBy,
-  next,
-  over,
-  none_was_lent,
-  this_was_lent,
-  another_was_lent,
-}
+use Rattle.subsystem_core.specs.Comes.{AreStill, BecameBy, CameKept, CameKeptBy, Changes, IsRestored, JoinsKept, OwnDeed, Parts, Replaced, ReplacedBy, Restored, SweptBy, SweepsKept, Talk, Unpaired, UnpairedBy, next, over, none_was_lent, this_was_lent, another_was_lent}
 use Rattle.subsystem_core.specs.Devices.{device_at, devices_of, numbers_of, put_at}
 use Rattle.subsystem_core.specs.Places.{may_come}
 use Rattle.subsystem_core.proofs.Found.{at_other, found_in, number_found}

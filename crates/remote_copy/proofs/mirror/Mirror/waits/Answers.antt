@@ -1,1 +1,0 @@
-use Rattle.remote_copy.proofs.mirror.Mirror.waits.Goals as goal
