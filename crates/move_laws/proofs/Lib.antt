@@ -1,0 +1,9 @@
+mod Holds
+mod SideB
+mod Looks
+mod Writes
+mod Walks
+mod Commands
+mod Steps
+mod ExactRuns
+mod MoveRows
