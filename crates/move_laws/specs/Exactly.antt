@@ -68,15 +68,19 @@ write_writes s u t w half = choice_writes (sides_writing s) (hold true (choose b
 
 -- From track to track
 
+-- of a chain that asks for this track, with the store, the pool and the calls as they are then
+abbrev pub NextLook : Type 0
+NextLook = ChainState → ℕ → MarksStore → Told → Transfers
+
 -- behind a look that saw an image the chain asks for the next track, for a write of this one, or for nothing more
-abbrev pub went_transfers : (ChainState → ℕ → MarksStore → Told → Transfers) → Usage → ℕ → Bool → MarksStore → Told → ChainState → Progress → Transfers
+abbrev pub went_transfers : NextLook → Usage → ℕ → Bool → MarksStore → Told → ChainState → Progress → Transfers
 went_transfers next u t half s w chain (progresses.Need q) = next chain q s w
 went_transfers next u t half s w chain (progresses.Write q e) = writes_alone (write_writes s u t w half)
 went_transfers next u t half s w chain (progresses.Ended e) = no_transfers
 went_transfers next u t half s w chain (progresses.Local act) = no_transfers
 
 -- and one that saw none is the last
-abbrev pub seen_transfers : (ChainState → ℕ → MarksStore → Told → Transfers) → ChainState → ℕ → Bool → MarksStore → Told → Option Imaged → Transfers
+abbrev pub seen_transfers : NextLook → ChainState → ℕ → Bool → MarksStore → Told → Option Imaged → Transfers
 seen_transfers next chain t half s w (Some (Has i)) =
     went_transfers next (usage_of chain) t half s w (stepped chain (Some i)).chain (stepped chain (Some i)).progress
 seen_transfers next chain t half s w (Some (NoBytes fault)) = no_transfers
@@ -84,7 +88,7 @@ seen_transfers next chain t half s w (Some (BadTrack side)) = no_transfers
 seen_transfers next chain t half s w None = no_transfers
 
 -- what a look left
-abbrev pub behind_look : (ChainState → ℕ → MarksStore → Told → Transfers) → ChainState → ℕ → Bool → Outcome MarksStore (Option Imaged) → Transfers
+abbrev pub behind_look : NextLook → ChainState → ℕ → Bool → Outcome MarksStore (Option Imaged) → Transfers
 behind_look next chain t half o = seen_transfers next chain t half o.state o.told o.answer
 
 -- a lost track isn't read. At most as many tracks as there are
