@@ -2,6 +2,7 @@ mod Holds
 mod SideB
 mod Looks
 mod Writes
+mod Works
 mod Walks
 mod Commands
 mod Steps

@@ -107,7 +107,7 @@ module _ (t : ℕ) where
   sides_made s w true = a_made s w (read_fails w.a)
   sides_made s w false = b_made s None w (level_at s.b t)
 
-  level_made : (s : MarksStore) (w : Told) → Level (missed_reads s t w) w (hold true (level_bytes by_plain s t) w)
+  pub level_made : (s : MarksStore) (w : Told) → Level (missed_reads s t w) w (hold true (level_bytes by_plain s t) w)
   unfolding I.level_bytes
   level_made s w = sides_made s w (level_at s.a t)
 

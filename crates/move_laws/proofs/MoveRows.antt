@@ -31,10 +31,20 @@ use Rattle.subsystem_defs.specs.Deeds.{deed}
 use Rattle.subsystem_defs.specs.Happening.{Happened, sweep, happens, replaced, unpaired}
 use Rattle.subsystem_defs.specs.Lines.{Logged, steps, backs, line_logged, run_lines}
 use Rattle.subsystem_defs.specs.Refusals.{pair_fault, unpair_fault, suspend_fault, resume_fault, fail_fault, replace_fault}
-use Rattle.subsystem_defs.proofs.Runs.{end_of_the_cylinder, one_frame, one_slot, pair_is_written, provisional_write_is_lost, read_fails, track_is_lost}
+use Rattle.subsystem_defs.proofs.Runs.{
+  cache_is_repaired,
+  end_of_the_cylinder,
+  fast_write_is_destaged,
+  one_frame,
+  one_slot,
+  pair_is_written,
+  provisional_write_is_lost,
+  read_fails,
+  track_is_lost,
+}
 use Rattle.subsystem_defs.proofs.Stand.{Sample, deck, deck_with, device, first, go, line, settle, two}
 use Rattle.promise_laws.specs.Origins.{event_of}
-use Rattle.move_laws.specs.Exactly.{Transfers, walk_transfers, step_transfers}
+use Rattle.move_laws.specs.Exactly.{Transfers, walk_transfers, step_transfers, back_transfers}
 
 -- the reads and the writes of each step
 
@@ -112,3 +122,24 @@ unfolding command_of least count_below is_in with_number less_one answer after c
     write pair_fault unpair_fault suspend_fault resume_fault fail_fault replace_fault deed sweep happens replaced
     unpaired steps backs line_logged run_lines run_asked part_of walk walk_transfers
 search_makes = refl
+
+-- And by itself: a track is destaged, and then there is nothing to do; one is recovered that has no frame
+
+abbrev work_numbers : Option Event → Happened → List (ℕ × ℕ)
+work_numbers (Some (events.Back n)) h = pair_of (back_transfers h.before n) ∷ []
+work_numbers _ h = []
+
+abbrev works_in : List Logged → List (ℕ × ℕ)
+works_in [] = []
+works_in (x ∷ xs) = work_numbers (event_of x.asked) x.happened ++ works_in xs
+
+abbrev works_by : Sample → List (ℕ × ℕ)
+works_by x = works_in (run_asked x.deck x.asked).events
+
+pub works_make : map works_by (fast_write_is_destaged ∷ cache_is_repaired ∷ []) ≡ ((0, 1) ∷ (0, 0) ∷ []) ∷ ((1, 1) ∷ []) ∷ []
+unfolding command_of least count_below is_in with_number less_one answer after counted hold work choose look follow
+    command reset power second background lose level_bytes image over settled side_lost cache_lost store_lost
+    all_firm_told waits hear all_told lend second_part start_fault start write_first write_second write_done through
+    write pair_fault unpair_fault suspend_fault resume_fault fail_fault replace_fault deed sweep happens replaced
+    unpaired steps backs line_logged run_lines run_asked part_of walk walk_transfers
+works_make = refl

@@ -10,8 +10,11 @@ use Rattle.device_outside.specs.Told.{Told, Outcome, hold}
 use Rattle.device_defs.specs.declared.answers.Stepped.{Stepped}
 use Rattle.device_defs.specs.Command.{command}
 use Rattle.device_defs.specs.Contents.{by_plain}
-use Rattle.device_defs.specs.Events.{second}
+use Rattle.device_defs.specs.Device.{event_begun}
+use Rattle.device_defs.specs.Events.{second, background}
 use Rattle.device_defs.specs.Marks.{MarksDevice}
+use Rattle.device_defs.specs.Owed.{hear}
+use Rattle.device_laws.proofs.QuietParts.{quiet_done}
 use Rattle.seen_laws.specs.Moved.{second_writing, SecondTransfers}
 use Rattle.seen_laws.proofs.Counting.{Counts, counts_done, counts_then, held_moved}
 use Rattle.seen_laws.proofs.EventCounts.{second_counts}
@@ -19,19 +22,33 @@ use Rattle.subsystem_defs.specs.declared.end.EventEnd.{EventEnd}
 use Rattle.subsystem_defs.specs.declared.end.EventEnd.TheVariants as ends
 use Rattle.subsystem_defs.specs.declared.event.Event.TheVariants as events
 use Rattle.subsystem_defs.specs.Deeds as E
-use Rattle.subsystem_defs.specs.Deeds.{Ends, Asks, deed, device_in, on_device, seconds, step, ends_by, may_end_by, end_of}
+use Rattle.subsystem_defs.specs.Deeds.{Ends, Asks, deed, device_in, on_device, seconds, step, back, ends_by, may_end_by, end_of}
 use Rattle.subsystem_defs.specs.Happening as H
 use Rattle.subsystem_defs.specs.Happening.{Happened, MarksDeed, Talk, told_to, told_end, with_outcome, held_with, asks, happens_by, happens, quietly}
 use Rattle.subsystem_defs.specs.Lines.{is_busy}
 use Rattle.subsystem_defs.specs.Subsystem.{Mounted, Subsystem, number_of, devices_of, mounted_in}
 use Rattle.subsystem_laws.proofs.FoundDevices.{number_found}
-use Rattle.move_laws.specs.Exactly.{Transfers, no_transfers, writes_alone, command_transfers, is_half_end, step_of, step_transfers, Makes}
-use Rattle.move_laws.proofs.Holds.{Made, hold_then}
+use Rattle.move_laws.specs.Exactly.{
+  Transfers,
+  no_transfers,
+  writes_alone,
+  command_transfers,
+  is_half_end,
+  work_of,
+  step_of,
+  step_transfers,
+  back_of,
+  back_transfers,
+  Makes,
+}
+use Rattle.move_laws.proofs.Holds.{Made, hold_then, made_past}
 use Rattle.move_laws.proofs.Commands.{stepped_half, command_makes}
+use Rattle.move_laws.proofs.Works.{background_does}
 
 -- the device that is mounted is found
 
-found_if : (b : Bool) (k m : Mounted) (o : Option MarksDevice) (p : Option Mounted) → (if b then Some k else p) ≡ Some m → (p ≡ Some m → o ≡ Some m.device) →
+found_if : (b : Bool) (k m : Mounted) (o : Option MarksDevice) (p : Option Mounted) → (if b then Some k else p) ≡ Some m →
+    (p ≡ Some m → o ≡ Some m.device) →
     (if b then Some k.device else o) ≡ Some m.device
 found_if true k m o p at more = let same : k ≡ m = cc in ap (λ (x : Mounted). Some x.device) same
 found_if false k m o p at more = more at
@@ -93,13 +110,27 @@ module _ (s : Subsystem) (n : ℕ) (m : Mounted) where
 
   -- The second part of a write
 
-  second_end : Counts (λ r w z (a : Option EventEnd). SecondTransfers (second_writing m.device.store) r w) 0 0 (ends_by ends.Second (second by_plain m.device))
+  second_end : Counts (λ r w z (a : Option EventEnd). SecondTransfers (second_writing m.device.store) r w) 0 0
+      (ends_by ends.Second (second by_plain m.device))
   second_end = counts_then (λ z a. Done z (Some (ends.Second a))) (second_counts by_plain m.device) (λ r w z a k. counts_done k)
 
-  second_exact : Makes (writes_alone (second_writing m.device.store)) (with_outcome s n (held_with s.pool m (ends_by ends.Second (second by_plain m.device))))
+  second_exact : Makes (writes_alone (second_writing m.device.store))
+      (with_outcome s n (held_with s.pool m (ends_by ends.Second (second by_plain m.device))))
   second_exact = let k = held_moved true second_end (told_to s.pool m) refl refl in record { reads = k.0; writes = k.1 }
 
-  -- A step of this device
+  -- Work in the background
+
+  back_exact : Makes (work_of (hold true (hear by_plain 960 (event_begun m.device).store) (told_to s.pool m)))
+      (with_outcome s n (held_with s.pool m (may_end_by ends.Back (background by_plain m.device))))
+  back_exact =
+      let w = told_to s.pool m in
+      let x = work_of (hold true (hear by_plain 960 (event_begun m.device).store) w) in
+      let talk = background by_plain m.device in
+      let k = made_past true talk (λ d a. Done d (end_of ends.Back a)) w (background_does m.device w) (λ d a. quiet_done) in
+      let e = from_none x w (hold true (may_end_by ends.Back talk) w).told refl refl k in
+      record { reads = e.0; writes = e.1 }
+
+  -- An event of this device
 
   module _ (at : mounted_in s.mounted n ≡ Some m) where
     own : m.device.store.device ≡ n
@@ -132,7 +163,20 @@ module _ (s : Subsystem) (n : ℕ) (m : Mounted) where
         second_exact
     steps_exact false = runs_exact (is_some m.device.history.running) refl
 
--- Any step
+    abbrev Backs : Bool → MarksDeed
+    Backs b = if b then seconds by_plain m.device else Asks m.device (may_end_by ends.Back (background by_plain m.device))
+
+    backs_exact : (b : Bool) →
+        Makes (if b then writes_alone (second_writing m.device.store)
+        else work_of (hold true (hear by_plain 960 (event_begun m.device).store) (told_to s.pool m))) (happens_by s (Backs b))
+    backs_exact true =
+        asks_exact (λ end. writes_alone (second_writing m.device.store)) (ends_by ends.Second (second by_plain m.device)) m.device.store.device own
+        second_exact
+    backs_exact false =
+        asks_exact (λ end. work_of (hold true (hear by_plain 960 (event_begun m.device).store) (told_to s.pool m)))
+        (may_end_by ends.Back (background by_plain m.device)) m.device.store.device own back_exact
+
+-- Any step, and any work in the background
 
 module _ (s : Subsystem) (n : ℕ) where
   step_at : (o : Option Mounted) → mounted_in s.mounted n ≡ o → (p : Option MarksDevice) → device_in (devices_of s) n ≡ p →
@@ -148,6 +192,20 @@ module _ (s : Subsystem) (n : ℕ) where
   pub step_exact : Makes (step_transfers s n (happens s (events.Step n)).end) (happens s (events.Step n))
   unfolding H.happens E.deed
   step_exact = step_at (mounted_in s.mounted n) refl (device_in (devices_of s) n) refl
+
+  back_at : (o : Option Mounted) → mounted_in s.mounted n ≡ o → (p : Option MarksDevice) → device_in (devices_of s) n ≡ p →
+      Makes (back_of s.pool o) (happens_by s (on_device p (back by_plain)))
+  back_at (Some m) at (Some d) there =
+      let same : d ≡ m.device = let e = found s.mounted n m at in cc in
+      subst (λ (y : MarksDevice). Makes (back_of s.pool (Some m)) (happens_by s (back by_plain y))) (sym same)
+      (backs_exact s n m at (is_some m.device.store.half))
+  back_at (Some m) at None there = absurd (let e = found s.mounted n m at in cc)
+  back_at None at (Some d) there = absurd (let e = none_found s.mounted n at in cc)
+  back_at None at None there = record { reads = refl; writes = refl }
+
+  pub background_exact : Makes (back_transfers s n) (happens s (events.Back n))
+  unfolding H.happens E.deed
+  background_exact = back_at (mounted_in s.mounted n) refl (device_in (devices_of s) n) refl
 
 -- a device that isn't busy makes none
 pub idle_makes : (s : Subsystem) (n : ℕ) (end : EventEnd) → is_busy (mounted_in s.mounted n) ≡ false → step_transfers s n end ≡ no_transfers

@@ -130,7 +130,7 @@ module _ {F P H R : Type 0} (c : Contents F P H R) where
   firm_quiet : (s : Store F P H) (t : ℕ) → Quiet (firm_first c s t)
   firm_quiet s t = quiet_if (is_loose s t) (quiet_tell (λ _. quiet_done)) quiet_done
 
-  opened_quiet : (s : Store F P H) (t : ℕ) (i : Image) (origin : Origin) (was_loose : Bool) → Quiet (opened c s t i origin was_loose)
+  pub opened_quiet : (s : Store F P H) (t : ℕ) (i : Image) (origin : Origin) (was_loose : Bool) → Quiet (opened c s t i origin was_loose)
   opened_quiet s t i origin true = quiet_ask (λ _. quiet_done)
   opened_quiet s t i origin false = quiet_done
 

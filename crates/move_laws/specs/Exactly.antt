@@ -1,25 +1,28 @@
--- How many reads and writes of volumes each event of a run makes: those of the table of events, and of a step exactly those of its looks and its write.
-use Rattle.std.specs.Prelude.{◌≡◌, ℕ, zero, suc, ◌+◌, ◌&&◌, ◌||◌, not, Bool, true, false, Option, Some, None, is_some, if◌then◌else◌}
+-- How many reads and writes of volumes each event of a run makes: those of the table of events, of a step exactly those of its looks and its write,
+-- and of work in the background exactly those of what there is to do.
+use Rattle.std.specs.Prelude.{◌≡◌, ℕ, zero, suc, ◌+◌, ◌&&◌, ◌||◌, not, Bool, true, false, List, [], ◌∷◌, Option, Some, None, is_some, if◌then◌else◌}
+use Rattle.ckd_types.specs.declared.paths.Side.{Side}
 use Rattle.ckd_types.specs.Parameters.{is_bypass}
 use Rattle.ckd_chain.specs.declared.progress.Progress.{Progress}
 use Rattle.ckd_chain.specs.declared.progress.Progress.TheVariants as progresses
 use Rattle.ckd_chain.specs.State.{ChainState}
 use Rattle.ckd_chain.specs.Steps.{need_of, stepped}
 use Rattle.plain_defs.specs.History.{OpenEntry}
-use Rattle.device_outside.specs.Pool.{Pool, is_listed}
-use Rattle.device_outside.specs.Told.{Told, Outcome, read_fails, hold}
+use Rattle.device_outside.specs.Pool.{Pool, WantFrame, is_listed, answer}
+use Rattle.device_outside.specs.Told.{Told, Outcome, calls_of, read_fails, write_fails, hold}
 use Rattle.device_defs.specs.declared.answers.Stepped.{Stepped}
 use Rattle.device_defs.specs.declared.answers.Stepped.TheVariants as steps
 use Rattle.device_defs.specs.declared.usage.Usage.{Usage}
+use Rattle.device_defs.specs.Background.{other, copies_to, to_copy, to_recover, to_destage}
 use Rattle.device_defs.specs.Choosing.{choose}
 use Rattle.device_defs.specs.Command.{has_loss}
 use Rattle.device_defs.specs.Contents.{by_plain}
 use Rattle.device_defs.specs.Device.{event_begun}
-use Rattle.device_defs.specs.Image.{Imaged, Has, NoBytes, BadTrack, image}
+use Rattle.device_defs.specs.Image.{Got, Imaged, Has, NoBytes, BadTrack, level_bytes, image}
 use Rattle.device_defs.specs.Marks.{MarksStore, MarksDevice}
 use Rattle.device_defs.specs.Outcomes.{usage_of}
 use Rattle.device_defs.specs.Owed.{hear}
-use Rattle.device_defs.specs.Store.{tracks_of, level_at, frame_at, is_lost}
+use Rattle.device_defs.specs.Store.{tracks_of, level_at, takes_b, frame_at, is_lost}
 use Rattle.subsystem_defs.specs.declared.end.EventEnd.{EventEnd}
 use Rattle.subsystem_defs.specs.declared.end.EventEnd.TheVariants as ends
 use Rattle.subsystem_defs.specs.declared.event.Event.TheVariants as events
@@ -114,6 +117,68 @@ command_transfers d w half (Some entry) (Some chain) =
 command_transfers d w half (Some entry) None = no_transfers
 command_transfers d w half None chain = no_transfers
 
+-- Work in the background, once the notices of its event are taken
+
+-- the first part of a write to the volumes: one write to side A, and where that fails one to side B if it takes it; else one to side B
+abbrev pub first_writes : MarksStore → Told → ℕ
+first_writes s w =
+    if s.a.up then (if write_fails w.a && takes_b s then 2 else 1)
+    else if takes_b s then 1 else 0
+
+-- what was read is written, where it is a track
+abbrev pub saved_transfers : MarksStore → Told → Option Bool → Transfers
+saved_transfers s w (Some is_track) = if is_track then writes_alone (first_writes s w) else no_transfers
+saved_transfers s w None = no_transfers
+
+abbrev pub behind_read : Outcome MarksStore (Got Bool) → Transfers
+behind_read o = saved_transfers o.state o.told o.answer.bytes
+
+-- a track is recovered from its frame, or else is read first
+abbrev pub recovery_transfers : MarksStore → Told → ℕ → Option Bool → Transfers
+recovery_transfers s w t (Some modified) = writes_alone (first_writes s w)
+recovery_transfers s w t None = with_reads (missed_reads s t w) (behind_read (hold true (level_bytes by_plain s t) w))
+
+-- a copy is read from one side, and written to the other unless that read fails
+abbrev pub copy_transfers : Told → Option Side → Transfers
+copy_transfers w (Some side) = with_reads 1 (if read_fails (calls_of w (other side)) then no_transfers else writes_alone 1)
+copy_transfers w None = no_transfers
+
+-- a track is staged where it has no frame, isn't lost and gets one
+abbrev pub stage_transfers : MarksStore → Told → ℕ → Transfers
+stage_transfers s w t =
+    if is_some (frame_at s t) || is_lost s t then no_transfers
+    else if answer w.pool (WantFrame s.device t) then with_reads (missed_reads s t w) no_transfers else no_transfers
+
+abbrev pub destage_transfers : MarksStore → Told → Option ℕ → Transfers
+destage_transfers s w (Some t) = writes_alone (first_writes s w)
+destage_transfers s w None = no_transfers
+
+abbrev pub queue_transfers : MarksStore → Told → List ℕ → Transfers
+queue_transfers s w [] = destage_transfers s w (to_destage by_plain s)
+queue_transfers s w (t ∷ ts) = stage_transfers s w t
+
+abbrev pub copied_transfers : MarksStore → Told → Option ℕ → Transfers
+copied_transfers s w (Some t) = copy_transfers w (copies_to s t)
+copied_transfers s w None = queue_transfers s w s.queue
+
+-- the first of these that there is to do
+abbrev pub work_transfers : MarksStore → Told → Option ℕ → Transfers
+work_transfers s w (Some t) = recovery_transfers s w t (frame_at s t)
+work_transfers s w None = copied_transfers s w (to_copy s)
+
+abbrev pub work_of : Outcome MarksStore (Unit {0}) → Transfers
+work_of o = work_transfers o.state o.told (to_recover by_plain o.state)
+
+-- an open half write goes first there, too
+abbrev pub back_of : Pool → Option Mounted → Transfers
+back_of pool (Some m) =
+    if is_some m.device.store.half then writes_alone (second_writing m.device.store)
+    else work_of (hold true (hear by_plain 960 (event_begun m.device).store) (told_to pool m))
+back_of pool None = no_transfers
+
+abbrev pub back_transfers : Subsystem → ℕ → Transfers
+back_transfers s n = back_of s.pool (mounted_in s.mounted n)
+
 -- A step: the second part of an open half write, to side B where it takes it; else a command of the program that runs
 
 abbrev pub is_half_step : Stepped → Bool
@@ -140,7 +205,8 @@ pub record Makes (x : Transfers) (h : Happened) : Type 0 where
   pub reads : h.reads ≡ x.reads
   pub writes : h.writes ≡ x.writes
 
--- An event of a run makes the transfers of the table of events, and a step exactly these
+-- An event of a run makes the transfers of the table of events, and a step and work in the background exactly these
 pub record MovesExactly (x : Logged) : Type 0 where
   pub by_table : MovesByTable x
   pub steps : (n : ℕ) → event_of x.asked ≡ Some (events.Step n) → Makes (step_transfers x.happened.before n x.happened.end) x.happened
+  pub works : (n : ℕ) → event_of x.asked ≡ Some (events.Back n) → Makes (back_transfers x.happened.before n) x.happened

@@ -8,8 +8,8 @@ ghost use Rattle.move_laws.specs.Exactly.{MovesExactly};
 
 /// In the run of every deck a command reads no volume for a lost track or for a hit; for a miss it makes one read, and one more where side A's
 /// read fails and side B has the track. A write that is chosen to be fast or provisional writes no volume; one through makes one write to each side
-/// that takes it, or one to side A alone where the command is half done then, and the second part makes side B's. All other events make the
-/// transfers of the table of events.
+/// that takes it, or one to side A alone where the command is half done then, and the second part makes side B's. Work in the background makes
+/// exactly those of what there is to do. All other events make the transfers of the table of events, which are none.
 pub fn run_moves_exactly()
     ensures { (deck : DeckLines) → All MovesExactly (run_of deck).events }
 {}
