@@ -1,0 +1,10 @@
+mod Holds
+mod SideB
+mod Looks
+mod Writes
+mod Works
+mod Walks
+mod Commands
+mod Steps
+mod ExactRuns
+mod MoveRows
