@@ -1,12 +1,12 @@
 -- The tracks that a link has, as the volume of a file.
-use Rattle.std.proofs.Common.{◌≡◌, ◌∙◌, ◌≤◌, ◌<◌, ◌+◌, ◌*◌, ℕ, List, [], ◌∷◌, ◌++◌, length, take, get_or, map, arith, sym, ap, subst}
+use Rattle.std.proofs.Common.{◌≡◌, ◌∙◌, ◌≤◌, ◌<◌, ◌+◌, ◌*◌, ℕ, List, [], ◌∷◌, ◌++◌, length, take, sym, ap, subst}
 use Rattle.std.proofs.lemmas.List.{get_or-map, length-map, map-append, take_all, take_more}
 use Rattle.ckd_types.specs.declared.geometry.Geometry.{Geometry}
 use Rattle.ckd_types.specs.declared.record.Track.{Track}
 use Rattle.ckd_types.specs.Track.{empty_track}
 use Rattle.ckd_types.specs.Volume.{track_in}
 use Rattle.track_image.specs.Image.{Image}
-use Rattle.volume_file.specs.File.{ImageVolume, IsPlaced, IsWhole, empty_image, image_in}
+use Rattle.volume_file.specs.File.{IsPlaced, IsWhole, empty_image, image_in}
 use Rattle.volume_save.specs.Saving.{volume_with}
 use Rattle.copy_tool.specs.Mirroring.{images_of}
 

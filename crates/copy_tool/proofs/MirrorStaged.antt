@@ -1,12 +1,12 @@
 -- What an event or an order leaves of a mirror that is being made, and which lines may be done.
-use Rattle.std.proofs.Common.{◌≡◌, ◌==◌, ℕ, Bool, true, false, List, [], ◌∷◌, map, Option, Some, None, Result, Ok, Err, refl, sym, subst}
-use Rattle.std.specs.Prelude.{IfSome, ◌||◌}
+use Rattle.std.proofs.Common.{◌≡◌, ℕ, Bool, true, false, List, [], ◌∷◌, map, refl, sym, subst}
+use Rattle.std.specs.Prelude.{◌||◌}
 use Rattle.std.specs.List.{list_any}
 use Rattle.deck_plan.specs.declared.event.EventLine.{EventLine}
 use Rattle.deck_plan.specs.declared.event.EventLine.TheVariants as lines
 use Rattle.subsystem_core.specs.Devices.{numbers_of}
 use Rattle.subsystem_defs.specs.Lines.{asked_by}
-use Rattle.line_drive.specs.Driven.{Occurred, Comes, Replaces, Unpairs}
+use Rattle.line_drive.specs.Driven.{Occurred}
 use Rattle.line_drive.specs.Staging.{GoesOn, LineMay, LinesMay}
 use Rattle.copy_tool.specs.declared.mirroring.MirrorStage.{MirrorStage}
 use Rattle.copy_tool.specs.Mirroring.{lends}

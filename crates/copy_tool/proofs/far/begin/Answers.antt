@@ -1,4 +1,4 @@
-use Rattle.std.proofs.Common.{◌∙◌, ◌*◌, ℕ, Some, ap, refl, subst, sym}
+use Rattle.std.proofs.Common.{◌∙◌, ◌*◌, ℕ, Some, ap, refl, sym}
 use Rattle.std.proofs.lemmas.List.FromFn.{length-map-range_with_len}
 use Rattle.ckd_types.specs.Track.{empty_track}
 use Rattle.ckd_types.specs.Volume.{empty_volume}
@@ -6,8 +6,7 @@ use Rattle.device_outside.specs.Bay.{Bay}
 use Rattle.subsystem_core.specs.Devices.{numbers_of}
 use Rattle.subsystem_defs.specs.Decks.{opened}
 use Rattle.deck_run.proofs.Ready.{read_devices}
-use Rattle.remote_copy.specs.FarVolume.{FarVolume, link_view}
-use Rattle.copy_tool.specs.MirrorStanding.{failing}
+use Rattle.remote_copy.specs.FarVolume.{FarVolume}
 use Rattle.copy_tool.proofs.MirrorBegun.{begun_so, is_new}
 use Rattle.copy_tool.proofs.far.begin.Goals as goal
 
@@ -29,9 +28,10 @@ new-mirror-requires-clause-unused c =
 
 pub new-mirror-requires-clause-fits : goal.new-mirror-requires-clause-fits
 new-mirror-requires-clause-fits c =
-    rw (c.device-device.ensures, c.in_ok-link.ensures)
-    (c.geometry-geometry.ensures,
-    length-map-range_with_len empty_track 0 (c.cylinders-cylinders.result * 15) ∙ ap (λ (n : ℕ). n * 15) c.cylinders-cylinders.ensures)
+    rw (c.device-device.ensures, c.in_ok-link.ensures) (
+      c.geometry-geometry.ensures,
+      length-map-range_with_len empty_track 0 (c.cylinders-cylinders.result * 15) ∙ ap (λ (n : ℕ). n * 15) c.cylinders-cylinders.ensures,
+    )
 
 pub new-mirror-requires-clause-empty : goal.new-mirror-requires-clause-empty
 new-mirror-requires-clause-empty c = rw (c.device-device.ensures, c.in_ok-link.ensures, c.cylinders-cylinders.ensures) refl

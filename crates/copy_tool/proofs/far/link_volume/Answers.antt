@@ -1,4 +1,4 @@
-use Rattle.std.proofs.Common.{◌≡◌, ◌≤◌, ◌<◌, ◌*◌, ◌∙◌, ℕ, length, arith, below_more, refl, sym, ap, subst}
+use Rattle.std.proofs.Common.{◌≡◌, ◌≤◌, ◌<◌, ◌∙◌, ℕ, length, arith, below_more, refl, sym, ap, subst}
 use Rattle.std.proofs.lemmas.Grind.{common_steps}
 use Rattle.ckd_types.specs.Geometry.{cchh_of}
 use Rattle.ckd_types.specs.Track.{Fits}

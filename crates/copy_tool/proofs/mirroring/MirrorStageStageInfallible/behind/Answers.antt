@@ -1,5 +1,4 @@
 use Rattle.std.proofs.Common.{refl}
-use Rattle.line_drive.proofs.Driving.{goes_self}
 use Rattle.copy_tool.proofs.MirrorStaged.{mirror_goes_on}
 use Rattle.copy_tool.proofs.mirroring.MirrorStageStageInfallible.behind.Goals as goal
 
