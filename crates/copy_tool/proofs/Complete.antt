@@ -66,6 +66,7 @@ pub copies : (status : CopyStatus) (task : Option Task) (d n : ℕ) (before afte
     before ≡ Some text → task ≡ Some (tasks.Copy d n) → parsed text ≡ Ok deck → Tells status task before after held holds →
     (status ≡ ReadFault → ⊥) → (status ≡ WriteFault → ⊥) → (status ≡ status_for deck d n) ⊎ (status ≡ NoMemory)
 copies status None d n before after held holds text deck is named p told nr nw = absurd (none-some (tasks.Copy d n) named)
+copies status (Some (tasks.Mirror e m)) d n before after held holds text deck is named p told nr nw = absurd (cc)
 copies status (Some (tasks.Copy e m)) d n before after held holds text deck is named p told nr nw =
     let same_device : e ≡ d = cc in
     let same_lines : m ≡ n = cc in

@@ -5,3 +5,11 @@ pub mod Looking
 pub mod Rest
 pub mod Begun
 pub mod Staged
+pub mod Alike
+pub mod Firms
+pub mod MirrorBegun
+pub mod MirrorStaged
+pub mod FarVolumes
+pub mod LinkVolumes
+pub mod MirrorTelling
+pub mod MirrorComplete

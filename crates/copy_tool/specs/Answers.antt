@@ -48,12 +48,19 @@ copy_of None n = None
 copy_of (Some d) None = None
 copy_of (Some d) (Some n) = Some (tasks.Copy d n)
 
+abbrev pub mirror_of : Option ℕ → Option ℕ → Option Task
+mirror_of None n = None
+mirror_of (Some d) None = None
+mirror_of (Some d) (Some n) = Some (tasks.Mirror d n)
+
 -- numbers have 32 bits here
 abbrev pub number_of : List ℕ → Option ℕ
 number_of word = number_in 0 4294967295 word
 
 abbrev pub task_by : List ℕ → List ℕ → List ℕ → Option Task
-task_by word d n = if bytes_eq word (codes "copy") then copy_of (number_of d) (number_of n) else None
+task_by word d n =
+    if bytes_eq word (codes "copy") then copy_of (number_of d) (number_of n)
+    else if bytes_eq word (codes "mirror") then mirror_of (number_of d) (number_of n) else None
 
 -- a word and two numbers name a task
 unfoldable pub task_of : List (List ℕ) → Option Task
@@ -64,9 +71,9 @@ task_of (word ∷ d ∷ n ∷ []) = task_by word d n
 task_of (word ∷ d ∷ n ∷ other ∷ words) = None
 
 unfoldable pub usage_text : List ℕ
-usage_text = codes "usage: copy D N\n"
+usage_text = codes "usage: copy D N, mirror D N\n"
 
--- what an answer says of the words, of the source and of the sink
+-- what an answer says of the words, of the source and of the sink. Words that name no copy are wrong
 abbrev pub Tells : CopyStatus → Option Task → Option (List ℕ) → Option (List ℕ) → Option (List ℕ) → Option (List ℕ) → Type 0
-Tells status None before after held holds = (after ≡ before) × IsWritten status Usage held holds usage_text
 Tells status (Some (tasks.Copy d n)) before after held holds = TellsCopy status d n before after held holds
+Tells status _ before after held holds = (after ≡ before) × IsWritten status Usage held holds usage_text

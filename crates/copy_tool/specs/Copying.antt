@@ -63,7 +63,7 @@ copying_of deck d n =
     if is_declared deck d then if nat_le n (length deck.events) then copying deck d n else not_copied Events else not_copied Device
 
 -- this is answered, unless memory runs out
-abbrev pub Gives : {A : Type 0} → Result A (Stopped Uncopied) → Result A (Stopped Uncopied) → Type 0
+abbrev pub Gives : {A E : Type 0} → Result A (Stopped E) → Result A (Stopped E) → Type 0
 Gives (Err stopped.NoMemory) wanted = Unit {0}
 Gives result wanted = result ≡ wanted
 

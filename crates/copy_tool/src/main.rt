@@ -1,17 +1,24 @@
-//! Writes the volume file of a device as it was after the first event lines of a deck, copied while the others are done.
+//! Writes the volume file of a device as it was after the first event lines of a deck, copied while the others are done; or the one of
+//! a far volume to which the device was mirrored in the run.
 #![tactic(auto)]
 
 mod copying;
 mod deck;
+mod far;
+mod mirror;
+mod mirroring;
 mod task;
 mod top;
 mod uncopied;
+mod unmirrored;
 
 use ckd_outside::{StdSink, StdSource};
+use mirror::mirror_top;
 use std::alloc::AllocError;
 use std::env::Args;
 use std::process::ExitCode;
 use std::{env, io};
+use task::{Task, task_of};
 use top::{CopyStatus, code_of, copy_top, words_of};
 
 fn ended(status: CopyStatus) -> ExitCode {
@@ -23,7 +30,15 @@ fn serve(rt: &HostRuntime, arguments: Option<&[&str]>) -> ExitCode {
     let mut source = StdSource::new(rt.reader());
     let mut sink = StdSink::new(io::writer(rt));
     let words = words_of(arguments);
-    ended(copy_top(rt.alloc(), words, &mut source, &mut sink))
+    match task_of(words) {
+        Some(Task::Mirror { .. }) => {
+            let status = mirror_top(rt.alloc(), words, &mut source, &mut sink);
+            ExitCode::from(mirror::code_of(status))
+        }
+        Some(Task::Copy { .. }) | None => {
+            ended(copy_top(rt.alloc(), words, &mut source, &mut sink))
+        }
+    }
 }
 
 /// Runs with the arguments behind the program's name.

@@ -23,7 +23,7 @@ use std::alloc::Global;
 use volume_file::{FileVolume, save};
 
 /// One byte more than a deck may have.
-const MOST_READ: usize = 16_777_217;
+pub(crate) const MOST_READ: usize = 16_777_217;
 
 /// How the program ends.
 #[derive(Clone, Copy, Debug, PartialEq, Eq)]
@@ -40,7 +40,7 @@ pub enum CopyStatus {
     Limit(Which),
     /// Memory is wanting, and nothing was written.
     NoMemory,
-    /// The words name no task, and the usage was written.
+    /// The words name no copy, and the usage was written.
     Usage,
     /// The deck has no device of that number, which was written.
     Device,
@@ -94,12 +94,13 @@ pub fn words_of<'a>(arguments: Option<&'a [&'a str]>) -> &'a [&'a str]
     }
 }
 
+/// Writes which words there are.
 #[tactic(auto, unfolding(crate::specs::Answers::usage_text))]
-fn write_usage<K: Sink>(sink: &mut K) -> Result<(), Failed>
+pub(crate) fn write_usage<K: Sink>(sink: &mut K) -> Result<(), Failed>
     ensures bytes { Writes (K.held sink.old) (K.held sink.new) result usage_text }
     ensures cause { HasCause (K.faults sink.old) (K.faults sink.new) result }
 {
-    write_line(sink, &[Piece::Text(b"usage: copy D N\n")])
+    write_line(sink, &[Piece::Text(b"usage: copy D N, mirror D N\n")])
 }
 
 fn usage<K: Sink>(sink: &mut K) -> CopyStatus
@@ -238,11 +239,11 @@ fn serve<S: Source, K: Sink>(
 {
     match task_of(words) {
         Some(Task::Copy { device, lines }) => serve_copy(alloc, device, lines, source, sink),
-        None => usage(sink),
+        Some(Task::Mirror { .. }) | None => usage(sink),
     }
 }
 
-/// Does what the words ask for, over a source and a sink. `copy D N` reads a deck, does its first N event lines, and writes the file
+/// Does what the words of a copy ask for, over a source and a sink. `copy D N` reads a deck, does its first N event lines, and writes the file
 /// of its device D as it is then. The tracks are copied one by one in rising order, each behind an event of the other lines, and the
 /// rest after the last one; nothing is written before the last track is copied. A read fault is answered exactly where a read failed.
 pub fn copy_top<S: Source, K: Sink>(
