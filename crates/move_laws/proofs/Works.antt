@@ -251,7 +251,7 @@ granted_does : (s : MarksStore) (w y : Told) (t : ℕ) → y.a ≡ w.a → Made 
 unfolding T.hold
 granted_does s w y t same x true =
     let z =
-        made_past true (level_bytes by_plain s t) (λ z g. staged_bytes by_plain t z g g.bytes) y (level_made t s y) (λ z g. bytes_quiet t z g g.bytes) in
+    made_past true (level_bytes by_plain s t) (λ z g. staged_bytes by_plain t z g g.bytes) y (level_made t s y) (λ z g. bytes_quiet t z g g.bytes) in
     let a = x.reads in
     let b = x.writes in
     let c = z.reads in
