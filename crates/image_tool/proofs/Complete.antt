@@ -1,5 +1,5 @@
 -- What a task needs is there, and nothing fails: it is done.
-use Rattle.std.proofs.Common.{◌≡◌, ◌⊎◌, inl, inr, ℕ, zero, suc, ◌+◌, ◌*◌, ◌<◌, ◌≤◌, Bool, true, false, List, [], ◌∷◌, ◌++◌, length, Option, Some, None, Result, Ok, Err, refl, sym, ap, subst, ◌∙◌, arith}
+use Rattle.std.proofs.Common.{◌≡◌, ◌⊎◌, inl, inr, ℕ, zero, suc, ◌+◌, ◌*◌, ◌<◌, ◌≤◌, List, [], ◌∷◌, ◌++◌, length, Option, Some, None, Result, Ok, Err, refl, sym, ap, subst, ◌∙◌, arith}
 use Rattle.ckd_types.specs.declared.geometry.Geometry.{Geometry}
 use Rattle.std.specs.Io.KnownBytes.{Consumes, IsAtEnd}
 use Rattle.std.proofs.lemmas.Bool.{false≢true}
@@ -39,22 +39,7 @@ use Rattle.image_tool.specs.declared.status.ImageStatus.TheVariants.{
 }
 use Rattle.image_tool.specs.Answers.{Suits, Tells}
 use Rattle.image_tool.specs.Reading.{Checks, Finds, IsChecked, IsFirstBad, IsHeld, IsOpened, Shows, check_status, checking, refused_by, shown_status}
-use Rattle.image_tool.specs.Storing.{
-  IsFull,
-  IsGiven,
-  IsImage,
-  IsMade,
-  IsNoImage,
-  IsNoVolume,
-  MadeBy,
-  StoredBy,
-  TellsFrom,
-  TellsGiven,
-  TellsLoad,
-  TellsNew,
-  TellsVolume,
-  is_alike,
-}
+use Rattle.image_tool.specs.Storing.{MadeBy, StoredBy, TellsFrom, TellsGiven, TellsLoad, TellsNew, TellsVolume, is_alike}
 use Rattle.image_tool.specs.Written.{IsWritten, Outside}
 use Rattle.image_tool.proofs.Stored.{self_alike}
 

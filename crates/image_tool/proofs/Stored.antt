@@ -1,5 +1,5 @@
 -- What storing left is told.
-use Rattle.std.proofs.Common.{◌≡◌, ◌≢◌, ◌⊎◌, inl, inr, ℕ, ◌*◌, ◌<◌, ◌&&◌, ◌==◌, Bool, true, false, eq-eqb, List, [], ◌∷◌, length, take, Option, Some, None, Result, Ok, Err, refl, sym, ap, subst, ◌∙◌, arith}
+use Rattle.std.proofs.Common.{◌≡◌, ◌≢◌, inl, ℕ, ◌*◌, ◌<◌, ◌&&◌, ◌==◌, Bool, true, false, eq-eqb, List, [], ◌∷◌, length, take, Option, Some, None, Result, Ok, Err, refl, sym, ap, subst, ◌∙◌, arith}
 use Rattle.std.proofs.lemmas.Bool.{eqb-true, false≢true}
 use Rattle.ckd_types.specs.declared.geometry.Geometry.{Geometry}
 use Rattle.ckd_types.specs.declared.geometry.Geometry.TheVariants.{D3390, D3380}
@@ -9,8 +9,8 @@ use Rattle.disk_image.specs.declared.layout.Layout.{Layout}
 use Rattle.disk_image.specs.Calls.{IsLong}
 use Rattle.disk_image.specs.Image.{IsEmpty}
 use Rattle.disk_image.specs.Opening.{◌>>=◌, head_in, layout_by, opening}
-use Rattle.disk_image.specs.Storing.{IsPartly, PartlySo, Stored, StoredSo}
-use Rattle.disk_image.specs.Volume.{Holds, Told, layout_of}
+use Rattle.disk_image.specs.Storing.{PartlySo, StoredSo}
+use Rattle.disk_image.specs.Volume.{Told, layout_of}
 use Rattle.volume_file.specs.File.{ImageVolume}
 use Rattle.image_tool.specs.declared.status.ImageStatus.{ImageStatus}
 use Rattle.image_tool.specs.Reading.{refused_by}

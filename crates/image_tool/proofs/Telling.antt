@@ -1,5 +1,5 @@
 -- What was found in a file is told.
-use Rattle.std.proofs.Common.{◌≡◌, ◌⊎◌, inl, inr, ℕ, ◌+◌, ◌*◌, ◌<◌, Bool, true, false, List, [], ◌∷◌, length, Option, Some, None, Result, Ok, Err, refl, sym, ap, subst, ◌∙◌}
+use Rattle.std.proofs.Common.{◌≡◌, ◌⊎◌, inl, inr, ℕ, ◌+◌, ◌*◌, ◌<◌, Bool, true, false, List, [], ◌∷◌, length, Option, Some, None, Result, Ok, Err, sym, ap, subst, ◌∙◌}
 use Rattle.std.specs.Prelude.{◌==◌}
 use Rattle.std.specs.List.{flat_map}
 use Rattle.std.specs.Io.KnownBytes.{Appends}
@@ -11,7 +11,6 @@ use Rattle.disk_image.specs.declared.fault.ImageFault.{ImageFault}
 use Rattle.disk_image.specs.declared.fault.ImageFault.TheVariants as faults
 use Rattle.disk_image.specs.declared.layout.Layout.{Layout}
 use Rattle.disk_image.specs.declared.volume.TrackFault.{TrackFault}
-use Rattle.disk_image.specs.Image.{TellsOpening}
 use Rattle.disk_image.specs.Opening.{◌>>=◌, opening}
 use Rattle.disk_image.specs.Volume.{Holds, HasTracks, TellsBad, Told, faults_in, layout_of}
 use Rattle.volume_file.specs.File.{ImageVolume, IsWhole}

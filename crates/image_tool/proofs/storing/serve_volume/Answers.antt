@@ -1,4 +1,4 @@
-use Rattle.std.proofs.Common.{◌≡◌, inl, inr, refl, sym, ap, subst, ◌∙◌}
+use Rattle.std.proofs.Common.{inl, inr, refl, sym, ap, subst, ◌∙◌}
 use Rattle.disk_image.specs.declared.layout.Layout.{Layout}
 use Rattle.disk_image.specs.Image.{IsLayoutOf}
 use Rattle.image_tool.specs.Storing.{is_alike}
