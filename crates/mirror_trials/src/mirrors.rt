@@ -80,16 +80,14 @@ fn mirrored(alloc: Global, d: DeviceNo, fail: &[u32]) -> Result<Mirror<MemVolume
 
 fn start(mirror: &mut Mirror<MemVolume, MemLink>, d: DeviceNo) -> Result<(), Fail> {
     let path = PathNo::new(1).ok_or("path")?;
-    if mirror.subsystem().may_come(Event::Start(path, d)) {
-        mirror.event(Event::Start(path, d))?;
+    if mirror.subsystem().has_device(d) && mirror.event(Event::Start(path, d)).is_ok() {
         return Ok(());
     }
     Err("start".into())
 }
 
 fn step(mirror: &mut Mirror<MemVolume, MemLink>, d: DeviceNo) -> Result<(), Fail> {
-    if mirror.subsystem().may_come(Event::Step(d)) {
-        mirror.event(Event::Step(d))?;
+    if mirror.subsystem().has_device(d) && mirror.event(Event::Step(d)).is_ok() {
         return Ok(());
     }
     Err("step".into())
