@@ -17,6 +17,7 @@ use Rattle.deck_top.specs.declared.top.Status.TheVariants.{Reported, DeckRefused
 use Rattle.deck_top.specs.Handed.{TakesBack}
 use Rattle.device_outside.specs.Bay.{Bay}
 use Rattle.device_outside.specs.declared.bay.Spoiled.{Spoiled}
+use Rattle.move_laws.specs.Exactly.{MovesExactly}
 use Rattle.promise_laws.specs.Kept.{KeepWrites}
 use Rattle.promise_laws.specs.Origins.{HaveOrigins}
 use Rattle.report_text.specs.Numbers.{number_in}
@@ -96,12 +97,14 @@ FrontOf (Ok d) task spoiled held holds = (text : List ℕ) × (spoiled ≡ [] �
 -- the report shows each device's history, which is one of a plain device; each equipment check is explained; and while each failure is repaired
 -- before the next one comes nothing is missed. Each event brings into a journal only what an event of its kind may bring, a new volume at the
 -- UNPAIR alone that gives it back; and what each track is without data of cache fast write was made by the writes since then that were acknowledged,
--- and by those of commands that were cut in their midst
+-- and by those of commands that were cut in their midst. The reads and writes of volumes that each event shows are exactly those of the rules: of a command
+-- those of its looks and its write, where a hit reads none and a fast or provisional write writes none
 pub record RunsAsPromised (d : DeckLines) : Type 0 where
   pub shown : DeckRunsPlainly d
   pub promised : IsPromised d
   pub origins : All HaveOrigins (run_of d).events
   pub kept : All KeepWrites (run_of d).events
+  pub transfers : All MovesExactly (run_of d).events
 
 -- what is done for a deck: its canonical text, or the report or the summary of its run, of which all is so that is promised, and whose volumes
 -- go back to the bay

@@ -21,6 +21,7 @@ use ckd_types::NoMemory;
 use deck_run::FinishedRun;
 use deck_text::Deck;
 use device_outside::{MemBay, MemVolume};
+use move_laws::run_moves_exactly;
 use promise_laws::{read_run_has_origins, read_run_keeps_writes};
 use report_laws::read_run_runs_plainly;
 use report_text::write_report;
@@ -48,6 +49,7 @@ pub(crate) fn run_deck(
     read_run_is_promised();
     read_run_has_origins();
     read_run_keeps_writes();
+    run_moves_exactly();
     read_run_runs_plainly();
     let ran = deck_run::run_deck(alloc, deck, bay)?;
     Ok(ran)

@@ -16,4 +16,5 @@ returns-clause-well c = record {
   promised = c.read_run_is_promised.ensures c.requires.0 c.args.deck.now c.requires.1;
   origins = c.read_run_has_origins.ensures c.requires.0 c.args.deck.now c.requires.1;
   kept = c.read_run_keeps_writes.ensures c.requires.0 c.args.deck.now c.requires.1;
+  transfers = c.run_moves_exactly.ensures c.args.deck.now;
 }
