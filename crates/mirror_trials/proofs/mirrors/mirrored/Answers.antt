@@ -12,6 +12,7 @@ pub new-requires-2-clause-fits : goal.new-requires-2-clause-fits
 new-requires-2-clause-fits c =
     let made : c.in_ok-link.link ≡ new_far c.geometry.result c.cylinders.result c.args.fail.now = c.in_ok-link.ensures in
     let sized : length (empty_volume c.cylinders.result) ≡ c.cylinders.result * 15 = length-map-range_with_len empty_track 0 (c.cylinders.result * 15) in
-    subst (λ o. IfSome o (IsFarFor (link_view c.in_ok-link.link))) (sym c.device-device.ensures)
-      ( ap (λ (f : FarVolume). f.geometry) made ∙ c.geometry.ensures
-      , ap (λ (f : FarVolume). length f.tracks) made ∙ sized ∙ ap (λ (n : ℕ). n * 15) c.cylinders.ensures )
+    subst (λ o. IfSome o (IsFarFor (link_view c.in_ok-link.link))) (sym c.device-device.ensures) (
+      ap (λ (f : FarVolume). f.geometry) made ∙ c.geometry.ensures,
+      ap (λ (f : FarVolume). length f.tracks) made ∙ sized ∙ ap (λ (n : ℕ). n * 15) c.cylinders.ensures,
+    )
