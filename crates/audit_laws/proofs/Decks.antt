@@ -20,7 +20,7 @@ use Rattle.report_places.specs.declared.state.Due.{Due}
 use Rattle.report_places.specs.declared.state.Due.TheVariants.{Next, Nothing}
 use Rattle.deck_audit.specs.Device.{AuditedDevice, new_device}
 use Rattle.deck_audit.specs.State.{AuditState, first_state}
-use Rattle.report_audit.specs.FirstFault.{LeadsTo}
+use Rattle.audit_laws.specs.FirstFault.{LeadsTo}
 use Rattle.device_laws.proofs.WaitingResets.{nothing_is_due}
 use Rattle.audit_laws.specs.Plain.{AreOf, ArePlain}
 use Rattle.audit_laws.proofs.Devices as each

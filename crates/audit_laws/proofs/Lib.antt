@@ -1,3 +1,4 @@
+pub mod FirstFaults
 mod Devices
 mod Sound
 mod Works

@@ -44,7 +44,7 @@ use Rattle.report_reading.specs.declared.fault.LineFault.{LineFault}
 use Rattle.report_reading.specs.Reading.{line_of}
 use Rattle.report_auditor.specs.declared.status.AuditWhy.TheVariants.{Place}
 use Rattle.report_auditor.specs.Verdict.{judged_by, or_history}
-use Rattle.report_audit.specs.FirstFault.{LeadsTo}
+use Rattle.audit_laws.specs.FirstFault.{LeadsTo}
 use Rattle.audit_laws.proofs.Devices.{But, Each, IsOf, but_of_each, but_put, but_told, each_mapped, each_of_but, each_so}
 use Rattle.audit_laws.proofs.Sound.{Darkening, Sound, cut_dark, cut_more_dark, cut_more_sound, darkened_sound, given_sound}
 use Rattle.audit_laws.proofs.Sound.{hardened_sound, lost_sound, reset_sound, runs_on, started_sound}

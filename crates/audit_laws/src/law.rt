@@ -1,12 +1,23 @@
-ghost use Rattle.std.specs.Prelude.{◌≡◌, ℕ, List, Ok};
+ghost use Rattle.std.specs.Prelude.{◌≡◌, ◌↔◌, ℕ, List, Ok};
 ghost use Rattle.deck_text.specs.DeckLines.{DeckLines};
 ghost use Rattle.deck_text.specs.Parse.{parsed};
 ghost use Rattle.report_places.specs.declared.state.Due.TheVariants.{Next};
 ghost use Rattle.deck_audit.specs.State.{AuditState, first_state};
 ghost use Rattle.report_auditor.specs.Verdict.{read_back};
-ghost use Rattle.report_auditor.specs.declared.status.AuditStatus.TheVariants.{Yes};
-ghost use Rattle.report_audit.specs.FirstFault.{IsGood, LeadsTo};
+ghost use Rattle.report_auditor.specs.declared.status.AuditStatus.TheVariants.{Yes, No};
+ghost use Rattle.report_auditor.specs.declared.status.AuditWhy.{AuditWhy as Why};
+ghost use Rattle.audit_laws.specs.FirstFault.{IsBad, IsGood, LeadsTo};
 ghost use Rattle.audit_laws.specs.Plain.{ArePlain, IsPlainReport};
+
+/// A text reads back as yes exactly where it is a deck and a report of which no line has a fault and the last is FINISH.
+pub fn yes_tells_of_no_fault()
+    ensures { (text : List ℕ) → (read_back text ≡ Yes) ↔ IsGood text }
+{}
+
+/// It reads back as no exactly where it is a deck and a report whose first line with a fault is that line, with that fault.
+pub fn no_tells_the_first_fault()
+    ensures { (text : List ℕ) (line : ℕ) (why : Why) → (read_back text ≡ No line why) ↔ IsBad text line why }
+{}
 
 /// Lines without a fault, up to where no piece of work and no order is half told, are of plain devices: each device of the deck, in its
 /// order, has a history that a plain device could have, its journal is legal.

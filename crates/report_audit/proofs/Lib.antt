@@ -1,5 +1,4 @@
 pub mod Cuts
 pub mod Steps
 pub mod DeckSizes
-pub mod FirstFaults
 pub mod Whole

@@ -12,9 +12,9 @@ use Rattle.report_auditor.specs.declared.status.AuditStatus.{AuditStatus}
 use Rattle.report_auditor.specs.declared.status.AuditStatus.TheVariants.{Yes, No, NoReport, DeckRefused, ReadFault, WriteFault, Limit, NoMemory, Usage}
 use Rattle.report_auditor.specs.declared.status.AuditWhy.{AuditWhy}
 use Rattle.report_auditor.specs.Verdict.{cut_lines, read_back, read_back_at, report_from}
-use Rattle.report_audit.specs.FirstFault.{IsBad, IsGood}
-use Rattle.report_audit.proofs.FirstFaults.{no_bad, read_long, read_short, yes_good}
-use Rattle.report_audit.specs.Answers.{IsReadBack, Reads, Tells, TellsAudit, status_text}
+use Rattle.audit_laws.specs.FirstFault.{IsBad}
+use Rattle.audit_laws.proofs.FirstFaults.{no_bad, read_long, read_short}
+use Rattle.report_audit.specs.Answers.{HasFailed, IsReadBack, Reads, Tells, TellsAudit, status_text}
 use Rattle.report_audit.specs.Progress.{Comes, GoesOn, Halfway, is_answer}
 
 -- what a text comes to that isn't too long
@@ -109,29 +109,46 @@ came_of status before after text is came =
     came.comes ∙ same_read text came.text after (subst (λ (b : Option (List ℕ)). Reads b after came.text) is came.reads)
 
 by_audit : (status : AuditStatus) (before after held holds : Option (List ℕ)) (text : List ℕ) → before ≡ Some text
-    → TellsAudit status before after held holds → (status ≡ ReadFault → ⊥) → (status ≡ WriteFault → ⊥)
-    → (status ≡ read_back text) ⊎ (status ≡ NoMemory)
-by_audit Yes before after held holds text is tells nr nw = inl (came_of Yes before after text is tells.came)
-by_audit (No line why) before after held holds text is tells nr nw = inl (came_of (No line why) before after text is tells.came)
-by_audit NoReport before after held holds text is tells nr nw = inl (came_of NoReport before after text is tells.came)
-by_audit (DeckRefused line why) before after held holds text is tells nr nw = inl (came_of (DeckRefused line why) before after text is tells.came)
-by_audit (Limit which) before after held holds text is tells nr nw = inl (came_of (Limit which) before after text is tells.came)
-by_audit NoMemory before after held holds text is tells nr nw = inr refl
-by_audit ReadFault before after held holds text is tells nr nw = absurd (nr refl)
-by_audit WriteFault before after held holds text is tells nr nw = absurd (nw refl)
-by_audit Usage before after held holds text is tells nr nw = absurd tells
+    → TellsAudit status before after held holds → (status ≡ read_back text) ⊎ HasFailed status
+by_audit Yes before after held holds text is tells = inl (came_of Yes before after text is tells.came)
+by_audit (No line why) before after held holds text is tells = inl (came_of (No line why) before after text is tells.came)
+by_audit NoReport before after held holds text is tells = inl (came_of NoReport before after text is tells.came)
+by_audit (DeckRefused line why) before after held holds text is tells = inl (came_of (DeckRefused line why) before after text is tells.came)
+by_audit (Limit which) before after held holds text is tells = inl (came_of (Limit which) before after text is tells.came)
+by_audit NoMemory before after held holds text is tells = inr (inl refl)
+by_audit ReadFault before after held holds text is tells = inr (inr (inl refl))
+by_audit WriteFault before after held holds text is tells = inr (inr (inr refl))
+by_audit Usage before after held holds text is tells = absurd tells
+
+answered : (named : Bool) (status : AuditStatus) (before after held holds : Option (List ℕ)) (text : List ℕ) → named ≡ true → before ≡ Some text
+    → Tells named status before after held holds → (status ≡ read_back text) ⊎ HasFailed status
+answered true status before after held holds text names is tells = by_audit status before after held holds text is tells
+answered false status before after held holds text names is tells = absurd (true≢false (sym names))
+
+calm : (status answer : AuditStatus) → (status ≡ answer) ⊎ HasFailed status → (status ≡ ReadFault → ⊥) → (status ≡ WriteFault → ⊥)
+    → (status ≡ answer) ⊎ (status ≡ NoMemory)
+calm status answer (inl is) nr nw = inl is
+calm status answer (inr (inl memory)) nr nw = inr memory
+calm status answer (inr (inr (inl read))) nr nw = absurd (nr read)
+calm status answer (inr (inr (inr write))) nr nw = absurd (nw write)
 
 pub complete : (named : Bool) (status : AuditStatus) (before after held holds : Option (List ℕ)) (text : List ℕ) → named ≡ true → before ≡ Some text
     → Tells named status before after held holds → (status ≡ ReadFault → ⊥) → (status ≡ WriteFault → ⊥)
     → (status ≡ read_back text) ⊎ (status ≡ NoMemory)
-complete true status before after held holds text names is tells nr nw = by_audit status before after held holds text is tells nr nw
-complete false status before after held holds text names is tells nr nw = absurd (true≢false (sym names))
+complete named status before after held holds text names is tells nr nw =
+    calm status (read_back text) (answered named status before after held holds text names is tells) nr nw
+
+pub own_told : (named : Bool) (status : AuditStatus) (before after held holds : Option (List ℕ)) (text : List ℕ) → named ≡ true → before ≡ Some text
+    → Tells named status before after held holds → read_back text ≡ Yes → (status ≡ Yes) ⊎ HasFailed status
+own_told named status before after held holds text names is tells reads =
+    subst (λ (answer : AuditStatus). (status ≡ answer) ⊎ HasFailed status) reads
+    (answered named status before after held holds text names is tells)
 
 -- What yes and no say
 
 yes_came : (status : AuditStatus) (before after held holds : Option (List ℕ)) (text : List ℕ) → status ≡ Yes → before ≡ Some text
-    → TellsAudit status before after held holds → IsGood text
-yes_came Yes before after held holds text yes_is is tells = (yes_good text).0 (sym (came_of Yes before after text is tells.came))
+    → TellsAudit status before after held holds → read_back text ≡ Yes
+yes_came Yes before after held holds text yes_is is tells = sym (came_of Yes before after text is tells.came)
 yes_came (No line why) before after held holds text yes_is is tells = absurd (cc)
 yes_came NoReport before after held holds text yes_is is tells = absurd (cc)
 yes_came (DeckRefused line why) before after held holds text yes_is is tells = absurd (cc)
@@ -141,10 +158,10 @@ yes_came ReadFault before after held holds text yes_is is tells = absurd (cc)
 yes_came WriteFault before after held holds text yes_is is tells = absurd (cc)
 yes_came Usage before after held holds text yes_is is tells = absurd (cc)
 
-pub yes_told : (named : Bool) (before after held holds : Option (List ℕ)) (text : List ℕ) (status : AuditStatus) → Tells named status before after held holds
-    → before ≡ Some text → status ≡ Yes → IsGood text
-yes_told true before after held holds text status tells is yes_is = yes_came status before after held holds text yes_is is tells
-yes_told false before after held holds text status tells is yes_is = elim tells.1 [
+pub yes_read : (named : Bool) (before after held holds : Option (List ℕ)) (text : List ℕ) (status : AuditStatus) → Tells named status before after held holds
+    → before ≡ Some text → status ≡ Yes → read_back text ≡ Yes
+yes_read true before after held holds text status tells is yes_is = yes_came status before after held holds text yes_is is tells
+yes_read false before after held holds text status tells is yes_is = elim tells.1 [
   | inl usage ↦ absurd (let e : Usage ≡ Yes = sym usage.0 ∙ yes_is in cc)
   | inr fault ↦ absurd (let e : WriteFault ≡ Yes = sym fault.0 ∙ yes_is in cc)
 ]

@@ -14,6 +14,10 @@ unfoldable pub is_audit : List (List ℕ) → Bool
 is_audit (word ∷ []) = bytes_eq word (codes "audit")
 is_audit words = false
 
+-- memory ran out, or the source or the sink failed
+abbrev pub HasFailed : AuditStatus → Type 0
+HasFailed status = (status ≡ NoMemory) ⊎ ((status ≡ ReadFault) ⊎ (status ≡ WriteFault))
+
 -- what is written
 abbrev pub status_text : AuditStatus → List ℕ
 status_text Yes = yes_text

@@ -1,4 +1,3 @@
 pub mod Lines
 pub mod Progress
 pub mod Answers
-pub mod FirstFault

@@ -2,14 +2,12 @@
 #![tactic(auto)]
 
 mod audit;
-mod law;
 mod line;
 mod pieces;
 mod reading;
 mod top;
 
 pub use audit::Audit;
-pub use law::{no_tells_the_first_fault, yes_tells_of_no_fault};
 pub use pieces::PieceAudit;
 pub use reading::read_audit;
 pub use top::{audit_top, words_of};

@@ -1,17 +1,23 @@
-ghost use Rattle.std.specs.Prelude.{◌≡◌, ◌≢◌, ◌⊎◌, ◌≤◌, IfSome, None, Some, [], map, List, ℕ, true, false};
+ghost use Rattle.std.specs.Prelude.{◌≡◌, ◌≢◌, ◌⊎◌, ◌≤◌, IfSome, None, Some, Ok, [], length, map, List, ℕ, true, false};
 ghost use Rattle.std.specs.Io.KnownBytes.{Appends};
 ghost use Rattle.ckd_outside.specs.Causes.{Rose, HasCause};
 ghost use Rattle.ckd_outside.specs.Texts.{Writes, AppendsFront};
+ghost use Rattle.deck_text.specs.DeckLines.{DeckLines};
+ghost use Rattle.deck_text.specs.Parse.{parsed};
 ghost use Rattle.report_auditor.specs.Answers.{usage_text};
 ghost use Rattle.report_auditor.specs.Verdict.{read_back};
 ghost use Rattle.report_auditor.specs.declared.status.AuditWhy.{AuditWhy as Why};
-ghost use Rattle.report_audit.specs.FirstFault.{IsBad, IsGood};
-ghost use Rattle.report_audit.specs.Answers.{IsReadBack, Tells, TellsAudit, TellsUsage, is_audit, status_text};
+ghost use Rattle.audit_laws.specs.FirstFault.{IsBad, IsGood};
+ghost use Rattle.audit_laws.specs.Plain.{IsPlainReport};
+ghost use Rattle.run_audit_laws.specs.Texts.{IsEnded, IsOwnReport, own_text};
+ghost use Rattle.report_audit.specs.Answers.{HasFailed, IsReadBack, Tells, TellsAudit, TellsUsage, is_audit, status_text};
 
 use crate::reading::read_audit;
+use audit_laws::yes_is_plain;
 use ckd_outside::{Failed, ReadError, Sink, Source};
 use deck_text::{write_limit, write_refused};
 use report_auditor::{AuditStatus, write_no, write_no_report, write_usage, write_yes};
+use run_audit_laws::{own_report_is_yes, own_text_is_yes};
 use std::alloc::Global;
 
 #[tactic(auto, unfolding(crate::specs::Answers::is_audit))]
@@ -119,6 +125,19 @@ pub fn audit_top<S: Source, K: Sink>(
     ensures yes { (text : List ℕ) → S.left source.old ≡ Some text → result ≡ AuditStatus.Yes → IsGood text }
     ensures no { (text : List ℕ) (line : ℕ) (why : Why) → S.left source.old ≡ Some text
         → result ≡ AuditStatus.No line why → IsBad text line why }
+
+    // Yes: of each device of the deck the report tells a history that a plain device could have.
+    ensures yes_is_plain { (text : List ℕ) → S.left source.old ≡ Some text → result ≡ AuditStatus.Yes → IsPlainReport text }
+
+    // A deck that was read, REPORT and the report of its own run are answered with yes, unless memory runs out or the outside fails.
+    ensures own_report { (text : List ℕ) (deck : DeckLines) → parsed text ≡ Ok deck → IsEnded text
+        → S.left source.old ≡ Some (own_text text deck) → length (own_text text deck) ≤ 268435456
+        → is_audit (map (λ w. w.now) words.now) ≡ true → (result ≡ AuditStatus.Yes) ⊎ HasFailed result }
+    ensures own_lines { (text : List ℕ) (deck : DeckLines) → IsOwnReport text deck → S.left source.old ≡ Some text
+        → is_audit (map (λ w. w.now) words.now) ≡ true → (result ≡ AuditStatus.Yes) ⊎ HasFailed result }
 {
+    yes_is_plain();
+    own_report_is_yes();
+    own_text_is_yes();
     serve(alloc, words, source, sink)
 }

@@ -1,5 +1,5 @@
 use Rattle.report_auditor.specs.Verdict.{deck_part}
-use Rattle.report_audit.specs.FirstFault.{report_lines}
+use Rattle.audit_laws.specs.FirstFault.{report_lines}
 use Rattle.std.specs.Prelude.{Some}
 use Rattle.audit_laws.proofs.Decks.{plain_at_last}
 use Rattle.audit_laws.proofs.law.good_report_is_plain.Goals as goal

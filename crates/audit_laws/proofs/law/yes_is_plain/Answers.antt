@@ -1,7 +1,7 @@
 use Rattle.std.specs.Prelude.{Some}
 use Rattle.report_auditor.specs.Verdict.{deck_part}
-use Rattle.report_audit.specs.FirstFault.{report_lines}
-use Rattle.report_audit.proofs.FirstFaults.{yes_good}
+use Rattle.audit_laws.specs.FirstFault.{report_lines}
+use Rattle.audit_laws.proofs.FirstFaults.{yes_good}
 use Rattle.audit_laws.proofs.Decks.{plain_at_last}
 use Rattle.audit_laws.proofs.law.yes_is_plain.Goals as goal
 

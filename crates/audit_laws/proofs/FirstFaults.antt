@@ -16,7 +16,7 @@ use Rattle.report_auditor.specs.declared.status.AuditWhy.{AuditWhy}
 use Rattle.report_auditor.specs.declared.status.AuditWhy.TheVariants.{Form, Place}
 use Rattle.deck_audit.specs.State.{AuditState, first_state}
 use Rattle.report_auditor.specs.Verdict.{at_end, cut_lines, deck_judged, deck_part, judged_lines, judged_text, or_no, read_back, read_back_at, report_from}
-use Rattle.report_audit.specs.FirstFault.{HasFirstFault, HasNoFault, IsBad, IsDeckAndReport, IsFault, IsGood, LeadsTo, report_lines}
+use Rattle.audit_laws.specs.FirstFault.{HasFirstFault, HasNoFault, IsBad, IsDeckAndReport, IsFault, IsGood, LeadsTo, report_lines}
 
 -- What a no carries
 

@@ -1,5 +1,0 @@
-use Rattle.report_audit.proofs.FirstFaults.{no_bad}
-use Rattle.report_audit.proofs.law.no_tells_the_first_fault.Goals as goal
-
-pub returns : goal.returns
-returns c = no_bad
