@@ -8,7 +8,7 @@ use Rattle.deck_text.specs.declared.line.DeckWhy.TheVariants.{Words, Number}
 use Rattle.deck_text.specs.declared.line.DeviceLine.{DeviceLine}
 use Rattle.deck_text.specs.declared.line.PlannedProgram.{PlannedProgram}
 use Rattle.deck_text.specs.DeckLines.{DeckLines}
-use Rattle.deck_text.specs.Forms.{needed, and_then, path_and_device, path_of, device_of}
+use Rattle.deck_text.specs.Forms.{needed, then_read, path_and_device, path_of, device_of}
 use Rattle.deck_text.specs.Numbers.{number_in}
 use Rattle.deck_text.specs.Parse.{parsed}
 use Rattle.deck_text.specs.Words.{two_words}
@@ -31,8 +31,8 @@ use Rattle.audit_laws.proofs.Lines.{AreOnPaths, AreSo, IsOnPath, IsSoundState, l
 
 path_range : (devices : List DeviceLine) (words : List (List ℕ)) (at : ℕ × ℕ) → path_and_device devices words ≡ Ok at → Ranged 1 4 at.0
 path_range devices words at h =
-    let a = went (needed Words (two_words words)) (λ w. and_then (path_of w.0) (λ p. and_then (device_of devices w.1) (λ d. Ok (p, d)))) at h in
-    let b = went (path_of a.value.0) (λ p. and_then (device_of devices a.value.1) (λ d. Ok (p, d))) at a.second in
+    let a = went (needed Words (two_words words)) (λ w. then_read (path_of w.0) (λ p. then_read (device_of devices w.1) (λ d. Ok (p, d)))) at h in
+    let b = went (path_of a.value.0) (λ p. then_read (device_of devices a.value.1) (λ d. Ok (p, d))) at a.second in
     let c = went (device_of devices a.value.1) (λ d. Ok (b.value, d)) at b.second in
     let same : (b.value, c.value) ≡ at = if_ok true (b.value, c.value) at Number c.second in
     subst (λ (x : ℕ × ℕ). Ranged 1 4 x.0) same
@@ -42,7 +42,7 @@ start_is : (p q a b : ℕ) → ◌≡◌ {A = Result EventLine DeckWhy} (Ok (eve
 start_is p q a b e = cc
 
 started_range : (devices : List DeviceLine) (words : List (List ℕ)) (path d : ℕ)
-    → and_then (path_and_device devices words) (λ at. Ok (events.Start at.0 at.1)) ≡ Ok (events.Start path d) → Ranged 1 4 path
+    → then_read (path_and_device devices words) (λ at. Ok (events.Start at.0 at.1)) ≡ Ok (events.Start path d) → Ranged 1 4 path
 started_range devices words path d h =
     let a = went (path_and_device devices words) (λ at. Ok (events.Start at.0 at.1)) (events.Start path d) h in
     subst (λ (p : ℕ). Ranged 1 4 p) (start_is a.value.0 path a.value.1 d a.second) (path_range devices words a.value a.first)

@@ -13,8 +13,8 @@ use Rattle.deck_text.specs.declared.line.DeviceLine.{DeviceLine}
 use Rattle.deck_text.specs.declared.line.PlannedProgram.{PlannedProgram}
 use Rattle.plain_defs.specs.declared.journal.Act.{Act}
 use Rattle.plain_defs.specs.declared.journal.Act.TheVariants.{Harden, Loosen, CfwLost}
-use Rattle.plain_defs.specs.History.{OpenEntry, acted, reset}
-use Rattle.plain_defs.specs.Loose.{is_loose}
+use Rattle.plain_defs.specs.History.{OpenEntry, acted, reset_in_history}
+use Rattle.plain_defs.specs.Loose.{is_loose_there}
 use Rattle.report_text.specs.declared.answers.HowOver.TheVariants as how
 use Rattle.report_text.specs.declared.answers.LooseAnswer.TheVariants as loose
 use Rattle.report_text.specs.declared.answers.OrderAnswer.TheVariants as order_answers
@@ -162,7 +162,7 @@ module _ (programs : List PlannedProgram) (of : List DeviceLine) where
       harden_sound : (t : AuditState) (d : ℕ) (a : AuditedDevice) (track : ℕ) → device_in s.devices d ≡ Some a
           → harden_made s a track Next ≡ Some t → IsSoundState t
       harden_sound t d a track found is =
-          let parts = if_some (is_loose (state_of a) track) (act_made s a (Harden track) Next) t is in
+          let parts = if_some (is_loose_there (state_of a) track) (act_made s a (Harden track) Next) t is in
           subst (λ (u : AuditState). IsSoundState u) parts.1
           (record { devices = acted_sound (Harden track) d a found (λ sound. hardened_sound a sound track parts.0); paths = paths })
 
@@ -231,28 +231,28 @@ module _ (programs : List PlannedProgram) (of : List DeviceLine) where
       cut_tests : (t : AuditState) (d : ℕ) (a : AuditedDevice) (o : OpenEntry) (here more : Bool) → device_in s.devices d ≡ Some a
           → a.history.running ≡ Some o
           → cond here (Some (record (changed s (record a
-          { history = reset a.history o.path 0; half = cut_half a.half })) { due = ResetOf }))
+          { history = reset_in_history a.history o.path 0; half = cut_half a.half })) { due = ResetOf }))
           (cond (more && is_next_legal a a.history.running) (Some (record (changed s (record a
-          { history = reset a.history o.path 1; half = cut_half a.half }))
+          { history = reset_in_history a.history o.path 1; half = cut_half a.half }))
           { due = ResetOf })) None) ≡ Some t
           → IsSoundState t
       cut_tests t d a o true more found running is =
           subst (λ (u : AuditState). IsSoundState u) (same_some _ t is)
           (reset_to d a (record a
-          { history = reset a.history o.path 0; half = cut_half a.half })
+          { history = reset_in_history a.history o.path 0; half = cut_half a.half })
           found refl (λ line is. is) (λ sound. reset_sound a sound o.path))
       cut_tests t d a o false more found running is =
           let parts = if_some (more && is_next_legal a a.history.running) _ t is in
           subst (λ (u : AuditState). IsSoundState u) parts.1
           (reset_to d a (record a
-          { history = reset a.history o.path 1; half = cut_half a.half })
+          { history = reset_in_history a.history o.path 1; half = cut_half a.half })
           found refl (λ line is. is)
           (λ sound. cut_more_sound a sound o running o.path (and_parts more (is_next_legal a a.history.running) parts.0).1))
 
       plain_reset : (t : AuditState) (path d : ℕ) (a : AuditedDevice) → device_in s.devices d ≡ Some a
-          → Some (passed (changed s (record a { history = reset a.history path 0 }))) ≡ Some t → IsSoundState t
+          → Some (passed (changed s (record a { history = reset_in_history a.history path 0 }))) ≡ Some t → IsSoundState t
       plain_reset t path d a found is =
-          let b = record a { history = reset a.history path 0 } in
+          let b = record a { history = reset_in_history a.history path 0 } in
           subst (λ (u : AuditState). IsSoundState u) (same_some (passed (changed s b)) t is)
           (passed_sound (with_device s.devices b) (put_sound each d a b found refl (λ line is. is) (λ sound. reset_sound a sound path)))
 
@@ -488,7 +488,7 @@ module _ (programs : List PlannedProgram) (of : List DeviceLine) where
         (found : device_in s.devices d ≡ Some a) where
       firm_sound : (t : AuditState) (track : ℕ) → harden_made s a track (Behind true did) ≡ Some t → IsSoundState t
       firm_sound t track is =
-          let parts = if_some (is_loose (state_of a) track) (act_made s a (Harden track) (Behind true did)) t is in
+          let parts = if_some (is_loose_there (state_of a) track) (act_made s a (Harden track) (Behind true did)) t is in
           subst (λ (u : AuditState). IsSoundState u) parts.1
           (record {
             devices = (

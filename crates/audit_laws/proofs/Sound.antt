@@ -8,10 +8,10 @@ use Rattle.plain_defs.specs.declared.journal.Act.TheVariants.{Harden, CfwLost}
 use Rattle.plain_defs.specs.declared.journal.How.TheVariants.{Cut}
 use Rattle.plain_defs.specs.declared.journal.Item.{Item}
 use Rattle.plain_defs.specs.declared.journal.Item.TheVariants as items
-use Rattle.plain_defs.specs.History.{History, OpenEntry, acted, emptied, entry_of, lost_power, lost_power_in, reset, IsPlain}
+use Rattle.plain_defs.specs.History.{History, OpenEntry, acted, emptied, entry_of, lost_power, lost_power_in, reset_in_history, IsPlain}
 use Rattle.plain_defs.specs.Journal.{Plans}
 use Rattle.plain_defs.specs.Legal.{IsSomeLoose, MayEdit, is_started}
-use Rattle.plain_defs.specs.Loose.{is_loose}
+use Rattle.plain_defs.specs.Loose.{is_loose_there}
 use Rattle.plain_defs.specs.PlainState.{LooseTrack, PlainState}
 use Rattle.plain_defs.specs.Program.{Part}
 use Rattle.report_text.specs.declared.answers.StartAnswer.{StartAnswer}
@@ -55,7 +55,7 @@ by_loose false provisional is loose = absurd (cc)
 
 pub may_edit_of : (p : Part) (edit : Option TrackEdit) → is_edit_legal p edit ≡ true → MayEdit p.state p.stance edit
 may_edit_of p None is = tt
-may_edit_of p (Some e) is = λ loose. by_loose (is_loose p.state e.track) (is_provisional p.stance.extent) is loose
+may_edit_of p (Some e) is = λ loose. by_loose (is_loose_there p.state e.track) (is_provisional p.stance.extent) is loose
 
 pub legal_of : (a : AuditedDevice) (o : OpenEntry) → a.history.running ≡ Some o → is_next_legal a a.history.running ≡ true
     → MayEdit (part_of_open a o).state (part_of_open a o).stance (edit_of a o)
@@ -98,7 +98,7 @@ module _ (a : AuditedDevice) (s : Sound a) where
 
   -- Acts
 
-  pub hardened_sound : (t : ℕ) → is_loose (state_of a) t ≡ true → Sound (record a { history = acted a.history (Harden t) })
+  pub hardened_sound : (t : ℕ) → is_loose_there (state_of a) t ≡ true → Sound (record a { history = acted a.history (Harden t) })
   hardened_sound t loose = record {
     plain = acted_plain a.plans a.empty a.history s.plain (Harden t) (loose, tt);
     due = acted_due a.history s.due (Harden t);
@@ -112,11 +112,11 @@ module _ (a : AuditedDevice) (s : Sound a) where
 
   -- Resets
 
-  reset_by : (path : ℕ) (running : Option OpenEntry) → a.history.running ≡ running → IsPlain a.plans a.empty (reset a.history path 0)
+  reset_by : (path : ℕ) (running : Option OpenEntry) → a.history.running ≡ running → IsPlain a.plans a.empty (reset_in_history a.history path 0)
   reset_by path None stands = idle_reset_plain a.plans a.empty a.history s.plain stands path 0
   reset_by path (Some o) here = running_reset_plain a.plans a.empty a.history s.plain s.due o here path 0 (λ own. tt)
 
-  pub reset_sound : (path : ℕ) → Sound (record a { history = reset a.history path 0 })
+  pub reset_sound : (path : ℕ) → Sound (record a { history = reset_in_history a.history path 0 })
   reset_sound path = record {
     plain = reset_by path a.history.running refl;
     due = reset_due a.history s.due path 0;
@@ -124,7 +124,7 @@ module _ (a : AuditedDevice) (s : Sound a) where
 
   module _ (o : OpenEntry) (running : a.history.running ≡ Some o) where
     -- with one command more, which may edit its track
-    pub cut_more_sound : (path : ℕ) → is_next_legal a a.history.running ≡ true → Sound (record a { history = reset a.history path 1 })
+    pub cut_more_sound : (path : ℕ) → is_next_legal a a.history.running ≡ true → Sound (record a { history = reset_in_history a.history path 1 })
     cut_more_sound path legal = record {
       plain = running_reset_plain a.plans a.empty a.history s.plain s.due o running path 1 (λ own. legal_of a o running legal);
       due = reset_due a.history s.due path 1;

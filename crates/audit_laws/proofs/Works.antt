@@ -10,14 +10,14 @@ use Rattle.ckd_types.specs.declared.sense.Sense.{Sense}
 use Rattle.ckd_types.specs.Ccw.{ccw_at}
 use Rattle.ckd_types.specs.Parameters.{is_provisional}
 use Rattle.ckd_types.specs.Sense.{equipment_sense, data_check_sense}
-use Rattle.ckd_rules.specs.Ends.{end_of}
+use Rattle.ckd_rules.specs.Ends.{end_at_word}
 use Rattle.ckd_rules.specs.Walk.{TrackEdit}
 use Rattle.plain_defs.specs.declared.journal.Act.TheVariants.{Harden, Loosen}
 use Rattle.plain_defs.specs.Effect.{effect_on}
 use Rattle.plain_defs.specs.History.{History, OpenEntry, acted, acted_in, checked, checked_in, ended, ended_in, IsOpen}
 use Rattle.plain_defs.specs.Journal.{replay}
 use Rattle.plain_defs.specs.Legal.{IsCheck, MayEdit, edit_at, track_of}
-use Rattle.plain_defs.specs.Loose.{is_loose}
+use Rattle.plain_defs.specs.Loose.{is_loose_there}
 use Rattle.plain_defs.specs.Program.{Part, with_act}
 use Rattle.report_places.specs.declared.state.Did.{Did}
 use Rattle.report_places.specs.declared.state.Did.TheVariants.{Ended, CheckEnded, Halved, Worked}
@@ -65,23 +65,23 @@ module _ (path : ℕ) (ccws : List Ccw) (p : Part) (e : CommandEnd) where
   end_at : (next : Option ℕ) → p.next ≡ next → plain_end_at path ccws p next ≡ Some e → p.next ≡ Some e.index
   end_at None here is = absurd (cc)
   end_at (Some i) here is =
-      let same : end_of i (ccw_at ccws i) (effect_on p.fixed p.state path p.stance (ccw_at ccws i)).outcome ≡ e = cc in
+      let same : end_at_word i (ccw_at ccws i) (effect_on p.fixed p.state path p.stance (ccw_at ccws i)).outcome ≡ e = cc in
       here ∙ ap (λ (x : CommandEnd). Some x.index) same
 
   end_of_next : (next : Option ℕ) → plain_end_at path ccws p next ≡ Some e → next ≡ Some e.index
-      → e ≡ end_of e.index (ccw_at ccws e.index) (effect_on p.fixed p.state path p.stance (ccw_at ccws e.index)).outcome
+      → e ≡ end_at_word e.index (ccw_at ccws e.index) (effect_on p.fixed p.state path p.stance (ccw_at ccws e.index)).outcome
   end_of_next None is here = absurd (cc)
   end_of_next (Some i) is here =
       let same : i ≡ e.index = cc in
-      let end_is : end_of i (ccw_at ccws i) (effect_on p.fixed p.state path p.stance (ccw_at ccws i)).outcome ≡ e = cc in
-      subst (λ (j : ℕ). e ≡ end_of j (ccw_at ccws j) (effect_on p.fixed p.state path p.stance (ccw_at ccws j)).outcome) same (sym end_is)
+      let end_is : end_at_word i (ccw_at ccws i) (effect_on p.fixed p.state path p.stance (ccw_at ccws i)).outcome ≡ e = cc in
+      subst (λ (j : ℕ). e ≡ end_at_word j (ccw_at ccws j) (effect_on p.fixed p.state path p.stance (ccw_at ccws j)).outcome) same (sym end_is)
 
 module _ (a : AuditedDevice) (e : CommandEnd) (ends : Ends e a) where
   module _ (o : OpenEntry) (running : a.history.running ≡ Some o) where
     pub next_is : (part_of_open a o).next ≡ Some e.index
     next_is = end_at o.path (words_of_open a o) (part_of_open a o) e (part_of_open a o).next refl (ends.plain o running)
 
-    end_is : e ≡ end_of e.index (ccw_at (words_of_open a o) e.index)
+    end_is : e ≡ end_at_word e.index (ccw_at (words_of_open a o) e.index)
         (effect_on (part_of_open a o).fixed (part_of_open a o).state o.path (part_of_open a o).stance (ccw_at (words_of_open a o) e.index)).outcome
     end_is = end_of_next o.path (words_of_open a o) (part_of_open a o) e (part_of_open a o).next (ends.plain o running) next_is
 
@@ -105,12 +105,12 @@ module _ (a : AuditedDevice) (e : CommandEnd) (ends : Ends e a) where
 
     -- a track becomes loose with it
     edits_by : (p : Part) (edit : Option TrackEdit) (t : ℕ) → loosens p edit t ≡ true
-        → (is_loose p.state t ≡ false) × (track_of edit ≡ Some t) × (is_provisional p.stance.extent ≡ true)
+        → (is_loose_there p.state t ≡ false) × (track_of edit ≡ Some t) × (is_provisional p.stance.extent ≡ true)
     edits_by p None t is = absurd (cc)
     edits_by p (Some x) t is =
-        let outer = and_parts ((x.track == t) && is_provisional p.stance.extent) (not (is_loose p.state t)) is in
+        let outer = and_parts ((x.track == t) && is_provisional p.stance.extent) (not (is_loose_there p.state t)) is in
         let inner = and_parts (x.track == t) (is_provisional p.stance.extent) outer.0 in
-        (firm (is_loose p.state t) outer.1, ap (λ (n : ℕ). Some n) (equal x.track t inner.0), inner.1) where
+        (firm (is_loose_there p.state t) outer.1, ap (λ (n : ℕ). Some n) (equal x.track t inner.0), inner.1) where
           firm : (b : Bool) → not b ≡ true → b ≡ false
           firm true is = absurd (cc)
           firm false is = refl
@@ -197,7 +197,7 @@ module _ (a : AuditedDevice) (s : Sound a) (t : ℕ) (o : OpenEntry) (running : 
   next_is_same : (part_of_open hardened later).next ≡ (part_of_open a o).next
   next_is_same = ap (λ (p : Part). p.next) part_is
 
-module _ (a : AuditedDevice) (t : ℕ) (loose : is_loose (state_of a) t ≡ true) where
+module _ (a : AuditedDevice) (t : ℕ) (loose : is_loose_there (state_of a) t ≡ true) where
   -- the program that runs then is the one that ran, with the act
   ran : (o : OpenEntry) (x : OpenEntry) → a.history.running ≡ Some o → (acted a.history (Harden t)).running ≡ Some x
       → x ≡ with_one_act o (Harden t)

@@ -6,7 +6,7 @@ use Rattle.ckd_chain.specs.declared.mark.Stage.TheVariants as stages
 use Rattle.ckd_chain.specs.declared.progress.Settled.{Settled}
 use Rattle.ckd_chain.specs.Fed.{Fed, ended_by, fed_by, fed, fed_image, by_rules, fed_by_rules}
 use Rattle.ckd_chain.specs.State.{ChainState}
-use Rattle.ckd_chain.specs.Steps.{word_of, begin_with, opening_at, stage_for, needed, turned_by, stepped_by}
+use Rattle.ckd_chain.specs.Steps.{word_of, begin_with, opening_at, stage_for, track_needed, step_turned, stepped_by}
 use Rattle.ckd_rules.specs.declared.opening.Opening.{Opening}
 use Rattle.ckd_rules.specs.declared.opening.Opening.TheVariants as openings
 use Rattle.ckd_rules.specs.declared.order.LocalAct.{LocalAct}
@@ -34,7 +34,7 @@ module _ (tracks : ℕ → Track) (answer : LocalAct → Settled) where
     -- what comes of a look, where it goes on as the walk does
     look_by : (n : ℕ) (b : ChainState) (z : Stance) (t : Turned) →
         ((c : ChainState) → fed n tracks answer (at_look c) ≡ ended_walk (at_look c) (walk_of n c c.at.stance))
-        → fed_by answer (fed n tracks answer) (turned_by (at_look b) z t).chain (turned_by (at_look b) z t).progress
+        → fed_by answer (fed n tracks answer) (step_turned (at_look b) z t).chain (step_turned (at_look b) z t).progress
         ≡ ended_walk (at_look b) (walked b.at.stance.track (walk_of n b) z t)
     look_by n b z (turns.Ended e) rest = refl
     look_by n b z turns.Onward rest = rest (moved b z)
@@ -53,9 +53,9 @@ module _ (tracks : ℕ → Track) (answer : LocalAct → Settled) where
   opening_by : (n : ℕ) (b : ChainState) (z : Stance) (h : Opening)
       → fed_by answer (fed n tracks answer) (stepped_by (begin_with (unbegun b)
       (record { stance = z; opening = h })) (fed_image b.fixed tracks
-      (needed (begin_with (unbegun b) (record { stance = z; opening = h })) (stage_for h))) (stage_for h)).chain
+      (track_needed (begin_with (unbegun b) (record { stance = z; opening = h })) (stage_for h))) (stage_for h)).chain
       (stepped_by (begin_with (unbegun b) (record { stance = z; opening = h }))
-      (fed_image b.fixed tracks (needed (begin_with (unbegun b) (record { stance = z; opening = h }))
+      (fed_image b.fixed tracks (track_needed (begin_with (unbegun b) (record { stance = z; opening = h }))
       (stage_for h))) (stage_for h)).progress
       ≡ by_rules (suc n) tracks answer (unbegun b) z h
   unfolding fed walk

@@ -8,7 +8,7 @@ use Rattle.ckd_chain.specs.declared.progress.Progress.TheVariants.{Ended, Need, 
 use Rattle.ckd_chain.specs.declared.progress.Settled.{Settled}
 use Rattle.ckd_chain.specs.declared.progress.Settled.TheVariants as settles
 use Rattle.ckd_chain.specs.State.{ChainState}
-use Rattle.ckd_chain.specs.Steps.{opened, stage_of, start_of}
+use Rattle.ckd_chain.specs.Steps.{chain_opened, stage_of, start_of}
 use Rattle.ckd_rules.specs.Acts.{is_given}
 use Rattle.ckd_rules.specs.Facts.{HasRoom, Stands, IsRunning, IsLook, Suits}
 use Rattle.track_image.specs.Image.{Image}
@@ -72,7 +72,7 @@ FurtherFrom s (Looks look) (Some image) (Need t) = t ≡ s.at.stance.track + 1
 FurtherFrom s stage image progress = ⊤
 
 abbrev pub GoesFurther : ChainState → Option Image → Progress → Type 0
-GoesFurther s image progress = FurtherFrom (opened s) (stage_of s) image progress
+GoesFurther s image progress = FurtherFrom (chain_opened s) (stage_of s) image progress
 
 -- with its end a command is counted
 abbrev pub CountsEnd : ChainState → ChainState → Progress → Type 0

@@ -26,7 +26,7 @@ use Rattle.ckd_rules.specs.declared.turned.Turned.{Turned}
 use Rattle.ckd_rules.specs.declared.turned.Turned.TheVariants as turns
 use Rattle.ckd_rules.specs.Acts.{answered, taken}
 use Rattle.ckd_rules.specs.Ending.{Outcome, refused}
-use Rattle.ckd_rules.specs.Ends.{end_of, goes_to}
+use Rattle.ckd_rules.specs.Ends.{end_at_word, goes_to}
 use Rattle.ckd_rules.specs.Look.{look_on}
 use Rattle.ckd_rules.specs.Looked.{Looked}
 use Rattle.ckd_rules.specs.Opening.{Opened, opening_of}
@@ -74,8 +74,8 @@ opened_by s None = begin_with s (opening_at s)
 opened_by s (Some stage) = s
 
 -- it has begun
-abbrev pub opened : ChainState → ChainState
-opened s = opened_by s s.stage
+abbrev pub chain_opened : ChainState → ChainState
+chain_opened s = opened_by s s.stage
 
 abbrev pub stage_by : ChainState → Option Stage → Stage
 stage_by s None = stage_for (opening_at s).opening
@@ -85,14 +85,14 @@ stage_by s (Some stage) = stage
 abbrev pub stage_of : ChainState → Stage
 stage_of s = stage_by s s.stage
 
-abbrev pub needed : ChainState → Stage → Option ℕ
-needed s (Looks look) = Some s.at.stance.track
-needed s Over = None
-needed s (Asks act) = None
+abbrev pub track_needed : ChainState → Stage → Option ℕ
+track_needed s (Looks look) = Some s.at.stance.track
+track_needed s Over = None
+track_needed s (Asks act) = None
 
 -- the track that it looks at
 abbrev pub need_of : ChainState → Option ℕ
-need_of s = needed (opened s) (stage_of s)
+need_of s = track_needed (chain_opened s) (stage_of s)
 
 -- It ends.
 
@@ -108,30 +108,30 @@ abbrev pub behind : ChainState → Outcome → ChainState
 behind s o = record s { at = record { stance = o.stance; next = goes_to s.ccws (index_of s.at.next) o }; before = start_of s; stage = None; held = None }
 
 abbrev pub end_with : ChainState → Outcome → CommandEnd
-end_with s o = end_of (index_of s.at.next) (word_of s) o
+end_with s o = end_at_word (index_of s.at.next) (word_of s) o
 
 -- A step: what it gives, and the chain behind it.
 
-pub record Stepped : Type 0 where
+pub record ChainStep : Type 0 where
   pub progress : Progress
   pub chain : ChainState
 
-abbrev pub ended_with : ChainState → Outcome → Stepped
-ended_with s o = record { progress = progresses.Ended (end_with s o); chain = behind s o }
+abbrev pub step_at_end : ChainState → Outcome → ChainStep
+step_at_end s o = record { progress = progresses.Ended (end_with s o); chain = behind s o }
 
 -- the command waits for its edit
 abbrev pub waiting : ChainState → Stance → Ending → ChainState
 waiting s z e = record (standing s z) { stage = Some Over; held = Some e }
 
-abbrev pub turned_by : ChainState → Stance → Turned → Stepped
-turned_by s z (turns.Ended e) = ended_with s (record { stance = z; ending = e })
-turned_by s z turns.Onward = record { progress = progresses.Need z.track; chain = standing s z }
-turned_by s z (turns.Edits edit e) = record { progress = progresses.Write s.at.stance.track edit; chain = waiting s z e }
+abbrev pub step_turned : ChainState → Stance → Turned → ChainStep
+step_turned s z (turns.Ended e) = step_at_end s (record { stance = z; ending = e })
+step_turned s z turns.Onward = record { progress = progresses.Need z.track; chain = standing s z }
+step_turned s z (turns.Edits edit e) = record { progress = progresses.Write s.at.stance.track edit; chain = waiting s z e }
 
-abbrev pub turned_with : ChainState → Looked → Stepped
-turned_with s l = turned_by s l.stance l.turned
+abbrev pub turned_with : ChainState → Looked → ChainStep
+turned_with s l = step_turned s l.stance l.turned
 
-abbrev pub looked_with : ChainState → Look → Option Image → Stepped
+abbrev pub looked_with : ChainState → Look → Option Image → ChainStep
 looked_with s look (Some image) = turned_with s (look_on image.geometry image.track s.at.stance (word_of s) look)
 looked_with s look None = record { progress = progresses.Need s.at.stance.track; chain = s }
 
@@ -140,20 +140,20 @@ abbrev pub held_outcome : ChainState → Option Ending → Outcome
 held_outcome s (Some e) = record { stance = s.at.stance; ending = e }
 held_outcome s None = refused (start_of s).stance (word_of s) equipment_sense
 
-abbrev pub stepped_by : ChainState → Option Image → Stage → Stepped
-stepped_by s image Over = ended_with s (held_outcome s s.held)
+abbrev pub stepped_by : ChainState → Option Image → Stage → ChainStep
+stepped_by s image Over = step_at_end s (held_outcome s s.held)
 stepped_by s image (Looks look) = looked_with s look image
 stepped_by s image (Asks act) = record { progress = progresses.Local act; chain = s }
 
 -- one step, with the image of the track that the command looks at
-abbrev pub stepped : ChainState → Option Image → Stepped
-stepped s image = stepped_by (opened s) image (stage_of s)
+abbrev pub stepped : ChainState → Option Image → ChainStep
+stepped s image = stepped_by (chain_opened s) image (stage_of s)
 
 -- The command at hand is settled: it is known how its edit, its answer or its track fared.
 
 -- a command that is refused so ends as if it had done nothing
-abbrev pub checked : ChainState → Sense → Outcome
-checked s sense = refused (start_of s).stance (word_of s) sense
+abbrev pub check_outcome : ChainState → Sense → Outcome
+check_outcome s sense = refused (start_of s).stance (word_of s) sense
 
 -- the device took what it was given, or the edit was made
 abbrev pub written_by : ChainState → Option Stage → Outcome
@@ -162,10 +162,10 @@ written_by s _ = held_outcome s s.held
 
 abbrev pub settled_by : ChainState → Settled → Outcome
 settled_by s Written = written_by s s.stage
-settled_by s Equipment = checked s equipment_sense
-settled_by s DataCheck = checked s data_check_sense
+settled_by s Equipment = check_outcome s equipment_sense
+settled_by s DataCheck = check_outcome s data_check_sense
 settled_by s (Sent bytes) = answered (start_of s).stance (word_of s) bytes
-settled_by s BadParameter = checked s (reject_sense 4)
+settled_by s BadParameter = check_outcome s (reject_sense 4)
 
 -- the chain as it was before the command
 abbrev pub again_from : ChainState → ChainState

@@ -2,11 +2,11 @@ ghost use Rattle.std.specs.Prelude.{◌≡◌, ◌<◌, ◌≤◌, ◌+◌, ◌*
 ghost use Rattle.std.specs.Prelude.{option_map};
 ghost use Rattle.ckd_types.specs.Parameters.{is_provisional};
 ghost use Rattle.ckd_chain.specs.Facts.{IsChain, SuitsTrack, NeedsTrack, FurtherFrom, GoesFurther, CountsEnd, IsAsking, MayBeWritten, MaySettle};
-ghost use Rattle.ckd_chain.specs.Steps.{first_mark, begun_chain, index_of, word_of, standing, stage_of, opened, begin_with, opening_at};
-ghost use Rattle.ckd_chain.specs.Steps.{needed, need_of, start_of, behind, end_with, waiting, turned_with, looked_with, held_outcome, stepped_by};
-ghost use Rattle.ckd_chain.specs.Steps.{stepped, checked, written_by, settled_by, again_from, mode_by, inhibits_by, last_by};
+ghost use Rattle.ckd_chain.specs.Steps.{first_mark, begun_chain, index_of, word_of, standing, stage_of, chain_opened, begin_with, opening_at};
+ghost use Rattle.ckd_chain.specs.Steps.{track_needed, need_of, start_of, behind, end_with, waiting, turned_with, looked_with, held_outcome, stepped_by};
+ghost use Rattle.ckd_chain.specs.Steps.{stepped, check_outcome, written_by, settled_by, again_from, mode_by, inhibits_by, last_by};
 ghost use Rattle.ckd_rules.specs.Facts.{HasRoom, Stands, IsLook, IsRunning};
-ghost use Rattle.ckd_rules.specs.Ends.{end_of, goes_to};
+ghost use Rattle.ckd_rules.specs.Ends.{end_at_word, goes_to};
 ghost use Rattle.ckd_types.specs.Ccw.{ccw_at};
 ghost use Rattle.ckd_rules.specs.Acts.{answered, taken};
 ghost use Rattle.ckd_chain.specs.declared.mark.Stage.TheVariants.{Over, Looks};
@@ -72,7 +72,7 @@ fn index_of(next: Option<usize>) -> usize
 #[inline(always)]
 fn end_here(program: &Program, at: &mut Mark, ending: Ending) -> CommandEnd
     requires word { IfSome at.old.next (λ i. i < 65536) }
-    ensures end { result ≡ end_of (index_of at.old.next) (ccw_at program.now (index_of at.old.next)) (record { stance = at.old.stance; ending = ending }) }
+    ensures end { result ≡ end_at_word (index_of at.old.next) (ccw_at program.now (index_of at.old.next)) (record { stance = at.old.stance; ending = ending }) }
     ensures next { at.new ≡ record at.old { next = goes_to program.now (index_of at.old.next) (record { stance = at.old.stance; ending = ending }) } }
     ensures running { IfSome at.new.next (λ j. IsRunning j at.old.stance) }
 {
@@ -120,7 +120,7 @@ impl Chain {
     fn begin_command(&mut self)
         requires running { IsSome self.old.at.next }
         requires ready { self.old.stage ≡ None }
-        ensures { self.new ≡ opened self.old }
+        ensures { self.new ≡ chain_opened self.old }
     {
         self.before = self.at;
         let nothing = no_ccw();
@@ -139,7 +139,7 @@ impl Chain {
     /// The command at hand has begun.
     fn open(&mut self)
         requires running { IsSome self.old.at.next }
-        ensures chain { self.new ≡ opened self.old }
+        ensures chain { self.new ≡ chain_opened self.old }
         ensures stage { self.new.stage ≡ Some (stage_of self.old) }
     {
         if self.stage.is_none() {
@@ -152,7 +152,7 @@ impl Chain {
     pub fn need(&mut self) -> Option<TrackNo>
         requires { IsSome self.old.at.next }
         ensures need { result ≡ need_of self.old }
-        ensures chain { self.new ≡ opened self.old }
+        ensures chain { self.new ≡ chain_opened self.old }
         ensures on_device { IfSome result (λ t. t < self.old.fixed.cylinders * 15) }
     {
         self.open();
@@ -247,7 +247,7 @@ impl Chain {
         ensures needs { IfOk result (NeedsTrack (self.old.fixed.cylinders * 15)) }
         ensures further { IfOk result (GoesFurther self.old (option_map (λ i. i.now) image.entry)) }
         ensures counted { IfOk result (CountsEnd self.old self.new) }
-        ensures same { OnErr result (self.new ≡ opened self.old) }
+        ensures same { OnErr result (self.new ≡ chain_opened self.old) }
     {
         self.open();
         match self.stage {
@@ -268,8 +268,8 @@ impl Chain {
     /// The command at hand ends with a check, as if it had done nothing.
     fn check(&mut self, sense: Sense) -> CommandEnd
         requires running { IsSome self.old.at.next }
-        ensures end { result ≡ end_with self.old (checked self.old sense) }
-        ensures chain { self.new ≡ behind self.old (checked self.old sense) }
+        ensures end { result ≡ end_with self.old (check_outcome self.old sense) }
+        ensures chain { self.new ≡ behind self.old (check_outcome self.old sense) }
         ensures counted { self.new.at.stance.commands ≡ (start_of self.old).stance.commands + 1 }
     {
         self.keep_start();

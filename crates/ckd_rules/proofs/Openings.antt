@@ -20,8 +20,8 @@ use Rattle.ckd_rules.specs.declared.opening.Opening.{Opening}
 use Rattle.ckd_rules.specs.declared.turned.Turned.TheVariants.{Ended}
 use Rattle.ckd_rules.specs.declared.order.Look.{Look}
 use Rattle.ckd_rules.specs.declared.order.Look.TheVariants.{Finds, Searches, Reads, Writes}
-use Rattle.ckd_rules.specs.declared.order.Order.{Order}
-use Rattle.ckd_rules.specs.declared.order.Order.TheVariants.{Nothing, Seeks, Recalibrates, SetsSector, SetsMask, Defines, Locates, Looks, Asks}
+use Rattle.ckd_rules.specs.declared.order.CommandOrder.{CommandOrder}
+use Rattle.ckd_rules.specs.declared.order.CommandOrder.TheVariants.{Nothing, Seeks, Recalibrates, SetsSector, SetsMask, Defines, Locates, Looks, Asks}
 use Rattle.ckd_rules.specs.declared.stance.Place.{Place}
 use Rattle.ckd_rules.specs.declared.stance.Place.TheVariants.{Index, Home, Count, Key, Body}
 use Rattle.ckd_rules.specs.declared.stance.Stance.{Stance}
@@ -114,7 +114,7 @@ module _ (tracks : ℕ) (s : Stance) (c : Ccw) (on : Stands tracks s) where
     good,
   )
 
-  begins : (order : Order) → 0 < tracks → tracks % 15 ≡ 0 → IsOrder tracks order → Opens tracks s (begun s c order).stance (begun s c order).opening
+  begins : (order : CommandOrder) → 0 < tracks → tracks % 15 ≡ 0 → IsOrder tracks order → Opens tracks s (begun s c order).stance (begun s c order).opening
   begins Nothing some whole good = record { stands = record { track = on.track; extent = on.extent; left = on.left; passes = omega arith }; commands = refl }
   begins (Seeks t) some whole good = record { stands = record { track = good; extent = on.extent; left = on.left; passes = omega arith }; commands = refl }
   begins Recalibrates some whole good = record { stands = record { track = some; extent = on.extent; left = on.left; passes = omega arith }; commands = refl }
@@ -134,7 +134,7 @@ module _ (tracks : ℕ) (s : Stance) (c : Ccw) (on : Stands tracks s) where
   begins (Looks look) some whole good = looks look whole good
   begins (Asks act) some whole good = stays
 
-pub opens : (tracks : ℕ) (s : Stance) (c : Ccw) (order : Order) (new : Stance) (how : Opening) → Stands tracks s →
+pub opens : (tracks : ℕ) (s : Stance) (c : Ccw) (order : CommandOrder) (new : Stance) (how : Opening) → Stands tracks s →
     0 < tracks → tracks % 15 ≡ 0 → IsOrder tracks order
     → new ≡ (begun s c order).stance → how ≡ (begun s c order).opening → Opens tracks s new how
 opens tracks s c order new how on some whole good new_is how_is =

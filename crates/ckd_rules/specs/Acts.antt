@@ -7,7 +7,7 @@ use Rattle.ckd_rules.specs.declared.order.LocalAct.{LocalAct}
 use Rattle.ckd_rules.specs.declared.order.LocalAct.TheVariants.{SetGroup}
 use Rattle.ckd_rules.specs.declared.stance.Stance.{Stance}
 use Rattle.ckd_rules.specs.Control.{controlled}
-use Rattle.ckd_rules.specs.Ending.{Outcome, normal, ended, sent_of}
+use Rattle.ckd_rules.specs.Ending.{Outcome, normal, outcome_with, sent_of}
 
 -- a 3990 with model byte 03, and the device behind it with model byte 02
 abbrev pub sense_id_bytes : Geometry → List ℕ
@@ -21,8 +21,8 @@ is_given _ = false
 
 -- the command sends what the device answered
 abbrev pub answered : Stance → Ccw → List ℕ → Outcome
-answered s c bytes = ended (controlled s) c (length bytes) normal (sent_of c bytes)
+answered s c bytes = outcome_with (controlled s) c (length bytes) normal (sent_of c bytes)
 
 -- the device took twelve bytes
 abbrev pub taken : Stance → Ccw → Outcome
-taken s c = ended (controlled s) c 12 normal []
+taken s c = outcome_with (controlled s) c 12 normal []

@@ -57,8 +57,8 @@ use Rattle.ckd_rules.specs.declared.order.LocalAct.{LocalAct}
 use Rattle.ckd_rules.specs.declared.order.LocalAct.TheVariants as acts
 use Rattle.ckd_rules.specs.declared.order.Look.{Look}
 use Rattle.ckd_rules.specs.declared.order.Look.TheVariants as looks
-use Rattle.ckd_rules.specs.declared.order.Order.{Order}
-use Rattle.ckd_rules.specs.declared.order.Order.TheVariants.{Nothing, Seeks, Recalibrates, SetsSector, SetsMask, Defines, Locates, Looks, Asks}
+use Rattle.ckd_rules.specs.declared.order.CommandOrder.{CommandOrder}
+use Rattle.ckd_rules.specs.declared.order.CommandOrder.TheVariants.{Nothing, Seeks, Recalibrates, SetsSector, SetsMask, Defines, Locates, Looks, Asks}
 use Rattle.ckd_rules.specs.declared.stance.After.{After}
 use Rattle.ckd_rules.specs.declared.stance.After.TheVariants.{Other, IdEqual, KeyEqual, HomeEqual, Found, Wrote}
 use Rattle.ckd_rules.specs.declared.stance.Place.{Place}
@@ -122,11 +122,11 @@ is_in_sequence s (Some d) command = accepts d.operation command && may_stand_at 
 
 -- Parameters.
 
-abbrev pub seeks : Option ℕ → Option Order
+abbrev pub seeks : Option ℕ → Option CommandOrder
 seeks (Some t) = Some (Seeks t)
 seeks None = None
 
-abbrev pub sets_mask : ℕ → Option Order
+abbrev pub sets_mask : ℕ → Option CommandOrder
 sets_mask mask = if is_mask mask then Some (SetsMask mask) else None
 
 -- an extent that has a number has the device's
@@ -134,16 +134,16 @@ abbrev pub has_own_number : ℕ → Option ℕ → Bool
 has_own_number own None = true
 has_own_number own (Some number) = number == own
 
-abbrev pub defines : ℕ → Result Extent ParamFault → Option Order
+abbrev pub defines : ℕ → Result Extent ParamFault → Option CommandOrder
 defines own (Ok e) = if has_own_number own e.number then Some (Defines e) else None
 defines own (Err fault) = None
 
-abbrev pub locates : Result Domain ParamFault → Option Order
+abbrev pub locates : Result Domain ParamFault → Option CommandOrder
 locates (Ok d) = Some (Locates d)
 locates (Err fault) = None
 
 -- what a control command is to do; nothing where its bytes mean nothing on the device
-abbrev pub control_order : Fixed → Stance → List ℕ → Control → Option Order
+abbrev pub control_order : Fixed → Stance → List ℕ → Control → Option CommandOrder
 control_order f s bytes NoOperation = Some Nothing
 control_order f s bytes Seek = seeks (seek_to f.cylinders bytes)
 control_order f s bytes SeekCylinder = seeks (seek_to f.cylinders bytes)
@@ -165,12 +165,12 @@ device_act bytes devices.SetPathGroup = acts.SetGroup (slice_index bytes 0) (rec
 device_act bytes devices.SensePathGroup = acts.SenseGroup
 
 -- what a command is to do
-abbrev pub decoded : Fixed → Stance → Ccw → Command → Option Order
-decoded f s c (commands.Control k) = control_order f s (given 16 c) k
-decoded f s c (commands.Search x) = Some (Looks (looks.Searches x))
-decoded f s c (commands.Read r) = Some (Looks (looks.Reads r))
-decoded f s c (commands.Write w) = Some (Looks (looks.Writes w))
-decoded f s c (commands.Device d) = Some (Asks (device_act (given 16 c) d))
+abbrev pub decoded_order : Fixed → Stance → Ccw → Command → Option CommandOrder
+decoded_order f s c (commands.Control k) = control_order f s (given 16 c) k
+decoded_order f s c (commands.Search x) = Some (Looks (looks.Searches x))
+decoded_order f s c (commands.Read r) = Some (Looks (looks.Reads r))
+decoded_order f s c (commands.Write w) = Some (Looks (looks.Writes w))
+decoded_order f s c (commands.Device d) = Some (Asks (device_act (given 16 c) d))
 
 -- Mask and extent.
 
@@ -181,7 +181,7 @@ mask_fault mask (commands.Write w) = if permits_write mask w then None else Some
 mask_fault mask _ = None
 
 -- the track that a command is on, or goes to
-abbrev pub first_track : Stance → Order → Option ℕ
+abbrev pub first_track : Stance → CommandOrder → Option ℕ
 first_track s (Seeks t) = Some t
 first_track s Recalibrates = Some 0
 first_track s (Locates d) = Some d.seek
@@ -197,24 +197,24 @@ is_within _ _ = true
 
 -- The order of checks: code, sequence, count, parameters, mask and extent.
 
-abbrev pub placed_order : Stance → Order → Result Order Sense
+abbrev pub placed_order : Stance → CommandOrder → Result CommandOrder Sense
 placed_order s order = if is_within s.extent (first_track s order) then Ok order else Err file_protected_sense
 
-abbrev pub masked_order : Stance → Order → Option Sense → Result Order Sense
+abbrev pub masked_order : Stance → CommandOrder → Option Sense → Result CommandOrder Sense
 masked_order s order (Some sense) = Err sense
 masked_order s order None = placed_order s order
 
-abbrev pub permitted_order : Stance → Command → Option Order → Result Order Sense
+abbrev pub permitted_order : Stance → Command → Option CommandOrder → Result CommandOrder Sense
 permitted_order s command None = Err (reject_sense 4)
 permitted_order s command (Some order) = masked_order s order (mask_fault s.mask command)
 
-abbrev pub order_by : Fixed → Stance → Ccw → Option Command → Result Order Sense
+abbrev pub order_by : Fixed → Stance → Ccw → Option Command → Result CommandOrder Sense
 order_by f s c None = Err (reject_sense 1)
 order_by f s c (Some command) =
     if not (is_in_sequence s s.domain command) then Err (reject_sense 2)
     else if nat_lt c.count (required_count command) then Err (reject_sense 3)
-    else permitted_order s command (decoded f s c command)
+    else permitted_order s command (decoded_order f s c command)
 
 -- what a command is to do, or the sense of the first check that it fails
-abbrev pub order_of : Fixed → Stance → Ccw → Result Order Sense
+abbrev pub order_of : Fixed → Stance → Ccw → Result CommandOrder Sense
 order_of f s c = order_by f s c (command_of c.command)

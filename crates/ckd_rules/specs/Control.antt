@@ -12,7 +12,7 @@ use Rattle.ckd_rules.specs.declared.stance.Stance.{Stance}
 use Rattle.ckd_rules.specs.declared.stance.Place.{Place}
 use Rattle.ckd_rules.specs.declared.stance.Place.TheVariants.{Index, Home, Count, Body}
 use Rattle.ckd_rules.specs.declared.stance.After.TheVariants.{Other}
-use Rattle.ckd_rules.specs.Ending.{Outcome, normal, refused, ended}
+use Rattle.ckd_rules.specs.Ending.{Outcome, normal, refused, outcome_with}
 
 -- behind a command that neither searches, reads nor writes
 abbrev pub controlled : Stance → Stance
@@ -39,7 +39,7 @@ place_for d place = if is_reading_tracks d.operation then Index else place
 
 -- the chain is on the track that was sought
 abbrev pub placed : Stance → Ccw → Domain → Place → Outcome
-placed s c d place = ended (record (controlled s) { domain = opened_domain d; left = d.count; track = d.seek; place = place_for d place }) c 16 normal []
+placed s c d place = outcome_with (record (controlled s) { domain = opened_domain d; left = d.count; track = d.seek; place = place_for d place }) c 16 normal []
 
 -- home address and index need no look at the track
 abbrev pub unseen_place : Orientation → Option Place

@@ -30,25 +30,25 @@ pub record Outcome : Type 0 where
   pub ending : Ending
 
 -- one more command has ended, and moved this much
-abbrev pub counted : Stance → ℕ → Stance
-counted s moved = record s { commands = s.commands + 1; moved = s.moved + moved }
+abbrev pub work_counted : Stance → ℕ → Stance
+work_counted s moved = record s { commands = s.commands + 1; moved = s.moved + moved }
 
 -- a command that ends with unit check moves nothing
 abbrev pub refused : Stance → Ccw → Sense → Outcome
-refused s c sense = record { stance = counted s 0; ending = record { sent = []; sense = Some sense; residual = c.count; status = check; note = Plain } }
+refused s c sense = record { stance = work_counted s 0; ending = record { sent = []; sense = Some sense; residual = c.count; status = check; note = Plain } }
 
 -- an immediate command moves nothing, and notes no incorrect length
 abbrev pub immediate : Stance → Ccw → Outcome
-immediate s c = record { stance = counted s 0; ending = record { sent = []; sense = None; residual = c.count; status = normal; note = Plain } }
+immediate s c = record { stance = work_counted s 0; ending = record { sent = []; sense = None; residual = c.count; status = normal; note = Plain } }
 
 -- incorrect length is noted where count and area length differ, unless the flag suppresses it
 abbrev pub length_note : Ccw → ℕ → Note
 length_note c area = if (c.count == area) || suppresses_length c then Plain else IncorrectLength
 
 -- a command that moved the lesser of its count and its area
-abbrev pub ended : Stance → Ccw → ℕ → UnitStatus → List ℕ → Outcome
-ended s c area status sent = record {
-  stance = counted s (min c.count area);
+abbrev pub outcome_with : Stance → Ccw → ℕ → UnitStatus → List ℕ → Outcome
+outcome_with s c area status sent = record {
+  stance = work_counted s (min c.count area);
   ending = record { sent = sent; sense = None; residual = c.count - min c.count area; status = status; note = length_note c area };
 }
 

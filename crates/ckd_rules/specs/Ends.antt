@@ -31,8 +31,8 @@ abbrev pub note_of : Ccw → Outcome → Note
 note_of c o = if would_go_on c o.ending && at_limit o.stance then Limit else o.ending.note
 
 -- the end of the command of word i
-abbrev pub end_of : ℕ → Ccw → Outcome → CommandEnd
-end_of i c o = record {
+abbrev pub end_at_word : ℕ → Ccw → Outcome → CommandEnd
+end_at_word i c o = record {
   index = i;
   status = o.ending.status;
   residual = o.ending.residual;

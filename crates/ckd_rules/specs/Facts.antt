@@ -13,8 +13,8 @@ use Rattle.ckd_rules.specs.declared.opening.Opening.{Opening}
 use Rattle.ckd_rules.specs.declared.opening.Opening.TheVariants as openings
 use Rattle.ckd_rules.specs.declared.order.Look.{Look}
 use Rattle.ckd_rules.specs.declared.order.Look.TheVariants.{Finds, Searches, Reads, Writes}
-use Rattle.ckd_rules.specs.declared.order.Order.{Order}
-use Rattle.ckd_rules.specs.declared.order.Order.TheVariants.{Seeks, Defines, Locates, Looks}
+use Rattle.ckd_rules.specs.declared.order.CommandOrder.{CommandOrder}
+use Rattle.ckd_rules.specs.declared.order.CommandOrder.TheVariants.{Seeks, Defines, Locates, Looks}
 use Rattle.ckd_rules.specs.declared.stance.Stance.{Stance}
 use Rattle.ckd_rules.specs.declared.turned.Turned.{Turned}
 use Rattle.ckd_rules.specs.declared.turned.Turned.TheVariants as turns
@@ -86,7 +86,7 @@ IsLook tracks (Reads r) = ⊤
 IsLook tracks (Writes w) = ⊤
 
 -- an order goes to a track of the device
-abbrev pub IsOrder : ℕ → Order → Type 0
+abbrev pub IsOrder : ℕ → CommandOrder → Type 0
 IsOrder tracks (Seeks t) = t < tracks
 IsOrder tracks (Defines e) = e.last < tracks
 IsOrder tracks (Locates d) = IsSought tracks d

@@ -102,8 +102,8 @@ from_index passes (Some i) = Here i passes
 from_index passes None = Nowhere no_record_sense
 
 -- a multitrack command goes on to the next track; any other passes the index, and the second time finds nothing
-abbrev pub missed : Bool → Stance → Option ℕ → Sought
-missed multitrack s again =
+abbrev pub search_missed : Bool → Stance → Option ℕ → Sought
+search_missed multitrack s again =
     if multitrack then moves_on (next_track s)
     else if nat_le 1 s.passes then Nowhere no_record_sense
     else from_index (s.passes + 1) again
@@ -111,7 +111,7 @@ missed multitrack s again =
 -- the candidate from the place, or else the one from the index
 abbrev pub find_from : Bool → Stance → Option ℕ → Option ℕ → Sought
 find_from multitrack s (Some i) again = Here i s.passes
-find_from multitrack s None again = missed multitrack s again
+find_from multitrack s None again = search_missed multitrack s again
 
 -- where a command finds its record, by the candidate that a place shows it
 abbrev pub find_on : Bool → Stance → ℕ → (Place → Option ℕ) → Sought

@@ -15,7 +15,7 @@ use Rattle.ckd_rules.specs.declared.stance.After.{After}
 use Rattle.ckd_rules.specs.declared.stance.After.TheVariants.{Wrote}
 use Rattle.ckd_rules.specs.Area.{given_at}
 use Rattle.ckd_rules.specs.Stance.{one_less}
-use Rattle.ckd_rules.specs.Ending.{Outcome, normal, refused, ended}
+use Rattle.ckd_rules.specs.Ending.{Outcome, normal, refused, outcome_with}
 use Rattle.ckd_rules.specs.Looked.{Looked, ends, edits}
 use Rattle.ckd_rules.specs.Finding.{place_on, record_of}
 
@@ -42,7 +42,7 @@ has_room_behind g records i key body = nat_le (cost_of g (take (i + 1) records) 
 
 -- record i is the new one
 abbrev pub format_ended : After → Stance → Ccw → ℕ → ℕ → Outcome
-format_ended after s c i area = ended (one_less (record s { place = Body i; passes = 0; after = after })) c area normal []
+format_ended after s c i area = outcome_with (one_less (record s { place = Body i; passes = 0; after = after })) c area normal []
 
 -- the new record stands behind record i
 abbrev pub format_behind : Geometry → List Record → After → Stance → Ccw → ℕ → Looked

@@ -12,14 +12,14 @@ use Rattle.ckd_rules.specs.declared.opening.Opening.{Opening}
 use Rattle.ckd_rules.specs.declared.opening.Opening.TheVariants as openings
 use Rattle.ckd_rules.specs.declared.order.Look.{Look}
 use Rattle.ckd_rules.specs.declared.order.Look.TheVariants.{Finds, Searches, Reads, Writes}
-use Rattle.ckd_rules.specs.declared.order.Order.{Order}
-use Rattle.ckd_rules.specs.declared.order.Order.TheVariants.{Nothing, Seeks, Recalibrates, SetsSector, SetsMask, Defines, Locates, Looks, Asks}
+use Rattle.ckd_rules.specs.declared.order.CommandOrder.{CommandOrder}
+use Rattle.ckd_rules.specs.declared.order.CommandOrder.TheVariants.{Nothing, Seeks, Recalibrates, SetsSector, SetsMask, Defines, Locates, Looks, Asks}
 use Rattle.ckd_rules.specs.declared.stance.Place.{Place}
 use Rattle.ckd_rules.specs.declared.stance.Place.TheVariants.{Index}
 use Rattle.ckd_rules.specs.declared.stance.Stance.{Stance}
 use Rattle.ckd_rules.specs.Checks.{order_of}
 use Rattle.ckd_rules.specs.Control.{controlled, went_to, extended, masked, placed, unseen_place}
-use Rattle.ckd_rules.specs.Ending.{Outcome, normal, refused, immediate, ended}
+use Rattle.ckd_rules.specs.Ending.{Outcome, normal, refused, immediate, outcome_with}
 use Rattle.ckd_rules.specs.Finding.{track_after}
 
 -- a command that began: it is over, or looks at the track of this stance, or asks the device
@@ -27,8 +27,8 @@ pub record Opened : Type 0 where
   pub stance : Stance
   pub opening : Opening
 
-abbrev pub over : Outcome → Opened
-over o = record { stance = o.stance; opening = openings.Over o.ending }
+abbrev pub over_at_once : Outcome → Opened
+over_at_once o = record { stance = o.stance; opening = openings.Over o.ending }
 
 abbrev pub looking : Stance → Look → Opened
 looking s look = record { stance = s; opening = openings.Looks look }
@@ -36,7 +36,7 @@ looking s look = record { stance = s; opening = openings.Looks look }
 -- a command on the next track goes there first, whatever the mask says of moves
 abbrev pub moved : Stance → Ccw → Look → Result ℕ Sense → Opened
 moved s c look (Ok t) = looking (record s { track = t; place = Index }) look
-moved s c look (Err sense) = over (refused s c sense)
+moved s c look (Err sense) = over_at_once (refused s c sense)
 
 -- read track begins at an index: elsewhere it goes to the next track
 abbrev pub read_from : Stance → Ccw → Read → ReadArea → Place → Opened
@@ -52,25 +52,25 @@ look_from s c look = looking s look
 
 -- locate record looks at the track that it seeks, unless it needs no record there
 abbrev pub locating : Stance → Ccw → Domain → Option Place → Opened
-locating s c d (Some place) = over (placed s c d place)
+locating s c d (Some place) = over_at_once (placed s c d place)
 locating s c d None = looking (record s { track = d.seek }) (Finds d)
 
 -- an order is begun
-abbrev pub begun : Stance → Ccw → Order → Opened
-begun s c Nothing = over (immediate (controlled s) c)
-begun s c (Seeks t) = over (ended (went_to s t) c 6 normal [])
-begun s c Recalibrates = over (immediate (went_to s 0) c)
-begun s c SetsSector = over (ended (controlled s) c 1 normal [])
-begun s c (SetsMask mask) = over (ended (masked s mask) c 1 normal [])
-begun s c (Defines e) = over (ended (extended s e) c 16 normal [])
+abbrev pub begun : Stance → Ccw → CommandOrder → Opened
+begun s c Nothing = over_at_once (immediate (controlled s) c)
+begun s c (Seeks t) = over_at_once (outcome_with (went_to s t) c 6 normal [])
+begun s c Recalibrates = over_at_once (immediate (went_to s 0) c)
+begun s c SetsSector = over_at_once (outcome_with (controlled s) c 1 normal [])
+begun s c (SetsMask mask) = over_at_once (outcome_with (masked s mask) c 1 normal [])
+begun s c (Defines e) = over_at_once (outcome_with (extended s e) c 16 normal [])
 begun s c (Locates d) = locating s c d (unseen_place d.orientation)
 begun s c (Looks look) = look_from s c look
 begun s c (Asks act) = record { stance = s; opening = openings.Asks act }
 
-abbrev pub opened_by : Stance → Ccw → Result Order Sense → Opened
-opened_by s c (Ok order) = begun s c order
-opened_by s c (Err sense) = over (refused s c sense)
+abbrev pub opening_with : Stance → Ccw → Result CommandOrder Sense → Opened
+opening_with s c (Ok order) = begun s c order
+opening_with s c (Err sense) = over_at_once (refused s c sense)
 
 -- a command that a check refuses is over
 abbrev pub opening_of : Fixed → Stance → Ccw → Opened
-opening_of f s c = opened_by s c (order_of f s c)
+opening_of f s c = opening_with s c (order_of f s c)

@@ -17,7 +17,7 @@ use Rattle.ckd_rules.specs.declared.stance.After.TheVariants.{Other, IdEqual, Ke
 use Rattle.ckd_rules.specs.declared.finding.Sought.{Sought}
 use Rattle.ckd_rules.specs.declared.finding.Sought.TheVariants.{Here, Onward, Nowhere}
 use Rattle.ckd_rules.specs.Stance.{one_less}
-use Rattle.ckd_rules.specs.Ending.{Outcome, normal, exception, refused, ended, sent_of}
+use Rattle.ckd_rules.specs.Ending.{Outcome, normal, exception, refused, outcome_with, sent_of}
 use Rattle.ckd_rules.specs.Looked.{Looked, ends, onward}
 use Rattle.ckd_rules.specs.Finding.{next_data, next_key, next_count, zero_from, home_from, if_there, find_on}
 
@@ -89,7 +89,7 @@ read_stance n area s i passes = one_less (record s { place = read_place n area i
 -- record i was read, or the track from it on
 abbrev pub read_ended : Track → ReadArea → Stance → Ccw → ℕ → ℕ → Outcome
 read_ended t area s c i passes =
-    ended (read_stance (length t.records) area s i passes) c (length (read_bytes t area i))
+    outcome_with (read_stance (length t.records) area s i passes) c (length (read_bytes t area i))
     (read_status area (record_at t.records i).body) (sent_of c (read_bytes t area i))
 
 abbrev pub read_sought : Track → ReadArea → Stance → Ccw → Sought → Looked

@@ -22,7 +22,7 @@ use Rattle.ckd_rules.specs.declared.stance.After.TheVariants.{Other, IdEqual, Ke
 use Rattle.ckd_rules.specs.declared.finding.Sought.{Sought}
 use Rattle.ckd_rules.specs.declared.finding.Sought.TheVariants.{Here, Onward, Nowhere}
 use Rattle.ckd_rules.specs.Area.{given_at}
-use Rattle.ckd_rules.specs.Ending.{Outcome, normal, satisfied, refused, ended}
+use Rattle.ckd_rules.specs.Ending.{Outcome, normal, satisfied, refused, outcome_with}
 use Rattle.ckd_rules.specs.Finding.{next_id, next_key, home_from, if_there, find_on}
 use Rattle.ckd_rules.specs.Looked.{Looked, ends, onward}
 use Rattle.ckd_rules.specs.Reads.{record_at}
@@ -90,7 +90,7 @@ search_status met = if met then satisfied else normal
 -- as many bytes of record i's area were compared as it has
 abbrev pub search_ended : SearchArea → Stance → Ccw → ℕ → ℕ → ℕ → Bool → Outcome
 search_ended area s c i passes len met =
-    ended (record s { place = search_place area i; passes = passes; after = search_after area met }) c len (search_status met) []
+    outcome_with (record s { place = search_place area i; passes = passes; after = search_after area met }) c len (search_status met) []
 
 abbrev pub search_found : SearchArea → Stance → Ccw → ℕ → ℕ → List ℕ → Outcome
 search_found area s c i passes bytes = search_ended area s c i passes (length bytes) (satisfies (comparison_of area) (compared c bytes))

@@ -13,7 +13,7 @@ use Rattle.ckd_rules.specs.declared.finding.Sought.{Sought}
 use Rattle.ckd_rules.specs.declared.finding.Sought.TheVariants.{Here, Onward, Nowhere}
 use Rattle.ckd_rules.specs.Area.{given_at}
 use Rattle.ckd_rules.specs.Stance.{one_less}
-use Rattle.ckd_rules.specs.Ending.{Outcome, refused, ended}
+use Rattle.ckd_rules.specs.Ending.{Outcome, refused, outcome_with}
 use Rattle.ckd_rules.specs.Looked.{Looked, ends, onward, edits}
 use Rattle.ckd_rules.specs.Finding.{place_on, next_data, next_key, if_there, find_from}
 use Rattle.ckd_rules.specs.Reads.{record_at, status_of}
@@ -28,7 +28,7 @@ after_update in_domain = if in_domain then Other else Wrote
 -- record i was written, or is an end of file
 abbrev pub update_ended : Bool → Stance → Ccw → ℕ → List ℕ → ℕ → Outcome
 update_ended in_domain s c i body area =
-    ended (one_less (record s { place = Body i; passes = 0; after = after_update in_domain })) c area (status_of body) []
+    outcome_with (one_less (record s { place = Body i; passes = 0; after = after_update in_domain })) c area (status_of body) []
 
 -- an end of file has no data to write
 abbrev pub update_data : Bool → Stance → Ccw → ℕ → Record → Looked

@@ -2,13 +2,13 @@ ghost use Rattle.std.specs.Prelude.{◌≡◌, ◌<◌, ◌*◌, IfOk, IfSome, O
 ghost use Rattle.ckd_types.specs.Parameters.{given};
 ghost use Rattle.ckd_rules.specs.Checks.{control_may_follow, write_may_follow, read_may_follow, device_may_follow, may_follow, is_before_records};
 ghost use Rattle.ckd_rules.specs.Checks.{may_stand_at, is_in_sequence, seeks, sets_mask, has_own_number, defines, locates, control_order, device_act};
-ghost use Rattle.ckd_rules.specs.Checks.{decoded, mask_fault, first_track, is_between, is_within, placed_order, masked_order, permitted_order};
+ghost use Rattle.ckd_rules.specs.Checks.{decoded_order, mask_fault, first_track, is_between, is_within, placed_order, masked_order, permitted_order};
 ghost use Rattle.ckd_rules.specs.Checks.{order_by, order_of};
 ghost use Rattle.ckd_rules.specs.Facts.{IsOrder};
-ghost use Rattle.ckd_rules.specs.declared.order.Order.TheVariants.{Seeks, Defines};
+ghost use Rattle.ckd_rules.specs.declared.order.CommandOrder.TheVariants.{Seeks, Defines};
 ghost use Rattle.ckd_types.specs.declared.command.DeviceCommand.TheVariants.{SetPathGroup};
 
-use crate::{After, LocalAct, Look, Order, Place, Stance};
+use crate::{After, CommandOrder, LocalAct, Look, Place, Stance};
 use ckd_params::{decode_domain, decode_extent, decode_seek, decode_seek_head};
 use ckd_sense::{
     INVALID_COMMAND, INVALID_PARAMETER, INVALID_SEQUENCE, SHORT_COUNT, file_protected, reject,
@@ -105,21 +105,21 @@ fn given(ccw: &Ccw) -> [u8; 16]
     bytes
 }
 
-fn seeks(track: Option<TrackNo>) -> Option<Order>
+fn seeks(track: Option<TrackNo>) -> Option<CommandOrder>
     ensures order { result ≡ seeks track }
     ensures kept { IfSome result (λ o. IfSome track (λ t. o ≡ Seeks t)) }
 {
     match track {
-        Some(track) => Some(Order::Seeks(track)),
+        Some(track) => Some(CommandOrder::Seeks(track)),
         None => None,
     }
 }
 
-fn sets_mask(mask: u8) -> Option<Order>
+fn sets_mask(mask: u8) -> Option<CommandOrder>
     ensures { result ≡ sets_mask mask }
 {
     if is_mask(mask) {
-        Some(Order::SetsMask(mask))
+        Some(CommandOrder::SetsMask(mask))
     } else {
         None
     }
@@ -135,12 +135,12 @@ fn has_own_number(own: u16, number: Option<u16>) -> bool
     }
 }
 
-fn defines(own: u16, extent: Extent) -> Option<Order>
+fn defines(own: u16, extent: Extent) -> Option<CommandOrder>
     ensures order { result ≡ defines own (Ok extent) }
     ensures kept { IfSome result (λ o. o ≡ Defines extent) }
 {
     if has_own_number(own, extent.number) {
-        Some(Order::Defines(extent))
+        Some(CommandOrder::Defines(extent))
     } else {
         None
     }
@@ -152,27 +152,27 @@ fn control_order(
     stance: &Stance,
     bytes: &[u8; 16],
     control: Control,
-) -> Option<Order>
+) -> Option<CommandOrder>
     requires track { stance.now.track < fixed.now.cylinders * 15 }
     ensures order { result ≡ control_order fixed.now stance.now bytes.now control }
     ensures on_device { IfSome result (IsOrder (fixed.now.cylinders * 15)) }
 {
     match control {
-        Control::NoOperation => Some(Order::Nothing),
+        Control::NoOperation => Some(CommandOrder::Nothing),
         Control::Seek | Control::SeekCylinder => seeks(decode_seek(bytes, fixed.cylinders())),
         Control::SeekHead => {
             let track = stance.track;
             seeks(decode_seek_head(bytes, track))
         }
-        Control::Recalibrate => Some(Order::Recalibrates),
-        Control::SetSector => Some(Order::SetsSector),
+        Control::Recalibrate => Some(CommandOrder::Recalibrates),
+        Control::SetSector => Some(CommandOrder::SetsSector),
         Control::SetFileMask => sets_mask(bytes[0]),
         Control::DefineExtent => match decode_extent(bytes, fixed.cylinders()) {
             Ok(extent) => defines(fixed.number(), extent),
             Err(_) => None,
         },
         Control::LocateRecord => match decode_domain(bytes, fixed.cylinders()) {
-            Ok(domain) => Some(Order::Locates(domain)),
+            Ok(domain) => Some(CommandOrder::Locates(domain)),
             Err(_) => None,
         },
     }
@@ -205,17 +205,17 @@ fn device_act(ccw: &Ccw, command: DeviceCommand) -> LocalAct
 }
 
 /// What a command is to do; None where its bytes mean nothing on the device.
-fn decoded(fixed: &FixedData, stance: &Stance, ccw: &Ccw, command: Command) -> Option<Order>
+fn decoded(fixed: &FixedData, stance: &Stance, ccw: &Ccw, command: Command) -> Option<CommandOrder>
     requires track { stance.now.track < fixed.now.cylinders * 15 }
-    ensures order { result ≡ decoded fixed.now stance.now ccw.now command }
+    ensures order { result ≡ decoded_order fixed.now stance.now ccw.now command }
     ensures on_device { IfSome result (IsOrder (fixed.now.cylinders * 15)) }
 {
     match command {
         Command::Control(control) => control_order(fixed, stance, &given(ccw), control),
-        Command::Search(search) => Some(Order::Looks(Look::Searches(search))),
-        Command::Read(read) => Some(Order::Looks(Look::Reads(read))),
-        Command::Write(write) => Some(Order::Looks(Look::Writes(write))),
-        Command::Device(command) => Some(Order::Asks(device_act(ccw, command))),
+        Command::Search(search) => Some(CommandOrder::Looks(Look::Searches(search))),
+        Command::Read(read) => Some(CommandOrder::Looks(Look::Reads(read))),
+        Command::Write(write) => Some(CommandOrder::Looks(Look::Writes(write))),
+        Command::Device(command) => Some(CommandOrder::Asks(device_act(ccw, command))),
     }
 }
 
@@ -243,14 +243,14 @@ fn mask_fault(mask: u8, command: Command) -> Option<Sense>
 }
 
 /// The track that a command is on, or goes to.
-fn first_track(stance: &Stance, order: &Order) -> Option<TrackNo>
+fn first_track(stance: &Stance, order: &CommandOrder) -> Option<TrackNo>
     ensures { result ≡ first_track stance.now order.now }
 {
     match order {
-        Order::Seeks(track) => Some(*track),
-        Order::Recalibrates => TrackNo::new(0),
-        Order::Locates(domain) => Some(domain.seek),
-        Order::Looks(_) => Some(stance.track),
+        CommandOrder::Seeks(track) => Some(*track),
+        CommandOrder::Recalibrates => TrackNo::new(0),
+        CommandOrder::Locates(domain) => Some(domain.seek),
+        CommandOrder::Looks(_) => Some(stance.track),
         _ => None,
     }
 }
@@ -270,7 +270,11 @@ fn is_within(extent: Option<Extent>, track: Option<TrackNo>) -> bool
     }
 }
 
-fn permitted_order(stance: &Stance, command: Command, order: Option<Order>) -> Result<Order, Sense>
+fn permitted_order(
+    stance: &Stance,
+    command: Command,
+    order: Option<CommandOrder>,
+) -> Result<CommandOrder, Sense>
     ensures order { result ≡ permitted_order stance.now command order }
     ensures kept { IfOk result (λ o. order ≡ Some o) }
 {
@@ -288,7 +292,7 @@ fn permitted_order(stance: &Stance, command: Command, order: Option<Order>) -> R
 
 /// What the command of a word is to do, or the sense of the first check that it fails before it looks
 /// at a track.
-pub fn order_of(fixed: &FixedData, stance: &Stance, ccw: &Ccw) -> Result<Order, Sense>
+pub fn order_of(fixed: &FixedData, stance: &Stance, ccw: &Ccw) -> Result<CommandOrder, Sense>
     requires track { stance.now.track < fixed.now.cylinders * 15 }
     ensures order { result ≡ order_of fixed.now stance.now ccw.now }
     ensures on_device { IfOk result (IsOrder (fixed.now.cylinders * 15)) }

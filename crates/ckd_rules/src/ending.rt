@@ -1,5 +1,5 @@
 ghost use Rattle.std.specs.Prelude.{◌≡◌, ◌<◌, ◌+◌, ◌^◌, [], None, length};
-ghost use Rattle.ckd_rules.specs.Ending.{counted, length_note, refused, immediate, ended};
+ghost use Rattle.ckd_rules.specs.Ending.{work_counted, length_note, refused, immediate, outcome_with};
 ghost use Rattle.ckd_rules.specs.Reads.{status_of};
 
 use crate::Stance;
@@ -20,7 +20,7 @@ pub struct Ending {
 fn count(stance: &mut Stance, moved: u16)
     requires commands { stance.old.commands < 4096 }
     requires moved { stance.old.moved < 2 ^ 21 }
-    ensures { stance.new ≡ counted stance.old moved }
+    ensures { stance.new ≡ work_counted stance.old moved }
 {
     stance.commands += 1;
     stance.moved += u32::from(moved);
@@ -77,8 +77,8 @@ fn length_note(ccw: &Ccw, area: usize) -> Note
 pub fn end(stance: &mut Stance, ccw: &Ccw, area: usize, status: UnitStatus, sent: Bytes) -> Ending
     requires commands { stance.old.commands < 4096 }
     requires moved { stance.old.moved < 2 ^ 21 }
-    ensures stance { stance.new ≡ (ended stance.old ccw.now area status sent).stance }
-    ensures ending { result ≡ (ended stance.old ccw.now area status sent).ending }
+    ensures stance { stance.new ≡ (outcome_with stance.old ccw.now area status sent).stance }
+    ensures ending { result ≡ (outcome_with stance.old ccw.now area status sent).ending }
 {
     let moved = usize::from(ccw.count).min(area) as u16;
     count(stance, moved);

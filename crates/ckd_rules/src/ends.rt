@@ -1,7 +1,7 @@
 ghost use Rattle.std.specs.Prelude.{◌≡◌, ◌<◌, ◌≤◌, IfNone, IfSome, length, true};
 ghost use Rattle.ckd_types.specs.Ccw.{is_transfer, ccw_at, no_ccw};
 ghost use Rattle.ckd_types.specs.Program.{target};
-ghost use Rattle.ckd_rules.specs.Ends.{would_go_on, at_limit, is_over, note_of, end_of, goes_to};
+ghost use Rattle.ckd_rules.specs.Ends.{would_go_on, at_limit, is_over, note_of, end_at_word, goes_to};
 ghost use Rattle.ckd_rules.specs.Facts.{IsRunning};
 
 use crate::{Ending, Stance};
@@ -48,7 +48,7 @@ fn note_of(ccw: &Ccw, stance: &Stance, ending: &Ending) -> Note
 /// The end of the command of word `index`, with the stance behind it.
 #[inline(always)]
 pub fn end_of(index: u16, ccw: &Ccw, stance: &Stance, ending: Ending) -> CommandEnd
-    ensures { result ≡ end_of index ccw.now (record { stance = stance.now; ending = ending }) }
+    ensures { result ≡ end_at_word index ccw.now (record { stance = stance.now; ending = ending }) }
 {
     let note = note_of(ccw, stance, &ending);
     let over = is_over(ccw, stance, &ending);

@@ -1,6 +1,6 @@
 ghost use Rattle.std.specs.Prelude.{◌≡◌, ◌<◌, ◌≤◌, ◌+◌, ◌^◌, IfSome, IfOk, IsSomeAnd, Ok};
 ghost use Rattle.ckd_rules.specs.Finding.{kept_place, place_on, record_of, next_id, next_count, next_data, next_key, zero_from};
-ghost use Rattle.ckd_rules.specs.Finding.{home_from, if_there, next_track, track_after, find_from, missed, from_index};
+ghost use Rattle.ckd_rules.specs.Finding.{home_from, if_there, next_track, track_after, find_from, search_missed, from_index};
 ghost use Rattle.ckd_rules.specs.Updates.{next_area};
 ghost use Rattle.ckd_rules.specs.Facts.{IsHere, IsOnward, PassedOnce};
 
@@ -186,7 +186,7 @@ fn from_index(passes: u8, again: Option<usize>) -> Sought
 
 fn missed(multitrack: bool, stance: &Stance, again: Option<usize>) -> Sought
     requires { stance.now.passes ≤ 1 }
-    ensures sought { result ≡ missed multitrack stance.now again }
+    ensures sought { result ≡ search_missed multitrack stance.now again }
     ensures after { IsOnward result (λ t. track_after stance.now.extent stance.now.track ≡ Ok t) }
     ensures there { IsHere result (λ i. IsSomeAnd again (λ k. i ≡ k)) }
     ensures passed { PassedOnce result }

@@ -29,6 +29,6 @@ pub use grouping::{
     owner_set, set_paths, state_byte,
 };
 pub use opening::{Opening, open};
-pub use order::{LocalAct, Look, Order};
+pub use order::{CommandOrder, LocalAct, Look};
 pub use stance::{After, Place, Stance, first_stance, spend_one};
 pub use turned::Turned;

@@ -1,15 +1,15 @@
 ghost use Rattle.std.specs.Prelude.{◌≡◌, ◌<◌, ◌≤◌, ◌*◌, ◌^◌, []};
 ghost use Rattle.ckd_rules.specs.Finding.{track_after};
-ghost use Rattle.ckd_rules.specs.Opening.{over, moved, read_from, look_from, locating, begun, opened_by, opening_of};
+ghost use Rattle.ckd_rules.specs.Opening.{over_at_once, moved, read_from, look_from, locating, begun, opening_with, opening_of};
 ghost use Rattle.ckd_rules.specs.Facts.{HasRoom, Stands, Opens};
-ghost use Rattle.ckd_rules.specs.Ending.{normal, ended};
-ghost use Rattle.ckd_rules.specs.declared.order.Order.TheVariants.{Locates};
+ghost use Rattle.ckd_rules.specs.Ending.{normal, outcome_with};
+ghost use Rattle.ckd_rules.specs.declared.order.CommandOrder.TheVariants.{Locates};
 
 use crate::checks::order_of;
 use crate::control::{control, extend, go_to, set_mask, stand, unseen_place};
 use crate::ending::{end, pass, refuse};
 use crate::finding::track_after;
-use crate::{Ending, LocalAct, Look, Order, Place, Stance};
+use crate::{CommandOrder, Ending, LocalAct, Look, Place, Stance};
 use ckd_types::{Bytes, Ccw, Domain, FixedData, Read, ReadArea, TrackNo, UnitStatus, Write};
 
 /// How a command begins: it is over without a look at a track; it looks at the track of the stance,
@@ -86,46 +86,46 @@ fn begin_locate(stance: &mut Stance, ccw: &Ccw, domain: Domain) -> Opening
 fn done(stance: &mut Stance, ccw: &Ccw, taken: usize) -> Opening
     requires commands { stance.old.commands < 4096 }
     requires moved { stance.old.moved < 2 ^ 21 }
-    ensures stance { stance.new ≡ (over (ended stance.old ccw.now taken normal [])).stance }
-    ensures opening { result ≡ (over (ended stance.old ccw.now taken normal [])).opening }
+    ensures stance { stance.new ≡ (over_at_once (outcome_with stance.old ccw.now taken normal [])).stance }
+    ensures opening { result ≡ (over_at_once (outcome_with stance.old ccw.now taken normal [])).opening }
 {
     Opening::Over(end(stance, ccw, taken, UnitStatus::normal(), Bytes::new()))
 }
 
-fn begin(stance: &mut Stance, ccw: &Ccw, order: Order) -> Opening
+fn begin(stance: &mut Stance, ccw: &Ccw, order: CommandOrder) -> Opening
     requires commands { stance.old.commands < 4096 }
     requires moved { stance.old.moved < 2 ^ 21 }
     ensures stance { stance.new ≡ (begun stance.old ccw.now order).stance }
     ensures opening { result ≡ (begun stance.old ccw.now order).opening }
 {
     match order {
-        Order::Nothing => {
+        CommandOrder::Nothing => {
             control(stance);
             Opening::Over(pass(stance, ccw))
         }
-        Order::Seeks(track) => {
+        CommandOrder::Seeks(track) => {
             go_to(stance, track);
             done(stance, ccw, 6)
         }
-        Order::Recalibrates => {
+        CommandOrder::Recalibrates => {
             go_to(stance, TrackNo::new(0).unwrap());
             Opening::Over(pass(stance, ccw))
         }
-        Order::SetsSector => {
+        CommandOrder::SetsSector => {
             control(stance);
             done(stance, ccw, 1)
         }
-        Order::SetsMask(mask) => {
+        CommandOrder::SetsMask(mask) => {
             set_mask(stance, mask);
             done(stance, ccw, 1)
         }
-        Order::Defines(extent) => {
+        CommandOrder::Defines(extent) => {
             extend(stance, extent);
             done(stance, ccw, 16)
         }
-        Order::Locates(domain) => begin_locate(stance, ccw, domain),
-        Order::Looks(look) => begin_look(stance, ccw, look),
-        Order::Asks(act) => Opening::Asks(act),
+        CommandOrder::Locates(domain) => begin_locate(stance, ccw, domain),
+        CommandOrder::Looks(look) => begin_look(stance, ccw, look),
+        CommandOrder::Asks(act) => Opening::Asks(act),
     }
 }
 

@@ -33,7 +33,7 @@ pub enum Look {
 /// and the extent let it: nothing; go to a track; take a sector, a mask or an extent; stand where a
 /// locate record says; look at tracks; or ask the device.
 #[derive(Clone, Copy, Debug, PartialEq, Eq)]
-pub enum Order {
+pub enum CommandOrder {
     Nothing,
     Seeks(TrackNo),
     Recalibrates,

@@ -24,7 +24,8 @@ use Rattle.remote_copy.specs.declared.link.Link as links
 use Rattle.remote_copy.specs.declared.mirror.Mirror.{Mirror}
 use Rattle.remote_copy.specs.Linking.{LinkView, PutCalls}
 use Rattle.remote_copy.specs.Mirroring.{IsMirror, MirrorRun}
-use Rattle.remote_copy.specs.Sending.{FirmWrite, IsReached, put_all, reached}
+use Rattle.firm_laws.specs.FirmWrites.{FirmWrite}
+use Rattle.remote_copy.specs.Sending.{IsReached, put_all, reached}
 use Rattle.remote_copy.proofs.Puttings.{length_put_all}
 use Rattle.remote_copy.proofs.Reached.{reached_first}
 use Rattle.copy_tool.specs.Mirroring as M

@@ -1,5 +1,6 @@
 ghost use Rattle.std.specs.Prelude.{◌≡◌};
 ghost use Rattle.subsystem_core.specs.Devices.{numbers_of};
+ghost use Rattle.subsystem_core.specs.Frames.{HasSameDevices};
 ghost use Rattle.line_drive.specs.Staging.{Reaches};
 ghost use Rattle.point_copy.specs.Copying.{CopyState};
 ghost use Rattle.point_copy.specs.CopyRun.{Copying, copy_course, copy_look, gave, looks_on};
@@ -39,7 +40,7 @@ fn take(images: &mut Vec<TrackImage>, given: Given) -> Result<(), Stopped<Early>
 
 /// One more track; nothing where all were given.
 fn look(copying: &mut CopyStage) -> Result<(), Stopped<Early>>
-    ensures numbers { numbers_of copying.new.session.sub.devices.items ≡ numbers_of copying.old.session.sub.devices.items }
+    ensures numbers { HasSameDevices copying.old.session.sub copying.new.session.sub }
     ensures reaches { (c : Copying) → IsCopying copying.old c → Reaches (IsCopying copying.new) (copy_look c) result }
 {
     match copying.session.next() {

@@ -1,8 +1,6 @@
 ghost use Rattle.std.specs.Prelude.{◌≡◌, ◌≤◌, ◌*◌, IfOk, length, true, false};
 ghost use Rattle.std.specs.List.{list_any};
 ghost use Rattle.deck_run.specs.Opening.{WasRead};
-ghost use Rattle.device_outside.specs.Lists.{is_in};
-ghost use Rattle.subsystem_core.specs.Devices.{numbers_of};
 ghost use Rattle.remote_copy.specs.Mirroring.{IsMirror, MirrorRun};
 ghost use Rattle.volume_file.specs.File.{IsWhole};
 ghost use Rattle.volume_save.specs.Devices.{is_declared};
@@ -10,6 +8,7 @@ ghost use Rattle.volume_save.specs.Saving.{volume_with};
 ghost use Rattle.copy_tool.specs.Copying.{Gives};
 ghost use Rattle.copy_tool.specs.Mirroring.{images_of, lends, mirroring, mirroring_of};
 ghost use Rattle.copy_tool.specs.MirrorStanding.{IsFarVolume, IsMirrorBegun};
+ghost use Rattle.subsystem_core.specs.Frames.{HasDevice};
 
 use crate::mirroring::MirrorStage;
 use crate::unmirrored::Unmirrored;
@@ -62,7 +61,7 @@ fn link_volume(alloc: Global, link: &MemLink, cylinders: u8) -> Result<FileVolum
 
 /// The far volume of a mirror of this device.
 fn far_volume(alloc: Global, stage: &MirrorStage, d: DeviceNo) -> Result<FileVolume, NoMemory>
-    requires here { is_in d (numbers_of stage.now.mirror.sub.devices.items) ≡ true }
+    requires here { HasDevice stage.now.mirror.sub d }
     requires stands { (c : MirrorRun) × (c.device ≡ d) × IsMirror stage.now.mirror c }
     ensures far { (c : MirrorRun) (is : IsMirror stage.now.mirror c) → c.device ≡ d
         → IfOk result (IsFarVolume stage.now.mirror.sender.link is.mounted) }

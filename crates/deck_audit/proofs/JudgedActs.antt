@@ -8,7 +8,7 @@ use Rattle.plain_defs.specs.declared.journal.Act.{Act}
 use Rattle.plain_defs.specs.declared.journal.Act.TheVariants.{Harden, Loosen, CfwLost}
 use Rattle.plain_defs.specs.Effect.{Effect}
 use Rattle.plain_defs.specs.History.{History, OpenEntry, acted, acted_in}
-use Rattle.plain_defs.specs.Loose.{act_done, cfw_lost, is_loose}
+use Rattle.plain_defs.specs.Loose.{act_done, cfw_lost, is_loose_there}
 use Rattle.plain_defs.specs.PlainState.{PlainState}
 use Rattle.plain_device.specs.Between.{effect_of}
 use Rattle.report_text.specs.declared.answers.LooseAnswer.TheVariants as loose
@@ -117,13 +117,13 @@ module _ (s : AuditState) (k : Kept) (a : AuditedDevice) (i : IsKept k a) where
     plans_are = refl;
   }
 
-  same_loose : (t : ℕ) → is_loose k.device.device t ≡ is_loose (state_of a) t
-  same_loose t = ap (λ (d : PlainState). is_loose d t) i.follows.device_is
+  same_loose : (t : ℕ) → is_loose_there k.device.device t ≡ is_loose_there (state_of a) t
+  same_loose t = ap (λ (d : PlainState). is_loose_there d t) i.follows.device_is
 
   -- while no command waits
   pub harden_judged : (t : ℕ) → IsQuiet k → Judges s a (history.harden_made s a t Next) (harden_then k t Next) (act_kept k (Harden t))
   harden_judged t quiet = judges_if s a (history.act_made s a (Harden t) Next) (Wait Next) (act_kept k (Harden t))
-      (is_loose (state_of a) t) (is_loose k.device.device t) (same_loose t)
+      (is_loose_there (state_of a) t) (is_loose_there k.device.device t) (same_loose t)
       (λ is. act_goes (Harden t) Next (quiet_act k a (Harden t) i quiet) quiet)
 
   harden_behind : (t : ℕ) (did : Did) → DidSo did k a
@@ -131,7 +131,7 @@ module _ (s : AuditState) (k : Kept) (a : AuditedDevice) (i : IsKept k a) where
   harden_behind t did so =
       let acts = acts_so k a (Harden t) i (λ path z. refl) did so in
       judges_if s a (history.act_made s a (Harden t) (Behind true did)) (Wait (Behind true did)) (act_kept k (Harden t))
-      (is_loose (state_of a) t) (is_loose k.device.device t) (same_loose t)
+      (is_loose_there (state_of a) t) (is_loose_there k.device.device t) (same_loose t)
       (λ is. act_goes (Harden t) (Behind true did) acts.kept acts.did_so)
 
   loosen_behind : (t : ℕ) (did : Did) → DidSo did k a

@@ -5,7 +5,7 @@ use Rattle.std.proofs.lemmas.Bool.Decides.{nat_tests}
 use Rattle.ckd_types.specs.declared.channel.CommandEnd.{CommandEnd}
 use Rattle.ckd_chain.specs.Steps.{end_with}
 use Rattle.plain_device.specs.Between.{effect_of}
-use Rattle.plain_defs.specs.History.{History, OpenEntry, cut_by, put, reset, reset_in}
+use Rattle.plain_defs.specs.History.{History, OpenEntry, cut_by, put, reset_in_history, reset_in}
 use Rattle.plain_defs.specs.Legal.{is_used}
 use Rattle.deck_audit.specs.declared.kept.Kept.{Kept}
 use Rattle.deck_audit.specs.declared.kept.Then.TheVariants.{Wait}
@@ -106,7 +106,7 @@ module _ (s : AuditState) (k : Kept) (a : AuditedDevice) (i : IsKept k a) (quiet
 
   -- A reset
 
-  in_history : (more : ℕ) → reset a.history r.entry.path more ≡ cut_by a.history r.entry more
+  in_history : (more : ℕ) → reset_in_history a.history r.entry.path more ≡ cut_by a.history r.entry more
   in_history more = ap (λ (x : Option OpenEntry). reset_in a.history r.entry.path more x) r.entry_is
       ∙ ap (λ (b : Bool). cond b (cut_by a.history r.entry more) (cond (is_used r.entry.path false a.history.items)
       (record a.history { waiting = put r.entry.path a.history.waiting }) a.history)) (eq-eqb r.entry.path r.entry.path refl)
@@ -118,11 +118,11 @@ module _ (s : AuditState) (k : Kept) (a : AuditedDevice) (i : IsKept k a) (quiet
       (eq-eqb q.path r.entry.path path_is)
 
   abbrev reset_after : ℕ → AuditedDevice
-  reset_after more = record a { history = reset a.history r.entry.path more; half = cut_half a.half }
+  reset_after more = record a { history = reset_in_history a.history r.entry.path more; half = cut_half a.half }
 
   reset_goes : (more : ℕ) (x : ReplayedState) (q : Running) → x.running ≡ Some q → q.path ≡ r.entry.path → x.pending ≡ None → KeepsPaths x a.history
-      → Follows (replay.reset x r.entry.path) (record a { history = reset a.history r.entry.path more })
-      → Goes s a (Some (record (changed s (record a { history = reset a.history r.entry.path more; half = cut_half a.half }))
+      → Follows (replay.reset x r.entry.path) (record a { history = reset_in_history a.history r.entry.path more })
+      → Goes s a (Some (record (changed s (record a { history = reset_in_history a.history r.entry.path more; half = cut_half a.half }))
       { due = ResetOf })) (Wait ResetOf) (record k { device = with_cut_half (replay.reset x r.entry.path) })
   reset_goes more x q run_is path_is none keeps follows = record {
     after = reset_after more;
@@ -130,10 +130,10 @@ module _ (s : AuditState) (k : Kept) (a : AuditedDevice) (i : IsKept k a) (quiet
     kept = record {
       follows = subst (λ (z : HalfWrite). Follows (record (replay.reset x r.entry.path) { half = z }) (reset_after more))
           (ap cut_half (sym follows.half_is))
-          (half_is_followed (replay.reset x r.entry.path) (record a { history = reset a.history r.entry.path more }) follows (cut_half a.half));
+          (half_is_followed (replay.reset x r.entry.path) (record a { history = reset_in_history a.history r.entry.path more }) follows (cut_half a.half));
       keeps = keeps_same (replay.reset x r.entry.path) (with_cut_half (replay.reset x r.entry.path))
-          (reset a.history r.entry.path more) refl refl refl refl
-          (subst (λ (z : ReplayedState). KeepsPaths z (reset a.history r.entry.path more)) (sym (in_replay x q run_is path_is))
+          (reset_in_history a.history r.entry.path more) refl refl refl refl
+          (subst (λ (z : ReplayedState). KeepsPaths z (reset_in_history a.history r.entry.path more)) (sym (in_replay x q run_is path_is))
           (subst (λ (z : History). KeepsPaths (replay.closed (replay.reset_on x r.entry.path)) z) (sym (in_history more))
           (cut_reset_keeps x a.history r.entry more keeps r.entry_is counts_here.0 counts_here.1)));
       counts = subst (λ (z : History). IsCounted k.ended z.running) (sym (in_history more)) tt;
@@ -155,12 +155,12 @@ module _ (s : AuditState) (k : Kept) (a : AuditedDevice) (i : IsKept k a) (quiet
   behind_keeps : KeepsPaths behind_next a.history
   behind_keeps = settled_keeps (replay.ended_next k.device) a.history next_kept.keeps
 
-  cut_whole : Goes s a (Some (record (changed s (record a { history = reset a.history r.entry.path 0; half = cut_half a.half }))
+  cut_whole : Goes s a (Some (record (changed s (record a { history = reset_in_history a.history r.entry.path 0; half = cut_half a.half }))
       { due = ResetOf })) (Wait ResetOf) (record k { device = with_cut_half (replay.reset k.device r.entry.path) })
   cut_whole = reset_goes 0 k.device r.run r.run_is runs_here.path_is quiet i.keeps
       (cut_follows k.device a r.entry r.run i.follows r.run_is quiet r.entry_is i.keeps.waits)
 
-  cut_more : Goes s a (Some (record (changed s (record a { history = reset a.history r.entry.path 1; half = cut_half a.half }))
+  cut_more : Goes s a (Some (record (changed s (record a { history = reset_in_history a.history r.entry.path 1; half = cut_half a.half }))
       { due = ResetOf })) (Wait ResetOf) (record k { device = with_cut_half (replay.reset behind_next r.entry.path) })
   cut_more = reset_goes 1 behind_next waits.run behind_run runs_here.path_is behind_quiet behind_keeps
       (cut_more_follows (replay.ended_next k.device) a r.entry waits.run waits.pending next_kept.follows waits.run_is waits.pending_is
@@ -169,7 +169,7 @@ module _ (s : AuditState) (k : Kept) (a : AuditedDevice) (i : IsKept k a) (quiet
   reset_cut : Judges s a (history.cut_by s a r.entry n) (then_if (takes k n) (Wait ResetOf))
       (record k { device = with_cut_half (replay.reset (taken k n) r.entry.path) })
   reset_cut = cut_by_count
-      (λ (more : ℕ). record (changed s (record a { history = reset a.history r.entry.path more; half = cut_half a.half })) { due = ResetOf })
+      (λ (more : ℕ). record (changed s (record a { history = reset_in_history a.history r.entry.path more; half = cut_half a.half })) { due = ResetOf })
       ResetOf (λ (x : ReplayedState). with_cut_half (replay.reset x r.entry.path)) cut_whole cut_more
 
   -- A loss of power

@@ -6,7 +6,7 @@ use Rattle.report_text.specs.declared.answers.StartAnswer.{StartAnswer}
 use Rattle.report_text.specs.declared.answers.StartAnswer.TheVariants as start
 use Rattle.report_text.specs.declared.line.ReportLine.{ReportLine}
 use Rattle.report_text.specs.declared.line.ReportLine.TheVariants as lines
-use Rattle.deck_plan.specs.Plans.{Plans}
+use Rattle.deck_plan.specs.Plans.{PlansByPath}
 use Rattle.deck_audit.specs.declared.kept.Kept.{Kept}
 use Rattle.deck_audit.specs.declared.kept.Then.TheVariants.{Passed}
 use Rattle.deck_audit.specs.declared.replayed.Running.{Running}
@@ -24,7 +24,7 @@ use Rattle.deck_audit.proofs.ReplayedStarts.{answer_follows}
 use Rattle.deck_audit.proofs.StartedPaths.{started_follows, started_keeps}
 
 -- the path of a START that is accepted has a program left
-module _ (plans : Plans) (r : ReplayedState) (path n : ℕ) where
+module _ (plans : PlansByPath) (r : ReplayedState) (path n : ℕ) where
   from_free : (b : Bool) → replay.has_left plans r path ≡ b → cond (not b) start.Done (cond (replay.may_start plans r path)
       (start.Accepted (replay.started_on r path + 1)) (replay.held_answer plans r r.device.paths.owner)) ≡ start.Accepted n
       → replay.has_left plans r path ≡ true

@@ -7,7 +7,7 @@ use Rattle.ckd_types.specs.Sense.{equipment_sense, data_check_sense}
 use Rattle.deck_plan.specs.declared.event.EventLine.{EventLine}
 use Rattle.deck_plan.specs.declared.event.EventLine.TheVariants as events
 use Rattle.plain_defs.specs.declared.journal.Item.TheVariants as items
-use Rattle.plain_defs.specs.History.{History, OpenEntry, cut_by, is_path_of, put, reset, reset_in}
+use Rattle.plain_defs.specs.History.{History, OpenEntry, cut_by, is_path_of, put, reset_in_history, reset_in}
 use Rattle.plain_defs.specs.Legal.{is_used}
 use Rattle.report_text.specs.declared.line.ReportLine.{ReportLine}
 use Rattle.report_text.specs.declared.line.ReportLine.TheVariants as lines
@@ -163,14 +163,14 @@ wait_pending r l false = refl
 
 module _ (s : AuditState) (k : Kept) (a : AuditedDevice) (path : ℕ) (i : IsKept k a) (quiet : IsQuiet k) (least : 1 ≤ path) (most : path ≤ 4)
     (unlike : own_runs a.history.running path ≡ false) where
-  reset_goes : (x : ReplayedState) → replay.reset k.device path ≡ x → Follows x (record a { history = reset a.history path 0 })
-      → KeepsPaths x (reset a.history path 0) → x.pending ≡ k.device.pending → (reset a.history path 0).running ≡ a.history.running
-      → Goes s a (Some (passed (changed s (record a { history = reset a.history path 0 })))) Passed
+  reset_goes : (x : ReplayedState) → replay.reset k.device path ≡ x → Follows x (record a { history = reset_in_history a.history path 0 })
+      → KeepsPaths x (reset_in_history a.history path 0) → x.pending ≡ k.device.pending → (reset_in_history a.history path 0).running ≡ a.history.running
+      → Goes s a (Some (passed (changed s (record a { history = reset_in_history a.history path 0 })))) Passed
       (record k { device = replay.reset k.device path })
   reset_goes x is follows keeps pending running = subst (λ (z : ReplayedState). Goes s a
-      (Some (passed (changed s (record a { history = reset a.history path 0 })))) Passed (record k { device = z })) (sym is)
+      (Some (passed (changed s (record a { history = reset_in_history a.history path 0 })))) Passed (record k { device = z })) (sym is)
       (record {
-        after = record a { history = reset a.history path 0 };
+        after = record a { history = reset_in_history a.history path 0 };
         made_is = refl;
         kept = record {
           follows = follows;
@@ -188,20 +188,20 @@ module _ (s : AuditState) (k : Kept) (a : AuditedDevice) (path : ℕ) (i : IsKep
       ∙ ap (λ (x : Option OpenEntry). is_path_of x path || is_used path false a.history.items) is
       ∙ ap (λ (b : Bool). b || is_used path false a.history.items) other
 
-  idle_reset : Idle k.device a → Goes s a (Some (passed (changed s (record a { history = reset a.history path 0 })))) Passed
+  idle_reset : Idle k.device a → Goes s a (Some (passed (changed s (record a { history = reset_in_history a.history path 0 })))) Passed
       (record k { device = replay.reset k.device path })
   idle_reset idle =
       let used = used_is None idle.entry_is refl in
       let is = ap (λ (x : Option Running). replay.reset_by k.device path x) idle.run_is in
       reset_goes (replay.reset_used k.device path) is
-      (subst (λ (z : ReplayedState). Follows z (record a { history = reset a.history path 0 })) is
+      (subst (λ (z : ReplayedState). Follows z (record a { history = reset_in_history a.history path 0 })) is
       (reset_follows k.device a i.follows idle.entry_is path 0 used))
       (reset_keeps k.device a.history i.keeps idle.entry_is path 0 least most used)
       (used_pending k.device path (replay.is_used_on k.device path))
       (ap (λ (x : Option OpenEntry). (reset_in a.history path 0 x).running) idle.entry_is
       ∙ reset_items a.history path (is_used path false a.history.items))
 
-  runs_reset : Runs k.device a → Goes s a (Some (passed (changed s (record a { history = reset a.history path 0 })))) Passed
+  runs_reset : Runs k.device a → Goes s a (Some (passed (changed s (record a { history = reset_in_history a.history path 0 })))) Passed
       (record k { device = replay.reset k.device path })
   runs_reset r =
       let other : (r.entry.path == path) ≡ false = sym (ap (λ (x : Option OpenEntry). own_runs x path) r.entry_is) ∙ unlike in
@@ -219,7 +219,7 @@ module _ (s : AuditState) (k : Kept) (a : AuditedDevice) (path : ℕ) (i : IsKep
       (record a.history { waiting = put path a.history.waiting }) a.history)).running) other
       ∙ reset_running a.history r.entry path (is_used path false a.history.items))
 
-  reset_judged : Goes s a (Some (passed (changed s (record a { history = reset a.history path 0 })))) Passed
+  reset_judged : Goes s a (Some (passed (changed s (record a { history = reset_in_history a.history path 0 })))) Passed
       (record k { device = replay.reset k.device path })
   reset_judged = by_program k.device a i.follows idle_reset runs_reset
 

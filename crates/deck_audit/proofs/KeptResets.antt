@@ -6,7 +6,7 @@ use Rattle.std.proofs.lemmas.Bool.{eq-eqb}
 use Rattle.plain_defs.specs.declared.journal.How.TheVariants.{Cut}
 use Rattle.plain_defs.specs.declared.journal.Item.{Item}
 use Rattle.plain_defs.specs.declared.journal.Item.TheVariants as items
-use Rattle.plain_defs.specs.History.{History, OpenEntry, cut_by, entry_of, is_path_of, put, reset, reset_in, resets_of}
+use Rattle.plain_defs.specs.History.{History, OpenEntry, cut_by, entry_of, is_path_of, put, reset_in_history, reset_in, resets_of}
 use Rattle.plain_defs.specs.Legal.{is_of_path, is_used}
 use Rattle.deck_audit.specs.Device.{runs}
 use Rattle.deck_audit.specs.Follows.{KeepsPath, KeepsPaths, WaitsAs, if_waits, own_count}
@@ -133,7 +133,7 @@ module _ (r : ReplayedState) (h : History) (k : KeepsPaths r h) (idle : h.runnin
   by_use p least most false = k
 
   pub reset_keeps : (p more : ℕ) → 1 ≤ p → p ≤ 4 → replayed.is_used_on r p ≡ is_used p false h.items
-      → KeepsPaths (replayed.reset_used r p) (reset h p more)
+      → KeepsPaths (replayed.reset_used r p) (reset_in_history h p more)
   reset_keeps p more least most used =
       subst (λ (x : History). KeepsPaths (replayed.reset_used r p) x) (sym (ap (λ (x : Option OpenEntry). reset_in h p more x) idle))
       (subst (λ (b : Bool). KeepsPaths (cond b (replayed.reset_on r p) r)
@@ -331,7 +331,7 @@ module _ (r : ReplayedState) (h : History) (o : OpenEntry) (k : KeepsPaths r h) 
   }
   wait_by false = k
 
-  pub wait_keeps : (more : ℕ) → replayed.is_used_on r p ≡ is_used p false h.items → KeepsPaths (replayed.wait_used r p) (reset h p more)
+  pub wait_keeps : (more : ℕ) → replayed.is_used_on r p ≡ is_used p false h.items → KeepsPaths (replayed.wait_used r p) (reset_in_history h p more)
   wait_keeps more used =
       subst (λ (x : History). KeepsPaths (replayed.wait_used r p) x)
       (sym (ap (λ (x : Option OpenEntry). reset_in h p more x) open_is

@@ -7,7 +7,7 @@ use Rattle.plain_defs.specs.declared.journal.Act.{Act}
 use Rattle.plain_defs.specs.declared.journal.Acted.{Acted}
 use Rattle.plain_defs.specs.Legal.{AreInOrder, bare_part}
 use Rattle.plain_defs.specs.PlainState.{PlainState}
-use Rattle.plain_defs.specs.Program.{Part, first_part, acts_at, with_act, with_acts, acted_at, acted, stepped, part_of}
+use Rattle.plain_defs.specs.Program.{Part, first_part, acts_at, with_act, with_acts, acted_at, acts_made, command_run, part_of}
 use Rattle.plain_defs.proofs.ActLists.{acts_elsewhere, acts_here, with_acts_one}
 use Rattle.plain_defs.proofs.PartLemmas.{acted_beside, part_counts}
 
@@ -34,14 +34,14 @@ order_more from n (x ∷ acts) act order le = (order.0, order.1, order_more x.af
 
 module _ (path : ℕ) (ccws : List Ccw) where
   acted_same : (acts more : List Acted) (p : Part) → acts_at more (length p.ends) ≡ acts_at acts (length p.ends)
-      → acted more p ≡ acted acts p
+      → acts_made more p ≡ acts_made acts p
   acted_same acts more p same = by_next p.next where
     by_next : (next : Option ℕ) → acted_at more p next ≡ acted_at acts p next
     by_next (Some i) = ap (λ (l : List Act). with_acts l p) same
     by_next None = refl
 
   module _ (state : PlainState) where
-    part_is_acted : (acts : List Acted) (k : ℕ) → part_of state path ccws acts k ≡ acted acts (bare_part state path ccws acts k)
+    part_is_acted : (acts : List Acted) (k : ℕ) → part_of state path ccws acts k ≡ acts_made acts (bare_part state path ccws acts k)
     unfolding part_of
     part_is_acted acts zero = refl
     part_is_acted acts (suc k) = refl
@@ -53,18 +53,18 @@ module _ (path : ℕ) (ccws : List Ccw) where
     part_before acts a zero lt =
         acted_same acts (acts ++ a ∷ []) (first_part state path ccws) (acts_elsewhere acts a 0 (ne_eqb a.after 0 (omega (arith, lt))))
     part_before acts a (suc k) lt =
-        let q = stepped path ccws (part_of state path ccws acts k) in
+        let q = command_run path ccws (part_of state path ccws acts k) in
         let many : length q.ends ≡ length (part_of state path ccws acts (suc k)).ends =
         ap length (sym (acted_beside acts q).ends) in
         let most = (part_counts path ccws acts state (suc k)).most in
-        ap (λ (p : Part). acted (acts ++ a ∷ []) (stepped path ccws p)) (part_before acts a k (omega (arith, lt)))
+        ap (λ (p : Part). acts_made (acts ++ a ∷ []) (command_run path ccws p)) (part_before acts a k (omega (arith, lt)))
         ∙ acted_same acts (acts ++ a ∷ []) q (acts_elsewhere acts a (length q.ends)
         (ne_eqb a.after (length q.ends) (omega (arith, lt, many, most))))
 
     bare_before : (acts : List Acted) (a : Acted) (k : ℕ) → k ≤ a.after
         → bare_part state path ccws (acts ++ a ∷ []) k ≡ bare_part state path ccws acts k
     bare_before acts a zero le = refl
-    bare_before acts a (suc k) le = ap (λ (p : Part). stepped path ccws p) (part_before acts a k (omega (arith, le)))
+    bare_before acts a (suc k) le = ap (λ (p : Part). command_run path ccws p) (part_before acts a k (omega (arith, le)))
 
     module _ (acts : List Acted) (n i : ℕ) (many : length (part_of state path ccws acts n).ends ≡ n)
         (runs : (part_of state path ccws acts n).next ≡ Some i) where
@@ -77,7 +77,7 @@ module _ (path : ℕ) (ccws : List Ccw) where
       bare_next = sym (ap (λ (p : Part). p.next) (part_is_acted acts n) ∙ (acted_beside acts (bare_part state path ccws acts n)).next)
           ∙ runs
 
-      bare_acted : (more : List Acted) → acted more (bare_part state path ccws acts n)
+      bare_acted : (more : List Acted) → acts_made more (bare_part state path ccws acts n)
           ≡ with_acts (acts_at more n) (bare_part state path ccws acts n)
       bare_acted more =
           ap (λ (x : Option ℕ). acted_at more (bare_part state path ccws acts n) x) bare_next
@@ -89,7 +89,7 @@ module _ (path : ℕ) (ccws : List Ccw) where
       part_here act =
           let a : Acted = record { after = n; act = act } in
           part_is_acted (acts ++ a ∷ []) n
-          ∙ ap (λ (p : Part). acted (acts ++ a ∷ []) p) (bare_before acts a n (omega arith))
+          ∙ ap (λ (p : Part). acts_made (acts ++ a ∷ []) p) (bare_before acts a n (omega arith))
           ∙ bare_acted (acts ++ a ∷ [])
           ∙ ap (λ (l : List Act). with_acts l (bare_part state path ccws acts n)) (acts_here acts a n (eq-eqb n n refl))
           ∙ with_acts_one (acts_at acts n) act (bare_part state path ccws acts n)

@@ -6,7 +6,7 @@ use Rattle.ckd_types.specs.declared.channel.CommandEnd.{CommandEnd}
 use Rattle.ckd_types.specs.Ccw.{ccw_at}
 use Rattle.ckd_chain.specs.State.{ChainState}
 use Rattle.ckd_chain.specs.Steps.{behind, index_of}
-use Rattle.ckd_rules.specs.Ends.{end_of, goes_to}
+use Rattle.ckd_rules.specs.Ends.{end_at_word, goes_to}
 use Rattle.ckd_rules.proofs.Goes.{more_goes}
 use Rattle.plain_defs.specs.declared.journal.Act.{Act}
 use Rattle.plain_defs.specs.declared.journal.Item.TheVariants as items
@@ -16,7 +16,7 @@ use Rattle.plain_defs.specs.declared.journal.How.TheVariants.{Full}
 use Rattle.plain_defs.specs.Journal.{replay}
 use Rattle.plain_defs.specs.Loose.{act_done}
 use Rattle.plain_defs.specs.PlainState.{PlainState}
-use Rattle.plain_defs.specs.Program.{Part, acted as acted_part, acts_at, ended_with, part_of, stepped, stepped_at, with_act}
+use Rattle.plain_defs.specs.Program.{Part, acts_made as acted_part, acts_at, ended_with, part_of, command_run, stepped_at, with_act}
 use Rattle.plain_defs.proofs.JournalLaws.{replay-append}
 use Rattle.plain_defs.proofs.PartLemmas.{acted_nothing, part_more}
 use Rattle.plain_device.specs.Between.{behind_edit, effect_of}
@@ -162,13 +162,13 @@ module _ (r : ReplayedState) (a : AuditedDevice) (o : OpenEntry) (q : Running) (
   effect_here : effect_of r.device o.path made_as.before ≡ made made_as.runs.word
   effect_here = effect_is p ccws r.device made_as.before o.ends o.path made_as.runs.at made_as.runs.word made_as.runs.at_word
 
-  end_here : e ≡ end_of made_as.runs.word (ccw_at ccws made_as.runs.word) (made made_as.runs.word).outcome
+  end_here : e ≡ end_at_word made_as.runs.word (ccw_at ccws made_as.runs.word) (made made_as.runs.word).outcome
   end_here =
-      let same : Some (end_of made_as.runs.word (ccw_at ccws made_as.runs.word) (made made_as.runs.word).outcome) ≡ Some e =
+      let same : Some (end_at_word made_as.runs.word (ccw_at ccws made_as.runs.word) (made made_as.runs.word).outcome) ≡ Some e =
       ap (λ (n : Option ℕ). plain_end_at o.path ccws p n) (sym next_is) ∙ plain in
       cc
 
-  stepped_here : stepped o.path ccws p ≡ ended_with ccws p made_as.runs.word (made made_as.runs.word)
+  stepped_here : command_run o.path ccws p ≡ ended_with ccws p made_as.runs.word (made made_as.runs.word)
   stepped_here = ap (λ (n : Option ℕ). stepped_at o.path ccws p n) next_is
 
   many : length (o.ends ++ e ∷ []) ≡ suc (length o.ends)

@@ -9,7 +9,7 @@ use Rattle.ckd_types.specs.Parameters.{is_provisional}
 use Rattle.ckd_chain.specs.State.{ChainState}
 use Rattle.ckd_chain.specs.Steps.{behind, end_with, index_of}
 use Rattle.ckd_rules.specs.declared.stance.Stance.{Stance}
-use Rattle.ckd_rules.specs.Ends.{end_of}
+use Rattle.ckd_rules.specs.Ends.{end_at_word}
 use Rattle.ckd_rules.specs.Walk.{TrackEdit}
 use Rattle.plain_defs.specs.Effect.{Effect, effect_on}
 use Rattle.plain_defs.specs.History.{OpenEntry}
@@ -38,11 +38,11 @@ module _ (p : Part) (ccws : List Ccw) (device : PlainState) (chain : ChainState)
 
   -- its end
   pub end_is : (i : ℕ) → chain.at.next ≡ Some i → end_with chain (effect_of device path chain).outcome
-      ≡ end_of i (ccw_at ccws i) (effect_on p.fixed p.state path p.stance (ccw_at ccws i)).outcome
+      ≡ end_at_word i (ccw_at ccws i) (effect_on p.fixed p.state path p.stance (ccw_at ccws i)).outcome
   end_is i is =
-      ap (λ (n : Option ℕ). end_of (index_of n) (ccw_at chain.ccws (index_of n)) (effect_of device path chain).outcome) is
-      ∙ ap (λ (l : List Ccw). end_of i (ccw_at l i) (effect_of device path chain).outcome) at.words
-      ∙ ap (λ (e : Effect). end_of i (ccw_at ccws i) e.outcome) (effect_is i is)
+      ap (λ (n : Option ℕ). end_at_word (index_of n) (ccw_at chain.ccws (index_of n)) (effect_of device path chain).outcome) is
+      ∙ ap (λ (l : List Ccw). end_at_word i (ccw_at l i) (effect_of device path chain).outcome) at.words
+      ∙ ap (λ (e : Effect). end_at_word i (ccw_at ccws i) e.outcome) (effect_is i is)
 
   -- the end of the next command, where there is one
   pub plain_is : (next : Option ℕ) → chain.at.next ≡ next → (q : Running) → q.chain ≡ chain → q.path ≡ path → (r : ReplayedState)

@@ -6,7 +6,7 @@ use Rattle.ckd_types.specs.declared.channel.CommandEnd.{CommandEnd}
 use Rattle.plain_defs.specs.declared.journal.How.TheVariants.{Cut}
 use Rattle.plain_defs.specs.declared.journal.Item.{Item}
 use Rattle.plain_defs.specs.declared.journal.Item.TheVariants as items
-use Rattle.plain_defs.specs.History.{History, OpenEntry, cut_by, emptied, entry_of, lost_power_in, put, reset, reset_in, resets_of, state_by}
+use Rattle.plain_defs.specs.History.{History, OpenEntry, cut_by, emptied, entry_of, lost_power_in, put, reset_in_history, reset_in, resets_of, state_by}
 use Rattle.plain_defs.specs.Journal.{replay, replay_item}
 use Rattle.plain_defs.specs.Legal.{is_started, is_used}
 use Rattle.plain_defs.specs.PlainState.{PlainState, reset_path}
@@ -51,9 +51,9 @@ module _ (a : AuditedDevice) (o : OpenEntry) (more : ℕ) (p : Part)
         lent_is device_cut)
 
     pub reset_cuts : (q : Running) → r.running ≡ Some q → q.path ≡ o.path → a.history.running ≡ Some o
-        → Follows (replayed.reset r o.path) (record a { history = reset a.history o.path more })
+        → Follows (replayed.reset r o.path) (record a { history = reset_in_history a.history o.path more })
     reset_cuts q runs path_is entry =
-        subst (λ (s : ReplayedState). Follows s (record a { history = reset a.history o.path more }))
+        subst (λ (s : ReplayedState). Follows s (record a { history = reset_in_history a.history o.path more }))
         (sym (ap (λ (x : Option Running). replayed.reset_by r o.path x) runs
         ∙ ap (λ (b : Bool). cond b (replayed.closed (replayed.reset_on r o.path)) (replayed.wait_used r o.path))
         (eq-eqb q.path o.path path_is)))
@@ -86,7 +86,7 @@ module _ (r : ReplayedState) (a : AuditedDevice) (o : OpenEntry) (q : Running) (
       let same : length o.ends + 0 ≡ length o.ends = omega arith in
       ap (λ (k : ℕ). part_of (replay a.plans a.empty a.history.items) o.path (words_of_open a o) o.acts k) same
 
-  pub cut_follows : Follows (replayed.reset r o.path) (record a { history = reset a.history o.path 0 })
+  pub cut_follows : Follows (replayed.reset r o.path) (record a { history = reset_in_history a.history o.path 0 })
   cut_follows = reset_cuts a o 0 (part_of_open a o) part_here r resets f.number_is f.half_is f.lent_is runs_here.at.device_is q runs
       runs_here.path_is entry
 
@@ -111,9 +111,9 @@ module _ (r : ReplayedState) (a : AuditedDevice) (o : OpenEntry) (q : Running) (
   settled_is : replayed.settled r ≡ record r { device = behind_edit r.device w.edit w.paths; pending = None }
   settled_is = ap (λ (x : Option PendingState). replayed.settled_by r x) waits
 
-  pub cut_more_follows : Follows (replayed.reset (replayed.settled r) o.path) (record a { history = reset a.history o.path 1 })
+  pub cut_more_follows : Follows (replayed.reset (replayed.settled r) o.path) (record a { history = reset_in_history a.history o.path 1 })
   cut_more_follows =
-      subst (λ (s : ReplayedState). Follows (replayed.reset s o.path) (record a { history = reset a.history o.path 1 })) (sym settled_is)
+      subst (λ (s : ReplayedState). Follows (replayed.reset s o.path) (record a { history = reset_in_history a.history o.path 1 })) (sym settled_is)
       (reset_cuts a o 1 (part_of (replay a.plans a.empty a.history.items) o.path (words_of_open a o) o.acts (suc (length o.ends)))
       part_more (record r { device = behind_edit r.device w.edit w.paths; pending = None }) resets f.number_is f.half_is f.lent_is
       device_more q runs (ends_as r a o q w f runs waits entry).runs.path_is entry)
@@ -168,9 +168,9 @@ module _ (r : ReplayedState) (a : AuditedDevice) (f : Follows r a) (idle : a.his
 
   -- a reset of a path that used something
   pub reset_follows : (path more : ℕ) → replayed.is_used_on r path ≡ is_used path false a.history.items
-      → Follows (replayed.reset r path) (record a { history = reset a.history path more })
+      → Follows (replayed.reset r path) (record a { history = reset_in_history a.history path more })
   reset_follows path more used =
-      subst (λ (s : ReplayedState). Follows s (record a { history = reset a.history path more }))
+      subst (λ (s : ReplayedState). Follows s (record a { history = reset_in_history a.history path more }))
       (sym (ap (λ (x : Option Running). replayed.reset_by r path x) (runs_not r.running r.pending idle_is)))
       (subst (λ (h : History). Follows (replayed.reset_used r path) (record a { history = h }))
       (sym (ap (λ (x : Option OpenEntry). reset_in a.history path more x) idle))
@@ -305,7 +305,7 @@ module _ (r : ReplayedState) (a : AuditedDevice) (f : Follows r a) where
   -- the reset of another path waits while a program runs
   pub wait_follows : (o : OpenEntry) (p more : ℕ) → a.history.running ≡ Some o → (o.path == p) ≡ false
       → replayed.is_used_on r p ≡ is_used p false a.history.items
-      → Follows (replayed.wait_used r p) (record a { history = reset a.history p more })
+      → Follows (replayed.wait_used r p) (record a { history = reset_in_history a.history p more })
   wait_follows o p more entry unlike used =
       subst (λ (h : History). Follows (replayed.wait_used r p) (record a { history = h }))
       (sym (ap (λ (x : Option OpenEntry). reset_in a.history p more x) entry

@@ -9,7 +9,7 @@ use Rattle.plain_defs.specs.History.{OpenEntry, is_path_of, started, state_by}
 use Rattle.plain_defs.specs.Journal.{program_of, replay}
 use Rattle.plain_defs.specs.Legal.{is_of_path, is_used}
 use Rattle.plain_defs.specs.PlainState.{PlainState, fixed_of}
-use Rattle.plain_defs.specs.Program.{Part, begun, first_part, part_of}
+use Rattle.plain_defs.specs.Program.{Part, sense_begun, first_part, part_of}
 use Rattle.plain_defs.proofs.PartLemmas.{acted_nothing}
 use Rattle.report_text.specs.declared.answers.StartAnswer.TheVariants as start
 use Rattle.deck_audit.specs.declared.replayed.Running.{Running}
@@ -25,12 +25,12 @@ unfolding part_of
 part_first state path ccws = acted_nothing [] (first_part state path ccws) refl
 
 at_first : (state : PlainState) (path : ℕ) (ccws : List Ccw) (d : PlainState) (l : List Ccw) → d ≡ state → l ≡ ccws
-    → IsAt (part_of state path ccws [] 0) ccws (record d { paths = begun d.paths path l }) (begun_chain l (fixed_of d)) []
+    → IsAt (part_of state path ccws [] 0) ccws (record d { paths = sense_begun d.paths path l }) (begun_chain l (fixed_of d)) []
 at_first state path ccws d l same words =
-    subst (λ (p : Part). IsAt p ccws (record d { paths = begun d.paths path l }) (begun_chain l (fixed_of d)) []) (sym (part_first state path ccws))
-    (subst (λ (x : PlainState). IsAt (first_part state path ccws) ccws (record x { paths = begun x.paths path l }) (begun_chain l (fixed_of x)) [])
+    subst (λ (p : Part). IsAt p ccws (record d { paths = sense_begun d.paths path l }) (begun_chain l (fixed_of d)) []) (sym (part_first state path ccws))
+    (subst (λ (x : PlainState). IsAt (first_part state path ccws) ccws (record x { paths = sense_begun x.paths path l }) (begun_chain l (fixed_of x)) [])
     (sym same)
-    (subst (λ (x : List Ccw). IsAt (first_part state path ccws) ccws (record state { paths = begun state.paths path x })
+    (subst (λ (x : List Ccw). IsAt (first_part state path ccws) ccws (record state { paths = sense_begun state.paths path x })
     (begun_chain x (fixed_of state)) []) (sym words)
     (record { device_is = refl; fixed_is = refl; stance_is = refl; next_is = refl; ends_are = refl; words = refl })))
 

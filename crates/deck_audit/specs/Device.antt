@@ -10,7 +10,7 @@ use Rattle.ckd_types.specs.declared.sense.Sense.{Sense}
 use Rattle.ckd_types.specs.Ccw.{ccw_at}
 use Rattle.ckd_types.specs.Parameters.{is_provisional}
 use Rattle.ckd_rules.specs.Ending.{check}
-use Rattle.ckd_rules.specs.Ends.{end_of}
+use Rattle.ckd_rules.specs.Ends.{end_at_word}
 use Rattle.ckd_rules.specs.Walk.{TrackEdit}
 use Rattle.report_places.specs.declared.state.HalfWrite.{HalfWrite}
 use Rattle.report_places.specs.declared.state.HalfWrite.TheVariants.{Closed, OfCommand, OfBackground}
@@ -23,7 +23,7 @@ use Rattle.plain_defs.specs.Effect.{effect_on}
 use Rattle.plain_defs.specs.History.{History, OpenEntry, no_history, plain_of, open_part}
 use Rattle.plain_defs.specs.Journal.{Plans, planned, program_of, replay}
 use Rattle.plain_defs.specs.Legal.{is_of_path, next_edit}
-use Rattle.plain_defs.specs.Loose.{is_loose}
+use Rattle.plain_defs.specs.Loose.{is_loose_there}
 use Rattle.plain_defs.specs.PlainState.{PlainState, empty_state, is_admitted}
 use Rattle.plain_defs.specs.Program.{Part}
 use Rattle.report_text.specs.declared.answers.StartAnswer.{StartAnswer}
@@ -136,7 +136,7 @@ start_answer a path = if own_runs a.history.running path then start.Running else
 -- how it ends on the plain device
 abbrev pub plain_end_at : ℕ → List Ccw → Part → Option ℕ → Option CommandEnd
 plain_end_at path ccws p (Some i) =
-    Some (end_of i (ccw_at ccws i) (effect_on p.fixed p.state path p.stance (ccw_at ccws i)).outcome)
+    Some (end_at_word i (ccw_at ccws i) (effect_on p.fixed p.state path p.stance (ccw_at ccws i)).outcome)
 plain_end_at path ccws p None = None
 
 abbrev pub plain_end : AuditedDevice → OpenEntry → Option CommandEnd
@@ -159,7 +159,7 @@ edit_of a o = next_edit o.path (words_of_open a o) (part_of_open a o)
 
 -- a loose track is edited only as data of cache fast write
 abbrev pub is_edit_legal : Part → Option TrackEdit → Bool
-is_edit_legal p (Some e) = not (is_loose p.state e.track) || is_provisional p.stance.extent
+is_edit_legal p (Some e) = not (is_loose_there p.state e.track) || is_provisional p.stance.extent
 is_edit_legal p None = true
 
 abbrev pub is_next_legal : AuditedDevice → Option OpenEntry → Bool
@@ -168,7 +168,7 @@ is_next_legal a None = true
 
 -- a track becomes loose only directly before a command that edits it as such data
 abbrev pub loosens : Part → Option TrackEdit → ℕ → Bool
-loosens p (Some e) t = (e.track == t) && is_provisional p.stance.extent && not (is_loose p.state t)
+loosens p (Some e) t = (e.track == t) && is_provisional p.stance.extent && not (is_loose_there p.state t)
 loosens p None t = false
 
 abbrev pub may_loosen : AuditedDevice → Option OpenEntry → ℕ → Bool

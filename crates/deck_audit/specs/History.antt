@@ -9,8 +9,8 @@ use Rattle.deck_plan.specs.declared.event.EventLine.TheVariants as events
 use Rattle.plain_defs.specs.declared.journal.Act.{Act}
 use Rattle.plain_defs.specs.declared.journal.How.TheVariants.{Cut}
 use Rattle.plain_defs.specs.declared.journal.Act.TheVariants.{Loosen, Harden, CfwLost}
-use Rattle.plain_defs.specs.History.{History, OpenEntry, started, reset, acted, emptied, lost_power, entry_of}
-use Rattle.plain_defs.specs.Loose.{is_loose, next_number}
+use Rattle.plain_defs.specs.History.{History, OpenEntry, started, reset_in_history, acted, emptied, lost_power, entry_of}
+use Rattle.plain_defs.specs.Loose.{is_loose_there, next_number}
 use Rattle.report_text.specs.declared.answers.BackAnswer.{BackAnswer}
 use Rattle.report_text.specs.declared.answers.BackAnswer.TheVariants as back
 use Rattle.report_text.specs.declared.answers.HowOver.TheVariants as how
@@ -97,7 +97,7 @@ abbrev pub act_made : AuditState → AuditedDevice → Act → Due → AuditStat
 act_made s a act due = record (changed s (record a { history = acted a.history act })) { due = due }
 
 abbrev pub harden_made : AuditState → AuditedDevice → ℕ → Due → Option AuditState
-harden_made s a t due = if is_loose (state_of a) t then Some (act_made s a (Harden t) due) else None
+harden_made s a t due = if is_loose_there (state_of a) t then Some (act_made s a (Harden t) due) else None
 
 -- a track becomes loose directly before the command that ended as on the plain device, and no act stands behind that
 abbrev pub loosen_made : AuditState → AuditedDevice → ℕ → Did → Option AuditState
@@ -157,14 +157,14 @@ cut_half half = half
 -- of the program that is cut as many commands took effect as ended, or one more, which may edit its track
 abbrev pub cut_by : AuditState → AuditedDevice → OpenEntry → ℕ → Option AuditState
 cut_by s a o k =
-    let t = λ (more : ℕ). record (changed s (record a { history = reset a.history o.path more; half = cut_half a.half })) { due = ResetOf } in
+    let t = λ (more : ℕ). record (changed s (record a { history = reset_in_history a.history o.path more; half = cut_half a.half })) { due = ResetOf } in
     if k == length o.ends then Some (t 0)
     else if (k == length o.ends + 1) && is_next_legal a a.history.running then Some (t 1)
     else None
 
 abbrev pub reset_made : AuditState → ReportLine → ℕ → AuditedDevice → Option AuditState
 reset_made s (lines.Over p d n (how.Cut k)) path a = then_of a.history.running (λ o. cut_by s a o k)
-reset_made s line path a = Some (passed (changed s (record a { history = reset a.history path 0 })))
+reset_made s line path a = Some (passed (changed s (record a { history = reset_in_history a.history path 0 })))
 
 -- Orders
 

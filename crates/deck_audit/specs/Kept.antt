@@ -4,10 +4,10 @@ use Rattle.std.specs.Prelude.{ℕ, ◌+◌, ◌/◌, ◌%◌, ◌==◌, ◌&&◌
 use Rattle.std.specs.Prelude.{◌∷◌, length, Option, Some, None, Result, Ok, Err, if◌then◌else◌}
 use Rattle.ckd_types.specs.declared.channel.CommandEnd.{CommandEnd}
 use Rattle.ckd_types.specs.declared.sense.Sense.{Sense}
-use Rattle.deck_plan.specs.Plans.{Plans}
+use Rattle.deck_plan.specs.Plans.{PlansByPath}
 use Rattle.plain_defs.specs.declared.journal.Act.{Act}
 use Rattle.plain_defs.specs.declared.journal.Act.TheVariants.{Loosen, Harden}
-use Rattle.plain_defs.specs.Loose.{is_loose, next_number}
+use Rattle.plain_defs.specs.Loose.{is_loose_there, next_number}
 use Rattle.report_text.specs.declared.answers.BackAnswer.{BackAnswer}
 use Rattle.report_text.specs.declared.answers.BackAnswer.TheVariants as back
 use Rattle.report_text.specs.declared.answers.HowOver.{HowOver}
@@ -46,21 +46,21 @@ then_if false next = None
 
 -- START
 
-abbrev pub start_says : Plans → Kept → ℕ → ReportLine → Bool
+abbrev pub start_says : PlansByPath → Kept → ℕ → ReportLine → Bool
 start_says plans k path line = says (lines.Start path k.device.number (start_answer plans k.device path)) line
 
-abbrev pub start_then : Plans → Kept → ℕ → ReportLine → Option Then
+abbrev pub start_then : PlansByPath → Kept → ℕ → ReportLine → Option Then
 start_then plans k path line = then_if (start_says plans k path line) Passed
 
 abbrev pub is_accepted : StartAnswer → Bool
 is_accepted (start.Accepted n) = true
 is_accepted _ = false
 
-abbrev pub begun : Plans → Kept → ℕ → Bool → Kept
+abbrev pub begun : PlansByPath → Kept → ℕ → Bool → Kept
 begun plans k path accepted =
     if accepted then (if has_left plans k.device path then record { device = started_next plans k.device path; ended = 0 } else k) else k
 
-abbrev pub start_kept : Plans → Kept → ℕ → Kept
+abbrev pub start_kept : PlansByPath → Kept → ℕ → Kept
 start_kept plans k path = begun plans k path (is_accepted (start_answer plans k.device path))
 
 -- The work of a device
@@ -76,11 +76,11 @@ abbrev pub wait_if : Option Due → Option Then
 wait_if (Some due) = Some (Wait due)
 wait_if None = None
 
-abbrev pub end_then_by : Plans → Kept → ReportLine → Option CommandEnd → Option Then
+abbrev pub end_then_by : PlansByPath → Kept → ReportLine → Option CommandEnd → Option Then
 end_then_by plans k line (Some e) = wait_if (end_due plans (with_half (ended_next k.device) Closed) line e)
 end_then_by plans k line None = None
 
-abbrev pub end_then : Plans → Kept → ReportLine → Option Then
+abbrev pub end_then : PlansByPath → Kept → ReportLine → Option Then
 end_then plans k line = end_then_by plans k line (next_end k.device)
 
 abbrev pub back_half : HalfWrite → BackAnswer → HalfWrite
@@ -89,7 +89,7 @@ back_half half (back.Finished track) = Closed
 back_half half (back.Unwritten track) = Closed
 back_half half _ = half
 
-abbrev pub work_then : Plans → Kept → ReportLine → Option Then
+abbrev pub work_then : PlansByPath → Kept → ReportLine → Option Then
 work_then plans k (lines.End e) = end_then plans k (lines.End e)
 work_then plans k (lines.Half path d t) = Some (Wait (Behind true Halved))
 work_then plans k (lines.Back d answer) = Some (Wait (Behind true (Worked (is_last answer))))
@@ -107,7 +107,7 @@ abbrev pub act_kept : Kept → Act → Kept
 act_kept k act = record k { device = acted k.device act }
 
 abbrev pub harden_then : Kept → ℕ → Due → Option Then
-harden_then k t due = then_if (is_loose k.device.device t) (Wait due)
+harden_then k t due = then_if (is_loose_there k.device.device t) (Wait due)
 
 abbrev pub loosen_then : Kept → ℕ → Did → Option Then
 loosen_then k t (Ended e) = then_if (may_loosen k.device t) (Wait (Behind false (Ended e)))

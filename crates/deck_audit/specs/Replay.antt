@@ -9,13 +9,13 @@ use Rattle.ckd_types.specs.Parameters.{is_provisional}
 use Rattle.ckd_types.specs.Volume.{empty_volume}
 use Rattle.ckd_chain.specs.Steps.{begun_chain, behind, end_with}
 use Rattle.ckd_rules.specs.Walk.{TrackEdit}
-use Rattle.deck_plan.specs.Plans.{Plans, plan_of}
+use Rattle.deck_plan.specs.Plans.{PlansByPath, plan_of}
 use Rattle.deck_text.specs.declared.line.DeviceLine.{DeviceLine}
 use Rattle.plain_defs.specs.declared.journal.Act.{Act}
 use Rattle.plain_defs.specs.Effect.{Effect}
-use Rattle.plain_defs.specs.Loose.{act_done, cfw_lost, is_loose, power_off}
+use Rattle.plain_defs.specs.Loose.{act_done, cfw_lost, is_loose_there, power_off}
 use Rattle.plain_defs.specs.PlainState.{PlainState, empty_state, fixed_of, is_admitted, reset_path, with_sense}
-use Rattle.plain_defs.specs.Program.{begun}
+use Rattle.plain_defs.specs.Program.{sense_begun}
 use Rattle.plain_device.specs.Between.{IsEditOn, behind_edit, effect_of, fixed_with}
 use Rattle.report_text.specs.declared.answers.StartAnswer.{StartAnswer}
 use Rattle.report_text.specs.declared.answers.StartAnswer.TheVariants as start
@@ -66,33 +66,33 @@ outline_of r = record {
 abbrev pub started_on : ReplayedState → ℕ → ℕ
 started_on r path = slice_index_or r.started (path - 1) 0
 
-abbrev pub has_left : Plans → ReplayedState → ℕ → Bool
+abbrev pub has_left : PlansByPath → ReplayedState → ℕ → Bool
 has_left plans r path = nat_lt (started_on r path) (length (plan_of plans path))
 
-abbrev pub next_program : Plans → ReplayedState → ℕ → List Ccw
+abbrev pub next_program : PlansByPath → ReplayedState → ℕ → List Ccw
 next_program plans r path = slice_index_or (plan_of plans path) (started_on r path) []
 
-abbrev pub may_start : Plans → ReplayedState → ℕ → Bool
+abbrev pub may_start : PlansByPath → ReplayedState → ℕ → Bool
 may_start plans r path = has_left plans r path && is_admitted r.device.paths path (next_program plans r path)
 
-abbrev pub any_may_start : Plans → ReplayedState → Bool
+abbrev pub any_may_start : PlansByPath → ReplayedState → Bool
 any_may_start plans r = may_start plans r 1 || may_start plans r 2 || may_start plans r 3 || may_start plans r 4
 
-abbrev pub held_answer : Plans → ReplayedState → Option Owner → StartAnswer
+abbrev pub held_answer : PlansByPath → ReplayedState → Option Owner → StartAnswer
 held_answer plans r (Some owner) = if any_may_start plans r then start.Reserved owner else start.Shut owner
 held_answer plans r None = start.Done
 
-abbrev pub free_answer : Plans → ReplayedState → ℕ → StartAnswer
+abbrev pub free_answer : PlansByPath → ReplayedState → ℕ → StartAnswer
 free_answer plans r path =
     if not (has_left plans r path) then start.Done
     else if may_start plans r path then start.Accepted (started_on r path + 1)
     else held_answer plans r r.device.paths.owner
 
-abbrev pub running_answer : Plans → ReplayedState → ℕ → Option Running → StartAnswer
+abbrev pub running_answer : PlansByPath → ReplayedState → ℕ → Option Running → StartAnswer
 running_answer plans r path (Some o) = start.Busy o.path
 running_answer plans r path None = free_answer plans r path
 
-abbrev pub lent_answer : Plans → ReplayedState → ℕ → Option ℕ → StartAnswer
+abbrev pub lent_answer : PlansByPath → ReplayedState → ℕ → Option ℕ → StartAnswer
 lent_answer plans r path (Some of) = start.Secondary of
 lent_answer plans r path None = running_answer plans r path r.running
 
@@ -100,13 +100,13 @@ abbrev pub own_runs : Option Running → ℕ → Bool
 own_runs (Some o) path = o.path == path
 own_runs None path = false
 
-abbrev pub start_answer : Plans → ReplayedState → ℕ → StartAnswer
+abbrev pub start_answer : PlansByPath → ReplayedState → ℕ → StartAnswer
 start_answer plans r path = if own_runs r.running path then start.Running else lent_answer plans r path r.lent
 
 -- the path's next program starts
-abbrev pub started_next : Plans → ReplayedState → ℕ → ReplayedState
+abbrev pub started_next : PlansByPath → ReplayedState → ℕ → ReplayedState
 started_next plans r path = record r {
-  device = record r.device { paths = begun r.device.paths path (next_program plans r path) };
+  device = record r.device { paths = sense_begun r.device.paths path (next_program plans r path) };
   started = slice_set r.started (path - 1) (started_on r path + 1);
   used = slice_set r.used (path - 1) true;
   powered = true;
@@ -158,7 +158,7 @@ ended_next r = ended_by r r.running
 
 -- a loose track is edited only as data of cache fast write
 abbrev pub is_edit_legal : PlainState → Bool → Option TrackEdit → Bool
-is_edit_legal d provisional (Some e) = not (is_loose d e.track) || provisional
+is_edit_legal d provisional (Some e) = not (is_loose_there d e.track) || provisional
 is_edit_legal d provisional None = true
 
 abbrev pub is_legal_by : PlainState → Option PendingState → Bool
@@ -170,7 +170,7 @@ is_legal r = is_legal_by r.device r.pending
 
 -- a track becomes loose only directly before a command that edits it as such data
 abbrev pub loosens : PlainState → Bool → Option TrackEdit → ℕ → Bool
-loosens d provisional (Some e) t = (e.track == t) && provisional && not (is_loose d t)
+loosens d provisional (Some e) t = (e.track == t) && provisional && not (is_loose_there d t)
 loosens d provisional None t = false
 
 abbrev pub may_loosen_by : PlainState → Option PendingState → ℕ → Bool

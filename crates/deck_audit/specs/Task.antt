@@ -2,9 +2,9 @@
 use Rattle.std.specs.Prelude.{◌≡◌, ◌≤◌, ◌<◌, ℕ, ◌+◌, Bool, true, false, Option, Some, None, if◌then◌else◌}
 use Rattle.deck_plan.specs.declared.event.EventLine.{EventLine}
 use Rattle.deck_plan.specs.declared.event.EventLine.TheVariants as events
-use Rattle.deck_plan.specs.Plans.{Plans}
+use Rattle.deck_plan.specs.Plans.{PlansByPath}
 use Rattle.plain_defs.specs.declared.journal.Act.TheVariants.{Harden}
-use Rattle.plain_defs.specs.History.{reset}
+use Rattle.plain_defs.specs.History.{reset_in_history}
 use Rattle.report_text.specs.declared.line.ReportLine.{ReportLine}
 use Rattle.deck_audit.specs.declared.kept.Kept.{Kept}
 use Rattle.deck_audit.specs.declared.kept.Then.{Then}
@@ -45,7 +45,7 @@ abbrev pub settle_then : Option EventLine → Kept → Did → Then
 settle_then event k did = settle_then_by event k did (settled_over k did)
 
 -- the device is the one of place i
-abbrev pub task_then : Plans → Kept → ℕ → ReportLine → Task → Option Then
+abbrev pub task_then : PlansByPath → Kept → ℕ → ReportLine → Task → Option Then
 task_then plans k i line (tasks.Start path) = start_then plans k path line
 task_then plans k i line tasks.Work = work_then plans k line
 task_then plans k i line (tasks.Sense e) = wait_if (sense_due plans k.device line e)
@@ -61,7 +61,7 @@ task_then plans k i line (tasks.PowerCut n) = power_then k n (Powers i)
 task_then plans k i line tasks.PowerLoss = then_if (tells_loss k.device line) (Wait (Powers (i + 1)))
 
 -- where the line is judged well
-abbrev pub task_kept : Plans → Kept → ReportLine → Task → Kept
+abbrev pub task_kept : PlansByPath → Kept → ReportLine → Task → Kept
 task_kept plans k line (tasks.Start path) = start_kept plans k path
 task_kept plans k line tasks.Work = work_kept k line
 task_kept plans k line (tasks.Sense e) = k
@@ -86,7 +86,7 @@ task_made s line (tasks.Act did) a = history.act_of_work s line did a
 task_made s line (tasks.Settle event did) a = Some (state.settled_by s a did (state.over_by a did a.history.running))
 task_made s line (tasks.Over event wanted) a = shown wanted line (behind_work s a Halved)
 task_made s line (tasks.Cut n) a = then_of a.history.running (λ o. history.cut_by s a o n)
-task_made s line (tasks.Reset path) a = Some (passed (changed s (record a { history = reset a.history path 0 })))
+task_made s line (tasks.Reset path) a = Some (passed (changed s (record a { history = reset_in_history a.history path 0 })))
 task_made s line (tasks.Harden t) a = history.harden_made s a t Next
 task_made s line tasks.Loss a = history.loss_made s line a
 task_made s line (tasks.Lend of) a = history.lent_to s of a

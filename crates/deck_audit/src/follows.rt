@@ -5,7 +5,7 @@ ghost use Rattle.ckd_types.specs.declared.channel.CommandEnd.{CommandEnd};
 ghost use Rattle.ckd_types.specs.declared.sense.Sense.{Sense};
 ghost use Rattle.plain_defs.specs.declared.journal.Act.{Act};
 ghost use Rattle.plain_defs.specs.declared.journal.Act.TheVariants.{Harden, Loosen};
-ghost use Rattle.plain_defs.specs.History.{OpenEntry, acted, checked, emptied, ended, reset};
+ghost use Rattle.plain_defs.specs.History.{OpenEntry, acted, checked, emptied, ended, reset_in_history};
 ghost use Rattle.deck_audit.specs.declared.replayed.Running.{Running};
 ghost use Rattle.report_places.specs.declared.state.HalfWrite.{HalfWrite};
 ghost use Rattle.deck_audit.specs.Device.{AuditedDevice, is_next_legal, may_loosen, plain_end, start_answer};
@@ -79,13 +79,13 @@ pub fn over_follows()
 pub fn reset_follows()
     ensures cut { (r : ReplayedState) (a : AuditedDevice) (o : OpenEntry) (q : Running) → Follows r a → r.running ≡ Some q → r.pending ≡ None →
         a.history.running ≡ Some o → WaitsAs r.waits a.history.waiting →
-        Follows (replay.reset r o.path) (record a { history = reset a.history o.path 0 }) }
+        Follows (replay.reset r o.path) (record a { history = reset_in_history a.history o.path 0 }) }
     ensures more { (r : ReplayedState) (a : AuditedDevice) (o : OpenEntry) (q : Running) (w : PendingState) → Follows r a → r.running ≡ Some q →
         r.pending ≡ Some w → a.history.running ≡ Some o → (e : CommandEnd) → plain_end a o ≡ Some e → WaitsAs r.waits a.history.waiting →
-        Follows (replay.reset (replay.settled r) o.path) (record a { history = reset a.history o.path 1 }) }
+        Follows (replay.reset (replay.settled r) o.path) (record a { history = reset_in_history a.history o.path 1 }) }
     ensures idle { (r : ReplayedState) (a : AuditedDevice) → Follows r a → a.history.running ≡ None → (path more : ℕ) →
         replay.is_used_on r path ≡ is_used path false a.history.items →
-        Follows (replay.reset r path) (record a { history = reset a.history path more }) }
+        Follows (replay.reset r path) (record a { history = reset_in_history a.history path more }) }
 {}
 
 /// A half write changes nothing of the device, nor does a loan, nor the reset of another path than the one whose program
@@ -95,7 +95,7 @@ pub fn half_follows()
     ensures loan { (r : ReplayedState) (a : AuditedDevice) → Follows r a → (of : ℕ) → Follows (replay.lent_to r of) (record a { lent = Some of }) }
     ensures waiting { (r : ReplayedState) (a : AuditedDevice) (o : OpenEntry) → Follows r a → a.history.running ≡ Some o → (path more : ℕ) →
         (o.path == path) ≡ false → replay.is_used_on r path ≡ is_used path false a.history.items →
-        Follows (replay.wait_used r path) (record a { history = reset a.history path more }) }
+        Follows (replay.wait_used r path) (record a { history = reset_in_history a.history path more }) }
 {}
 
 /// A loss of power cuts the running program, behind the commands that ended or one more, and then takes what it takes.

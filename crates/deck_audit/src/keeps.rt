@@ -4,7 +4,7 @@
 ghost use Rattle.std.specs.Prelude.{◌≡◌, ◌≤◌, ◌==◌, false, true, ℕ, None, Some};
 ghost use Rattle.ckd_types.specs.declared.channel.CommandEnd.{CommandEnd};
 ghost use Rattle.plain_defs.specs.declared.journal.Act.{Act};
-ghost use Rattle.plain_defs.specs.History.{History, OpenEntry, acted, checked, cut_by, emptied, ended, has_used, lost_power, reset, started};
+ghost use Rattle.plain_defs.specs.History.{History, OpenEntry, acted, checked, cut_by, emptied, ended, has_used, lost_power, reset_in_history, started};
 ghost use Rattle.plain_defs.specs.Legal.{is_used};
 ghost use Rattle.report_text.specs.declared.answers.StartAnswer.TheVariants as start;
 ghost use Rattle.deck_audit.specs.Device.{AuditedDevice, start_answer};
@@ -47,10 +47,10 @@ pub fn ended_is_kept()
 /// So do resets and a loss of power.
 pub fn reset_is_kept()
     ensures idle { (r : ReplayedState) (h : History) → KeepsPaths r h → h.running ≡ None → (path more : ℕ) → 1 ≤ path → path ≤ 4 →
-        replay.is_used_on r path ≡ is_used path false h.items → KeepsPaths (replay.reset_used r path) (reset h path more) }
+        replay.is_used_on r path ≡ is_used path false h.items → KeepsPaths (replay.reset_used r path) (reset_in_history h path more) }
     ensures waiting { (r : ReplayedState) (h : History) (o : OpenEntry) → KeepsPaths r h → h.running ≡ Some o → (path more : ℕ) → 1 ≤ path →
         path ≤ 4 → (o.path == path) ≡ false → replay.is_used_on r path ≡ is_used path false h.items →
-        KeepsPaths (replay.wait_used r path) (reset h path more) }
+        KeepsPaths (replay.wait_used r path) (reset_in_history h path more) }
     ensures cut { (r : ReplayedState) (h : History) (o : OpenEntry) (more : ℕ) → KeepsPaths r h → h.running ≡ Some o → 1 ≤ o.path → o.path ≤ 4 →
         KeepsPaths (replay.closed (replay.reset_on r o.path)) (cut_by h o more) }
     ensures power_cut { (r : ReplayedState) (h : History) (o : OpenEntry) (more : ℕ) → KeepsPaths r h → h.running ≡ Some o →

@@ -3,9 +3,9 @@
 ghost use Rattle.std.specs.Prelude.{◌≡◌, ◌≤◌, [], ℕ, None, Some, true};
 ghost use Rattle.ckd_types.specs.declared.channel.CommandEnd.{CommandEnd};
 ghost use Rattle.plain_defs.specs.declared.journal.Act.TheVariants.{CfwLost, Harden};
-ghost use Rattle.plain_defs.specs.History.{OpenEntry, acted, emptied, ended, reset, started, IsPlain};
+ghost use Rattle.plain_defs.specs.History.{OpenEntry, acted, emptied, ended, reset_in_history, started, IsPlain};
 ghost use Rattle.plain_defs.specs.Legal.{IsSomeLoose};
-ghost use Rattle.plain_defs.specs.Loose.{is_loose};
+ghost use Rattle.plain_defs.specs.Loose.{is_loose_there};
 ghost use Rattle.report_text.specs.declared.answers.StartAnswer.TheVariants as start;
 ghost use Rattle.deck_audit.specs.Device.{AuditedDevice, is_next_legal, plain_end, start_answer, state_of};
 
@@ -24,9 +24,9 @@ pub fn plain_end_is_plain()
 /// So do, while no program runs, a reset, a new volume, and a track that becomes firm.
 pub fn idle_is_plain()
     ensures reset { (a : AuditedDevice) (path more : ℕ) → IsPlain a.plans a.empty a.history → a.history.running ≡ None →
-        IsPlain a.plans a.empty (reset a.history path more) }
+        IsPlain a.plans a.empty (reset_in_history a.history path more) }
     ensures fresh { (a : AuditedDevice) → IsPlain a.plans a.empty a.history → a.history.running ≡ None → IsPlain a.plans a.empty (emptied a.history) }
-    ensures harden { (a : AuditedDevice) (t : ℕ) → IsPlain a.plans a.empty a.history → a.history.running ≡ None → is_loose (state_of a) t ≡ true →
+    ensures harden { (a : AuditedDevice) (t : ℕ) → IsPlain a.plans a.empty a.history → a.history.running ≡ None → is_loose_there (state_of a) t ≡ true →
         IsPlain a.plans a.empty (acted a.history (Harden t)) }
     ensures lost { (a : AuditedDevice) → IsPlain a.plans a.empty a.history → a.history.running ≡ None → IsSomeLoose (state_of a).loose →
         IsPlain a.plans a.empty (acted a.history CfwLost) }

@@ -1,5 +1,5 @@
 ghost use Rattle.std.specs.Prelude.{◌≡◌, ◌≤◌, IfSome};
-ghost use Rattle.plain_defs.specs.Loose.{is_loose};
+ghost use Rattle.plain_defs.specs.Loose.{is_loose_there};
 ghost use Rattle.deck_audit.specs.History.{cut_half};
 ghost use Rattle.deck_audit.specs.Kept.{is_idle, over_line, path_of, tells_loss, with_cut_half, with_half};
 ghost use Rattle.deck_audit.specs.Replay.{lent_to};
@@ -48,7 +48,7 @@ impl ReplayedDevice {
 
     /// Whether a track is loose.
     pub fn is_loose(&self, t: TrackNo) -> bool
-        ensures { result ≡ is_loose self.now.device t }
+        ensures { result ≡ is_loose_there self.now.device t }
     {
         self.device.is_loose(t)
     }

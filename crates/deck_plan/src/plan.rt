@@ -17,9 +17,9 @@ pub struct PathPlans {
 
 impl Model for PathPlans {
     ghost use Rattle.std.specs.Prelude.{◌≤◌, [], ◌∷◌, length};
-    ghost use Rattle.deck_plan.specs.Plans.{Plans};
+    ghost use Rattle.deck_plan.specs.Plans.{PlansByPath};
 
-    ghost Value = { Plans };
+    ghost Value = { PlansByPath };
 
     ghost view = { λ p. p.first.items ∷ p.second.items ∷ p.third.items ∷ p.fourth.items ∷ [] };
 

@@ -18,7 +18,7 @@ use Rattle.plain_defs.specs.History.{
   lost_power,
   lost_power_in,
   put,
-  reset,
+  reset_in_history,
   reset_in,
   resets_of,
   started,
@@ -76,7 +76,7 @@ reset_by h path more (Some o) is =
     (λ _. cond_both (is_used path false h.items) (record h { waiting = put path h.waiting }) h (λ (k : History). acts_in k ≡ acts_in h)
     (λ _. refl) (λ _. refl))
 
-pub reset_brought : (before h : History) (path more : ℕ) → Brought before h [] → Brought before (reset h path more) []
+pub reset_brought : (before h : History) (path more : ℕ) → Brought before h [] → Brought before (reset_in_history h path more) []
 reset_brought before h path more b = record { acts_are = reset_by h path more h.running refl ∙ b.acts_are }
 
 -- A loss of power

@@ -10,7 +10,7 @@ use Rattle.ckd_types.specs.declared.paths.Side.{Side}
 use Rattle.loss_model.specs.declared.Loss.{Loss}
 use Rattle.loss_model.specs.declared.Loss.TheVariants as losses
 use Rattle.ckd_chain.specs.State.{ChainState}
-use Rattle.plain_defs.specs.History.{History, OpenEntry}
+use Rattle.plain_defs.specs.History.{History, is_path_of}
 use Rattle.track_image.specs.Image.{Image}
 use Rattle.device_outside.specs.declared.keep.NoKeep.{NoKeep}
 use Rattle.device_outside.specs.declared.volume.Volume.{Ghosts}
@@ -27,9 +27,14 @@ use Rattle.device_defs.specs.declared.answers.Did.{Did}
 use Rattle.device_defs.specs.Contents.{contents}
 use Rattle.device_defs.specs.Events.{background, lose, second}
 use Rattle.device_defs.specs.Cutting.{reset}
-use Rattle.device_defs.specs.Orders.{hold, resume}
+use Rattle.device_defs.specs.Orders.{hold_side, resume}
 use Rattle.device_defs.specs.Start as starting
 use Rattle.device_defs.specs.Start.{start_fault, start, started_count}
+use Rattle.device_laws.proofs.BasedEvents.{background_based, command_based, lose_based, reset_body, second_based}
+use Rattle.device_laws.proofs.Had.{Had, had_done, had_then, had_weaker}
+use Rattle.device_laws.proofs.PlainEvents.{had_both}
+use Rattle.subsystem_laws.proofs.HadAnswers.{Answers}
+use Rattle.plain_defs.specs.declared.journal.Act.{Act}
 use Rattle.device_core.specs.declared.device.Device.{Device}
 use Rattle.device_core.specs.declared.past.Running.{Running}
 use Rattle.device_core.specs.Kept.{open_of, chain_of}
@@ -41,27 +46,7 @@ use Rattle.subsystem_defs.specs.declared.end.OrderFault.{OrderFault}
 use Rattle.subsystem_defs.specs.declared.event.Event.{Event}
 use Rattle.subsystem_defs.specs.declared.event.Event.TheVariants as events
 use Rattle.subsystem_defs.specs.Deeds as deeds
-use Rattle.subsystem_defs.specs.Deeds.{
-  Ends,
-  Becomes,
-  Asks,
-  Each,
-  Repairs,
-  Lends,
-  ends_by,
-  may_end_by,
-  ends_done,
-  end_of,
-  is_own,
-  start_by,
-  starts,
-  step,
-  back,
-  on_device,
-  order,
-  seconds,
-  deed,
-}
+use Rattle.subsystem_defs.specs.Deeds.{Ends, Becomes, Asks, Each, Repairs, Lends, ends_by, may_end_by, ends_done, end_of, start_by, starts, step, back, on_device, order, seconds, deed}
 use Rattle.subsystem_defs.specs.Happening.{happens}
 use Rattle.subsystem_defs.specs.Refusals.{fail_fault, resume_fault, suspend_fault}
 use Rattle.subsystem_defs.specs.Subsystem as runs
@@ -87,12 +72,11 @@ use Rattle.subsystem_defs.specs.Beside.{new_acts}
 use Rattle.deck_run.specs.Loosening.{acts_by}
 use Rattle.deck_run.specs.Seen.{SeesEnd, ShowsEnd}
 use Rattle.deck_run.proofs.Acting.{brought_none, new_are, none_new, started_new}
-use Rattle.deck_run.proofs.Stays.{HasOf, Is, background_stays, command_stays, lose_stays, reset_stays, second_stays}
-use Rattle.deck_run.proofs.Surely.{Surely, s_done, s_then, surely_so, ran_so}
+use Rattle.deck_run.proofs.Stays.{HasOf, Stays, background_stays, command_stays, lose_stays, reset_stays, second_stays}
+use Rattle.deck_run.proofs.Surely.{had_still, ran_so}
 use Rattle.device_defs.specs.Device.{all_acted}
 use Rattle.run_report.proofs.ActsCome.{acts_come}
 use Rattle.duplex_pair.specs.declared.pair.SideVolumes.{SideVolumes}
-use Rattle.deck_run.proofs.StoreStays.{Answers}
 use Rattle.deck_run.specs.Sides.{AreAccounted, all_sides}
 use Rattle.deck_run.proofs.Accounted.{asked_sides, put_sides, ran_there, same_sides}
 
@@ -101,27 +85,24 @@ some_same e = cc
 
 -- What each event leaves
 
-own_chain : (ccws : List Ccw) (fixed : Fixed) (g : Geometry) (o : Option ChainState) → fixed.geometry ≡ g → GivesAll ccws → HasOf ccws fixed o →
-    IfSome o (λ (c : ChainState). (c.fixed.geometry ≡ g) × GivesAll c.ccws)
-own_chain ccws fixed g None on gives has = tt
-own_chain ccws fixed g (Some chain) on gives has =
-    (ap (λ (f : Fixed). f.geometry) has.1 ∙ on, subst GivesAll (sym has.0) gives)
+-- a chain that goes by this geometry, and whose words give bytes
+abbrev pub FitsOwn : Geometry → List Ccw → Fixed → Type 0
+FitsOwn g ccws fixed = (fixed.geometry ≡ g) × GivesAll ccws
 
-pub own_so : (ccws : List Ccw) (fixed : Fixed) (d y : DefinedDevice) → fixed.geometry ≡ d.store.geometry → GivesAll ccws → GiveBytes d.plans →
-    y.store.geometry ≡ d.store.geometry → y.plans ≡ d.plans → HasOf ccws fixed y.chain → IsOwn y
-own_so ccws fixed d y on gives plans is same has = record {
+pub own_so : (d y : DefinedDevice) → GiveBytes d.plans → y.store.geometry ≡ d.store.geometry → y.plans ≡ d.plans →
+    HasOf (FitsOwn d.store.geometry) y.chain → IsOwn y
+own_so d y plans is same has = record {
   plans = subst GiveBytes (sym same) plans;
-  chain = own_chain ccws fixed y.store.geometry y.chain (on ∙ sym is) gives has;
+  chain = subst (λ (g : Geometry). IfSome y.chain (λ (c : ChainState). (c.fixed.geometry ≡ g) × GivesAll c.ccws)) (sym is) has;
 }
 
 -- its own, and lent to whom it was
 abbrev pub KeptOwn : DefinedDevice → DefinedDevice → Type 0
 KeptOwn d y = IsOwn y × (y.store.lent ≡ d.store.lent)
 
-own_of : (ccws : List Ccw) (fixed : Fixed) (d y : DefinedDevice) → fixed.geometry ≡ d.store.geometry → GivesAll ccws → GiveBytes d.plans →
-    Is contents d.store.geometry d.store.cylinders (d.store.lent, d.store.device) y.store → y.plans ≡ d.plans → HasOf ccws fixed y.chain → KeptOwn d y
-own_of ccws fixed d y on gives plans is same has =
-    (own_so ccws fixed d y on gives plans is.0 same has, ap (λ (p : Option ℕ × ℕ). p.0) is.1.1)
+own_of : (d y : DefinedDevice) → IsOwn d → y.store.geometry ≡ d.store.geometry → y.store.lent ≡ d.store.lent → (acts : List Act) →
+    Stays contents (FitsOwn d.store.geometry) d.plans d.history acts y → KeptOwn d y
+own_of d y own is lent acts k = (own_so d y own.plans is k.plans_are k.chain, lent)
 
 -- what is said of an end: it is told, and these acts came to the device
 abbrev Brings : Event → DefinedDevice → DefinedDevice → Option ends.EventEnd → Type 0
@@ -129,7 +110,7 @@ Brings e d y None = ⊥
 Brings e d y (Some end) = new_acts d.history y.history ≡ acts_by e end y
 
 abbrev Leaves : Event → DefinedDevice → Talk (Option ends.EventEnd) → Type 0
-Leaves e d talk = Surely talk (λ y o. KeptOwn d y × Brings e d y o)
+Leaves e d talk = Had talk (λ y o. KeptOwn d y × Brings e d y o)
 
 pub record Ending (e : Event) (d y : DefinedDevice) (o : Option ends.EventEnd) : Type 0 where
   pub end : ends.EventEnd
@@ -140,129 +121,59 @@ ending : (e : Event) (d y : DefinedDevice) (o : Option ends.EventEnd) → Brings
 ending e d y None h = absurd h
 ending e d y (Some end) h = record { end = end; is = refl; brings = h }
 
-step_brings : (e : Event) (d y : DefinedDevice) (o : Option defs.Stepped) → new_acts d.history y.history ≡ y.store.acts → Answers o →
-    Brings e d y (end_of answers.Stepped o)
-step_brings e d y None came h = h
-step_brings e d y (Some s) came h = came
+module _ (d : DefinedDevice) (own : IsOwn d) where
+  abbrev mine : List Ccw → Fixed → Type 0
+  mine = FitsOwn d.store.geometry
 
-step_leaves : (e : Event) (d : DefinedDevice) (o : OpenEntry) (chain : ChainState) → d.history.running ≡ Some o → d.chain ≡ Some chain → IsOwn d →
-    Leaves e d (may_end_by answers.Stepped (command contents d))
-step_leaves e d o chain running at own =
-    let mine : (chain.fixed.geometry ≡ d.store.geometry) × GivesAll chain.ccws =
-    subst (λ (x : Option ChainState). IfSome x (λ (c : ChainState). (c.fixed.geometry ≡ d.store.geometry) × GivesAll c.ccws)) at own.chain in
-    s_then
-    (command_stays contents d.store.geometry d.store.cylinders (d.store.lent, d.store.device) chain.ccws chain.fixed d.plans d.history d
-    (subst Answers (sym running) tt)
-    (subst Answers (sym at) tt) (refl, (refl, refl)) refl (subst (HasOf chain.ccws chain.fixed) (sym at) (refl, refl)) refl)
-    (λ y a l. s_done (
-      own_of chain.ccws chain.fixed d y mine.0 mine.1 own.plans l.0.is l.0.plans_are l.0.chain,
-      step_brings e d y a (new_are d.history y.history y.store.acts l.0.acts) l.1,
-    ))
+  step_brings : (e : Event) (y : DefinedDevice) (o : Option defs.Stepped) → new_acts d.history y.history ≡ y.store.acts → Answers o →
+      Brings e d y (end_of answers.Stepped o)
+  step_brings e y None came h = h
+  step_brings e y (Some s) came h = came
 
-back_brings : (e : Event) (d y : DefinedDevice) (o : Option Did) → new_acts d.history y.history ≡ y.store.acts → Answers o →
-    Brings e d y (end_of answers.Back o)
-back_brings e d y None came h = h
-back_brings e d y (Some did) came h = came
+  step_leaves : (e : Event) → Answers d.history.running → Answers d.chain → Leaves e d (may_end_by answers.Stepped (command contents d))
+  step_leaves e runs has =
+      had_then (had_both (command_stays contents mine d.plans d.history d runs has refl own.chain refl) (had_still (command_based contents d)))
+      (λ y a l. had_done (
+        own_of d y own l.1.4 l.1.2 y.store.acts l.0.0,
+        step_brings e y a (new_are d.history y.history y.store.acts l.0.0.acts) l.0.1,
+      ))
 
-back_by : (e : Event) (d : DefinedDevice) (o : Option ChainState) → d.chain ≡ o → IsOwn d →
-    Leaves e d (may_end_by answers.Back (background contents d))
-back_by e d None at own =
-    let fixed : Fixed = record { geometry = d.store.geometry; cylinders = d.store.cylinders; number = 0 } in
-    s_then
-    (background_stays contents d.store.geometry d.store.cylinders (d.store.lent, d.store.device) [] fixed d.plans d.history d (refl, (refl, refl)) refl
-    (subst (HasOf [] fixed) (sym at) tt) refl)
-    (λ y a l. s_done (
-      own_of [] fixed d y refl (λ i k m h. absurd (omega (arith, h))) own.plans l.0.is l.0.plans_are l.0.chain,
-      back_brings e d y a (new_are d.history y.history y.store.acts l.0.acts) l.1,
-    ))
-back_by e d (Some chain) at own =
-    let mine : (chain.fixed.geometry ≡ d.store.geometry) × GivesAll chain.ccws =
-    subst (λ (x : Option ChainState). IfSome x (λ (c : ChainState). (c.fixed.geometry ≡ d.store.geometry) × GivesAll c.ccws)) at own.chain in
-    s_then
-    (background_stays contents d.store.geometry d.store.cylinders (d.store.lent, d.store.device) chain.ccws chain.fixed d.plans d.history d
-    (refl, (refl, refl)) refl
-    (subst (HasOf chain.ccws chain.fixed) (sym at) (refl, refl)) refl)
-    (λ y a l. s_done (
-      own_of chain.ccws chain.fixed d y mine.0 mine.1 own.plans l.0.is l.0.plans_are l.0.chain,
-      back_brings e d y a (new_are d.history y.history y.store.acts l.0.acts) l.1,
-    ))
+  back_brings : (e : Event) (y : DefinedDevice) (o : Option Did) → new_acts d.history y.history ≡ y.store.acts → Answers o →
+      Brings e d y (end_of answers.Back o)
+  back_brings e y None came h = h
+  back_brings e y (Some did) came h = came
 
-second_by : (e : Event) (d : DefinedDevice) (o : Option ChainState) → d.chain ≡ o → IsOwn d → Leaves e d (ends_by answers.Second (second contents d))
-second_by e d None at own =
-    let fixed : Fixed = record { geometry = d.store.geometry; cylinders = d.store.cylinders; number = 0 } in
-    s_then
-    (second_stays contents d.store.geometry d.store.cylinders (d.store.lent, d.store.device) [] fixed d.plans d.history d (refl, (refl, refl)) refl
-    (subst (HasOf [] fixed) (sym at) tt) refl)
-    (λ y a l. s_done (
-      own_of [] fixed d y refl (λ i k m h. absurd (omega (arith, h))) own.plans l.is l.plans_are l.chain,
-      new_are d.history y.history y.store.acts l.acts,
-    ))
-second_by e d (Some chain) at own =
-    let mine : (chain.fixed.geometry ≡ d.store.geometry) × GivesAll chain.ccws =
-    subst (λ (x : Option ChainState). IfSome x (λ (c : ChainState). (c.fixed.geometry ≡ d.store.geometry) × GivesAll c.ccws)) at own.chain in
-    s_then
-    (second_stays contents d.store.geometry d.store.cylinders (d.store.lent, d.store.device) chain.ccws chain.fixed d.plans d.history d
-    (refl, (refl, refl)) refl
-    (subst (HasOf chain.ccws chain.fixed) (sym at) (refl, refl)) refl)
-    (λ y a l. s_done (
-      own_of chain.ccws chain.fixed d y mine.0 mine.1 own.plans l.is l.plans_are l.chain,
-      new_are d.history y.history y.store.acts l.acts,
-    ))
+  back_leaves : (e : Event) → Leaves e d (may_end_by answers.Back (background contents d))
+  back_leaves e =
+      had_then (had_both (background_stays contents mine d.plans d.history d refl own.chain refl) (had_still (background_based contents d)))
+      (λ y a l. had_done (
+        own_of d y own l.1.4 l.1.2 y.store.acts l.0.0,
+        back_brings e y a (new_are d.history y.history y.store.acts l.0.0.acts) l.0.1,
+      ))
 
-reset_by : (n : ℕ) (d : DefinedDevice) (path : ℕ) (o : Option ChainState) → d.chain ≡ o → IsOwn d →
-    Leaves (events.Reset path n) d (ends_by ends_done (reset contents d path))
-reset_by n d path None at own =
-    let fixed : Fixed = record { geometry = d.store.geometry; cylinders = d.store.cylinders; number = 0 } in
-    s_then
-    (reset_stays contents d.store.geometry d.store.cylinders (d.store.lent, d.store.device) [] fixed d.plans d.history d path
-    (record {
-      is = (refl, (refl, refl));
-      plans_are = refl;
-      chain = subst (HasOf [] fixed) (sym at) tt;
-      acts = brought_none d.history d.history [] refl refl;
-    }))
-    (λ y a l. s_done (
-      own_of [] fixed d y refl (λ i k m h. absurd (omega (arith, h))) own.plans l.is l.plans_are l.chain,
-      new_are d.history y.history [] l.acts,
-    ))
-reset_by n d path (Some chain) at own =
-    let mine : (chain.fixed.geometry ≡ d.store.geometry) × GivesAll chain.ccws =
-    subst (λ (x : Option ChainState). IfSome x (λ (c : ChainState). (c.fixed.geometry ≡ d.store.geometry) × GivesAll c.ccws)) at own.chain in
-    s_then
-    (reset_stays contents d.store.geometry d.store.cylinders (d.store.lent, d.store.device) chain.ccws chain.fixed d.plans d.history d path
-    (record {
-      is = (refl, (refl, refl));
-      plans_are = refl;
-      chain = subst (HasOf chain.ccws chain.fixed) (sym at) (refl, refl);
-      acts = brought_none d.history d.history [] refl refl;
-    }))
-    (λ y a l. s_done (
-      own_of chain.ccws chain.fixed d y mine.0 mine.1 own.plans l.is l.plans_are l.chain,
-      new_are d.history y.history [] l.acts,
-    ))
+  second_leaves : (e : Event) → Leaves e d (ends_by answers.Second (second contents d))
+  second_leaves e =
+      had_then (had_both (second_stays contents mine d.plans d.history d refl own.chain refl) (had_still (second_based contents d)))
+      (λ y a l. had_done (own_of d y own l.1.4 l.1.2 y.store.acts l.0, new_are d.history y.history y.store.acts l.0.acts))
 
--- a loss
+  reset_leaves : (n path : ℕ) → Leaves (events.Reset path n) d (ends_by ends_done (reset contents d path))
+  reset_leaves n path =
+      had_then
+      (had_both (reset_stays contents mine d.plans d.history d path
+      (record { plans_are = refl; chain = own.chain; acts = brought_none d.history d.history [] refl refl })) (had_still (reset_body contents d path)))
+      (λ y a l. had_done (own_of d y own l.1.4 l.1.2 [] l.0, new_are d.history y.history [] l.0.acts))
 
-pub lose_owns : (d : DefinedDevice) (loss : Loss) (o : Option ChainState) → d.chain ≡ o → IsOwn d →
-    Surely (lose contents d loss) (λ y _. KeptOwn d y × (y.history ≡ all_acted d.history y.store.acts))
-lose_owns d loss None at own =
-    let fixed : Fixed = record { geometry = d.store.geometry; cylinders = d.store.cylinders; number = 0 } in
-    surely_so (λ y a l. (own_of [] fixed d y refl (λ i k m h. absurd (omega (arith, h))) own.plans l.0.is l.0.plans_are l.0.chain, l.1))
-    (lose_stays contents d.store.geometry d.store.cylinders (d.store.lent, d.store.device) [] fixed d.plans d.history d loss (refl, (refl, refl)) refl
-    (subst (HasOf [] fixed) (sym at) tt) refl)
-lose_owns d loss (Some chain) at own =
-    let mine : (chain.fixed.geometry ≡ d.store.geometry) × GivesAll chain.ccws =
-    subst (λ (x : Option ChainState). IfSome x (λ (c : ChainState). (c.fixed.geometry ≡ d.store.geometry) × GivesAll c.ccws)) at own.chain in
-    surely_so (λ y a l. (own_of chain.ccws chain.fixed d y mine.0 mine.1 own.plans l.0.is l.0.plans_are l.0.chain, l.1))
-    (lose_stays contents d.store.geometry d.store.cylinders (d.store.lent, d.store.device) chain.ccws chain.fixed d.plans d.history d loss
-    (refl, (refl, refl)) refl
-    (subst (HasOf chain.ccws chain.fixed) (sym at) (refl, refl)) refl)
+  -- a loss
+  pub lose_owns : (loss : Loss) → Had (lose contents d loss) (λ y _. KeptOwn d y × (y.history ≡ all_acted d.history y.store.acts))
+  lose_owns loss =
+      had_weaker (had_both (lose_stays contents mine d.plans d.history d loss refl own.chain refl) (had_still (lose_based contents d loss)))
+      (λ y a l. (own_of d y own l.1.4 l.1.2 y.store.acts l.0.0, l.0.1))
 
-lose_by : (e : Event) (d : DefinedDevice) (loss : Loss) → ((y : DefinedDevice) → acts_by e answers.Done y ≡ y.store.acts) →
-    IsOwn d → Leaves e d (ends_by ends_done (lose contents d loss))
-lose_by e d loss noted own =
-    s_then (lose_owns d loss d.chain refl own)
-    (λ y a l. s_done (l.0, ap (λ (h : History). new_acts d.history h) l.1 ∙ acts_come d.history y.store.acts ∙ sym (noted y)))
+  lose_leaves : (e : Event) (loss : Loss) → ((y : DefinedDevice) → acts_by e answers.Done y ≡ y.store.acts) →
+      Leaves e d (ends_by ends_done (lose contents d loss))
+  lose_leaves e loss noted =
+      had_then (lose_owns loss)
+      (λ y a l. had_done (l.0, ap (λ (h : History). new_acts d.history h) l.1 ∙ acts_come d.history y.store.acts ∙ sym (noted y)))
 
 start_own : (d : DefinedDevice) (path : ℕ) → 1 ≤ path → path ≤ 4 → IsOwn d → IsOwn (start d path)
 unfolding starting.start
@@ -314,11 +225,11 @@ good_start e n d path None is least most own = (start_number d path ∙ is, ((st
 
 good_starts : (e : Event) (n : ℕ) (d : DefinedDevice) (path : ℕ) → d.store.device ≡ n → 1 ≤ path → path ≤ 4 → IsOwn d → Good e n d (starts path d)
 good_starts e n d path is least most own =
-    cond_both (is_own path d.history.running) (Ends answers.Running) (start_by d path (start_fault d path)) (Good e n d) (λ _. λ y. refl)
+    cond_both (is_path_of d.history.running path) (Ends answers.Running) (start_by d path (start_fault d path)) (Good e n d) (λ _. λ y. refl)
     (λ _. good_start e n d path (start_fault d path) is least most own)
 
 good_hold : (n a : ℕ) (d : DefinedDevice) (o : Option OrderFault) → d.store.device ≡ n → IsOwn d →
-    Good (events.Suspend a) n d (order o (Becomes (hold d) answers.Done))
+    Good (events.Suspend a) n d (order o (Becomes (hold_side d) answers.Done))
 good_hold n a d (Some f) is own = λ y. refl
 good_hold n a d None is own = (is, ((record { plans = own.plans; chain = own.chain }, refl), none_new d.history d.history refl))
 
@@ -332,7 +243,7 @@ hears k m r l = r ≡ reply m
 
 module _ {V : Type 0} {G : Ghosts V} where
   good_second : (e : Event) (n : ℕ) (x : Device V G) → x.store.number ≡ n → IsOwn (device_of x) → Good e n (device_of x) (seconds contents (device_of x))
-  good_second e n x is own = (is, second_by e (device_of x) (device_of x).chain refl own)
+  good_second e n x is own = (is, second_leaves (device_of x) own e)
 
   good_command : (e : Event) (n : ℕ) (x : Device V G) (r : Option Running) → x.past.running ≡ r → x.store.number ≡ n → IsOwn (device_of x) →
       Good e n (device_of x)
@@ -346,7 +257,7 @@ module _ {V : Type 0} {G : Ghosts V} where
       cond_both (is_some (device_of x).history.running) (Asks (device_of x) (may_end_by answers.Stepped (command contents (device_of x)))) (Ends answers.Idle)
       (Good e n (device_of x)) (λ _. (
         is,
-        step_leaves e (device_of x) (open_of r) (chain_of r) (ap (option_map open_of) at) (ap (option_map chain_of) at) own,
+        step_leaves (device_of x) own e (subst Answers (sym (ap (option_map open_of) at)) tt) (subst Answers (sym (ap (option_map chain_of) at)) tt),
       )) (λ _. λ y. refl)
 
   good_step : (e : Event) (n : ℕ) (x : Device V G) → x.store.number ≡ n → IsOwn (device_of x) → Good e n (device_of x) (step contents (device_of x))
@@ -359,14 +270,14 @@ module _ {V : Type 0} {G : Ghosts V} where
   good_back e n x is own =
       cond_both (is_some (device_of x).store.half) (seconds contents (device_of x))
       (Asks (device_of x) (may_end_by answers.Back (background contents (device_of x))))
-      (Good e n (device_of x)) (λ _. good_second e n x is own) (λ _. (is, back_by e (device_of x) (device_of x).chain refl own))
+      (Good e n (device_of x)) (λ _. good_second e n x is own) (λ _. (is, back_leaves (device_of x) own e))
 
   good_fail : (n d : ℕ) (side : Side) (x : Device V G) (o : Option OrderFault) → x.store.number ≡ n → IsOwn (device_of x) →
       Good (events.FailVolume d side) n (device_of x)
       (order o (Asks (device_of x) (ends_by ends_done (lose contents (device_of x) (losses.Side side)))))
   good_fail n d side x (Some f) is own = λ y. refl
   good_fail n d side x None is own =
-      (is, lose_by (events.FailVolume d side) (device_of x) (losses.Side side) (λ y. refl) own)
+      (is, lose_leaves (device_of x) own (events.FailVolume d side) (losses.Side side) (λ y. refl))
 
   good : (n : ℕ) (x : Device V G) (xs : List (Device V G)) (pool : pools.Pool) (e : Event) → device_at xs n ≡ Some x → IsOwn (device_of x) → IsOpenOn n e →
       Good e n (device_of x) (deed contents pool (devices_of xs) e)
@@ -387,7 +298,7 @@ module _ {V : Type 0} {G : Ghosts V} where
       let here = found_in xs d x (ap (device_at xs) on ∙ at) in
       subst (λ (o : Option DefinedDevice). Good (events.Reset path d) n (device_of x)
       (on_device o (λ y. Asks y (ends_by ends_done (reset contents y path))))) (sym here)
-      (number_found xs n x at, reset_by d (device_of x) path (device_of x).chain refl own)
+      (number_found xs n x at, reset_leaves (device_of x) own d path)
   good n x xs pool events.Power at own on = absurd on
   good n x xs pool events.FailCache at own on = absurd on
   good n x xs pool events.FailStore at own on = absurd on
@@ -401,7 +312,7 @@ module _ {V : Type 0} {G : Ghosts V} where
   good n x xs pool (events.Pair a b) at own on = absurd on
   good n x xs pool (events.Suspend d) at own on =
       let here = found_in xs d x (ap (device_at xs) on ∙ at) in
-      subst (λ (o : Option DefinedDevice). Good (events.Suspend d) n (device_of x) (on_device o (λ y. order (suspend_fault y) (Becomes (hold y) answers.Done))))
+      subst (λ (o : Option DefinedDevice). Good (events.Suspend d) n (device_of x) (on_device o (λ y. order (suspend_fault y) (Becomes (hold_side y) answers.Done))))
       (sym here) (good_hold n d (device_of x) (suspend_fault (device_of x)) (number_found xs n x at) own)
   good n x xs pool (events.Resume d) at own on =
       let here = found_in xs d x (ap (device_at xs) on ∙ at) in

@@ -4,9 +4,7 @@ pub mod Surely
 pub mod Acting
 pub mod Accounted
 pub mod Between
-pub mod StoreStays
 pub mod Stays
-pub mod Makes
 pub mod Counts
 pub mod RunCounts
 pub mod Telling

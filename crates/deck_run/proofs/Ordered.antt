@@ -13,7 +13,7 @@ use Rattle.run_report.specs.Answers.{order_answer}
 use Rattle.run_report.specs.Events.{event_lines, lines_of, work_lines}
 use Rattle.subsystem_core.specs.declared.subsystem.Subsystem.{Subsystem}
 use Rattle.subsystem_defs.specs.declared.end.EventEnd as ends
-use Rattle.subsystem_defs.specs.Happening.{Happened}
+use Rattle.subsystem_defs.specs.Happening.{EventHappened}
 use Rattle.subsystem_defs.specs.Lines.{Asked, logged}
 use Rattle.subsystem_defs.specs.Subsystem as runs
 use Rattle.subsystem_laws.specs.WholeStood.{AreMounted, Stood}
@@ -22,7 +22,7 @@ use Rattle.deck_run.proofs.Telling.{AreKnown, HavePasts, none_came}
 
 -- No volume is called
 
-abbrev pub IsQuiet : runs.Subsystem → Happened → Type 0
+abbrev pub IsQuiet : runs.Subsystem → EventHappened → Type 0
 IsQuiet s h = (h.before ≡ s) × ((h.reads ≡ 0) × (h.writes ≡ 0))
 
 -- recorded where room was made before
@@ -32,7 +32,7 @@ order_told order end told room more here roomy is line =
     is ∙ ap (λ (l : List ReportLine). l ++ lines.Order order (order_answer end) ∷ []) roomy ∙ ap (λ (l : List ReportLine). told ++ l) (sym line)
 
 module _ {V : Type 0} {G : Ghosts V} where
-  pub ordered_tells : (asked : Asked) (o : Happened) (run : runs.Subsystem) (order : Order) (end : ends.EventEnd) (xs ys : List (Device V G)) →
+  pub ordered_tells : (asked : Asked) (o : EventHappened) (run : runs.Subsystem) (order : Order) (end : ends.EventEnd) (xs ys : List (Device V G)) →
       IsQuiet run o → o.end ≡ end →
       ((e : ends.EventEnd) (ds es : List MarksDevice) → event_lines asked e 0 0 ds es ≡ work_lines (did.Ordered order (order_answer e)) 0 0 ds es) →
       HavePasts xs ys → AreKnown (all_stood xs) run.mounted → AreKnown (all_stood ys) o.behind.mounted →

@@ -1,17 +1,25 @@
 -- A pair is made: what it comes to in a run, and what is told of it.
 use Rattle.std.proofs.Common.{◌≡◌, ◌∙◌, ◌+◌, ℕ, Bool, true, false, List, [], ◌∷◌, Option, Some, None, is_some, arith, refl, sym, ap, subst}
-use Rattle.std.specs.Prelude.{◌==◌, ◌&&◌, option_map, IfSome, if◌then◌else◌}
+use Rattle.std.specs.Prelude.{◌==◌, ◌&&◌, option_map, if◌then◌else◌}
 use Rattle.std.proofs.lemmas.Bool.{eqb-true}
 use Rattle.std.proofs.lemmas.Bool.Decides.{nat_tests}
-use Rattle.ckd_types.specs.Fixed.{Fixed}
-use Rattle.ckd_chain.specs.State.{ChainState}
 use Rattle.device_outside.specs.declared.keep.NoKeep.{NoKeep}
 use Rattle.device_outside.specs.declared.volume.Volume.{Ghosts}
+use Rattle.device_outside.specs.Interaction.{Done}
 use Rattle.device_outside.specs.Outside.{Ran}
 use Rattle.device_outside.specs.Pool as pools
 use Rattle.device_defs.specs.Contents.{contents}
 use Rattle.device_defs.specs.Marks.{MarksDevice}
-use Rattle.device_defs.specs.Orders.{join, lend}
+use Rattle.device_defs.specs.Device.{event_begun}
+use Rattle.device_defs.specs.Losses.{over}
+use Rattle.device_defs.specs.Orders as O
+use Rattle.device_defs.specs.Orders.{given_up, join, lend, lent_to, with_tracks}
+use Rattle.device_defs.specs.Store.{tracks_of}
+use Rattle.device_laws.proofs.Based.{Base}
+use Rattle.device_laws.proofs.Had.{Had, had_done, had_weaker}
+use Rattle.device_laws.proofs.PlainEvents.{had_both}
+use Rattle.subsystem_core.proofs.Seating.{lend_based}
+use Rattle.subsystem_laws.proofs.LendBase.{given_base}
 use Rattle.device_store.specs.State.{on_a, on_b}
 use Rattle.device_core.specs.declared.device.Device.{Device}
 use Rattle.device_core.specs.State.{DefinedDevice, device_of}
@@ -42,17 +50,16 @@ use Rattle.subsystem_laws.specs.WholeStood.{Stood}
 use Rattle.subsystem_laws.proofs.WholeHappens.{event_so}
 use Rattle.subsystem_defs.proofs.Unrefused.{first_none, where_none}
 use Rattle.deck_run.specs.Ordered.{IsOrdered}
-use Rattle.plain_defs.specs.Whole.{GivesAll}
 use Rattle.deck_run.specs.Owning.{AllOwn, AreOwn, ChainsStand, IsOwn}
 use Rattle.deck_run.specs.Sides.{AreAccounted, Sides, all_sides, away_here, lent_here, one_if, paired_here, sides_of, total, volumes_here}
 use Rattle.deck_run.specs.Standing.{StandsAs, all_stood, stood_of}
 use Rattle.deck_run.specs.Sweeping.{order_end}
 use Rattle.deck_run.proofs.Accounted.{map_some, put_long, put_sum, ran_there}
-use Rattle.deck_run.proofs.Events.{hears, own_so}
+use Rattle.deck_run.proofs.Events.{FitsOwn, hears, own_so}
 use Rattle.deck_run.proofs.Found.{chains_are, devices_stood, own_at, own_put, put_stood, stood_found}
 use Rattle.deck_run.proofs.Ordered.{IsQuiet, ordered_tells}
-use Rattle.deck_run.proofs.Stays.{HasOf, lend_stays}
-use Rattle.deck_run.proofs.Surely.{Surely, ran_so, surely_so}
+use Rattle.deck_run.proofs.Stays.{HasOf, quiet_had}
+use Rattle.deck_run.proofs.Surely.{had_still, ran_so}
 use Rattle.deck_run.proofs.Sweeping.{blank, order_seen}
 use Rattle.deck_run.proofs.Telling.{HavePasts, all_known, put_then, same_pasts}
 
@@ -116,28 +123,22 @@ pub record HasLent (d : DefinedDevice) (to : ℕ) (y : DefinedDevice) : Type 0 w
   pub lent : y.store.lent ≡ Some to
   pub number : y.store.device ≡ d.store.device
 
-lend_owns : (d : DefinedDevice) (to : ℕ) (o : Option ChainState) → d.chain ≡ o → IsOwn d → Surely (lend contents d to) (λ y _. HasLent d to y)
-lend_owns d to None at own =
-    let fixed : Fixed = record { geometry = d.store.geometry; cylinders = d.store.cylinders; number = 0 } in
-    surely_so (λ y a l. record {
-      own = own_so [] fixed d y refl (λ i k m h. absurd (omega (arith, h))) own.plans l.is.0 l.plans_are l.chain;
-      history = l.history;
-      lent = ap (λ (p : Option ℕ × ℕ). p.0) l.is.1.1;
-      number = ap (λ (p : Option ℕ × ℕ). p.1) l.is.1.1;
+lend_leaves : (d : DefinedDevice) (to : ℕ) → Had (lend contents d to) (λ y (_ : Unit {0}). (y.plans ≡ d.plans) × (y.chain ≡ d.chain) × (y.history ≡ d.history))
+unfolding O.lend
+lend_leaves d to =
+    quiet_had contents (λ y (_ : Unit {0}). (y.plans ≡ d.plans) × (y.chain ≡ d.chain) × (y.history ≡ d.history)) (λ y z a e k. k) d
+    (λ z. Done (with_tracks z (lent_to (over (tracks_of z.store) (given_up contents) z.store) to)) (tt {0})) (had_done (refl, refl, refl))
+
+lend_owns : (d : DefinedDevice) (to : ℕ) → IsOwn d → Had (lend contents d to) (λ y _. HasLent d to y)
+lend_owns d to own =
+    let given = given_base contents (tracks_of d.store) (event_begun d).store in
+    had_weaker (had_both (lend_leaves d to) (had_still (lend_based d to)))
+    (λ y a l. record {
+      own = own_so d y own.plans (l.1.4 ∙ ap (λ (b : Base). b.geometry) given) l.0.0 (subst (HasOf (FitsOwn d.store.geometry)) (sym l.0.1) own.chain);
+      history = l.0.2;
+      lent = l.1.2;
+      number = l.1.0 ∙ ap (λ (b : Base). b.device) given;
     })
-    (lend_stays contents d.store.geometry d.store.cylinders (d.store.lent, d.store.device) [] fixed d.plans d.history d to (refl, (refl, refl)) refl
-    (subst (HasOf [] fixed) (sym at) tt) refl)
-lend_owns d to (Some chain) at own =
-    let mine : (chain.fixed.geometry ≡ d.store.geometry) × GivesAll chain.ccws =
-    subst (λ (x : Option ChainState). IfSome x (λ (c : ChainState). (c.fixed.geometry ≡ d.store.geometry) × GivesAll c.ccws)) at own.chain in
-    surely_so (λ y a l. record {
-      own = own_so chain.ccws chain.fixed d y mine.0 mine.1 own.plans l.is.0 l.plans_are l.chain;
-      history = l.history;
-      lent = ap (λ (p : Option ℕ × ℕ). p.0) l.is.1.1;
-      number = ap (λ (p : Option ℕ × ℕ). p.1) l.is.1.1;
-    })
-    (lend_stays contents d.store.geometry d.store.cylinders (d.store.lent, d.store.device) chain.ccws chain.fixed d.plans d.history d to
-    (refl, (refl, refl)) refl (subst (HasOf chain.ccws chain.fixed) (sym at) (refl, refl)) refl)
 
 join_own : (d : DefinedDevice) → IsOwn d → IsOwn (join d)
 join_own d own = record { plans = own.plans; chain = own.chain }
@@ -209,7 +210,7 @@ module _ {V : Type 0} {G : Ghosts V} where
         ran_so (λ e _. HasLent (device_of z) n e)
         (subst (λ (e : DefinedDevice). Ran (λ ok. ok ≡ true) hears (lend contents e n) (laws.outside_at (shared_view old.pool) (stood_of j.before) k)
         (device_of j.behind) tt (record (laws.outside_at (shared_view new.pool) (stood_of j.behind) k) { a = Some (G.view j.volume) })) is (j.asked k))
-        (lend_owns (device_of z) n (device_of z).chain refl (own_at old.devices.items m z own.each at_z))
+        (lend_owns (device_of z) n (own_at old.devices.items m z own.each at_z))
 
     behind_number : j.behind.store.number ≡ m
     behind_number = gone.number ∙ number_found old.devices.items m z at_z

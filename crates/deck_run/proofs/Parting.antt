@@ -50,7 +50,7 @@ use Rattle.subsystem_defs.specs.declared.end.EventEnd.TheVariants as answers
 use Rattle.subsystem_defs.specs.declared.end.OrderFault.{OrderFault}
 use Rattle.subsystem_defs.specs.declared.end.OrderFault.TheVariants as faults
 use Rattle.subsystem_defs.specs.Happening as H
-use Rattle.subsystem_defs.specs.Happening.{Happened, is_lent_to, quietly, unpaired, unpaired_at, unpaired_by}
+use Rattle.subsystem_defs.specs.Happening.{EventHappened, is_lent_to, quietly, unpaired, unpaired_at, unpaired_by}
 use Rattle.subsystem_defs.specs.Lines.{Unpair, logged}
 use Rattle.subsystem_defs.specs.Refusals as R
 use Rattle.subsystem_defs.specs.Refusals.{active_by, first_cause, not_level_by, unpair_fault, where_so}
@@ -436,7 +436,7 @@ module _ {V : Type 0} {G : Ghosts V} where
       abbrev known : AreKnown (all_stood old.devices.items) run.mounted
       known = all_known (all_stood old.devices.items) run.mounted all.mounted
 
-      abbrev what : Happened
+      abbrev what : EventHappened
       what = unpaired run n unfailing
 
       ordered : (end : ends.EventEnd) → what.end ≡ end → HavePasts old.devices.items new.devices.items →
@@ -459,10 +459,10 @@ module _ {V : Type 0} {G : Ghosts V} where
           IsOrdered (logged (Unpair n) what) (orders.Unpair n) (order_end a) new
       part_by (Some f) free came =
           let is = same_what f free in
-          let left : what.behind ≡ run = ap (λ (h : Happened). h.behind) is in
+          let left : what.behind ≡ run = ap (λ (h : EventHappened). h.behind) is in
           let stands : StandsAs new what.behind = subst (λ (s : runs.Subsystem). StandsAs new s) (sym left)
           (stands_by new run old.pool (all_stood old.devices.items) all.pool all.mounted came.1.0 (ap all_stood came.1.1)) in
-          ordered (answers.Refused f) (ap (λ (h : Happened). h.end) is)
+          ordered (answers.Refused f) (ap (λ (h : EventHappened). h.end) is)
           (subst (λ (l : List (Device V G)). HavePasts old.devices.items l) (sym came.1.1) (same_pasts old.devices.items))
           (all_known (all_stood new.devices.items) what.behind.mounted stands.mounted) (order_seen a (answers.Refused f) tt (came.0 blank)) stands
       part_by None free came =

@@ -8,13 +8,13 @@ use Rattle.device_outside.specs.Lists as L
 use Rattle.device_outside.specs.Lists.{is_in}
 use Rattle.deck_plan.specs.declared.event.EventLine.{EventLine}
 use Rattle.deck_plan.specs.declared.event.EventLine.TheVariants as lines
-use Rattle.deck_text.specs.declared.keyword.Part.{Part}
-use Rattle.deck_text.specs.declared.keyword.Part.TheVariants as parts
+use Rattle.deck_text.specs.declared.keyword.EventPart.{EventPart}
+use Rattle.deck_text.specs.declared.keyword.EventPart.TheVariants as parts
 use Rattle.deck_text.specs.declared.line.DeckWhy.TheVariants.{Number, Words}
 use Rattle.deck_text.specs.declared.line.DeviceLine.{DeviceLine}
 use Rattle.deck_text.specs.DeckLines.{DeckLines}
 use Rattle.deck_text.specs.Events.{device_words, fail_by, is_volume, pair_words, part_words, failed_part, replace_line, side_words}
-use Rattle.deck_text.specs.Forms.{needed, and_then, declared, device_line, device_of, is_declared, path_and_device, path_of, rises, rising, side_of}
+use Rattle.deck_text.specs.Forms.{needed, then_read, declared, device_line, device_of, is_declared, path_and_device, path_of, rises, rising, side_by_word}
 use Rattle.deck_text.specs.Numbers.{number_in, geometry_of}
 use Rattle.deck_text.specs.Parse.{parsed}
 use Rattle.deck_text.specs.Words.{one_word, two_words, three_words}
@@ -38,14 +38,14 @@ if_so false x y h = absurd (cc)
 device_ranges : (before : List DeviceLine) (words : List (List ℕ)) (d : DeviceLine) → device_line before words ≡ Ok d → DeviceRanges before d
 device_ranges before words d h =
     let a = went (needed Words (three_words words))
-    (λ w. and_then (needed Number (number_in 0 15 w.0))
-    (λ n. and_then (needed Number (geometry_of w.1))
-    (λ g. and_then (needed Number (number_in 1 64 w.2)) (λ c. rising before (record { number = n; geometry = g; cylinders = c }))))) d h in
+    (λ w. then_read (needed Number (number_in 0 15 w.0))
+    (λ n. then_read (needed Number (geometry_of w.1))
+    (λ g. then_read (needed Number (number_in 1 64 w.2)) (λ c. rising before (record { number = n; geometry = g; cylinders = c }))))) d h in
     let b = went (needed Number (number_in 0 15 a.value.0))
-    (λ n. and_then (needed Number (geometry_of a.value.1))
-    (λ g. and_then (needed Number (number_in 1 64 a.value.2)) (λ c. rising before (record { number = n; geometry = g; cylinders = c })))) d a.second in
+    (λ n. then_read (needed Number (geometry_of a.value.1))
+    (λ g. then_read (needed Number (number_in 1 64 a.value.2)) (λ c. rising before (record { number = n; geometry = g; cylinders = c })))) d a.second in
     let e = went (needed Number (geometry_of a.value.1))
-    (λ g. and_then (needed Number (number_in 1 64 a.value.2)) (λ c. rising before (record { number = b.value; geometry = g; cylinders = c }))) d b.second
+    (λ g. then_read (needed Number (number_in 1 64 a.value.2)) (λ c. rising before (record { number = b.value; geometry = g; cylinders = c }))) d b.second
     in
     let f = went (needed Number (number_in 1 64 a.value.2)) (λ c. rising before (record { number = b.value; geometry = e.value; cylinders = c })) d e.second in
     let same = if_so (rises before b.value) (record { number = b.value; geometry = e.value; cylinders = f.value }) d f.second in
@@ -123,8 +123,8 @@ one_in ds words d h =
 
 path_in : (ds : List DeviceLine) (words : List (List ℕ)) (at : ℕ × ℕ) → path_and_device ds words ≡ Ok at → is_in at.1 (numbers_in ds) ≡ true
 path_in ds words at h =
-    let a = went (needed Words (two_words words)) (λ w. and_then (path_of w.0) (λ p. and_then (device_of ds w.1) (λ d. Ok (p, d)))) at h in
-    let b = went (path_of a.value.0) (λ p. and_then (device_of ds a.value.1) (λ d. Ok (p, d))) at a.second in
+    let a = went (needed Words (two_words words)) (λ w. then_read (path_of w.0) (λ p. then_read (device_of ds w.1) (λ d. Ok (p, d)))) at h in
+    let b = went (path_of a.value.0) (λ p. then_read (device_of ds a.value.1) (λ d. Ok (p, d))) at a.second in
     let c = went (device_of ds a.value.1) (λ d. Ok (b.value, d)) at b.second in
     let same : (b.value, c.value) ≡ at = if_ok true (b.value, c.value) at Number c.second in
     subst (λ (x : ℕ × ℕ). is_in x.1 (numbers_in ds) ≡ true) same (declared_in ds a.value.1 c.value c.first)
@@ -132,8 +132,8 @@ path_in ds words at h =
 pair_in : (ds : List DeviceLine) (words : List (List ℕ)) (at : ℕ × ℕ) → pair_words ds words ≡ Ok at →
     (is_in at.0 (numbers_in ds) && is_in at.1 (numbers_in ds)) ≡ true
 pair_in ds words at h =
-    let a = went (needed Words (two_words words)) (λ w. and_then (device_of ds w.0) (λ x. and_then (device_of ds w.1) (λ y. Ok (x, y)))) at h in
-    let b = went (device_of ds a.value.0) (λ x. and_then (device_of ds a.value.1) (λ y. Ok (x, y))) at a.second in
+    let a = went (needed Words (two_words words)) (λ w. then_read (device_of ds w.0) (λ x. then_read (device_of ds w.1) (λ y. Ok (x, y)))) at h in
+    let b = went (device_of ds a.value.0) (λ x. then_read (device_of ds a.value.1) (λ y. Ok (x, y))) at a.second in
     let c = went (device_of ds a.value.1) (λ y. Ok (b.value, y)) at b.second in
     let same : (b.value, c.value) ≡ at = if_ok true (b.value, c.value) at Number c.second in
     subst (λ (x : ℕ × ℕ). (is_in x.0 (numbers_in ds) && is_in x.1 (numbers_in ds)) ≡ true) same
@@ -141,7 +141,7 @@ pair_in ds words at h =
 
 side_in : (ds : List DeviceLine) (device side : List ℕ) (at : ℕ × Side) → side_words ds device side ≡ Ok at → is_in at.0 (numbers_in ds) ≡ true
 side_in ds device side at h =
-    let a = went (needed Words (side_of side)) (λ s. and_then (device_of ds device) (λ d. Ok (d, s))) at h in
+    let a = went (needed Words (side_by_word side)) (λ s. then_read (device_of ds device) (λ d. Ok (d, s))) at h in
     let b = went (device_of ds device) (λ d. Ok (d, a.value)) at a.second in
     let same : (b.value, a.value) ≡ at = if_ok true (b.value, a.value) at Number b.second in
     subst (λ (x : ℕ × Side). is_in x.0 (numbers_in ds) ≡ true) same (declared_in ds device b.value b.first)
@@ -150,7 +150,7 @@ side_in ds device side at h =
 
 one_line : (ds : List DeviceLine) (make : ℕ → EventLine) (words : List (List ℕ)) (e : EventLine) →
     ((d : ℕ) → is_in d (numbers_in ds) ≡ true → is_open_line (numbers_in ds) (make d) ≡ true) →
-    and_then (device_words ds words) (λ d. Ok (make d)) ≡ Ok e → is_open_line (numbers_in ds) e ≡ true
+    then_read (device_words ds words) (λ d. Ok (make d)) ≡ Ok e → is_open_line (numbers_in ds) e ≡ true
 one_line ds make words e opens h =
     let a = went (device_words ds words) (λ d. Ok (make d)) e h in
     let same : make a.value ≡ e = if_ok true (make a.value) e Number a.second in
@@ -158,13 +158,13 @@ one_line ds make words e opens h =
 
 path_line : (ds : List DeviceLine) (make : ℕ → ℕ → EventLine) (words : List (List ℕ)) (e : EventLine) →
     ((p d : ℕ) → is_in d (numbers_in ds) ≡ true → is_open_line (numbers_in ds) (make p d) ≡ true) →
-    and_then (path_and_device ds words) (λ at. Ok (make at.0 at.1)) ≡ Ok e → is_open_line (numbers_in ds) e ≡ true
+    then_read (path_and_device ds words) (λ at. Ok (make at.0 at.1)) ≡ Ok e → is_open_line (numbers_in ds) e ≡ true
 path_line ds make words e opens h =
     let a = went (path_and_device ds words) (λ at. Ok (make at.0 at.1)) e h in
     let same : make a.value.0 a.value.1 ≡ e = if_ok true (make a.value.0 a.value.1) e Number a.second in
     subst (λ (x : EventLine). is_open_line (numbers_in ds) x ≡ true) same (opens a.value.0 a.value.1 (path_in ds words a.value a.first))
 
-pair_line : (ds : List DeviceLine) (words : List (List ℕ)) (e : EventLine) → and_then (pair_words ds words) (λ at. Ok (lines.Pair at.0 at.1)) ≡ Ok e →
+pair_line : (ds : List DeviceLine) (words : List (List ℕ)) (e : EventLine) → then_read (pair_words ds words) (λ at. Ok (lines.Pair at.0 at.1)) ≡ Ok e →
     is_open_line (numbers_in ds) e ≡ true
 pair_line ds words e h =
     let a = went (pair_words ds words) (λ at. Ok (lines.Pair at.0 at.1)) e h in
@@ -173,21 +173,21 @@ pair_line ds words e h =
 
 side_line : (ds : List DeviceLine) (make : ℕ → Side → EventLine) (device side : List ℕ) (e : EventLine) →
     ((d : ℕ) (s : Side) → is_in d (numbers_in ds) ≡ true → is_open_line (numbers_in ds) (make d s) ≡ true) →
-    and_then (side_words ds device side) (λ at. Ok (make at.0 at.1)) ≡ Ok e → is_open_line (numbers_in ds) e ≡ true
+    then_read (side_words ds device side) (λ at. Ok (make at.0 at.1)) ≡ Ok e → is_open_line (numbers_in ds) e ≡ true
 side_line ds make device side e opens h =
     let a = went (side_words ds device side) (λ at. Ok (make at.0 at.1)) e h in
     let same : make a.value.0 a.value.1 ≡ e = if_ok true (make a.value.0 a.value.1) e Number a.second in
     subst (λ (x : EventLine). is_open_line (numbers_in ds) x ≡ true) same (opens a.value.0 a.value.1 (side_in ds device side a.value a.first))
 
-part_open : (ds : List DeviceLine) (part : Part) → is_open_line (numbers_in ds) (failed_part part) ≡ true
+part_open : (ds : List DeviceLine) (part : EventPart) → is_open_line (numbers_in ds) (failed_part part) ≡ true
 part_open ds part = by_part part
   where
-    by_part : (p : Part) → is_open_line (numbers_in ds) (failed_part p) ≡ true
+    by_part : (p : EventPart) → is_open_line (numbers_in ds) (failed_part p) ≡ true
     by_part parts.Cache = refl
     by_part parts.Store = refl
 
 volume_line : (ds : List DeviceLine) (b : Bool) (device side : List ℕ) (e : EventLine) →
-    (if b then and_then (side_words ds device side) (λ at. Ok (lines.FailVolume at.0 at.1)) else Err Words) ≡ Ok e → is_open_line (numbers_in ds) e ≡ true
+    (if b then then_read (side_words ds device side) (λ at. Ok (lines.FailVolume at.0 at.1)) else Err Words) ≡ Ok e → is_open_line (numbers_in ds) e ≡ true
 volume_line ds true device side e h = side_line ds (λ d s. lines.FailVolume d s) device side e (λ d s is. is) h
 volume_line ds false device side e h = absurd (cc)
 
@@ -201,7 +201,7 @@ fail_open ds words (Some w) e h = volume_line ds (is_volume w.0) w.1 w.2 e h
 
 replace_open : (ds : List DeviceLine) (words : List (List ℕ)) (e : EventLine) → replace_line ds words ≡ Ok e → is_open_line (numbers_in ds) e ≡ true
 replace_open ds words e h =
-    let a = went (needed Words (two_words words)) (λ w. and_then (side_words ds w.0 w.1) (λ at. Ok (lines.Replace at.0 at.1))) e h in
+    let a = went (needed Words (two_words words)) (λ w. then_read (side_words ds w.0 w.1) (λ at. Ok (lines.Replace at.0 at.1))) e h in
     side_line ds (λ d s. lines.Replace d s) a.value.0 a.value.1 e (λ d s is. is) a.second
 
 line_open : (ds : List DeviceLine) (e : EventLine) → EventOk ds e → is_open_line (numbers_in ds) e ≡ true

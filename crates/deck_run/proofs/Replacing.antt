@@ -23,7 +23,7 @@ use Rattle.subsystem_defs.specs.declared.end.EventEnd.TheVariants as answers
 use Rattle.subsystem_defs.specs.declared.end.OrderFault.{OrderFault}
 use Rattle.subsystem_defs.specs.declared.end.OrderFault.TheVariants.{Half, NoSide, Up}
 use Rattle.subsystem_defs.specs.Happening as H
-use Rattle.subsystem_defs.specs.Happening.{Happened, quietly, replaced, replaced_at, replaced_by}
+use Rattle.subsystem_defs.specs.Happening.{EventHappened, quietly, replaced, replaced_at, replaced_by}
 use Rattle.subsystem_defs.specs.Lines.{Replace, logged}
 use Rattle.subsystem_defs.specs.Refusals as R
 use Rattle.subsystem_defs.specs.Refusals.{first_cause, lent_by, replace_fault, where_so}
@@ -183,7 +183,7 @@ module _ {V : Type 0} {G : Ghosts V} where
       abbrev known : AreKnown (all_stood old.devices.items) run.mounted
       known = all_known (all_stood old.devices.items) run.mounted all.mounted
 
-      abbrev what : Happened
+      abbrev what : EventHappened
       what = replaced run d side unfailing
 
       -- the device has the same past
@@ -208,8 +208,8 @@ module _ {V : Type 0} {G : Ghosts V} where
           IsOrdered (logged (Replace d side) what) (orders.Replace d side) (order_end a) new
       swapped_by (Some f) free came =
           let is = same_what f free in
-          let behind : what.behind ≡ run = ap (λ (h : Happened). h.behind) is in
-          ordered x (answers.Refused f) (ap (λ (h : Happened). h.end) is) refl
+          let behind : what.behind ≡ run = ap (λ (h : EventHappened). h.behind) is in
+          ordered x (answers.Refused f) (ap (λ (h : EventHappened). h.end) is) refl
           (subst (λ (s : runs.Subsystem). AreKnown (all_stood (put_at old.devices.items d x)) s.mounted) (sym behind)
           (subst (λ (l : List (Device V G)). AreKnown (all_stood l) run.mounted) (sym (put_same old.devices.items d x at)) known))
           (order_seen a (answers.Refused f) tt (came.0 blank))

@@ -5,6 +5,8 @@ use Rattle.std.proofs.lemmas.Bool.{cond_both, eqb-true}
 use Rattle.std.proofs.lemmas.Bool.Decides.{nat_tests}
 use Rattle.ckd_types.specs.declared.paths.Side.{Side}
 use Rattle.loss_model.specs.declared.Loss.TheVariants as losses
+use Rattle.plain_defs.specs.History.{is_path_of}
+use Rattle.device_outside.specs.Interaction.{Done, and_then}
 use Rattle.device_outside.specs.Told.{hold}
 use Rattle.device_defs.specs.declared.answers.StartFault.{StartFault}
 use Rattle.device_defs.specs.Command.{command}
@@ -16,39 +18,23 @@ use Rattle.device_defs.specs.Orders as orders
 use Rattle.device_defs.specs.Orders.{resume}
 use Rattle.device_defs.specs.Start as S
 use Rattle.device_defs.specs.Start.{start, start_fault, next_ordinal}
+use Rattle.device_laws.proofs.Based.{Base, Any, Based, kept, based_any, based_done, based_then}
+use Rattle.device_laws.proofs.BasedEvents.{base_in, with_one_loss, background_based, command_based, lose_based, reset_body, second_based}
 use Rattle.subsystem_defs.specs.declared.end.EventEnd.{EventEnd}
 use Rattle.subsystem_defs.specs.declared.end.EventEnd.TheVariants as ends
 use Rattle.subsystem_defs.specs.declared.end.OrderFault.{OrderFault}
 use Rattle.subsystem_defs.specs.declared.event.Event.{Event}
 use Rattle.subsystem_defs.specs.declared.event.Event.TheVariants as events
 use Rattle.subsystem_defs.specs.Deeds as D
-use Rattle.subsystem_defs.specs.Deeds.{
-  Ends,
-  Becomes,
-  Asks,
-  back,
-  deed,
-  device_in,
-  ends_by,
-  ends_done,
-  is_own,
-  may_end_by,
-  on_device,
-  order,
-  seconds,
-  start_by,
-  starts,
-  step,
-}
+use Rattle.subsystem_defs.specs.Deeds.{Ends, Becomes, Asks, back, deed, device_in, end_of, ends_by, ends_done, may_end_by, on_device, order, seconds, start_by, starts, step}
 use Rattle.subsystem_defs.specs.Happening as H
-use Rattle.subsystem_defs.specs.Happening.{Happened, MarksDeed, Talk, asks, becomes, happens, happens_by, mounted_behind, quietly, told_to}
+use Rattle.subsystem_defs.specs.Happening.{EventHappened, MarksDeed, Talk, asks, becomes, happens, happens_by, mounted_behind, quietly, told_to}
 use Rattle.subsystem_defs.specs.Refusals.{fail_fault, resume_fault, suspend_fault}
 use Rattle.subsystem_defs.specs.Subsystem.{Mounted, Subsystem, devices_of, mounted_in, number_of, put_in}
 use Rattle.subsystem_laws.proofs.WholeFinding.{device_mounted}
 use Rattle.deck_run.specs.Counting.{more_calls}
 use Rattle.deck_run.specs.Owning.{IsOpenOn}
-use Rattle.deck_run.proofs.Counts.{IsOn, background_counts, command_counts, lose_counts, reset_counts, second_counts}
-use Rattle.deck_run.proofs.Makes.{Makes, m_done, m_then, held_so}
+use Rattle.deck_run.proofs.Counts.{IsCountedTo, held_counts}
 
 some_same : {X : Type 0} {x y : X} → Some x ≡ Some y → x ≡ y
 some_same e = cc
@@ -76,7 +62,7 @@ put_there : (ms : List Mounted) (n : ℕ) (m x : Mounted) → mounted_in ms n �
 put_there [] n m x at is = absurd (cc)
 put_there (k ∷ ms) n m x at is = put_by ms k m x n (number_of k == n) refl (λ there. put_there ms n m x there is) at is
 
-pub record IsCounted (n : ℕ) (m : Mounted) (o : Happened) : Type 0 where
+pub record IsCounted (n : ℕ) (m : Mounted) (o : EventHappened) : Type 0 where
   pub mounted : Mounted
   pub there : mounted_in o.behind.mounted n ≡ Some mounted
   pub reads : mounted.device.store.counts.reads ≡ more_calls o.reads m.device.store.counts.reads
@@ -122,32 +108,45 @@ module _ (s : Subsystem) (n : ℕ) (m : Mounted) (at : mounted_in s.mounted n �
   becomes_by d (Some f) is reads writes = ends_counted (ends.Refused f)
   becomes_by d None is reads writes = becomes_counted d ends.Done is reads writes
 
-  abbrev Counts : Talk (Option EventEnd) → Type 0
-  Counts talk =
-      Makes talk m.device.store.counts.reads m.device.store.counts.writes (λ (y : MarksDevice) (a : Option EventEnd) (r w : ℕ). IsOn by_plain n r w y)
+  -- from here a talk counts its calls
+  pub record Counts {A : Type 0} (talk : Talk A) : Type 0 where
+    pub base : Base
+    pub reads : base.counts.reads ≡ m.device.store.counts.reads
+    pub writes : base.counts.writes ≡ m.device.store.counts.writes
+    pub device : base.device ≡ m.device.store.device
+    pub based : Based base_in Any base talk
 
-  asks_here : (talk : Talk (Option EventEnd)) → Counts talk → IsCounted n m (asks s n (Some m) talk)
-  asks_here talk makes =
-      let o = hold true talk (told_to s.pool m) in
-      let h : IsOn by_plain n (more_calls o.told.reads m.device.store.counts.reads) (more_calls o.told.writes m.device.store.counts.writes) o.state =
-      held_so true (λ (y : MarksDevice) (a : Option EventEnd) (r w : ℕ). IsOn by_plain n r w y) m.device.store.counts.reads
-      m.device.store.counts.writes talk (told_to s.pool m) refl refl makes in
-      record {
-        mounted = mounted_behind o;
-        there = put_there s.mounted n m (mounted_behind o) at h.store.1.1;
-        reads = h.store.0;
-        writes = h.store.1.0;
-      }
+  -- whatever it answers
+  answered : {A B : Type 0} (talk : Talk A) (f : A → B) → Counts talk → Counts (and_then talk (λ y a. Done y (f a)))
+  answered talk f k = record {
+    base = k.base;
+    reads = k.reads;
+    writes = k.writes;
+    device = k.device;
+    based = based_then (λ y a. Done y (f a)) k.based (λ y a. based_done refl);
+  }
 
-  asks_counted : (d : MarksDevice) (talk : Talk (Option EventEnd)) → d.store.device ≡ n → Counts talk → Claim (Asks d talk)
-  asks_counted d talk is makes =
-      subst (λ (k : ℕ). IsCounted n m (asks s k (mounted_in s.mounted k) talk)) (sym is)
-      (subst (λ (o : Option Mounted). IsCounted n m (asks s n o talk)) (sym at) (asks_here talk makes))
-
-  -- Events of the device
+  from_itself : {A : Type 0} (talk : Talk A) → Based base_in Any (kept m.device.store) talk → Counts talk
+  from_itself talk x = record { base = kept m.device.store; reads = refl; writes = refl; device = refl; based = x }
 
   mine : m.device.store.device ≡ n
   mine = number_there s.mounted n m at
+
+  asks_here : (talk : Talk (Option EventEnd)) → Counts talk → IsCounted n m (asks s n (Some m) talk)
+  asks_here talk k =
+      let o = hold true talk (told_to s.pool m) in
+      let h : IsCountedTo n m.device.store.counts.reads m.device.store.counts.writes o.told (base_in o.state) =
+      held_counts n m.device.store.counts.reads m.device.store.counts.writes true k.based (told_to s.pool m)
+      (record { device = k.device ∙ mine; reads = k.reads; writes = k.writes }) in
+      record { mounted = mounted_behind o; there = put_there s.mounted n m (mounted_behind o) at h.device; reads = h.reads; writes = h.writes }
+
+  asks_counted : {A : Type 0} (talk : Talk A) (f : A → Option EventEnd) → Counts talk → Claim (Asks m.device (and_then talk (λ y a. Done y (f a))))
+  asks_counted talk f k =
+      let whole = and_then talk (λ y a. Done y (f a)) in
+      subst (λ (k : ℕ). IsCounted n m (asks s k (mounted_in s.mounted k) whole)) (sym mine)
+      (subst (λ (o : Option Mounted). IsCounted n m (asks s n o whole)) (sym at) (asks_here whole (answered talk f k)))
+
+  -- Events of the device
 
   start_counted : (path : ℕ) (o : Option StartFault) → Claim (start_by m.device path o)
   start_counted path (Some f) = ends_counted (ends.NotStarted f)
@@ -157,13 +156,12 @@ module _ (s : Subsystem) (n : ℕ) (m : Mounted) (at : mounted_in s.mounted n �
 
   starts_counted : (path : ℕ) → Claim (starts path m.device)
   starts_counted path =
-      cond_both (is_own path m.device.history.running) (Ends ends.Running) (start_by m.device path (start_fault m.device path)) Claim
+      cond_both (is_path_of m.device.history.running path) (Ends ends.Running) (start_by m.device path (start_fault m.device path)) Claim
       (λ _. ends_counted ends.Running) (λ _. start_counted path (start_fault m.device path))
 
   seconds_counted : Claim (seconds by_plain m.device)
   seconds_counted =
-      asks_counted m.device (ends_by ends.Second (second by_plain m.device)) mine
-      (m_then (second_counts by_plain n m.device (refl, (refl, mine))) (λ y a r w l. m_done l))
+      asks_counted (second by_plain m.device) (λ a. Some (ends.Second a)) (from_itself (second by_plain m.device) (second_based by_plain m.device))
 
   step_counted : Claim (step by_plain m.device)
   step_counted =
@@ -171,28 +169,32 @@ module _ (s : Subsystem) (n : ℕ) (m : Mounted) (at : mounted_in s.mounted n �
       (if is_some m.device.history.running then Asks m.device (may_end_by ends.Stepped (command by_plain m.device)) else Ends ends.Idle) Claim
       (λ _. seconds_counted)
       (λ _. cond_both (is_some m.device.history.running) (Asks m.device (may_end_by ends.Stepped (command by_plain m.device))) (Ends ends.Idle) Claim
-      (λ _. asks_counted m.device (may_end_by ends.Stepped (command by_plain m.device)) mine
-      (m_then (command_counts by_plain n m.device (refl, (refl, mine))) (λ y a r w l. m_done l)))
+      (λ _. asks_counted (command by_plain m.device) (end_of ends.Stepped) (from_itself (command by_plain m.device) (command_based by_plain m.device)))
       (λ _. ends_counted ends.Idle))
 
   back_counted : Claim (back by_plain m.device)
   back_counted =
       cond_both (is_some m.device.store.half) (seconds by_plain m.device) (Asks m.device (may_end_by ends.Back (background by_plain m.device))) Claim
       (λ _. seconds_counted)
-      (λ _. asks_counted m.device (may_end_by ends.Back (background by_plain m.device)) mine
-      (m_then (background_counts by_plain n m.device (refl, (refl, mine))) (λ y a r w l. m_done l)))
+      (λ _. asks_counted (background by_plain m.device) (end_of ends.Back)
+      (from_itself (background by_plain m.device) (background_based by_plain m.device)))
 
   reset_counted : (path : ℕ) → Claim (Asks m.device (ends_by ends_done (reset by_plain m.device path)))
   reset_counted path =
-      asks_counted m.device (ends_by ends_done (reset by_plain m.device path)) mine
-      (m_then (reset_counts by_plain n m.device path (refl, (refl, mine))) (λ y a r w l. m_done l))
+      asks_counted (reset by_plain m.device path) (λ a. Some (ends_done a))
+      (from_itself (reset by_plain m.device path) (based_any (reset_body by_plain m.device path)))
 
   fail_by : (side : Side) (o : Option OrderFault) →
       Claim (order o (Asks m.device (ends_by ends_done (lose by_plain m.device (losses.Side side)))))
   fail_by side (Some f) = ends_counted (ends.Refused f)
   fail_by side None =
-      asks_counted m.device (ends_by ends_done (lose by_plain m.device (losses.Side side))) mine
-      (m_then (lose_counts by_plain n m.device (losses.Side side) (refl, (refl, mine))) (λ y a r w l. m_done l))
+      asks_counted (lose by_plain m.device (losses.Side side)) (λ a. Some (ends_done a)) (record {
+        base = with_one_loss (losses.Side side) (kept m.device.store);
+        reads = refl;
+        writes = refl;
+        device = refl;
+        based = lose_based by_plain m.device (losses.Side side);
+      })
 
   found : (d : ℕ) → d ≡ n → device_in (devices_of s) d ≡ Some m.device
   found d is =
@@ -218,8 +220,8 @@ module _ (s : Subsystem) (n : ℕ) (m : Mounted) (at : mounted_in s.mounted n �
   event_counted events.RepairStore on = absurd on
   event_counted (events.Pair a b) on = absurd on
   event_counted (events.Suspend d) on =
-      subst (λ (o : Option MarksDevice). Claim (on_device o (λ x. order (suspend_fault x) (Becomes (orders.hold x) ends.Done)))) (sym (found d on))
-      (becomes_by (orders.hold m.device) (suspend_fault m.device) mine refl refl)
+      subst (λ (o : Option MarksDevice). Claim (on_device o (λ x. order (suspend_fault x) (Becomes (orders.hold_side x) ends.Done)))) (sym (found d on))
+      (becomes_by (orders.hold_side m.device) (suspend_fault m.device) mine refl refl)
   event_counted (events.Resume d) on =
       subst (λ (o : Option MarksDevice). Claim (on_device o (λ x. order (resume_fault x) (Becomes (resume x) ends.Done)))) (sym (found d on))
       (becomes_by (resume m.device) (resume_fault m.device) mine refl refl)

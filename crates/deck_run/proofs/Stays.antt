@@ -1,19 +1,18 @@
--- A command leaves a device its geometry, its cylinders and its plans, and the chain of the program that runs its words and what it goes by;
--- and it answers where memory is had. The acts that come to its history are those that its store has noted. So it is with the second part of
--- a write, with work in the background and with a loss; a reset brings none, and neither does the loan of its volume.
-use Rattle.std.proofs.Common.{◌≡◌, ◌∙◌, [], ℕ, zero, suc, Bool, List, Option, Some, None, refl, sym, ap, subst}
-use Rattle.std.specs.Prelude.{◌==◌}
+-- A command leaves a device its plans, and the chain of the program that runs its words and what it goes by; and it answers where memory is had.
+-- The acts that come to its history are those that its store has noted. So it is with the second part of a write, with work in the background and with
+-- a loss; a reset brings none.
+use Rattle.std.proofs.Common.{◌≡◌, ◌∙◌, [], ◌∷◌, ℕ, Bool, List, Option, Some, None, refl, sym, ap, subst}
+use Rattle.std.specs.Prelude.{◌==◌, IfSome}
 use Rattle.std.proofs.lemmas.Bool.{cond_both}
 use Rattle.ckd_types.specs.declared.channel.Ccw.{Ccw}
-use Rattle.ckd_types.specs.declared.geometry.Geometry.{Geometry}
 use Rattle.ckd_types.specs.Fixed.{Fixed}
 use Rattle.ckd_chain.specs.declared.mark.Stage.{Stage}
 use Rattle.ckd_chain.specs.declared.mark.Stage.TheVariants as stages
 use Rattle.ckd_chain.specs.declared.progress.Progress.{Progress}
 use Rattle.ckd_chain.specs.declared.progress.Progress.TheVariants as progresses
-use Rattle.ckd_chain.specs.declared.progress.Settled.TheVariants.{Equipment}
+use Rattle.ckd_chain.specs.declared.progress.Settled.TheVariants.{Equipment, Written}
 use Rattle.ckd_chain.specs.State.{ChainState}
-use Rattle.ckd_chain.specs.Steps.{opened_by, opened, stage_of, need_of, stepped, stepped_by, turned_by as chain_turned}
+use Rattle.ckd_chain.specs.Steps.{opened_by, chain_opened, stage_of, need_of, stepped, stepped_by, step_turned as chain_turned, word_of}
 use Rattle.ckd_rules.specs.declared.stance.Stance.{Stance}
 use Rattle.ckd_rules.specs.declared.turned.Turned.{Turned}
 use Rattle.ckd_rules.specs.declared.turned.Turned.TheVariants as turns
@@ -23,62 +22,39 @@ use Rattle.loss_model.specs.declared.Loss.{Loss}
 use Rattle.plain_defs.specs.declared.journal.Act.{Act}
 use Rattle.plain_defs.specs.History.{History, OpenEntry, has_used}
 use Rattle.plain_defs.specs.Journal.{Plans}
+use Rattle.plain_device.specs.Acted.{settled_act, paths_behind}
 use Rattle.track_image.specs.Image.{Image}
 use Rattle.device_outside.specs.Interaction.{Interaction, Done, and_then}
 use Rattle.device_defs.specs.declared.answers.Came.{Came}
 use Rattle.device_defs.specs.declared.answers.Came.TheVariants.{Ends, Checks, HalfOpen}
+use Rattle.device_defs.specs.declared.answers.Did.{Did}
+use Rattle.device_defs.specs.declared.answers.Stepped.{Stepped}
 use Rattle.device_defs.specs.declared.answers.Took.{Took}
 use Rattle.device_defs.specs.declared.answers.Took.TheVariants.{Whole, Opened, Unwritten}
-use Rattle.device_defs.specs.declared.usage.Usage.{Usage}
-use Rattle.device_defs.specs.declared.answers.Did.{Did}
-use Rattle.device_defs.specs.Background.{stage, work}
+use Rattle.device_defs.specs.Background.{work}
 use Rattle.device_defs.specs.Command as commands
-use Rattle.device_defs.specs.Command.{
-  Went,
-  Over,
-  On,
-  came_of_write,
-  went_by,
-  looked,
-  look,
-  goes_on,
-  follow,
-  came_out,
-  on_tracks,
-  answered_by,
-  command_at,
-  command_by,
-  command,
-  has_loss,
-}
+use Rattle.device_defs.specs.Command.{came_out, on_tracks, answered_by, command_at, command_by, command, has_loss}
 use Rattle.device_defs.specs.Contents.{Contents}
 use Rattle.device_defs.specs.Cutting as cutting
-use Rattle.device_defs.specs.Cutting.{reset_by, reset}
-use Rattle.plain_device.specs.Acted.{settled_act, paths_behind}
-use Rattle.device_defs.specs.Device.{Device, all_acted, event_ended, event_begun, with_store}
+use Rattle.device_defs.specs.Cutting.{half_cut, reset_by, reset}
+use Rattle.device_defs.specs.Device.{Device, all_acted, event, event_begun, quiet_event, with_store}
 use Rattle.device_defs.specs.Events as happened
-use Rattle.device_defs.specs.Events.{background, lose, losing}
-use Rattle.device_defs.specs.Image.{Imaged, Has, NoBytes, BadTrack}
-use Rattle.device_defs.specs.Losses.{over}
-use Rattle.device_defs.specs.Memory.{had_by}
-use Rattle.device_defs.specs.Outcomes.{Turn, ends_with, settles, checks, wrote_turn, usage_of, turned_by}
-use Rattle.device_defs.specs.Store.{Origin, OfCommand, OfCut, OfBackground, HalfWrite, Store, tracks_of, is_lost}
+use Rattle.device_defs.specs.Events.{background, command_ended, lose, losing, second, second_ended, second_of, second_turn}
+use Rattle.device_defs.specs.Outcomes.{Turn, ends_with, settles, checks, wrote_turn, turned_by}
+use Rattle.device_defs.specs.Owed.{hear, waiting_count}
+use Rattle.device_defs.specs.Second.{second_part}
+use Rattle.device_defs.specs.Store.{Origin, OfCommand, OfCut, OfBackground, HalfWrite, Store, tracks_of}
+use Rattle.device_laws.proofs.Had.{Had, had_done, had_try, had_if, had_then}
+use Rattle.device_laws.proofs.PoolWalks.{asks_had, hear_asks, ended_asks}
+use Rattle.subsystem_laws.proofs.HadAnswers.{Answers, FirstIs, IsAlong, IsTold, Says, any_had, follow_says, work_says}
 use Rattle.deck_run.proofs.Acting.{Brought, brought_none, all_brought, ended_brought, checked_brought, reset_brought}
-use Rattle.deck_run.proofs.Surely.{Surely, s_done, s_try, s_if, s_then}
-use Rattle.ckd_chain.specs.declared.progress.Settled.TheVariants.{Written}
-use Rattle.device_defs.specs.Events.{command_ended, second, second_ended, second_of, second_turn}
-use Rattle.device_defs.specs.Losses.{over}
-use Rattle.device_defs.specs.Orders as orders
-use Rattle.device_defs.specs.Orders.{given_up, lend, lent_to, with_tracks}
-use Rattle.deck_run.proofs.Surely.{surely_so}
-use Rattle.deck_run.proofs.StoreStays as stores
-use Rattle.deck_run.proofs.StoreStays.{Answers}
 
 -- Chains
 
-module _ (ccws : List Ccw) (fixed : Fixed) where
+module _ (Fits : List Ccw → Fixed → Type 0) where
+  -- of its words and what it goes by this is so
   abbrev pub IsOf : ChainState → Type 0
-  IsOf chain = (chain.ccws ≡ ccws) × (chain.fixed ≡ fixed)
+  IsOf chain = Fits chain.ccws chain.fixed
 
   opened_of : (chain : ChainState) (o : Option Stage) → IsOf chain → IsOf (opened_by chain o)
   opened_of chain None k = k
@@ -94,7 +70,7 @@ module _ (ccws : List Ccw) (fixed : Fixed) where
 
   stepped_at : (chain : ChainState) (i : Image) (stage : Stage) → IsOf chain → IsOf (stepped_by chain (Some i) stage).chain
   stepped_at chain i stages.Over k = k
-  stepped_at chain i (stages.Looks look) k = looked_of chain (look_on i.geometry i.track chain.at.stance (Rattle.ckd_chain.specs.Steps.word_of chain) look) k
+  stepped_at chain i (stages.Looks look) k = looked_of chain (look_on i.geometry i.track chain.at.stance (word_of chain) look) k
   stepped_at chain i (stages.Asks act) k = k
 
   stepped_off : (chain : ChainState) (stage : Stage) → IsOf chain → IsOf (stepped_by chain None stage).chain
@@ -103,296 +79,213 @@ module _ (ccws : List Ccw) (fixed : Fixed) where
   stepped_off chain (stages.Asks act) k = k
 
   stepped_of : (chain : ChainState) (i : Image) → IsOf chain → IsOf (stepped chain (Some i)).chain
-  stepped_of chain i k = stepped_at (opened chain) i (stage_of chain) (opened_of chain chain.stage k)
+  stepped_of chain i k = stepped_at (chain_opened chain) i (stage_of chain) (opened_of chain chain.stage k)
 
   stepped_alone : (chain : ChainState) → IsOf chain → IsOf (stepped chain None).chain
-  stepped_alone chain k = stepped_off (opened chain) (stage_of chain) (opened_of chain chain.stage k)
-
-  abbrev pub WentOf : Option Went → Type 0
-  WentOf None = ⊥
-  WentOf (Some (Over turn)) = IsOf turn.chain
-  WentOf (Some (On chain t)) = IsOf chain
-
-  abbrev pub TurnOf : Option Turn → Type 0
-  TurnOf None = ⊥
-  TurnOf (Some turn) = IsOf turn.chain
+  stepped_alone chain k = stepped_off (chain_opened chain) (stage_of chain) (opened_of chain chain.stage k)
 
   wrote_of : (chain : ChainState) (t : ℕ) (took : Took) → IsOf chain → IsOf (wrote_turn chain t took).chain
   wrote_of chain t Whole k = k
   wrote_of chain t Opened k = k
   wrote_of chain t Unwritten k = k
 
+  along : IsAlong (λ chain t. IsOf chain) (λ turn. IsOf turn.chain)
+  along = record {
+    checked = λ chain t fault k. k;
+    ended = λ chain t i e k is. stepped_of chain i k;
+    needs = λ chain t i q k is. stepped_of chain i k;
+    wrote = λ chain t i took k. wrote_of (stepped chain (Some i)).chain t took (stepped_of chain i k);
+    refused = λ chain t i k. stepped_of chain i k;
+  }
+
   -- of a program that runs, if one does
   abbrev pub HasOf : Option ChainState → Type 0
-  HasOf None = Unit {0}
-  HasOf (Some chain) = IsOf chain
+  HasOf o = IfSome o (λ chain. IsOf chain)
 
--- Stores
+-- Events: the notices bring no act, and neither does the end
 
-module _ {F P H R : Type 0} (c : Contents F P H R) (g : Geometry) (n : ℕ) (away : Option ℕ × ℕ) where
-  abbrev pub Is : Store F P H → Type 0
-  Is s = stores.Is c g n away s
+module _ {F P H R X : Type 0} (c : Contents F P H R) (q : Device F P H → X → Type 0)
+    (stays : (d : Device F P H) (z : Store F P H) (a : X) → z.acts ≡ d.store.acts → q d a → q (record d { store = z }) a) where
+  pub quiet_had : (d : Device F P H) (body : Device F P H → Interaction R Image (Device F P H) X) → Had (body (event_begun d)) q → Had (quiet_event c d body) q
+  quiet_had d body h =
+      had_then h
+      (λ y a k. had_then (asks_had (ended_asks c (λ z. z.acts ≡ y.store.acts) (λ z t e. e) (waiting_count c d.store) y.store refl))
+      (λ z _ e. had_done (stays y z a e k)))
 
-  -- From track to track
+  event_had : (d : Device F P H) (body : Device F P H → Interaction R Image (Device F P H) X) →
+      ((s : Store F P H) → s.acts ≡ [] → Had (body (record (event_begun d) { store = s })) q) → Had (event c d body) q
+  event_had d body h =
+      quiet_had d (λ z. and_then (hear c 960 z.store) (λ s _. body (record z { store = s })))
+      (had_then (asks_had (hear_asks c (λ z. z.acts ≡ []) (λ z t clean e. e) 960 (event_begun d).store refl)) (λ s _ e. h s e))
 
-  module _ (ccws : List Ccw) (fixed : Fixed) where
-    abbrev Goes : Interaction R Image (Store F P H) (Option Went) → Type 0
-    Goes i = Surely i (λ s w. Is s × WentOf ccws fixed w)
+-- Devices
 
-    went_write : (chain : ChainState) (t : ℕ) (s : Store F P H) (o : Option Took) → IsOf ccws fixed chain → Is s → Answers o →
-        Goes (had_by (came_of_write c chain t) s o)
-    went_write chain t s None of k h = absurd h
-    went_write chain t s (Some took) of k h = s_done (k, wrote_of ccws fixed chain t took of)
+module _ {F P H R : Type 0} (c : Contents F P H R) (Fits : List Ccw → Fixed → Type 0) (plans : Plans) (before : History) where
+  -- and these acts came to its history
+  pub record Stays (noted : List Act) (d : Device F P H) : Type 0 where
+    pub plans_are : d.plans ≡ plans
+    pub chain : HasOf Fits d.chain
+    pub acts : Brought before d.history noted
 
-    wents : (u : Usage) (first t : ℕ) (s : Store F P H) (i : Image) (chain : ChainState) (p : Progress) → IsOf ccws fixed chain → Is s →
-        Goes (went_by c u first t s i chain p)
-    wents u first t s i chain (progresses.Ended e) of k = s_done (k, of)
-    wents u first t s i chain (progresses.Need q) of k = s_done (k, of)
-    wents u first t s i chain (progresses.Write q e) of k = s_then (stores.writes c g n away s u first t i e k) (λ z o l. went_write chain t z o of l.0 l.1)
-    wents u first t s i chain (progresses.Local act) of k = s_done (k, of)
+  abbrev pub IsNoted : Device F P H → Type 0
+  IsNoted d = Stays d.store.acts d
 
-    looks_by : (chain : ChainState) (first t : ℕ) (s : Store F P H) (o : Option Imaged) → IsOf ccws fixed chain → Is s → Answers o →
-        Goes (had_by (looked c chain first t) s o)
-    looks_by chain first t s None of k h = absurd h
-    looks_by chain first t s (Some (Has i)) of k h =
-        s_try (wents (usage_of chain) first t s i (stepped chain (Some i)).chain (stepped chain (Some i)).progress (stepped_of ccws fixed chain i of) k)
-    looks_by chain first t s (Some (NoBytes fault)) of k h = s_done (k, of)
-    looks_by chain first t s (Some (BadTrack side)) of k h = s_done (k, of)
+  abbrev Leaves : {X : Type 0} → Interaction R Image (Device F P H) (Option X) → Type 0
+  Leaves i = Had i (λ d a. IsNoted d × Answers a)
 
-    looks : (chain : ChainState) (first t : ℕ) (s : Store F P H) → IsOf ccws fixed chain → Is s → Goes (look c chain first t s)
-    unfolding commands.look
-    looks chain first t s of k =
-        s_if (is_lost s t) (λ _. s_done (k, of)) (λ _. s_then (stores.images_had c g n away s (usage_of chain) t k)
-        (λ z o l. looks_by chain first t z o of l.0 l.1))
+  -- nothing came yet
+  abbrev Begins : Device F P H → Type 0
+  Begins d = (d.history ≡ before) × (d.store.acts ≡ [])
 
-    abbrev Follows : Interaction R Image (Store F P H) (Option Turn) → Type 0
-    Follows i = Surely i (λ s w. Is s × TurnOf ccws fixed w)
+  turns_by : (d : Device F P H) (path : ℕ) (chain : ChainState) (came : Came) → d.plans ≡ plans → IsOf Fits chain → Brought before d.history d.store.acts →
+      IsNoted (turned_by d path chain came)
+  turns_by d path chain (Ends e) same of came =
+      cond_both e.over _ _ IsNoted
+      (λ _. record { plans_are = same; chain = tt; acts = ended_brought before d.history d.store.acts e came })
+      (λ _. record { plans_are = same; chain = of; acts = ended_brought before d.history d.store.acts e came })
+  turns_by d path chain (Checks e) same of came =
+      record { plans_are = same; chain = tt; acts = checked_brought before d.history d.store.acts e came }
+  turns_by d path chain (HalfOpen t) same of came = record { plans_are = same; chain = of; acts = came }
 
-    followed : (m first : ℕ) (s : Store F P H) (w : Option Went) → Is s → WentOf ccws fixed w →
-        ((chain : ChainState) (t : ℕ) (z : Store F P H) → IsOf ccws fixed chain → Is z → Follows (follow c m first chain t z)) →
-        Follows (had_by (goes_on c (follow c m first)) s w)
-    followed m first s None k of f = absurd of
-    followed m first s (Some (Over turn)) k of f = s_done (k, of)
-    followed m first s (Some (On chain t)) k of f = f chain t s of k
+  outs : (d : Device F P H) (path : ℕ) (turn : Turn) → d.plans ≡ plans → IsOf Fits turn.chain → Brought before d.history d.store.acts →
+      Leaves (came_out c d path turn)
+  outs d path turn same of came = had_done (turns_by d path turn.chain turn.came same of came, tt)
 
-    follows : (m first : ℕ) (chain : ChainState) (t : ℕ) (s : Store F P H) → IsOf ccws fixed chain → Is s → Follows (follow c m first chain t s)
-    unfolding commands.follow
-    follows zero first chain t s of k = s_done (k, of)
-    follows (suc m) first chain t s of k = s_then (looks chain first t s of k) (λ z w l. followed m first z w l.0 l.1 (follows m first))
+  first_out : (d : Device F P H) (path : ℕ) (turn : Turn) → d.plans ≡ plans → IsOf Fits turn.chain → Begins d → Leaves (came_out c d path turn)
+  first_out d path turn same of begins = outs d path turn same of (brought_none before d.history d.store.acts begins.0 begins.1)
 
-    -- Devices
+  tracks : (d : Device F P H) (path : ℕ) (chain : ChainState) (s : Store F P H) (o : Option Turn) → d.plans ≡ plans → Says (λ turn. IsOf Fits turn.chain) o →
+      Begins d → Leaves (on_tracks c d path chain s o)
+  tracks d path chain s None same of begins = absurd of
+  tracks d path chain s (Some turn) same of begins = outs (with_store d s) path turn same of (all_brought before d.history s.acts begins.0)
 
-    module _ (plans : Plans) (before : History) where
-      -- and these acts came to its history
-      pub record Stays (noted : List Act) (d : Device F P H) : Type 0 where
-        pub is : Is d.store
-        pub plans_are : d.plans ≡ plans
-        pub chain : HasOf ccws fixed d.chain
-        pub acts : Brought before d.history noted
+  answers : (d : Device F P H) (path : ℕ) (chain : ChainState) (p : Progress) → d.plans ≡ plans → IsOf Fits chain → Begins d →
+      Leaves (answered_by c d path chain p)
+  answers d path chain (progresses.Ended e) same of begins = first_out d path (ends_with chain e) same of begins
+  answers d path chain (progresses.Local act) same of begins =
+      first_out (record d { paths = paths_behind d.paths path act }) path (settles chain (settled_act d.store.geometry d.paths path act)) same of begins
+  answers d path chain (progresses.Need q) same of begins = first_out d path (checks chain Equipment) same of begins
+  answers d path chain (progresses.Write q e) same of begins = first_out d path (checks chain Equipment) same of begins
 
-      abbrev pub IsNoted : Device F P H → Type 0
-      IsNoted d = Stays d.store.acts d
+  at_need : (d : Device F P H) (path : ℕ) (chain : ChainState) (o : Option ℕ) → d.plans ≡ plans → IsOf Fits chain → Begins d →
+      Leaves (command_at c d path chain o)
+  at_need d path chain (Some t) same of begins =
+      had_then (follow_says c (along Fits) (tracks_of d.store) t chain t d.store of) (λ s o l. tracks d path chain s o same l begins)
+  at_need d path chain None same of begins =
+      had_try (answers d path (stepped chain None).chain (stepped chain None).progress same (stepped_alone Fits chain of) begins)
 
-      abbrev Leaves : {X : Type 0} → Interaction R Image (Device F P H) (Option X) → Type 0
-      Leaves i = Surely i (λ d a. IsNoted d × Answers a)
+  by_running : (d : Device F P H) (r : Option OpenEntry) (o : Option ChainState) → Answers r → Answers o → d.plans ≡ plans → HasOf Fits o → Begins d →
+      Leaves (command_by c d r o)
+  by_running d None o runs has same of begins = absurd runs
+  by_running d (Some r) None runs has same of begins = absurd has
+  by_running d (Some r) (Some chain) runs has same of begins =
+      had_if (has_loss r.acts) (λ _. first_out d r.path (checks chain Equipment) same of begins)
+      (λ _. at_need d r.path chain (need_of chain) same of begins)
 
-      -- nothing came yet
-      abbrev Begins : Device F P H → Type 0
-      Begins d = (d.history ≡ before) × (d.store.acts ≡ [])
+  noted_on : (d : Device F P H) (z : Store F P H) → z.acts ≡ d.store.acts → IsNoted d → IsNoted (record d { store = z })
+  noted_on d z e k =
+      record { plans_are = k.plans_are; chain = k.chain; acts = subst (λ (acts : List Act). Brought before d.history acts) (sym e) k.acts }
 
-      turns_by : (d : Device F P H) (path : ℕ) (chain : ChainState) (came : Came) → Is d.store → d.plans ≡ plans → IsOf ccws fixed chain →
-          Brought before d.history d.store.acts → IsNoted (turned_by d path chain came)
-      turns_by d path chain (Ends e) is same of came =
-          cond_both e.over _ _ IsNoted
-          (λ _. record { is = is; plans_are = same; chain = tt; acts = ended_brought before d.history d.store.acts e came })
-          (λ _. record { is = is; plans_are = same; chain = of; acts = ended_brought before d.history d.store.acts e came })
-      turns_by d path chain (Checks e) is same of came =
-          record { is = is; plans_are = same; chain = tt; acts = checked_brought before d.history d.store.acts e came }
-      turns_by d path chain (HalfOpen t) is same of came = record { is = is; plans_are = same; chain = of; acts = came }
+  -- a command of the program that runs
+  pub command_stays : (d : Device F P H) → Answers d.history.running → Answers d.chain → d.plans ≡ plans → HasOf Fits d.chain → d.history ≡ before →
+      Leaves (command c d)
+  unfolding commands.command
+  command_stays d runs has same of at =
+      had_try (event_had c (λ y (a : Option Stepped). IsNoted y × Answers a) (λ y z a e k. (noted_on y z e k.0, k.1)) d
+      (λ z. command_by c z z.history.running z.chain)
+      (λ s none. by_running (record (event_begun d) { store = s }) d.history.running d.chain runs has same of (at, none)))
 
-      outs : (d : Device F P H) (path : ℕ) (turn : Turn) → Is d.store → d.plans ≡ plans → IsOf ccws fixed turn.chain →
-          Brought before d.history d.store.acts → Leaves (came_out c d path turn)
-      outs d path turn is same of came = s_done (turns_by d path turn.chain turn.came is same of came, tt)
+  -- work in the background
+  any_told : IsTold (λ (d : Did). Unit {0}) (λ t. Unit {0})
+  any_told = record {
+    nothing = tt;
+    fault = λ side. tt;
+    bad = λ side. tt;
+    recovered = λ t at. tt;
+    half = λ t at. tt;
+    copied = λ t at. tt;
+    staged = λ t at. tt;
+    skipped = λ t at. tt;
+    destaged = λ t at. tt;
+  }
 
-      first_out : (d : Device F P H) (path : ℕ) (turn : Turn) → Is d.store → d.plans ≡ plans → IsOf ccws fixed turn.chain → Begins d →
-          Leaves (came_out c d path turn)
-      first_out d path turn is same of begins = outs d path turn is same of (brought_none before d.history d.store.acts begins.0 begins.1)
+  any_first : (l : List ℕ) → FirstIs (λ t. Unit {0}) l
+  any_first [] = tt
+  any_first (t ∷ ts) = tt
 
-      tracks : (d : Device F P H) (path : ℕ) (chain : ChainState) (s : Store F P H) (o : Option Turn) → d.plans ≡ plans → Is s → TurnOf ccws fixed o →
-          Begins d → Leaves (on_tracks c d path chain s o)
-      tracks d path chain s None same is of begins = absurd of
-      tracks d path chain s (Some turn) same is of begins =
-          outs (with_store d s) path turn is same of (all_brought before d.history s.acts begins.0)
+  has_answer : (o : Option Did) → Says (λ (d : Did). Unit {0}) o → Answers o
+  has_answer (Some d) h = h
+  has_answer None h = h
 
-      answers : (d : Device F P H) (path : ℕ) (chain : ChainState) (p : Progress) → Is d.store → d.plans ≡ plans → IsOf ccws fixed chain → Begins d →
-          Leaves (answered_by c d path chain p)
-      answers d path chain (progresses.Ended e) is same of begins = first_out d path (ends_with chain e) is same of begins
-      answers d path chain (progresses.Local act) is same of begins =
-          first_out (record d { paths = paths_behind d.paths path act }) path (settles chain (settled_act d.store.geometry d.paths path act)) is same of begins
-      answers d path chain (progresses.Need q) is same of begins = first_out d path (checks chain Equipment) is same of begins
-      answers d path chain (progresses.Write q e) is same of begins = first_out d path (checks chain Equipment) is same of begins
+  pub background_stays : (d : Device F P H) → d.plans ≡ plans → HasOf Fits d.chain → d.history ≡ before → Leaves (background c d)
+  unfolding happened.background
+  background_stays d same of at =
+      event_had c (λ y (a : Option Did). IsNoted y × Answers a) (λ y z a e k. (noted_on y z e k.0, k.1)) d
+      (λ z. and_then (work c z.store) (λ s did. Done (with_store z s) did))
+      (λ s none. had_then (work_says c any_told s (λ t below. tt) (any_first s.queue))
+      (λ z did h. had_done (record { plans_are = same; chain = of; acts = all_brought before d.history z.acts at }, has_answer did h)))
 
-      at_need : (d : Device F P H) (path : ℕ) (chain : ChainState) (o : Option ℕ) → Is d.store → d.plans ≡ plans → IsOf ccws fixed chain → Begins d →
-          Leaves (command_at c d path chain o)
-      at_need d path chain (Some t) is same of begins =
-          s_then (follows (tracks_of d.store) t chain t d.store of is) (λ s o l. tracks d path chain s o same l.0 l.1 begins)
-      at_need d path chain None is same of begins =
-          s_try (answers d path (stepped chain None).chain (stepped chain None).progress is same (stepped_alone ccws fixed chain of) begins)
+  -- a loss, which brings nothing but these acts
+  abbrev pub HasNoted : Device F P H → Type 0
+  HasNoted y = IsNoted y × (y.history ≡ all_acted before y.store.acts)
 
-      by_chain : (d : Device F P H) (o : OpenEntry) (chain : ChainState) → Is d.store → d.plans ≡ plans → IsOf ccws fixed chain → Begins d →
-          Leaves (command_by c d (Some o) (Some chain))
-      by_chain d o chain is same of begins =
-          s_if (has_loss o.acts) (λ _. first_out d o.path (checks chain Equipment) is same of begins)
-          (λ _. at_need d o.path chain (need_of chain) is same of begins)
+  pub lose_stays : (d : Device F P H) (loss : Loss) → d.plans ≡ plans → HasOf Fits d.chain → d.history ≡ before → Had (lose c d loss) (λ y _. HasNoted y)
+  unfolding happened.lose
+  lose_stays d loss same of at =
+      event_had c (λ y (_ : Unit {0}). HasNoted y)
+      (λ y z a e k. (noted_on y z e k.0, k.1 ∙ ap (λ (acts : List Act). all_acted before acts) (sym e))) d
+      (λ z. and_then (losing c z.store loss) (λ s _. Done (with_store z s) (tt {0})))
+      (λ s none. had_then (any_had (losing c s loss))
+      (λ z _ _. had_done
+      (record { plans_are = same; chain = of; acts = all_brought before d.history z.acts at }, ap (λ (h : History). all_acted h z.acts) at)))
 
-      by_running : (d : Device F P H) (r : Option OpenEntry) (o : Option ChainState) → Answers r → Answers o → Is d.store → d.plans ≡ plans →
-          HasOf ccws fixed o → Begins d → Leaves (command_by c d r o)
-      by_running d None o runs has is same of begins = absurd runs
-      by_running d (Some r) None runs has is same of begins = absurd has
-      by_running d (Some r) (Some chain) runs has is same of begins = by_chain d r chain is same of begins
+  -- a reset
+  resets_by : (d : Device F P H) (path : ℕ) (r : Option OpenEntry) → Stays [] d → Had (reset_by c d path r) (λ y _. Stays [] y)
+  resets_by d path (Some o) k =
+      had_if (o.path == path)
+      (λ _. had_then (any_had (half_cut c d.store d.store.half))
+      (λ s _ _. had_done (record { plans_are = k.plans_are; chain = tt; acts = reset_brought before d.history path _ k.acts })))
+      (λ _. had_done (record { plans_are = k.plans_are; chain = k.chain; acts = reset_brought before d.history path 0 k.acts }))
+  resets_by d path None k =
+      had_if (has_used d.history path)
+      (λ _. had_done (record { plans_are = k.plans_are; chain = k.chain; acts = reset_brought before d.history path 0 k.acts }))
+      (λ _. had_done k)
 
-      ended_noted : {X : Type 0} (old d : Device F P H) (a : X) → IsNoted d → Surely (event_ended c old d a) (λ y b. IsNoted y × (b ≡ a))
-      ended_noted old d a k =
-          s_then (stores.ends c g n away d.store.acts _ d.store (k.is, refl)) (λ z _ l. s_done (
-            record {
-              is = l.0;
-              plans_are = k.plans_are;
-              chain = k.chain;
-              acts = subst (λ (acts : List Act). Brought before d.history acts) (sym l.1) k.acts;
-            },
-            refl,
-          ))
+  pub reset_stays : (d : Device F P H) (path : ℕ) → Stays [] d → Had (reset c d path) (λ y _. Stays [] y)
+  unfolding cutting.reset
+  reset_stays d path k = resets_by d path d.history.running k
 
-      ended_by : {X : Type 0} (old d : Device F P H) (a : Option X) → IsNoted d → Answers a → Leaves (event_ended c old d a)
-      ended_by old d a k h = surely_so (λ y b l. (l.0, subst Answers (sym l.1) h)) (ended_noted old d a k)
+  -- the second part of a write
+  abbrev pub Notes : {X : Type 0} → Interaction R Image (Device F P H) X → Type 0
+  Notes i = Had i (λ y _. IsNoted y)
 
-      -- a command of the program that runs
-      pub command_stays : (d : Device F P H) → Answers d.history.running → Answers d.chain → Is d.store → d.plans ≡ plans → HasOf ccws fixed d.chain →
-          d.history ≡ before → Leaves (command c d)
-      unfolding commands.command
-      command_stays d runs has is same of at =
-          s_try (s_then (s_then (stores.hears c g n away [] 960 (event_begun d).store (is, refl))
-          (λ s _ l. by_running (record (event_begun d) { store = s }) d.history.running d.chain runs has l.0 same of (at, l.1)))
-          (λ y a l. ended_by d y a l.0 l.1))
+  turn_of : (chain : ChainState) (done : Bool) → IsOf Fits chain → IsOf Fits (second_turn c chain done).chain
+  turn_of chain done of =
+      cond_both done (settles chain Written) (checks chain Equipment) (λ (turn : Turn). IsOf Fits turn.chain) (λ _. of) (λ _. of)
 
-      -- work in the background
-      worked_on : (d : Device F P H) → Is d.store → d.plans ≡ plans → HasOf ccws fixed d.chain → d.history ≡ before →
-          Leaves (and_then (work c d.store) (λ z a. Done (with_store d z) a))
-      worked_on d is same of at = s_then (stores.does_work c g n away d.store is) (λ z a m. left_so z a m.0 m.1) where
-        left_so : (z : Store F P H) (a : Option Did) → Is z → Answers a → Leaves (Done (with_store d z) a)
-        left_so z a k h = s_done (record { is = k; plans_are = same; chain = of; acts = all_brought before d.history z.acts at }, h)
+  command_over : (d : Device F P H) (t : ℕ) (r : Option OpenEntry) (o : Option ChainState) (done : Bool) → IsNoted d → d.chain ≡ o →
+      Notes (command_ended c d t r o done)
+  command_over d t None o done k at = had_done k
+  command_over d t (Some r) None done k at = had_done k
+  command_over d t (Some r) (Some chain) done k at =
+      let turn = second_turn c chain done in
+      had_done (turns_by d r.path turn.chain turn.came k.plans_are (turn_of chain done (subst (HasOf Fits) at k.chain)) k.acts)
 
-      pub background_stays : (d : Device F P H) → Is d.store → d.plans ≡ plans → HasOf ccws fixed d.chain → d.history ≡ before → Leaves (background c d)
-      unfolding happened.background
-      background_stays d is same of at =
-          s_then (s_then (stores.hears c g n away [] 960 (event_begun d).store (is, refl))
-          (λ s _ l. worked_on (record (event_begun d) { store = s }) l.0 same of at))
-          (λ y a l. ended_by d y a l.0 l.1)
+  second_over : (d : Device F P H) (t : ℕ) (origin : Origin) (done : Bool) → IsNoted d → Notes (second_ended c d t origin done)
+  second_over d t (OfCommand bypass e) done k = command_over d t d.history.running d.chain done k refl
+  second_over d t (OfCut bypass) done k = had_done k
+  second_over d t OfBackground done k = had_done k
 
-      -- a loss, which brings nothing but these acts
-      abbrev pub HasNoted : Device F P H → Type 0
-      HasNoted y = IsNoted y × (y.history ≡ all_acted before y.store.acts)
+  seconds_of : (d : Device F P H) (o : Option (HalfWrite H)) → d.plans ≡ plans → HasOf Fits d.chain → Begins d → Notes (second_of c d o)
+  seconds_of d None same of begins =
+      had_done (record { plans_are = same; chain = of; acts = brought_none before d.history d.store.acts begins.0 begins.1 })
+  seconds_of d (Some h) same of begins =
+      had_then (any_had (second_part c d.store h))
+      (λ s done _. second_over (with_store d s) h.track h.origin done
+      (record { plans_are = same; chain = of; acts = all_brought before d.history s.acts begins.0 }))
 
-      loses_on : (d : Device F P H) (loss : Loss) → Is d.store → d.plans ≡ plans → HasOf ccws fixed d.chain → d.history ≡ before →
-          Surely (and_then (losing c d.store loss) (λ s _. Done (with_store d s) (tt {0}))) (λ y _. HasNoted y)
-      loses_on d loss is same of at =
-          s_then (stores.loses c g n away d.store loss is)
-          (λ z _ m. s_done
-          (record { is = m; plans_are = same; chain = of; acts = all_brought before d.history z.acts at }, ap (λ (h : History). all_acted h z.acts) at))
-
-      ended_so : {X : Type 0} (old d : Device F P H) (a : X) → HasNoted d → Surely (event_ended c old d a) (λ y _. HasNoted y)
-      ended_so old d a k =
-          s_then (stores.ends c g n away d.store.acts _ d.store (k.0.is, refl)) (λ z _ l. s_done (
-            record {
-              is = l.0;
-              plans_are = k.0.plans_are;
-              chain = k.0.chain;
-              acts = subst (λ (acts : List Act). Brought before d.history acts) (sym l.1) k.0.acts;
-            },
-            k.1 ∙ ap (λ (acts : List Act). all_acted before acts) (sym l.1),
-          ))
-
-      pub lose_stays : (d : Device F P H) (loss : Loss) → Is d.store → d.plans ≡ plans → HasOf ccws fixed d.chain → d.history ≡ before →
-          Surely (lose c d loss) (λ y _. HasNoted y)
-      unfolding happened.lose
-      lose_stays d loss is same of at =
-          s_then (s_then (stores.hears c g n away [] 960 (event_begun d).store (is, refl))
-          (λ s _ l. loses_on (record (event_begun d) { store = s }) loss l.0 same of at))
-          (λ y a l. ended_so d y a l)
-
-      -- a reset
-      resets_by : (d : Device F P H) (path : ℕ) (r : Option OpenEntry) → Stays [] d → Surely (reset_by c d path r) (λ y _. Stays [] y)
-      resets_by d path (Some o) k =
-          s_if (o.path == path)
-          (λ _. s_then (stores.halves_cut c g n away d.store d.store.half k.is)
-          (λ s _ l. s_done (record { is = l; plans_are = k.plans_are; chain = tt; acts = reset_brought before d.history path _ k.acts })))
-          (λ _. s_done (record { is = k.is; plans_are = k.plans_are; chain = k.chain; acts = reset_brought before d.history path 0 k.acts }))
-      resets_by d path None k =
-          s_if (has_used d.history path)
-          (λ _. s_done (record { is = k.is; plans_are = k.plans_are; chain = k.chain; acts = reset_brought before d.history path 0 k.acts }))
-          (λ _. s_done k)
-
-      pub reset_stays : (d : Device F P H) (path : ℕ) → Stays [] d → Surely (reset c d path) (λ y _. Stays [] y)
-      unfolding cutting.reset
-      reset_stays d path k = resets_by d path d.history.running k
-
-      -- the second part of a write
-      abbrev pub Notes : {X : Type 0} → Interaction R Image (Device F P H) X → Type 0
-      Notes i = Surely i (λ y _. IsNoted y)
-
-      turn_of : (chain : ChainState) (done : Bool) → IsOf ccws fixed chain → IsOf ccws fixed (second_turn c chain done).chain
-      turn_of chain done of =
-          cond_both done (settles chain Written) (checks chain Equipment) (λ (turn : Turn). IsOf ccws fixed turn.chain) (λ _. of) (λ _. of)
-
-      is_so : (d : Device F P H) → Is d.store → d.plans ≡ plans → HasOf ccws fixed d.chain → Brought before d.history d.store.acts → IsNoted d
-      is_so d is same of came = record { is = is; plans_are = same; chain = of; acts = came }
-
-      command_over : (d : Device F P H) (t : ℕ) (r : Option OpenEntry) (o : Option ChainState) (done : Bool) → IsNoted d → d.chain ≡ o →
-          Notes (command_ended c d t r o done)
-      command_over d t None None done k at = s_done k
-      command_over d t None (Some chain) done k at = s_done k
-      command_over d t (Some r) None done k at = s_done k
-      command_over d t (Some r) (Some chain) done k at =
-          let turn = second_turn c chain done in
-          s_done (turns_by d r.path turn.chain turn.came k.is k.plans_are (turn_of chain done (subst (HasOf ccws fixed) at k.chain)) k.acts)
-
-      second_over : (d : Device F P H) (t : ℕ) (origin : Origin) (done : Bool) → IsNoted d → Notes (second_ended c d t origin done)
-      second_over d t (OfCommand bypass e) done k = command_over d t d.history.running d.chain done k refl
-      second_over d t (OfCut bypass) done k = s_done k
-      second_over d t OfBackground done k = s_done k
-
-      seconds_of : (d : Device F P H) (o : Option (HalfWrite H)) → Is d.store → d.plans ≡ plans → HasOf ccws fixed d.chain → Begins d → Notes (second_of c d o)
-      seconds_of d None is same of begins = s_done (is_so d is same of (brought_none before d.history d.store.acts begins.0 begins.1))
-      seconds_of d (Some h) is same of begins =
-          s_then (stores.second_parts c g n away d.store h is)
-          (λ s done l. second_over (with_store d s) h.track h.origin done
-          (is_so (with_store d s) l same of (all_brought before d.history s.acts begins.0)))
-
-      pub second_stays : (d : Device F P H) → Is d.store → d.plans ≡ plans → HasOf ccws fixed d.chain → d.history ≡ before → Notes (second c d)
-      unfolding happened.second
-      second_stays d is same of at =
-          s_then (s_then (stores.hears c g n away [] 960 (event_begun d).store (is, refl))
-          (λ s _ l. seconds_of (record (event_begun d) { store = s }) s.half l.0 same of (at, l.1)))
-          (λ y a l. surely_so (λ z b m. m.0) (ended_noted d y a l))
-
-      -- a device that is lent has the history that it had
-      pub record HasGone (to : ℕ) (y : Device F P H) : Type 0 where
-        pub is : stores.Is c g n (Some to, away.1) y.store
-        pub plans_are : y.plans ≡ plans
-        pub chain : HasOf ccws fixed y.chain
-        pub history : y.history ≡ before
-
-      gone_over : {X : Type 0} (to : ℕ) (old d : Device F P H) (a : X) → HasGone to d → Surely (event_ended c old d a) (λ y _. HasGone to y)
-      gone_over to old d a k =
-          s_then (stores.ends c g n (Some to, away.1) d.store.acts _ d.store (k.is, refl))
-          (λ z _ m. s_done (record { is = m.0; plans_are = k.plans_are; chain = k.chain; history = k.history }))
-
-      goes : (d : Device F P H) (to : ℕ) → Is d.store → d.plans ≡ plans → HasOf ccws fixed d.chain → d.history ≡ before →
-          Surely {R = R} {I = Image} (Done (with_tracks d (lent_to (over (tracks_of d.store) (given_up c) d.store) to)) (tt {0})) (λ y _. HasGone to y)
-      goes d to is same of at =
-          s_done (record { is = stores.lent_is c g n away d.store to is; plans_are = same; chain = of; history = at })
-
-      pub lend_stays : (d : Device F P H) (to : ℕ) → Is d.store → d.plans ≡ plans → HasOf ccws fixed d.chain → d.history ≡ before →
-          Surely (lend c d to) (λ y _. HasGone to y)
-      unfolding orders.lend
-      lend_stays d to is same of at = s_then (goes (event_begun d) to is same of at) (λ y a l. gone_over to d y a l)
+  pub second_stays : (d : Device F P H) → d.plans ≡ plans → HasOf Fits d.chain → d.history ≡ before → Notes (second c d)
+  unfolding happened.second
+  second_stays d same of at =
+      event_had c (λ y _. IsNoted y) (λ y z a e k. noted_on y z e k) d (λ z. second_of c z z.store.half)
+      (λ s none. seconds_of (record (event_begun d) { store = s }) s.half same of (at, none))

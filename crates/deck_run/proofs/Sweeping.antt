@@ -292,7 +292,7 @@ module _ {V : Type 0} {G : Ghosts V} where
       let k : NoKeep = record {} in
       let l : KeptOwn (device_of x) (device_of y) × ((device_of y).history ≡ all_acted (device_of x).history (device_of y).store.acts) =
       ran_so (λ z u. KeptOwn (device_of x) z × (z.history ≡ all_acted (device_of x).history z.store.acts)) (asked k)
-      (lose_owns (device_of x) loss (device_of x).chain refl own) in
+      (lose_owns (device_of x) own loss) in
       record { own = l.0.0; number = same; sides = asked_sides x y same l.0.1 (ran_there (asked k)); history = l.1 }
 
   -- the power is lost

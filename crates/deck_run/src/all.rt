@@ -2,7 +2,6 @@
 
 ghost use Rattle.std.specs.Prelude.{◌≡◌, ◌<◌, ◌++◌, get_or, length, map, slice_index_or, IfOk, OnOk};
 ghost use Rattle.run_report.specs.Events.{lines_of};
-ghost use Rattle.subsystem_core.specs.Devices.{numbers_of};
 ghost use Rattle.subsystem_defs.specs.Happening.{happens};
 ghost use Rattle.subsystem_defs.specs.Lines.{Once, logged};
 ghost use Rattle.subsystem_defs.specs.Subsystem as runs;
@@ -10,6 +9,7 @@ ghost use Rattle.deck_run.specs.Loosening.{is_quiet};
 ghost use Rattle.deck_run.specs.Owning.{AreOwn};
 ghost use Rattle.deck_run.specs.Standing.{StandsAs};
 ghost use Rattle.deck_run.specs.Sweeping.{IsOpenOfAll, TellsAll, gone_lines, gone_one, no_stock, order_end, order_of, stock_of};
+ghost use Rattle.subsystem_core.specs.Frames.{HasSameDevices};
 
 use crate::event::chains_stand;
 use crate::loosed::{acts_when, all_loosed, is_quiet, loose_of};
@@ -75,7 +75,7 @@ fn order_of(e: &Event) -> Order
 fn do_all<V: Volume>(sub: &mut Subsystem<V>, e: Event) -> Result<End, NoMemory>
     requires on { IsOpenOfAll e }
     requires own { AreOwn sub.old.devices.items }
-    ensures numbers { numbers_of sub.new.devices.items ≡ numbers_of sub.old.devices.items }
+    ensures numbers { HasSameDevices sub.old sub.new }
     ensures own { OnOk result (AreOwn sub.new.devices.items) }
     ensures told { (run : runs.Subsystem) → StandsAs sub.old run → IfOk result (λ end. TellsAll sub.old sub.new e run end) }
     ensures happened { (run : runs.Subsystem) → StandsAs sub.old run
@@ -148,7 +148,7 @@ pub(crate) fn order_all<V: Volume>(
 ) -> Result<(), NoMemory>
     requires on { IsOpenOfAll e }
     requires own { AreOwn sub.old.devices.items }
-    ensures numbers { numbers_of sub.new.devices.items ≡ numbers_of sub.old.devices.items }
+    ensures numbers { HasSameDevices sub.old sub.new }
     ensures own { OnOk result (AreOwn sub.new.devices.items) }
     ensures stands { (run : runs.Subsystem) → StandsAs sub.old run → OnOk result (StandsAs sub.new (happens run e).behind) }
     ensures lines { (run : runs.Subsystem) → StandsAs sub.old run → OnOk result (report.new ≡ report.old ++ lines_of (logged (Once e) (happens run e))) }

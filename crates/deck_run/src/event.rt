@@ -1,8 +1,6 @@
-ghost use Rattle.std.specs.Prelude.{◌≡◌, IfOk, IfSome, OnOk, true};
+ghost use Rattle.std.specs.Prelude.{IfOk, IfSome, OnOk};
 ghost use Rattle.ckd_chain.specs.Facts.{IsChain};
-ghost use Rattle.device_outside.specs.Lists.{is_in};
-ghost use Rattle.subsystem_core.specs.Devices.{numbers_of};
-ghost use Rattle.subsystem_core.specs.Places.{may_come};
+ghost use Rattle.subsystem_core.specs.Frames.{HasDevice, HasSameDevices};
 ghost use Rattle.subsystem_defs.specs.Happening.{happens};
 ghost use Rattle.subsystem_defs.specs.Subsystem as runs;
 ghost use Rattle.deck_run.specs.Owning.{AreOwn, ChainsStand, IsOpenOn};
@@ -41,10 +39,10 @@ pub(crate) fn do_event<V: Volume>(
     d: DeviceNo,
     e: Event,
 ) -> Result<EventEnd, NoMemory>
-    requires here { is_in d (numbers_of sub.old.devices.items) ≡ true }
+    requires here { HasDevice sub.old d }
     requires on { IsOpenOn d e }
     requires own { AreOwn sub.old.devices.items }
-    ensures numbers { numbers_of sub.new.devices.items ≡ numbers_of sub.old.devices.items }
+    ensures numbers { HasSameDevices sub.old sub.new }
     ensures own { OnOk result (AreOwn sub.new.devices.items) }
     ensures shows { IfOk result (ShowsEnd sub.new d) }
     ensures told { (run : runs.Subsystem) → StandsAs sub.old run → OnOk result (IsTold sub.old sub.new e d run) }

@@ -1,10 +1,10 @@
 ghost use Rattle.std.specs.Prelude.{◌≡◌, ◌++◌, IfOk, OnOk, true};
-ghost use Rattle.device_outside.specs.Lists.{is_in};
 ghost use Rattle.report_text.specs.declared.answers.BackAnswer.TheVariants as none;
 ghost use Rattle.report_text.specs.declared.event.Happened.TheVariants as did;
 ghost use Rattle.run_report.specs.Answers.{order_answer, start_answer};
 ghost use Rattle.run_report.specs.Events.{running_in, work_told};
 ghost use Rattle.subsystem_core.specs.Devices.{numbers_of};
+ghost use Rattle.subsystem_core.specs.Frames.{HasDevice, HasSameDevices};
 ghost use Rattle.subsystem_defs.specs.Happening.{happens};
 ghost use Rattle.subsystem_defs.specs.Lines.{asked_by, backs, is_busy, is_settled, last_behind, line_logged, run_logged, steps};
 ghost use Rattle.subsystem_defs.specs.Subsystem as runs;
@@ -43,9 +43,9 @@ fn step<V: Volume>(
     d: DeviceNo,
     asker: Asker,
 ) -> Result<(), NoMemory>
-    requires here { is_in d (numbers_of sub.old.devices.items) ≡ true }
+    requires here { HasDevice sub.old d }
     requires own { AreOwn sub.old.devices.items }
-    ensures numbers { numbers_of sub.new.devices.items ≡ numbers_of sub.old.devices.items }
+    ensures numbers { HasSameDevices sub.old sub.new }
     ensures own { OnOk result (AreOwn sub.new.devices.items) }
     ensures stands { (run : runs.Subsystem) → StandsAs sub.old run → OnOk result (StandsAs sub.new (happens run (Event.Step d)).behind) }
     ensures lines { (run : runs.Subsystem) → StandsAs sub.old run
@@ -65,9 +65,9 @@ fn work<V: Volume>(
     report: &mut RunRecord,
     d: DeviceNo,
 ) -> Result<bool, NoMemory>
-    requires here { is_in d (numbers_of sub.old.devices.items) ≡ true }
+    requires here { HasDevice sub.old d }
     requires own { AreOwn sub.old.devices.items }
-    ensures numbers { numbers_of sub.new.devices.items ≡ numbers_of sub.old.devices.items }
+    ensures numbers { HasSameDevices sub.old sub.new }
     ensures own { OnOk result (AreOwn sub.new.devices.items) }
     ensures stands { (run : runs.Subsystem) → StandsAs sub.old run → OnOk result (StandsAs sub.new (happens run (Event.Back d)).behind) }
     ensures lines { (run : runs.Subsystem) → StandsAs sub.old run
@@ -88,9 +88,9 @@ fn back<V: Volume>(
     report: &mut RunRecord,
     d: DeviceNo,
 ) -> Result<(), NoMemory>
-    requires here { is_in d (numbers_of sub.old.devices.items) ≡ true }
+    requires here { HasDevice sub.old d }
     requires own { AreOwn sub.old.devices.items }
-    ensures numbers { numbers_of sub.new.devices.items ≡ numbers_of sub.old.devices.items }
+    ensures numbers { HasSameDevices sub.old sub.new }
     ensures own { OnOk result (AreOwn sub.new.devices.items) }
     ensures stands { (run : runs.Subsystem) → StandsAs sub.old run → OnOk result (StandsAs sub.new (happens run (Event.Back d)).behind) }
     ensures lines { (run : runs.Subsystem) → StandsAs sub.old run
@@ -108,9 +108,9 @@ fn settle<V: Volume>(
     report: &mut RunRecord,
     d: DeviceNo,
 ) -> Result<(), NoMemory>
-    requires here { is_in d (numbers_of sub.old.devices.items) ≡ true }
+    requires here { HasDevice sub.old d }
     requires own { AreOwn sub.old.devices.items }
-    ensures numbers { numbers_of sub.new.devices.items ≡ numbers_of sub.old.devices.items }
+    ensures numbers { HasSameDevices sub.old sub.new }
     ensures own { OnOk result (AreOwn sub.new.devices.items) }
     ensures stands { (run : runs.Subsystem) → StandsAs sub.old run → OnOk result (StandsAs sub.new (last_behind run (backs 2946 d run))) }
     ensures lines { (run : runs.Subsystem) → StandsAs sub.old run → OnOk result (report.new ≡ report.old ++ all_lines (backs 2946 d run)) }
@@ -134,9 +134,9 @@ fn start<V: Volume>(
     path: PathNo,
     d: DeviceNo,
 ) -> Result<(), NoMemory>
-    requires here { is_in d (numbers_of sub.old.devices.items) ≡ true }
+    requires here { HasDevice sub.old d }
     requires own { AreOwn sub.old.devices.items }
-    ensures numbers { numbers_of sub.new.devices.items ≡ numbers_of sub.old.devices.items }
+    ensures numbers { HasSameDevices sub.old sub.new }
     ensures own { OnOk result (AreOwn sub.new.devices.items) }
     ensures stands { (run : runs.Subsystem) → StandsAs sub.old run → OnOk result (StandsAs sub.new (happens run (Event.Start path d)).behind) }
     ensures lines { (run : runs.Subsystem) → StandsAs sub.old run
@@ -159,9 +159,9 @@ fn reset<V: Volume>(
     path: PathNo,
     d: DeviceNo,
 ) -> Result<(), NoMemory>
-    requires here { is_in d (numbers_of sub.old.devices.items) ≡ true }
+    requires here { HasDevice sub.old d }
     requires own { AreOwn sub.old.devices.items }
-    ensures numbers { numbers_of sub.new.devices.items ≡ numbers_of sub.old.devices.items }
+    ensures numbers { HasSameDevices sub.old sub.new }
     ensures own { OnOk result (AreOwn sub.new.devices.items) }
     ensures stands { (run : runs.Subsystem) → StandsAs sub.old run → OnOk result (StandsAs sub.new (happens run (Event.Reset path d)).behind) }
     ensures lines { (run : runs.Subsystem) → StandsAs sub.old run
@@ -184,10 +184,10 @@ fn order_one<V: Volume>(
     e: Event,
     order: Order,
 ) -> Result<(), NoMemory>
-    requires here { is_in d (numbers_of sub.old.devices.items) ≡ true }
+    requires here { HasDevice sub.old d }
     requires on { IsOpenOn d e }
     requires own { AreOwn sub.old.devices.items }
-    ensures numbers { numbers_of sub.new.devices.items ≡ numbers_of sub.old.devices.items }
+    ensures numbers { HasSameDevices sub.old sub.new }
     ensures own { OnOk result (AreOwn sub.new.devices.items) }
     ensures stands { (run : runs.Subsystem) → StandsAs sub.old run → OnOk result (StandsAs sub.new (happens run e).behind) }
     ensures lines { (run : runs.Subsystem) → StandsAs sub.old run
@@ -203,7 +203,7 @@ fn order_one<V: Volume>(
 
 /// Whether a program runs on a device, or a half write is open.
 fn is_busy<V: Volume>(sub: &Subsystem<V>, d: DeviceNo) -> bool
-    requires { is_in d (numbers_of sub.now.devices.items) ≡ true }
+    requires { HasDevice sub.now d }
     ensures { (run : runs.Subsystem) → StandsAs sub.now run → result ≡ is_busy (runs.mounted_in run.mounted d) }
 {
     let device = sub.device(d);
@@ -219,9 +219,9 @@ fn steps<V: Volume>(
     report: &mut RunRecord,
     d: DeviceNo,
 ) -> Result<(), NoMemory>
-    requires here { is_in d (numbers_of sub.old.devices.items) ≡ true }
+    requires here { HasDevice sub.old d }
     requires own { AreOwn sub.old.devices.items }
-    ensures numbers { numbers_of sub.new.devices.items ≡ numbers_of sub.old.devices.items }
+    ensures numbers { HasSameDevices sub.old sub.new }
     ensures own { OnOk result (AreOwn sub.new.devices.items) }
     ensures stands { (run : runs.Subsystem) → StandsAs sub.old run → OnOk result (StandsAs sub.new (last_behind run (steps 8193 d run))) }
     ensures lines { (run : runs.Subsystem) → StandsAs sub.old run → OnOk result (report.new ≡ report.old ++ all_lines (steps 8193 d run)) }
@@ -245,9 +245,9 @@ fn finish<V: Volume>(
     report: &mut RunRecord,
     d: DeviceNo,
 ) -> Result<(), NoMemory>
-    requires here { is_in d (numbers_of sub.old.devices.items) ≡ true }
+    requires here { HasDevice sub.old d }
     requires own { AreOwn sub.old.devices.items }
-    ensures numbers { numbers_of sub.new.devices.items ≡ numbers_of sub.old.devices.items }
+    ensures numbers { HasSameDevices sub.old sub.new }
     ensures own { OnOk result (AreOwn sub.new.devices.items) }
     ensures stands { (run : runs.Subsystem) → StandsAs sub.old run → OnOk result (StandsAs sub.new (last_behind run (run_logged run d))) }
     ensures lines { (run : runs.Subsystem) → StandsAs sub.old run → OnOk result (report.new ≡ report.old ++ all_lines (run_logged run d)) }
@@ -269,7 +269,7 @@ pub(crate) fn do_line(
 ) -> Result<(), NoMemory>
     requires here { is_open_line (numbers_of sub.old.devices.items) line ≡ true }
     requires own { AreOwn sub.old.devices.items }
-    ensures numbers { numbers_of sub.new.devices.items ≡ numbers_of sub.old.devices.items }
+    ensures numbers { HasSameDevices sub.old sub.new }
     ensures own { OnOk result (AreOwn sub.new.devices.items) }
     ensures stands { (run : runs.Subsystem) → StandsAs sub.old run → OnOk result (StandsAs sub.new (last_behind run (line_logged run (asked_by line)))) }
     ensures lines { (run : runs.Subsystem) → StandsAs sub.old run → OnOk result (report.new ≡ report.old ++ all_lines (line_logged run (asked_by line))) }

@@ -1,9 +1,9 @@
-ghost use Rattle.std.specs.Prelude.{◌≡◌, ◌*◌, ◌++◌, [], IfOk, IfSome, OnOk, length, true};
+ghost use Rattle.std.specs.Prelude.{◌≡◌, ◌*◌, ◌++◌, [], IfOk, IfSome, OnOk, length};
 ghost use Rattle.device_outside.specs.Disk.{new_disk};
-ghost use Rattle.device_outside.specs.Lists.{is_in};
 ghost use Rattle.report_text.specs.declared.order.Order.TheVariants as orders;
 ghost use Rattle.run_report.specs.Events.{lines_of};
-ghost use Rattle.subsystem_core.specs.Devices.{device_at, numbers_of};
+ghost use Rattle.subsystem_core.specs.Devices.{device_at};
+ghost use Rattle.subsystem_core.specs.Frames.{HasDevice, HasSameDevices};
 ghost use Rattle.subsystem_defs.specs.Happening.{happens, unpaired};
 ghost use Rattle.subsystem_defs.specs.Lines.{Once, Unpair, logged};
 ghost use Rattle.subsystem_defs.specs.Subsystem as runs;
@@ -28,10 +28,10 @@ pub fn join<V: Volume>(
     a: DeviceNo,
     b: DeviceNo,
 ) -> Result<EventEnd, NoMemory>
-    requires a { is_in a (numbers_of sub.old.devices.items) ≡ true }
-    requires b { is_in b (numbers_of sub.old.devices.items) ≡ true }
+    requires a { HasDevice sub.old a }
+    requires b { HasDevice sub.old b }
     requires own { AreOwn sub.old.devices.items }
-    ensures numbers { numbers_of sub.new.devices.items ≡ numbers_of sub.old.devices.items }
+    ensures numbers { HasSameDevices sub.old sub.new }
     ensures own { OnOk result (AreOwn sub.new.devices.items) }
     ensures happened { (run : runs.Subsystem) → StandsAs sub.old run
         → IfOk result (λ end. IsOrdered (logged (Once (Event.Pair a b)) (happens run (Event.Pair a b))) (orders.Pair a b) end sub.new) }
@@ -51,10 +51,10 @@ pub(crate) fn pair<V: Volume>(
     a: DeviceNo,
     b: DeviceNo,
 ) -> Result<(), NoMemory>
-    requires a { is_in a (numbers_of sub.old.devices.items) ≡ true }
-    requires b { is_in b (numbers_of sub.old.devices.items) ≡ true }
+    requires a { HasDevice sub.old a }
+    requires b { HasDevice sub.old b }
     requires own { AreOwn sub.old.devices.items }
-    ensures numbers { numbers_of sub.new.devices.items ≡ numbers_of sub.old.devices.items }
+    ensures numbers { HasSameDevices sub.old sub.new }
     ensures own { OnOk result (AreOwn sub.new.devices.items) }
     ensures stands { (run : runs.Subsystem) → StandsAs sub.old run → OnOk result (StandsAs sub.new (happens run (Event.Pair a b)).behind) }
     ensures lines { (run : runs.Subsystem) → StandsAs sub.old run
@@ -72,11 +72,11 @@ fn part(
     a: DeviceNo,
     volume: MemVolume,
 ) -> Result<EventEnd, NoMemory>
-    requires here { is_in a (numbers_of sub.old.devices.items) ≡ true }
+    requires here { HasDevice sub.old a }
     requires own { AreOwn sub.old.devices.items }
     requires empty { IfSome (device_at sub.old.devices.items a) (λ x. volume ≡ new_disk x.store.cylinders [] []) }
     requires size { IfSome (device_at sub.old.devices.items a) (λ x. length volume.tracks ≡ x.store.cylinders * 15) }
-    ensures numbers { numbers_of sub.new.devices.items ≡ numbers_of sub.old.devices.items }
+    ensures numbers { HasSameDevices sub.old sub.new }
     ensures own { OnOk result (AreOwn sub.new.devices.items) }
     ensures happened { (run : runs.Subsystem) → StandsAs sub.old run
         → IfOk result (λ end. IsOrdered (logged (Unpair a) (unpaired run a unfailing)) (orders.Unpair a) end sub.new) }
@@ -95,9 +95,9 @@ pub(crate) fn unpair(
     report: &mut RunRecord,
     a: DeviceNo,
 ) -> Result<(), NoMemory>
-    requires here { is_in a (numbers_of sub.old.devices.items) ≡ true }
+    requires here { HasDevice sub.old a }
     requires own { AreOwn sub.old.devices.items }
-    ensures numbers { numbers_of sub.new.devices.items ≡ numbers_of sub.old.devices.items }
+    ensures numbers { HasSameDevices sub.old sub.new }
     ensures own { OnOk result (AreOwn sub.new.devices.items) }
     ensures stands { (run : runs.Subsystem) → StandsAs sub.old run → OnOk result (StandsAs sub.new (unpaired run a unfailing).behind) }
     ensures lines { (run : runs.Subsystem) → StandsAs sub.old run

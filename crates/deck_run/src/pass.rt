@@ -1,8 +1,6 @@
 //! One event of one device, with what its lines tell.
 
-ghost use Rattle.std.specs.Prelude.{◌≡◌, ℕ, IfOk, OnOk, length, true};
-ghost use Rattle.device_outside.specs.Lists.{is_in};
-ghost use Rattle.subsystem_core.specs.Devices.{numbers_of};
+ghost use Rattle.std.specs.Prelude.{◌≡◌, ℕ, IfOk, OnOk};
 ghost use Rattle.subsystem_defs.specs.Beside.{behind_first};
 ghost use Rattle.subsystem_defs.specs.Subsystem as runs;
 ghost use Rattle.deck_run.specs.Counting.{more_calls};
@@ -11,6 +9,7 @@ ghost use Rattle.deck_run.specs.Passing.{HasPassed};
 ghost use Rattle.deck_run.specs.Recording.{running_of};
 ghost use Rattle.deck_run.specs.Seen.{ShowsEnd};
 ghost use Rattle.deck_run.specs.Standing.{StandsAs};
+ghost use Rattle.subsystem_core.specs.Frames.{HasDevice, HasSameDevices};
 
 use crate::event::do_event;
 use crate::loosed::{acts_seen, all_loosed, is_quiet, loose_of};
@@ -96,10 +95,10 @@ pub(crate) fn pass<V: Volume>(
     d: DeviceNo,
     e: Event,
 ) -> Result<Passed, NoMemory>
-    requires here { is_in d (numbers_of sub.old.devices.items) ≡ true }
+    requires here { HasDevice sub.old d }
     requires on { IsOpenOn d e }
     requires own { AreOwn sub.old.devices.items }
-    ensures numbers { numbers_of sub.new.devices.items ≡ numbers_of sub.old.devices.items }
+    ensures numbers { HasSameDevices sub.old sub.new }
     ensures own { OnOk result (AreOwn sub.new.devices.items) }
     ensures shows { IfOk result (λ passed. ShowsEnd sub.new d passed.end) }
     ensures passed { (run : runs.Subsystem) → StandsAs sub.old run → IfOk result (λ passed. HasPassed sub.new run e d passed) }

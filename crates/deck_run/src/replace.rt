@@ -1,9 +1,9 @@
-ghost use Rattle.std.specs.Prelude.{◌≡◌, ◌*◌, ◌++◌, [], IfOk, IfSome, OnOk, length, true};
+ghost use Rattle.std.specs.Prelude.{◌≡◌, ◌*◌, ◌++◌, [], IfOk, IfSome, OnOk, length};
 ghost use Rattle.device_outside.specs.Disk.{new_disk};
-ghost use Rattle.device_outside.specs.Lists.{is_in};
 ghost use Rattle.report_text.specs.declared.order.Order.TheVariants as orders;
 ghost use Rattle.run_report.specs.Events.{lines_of};
-ghost use Rattle.subsystem_core.specs.Devices.{device_at, numbers_of};
+ghost use Rattle.subsystem_core.specs.Devices.{device_at};
+ghost use Rattle.subsystem_core.specs.Frames.{HasDevice, HasSameDevices};
 ghost use Rattle.subsystem_defs.specs.Happening.{replaced};
 ghost use Rattle.subsystem_defs.specs.Lines.{Replace, logged};
 ghost use Rattle.subsystem_defs.specs.Subsystem as runs;
@@ -29,11 +29,11 @@ fn put_volume(
     side: Side,
     volume: MemVolume,
 ) -> Result<EventEnd, NoMemory>
-    requires here { is_in d (numbers_of sub.old.devices.items) ≡ true }
+    requires here { HasDevice sub.old d }
     requires own { AreOwn sub.old.devices.items }
     requires empty { IfSome (device_at sub.old.devices.items d) (λ x. volume ≡ new_disk x.store.cylinders [] []) }
     requires size { IfSome (device_at sub.old.devices.items d) (λ x. length volume.tracks ≡ x.store.cylinders * 15) }
-    ensures numbers { numbers_of sub.new.devices.items ≡ numbers_of sub.old.devices.items }
+    ensures numbers { HasSameDevices sub.old sub.new }
     ensures own { OnOk result (AreOwn sub.new.devices.items) }
     ensures happened { (run : runs.Subsystem) → StandsAs sub.old run
         → IfOk result (λ end. IsOrdered (logged (Replace d side) (replaced run d side unfailing)) (orders.Replace d side) end sub.new) }
@@ -54,9 +54,9 @@ pub(crate) fn replace(
     d: DeviceNo,
     side: Side,
 ) -> Result<(), NoMemory>
-    requires here { is_in d (numbers_of sub.old.devices.items) ≡ true }
+    requires here { HasDevice sub.old d }
     requires own { AreOwn sub.old.devices.items }
-    ensures numbers { numbers_of sub.new.devices.items ≡ numbers_of sub.old.devices.items }
+    ensures numbers { HasSameDevices sub.old sub.new }
     ensures own { OnOk result (AreOwn sub.new.devices.items) }
     ensures stands { (run : runs.Subsystem) → StandsAs sub.old run → OnOk result (StandsAs sub.new (replaced run d side unfailing).behind) }
     ensures lines { (run : runs.Subsystem) → StandsAs sub.old run

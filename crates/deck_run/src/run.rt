@@ -5,6 +5,7 @@ ghost use Rattle.subsystem_defs.specs.Decks.{run_of};
 ghost use Rattle.subsystem_defs.specs.Lines.{asked_by, last_behind, run_lines};
 ghost use Rattle.subsystem_defs.specs.Subsystem as runs;
 ghost use Rattle.subsystem_core.specs.Devices.{numbers_of};
+ghost use Rattle.subsystem_core.specs.Frames.{HasSameDevices};
 ghost use Rattle.subsystem_laws.specs.AllSound.{AreSound};
 ghost use Rattle.subsystem_laws.specs.Served.{IsServedDeck};
 ghost use Rattle.subsystem_laws.specs.SlotsApart.{AreApart};
@@ -50,7 +51,7 @@ fn do_lines(
 ) -> Result<(), NoMemory>
     requires here { are_open_lines (numbers_of sub.old.devices.items) lines.now ≡ true }
     requires own { AreOwn sub.old.devices.items }
-    ensures numbers { numbers_of sub.new.devices.items ≡ numbers_of sub.old.devices.items }
+    ensures numbers { HasSameDevices sub.old sub.new }
     ensures own { OnOk result (AreOwn sub.new.devices.items) }
     ensures stands { (run : runs.Subsystem) → StandsAs sub.old run
         → OnOk result (StandsAs sub.new (last_behind run (run_lines (map asked_by lines.now) run))) }

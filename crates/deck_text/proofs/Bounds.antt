@@ -13,8 +13,8 @@ use Rattle.deck_text.specs.declared.line.DeviceLine.{DeviceLine}
 use Rattle.deck_text.specs.declared.line.FaultLine.{FaultLine}
 use Rattle.deck_text.specs.Numbers.{number_in, geometry_of}
 use Rattle.deck_text.specs.Words.{one_word, two_words, three_words}
-use Rattle.deck_text.specs.Forms.{needed, and_then, rises, rising, device_line, is_declared, declared, device_of, path_of, is_write, fault_line}
-use Rattle.deck_text.specs.Forms.{path_and_device, side_of}
+use Rattle.deck_text.specs.Forms.{needed, then_read, rises, rising, device_line, is_declared, declared, device_of, path_of, is_write_word, fault_line}
+use Rattle.deck_text.specs.Forms.{path_and_device, side_by_word}
 use Rattle.deck_text.specs.Events.{device_words, pair_words, side_words, is_volume}
 use Rattle.deck_text.specs.Canonical.{geometry_number}
 use Rattle.deck_text.proofs.FormsAgain.{went, needed_is, if_ok, number_range}
@@ -38,16 +38,16 @@ path_word w p h = number_word 1 4 w p (omega arith) h
 pub path_words : (devices : List DeviceLine) (words : List (List ℕ)) (at : ℕ × ℕ) → path_and_device devices words ≡ Ok at
     → AreWords (decimal at.0 ∷ decimal at.1 ∷ [])
 path_words devices words at h =
-    let a = went (needed Words (two_words words)) (λ w. and_then (path_of w.0) (λ p. and_then (device_of devices w.1) (λ d. Ok (p, d)))) at h in
-    let b = went (path_of a.value.0) (λ p. and_then (device_of devices a.value.1) (λ d. Ok (p, d))) at a.second in
+    let a = went (needed Words (two_words words)) (λ w. then_read (path_of w.0) (λ p. then_read (device_of devices w.1) (λ d. Ok (p, d)))) at h in
+    let b = went (path_of a.value.0) (λ p. then_read (device_of devices a.value.1) (λ d. Ok (p, d))) at a.second in
     let c = went (device_of devices a.value.1) (λ d. Ok (b.value, d)) at b.second in
     let same : (b.value, c.value) ≡ at = if_ok true (b.value, c.value) at Number c.second in
     rw (← same) (path_word a.value.0 b.value b.first, (device_word devices a.value.1 c.value c.first, tt))
 
 pub pair_are : (devices : List DeviceLine) (words : List (List ℕ)) (at : ℕ × ℕ) → pair_words devices words ≡ Ok at → AreWords (decimal at.0 ∷ decimal at.1 ∷ [])
 pair_are devices words at h =
-    let a = went (needed Words (two_words words)) (λ w. and_then (device_of devices w.0) (λ x. and_then (device_of devices w.1) (λ y. Ok (x, y)))) at h in
-    let b = went (device_of devices a.value.0) (λ x. and_then (device_of devices a.value.1) (λ y. Ok (x, y))) at a.second in
+    let a = went (needed Words (two_words words)) (λ w. then_read (device_of devices w.0) (λ x. then_read (device_of devices w.1) (λ y. Ok (x, y)))) at h in
+    let b = went (device_of devices a.value.0) (λ x. then_read (device_of devices a.value.1) (λ y. Ok (x, y))) at a.second in
     let c = went (device_of devices a.value.1) (λ y. Ok (b.value, y)) at b.second in
     let same : (b.value, c.value) ≡ at = if_ok true (b.value, c.value) at Number c.second in
     rw (← same) (device_word devices a.value.0 b.value b.first, (device_word devices a.value.1 c.value c.first, tt))
@@ -60,14 +60,14 @@ pub line_are : (devices : List DeviceLine) (words : List (List ℕ)) (d : Device
     → AreWords (decimal d.number ∷ decimal (geometry_number d.geometry) ∷ decimal d.cylinders ∷ [])
 line_are devices words d h =
     let a = went (needed Words (three_words words))
-    (λ w. and_then (needed Number (number_in 0 15 w.0))
-    (λ n. and_then (needed Number (geometry_of w.1))
-    (λ g. and_then (needed Number (number_in 1 64 w.2)) (λ c. rising devices (record { number = n; geometry = g; cylinders = c }))))) d h in
+    (λ w. then_read (needed Number (number_in 0 15 w.0))
+    (λ n. then_read (needed Number (geometry_of w.1))
+    (λ g. then_read (needed Number (number_in 1 64 w.2)) (λ c. rising devices (record { number = n; geometry = g; cylinders = c }))))) d h in
     let b = went (needed Number (number_in 0 15 a.value.0))
-    (λ n. and_then (needed Number (geometry_of a.value.1))
-    (λ g. and_then (needed Number (number_in 1 64 a.value.2)) (λ c. rising devices (record { number = n; geometry = g; cylinders = c })))) d a.second in
+    (λ n. then_read (needed Number (geometry_of a.value.1))
+    (λ g. then_read (needed Number (number_in 1 64 a.value.2)) (λ c. rising devices (record { number = n; geometry = g; cylinders = c })))) d a.second in
     let e = went (needed Number (geometry_of a.value.1))
-    (λ g. and_then (needed Number (number_in 1 64 a.value.2)) (λ c. rising devices (record { number = b.value; geometry = g; cylinders = c }))) d b.second
+    (λ g. then_read (needed Number (number_in 1 64 a.value.2)) (λ c. rising devices (record { number = b.value; geometry = g; cylinders = c }))) d b.second
     in
     let f = went (needed Number (number_in 1 64 a.value.2)) (λ c. rising devices (record { number = b.value; geometry = e.value; cylinders = c })) d e.second in
     let same = if_ok (rises devices b.value) (record { number = b.value; geometry = e.value; cylinders = f.value }) d Number f.second in
@@ -85,14 +85,14 @@ pub fault_are : (devices : List DeviceLine) (words : List (List ℕ)) (f : Fault
     → AreWords (decimal f.device ∷ call_word f.write ∷ decimal f.call ∷ [])
 fault_are devices words f h =
     let a = went (needed Words (three_words words))
-    (λ w. and_then (needed Words (is_write w.1))
-    (λ write. and_then (device_of devices w.0)
-    (λ d. and_then (needed Number (number_in 1 4294967295 w.2)) (λ n. Ok (record { device = d; write = write; call = n }))))) f h in
-    let b = went (needed Words (is_write a.value.1))
-    (λ write. and_then (device_of devices a.value.0)
-    (λ d. and_then (needed Number (number_in 1 4294967295 a.value.2)) (λ n. Ok (record { device = d; write = write; call = n })))) f a.second in
+    (λ w. then_read (needed Words (is_write_word w.1))
+    (λ write. then_read (device_of devices w.0)
+    (λ d. then_read (needed Number (number_in 1 4294967295 w.2)) (λ n. Ok (record { device = d; write = write; call = n }))))) f h in
+    let b = went (needed Words (is_write_word a.value.1))
+    (λ write. then_read (device_of devices a.value.0)
+    (λ d. then_read (needed Number (number_in 1 4294967295 a.value.2)) (λ n. Ok (record { device = d; write = write; call = n })))) f a.second in
     let c = went (device_of devices a.value.0)
-    (λ d. and_then (needed Number (number_in 1 4294967295 a.value.2)) (λ n. Ok (record { device = d; write = b.value; call = n }))) f b.second in
+    (λ d. then_read (needed Number (number_in 1 4294967295 a.value.2)) (λ n. Ok (record { device = d; write = b.value; call = n }))) f b.second in
     let e = went (needed Number (number_in 1 4294967295 a.value.2)) (λ n. Ok (record { device = c.value; write = b.value; call = n })) f c.second in
     let same = if_ok true (record { device = c.value; write = b.value; call = e.value }) f Number e.second in
     rw (← same) (device_word devices a.value.0 c.value c.first, (call_is_word b.value, (number_word 1 4294967295 a.value.2 e.value (omega arith) e.first, tt)))
@@ -104,14 +104,14 @@ side_is_word B = record { some = omega arith; letters = refl }
 
 side_are : (devices : List DeviceLine) (device side : List ℕ) (at : ℕ × Side) → side_words devices device side ≡ Ok at → IsWord (decimal at.0)
 side_are devices device side at h =
-    let a = went (needed Words (side_of side)) (λ s. and_then (device_of devices device) (λ d. Ok (d, s))) at h in
+    let a = went (needed Words (side_by_word side)) (λ s. then_read (device_of devices device) (λ d. Ok (d, s))) at h in
     let b = went (device_of devices device) (λ d. Ok (d, a.value)) at a.second in
     let same : (b.value, a.value) ≡ at = if_ok true (b.value, a.value) at Number b.second in
     rw (← same) (device_word devices device b.value b.first)
 
 -- an event of one device
 one_are : (make : ℕ → EventLine) (devices : List DeviceLine) (words : List (List ℕ)) (d : ℕ) → ((x : ℕ) → make x ≡ make d → x ≡ d)
-    → and_then (device_words devices words) (λ x. Ok (make x)) ≡ Ok (make d) → AreWords (decimal d ∷ [])
+    → then_read (device_words devices words) (λ x. Ok (make x)) ≡ Ok (make d) → AreWords (decimal d ∷ [])
 one_are make devices words d same h =
     let a = went (device_words devices words) (λ x. Ok (make x)) (make d) h in
     let e : a.value ≡ d = same a.value (if_ok true (make a.value) (make d) Number a.second) in
@@ -120,7 +120,7 @@ one_are make devices words d same h =
 
 two_are : (make : ℕ → ℕ → EventLine) (r : Result (ℕ × ℕ) DeckWhy) (x y : ℕ) → ((a b : ℕ) → make a b ≡ make x y → (a ≡ x) × (b ≡ y))
     → ((at : ℕ × ℕ) → r ≡ Ok at → AreWords (decimal at.0 ∷ decimal at.1 ∷ []))
-    → and_then r (λ at. Ok (make at.0 at.1)) ≡ Ok (make x y) → AreWords (decimal x ∷ decimal y ∷ [])
+    → then_read r (λ at. Ok (make at.0 at.1)) ≡ Ok (make x y) → AreWords (decimal x ∷ decimal y ∷ [])
 two_are make r x y same are h =
     let a = went r (λ at. Ok (make at.0 at.1)) (make x y) h in
     let e = same a.value.0 a.value.1 (if_ok true (make a.value.0 a.value.1) (make x y) Number a.second) in
@@ -128,7 +128,7 @@ two_are make r x y same are h =
 
 sided_are : (make : ℕ → Side → EventLine) (devices : List DeviceLine) (device side : List ℕ) (x : ℕ) (y : Side)
     → ((at : ℕ × Side) → make at.0 at.1 ≡ make x y → at.0 ≡ x)
-    → and_then (side_words devices device side) (λ at. Ok (make at.0 at.1)) ≡ Ok (make x y) → IsWord (decimal x)
+    → then_read (side_words devices device side) (λ at. Ok (make at.0 at.1)) ≡ Ok (make x y) → IsWord (decimal x)
 sided_are make devices device side x y same h =
     let a = went (side_words devices device side) (λ at. Ok (make at.0 at.1)) (make x y) h in
     let e : a.value.0 ≡ x = same a.value (if_ok true (make a.value.0 a.value.1) (make x y) Number a.second) in

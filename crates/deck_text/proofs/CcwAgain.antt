@@ -8,7 +8,7 @@ use Rattle.hex.proofs.HexLemmas.{decode_of-ok, decode_sized-ok, decode_sized-twi
 use Rattle.ckd_types.specs.declared.channel.Ccw.{Ccw}
 use Rattle.deck_text.specs.declared.line.DeckWhy.TheVariants.{Number, Hex}
 use Rattle.deck_text.specs.Numbers.{number_in}
-use Rattle.deck_text.specs.Forms.{needed, and_then, byte_of, first_byte, decoded, word_bytes, bytes_of, head_of, ccw_line}
+use Rattle.deck_text.specs.Forms.{needed, then_read, byte_of, first_byte, decoded, word_bytes, bytes_of, program_head, ccw_line}
 use Rattle.deck_text.proofs.ReadBack.{are_letters, digits_letters, own, byte_read, bytes_read, number_read}
 use Rattle.deck_text.proofs.FormsAgain.{went, needed_is, if_ok, number_range}
 
@@ -56,7 +56,7 @@ given_words (b ∷ bytes) = encode_upper (b ∷ bytes) ∷ []
 given_again : (bytes : List ℕ) → IsBytes bytes → bytes_of [] (given_words bytes) ≡ Ok bytes
 unfolding given_words
 given_again [] h = refl
-given_again (b ∷ bytes) h = ap (λ r. and_then r (λ x. Ok x)) (bytes_read (b ∷ bytes) h)
+given_again (b ∷ bytes) h = ap (λ r. then_read r (λ x. Ok x)) (bytes_read (b ∷ bytes) h)
 
 unfoldable pub ccw_words : Ccw → List (List ℕ)
 ccw_words c = encode_upper (c.command ∷ []) ∷ encode_upper (c.flags ∷ []) ∷ decimal c.count ∷ given_words c.given
@@ -72,12 +72,12 @@ ccw_facts [] c h = absurd (cc)
 ccw_facts (x ∷ []) c h = absurd (cc)
 ccw_facts (x ∷ y ∷ []) c h = absurd (cc)
 ccw_facts (x ∷ y ∷ z ∷ bytes) c h =
-    let a = went (head_of x y z) (λ t. and_then (bytes_of [] bytes) (λ given. Ok (record { command = t.0; flags = t.1; count = t.2; given = given }))) c h in
+    let a = went (program_head x y z) (λ t. then_read (bytes_of [] bytes) (λ given. Ok (record { command = t.0; flags = t.1; count = t.2; given = given }))) c h in
     let b = went (bytes_of [] bytes) (λ given. Ok (record { command = a.value.0; flags = a.value.1; count = a.value.2; given = given })) c a.second in
     let same = if_ok true (record { command = a.value.0; flags = a.value.1; count = a.value.2; given = b.value }) c Hex b.second in
-    let n = went (needed Number (number_in 0 65535 z)) (λ n. and_then (needed Hex (byte_of x)) (λ c. and_then (needed Hex (byte_of y)) (λ f. Ok (c, f, n))))
+    let n = went (needed Number (number_in 0 65535 z)) (λ n. then_read (needed Hex (byte_of x)) (λ c. then_read (needed Hex (byte_of y)) (λ f. Ok (c, f, n))))
     a.value a.first in
-    let p = went (needed Hex (byte_of x)) (λ c. and_then (needed Hex (byte_of y)) (λ f. Ok (c, f, n.value))) a.value n.second in
+    let p = went (needed Hex (byte_of x)) (λ c. then_read (needed Hex (byte_of y)) (λ f. Ok (c, f, n.value))) a.value n.second in
     let q = went (needed Hex (byte_of y)) (λ f. Ok (p.value, f, n.value)) a.value p.second in
     let head = if_ok true (p.value, q.value, n.value) a.value Hex q.second in
     let r = number_range 0 65535 z n.value (needed_is Number (number_in 0 65535 z) n.value n.first) in

@@ -14,18 +14,18 @@ use Rattle.ckd_types.specs.declared.paths.Side.TheVariants.{A, B}
 use Rattle.ckd_types.specs.Program.{IsProgram, fault_from}
 use Rattle.deck_plan.specs.declared.event.EventLine.{EventLine}
 use Rattle.deck_plan.specs.declared.event.EventLine.TheVariants as events
-use Rattle.deck_text.specs.declared.keyword.Keyword.TheVariants.{Deck, Cache, Store, Device, Fault, Program, Ccw as ChannelWord, End, Events, Event}
+use Rattle.deck_text.specs.declared.keyword.DeckKeyword.TheVariants.{Deck, Cache, Store, Device, Fault, Program, Ccw as ChannelWord, End, Events, Event}
 use Rattle.deck_text.specs.declared.line.DeviceLine.{DeviceLine}
 use Rattle.deck_text.specs.declared.line.FaultLine.{FaultLine}
 use Rattle.deck_text.specs.declared.line.PlannedProgram.{PlannedProgram}
-use Rattle.deck_text.specs.declared.place.Place.{Place}
-use Rattle.deck_text.specs.declared.place.Place.TheVariants as places
+use Rattle.deck_text.specs.declared.place.LinePlace.{LinePlace}
+use Rattle.deck_text.specs.declared.place.LinePlace.TheVariants as places
 use Rattle.deck_text.specs.DeckLines.{DeckLines, no_lines}
-use Rattle.deck_text.specs.Lines.{lines_of}
+use Rattle.deck_text.specs.Lines.{text_lines}
 use Rattle.deck_text.specs.Keywords.{keyword_of, head_of, event_word_of}
 use Rattle.deck_text.specs.Forms.{is_one, device_line, fault_line, path_and_device}
 use Rattle.deck_text.specs.Reading.{State, may_stand, or_refuse, end_program}
-use Rattle.deck_text.specs.Parse.{start, read_lines, parsed}
+use Rattle.deck_text.specs.Parse.{reading_begun, read_lines, parsed}
 use Rattle.deck_text.specs.Canonical.{head_text, geometry_number, device_text, call_text, fault_text, program_text, word_text, line_end, ccw_text, end_text}
 use Rattle.deck_text.specs.Canonical.{planned_text, events_text, side_text, with_one, with_two, with_side, event_text, from_events, from_programs, from_faults}
 use Rattle.deck_text.specs.Canonical.{from_devices, canonical}
@@ -84,7 +84,7 @@ pub record IsDeck (d : DeckLines) : Type 0 where
   pub event_count : length d.events ≤ 65536
 
 -- a reading between lines, with no program open
-abbrev pub outside : Place → DeckLines → State
+abbrev pub outside : LinePlace → DeckLines → State
 outside place deck = record { place = place; deck = deck; words = []; lines = [] }
 
 -- DEVICE lines
@@ -99,7 +99,7 @@ device_key = refl
 abbrev with_devices : ℕ → ℕ → List DeviceLine → DeckLines
 with_devices frames slots devices = record { frames = frames; slots = slots; devices = devices; faults = []; programs = []; events = [] }
 
-device_leads : (frames slots : ℕ) (place : Place) (before : List DeviceLine) (d : DeviceLine) → may_stand Device place ≡ true → DeviceOk before d
+device_leads : (frames slots : ℕ) (place : LinePlace) (before : List DeviceLine) (d : DeviceLine) → may_stand Device place ≡ true → DeviceOk before d
     → Leads (outside place (with_devices frames slots before)) (device_text d) (outside places.Devices (with_devices frames slots (before ++ d ∷ [])))
 device_leads frames slots place before d stands ok =
     leads_line (outside place (with_devices frames slots before)) (outside places.Devices (with_devices frames slots (before ++ d ∷ []))) 68 (codes "EVICE")
@@ -128,13 +128,13 @@ all_devices_lead frames slots (d ∷ ds) some h =
     (device_leads frames slots places.FirstDevice [] d refl h.0) (devices_lead frames slots (d ∷ []) ds h.1)
 
 -- where PROGRAM and EVENTS may stand
-record IsBehind (place : Place) : Type 0 where
+record IsBehind (place : LinePlace) : Type 0 where
   pub program : may_stand Program place ≡ true
   pub events : may_stand Events place ≡ true
 
 -- one of the places behind the devices is reached
 record Reaches (s : State) (text : List ℕ) (deck : DeckLines) : Type 0 where
-  pub place : Place
+  pub place : LinePlace
   pub behind : IsBehind place
   pub leads : Leads s text (outside place deck)
 
@@ -149,7 +149,7 @@ fault_key : keyword_of (70 ∷ codes "AULT") ≡ Some Fault
 unfolding head_of event_word_of
 fault_key = refl
 
-fault_leads : (deck : DeckLines) (place : Place) (f : FaultLine) → may_stand Fault place ≡ true → FaultOk deck.devices f → length deck.faults < 1024
+fault_leads : (deck : DeckLines) (place : LinePlace) (f : FaultLine) → may_stand Fault place ≡ true → FaultOk deck.devices f → length deck.faults < 1024
     → Leads (outside place deck) (fault_text f) (outside places.Faults (record deck { faults = deck.faults ++ f ∷ [] }))
 fault_leads deck place f stands ok room =
     let full : nat_le 1024 (length deck.faults) ≡ false = grind (arith, nat_tests) in
@@ -158,7 +158,7 @@ fault_leads deck place f stands ok room =
     (record { some = omega arith; letters = refl }, ok.are) fault_key stands
     (λ n. rw (ok.again, full) refl)
 
-faults_lead : (deck : DeckLines) (place : Place) (fs : List FaultLine) → may_stand Fault place ≡ true → IsBehind place → Each (FaultOk deck.devices) fs
+faults_lead : (deck : DeckLines) (place : LinePlace) (fs : List FaultLine) → may_stand Fault place ≡ true → IsBehind place → Each (FaultOk deck.devices) fs
     → length deck.faults + length fs ≤ 1024
     → Reaches (outside place deck) (flat_map fault_text fs) (record deck { faults = deck.faults ++ fs })
 faults_lead deck place [] stands behind h few = rw append-nil (record { place = place; behind = behind; leads = leads_none (outside place deck) })
@@ -241,12 +241,12 @@ inside deck path device words lines = record { place = places.Inside path device
 record Comes (deck : DeckLines) (path device n : ℕ) (words : List Ccw) (lines : List ℕ) (text rest : List ℕ) (all : List Ccw) : Type 0 where
   pub number : ℕ
   pub numbers : List ℕ
-  pub leads : read_lines n (inside deck path device words lines) (lines_of (text ++ rest))
-      ≡ read_lines number (inside deck path device all numbers) (lines_of rest)
+  pub leads : read_lines n (inside deck path device words lines) (text_lines (text ++ rest))
+      ≡ read_lines number (inside deck path device all numbers) (text_lines rest)
 
 ccw_comes : (deck : DeckLines) (path device n : ℕ) (words : List Ccw) (lines : List ℕ) (c : Ccw) (rest : List ℕ) → CcwFacts c → length words < 256
-    → read_lines n (inside deck path device words lines) (lines_of (ccw_text c ++ rest))
-    ≡ read_lines (n + 1) (inside deck path device (words ++ c ∷ []) (lines ++ n ∷ [])) (lines_of rest)
+    → read_lines n (inside deck path device words lines) (text_lines (ccw_text c ++ rest))
+    ≡ read_lines (n + 1) (inside deck path device (words ++ c ∷ []) (lines ++ n ∷ [])) (text_lines rest)
 ccw_comes deck path device n words lines c rest f room =
     let full : nat_le 256 (length words) ≡ false = grind (arith, nat_tests) in
     line_at n (inside deck path device words lines) (inside deck path device (words ++ c ∷ []) (lines ++ n ∷ [])) 67 (codes "CW") (ccw_words c) ChannelWord
@@ -264,10 +264,10 @@ ccws_come deck path device n words lines (c ∷ cs) rest f few =
     record {
       number = more.number;
       numbers = more.numbers;
-      leads = ap (λ (l : List ℕ). read_lines n (inside deck path device words lines) (lines_of l)) (append_assoc (ccw_text c) (flat_map ccw_text cs) rest)
+      leads = ap (λ (l : List ℕ). read_lines n (inside deck path device words lines) (text_lines l)) (append_assoc (ccw_text c) (flat_map ccw_text cs) rest)
           ∙ ccw_comes deck path device n words lines c (flat_map ccw_text cs ++ rest) f.0 (omega arith)
           ∙ more.leads
-          ∙ ap (λ (ws : List Ccw). read_lines more.number (inside deck path device ws more.numbers) (lines_of rest)) same;
+          ∙ ap (λ (ws : List Ccw). read_lines more.number (inside deck path device ws more.numbers) (text_lines rest)) same;
     }
 
 -- END
@@ -280,9 +280,9 @@ unfolding head_of event_word_of
 end_key = refl
 
 end_comes : (deck : DeckLines) (path device n : ℕ) (words : List Ccw) (lines rest : List ℕ) → IsProgram words
-    → read_lines n (inside deck path device words lines) (lines_of (end_text ++ rest))
+    → read_lines n (inside deck path device words lines) (text_lines (end_text ++ rest))
     ≡ read_lines (n + 1)
-    (outside places.Programs (record deck { programs = deck.programs ++ record { path = path; device = device; program = words } ∷ [] })) (lines_of rest)
+    (outside places.Programs (record deck { programs = deck.programs ++ record { path = path; device = device; program = words } ∷ [] })) (text_lines rest)
 end_comes deck path device n words lines rest program =
     line_at n (inside deck path device words lines)
     (outside places.Programs (record deck { programs = deck.programs ++ record { path = path; device = device; program = words } ∷ [] })) 69 (codes "ND") []
@@ -307,7 +307,7 @@ short_by ccws false false x y o is h = grind (arith, nat_tests)
 short : (ccws : List Ccw) → IsProgram ccws → length ccws ≤ 256
 short ccws h = short_by ccws (length ccws == 0) (nat_lt 256 (length ccws)) _ _ (fault_from ccws 0 ccws) refl h
 
-planned_leads : (deck : DeckLines) (place : Place) (p : PlannedProgram) → may_stand Program place ≡ true → ProgramOk deck.devices p → length deck.programs < 512
+planned_leads : (deck : DeckLines) (place : LinePlace) (p : PlannedProgram) → may_stand Program place ≡ true → ProgramOk deck.devices p → length deck.programs < 512
     → Leads (outside place deck) (planned_text p) (outside places.Programs (record deck { programs = deck.programs ++ p ∷ [] }))
 planned_leads deck place p stands ok room = λ n rest.
     let full : nat_le 512 (length deck.programs) ≡ false = grind (arith, nat_tests) in
@@ -318,15 +318,15 @@ planned_leads deck place p stands ok room = λ n rest.
     let ccws = ccws_come deck p.path p.device (n + 1) [] [] p.program (end_text ++ rest) ok.ccws (omega (arith, short p.program ok.program)) in
     let last = end_comes deck p.path p.device ccws.number p.program ccws.numbers rest ok.program in (
       ccws.number + 1,
-      ap (λ (l : List ℕ). read_lines n (outside place deck) (lines_of l))
+      ap (λ (l : List ℕ). read_lines n (outside place deck) (text_lines l))
           (append_assoc (program_text p.path p.device) (flat_map ccw_text p.program ++ end_text) rest)
           ∙ first
-          ∙ ap (λ (l : List ℕ). read_lines (n + 1) (inside deck p.path p.device [] []) (lines_of l)) (append_assoc (flat_map ccw_text p.program) end_text rest)
+          ∙ ap (λ (l : List ℕ). read_lines (n + 1) (inside deck p.path p.device [] []) (text_lines l)) (append_assoc (flat_map ccw_text p.program) end_text rest)
           ∙ ccws.leads
           ∙ last,
     )
 
-programs_lead : (deck : DeckLines) (place : Place) (ps : List PlannedProgram) → IsBehind place → Each (ProgramOk deck.devices) ps
+programs_lead : (deck : DeckLines) (place : LinePlace) (ps : List PlannedProgram) → IsBehind place → Each (ProgramOk deck.devices) ps
     → length deck.programs + length ps ≤ 512
     → Reaches (outside place deck) (flat_map planned_text ps) (record deck { programs = deck.programs ++ ps })
 programs_lead deck place [] behind h few = rw append-nil (record { place = place; behind = behind; leads = leads_none (outside place deck) })
@@ -357,7 +357,7 @@ events_key : keyword_of (69 ∷ codes "VENTS") ≡ Some Events
 unfolding head_of event_word_of
 events_key = refl
 
-events_start : (deck : DeckLines) (place : Place) → may_stand Events place ≡ true → Leads (outside place deck) events_text (outside places.Events deck)
+events_start : (deck : DeckLines) (place : LinePlace) → may_stand Events place ≡ true → Leads (outside place deck) events_text (outside places.Events deck)
 events_start deck place stands =
     leads_line (outside place deck) (outside places.Events deck) 69 (codes "VENTS") [] Events events_text events_is (omega arith) (
       record {
@@ -564,10 +564,10 @@ store_key : keyword_of (83 ∷ codes "TORE") ≡ Some Store
 unfolding head_of event_word_of
 store_key = refl
 
-deck_leads : Leads start (join ((68 ∷ codes "ECK") ∷ codes "1" ∷ []) ++ 10 ∷ []) (outside places.Sizes no_lines)
+deck_leads : Leads reading_begun (join ((68 ∷ codes "ECK") ∷ codes "1" ∷ []) ++ 10 ∷ []) (outside places.Sizes no_lines)
 unfolding is_one
 deck_leads =
-    leads_line start (outside places.Sizes no_lines) 68 (codes "ECK") (codes "1" ∷ []) Deck _ refl (omega arith) (
+    leads_line reading_begun (outside places.Sizes no_lines) 68 (codes "ECK") (codes "1" ∷ []) Deck _ refl (omega arith) (
       record {
         some = omega arith;
         letters =
@@ -593,10 +593,10 @@ store_leads frames slots high =
     (λ n. rw (number_read 0 1024 slots (omega arith) high (omega arith)) refl)
 
 head_leads : (frames slots : ℕ) → 1 ≤ frames → frames ≤ 4096 → slots ≤ 1024
-    → Leads start (head_text frames slots) (outside places.FirstDevice (with_devices frames slots []))
+    → Leads reading_begun (head_text frames slots) (outside places.FirstDevice (with_devices frames slots []))
 head_leads frames slots low high few =
     rw (head_is frames slots)
-    (leads_then start (outside places.Sizes no_lines) (outside places.FirstDevice (with_devices frames slots []))
+    (leads_then reading_begun (outside places.Sizes no_lines) (outside places.FirstDevice (with_devices frames slots []))
     (join ((68 ∷ codes "ECK") ∷ codes "1" ∷ []) ++ 10 ∷ [])
     ((join ((67 ∷ codes "ACHE") ∷ decimal frames ∷ []) ++ 10 ∷ []) ++ (join ((83 ∷ codes "TORE") ∷ decimal slots ∷ []) ++ 10 ∷ [])) deck_leads
     (leads_then (outside places.Sizes no_lines) (outside places.Slots (record no_lines { frames = frames }))
@@ -604,7 +604,7 @@ head_leads frames slots low high few =
     (join ((83 ∷ codes "TORE") ∷ decimal slots ∷ []) ++ 10 ∷ []) (cache_leads frames low high) (store_leads frames slots few)))
 
 -- the whole text
-deck_reads : (d : DeckLines) → IsDeck d → Leads start (canonical d) (outside places.Events d)
+deck_reads : (d : DeckLines) → IsDeck d → Leads reading_begun (canonical d) (outside places.Events d)
 deck_reads d ok =
     let devices = with_devices d.frames d.slots d.devices in
     let faults = faults_lead devices places.Devices d.faults refl (record { program = refl; events = refl }) ok.faults (omega (arith, ok.fault_count)) in
@@ -615,7 +615,7 @@ deck_reads d ok =
     let second = all_devices_lead d.frames d.slots d.devices ok.some ok.devices in
     let fifth = events_start programmed programs.place programs.behind.events in
     let sixth = events_lead programmed d.events ok.events (omega (arith, ok.event_count)) in
-    leads_then start (outside places.FirstDevice (with_devices d.frames d.slots [])) (outside places.Events d) (head_text d.frames d.slots) (from_devices d)
+    leads_then reading_begun (outside places.FirstDevice (with_devices d.frames d.slots [])) (outside places.Events d) (head_text d.frames d.slots) (from_devices d)
     first
     (leads_then (outside places.FirstDevice (with_devices d.frames d.slots [])) (outside places.Devices devices) (outside places.Events d)
     (flat_map device_text d.devices) (from_faults d) second
@@ -631,4 +631,4 @@ pub reads_again : (d : DeckLines) → IsDeck d → length (canonical d) ≤ 1677
 reads_again d ok small =
     let long : nat_lt 16777216 (length (canonical d)) ≡ false = not_long 16777216 (length (canonical d)) small in
     let all = deck_reads d ok 1 [] in
-    rw long (ap (λ (l : List ℕ). read_lines 1 start (lines_of l)) (sym (append-nil (canonical d))) ∙ all.1)
+    rw long (ap (λ (l : List ℕ). read_lines 1 reading_begun (text_lines l)) (sym (append-nil (canonical d))) ∙ all.1)

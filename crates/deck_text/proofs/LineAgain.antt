@@ -4,11 +4,11 @@ use Rattle.std.specs.Prelude.{slice_index, nat_lt, nat_le, ◌&&◌}
 use Rattle.std.proofs.lemmas.Bool.{and_parts}
 use Rattle.std.proofs.lemmas.Bool.Decides.{nat_tests}
 use Rattle.std.proofs.lemmas.List.{append-nil}
-use Rattle.deck_text.specs.declared.keyword.Keyword.{Keyword}
-use Rattle.deck_text.specs.Lines.{lines_of, has_bad_byte, is_comment}
+use Rattle.deck_text.specs.declared.keyword.DeckKeyword.{DeckKeyword}
+use Rattle.deck_text.specs.Lines.{text_lines, has_bad_byte, is_comment}
 use Rattle.deck_text.specs.Words.{words_of}
 use Rattle.deck_text.specs.Keywords.{keyword_of}
-use Rattle.deck_text.specs.Reading.{State, may_stand, put, put_words, take_line}
+use Rattle.deck_text.specs.Reading.{State, may_stand, line_put, put_words, take_line}
 use Rattle.deck_text.specs.Parse.{or_stop, read_lines}
 use Rattle.deck_text.proofs.ReadBack.{are_letters, word_then, word_alone, line_then}
 use Rattle.deck_text.proofs.CcwAgain.{IsWord}
@@ -69,7 +69,7 @@ line_does n s b w ws ne h =
 
 -- a text leads from one state of a reading to another, whatever its lines' numbers are and whatever follows
 abbrev pub Leads : State → List ℕ → State → Type 0
-Leads s text t = (n : ℕ) (rest : List ℕ) → (m : ℕ) × (read_lines n s (lines_of (text ++ rest)) ≡ read_lines m t (lines_of rest))
+Leads s text t = (n : ℕ) (rest : List ℕ) → (m : ℕ) × (read_lines n s (text_lines (text ++ rest)) ≡ read_lines m t (text_lines rest))
 
 pub leads_none : (s : State) → Leads s [] s
 leads_none s = λ n rest. (n, refl)
@@ -78,33 +78,33 @@ pub leads_then : (s t u : State) (a b : List ℕ) → Leads s a t → Leads t b 
 leads_then s t u a b first second = λ n rest.
     let f = first n (b ++ rest) in
     let g = second f.0 rest in
-    (g.0, ap (λ (l : List ℕ). read_lines n s (lines_of l)) (append_assoc a b rest) ∙ f.1 ∙ g.1)
+    (g.0, ap (λ (l : List ℕ). read_lines n s (text_lines l)) (append_assoc a b rest) ∙ f.1 ∙ g.1)
 
-put_known : (n : ℕ) (s t : State) (word : Option Keyword) (k : Keyword) (ws : List (List ℕ)) → word ≡ Some k → may_stand k s.place ≡ true → put n s k ws ≡ Ok t
+put_known : (n : ℕ) (s t : State) (word : Option DeckKeyword) (k : DeckKeyword) (ws : List (List ℕ)) → word ≡ Some k → may_stand k s.place ≡ true → line_put n s k ws ≡ Ok t
     → put_words n s word ws ≡ Ok t
 put_known n s t word k ws is stands does = rw (is, stands) does
 
-one_line : (n : ℕ) (s t : State) (b : ℕ) (w : List ℕ) (ws : List (List ℕ)) (k : Keyword) (rest : List ℕ) → b ≢ 42 → AreWords ((b ∷ w) ∷ ws)
-    → keyword_of (b ∷ w) ≡ Some k → may_stand k s.place ≡ true → put n s k ws ≡ Ok t
-    → read_lines n s (lines_of (join ((b ∷ w) ∷ ws) ++ 10 ∷ rest)) ≡ read_lines (n + 1) t (lines_of rest)
+one_line : (n : ℕ) (s t : State) (b : ℕ) (w : List ℕ) (ws : List (List ℕ)) (k : DeckKeyword) (rest : List ℕ) → b ≢ 42 → AreWords ((b ∷ w) ∷ ws)
+    → keyword_of (b ∷ w) ≡ Some k → may_stand k s.place ≡ true → line_put n s k ws ≡ Ok t
+    → read_lines n s (text_lines (join ((b ∷ w) ∷ ws) ++ 10 ∷ rest)) ≡ read_lines (n + 1) t (text_lines rest)
 one_line n s t b w ws k rest ne h is stands does =
     ap (read_lines n s) (line_then (join ((b ∷ w) ∷ ws)) rest (joined_good ((b ∷ w) ∷ ws) h))
-    ∙ ap (λ r. or_stop r (λ u. read_lines (n + 1) u (lines_of rest))) (line_does n s b w ws ne h ∙ put_known n s t (keyword_of (b ∷ w)) k ws is stands does)
+    ∙ ap (λ r. or_stop r (λ u. read_lines (n + 1) u (text_lines rest))) (line_does n s b w ws ne h ∙ put_known n s t (keyword_of (b ∷ w)) k ws is stands does)
 
 -- one line, with what it does at each number
-pub leads_line : (s t : State) (b : ℕ) (w : List ℕ) (ws : List (List ℕ)) (k : Keyword) (text : List ℕ) → text ≡ join ((b ∷ w) ∷ ws) ++ 10 ∷ [] → b ≢ 42
+pub leads_line : (s t : State) (b : ℕ) (w : List ℕ) (ws : List (List ℕ)) (k : DeckKeyword) (text : List ℕ) → text ≡ join ((b ∷ w) ∷ ws) ++ 10 ∷ [] → b ≢ 42
     → AreWords ((b ∷ w) ∷ ws) → keyword_of (b ∷ w) ≡ Some k → may_stand k s.place ≡ true
-    → ((n : ℕ) → put n s k ws ≡ Ok t) → Leads s text t
+    → ((n : ℕ) → line_put n s k ws ≡ Ok t) → Leads s text t
 leads_line s t b w ws k text is ne h key stands does = λ n rest. (
   n + 1,
-  ap (λ (l : List ℕ). read_lines n s (lines_of l)) (ap (λ (l : List ℕ). l ++ rest) is ∙ append_assoc (join ((b ∷ w) ∷ ws)) (10 ∷ []) rest)
+  ap (λ (l : List ℕ). read_lines n s (text_lines l)) (ap (λ (l : List ℕ). l ++ rest) is ∙ append_assoc (join ((b ∷ w) ∷ ws)) (10 ∷ []) rest)
       ∙ one_line n s t b w ws k rest ne h key stands (does n),
 )
 
 -- the same where the state behind it has the line's number
-pub line_at : (n : ℕ) (s t : State) (b : ℕ) (w : List ℕ) (ws : List (List ℕ)) (k : Keyword) (text rest : List ℕ) → text ≡ join ((b ∷ w) ∷ ws) ++ 10 ∷ []
+pub line_at : (n : ℕ) (s t : State) (b : ℕ) (w : List ℕ) (ws : List (List ℕ)) (k : DeckKeyword) (text rest : List ℕ) → text ≡ join ((b ∷ w) ∷ ws) ++ 10 ∷ []
     → b ≢ 42 → AreWords ((b ∷ w) ∷ ws) → keyword_of (b ∷ w) ≡ Some k → may_stand k s.place ≡ true
-    → put n s k ws ≡ Ok t → read_lines n s (lines_of (text ++ rest)) ≡ read_lines (n + 1) t (lines_of rest)
+    → line_put n s k ws ≡ Ok t → read_lines n s (text_lines (text ++ rest)) ≡ read_lines (n + 1) t (text_lines rest)
 line_at n s t b w ws k text rest is ne h key stands does =
-    ap (λ (l : List ℕ). read_lines n s (lines_of l)) (ap (λ (l : List ℕ). l ++ rest) is ∙ append_assoc (join ((b ∷ w) ∷ ws)) (10 ∷ []) rest)
+    ap (λ (l : List ℕ). read_lines n s (text_lines l)) (ap (λ (l : List ℕ). l ++ rest) is ∙ append_assoc (join ((b ∷ w) ∷ ws)) (10 ∷ []) rest)
     ∙ one_line n s t b w ws k rest ne h key stands does

@@ -10,8 +10,8 @@ use Rattle.ckd_types.specs.declared.channel.Why.{Why}
 use Rattle.ckd_types.specs.Program.{first_fault}
 use Rattle.deck_plan.specs.declared.event.EventLine.{EventLine}
 use Rattle.deck_text.specs.declared.keyword.EventWord.{EventWord}
-use Rattle.deck_text.specs.declared.keyword.Keyword.{Keyword}
-use Rattle.deck_text.specs.declared.keyword.Keyword.TheVariants.{Deck, Cache, Store, Device, Fault, Program, Ccw as ChannelWord, End, Events, Event}
+use Rattle.deck_text.specs.declared.keyword.DeckKeyword.{DeckKeyword}
+use Rattle.deck_text.specs.declared.keyword.DeckKeyword.TheVariants.{Deck, Cache, Store, Device, Fault, Program, Ccw as ChannelWord, End, Events, Event}
 use Rattle.deck_text.specs.declared.line.DeckWhy.{DeckWhy}
 use Rattle.deck_text.specs.declared.line.DeckWhy.TheVariants as reasons
 use Rattle.deck_text.specs.declared.line.DeckFault.{DeckFault}
@@ -20,17 +20,17 @@ use Rattle.deck_text.specs.declared.line.Which.TheVariants as limits
 use Rattle.deck_text.specs.declared.line.DeviceLine.{DeviceLine}
 use Rattle.deck_text.specs.declared.line.FaultLine.{FaultLine}
 use Rattle.deck_text.specs.declared.line.PlannedProgram.{PlannedProgram}
-use Rattle.deck_text.specs.declared.place.Place.{Place}
-use Rattle.deck_text.specs.declared.place.Place.TheVariants as places
+use Rattle.deck_text.specs.declared.place.LinePlace.{LinePlace}
+use Rattle.deck_text.specs.declared.place.LinePlace.TheVariants as places
 use Rattle.deck_text.specs.DeckLines.{DeckLines}
-use Rattle.deck_text.specs.Lines.{is_comment, has_bad_byte, lines_of}
+use Rattle.deck_text.specs.Lines.{is_comment, has_bad_byte, text_lines}
 use Rattle.deck_text.specs.Words.{one_word, words_of}
 use Rattle.deck_text.specs.Numbers.{number_in}
 use Rattle.deck_text.specs.Keywords.{keyword_of}
 use Rattle.deck_text.specs.Forms.{needed, no_words, deck_line, count_line, device_line, fault_line, path_and_device, ccw_line}
 use Rattle.deck_text.specs.Events.{event_line}
-use Rattle.deck_text.specs.Reading.{State, may_stand, or_refuse, ended, end_program, put, put_words, take_words, take_line}
-use Rattle.deck_text.specs.Parse.{start, finished, or_stop, read_lines, parsed}
+use Rattle.deck_text.specs.Reading.{State, may_stand, or_refuse, file_ended, end_program, line_put, put_words, take_words, take_line}
+use Rattle.deck_text.specs.Parse.{reading_begun, deck_finished, or_stop, read_lines, parsed}
 use Rattle.deck_text.proofs.FormsAgain.{went, needed_is, Ranged, number_range, pair_again, line_again}
 use Rattle.deck_text.proofs.EventsAgain.{fault_again, event_again}
 use Rattle.deck_text.proofs.CcwAgain.{CcwFacts, ccw_facts}
@@ -38,18 +38,18 @@ use Rattle.deck_text.proofs.LineAgain.{AreWords}
 use Rattle.deck_text.proofs.Bounds.{path_words, line_are, fault_are, event_are}
 use Rattle.deck_text.proofs.DeckAgain.{Each, DeviceOk, AllDevices, FaultOk, program_words, ProgramOk, EventOk, IsDeck}
 
-abbrev FramesAt : Place → ℕ → Type 0
+abbrev FramesAt : LinePlace → ℕ → Type 0
 FramesAt places.Front n = Unit {0}
 FramesAt places.Sizes n = Unit {0}
 FramesAt _ n = (1 ≤ n) × (n ≤ 4096)
 
-abbrev SlotsAt : Place → ℕ → Type 0
+abbrev SlotsAt : LinePlace → ℕ → Type 0
 SlotsAt places.Front n = Unit {0}
 SlotsAt places.Sizes n = Unit {0}
 SlotsAt places.Slots n = Unit {0}
 SlotsAt _ n = n ≤ 1024
 
-abbrev DevicesAt : Place → List DeviceLine → Type 0
+abbrev DevicesAt : LinePlace → List DeviceLine → Type 0
 DevicesAt places.Front ds = ds ≡ []
 DevicesAt places.Sizes ds = ds ≡ []
 DevicesAt places.Slots ds = ds ≡ []
@@ -61,7 +61,7 @@ record NoOthers (deck : DeckLines) : Type 0 where
   pub programs : deck.programs ≡ []
   pub events : deck.events ≡ []
 
-abbrev OthersAt : Place → DeckLines → Type 0
+abbrev OthersAt : LinePlace → DeckLines → Type 0
 OthersAt places.Front deck = NoOthers deck
 OthersAt places.Sizes deck = NoOthers deck
 OthersAt places.Slots deck = NoOthers deck
@@ -74,7 +74,7 @@ record IsOpen (deck : DeckLines) (path device : ℕ) : Type 0 where
   pub are : AreWords (program_words path device)
   pub room : length deck.programs < 512
 
-abbrev OpenAt : Place → DeckLines → Type 0
+abbrev OpenAt : LinePlace → DeckLines → Type 0
 OpenAt (places.Inside path device) deck = IsOpen deck path device
 OpenAt _ deck = Unit {0}
 
@@ -87,7 +87,7 @@ record Lists (deck : DeckLines) : Type 0 where
   pub events : Each (EventOk deck.devices) deck.events
   pub event_count : length deck.events ≤ 65536
 
-record Good (place : Place) (deck : DeckLines) (words : List Ccw) : Type 0 where
+record Good (place : LinePlace) (deck : DeckLines) (words : List Ccw) : Type 0 where
   pub frames : FramesAt place deck.frames
   pub slots : SlotsAt place deck.slots
   pub devices : DevicesAt place deck.devices
@@ -99,7 +99,7 @@ record Good (place : Place) (deck : DeckLines) (words : List Ccw) : Type 0 where
 abbrev IsGood : State → Type 0
 IsGood s = Good s.place s.deck s.words
 
-abbrev st : Place → DeckLines → List Ccw → List ℕ → State
+abbrev st : LinePlace → DeckLines → List Ccw → List ℕ → State
 st place deck words lines = record { place = place; deck = deck; words = words; lines = lines }
 
 record Passed {T : Type 0} (r : Result T DeckWhy) (go : T → Result State DeckFault) (t : State) : Type 0 where
@@ -138,8 +138,8 @@ devices_more before (x ∷ ds) d h ok =
 no_stand : {X : Type 0} → false ≡ true → X
 no_stand h = absurd (true≢false (sym h))
 
-deck_good : (n : ℕ) (place : Place) (deck : DeckLines) (words : List Ccw) (lines : List ℕ) (t : State) (ws : List (List ℕ)) → may_stand Deck place ≡ true
-    → Good place deck words → put n (st place deck words lines) Deck ws ≡ Ok t → IsGood t
+deck_good : (n : ℕ) (place : LinePlace) (deck : DeckLines) (words : List Ccw) (lines : List ℕ) (t : State) (ws : List (List ℕ)) → may_stand Deck place ≡ true
+    → Good place deck words → line_put n (st place deck words lines) Deck ws ≡ Ok t → IsGood t
 deck_good n places.Front deck words lines t ws stands g h =
     let a = passed n (deck_line ws) (λ one. Ok (st places.Sizes deck words lines)) t h in
     let e = ok_is (st places.Sizes deck words lines) t a.second in
@@ -165,8 +165,8 @@ sized deck frames slots h =
       event_count = h.event_count;
     }
 
-cache_good : (n : ℕ) (place : Place) (deck : DeckLines) (words : List Ccw) (lines : List ℕ) (t : State) (ws : List (List ℕ)) → may_stand Cache place ≡ true
-    → Good place deck words → put n (st place deck words lines) Cache ws ≡ Ok t → IsGood t
+cache_good : (n : ℕ) (place : LinePlace) (deck : DeckLines) (words : List Ccw) (lines : List ℕ) (t : State) (ws : List (List ℕ)) → may_stand Cache place ≡ true
+    → Good place deck words → line_put n (st place deck words lines) Cache ws ≡ Ok t → IsGood t
 cache_good n places.Sizes deck words lines t ws stands g h =
     let a = passed n (count_line 1 4096 ws) (λ k. Ok (st places.Slots (record deck { frames = k }) words lines)) t h in
     let e = ok_is (st places.Slots (record deck { frames = a.value }) words lines) t a.second in
@@ -184,8 +184,8 @@ cache_good n places.Sizes deck words lines t ws stands g h =
     })
 cache_good n _ deck words lines t ws stands g h = no_stand stands
 
-store_good : (n : ℕ) (place : Place) (deck : DeckLines) (words : List Ccw) (lines : List ℕ) (t : State) (ws : List (List ℕ)) → may_stand Store place ≡ true
-    → Good place deck words → put n (st place deck words lines) Store ws ≡ Ok t → IsGood t
+store_good : (n : ℕ) (place : LinePlace) (deck : DeckLines) (words : List Ccw) (lines : List ℕ) (t : State) (ws : List (List ℕ)) → may_stand Store place ≡ true
+    → Good place deck words → line_put n (st place deck words lines) Store ws ≡ Ok t → IsGood t
 store_good n places.Slots deck words lines t ws stands g h =
     let a = passed n (count_line 0 1024 ws) (λ k. Ok (st places.FirstDevice (record deck { slots = k }) words lines)) t h in
     let e = ok_is (st places.FirstDevice (record deck { slots = a.value }) words lines) t a.second in
@@ -216,9 +216,9 @@ device_lists deck line o h ok = record {
   event_count = h.event_count;
 }
 
-device_put : (n : ℕ) (place : Place) (deck : DeckLines) (words : List Ccw) (lines : List ℕ) (t : State) (ws : List (List ℕ)) → (1 ≤ deck.frames)
+device_put : (n : ℕ) (place : LinePlace) (deck : DeckLines) (words : List Ccw) (lines : List ℕ) (t : State) (ws : List (List ℕ)) → (1 ≤ deck.frames)
     × (deck.frames ≤ 4096) → deck.slots ≤ 1024 → NoOthers deck → Lists deck → Each CcwFacts words
-    → put n (st place deck words lines) Device ws ≡ Ok t → IsGood t
+    → line_put n (st place deck words lines) Device ws ≡ Ok t → IsGood t
 device_put n place deck words lines t ws frames slots o lists facts h =
     let a = passed n (device_line deck.devices ws) (λ line. Ok (st places.Devices (record deck { devices = deck.devices ++ line ∷ [] }) words lines)) t h in
     let e = ok_is (st places.Devices (record deck { devices = deck.devices ++ a.value ∷ [] }) words lines) t a.second in
@@ -232,8 +232,8 @@ device_put n place deck words lines t ws frames slots o lists facts h =
       facts = facts;
     })
 
-device_good : (n : ℕ) (place : Place) (deck : DeckLines) (words : List Ccw) (lines : List ℕ) (t : State) (ws : List (List ℕ)) → may_stand Device place ≡ true
-    → Good place deck words → put n (st place deck words lines) Device ws ≡ Ok t → IsGood t
+device_good : (n : ℕ) (place : LinePlace) (deck : DeckLines) (words : List Ccw) (lines : List ℕ) (t : State) (ws : List (List ℕ)) → may_stand Device place ≡ true
+    → Good place deck words → line_put n (st place deck words lines) Device ws ≡ Ok t → IsGood t
 device_good n places.FirstDevice deck words lines t ws stands g h =
     device_put n places.FirstDevice deck words lines t ws g.frames g.slots g.others g.lists g.facts h
 device_good n places.Devices deck words lines t ws stands g h = device_put n places.Devices deck words lines t ws g.frames g.slots g.others g.lists g.facts h
@@ -247,8 +247,8 @@ record Behind (deck : DeckLines) (words : List Ccw) : Type 0 where
   pub lists : Lists deck
   pub facts : Each CcwFacts words
 
-fault_put : (n : ℕ) (place : Place) (deck : DeckLines) (words : List Ccw) (lines : List ℕ) (t : State) (ws : List (List ℕ)) → Behind deck words
-    → put n (st place deck words lines) Fault ws ≡ Ok t → IsGood t
+fault_put : (n : ℕ) (place : LinePlace) (deck : DeckLines) (words : List Ccw) (lines : List ℕ) (t : State) (ws : List (List ℕ)) → Behind deck words
+    → line_put n (st place deck words lines) Fault ws ≡ Ok t → IsGood t
 fault_put n place deck words lines t ws g h =
     let next = λ (line : FaultLine). st places.Faults (record deck { faults = deck.faults ++ line ∷ [] }) words lines in
     let a = passed n (fault_line deck.devices ws) (λ line. if nat_le 1024 (length deck.faults) then Err (Limit limits.Faults) else Ok (next line)) t h in
@@ -277,16 +277,16 @@ fault_put n place deck words lines t ws g h =
       facts = g.facts;
     })
 
-fault_good : (n : ℕ) (place : Place) (deck : DeckLines) (words : List Ccw) (lines : List ℕ) (t : State) (ws : List (List ℕ)) → may_stand Fault place ≡ true
-    → Good place deck words → put n (st place deck words lines) Fault ws ≡ Ok t → IsGood t
+fault_good : (n : ℕ) (place : LinePlace) (deck : DeckLines) (words : List Ccw) (lines : List ℕ) (t : State) (ws : List (List ℕ)) → may_stand Fault place ≡ true
+    → Good place deck words → line_put n (st place deck words lines) Fault ws ≡ Ok t → IsGood t
 fault_good n places.Devices deck words lines t ws stands g h =
     fault_put n places.Devices deck words lines t ws (record { frames = g.frames; slots = g.slots; some = g.devices; lists = g.lists; facts = g.facts }) h
 fault_good n places.Faults deck words lines t ws stands g h =
     fault_put n places.Faults deck words lines t ws (record { frames = g.frames; slots = g.slots; some = g.devices; lists = g.lists; facts = g.facts }) h
 fault_good n _ deck words lines t ws stands g h = no_stand stands
 
-program_put : (n : ℕ) (place : Place) (deck : DeckLines) (words : List Ccw) (lines : List ℕ) (t : State) (ws : List (List ℕ)) → Behind deck words
-    → put n (st place deck words lines) Program ws ≡ Ok t → IsGood t
+program_put : (n : ℕ) (place : LinePlace) (deck : DeckLines) (words : List Ccw) (lines : List ℕ) (t : State) (ws : List (List ℕ)) → Behind deck words
+    → line_put n (st place deck words lines) Program ws ≡ Ok t → IsGood t
 program_put n place deck words lines t ws g h =
     let next = λ (at : ℕ × ℕ). st (places.Inside at.0 at.1) deck [] [] in
     let a = passed n (path_and_device deck.devices ws) (λ at. if nat_le 512 (length deck.programs) then Err (Limit limits.Programs) else Ok (next at)) t h in
@@ -301,8 +301,8 @@ program_put n place deck words lines t ws g h =
       facts = tt;
     })
 
-program_good : (n : ℕ) (place : Place) (deck : DeckLines) (words : List Ccw) (lines : List ℕ) (t : State) (ws : List (List ℕ)) → may_stand Program place ≡ true
-    → Good place deck words → put n (st place deck words lines) Program ws ≡ Ok t → IsGood t
+program_good : (n : ℕ) (place : LinePlace) (deck : DeckLines) (words : List Ccw) (lines : List ℕ) (t : State) (ws : List (List ℕ)) → may_stand Program place ≡ true
+    → Good place deck words → line_put n (st place deck words lines) Program ws ≡ Ok t → IsGood t
 program_good n places.Devices deck words lines t ws stands g h =
     program_put n places.Devices deck words lines t ws (record { frames = g.frames; slots = g.slots; some = g.devices; lists = g.lists; facts = g.facts }) h
 program_good n places.Faults deck words lines t ws stands g h =
@@ -311,8 +311,8 @@ program_good n places.Programs deck words lines t ws stands g h =
     program_put n places.Programs deck words lines t ws (record { frames = g.frames; slots = g.slots; some = g.devices; lists = g.lists; facts = g.facts }) h
 program_good n _ deck words lines t ws stands g h = no_stand stands
 
-ccw_good : (n : ℕ) (place : Place) (deck : DeckLines) (words : List Ccw) (lines : List ℕ) (t : State) (ws : List (List ℕ)) → may_stand ChannelWord place ≡ true
-    → Good place deck words → put n (st place deck words lines) ChannelWord ws ≡ Ok t → IsGood t
+ccw_good : (n : ℕ) (place : LinePlace) (deck : DeckLines) (words : List Ccw) (lines : List ℕ) (t : State) (ws : List (List ℕ)) → may_stand ChannelWord place ≡ true
+    → Good place deck words → line_put n (st place deck words lines) ChannelWord ws ≡ Ok t → IsGood t
 ccw_good n (places.Inside path device) deck words lines t ws stands g h =
     let next = λ (ccw : Ccw). st (places.Inside path device) deck (words ++ ccw ∷ []) (lines ++ n ∷ []) in
     let a = passed n (ccw_line ws) (λ ccw. if nat_le 256 (length words) then Err (Refused n reasons.Program) else Ok (next ccw)) t h in
@@ -330,14 +330,14 @@ ccw_good n _ deck words lines t ws stands g h = no_stand stands
 
 record Ended (n : ℕ) (s : State) (at : ℕ × ℕ) (o : Option (ℕ × Why)) (t : State) : Type 0 where
   pub none : o ≡ None
-  pub same : ended s at ≡ t
+  pub same : file_ended s at ≡ t
 
 end_is : (n : ℕ) (s t : State) (at : ℕ × ℕ) (o : Option (ℕ × Why)) → end_program n s (Some at) o ≡ Ok t → Ended n s at o t
 end_is n s t at (Some fault) h = absurd (cc)
-end_is n s t at None h = record { none = refl; same = ok_is (ended s at) t h }
+end_is n s t at None h = record { none = refl; same = ok_is (file_ended s at) t h }
 
-end_good : (n : ℕ) (place : Place) (deck : DeckLines) (words : List Ccw) (lines : List ℕ) (t : State) (ws : List (List ℕ)) → may_stand End place ≡ true
-    → Good place deck words → put n (st place deck words lines) End ws ≡ Ok t → IsGood t
+end_good : (n : ℕ) (place : LinePlace) (deck : DeckLines) (words : List Ccw) (lines : List ℕ) (t : State) (ws : List (List ℕ)) → may_stand End place ≡ true
+    → Good place deck words → line_put n (st place deck words lines) End ws ≡ Ok t → IsGood t
 end_good n (places.Inside path device) deck words lines t ws stands g h =
     let s = st (places.Inside path device) deck words lines in
     let a = passed n (no_words ws) (λ none. end_program n s (Some (path, device)) (first_fault words)) t h in
@@ -364,15 +364,15 @@ end_good n (places.Inside path device) deck words lines t ws stands g h =
     })
 end_good n _ deck words lines t ws stands g h = no_stand stands
 
-events_put : (n : ℕ) (place : Place) (deck : DeckLines) (words : List Ccw) (lines : List ℕ) (t : State) (ws : List (List ℕ)) → Behind deck words
-    → put n (st place deck words lines) Events ws ≡ Ok t → IsGood t
+events_put : (n : ℕ) (place : LinePlace) (deck : DeckLines) (words : List Ccw) (lines : List ℕ) (t : State) (ws : List (List ℕ)) → Behind deck words
+    → line_put n (st place deck words lines) Events ws ≡ Ok t → IsGood t
 events_put n place deck words lines t ws g h =
     let a = passed n (no_words ws) (λ none. Ok (st places.Events deck words lines)) t h in
     let e = ok_is (st places.Events deck words lines) t a.second in
     subst IsGood e (record { frames = g.frames; slots = g.slots; devices = g.some; others = tt; opened = tt; lists = g.lists; facts = g.facts })
 
-events_good : (n : ℕ) (place : Place) (deck : DeckLines) (words : List Ccw) (lines : List ℕ) (t : State) (ws : List (List ℕ)) → may_stand Events place ≡ true
-    → Good place deck words → put n (st place deck words lines) Events ws ≡ Ok t → IsGood t
+events_good : (n : ℕ) (place : LinePlace) (deck : DeckLines) (words : List Ccw) (lines : List ℕ) (t : State) (ws : List (List ℕ)) → may_stand Events place ≡ true
+    → Good place deck words → line_put n (st place deck words lines) Events ws ≡ Ok t → IsGood t
 events_good n places.Devices deck words lines t ws stands g h =
     events_put n places.Devices deck words lines t ws (record { frames = g.frames; slots = g.slots; some = g.devices; lists = g.lists; facts = g.facts }) h
 events_good n places.Faults deck words lines t ws stands g h =
@@ -381,8 +381,8 @@ events_good n places.Programs deck words lines t ws stands g h =
     events_put n places.Programs deck words lines t ws (record { frames = g.frames; slots = g.slots; some = g.devices; lists = g.lists; facts = g.facts }) h
 events_good n _ deck words lines t ws stands g h = no_stand stands
 
-event_good : (n : ℕ) (place : Place) (deck : DeckLines) (words : List Ccw) (lines : List ℕ) (t : State) (word : EventWord) (ws : List (List ℕ))
-    → may_stand (Event word) place ≡ true → Good place deck words → put n (st place deck words lines) (Event word) ws ≡ Ok t → IsGood t
+event_good : (n : ℕ) (place : LinePlace) (deck : DeckLines) (words : List Ccw) (lines : List ℕ) (t : State) (word : EventWord) (ws : List (List ℕ))
+    → may_stand (Event word) place ≡ true → Good place deck words → line_put n (st place deck words lines) (Event word) ws ≡ Ok t → IsGood t
 event_good n places.Events deck words lines t word ws stands g h =
     let next = λ (line : EventLine). st places.Events (record deck { events = deck.events ++ line ∷ [] }) words lines in
     let a = passed n (event_line deck.devices word ws) (λ line. if nat_le 65536 (length deck.events) then Err (Limit limits.Events) else Ok (next line)) t h in
@@ -408,7 +408,7 @@ event_good n places.Events deck words lines t word ws stands g h =
     })
 event_good n _ deck words lines t word ws stands g h = no_stand stands
 
-put_good : (n : ℕ) (s t : State) (k : Keyword) (ws : List (List ℕ)) → may_stand k s.place ≡ true → IsGood s → put n s k ws ≡ Ok t → IsGood t
+put_good : (n : ℕ) (s t : State) (k : DeckKeyword) (ws : List (List ℕ)) → may_stand k s.place ≡ true → IsGood s → line_put n s k ws ≡ Ok t → IsGood t
 put_good n s t Deck ws stands g h = deck_good n s.place s.deck s.words s.lines t ws stands g h
 put_good n s t Cache ws stands g h = cache_good n s.place s.deck s.words s.lines t ws stands g h
 put_good n s t Store ws stands g h = store_good n s.place s.deck s.words s.lines t ws stands g h
@@ -420,12 +420,12 @@ put_good n s t End ws stands g h = end_good n s.place s.deck s.words s.lines t w
 put_good n s t Events ws stands g h = events_good n s.place s.deck s.words s.lines t ws stands g h
 put_good n s t (Event word) ws stands g h = event_good n s.place s.deck s.words s.lines t word ws stands g h
 
-stands_good : (n : ℕ) (s t : State) (k : Keyword) (ws : List (List ℕ)) (b : Bool) → may_stand k s.place ≡ b → IsGood s
-    → (if b then put n s k ws else Err (Refused n reasons.Order)) ≡ Ok t → IsGood t
+stands_good : (n : ℕ) (s t : State) (k : DeckKeyword) (ws : List (List ℕ)) (b : Bool) → may_stand k s.place ≡ b → IsGood s
+    → (if b then line_put n s k ws else Err (Refused n reasons.Order)) ≡ Ok t → IsGood t
 stands_good n s t k ws true is g h = put_good n s t k ws is g h
 stands_good n s t k ws false is g h = absurd (cc)
 
-words_good : (n : ℕ) (s t : State) (o : Option Keyword) (ws : List (List ℕ)) → IsGood s → put_words n s o ws ≡ Ok t → IsGood t
+words_good : (n : ℕ) (s t : State) (o : Option DeckKeyword) (ws : List (List ℕ)) → IsGood s → put_words n s o ws ≡ Ok t → IsGood t
 words_good n s t None ws g h = absurd (cc)
 words_good n s t (Some k) ws g h = stands_good n s t k ws (may_stand k s.place) refl g h
 
@@ -448,7 +448,7 @@ line_good n line s t g h = comment_good n line s t (is_comment line) g h
 deck_is : (d e : DeckLines) → (if true then Ok d else Err (Limit limits.Size)) ≡ Ok e → d ≡ e
 deck_is d e h = same_ok (Limit limits.Size) d e h
 
-last_good : (n : ℕ) (place : Place) (deck d : DeckLines) (words : List Ccw) → Good place deck words → finished n place deck ≡ Ok d → IsDeck d
+last_good : (n : ℕ) (place : LinePlace) (deck d : DeckLines) (words : List Ccw) → Good place deck words → deck_finished n place deck ≡ Ok d → IsDeck d
 last_good n places.Events deck d words g h =
     let l = g.lists in
     subst IsDeck (deck_is deck d h) (record {
@@ -476,7 +476,7 @@ read_good n s d [] g h = last_good n s.place s.deck d s.words g h
 read_good n s d (line ∷ lines) g h =
     next_good n line s d (λ t. read_lines (n + 1) t lines) (λ t gt e. read_good (n + 1) t d lines gt e) g (take_line n line s) refl h
 
-start_good : IsGood start
+start_good : IsGood reading_begun
 start_good = record {
   frames = tt;
   slots = tt;
@@ -487,9 +487,9 @@ start_good = record {
   facts = tt;
 }
 
-sized_good : (text : List ℕ) (d : DeckLines) (b : Bool) → (if b then Err (Limit limits.Size) else read_lines 1 start (lines_of text)) ≡ Ok d → IsDeck d
+sized_good : (text : List ℕ) (d : DeckLines) (b : Bool) → (if b then Err (Limit limits.Size) else read_lines 1 reading_begun (text_lines text)) ≡ Ok d → IsDeck d
 sized_good text d true h = absurd (cc)
-sized_good text d false h = read_good 1 start d (lines_of text) start_good h
+sized_good text d false h = read_good 1 reading_begun d (text_lines text) start_good h
 
 -- each deck that a text is
 pub parsed_good : (text : List ℕ) (d : DeckLines) → parsed text ≡ Ok d → IsDeck d

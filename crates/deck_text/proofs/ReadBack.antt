@@ -8,8 +8,8 @@ use Rattle.std.proofs.lemmas.Fmt.{decimal_nonempty, length-decimal-le, first_dec
 use Rattle.std.proofs.lemmas.Str.Parse.{IsNumeralModel, numerals_by_fold}
 use Rattle.hex.specs.Hex.{encode_upper, IsBytes}
 use Rattle.hex.proofs.HexLemmas.{decode_of-encode_upper, decode_sized-twice, length-encode_with}
-use Rattle.deck_text.specs.Numbers.{are_digits, is_digit, value_after, has_form, number_of, within, number_in}
-use Rattle.deck_text.specs.Lines.{lines_of, onto_first, has_bad_byte}
+use Rattle.deck_text.specs.Numbers.{are_digits, is_digit, value_after, has_form, word_number, within, number_in}
+use Rattle.deck_text.specs.Lines.{text_lines, onto_first, has_bad_byte}
 use Rattle.deck_text.specs.Words.{words_of}
 use Rattle.deck_text.specs.Forms.{byte_of, first_byte, word_bytes, decoded}
 
@@ -47,7 +47,7 @@ decimal_form n h =
     let few = length-decimal-le 10 n (omega arith) h small in
     elim (nat_zero n) [ inl e ↦ zero_form n e | inr pos ↦ form_of (decimal n) some few (first_decimal n pos small) ]
 
-pub decimal_read : (n : ℕ) → n < 10 ^ 10 → number_of (decimal n) ≡ Some n
+pub decimal_read : (n : ℕ) → n < 10 ^ 10 → word_number (decimal n) ≡ Some n
 decimal_read n h =
     let small : n < 2 ^ 64 = omega arith in
     let form = decimal_form n h in
@@ -101,10 +101,10 @@ line_byte b bytes h =
     let p = or_parts (nat_lt b 32 || nat_lt 126 b) (has_bad_byte bytes) h in
     (printed b p.0, p.1)
 
-line_more : (b : ℕ) (bytes : List ℕ) → 32 ≤ b → lines_of (b ∷ bytes) ≡ onto_first b (lines_of bytes)
+line_more : (b : ℕ) (bytes : List ℕ) → 32 ≤ b → text_lines (b ∷ bytes) ≡ onto_first b (text_lines bytes)
 line_more b bytes h = grind (arith, nat_tests)
 
-pub line_then : (line bytes : List ℕ) → has_bad_byte line ≡ false → lines_of (line ++ 10 ∷ bytes) ≡ line ∷ lines_of bytes
+pub line_then : (line bytes : List ℕ) → has_bad_byte line ≡ false → text_lines (line ++ 10 ∷ bytes) ≡ line ∷ text_lines bytes
 line_then [] bytes h = refl
 line_then (b ∷ line) bytes h =
     let f = line_byte b line h in

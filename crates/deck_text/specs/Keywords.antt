@@ -4,11 +4,11 @@ use Rattle.std.specs.Str.{bytes_eq}
 use Rattle.deck_text.specs.declared.keyword.EventWord.{EventWord}
 use Rattle.deck_text.specs.declared.keyword.EventWord.TheVariants.{Start, Step, Run, Back, Settle, Reset, Fail, Repair}
 use Rattle.deck_text.specs.declared.keyword.EventWord.TheVariants.{Replace, Pair, Unpair, Suspend, Resume, Power}
-use Rattle.deck_text.specs.declared.keyword.Keyword.{Keyword}
-use Rattle.deck_text.specs.declared.keyword.Keyword.TheVariants.{Deck, Cache, Store, Device, Fault, Program, Ccw, End, Events, Event}
+use Rattle.deck_text.specs.declared.keyword.DeckKeyword.{DeckKeyword}
+use Rattle.deck_text.specs.declared.keyword.DeckKeyword.TheVariants.{Deck, Cache, Store, Device, Fault, Program, Ccw, End, Events, Event}
 
 -- the words of the lines up to the events
-unfoldable pub head_of : List ℕ → Option Keyword
+unfoldable pub head_of : List ℕ → Option DeckKeyword
 head_of word =
     if bytes_eq word (codes "DECK") then Some Deck
     else if bytes_eq word (codes "CACHE") then Some Cache
@@ -40,10 +40,10 @@ event_word_of word =
     else if bytes_eq word (codes "POWER") then Some Power
     else None
 
-abbrev pub orelse : Option Keyword → Option EventWord → Option Keyword
+abbrev pub orelse : Option DeckKeyword → Option EventWord → Option DeckKeyword
 orelse (Some keyword) event = Some keyword
 orelse None (Some event) = Some (Event event)
 orelse None None = None
 
-abbrev pub keyword_of : List ℕ → Option Keyword
+abbrev pub keyword_of : List ℕ → Option DeckKeyword
 keyword_of word = orelse (head_of word) (event_word_of word)

@@ -1,7 +1,7 @@
 ghost use Rattle.std.specs.Prelude.{◌≡◌, ◌++◌, [], Ok};
 ghost use Rattle.deck_text.specs.Answers.{Parses, Takes, refusing};
 ghost use Rattle.deck_text.specs.Words.{words_of};
-ghost use Rattle.deck_text.specs.Forms.{and_then, byte_of, word_bytes, bytes_of, head_of, ccw_line};
+ghost use Rattle.deck_text.specs.Forms.{then_read, byte_of, word_bytes, bytes_of, program_head, ccw_line};
 
 use crate::numbers::number_in;
 use crate::words::next_word;
@@ -24,7 +24,7 @@ fn byte_of(word: &[u8]) -> Option<u8>
 
 /// Adds the bytes of one word of digits.
 fn add_word(bytes: &mut Vec<u8>, line: u32, word: &[u8]) -> Result<(), DeckFault>
-    ensures { Takes result bytes.new.items (refusing line (and_then (word_bytes word.now) (λ more. Ok (bytes.old.items ++ more)))) }
+    ensures { Takes result bytes.new.items (refusing line (then_read (word_bytes word.now) (λ more. Ok (bytes.old.items ++ more)))) }
 {
     let from = bytes.len();
     bytes.resize(from + word.len() / 2, 0)?;
@@ -55,7 +55,7 @@ fn bytes_of(alloc: Global, line: u32, rest: &[u8]) -> Result<Bytes, DeckFault>
 
 /// The command, the flags and the count.
 fn head_of(code: &[u8], flags: &[u8], count: &[u8]) -> Result<(u8, u8, u16), DeckWhy>
-    ensures { result ≡ head_of code.now flags.now count.now }
+    ensures { result ≡ program_head code.now flags.now count.now }
 {
     let count = number_in(0, MOST, count).ok_or(DeckWhy::Number)?;
     let command = byte_of(code).ok_or(DeckWhy::Hex)?;

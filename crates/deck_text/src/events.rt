@@ -1,10 +1,10 @@
 ghost use Rattle.std.specs.Prelude.{◌≡◌};
 ghost use Rattle.deck_text.specs.Words.{words_of};
-ghost use Rattle.deck_text.specs.Events.{device_words, pair_words, side_words, part_of, is_volume, part_words, fail_line};
+ghost use Rattle.deck_text.specs.Events.{device_words, pair_words, side_words, part_word, is_volume, part_words, fail_line};
 ghost use Rattle.deck_text.specs.Events.{repair_line, replace_line, event_line, failed_part, repaired_part};
 
 use crate::forms::{device_of, no_words, path_and_device, side_of};
-use crate::keyword::{EventWord, Part, is_text};
+use crate::keyword::{EventPart, EventWord, is_text};
 use crate::words::{one_word, three_words, two_words};
 use crate::{DeckWhy, DeviceLine};
 use ckd_types::{DeviceNo, Side};
@@ -38,14 +38,14 @@ fn side_words(
     Ok((device, side))
 }
 
-#[tactic(auto, unfolding(crate::specs::Events::part_of))]
-fn part_of(word: &[u8]) -> Option<Part>
-    ensures { result ≡ part_of word.now }
+#[tactic(auto, unfolding(crate::specs::Events::part_word))]
+fn part_of(word: &[u8]) -> Option<EventPart>
+    ensures { result ≡ part_word word.now }
 {
     if is_text(word, b"CACHE") {
-        Some(Part::Cache)
+        Some(EventPart::Cache)
     } else if is_text(word, b"STORE") {
-        Some(Part::Store)
+        Some(EventPart::Store)
     } else {
         None
     }
@@ -58,28 +58,28 @@ fn is_volume(word: &[u8]) -> bool
     is_text(word, b"VOLUME")
 }
 
-fn part_words(rest: &[u8]) -> Result<Part, DeckWhy>
+fn part_words(rest: &[u8]) -> Result<EventPart, DeckWhy>
     ensures { result ≡ part_words (words_of rest.now) }
 {
     let word = one_word(rest).ok_or(DeckWhy::Words)?;
     part_of(word).ok_or(DeckWhy::Words)
 }
 
-fn failed_part(part: Part) -> EventLine
+fn failed_part(part: EventPart) -> EventLine
     ensures { result ≡ failed_part part }
 {
     match part {
-        Part::Cache => EventLine::FailCache,
-        Part::Store => EventLine::FailStore,
+        EventPart::Cache => EventLine::FailCache,
+        EventPart::Store => EventLine::FailStore,
     }
 }
 
-fn repaired_part(part: Part) -> EventLine
+fn repaired_part(part: EventPart) -> EventLine
     ensures { result ≡ repaired_part part }
 {
     match part {
-        Part::Cache => EventLine::RepairCache,
-        Part::Store => EventLine::RepairStore,
+        EventPart::Cache => EventLine::RepairCache,
+        EventPart::Store => EventLine::RepairStore,
     }
 }
 

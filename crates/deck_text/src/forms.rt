@@ -2,7 +2,7 @@ ghost use Rattle.std.specs.Prelude.{◌≡◌, ◌≤◌, IfOk};
 ghost use Rattle.deck_text.specs.Words.{words_of};
 ghost use Rattle.deck_text.specs.Numbers.{number_in};
 ghost use Rattle.deck_text.specs.Forms.{no_words, is_one, deck_line, count_line, rises, device_line, is_declared};
-ghost use Rattle.deck_text.specs.Forms.{device_of, path_of, is_write, side_of, fault_line, path_and_device};
+ghost use Rattle.deck_text.specs.Forms.{device_of, path_of, is_write_word, side_by_word, fault_line, path_and_device};
 
 use crate::keyword::is_text;
 use crate::numbers::{geometry_of, number_in};
@@ -110,9 +110,9 @@ fn path_of(word: &[u8]) -> Result<PathNo, DeckWhy>
     PathNo::new(n as u8).ok_or(DeckWhy::Number)
 }
 
-#[tactic(auto, unfolding(crate::specs::Forms::is_write))]
+#[tactic(auto, unfolding(crate::specs::Forms::is_write_word))]
 fn is_write(word: &[u8]) -> Option<bool>
-    ensures { result ≡ is_write word.now }
+    ensures { result ≡ is_write_word word.now }
 {
     if is_text(word, b"READ") {
         Some(false)
@@ -124,9 +124,9 @@ fn is_write(word: &[u8]) -> Option<bool>
 }
 
 /// The side that a word names.
-#[tactic(auto, unfolding(crate::specs::Forms::side_of))]
+#[tactic(auto, unfolding(crate::specs::Forms::side_by_word))]
 pub fn side_of(word: &[u8]) -> Option<Side>
-    ensures { result ≡ side_of word.now }
+    ensures { result ≡ side_by_word word.now }
 {
     if is_text(word, b"A") {
         Some(Side::A)

@@ -23,7 +23,7 @@ pub enum EventWord {
 
 /// The first word of a line.
 #[derive(Clone, Copy)]
-pub enum Keyword {
+pub enum DeckKeyword {
     Deck,
     Cache,
     Store,
@@ -38,7 +38,7 @@ pub enum Keyword {
 
 /// The cache or the store.
 #[derive(Clone, Copy)]
-pub enum Part {
+pub enum EventPart {
     Cache,
     Store,
 }
@@ -51,27 +51,27 @@ pub fn is_text(text: &[u8], want: &[u8]) -> bool
 }
 
 #[tactic(auto, unfolding(crate::specs::Keywords::head_of))]
-fn head_of(word: &[u8]) -> Option<Keyword>
+fn head_of(word: &[u8]) -> Option<DeckKeyword>
     ensures { result ≡ head_of word.now }
 {
     if is_text(word, b"DECK") {
-        Some(Keyword::Deck)
+        Some(DeckKeyword::Deck)
     } else if is_text(word, b"CACHE") {
-        Some(Keyword::Cache)
+        Some(DeckKeyword::Cache)
     } else if is_text(word, b"STORE") {
-        Some(Keyword::Store)
+        Some(DeckKeyword::Store)
     } else if is_text(word, b"DEVICE") {
-        Some(Keyword::Device)
+        Some(DeckKeyword::Device)
     } else if is_text(word, b"FAULT") {
-        Some(Keyword::Fault)
+        Some(DeckKeyword::Fault)
     } else if is_text(word, b"PROGRAM") {
-        Some(Keyword::Program)
+        Some(DeckKeyword::Program)
     } else if is_text(word, b"CCW") {
-        Some(Keyword::Ccw)
+        Some(DeckKeyword::Ccw)
     } else if is_text(word, b"END") {
-        Some(Keyword::End)
+        Some(DeckKeyword::End)
     } else if is_text(word, b"EVENTS") {
-        Some(Keyword::Events)
+        Some(DeckKeyword::Events)
     } else {
         None
     }
@@ -115,12 +115,12 @@ fn event_word_of(word: &[u8]) -> Option<EventWord>
 }
 
 /// The keyword that a word is.
-pub fn keyword_of(word: &[u8]) -> Option<Keyword>
+pub fn keyword_of(word: &[u8]) -> Option<DeckKeyword>
     ensures { result ≡ keyword_of word.now }
 {
     if let Some(keyword) = head_of(word) {
         return Some(keyword);
     }
     let event = event_word_of(word)?;
-    Some(Keyword::Event(event))
+    Some(DeckKeyword::Event(event))
 }

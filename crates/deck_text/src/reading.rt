@@ -1,15 +1,15 @@
 ghost use Rattle.std.specs.Prelude.{◌≡◌, ◌<◌, IfOk, IfSome, length, slice_index_or};
 ghost use Rattle.deck_text.specs.Answers.{Takes};
 ghost use Rattle.deck_text.specs.Words.{words_of};
-ghost use Rattle.deck_text.specs.Reading.{open_program, put, put_words, take_line};
-ghost use Rattle.deck_text.specs.Parse.{start, finished};
+ghost use Rattle.deck_text.specs.Reading.{open_program, line_put, put_words, take_line};
+ghost use Rattle.deck_text.specs.Parse.{reading_begun, deck_finished};
 
 use crate::ccw::ccw_line;
 use crate::events::event_line;
 use crate::forms::{count_line, deck_line, device_line, fault_line, no_words, path_and_device};
-use crate::keyword::{EventWord, Keyword, keyword_of};
+use crate::keyword::{DeckKeyword, EventWord, keyword_of};
 use crate::lines::{has_bad_byte, is_comment};
-use crate::place::{Place, may_stand};
+use crate::place::{LinePlace, may_stand};
 use crate::words::next_word;
 use crate::{Deck, DeckFault, DeckWhy, PlannedProgram, Which};
 use ckd_ccw::{Program, ProgramFault};
@@ -30,7 +30,7 @@ const MOST_EVENTS: usize = 65_536;
 /// the numbers of their lines.
 #[derive(Drop)]
 pub struct Reading {
-    place: Place,
+    place: LinePlace,
     deck: Deck,
     words: Vec<Ccw>,
     lines: Vec<u32>,
@@ -56,10 +56,10 @@ fn refused(line: u32, why: DeckWhy) -> DeckFault
 impl Reading {
     /// Before the first line.
     pub fn new(alloc: Global) -> Result<Reading, NoMemory>
-        ensures { IfOk result (λ reading. reading ≡ start) }
+        ensures { IfOk result (λ reading. reading ≡ reading_begun) }
     {
         Ok(Reading {
-            place: Place::Front,
+            place: LinePlace::Front,
             deck: Deck::new(alloc)?,
             words: Vec::new(alloc),
             lines: Vec::new(alloc),
@@ -68,9 +68,9 @@ impl Reading {
 
     /// The deck, where the text ends before line `number`.
     pub fn finish(self, number: u32) -> Result<Deck, DeckFault>
-        ensures { result ≡ finished number self.place self.deck }
+        ensures { result ≡ deck_finished number self.place self.deck }
     {
-        if matches!(self.place, Place::Events) {
+        if matches!(self.place, LinePlace::Events) {
             Ok(self.deck)
         } else {
             Err(refused(number, DeckWhy::Unfinished))
@@ -78,53 +78,53 @@ impl Reading {
     }
 
     fn put_deck(&mut self, number: u32, rest: &[u8]) -> Result<(), DeckFault>
-        ensures { Takes result self.new (put number self.old Keyword.Deck (words_of rest.now)) }
+        ensures { Takes result self.new (line_put number self.old DeckKeyword.Deck (words_of rest.now)) }
     {
         if let Err(why) = deck_line(rest) {
             return Err(refused(number, why));
         }
-        self.place = Place::Sizes;
+        self.place = LinePlace::Sizes;
         Ok(())
     }
 
     fn put_cache(&mut self, number: u32, rest: &[u8]) -> Result<(), DeckFault>
-        ensures { Takes result self.new (put number self.old Keyword.Cache (words_of rest.now)) }
+        ensures { Takes result self.new (line_put number self.old DeckKeyword.Cache (words_of rest.now)) }
     {
         let frames = match count_line(1, 4096, rest) {
             Ok(frames) => frames,
             Err(why) => return Err(refused(number, why)),
         };
-        self.place = Place::Slots;
+        self.place = LinePlace::Slots;
         self.deck.set_frames(frames as u16);
         Ok(())
     }
 
     fn put_store(&mut self, number: u32, rest: &[u8]) -> Result<(), DeckFault>
-        ensures { Takes result self.new (put number self.old Keyword.Store (words_of rest.now)) }
+        ensures { Takes result self.new (line_put number self.old DeckKeyword.Store (words_of rest.now)) }
     {
         let slots = match count_line(0, 1024, rest) {
             Ok(slots) => slots,
             Err(why) => return Err(refused(number, why)),
         };
-        self.place = Place::FirstDevice;
+        self.place = LinePlace::FirstDevice;
         self.deck.set_slots(slots as u16);
         Ok(())
     }
 
     fn put_device(&mut self, number: u32, rest: &[u8]) -> Result<(), DeckFault>
-        ensures { Takes result self.new (put number self.old Keyword.Device (words_of rest.now)) }
+        ensures { Takes result self.new (line_put number self.old DeckKeyword.Device (words_of rest.now)) }
     {
         let line = match device_line(self.deck.devices(), rest) {
             Ok(line) => line,
             Err(why) => return Err(refused(number, why)),
         };
-        self.place = Place::Devices;
+        self.place = LinePlace::Devices;
         self.deck.push_device(line)?;
         Ok(())
     }
 
     fn put_fault(&mut self, number: u32, rest: &[u8]) -> Result<(), DeckFault>
-        ensures { Takes result self.new (put number self.old Keyword.Fault (words_of rest.now)) }
+        ensures { Takes result self.new (line_put number self.old DeckKeyword.Fault (words_of rest.now)) }
     {
         let line = match fault_line(self.deck.devices(), rest) {
             Ok(line) => line,
@@ -133,13 +133,13 @@ impl Reading {
         if self.deck.fault_count() >= MOST_FAULTS {
             return Err(DeckFault::Limit(Which::Faults));
         }
-        self.place = Place::Faults;
+        self.place = LinePlace::Faults;
         self.deck.push_fault(line)?;
         Ok(())
     }
 
     fn put_program(&mut self, number: u32, rest: &[u8]) -> Result<(), DeckFault>
-        ensures { Takes result self.new (put number self.old Keyword.Program (words_of rest.now)) }
+        ensures { Takes result self.new (line_put number self.old DeckKeyword.Program (words_of rest.now)) }
     {
         let (path, device) = match path_and_device(self.deck.devices(), rest) {
             Ok(at) => at,
@@ -148,14 +148,14 @@ impl Reading {
         if self.deck.program_count() >= MOST_PROGRAMS {
             return Err(DeckFault::Limit(Which::Programs));
         }
-        self.place = Place::Inside(path, device);
+        self.place = LinePlace::Inside(path, device);
         self.words.clear();
         self.lines.clear();
         Ok(())
     }
 
     fn put_ccw(&mut self, alloc: Global, number: u32, rest: &[u8]) -> Result<(), DeckFault>
-        ensures { Takes result self.new (put number self.old Keyword.Ccw (words_of rest.now)) }
+        ensures { Takes result self.new (line_put number self.old DeckKeyword.Ccw (words_of rest.now)) }
     {
         let ccw = ccw_line(alloc, number, rest)?;
         if self.words.len() >= MOST_WORDS {
@@ -184,13 +184,13 @@ impl Reading {
         ensures room { IfSome result (λ at. length self.now.deck.programs < 512) }
     {
         match self.place {
-            Place::Inside(path, device) => Some((path, device)),
+            LinePlace::Inside(path, device) => Some((path, device)),
             _ => None,
         }
     }
 
     fn put_end(&mut self, alloc: Global, number: u32, rest: &[u8]) -> Result<(), DeckFault>
-        ensures { Takes result self.new (put number self.old Keyword.End (words_of rest.now)) }
+        ensures { Takes result self.new (line_put number self.old DeckKeyword.End (words_of rest.now)) }
     {
         if let Err(why) = no_words(rest) {
             return Err(refused(number, why));
@@ -213,23 +213,23 @@ impl Reading {
                 program,
             },
         )?;
-        self.place = Place::Programs;
+        self.place = LinePlace::Programs;
         self.lines.clear();
         Ok(())
     }
 
     fn put_events(&mut self, number: u32, rest: &[u8]) -> Result<(), DeckFault>
-        ensures { Takes result self.new (put number self.old Keyword.Events (words_of rest.now)) }
+        ensures { Takes result self.new (line_put number self.old DeckKeyword.Events (words_of rest.now)) }
     {
         if let Err(why) = no_words(rest) {
             return Err(refused(number, why));
         }
-        self.place = Place::Events;
+        self.place = LinePlace::Events;
         Ok(())
     }
 
     fn put_event(&mut self, number: u32, word: EventWord, rest: &[u8]) -> Result<(), DeckFault>
-        ensures { Takes result self.new (put number self.old (Keyword.Event word) (words_of rest.now)) }
+        ensures { Takes result self.new (line_put number self.old (DeckKeyword.Event word) (words_of rest.now)) }
     {
         let line = match event_line(self.deck.devices(), word, rest) {
             Ok(line) => line,
@@ -246,22 +246,22 @@ impl Reading {
         &mut self,
         alloc: Global,
         number: u32,
-        keyword: Keyword,
+        keyword: DeckKeyword,
         rest: &[u8],
     ) -> Result<(), DeckFault>
-        ensures { Takes result self.new (put number self.old keyword (words_of rest.now)) }
+        ensures { Takes result self.new (line_put number self.old keyword (words_of rest.now)) }
     {
         match keyword {
-            Keyword::Deck => self.put_deck(number, rest),
-            Keyword::Cache => self.put_cache(number, rest),
-            Keyword::Store => self.put_store(number, rest),
-            Keyword::Device => self.put_device(number, rest),
-            Keyword::Fault => self.put_fault(number, rest),
-            Keyword::Program => self.put_program(number, rest),
-            Keyword::Ccw => self.put_ccw(alloc, number, rest),
-            Keyword::End => self.put_end(alloc, number, rest),
-            Keyword::Events => self.put_events(number, rest),
-            Keyword::Event(word) => self.put_event(number, word, rest),
+            DeckKeyword::Deck => self.put_deck(number, rest),
+            DeckKeyword::Cache => self.put_cache(number, rest),
+            DeckKeyword::Store => self.put_store(number, rest),
+            DeckKeyword::Device => self.put_device(number, rest),
+            DeckKeyword::Fault => self.put_fault(number, rest),
+            DeckKeyword::Program => self.put_program(number, rest),
+            DeckKeyword::Ccw => self.put_ccw(alloc, number, rest),
+            DeckKeyword::End => self.put_end(alloc, number, rest),
+            DeckKeyword::Events => self.put_events(number, rest),
+            DeckKeyword::Event(word) => self.put_event(number, word, rest),
         }
     }
 
@@ -269,7 +269,7 @@ impl Reading {
         &mut self,
         alloc: Global,
         number: u32,
-        keyword: Option<Keyword>,
+        keyword: Option<DeckKeyword>,
         rest: &[u8],
     ) -> Result<(), DeckFault>
         ensures { Takes result self.new (put_words number self.old keyword (words_of rest.now)) }

@@ -26,7 +26,7 @@ use Rattle.run_report.specs.Summed.{summary_of}
 use Rattle.device_laws.proofs.Lucky.{top}
 use Rattle.subsystem_core.specs.Devices.{numbers_of}
 use Rattle.subsystem_core.specs.declared.subsystem.Subsystem.{Subsystem}
-use Rattle.subsystem_defs.specs.Closing.{Counted, DeviceEnd, Ending, LentTo, ending}
+use Rattle.subsystem_defs.specs.Closing.{Counted, DeviceEnd, RunEnding, LentTo, ending}
 use Rattle.subsystem_defs.specs.Decks.{DeckRun, run_of}
 use Rattle.subsystem_defs.specs.Subsystem.{Mounted, devices_of}
 use Rattle.subsystem_laws.proofs.CalmRuns.{AllSo}
@@ -79,7 +79,7 @@ module _ (p : ReportLine → Bool) (device : (d : ℕ) (t : DeviceTotals) → p 
   finish_none : count_by p (lines.Finish ∷ []) ≡ 0
   finish_none = counted_none p lines.Finish [] finish
 
-  ending_none : (e : Ending) → count_by p (ending_lines e) ≡ 0
+  ending_none : (e : RunEnding) → count_by p (ending_lines e) ≡ 0
   ending_none e =
       none_of p (flat_map device_lines e.devices) (map frame_line e.frames ++ lines.Finish ∷ []) (devices_none e.devices)
       (none_of p (map frame_line e.frames) (lines.Finish ∷ []) (frames_none e.frames) finish_none)

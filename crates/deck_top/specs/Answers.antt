@@ -17,6 +17,7 @@ use Rattle.deck_top.specs.declared.top.Status.TheVariants.{Reported, DeckRefused
 use Rattle.deck_top.specs.Handed.{TakesBack}
 use Rattle.device_outside.specs.Bay.{Bay}
 use Rattle.device_outside.specs.declared.bay.Spoiled.{Spoiled}
+use Rattle.move_laws.specs.Chosen.{EndsFastWrites}
 use Rattle.move_laws.specs.Exactly.{MovesExactly}
 use Rattle.promise_laws.specs.Kept.{KeepWrites}
 use Rattle.promise_laws.specs.Origins.{HaveOrigins}
@@ -27,6 +28,7 @@ use Rattle.run_report.specs.Shown.{DeckRunsPlainly}
 use Rattle.run_report.specs.Summed.{summary_of}
 use Rattle.subsystem_defs.specs.Decks.{run_of}
 use Rattle.subsystem_defs.specs.Promised.{IsPromised}
+use Rattle.ckd_outside.specs.Causes.{Rose}
 
 -- the exit status of the program
 abbrev pub code_of : Status → ℕ
@@ -94,14 +96,16 @@ FrontOf (Err fault) task spoiled held holds = AppendsFront held holds (text_of t
 FrontOf (Ok d) Check spoiled held holds = AppendsFront held holds (canonical d)
 FrontOf (Ok d) task spoiled held holds = (text : List ℕ) × (spoiled ≡ [] → text ≡ output_of task d) × AppendsFront held holds text
 
--- the report shows each device's history, which is one of a plain device; each equipment check is explained; and while each failure is repaired
--- before the next one comes nothing is missed. Each event brings into a journal only what an event of its kind may bring, a new volume at the
--- UNPAIR alone that gives it back; and what each track is without data of cache fast write was made by the writes since then that were acknowledged,
--- and by those of commands that were cut in their midst. The reads and writes of volumes that each event shows are exactly those of the rules: of a command
--- those of its looks and its write, where a hit reads none and a fast or provisional write writes none
+-- the report shows each device's history, which is one of a plain device; each equipment check is explained, and none comes where the command chose its
+-- write to be fast or provisional; and while each failure is repaired before the next one comes nothing is missed. Each event brings into a journal only
+-- what an event of its kind may bring, a new volume at the UNPAIR alone that gives it back; and what each track is without data of cache fast write was
+-- made by the writes since then that were acknowledged, and by those of commands that were cut in their midst. The reads and writes of volumes that each
+-- event shows are exactly those of the rules: of a command those of its looks and its write, where a hit reads none and a fast or provisional write
+-- writes none
 pub record RunsAsPromised (d : DeckLines) : Type 0 where
   pub shown : DeckRunsPlainly d
   pub promised : IsPromised d
+  pub fast : All EndsFastWrites (run_of d).events
   pub origins : All HaveOrigins (run_of d).events
   pub kept : All KeepWrites (run_of d).events
   pub transfers : All MovesExactly (run_of d).events
@@ -151,3 +155,7 @@ TellsUsage status before after held holds =
 abbrev pub Tells : Status → Option Task → Bay → Bay → Option (List ℕ) → Option (List ℕ) → Option (List ℕ) → Option (List ℕ) → Type 0
 Tells status None old new before after held holds = TellsUsage status before after held holds
 Tells status (Some task) old new before after held holds = TellsTask status task old new before after held holds
+
+-- a failed write is told only where a write failed, by the sink's count of faults before and after
+abbrev pub WriteFaultHasCause : Status → ℕ → ℕ → Type 0
+WriteFaultHasCause status before after = status ≡ WriteFault → Rose before after

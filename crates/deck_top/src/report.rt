@@ -1,7 +1,6 @@
 //! The run of a deck over the volumes of a bay, and its report.
 
 ghost use Rattle.std.specs.Prelude.{◌≡◌, ◌≢◌, ◌≤◌, ◌+◌, [], IfOk, Ok, length, OnOk};
-ghost use Rattle.ckd_outside.specs.Causes.{Rose};
 ghost use Rattle.report_text.specs.Counting.{counts_of};
 ghost use Rattle.report_text.specs.Report.{report_text};
 ghost use Rattle.run_report.specs.Report.{lines_of_run, report_of};
@@ -11,7 +10,7 @@ ghost use Rattle.deck_run.specs.Opening.{WasRead, numbers_in};
 ghost use Rattle.deck_run.specs.Sides.{AreAccounted, all_sides};
 ghost use Rattle.deck_run.specs.Standing.{StandsAs};
 ghost use Rattle.deck_top.specs.Handed.{TakesBack};
-ghost use Rattle.deck_top.specs.Answers.{RunsAsPromised, TellsDeck};
+ghost use Rattle.deck_top.specs.Answers.{RunsAsPromised, TellsDeck, WriteFaultHasCause};
 
 use crate::give::give_back;
 use crate::task::Task;
@@ -21,7 +20,7 @@ use ckd_types::NoMemory;
 use deck_run::FinishedRun;
 use deck_text::Deck;
 use device_outside::{MemBay, MemVolume};
-use move_laws::run_moves_exactly;
+use move_laws::{fast_writes_are_not_checked, run_moves_exactly};
 use promise_laws::{read_run_has_origins, read_run_keeps_writes};
 use report_laws::read_run_runs_plainly;
 use report_text::write_report;
@@ -50,6 +49,7 @@ pub(crate) fn run_deck(
     read_run_has_origins();
     read_run_keeps_writes();
     run_moves_exactly();
+    fast_writes_are_not_checked();
     read_run_runs_plainly();
     let ran = deck_run::run_deck(alloc, deck, bay)?;
     Ok(ran)
@@ -72,7 +72,7 @@ pub(crate) fn report<K: Sink>(alloc: Global, deck: &Deck, sink: &mut K, bay: &mu
     ensures spoiled { bay.new.spoiled ≡ bay.old.spoiled }
     ensures kept { result ≢ Status.Reported → bay.new.taken ≡ bay.old.taken }
     ensures later { K.faults sink.old ≤ K.faults sink.new }
-    ensures write { result ≡ Status.WriteFault → Rose (K.faults sink.old) (K.faults sink.new) }
+    ensures write { WriteFaultHasCause result (K.faults sink.old) (K.faults sink.new) }
 {
     let _taken = bay.len();
     let Ok(ran) = run_deck(alloc, deck, bay) else {

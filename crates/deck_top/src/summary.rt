@@ -1,14 +1,13 @@
 //! The run of a deck over the volumes of a bay, and its summary.
 
 ghost use Rattle.std.specs.Prelude.{◌≡◌, ◌≢◌, ◌≤◌, ◌+◌, [], IfOk, Ok, length, ℕ, OnOk};
-ghost use Rattle.ckd_outside.specs.Causes.{Rose};
 ghost use Rattle.run_report.specs.Summed.{summary_of};
 ghost use Rattle.subsystem_core.specs.Devices.{numbers_of};
 ghost use Rattle.subsystem_defs.specs.Decks.{run_of};
 ghost use Rattle.deck_run.specs.Opening.{WasRead, numbers_in};
 ghost use Rattle.deck_run.specs.Sides.{AreAccounted, all_sides};
 ghost use Rattle.deck_run.specs.Standing.{StandsAs};
-ghost use Rattle.deck_top.specs.Answers.{RunsAsPromised, TellsDeck};
+ghost use Rattle.deck_top.specs.Answers.{RunsAsPromised, TellsDeck, WriteFaultHasCause};
 
 use crate::report::{run_deck, take_back};
 use crate::sums::summary_of;
@@ -59,7 +58,7 @@ pub(crate) fn summarize<K: Sink>(
     ensures spoiled { bay.new.spoiled ≡ bay.old.spoiled }
     ensures kept { result ≢ Status.Reported → bay.new.taken ≡ bay.old.taken }
     ensures later { K.faults sink.old ≤ K.faults sink.new }
-    ensures write { result ≡ Status.WriteFault → Rose (K.faults sink.old) (K.faults sink.new) }
+    ensures write { WriteFaultHasCause result (K.faults sink.old) (K.faults sink.new) }
 {
     let _taken = bay.len();
     let Ok(ran) = sum_deck(alloc, deck, bay) else {

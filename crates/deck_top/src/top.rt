@@ -1,4 +1,4 @@
-ghost use Rattle.std.specs.Prelude.{◌≡◌, ◌≢◌, ◌⊎◌, ◌≤◌, IfOk, IfSome, Ok, Err, Some, None, [], false, map, List, ℕ};
+ghost use Rattle.std.specs.Prelude.{◌≡◌, ◌≢◌, ◌⊎◌, ◌≤◌, IfSome, Ok, Err, Some, None, [], false, map, List, ℕ};
 ghost use Rattle.std.specs.Io.KnownBytes.{Appends};
 ghost use Rattle.ckd_outside.specs.Causes.{Rose, HasCause};
 ghost use Rattle.ckd_outside.specs.Texts.{Writes, AppendsFront};
@@ -10,7 +10,7 @@ ghost use Rattle.deck_gen.specs.Generated.{deck_of_seed};
 ghost use Rattle.deck_text.specs.Canonical.{canonical};
 ghost use Rattle.deck_text.specs.Texts.{limit_text, refused_text};
 ghost use Rattle.run_report.specs.Report.{report_of};
-ghost use Rattle.deck_top.specs.Answers.{code_of, is_run, task_of, usage_text, IsServed, RunsAsPromised};
+ghost use Rattle.deck_top.specs.Answers.{code_of, is_run, task_of, usage_text, IsServed, RunsAsPromised, WriteFaultHasCause};
 ghost use Rattle.deck_top.specs.Answers.{TellsDeck, TellsRead, TellsTask, TellsUsage, Tells};
 ghost use Rattle.deck_top.specs.Facts.{IsRead, IsRefused, OfDeck, ReportsPlainly, SumsUp, WritesFront};
 ghost use Rattle.deck_top.specs.Handed.{TakesBack};
@@ -87,7 +87,7 @@ pub fn write_usage<K: Sink>(sink: &mut K) -> Result<(), Failed>
 fn refuse<K: Sink>(sink: &mut K, line: u32, why: DeckWhy) -> Status
     ensures told { (task : Task) (old new : Bay) → TellsDeck result task (Err (DeckFault.Refused line why)) old new (K.held sink.old) (K.held sink.new) }
     ensures later { K.faults sink.old ≤ K.faults sink.new }
-    ensures write { result ≡ Status.WriteFault → Rose (K.faults sink.old) (K.faults sink.new) }
+    ensures write { WriteFaultHasCause result (K.faults sink.old) (K.faults sink.new) }
 {
     match write_refused(sink, line, why) {
         Ok(()) => Status::DeckRefused { line, why },
@@ -98,7 +98,7 @@ fn refuse<K: Sink>(sink: &mut K, line: u32, why: DeckWhy) -> Status
 fn limit<K: Sink>(sink: &mut K, which: Which) -> Status
     ensures told { (task : Task) (old new : Bay) → TellsDeck result task (Err (DeckFault.Limit which)) old new (K.held sink.old) (K.held sink.new) }
     ensures later { K.faults sink.old ≤ K.faults sink.new }
-    ensures write { result ≡ Status.WriteFault → Rose (K.faults sink.old) (K.faults sink.new) }
+    ensures write { WriteFaultHasCause result (K.faults sink.old) (K.faults sink.new) }
 {
     match write_limit(sink, which) {
         Ok(()) => Status::Limit(which),
@@ -109,7 +109,7 @@ fn limit<K: Sink>(sink: &mut K, which: Which) -> Status
 fn check<K: Sink>(deck: &Deck, sink: &mut K) -> Status
     ensures told { (old new : Bay) → TellsDeck result Task.Check (Ok deck.now) old new (K.held sink.old) (K.held sink.new) }
     ensures later { K.faults sink.old ≤ K.faults sink.new }
-    ensures write { result ≡ Status.WriteFault → Rose (K.faults sink.old) (K.faults sink.new) }
+    ensures write { WriteFaultHasCause result (K.faults sink.old) (K.faults sink.new) }
 {
     match write_deck(deck, sink) {
         Ok(()) => Status::Reported,
@@ -130,7 +130,7 @@ fn serve_deck<K: Sink>(
     ensures check { is_run (Some task) ≡ false → bay.new ≡ bay.old }
     ensures told { TellsDeck result task (Ok deck.now) bay.old bay.new (K.held sink.old) (K.held sink.new) }
     ensures later { K.faults sink.old ≤ K.faults sink.new }
-    ensures write { result ≡ Status.WriteFault → Rose (K.faults sink.old) (K.faults sink.new) }
+    ensures write { WriteFaultHasCause result (K.faults sink.old) (K.faults sink.new) }
 {
     match task {
         Task::Run => report(alloc, deck, sink, bay),
@@ -145,7 +145,7 @@ fn answer<K: Sink>(alloc: Global, task: Task, text: &[u8], sink: &mut K, bay: &m
     ensures check { is_run (Some task) ≡ false → bay.new ≡ bay.old }
     ensures told { TellsDeck result task (parsed text.now) bay.old bay.new (K.held sink.old) (K.held sink.new) }
     ensures later { K.faults sink.old ≤ K.faults sink.new }
-    ensures write { result ≡ Status.WriteFault → Rose (K.faults sink.old) (K.faults sink.new) }
+    ensures write { WriteFaultHasCause result (K.faults sink.old) (K.faults sink.new) }
 {
     match read_deck(alloc, text) {
         Ok(deck) => serve_deck(alloc, task, &deck, sink, bay),
@@ -159,7 +159,7 @@ fn usage<K: Sink>(sink: &mut K) -> Status
     ensures told { (result ≡ Status.Usage × Appends (K.held sink.old) (K.held sink.new) usage_text)
         ⊎ (result ≡ Status.WriteFault × AppendsFront (K.held sink.old) (K.held sink.new) usage_text) }
     ensures later { K.faults sink.old ≤ K.faults sink.new }
-    ensures write { result ≡ Status.WriteFault → Rose (K.faults sink.old) (K.faults sink.new) }
+    ensures write { WriteFaultHasCause result (K.faults sink.old) (K.faults sink.new) }
 {
     match write_usage(sink) {
         Ok(()) => Status::Usage,
@@ -180,7 +180,7 @@ fn generated<K: Sink>(
     ensures kept { result ≢ Status.Reported → bay.new.taken ≡ bay.old.taken }
     ensures told { TellsDeck result (Task.Generate seed count) (Ok (deck_of_seed seed count)) bay.old bay.new (K.held sink.old) (K.held sink.new) }
     ensures later { K.faults sink.old ≤ K.faults sink.new }
-    ensures write { result ≡ Status.WriteFault → Rose (K.faults sink.old) (K.faults sink.new) }
+    ensures write { WriteFaultHasCause result (K.faults sink.old) (K.faults sink.new) }
 {
     reads_back();
     let Ok(deck) = generate(alloc, seed, count) else {
@@ -202,7 +202,7 @@ fn serve_read<S: Source, K: Sink>(
     ensures told { TellsRead result task bay.old bay.new (S.left source.old) (S.left source.new) (K.held sink.old) (K.held sink.new) }
     ensures read { result ≡ Status.ReadFault → Rose (S.faults source.old) (S.faults source.new) }
     ensures calm { result ≢ Status.ReadFault → S.faults source.new ≡ S.faults source.old }
-    ensures write { result ≡ Status.WriteFault → Rose (K.faults sink.old) (K.faults sink.new) }
+    ensures write { WriteFaultHasCause result (K.faults sink.old) (K.faults sink.new) }
 {
     match read_up_to(alloc, source, MOST_READ) {
         Ok(text) => answer(alloc, task, &text, sink, bay),
@@ -225,7 +225,7 @@ fn serve_task<S: Source, K: Sink>(
     ensures told { TellsTask result task bay.old bay.new (S.left source.old) (S.left source.new) (K.held sink.old) (K.held sink.new) }
     ensures read { result ≡ Status.ReadFault → Rose (S.faults source.old) (S.faults source.new) }
     ensures calm { result ≢ Status.ReadFault → S.faults source.new ≡ S.faults source.old }
-    ensures write { result ≡ Status.WriteFault → Rose (K.faults sink.old) (K.faults sink.new) }
+    ensures write { WriteFaultHasCause result (K.faults sink.old) (K.faults sink.new) }
 {
     match task {
         Task::Run => serve_read(alloc, Task::Run, source, sink, bay),
@@ -248,7 +248,7 @@ fn serve<S: Source, K: Sink>(
         (S.left source.old) (S.left source.new) (K.held sink.old) (K.held sink.new) }
     ensures read { result ≡ Status.ReadFault → Rose (S.faults source.old) (S.faults source.new) }
     ensures calm { result ≢ Status.ReadFault → S.faults source.new ≡ S.faults source.old }
-    ensures write { result ≡ Status.WriteFault → Rose (K.faults sink.old) (K.faults sink.new) }
+    ensures write { WriteFaultHasCause result (K.faults sink.old) (K.faults sink.new) }
 {
     match task_of(words) {
         Some(task) => serve_task(alloc, task, source, sink, bay),
@@ -308,7 +308,7 @@ pub fn deck_top<S: Source, K: Sink>(
     ensures memory { result ≡ Status.NoMemory → K.held sink.new ≡ K.held sink.old }
     ensures read { result ≡ Status.ReadFault → Rose (S.faults source.old) (S.faults source.new) }
     ensures calm { result ≢ Status.ReadFault → S.faults source.new ≡ S.faults source.old }
-    ensures write { result ≡ Status.WriteFault → Rose (K.faults sink.old) (K.faults sink.new) }
+    ensures write { WriteFaultHasCause result (K.faults sink.old) (K.faults sink.new) }
 
     // Its spoiled tracks stay, and so do the volumes that it took back, but behind the report of a run.
     ensures spoiled { bay.new.spoiled ≡ bay.old.spoiled }

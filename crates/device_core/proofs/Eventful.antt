@@ -9,7 +9,7 @@ use Rattle.device_outside.proofs.Runs.{joined}
 use Rattle.device_defs.specs.Contents.{contents}
 use Rattle.ckd_chain.specs.State.{ChainState}
 use Rattle.device_defs.specs.Device.{all_acted, event_begun, event_ended, quiet_event, event}
-use Rattle.device_defs.specs.Owed.{begun, hear, waiting_count, ended}
+use Rattle.device_defs.specs.Owed.{noted_begin, hear, waiting_count, noted_end}
 use Rattle.plain_defs.specs.declared.journal.Act.{Act}
 use Rattle.plain_defs.specs.Journal.{Plans}
 use Rattle.plain_defs.specs.PlainState.{PathsState}
@@ -26,7 +26,7 @@ module _ {K A : Type 0} {had : Bool → Type 0} {hears : Hearing Image K} where
   -- an event that takes no notes
   pub quiet_run : (d : DefinedDevice) (body : DefinedDevice → Interaction (List ℕ) Image DefinedDevice A) {v w z : Outside (List ℕ) K}
       (x y : DefinedDevice) {a : A} {s : StoreOf} →
-      Ran had hears (body (event_begun d)) v x a w → Ran had hears (ended contents (waiting_count contents d.store) x.store) w s tt z →
+      Ran had hears (body (event_begun d)) v x a w → Ran had hears (noted_end contents (waiting_count contents d.store) x.store) w s tt z →
       y ≡ record x { store = s } → Ran had hears (quiet_event contents d body) v y a z
   quiet_run d body {v} {w} {z} x y {a} {s} runs ends is =
       subst (λ e. Ran had hears (quiet_event contents d body) v e a z) (sym is)
@@ -35,8 +35,8 @@ module _ {K A : Type 0} {had : Bool → Type 0} {hears : Hearing Image K} where
   -- one that takes the notes first
   pub event_run : (d : DefinedDevice) (body : DefinedDevice → Interaction (List ℕ) Image DefinedDevice A) {u v w z : Outside (List ℕ) K}
       (x y : DefinedDevice) {a : A} {r s : StoreOf} →
-      Ran had hears (hear contents 960 (begun d.store)) u r tt v → Ran had hears (body (record (event_begun d) { store = r })) v x a w →
-      Ran had hears (ended contents (waiting_count contents d.store) x.store) w s tt z →
+      Ran had hears (hear contents 960 (noted_begin d.store)) u r tt v → Ran had hears (body (record (event_begun d) { store = r })) v x a w →
+      Ran had hears (noted_end contents (waiting_count contents d.store) x.store) w s tt z →
       y ≡ record x { store = s } → Ran had hears (event contents d body) u y a z
   event_run d body x y heard runs ends is =
       quiet_run d (λ e. and_then (hear contents 960 e.store) (λ r _. body (record e { store = r }))) x y

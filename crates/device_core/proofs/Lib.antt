@@ -16,3 +16,6 @@ pub mod Eventful
 pub mod Losing
 pub mod Halves
 pub mod Lending
+pub mod Promising
+pub mod Ordering
+pub mod StaleTracks

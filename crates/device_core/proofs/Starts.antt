@@ -8,14 +8,14 @@ use Rattle.ckd_chain.specs.State.{ChainState}
 use Rattle.plain_defs.specs.History.{OpenEntry, History, started}
 use Rattle.plain_defs.specs.Journal.{Plans}
 use Rattle.plain_defs.specs.PlainState.{PathsState}
-use Rattle.plain_defs.specs.Program.{begun}
+use Rattle.plain_defs.specs.Program.{sense_begun}
 use Rattle.track_image.specs.Image.{Image}
 use Rattle.track_cache.specs.declared.frames.Frame.{Frame}
 use Rattle.nv_store.specs.declared.patches.Stored.{Stored}
 use Rattle.device_defs.specs.declared.answers.StartFault.{StartFault}
 use Rattle.device_defs.specs.declared.answers.StartFault.TheVariants.{PlanDone}
 use Rattle.device_defs.specs.Start.{fault_by, keeps_out, left, next_program, reserved_fault, running_fault, start, start_fault, started_count}
-use Rattle.device_defs.specs.Store.{Store, fixed_of}
+use Rattle.device_defs.specs.Store.{Store, store_fixed}
 use Rattle.device_core.specs.declared.past.Past.{Past}
 use Rattle.device_core.specs.Kept.{chain_of, history_of}
 use Rattle.device_core.specs.State.{DefinedDevice, device_by}
@@ -58,15 +58,15 @@ module _ (s : Store Frame Stored Image) (plans : Plans) where
   built x y z = record { store = s; paths = x; plans = plans; history = y; chain = z }
 
   pub device_started : (paths behind : PathsState) (p m q : Past) (path : ℕ) (ccws : List Ccw) (fixed : Fixed) (chain : ChainState) →
-      ccws ≡ next_program (device_by s paths plans p) path → behind ≡ begun paths path ccws → history_of m ≡ history_of p →
+      ccws ≡ next_program (device_by s paths plans p) path → behind ≡ sense_begun paths path ccws → history_of m ≡ history_of p →
       history_of q ≡ started (history_of m) path (started_count (history_of m) path + 1) → option_map chain_of q.running ≡ Some chain →
-      chain ≡ begun_chain ccws fixed → fixed ≡ fixed_of s → device_by s behind plans q ≡ start (device_by s paths plans p) path
+      chain ≡ begun_chain ccws fixed → fixed ≡ store_fixed s → device_by s behind plans q ≡ start (device_by s paths plans p) path
   unfolding start
   device_started paths behind p m q path ccws fixed chain ccws_is behind_is same history running chain_is fixed_is =
       ap (λ (x : PathsState). built x (history_of q) (option_map chain_of q.running)) behind_is
-      ∙ ap (λ (x : History). built (begun paths path ccws) x (option_map chain_of q.running))
+      ∙ ap (λ (x : History). built (sense_begun paths path ccws) x (option_map chain_of q.running))
       (history ∙ ap (λ (h : History). started h path (started_count h path + 1)) same)
-      ∙ ap (λ (x : Option ChainState). built (begun paths path ccws) (started (history_of p) path (started_count (history_of p) path + 1)) x)
+      ∙ ap (λ (x : Option ChainState). built (sense_begun paths path ccws) (started (history_of p) path (started_count (history_of p) path + 1)) x)
       (running ∙ ap Some (chain_is ∙ ap (λ (f : Fixed). begun_chain ccws f) fixed_is))
-      ∙ ap (λ (l : List Ccw). built (begun paths path l) (started (history_of p) path (started_count (history_of p) path + 1))
-      (Some (begun_chain l (fixed_of s)))) ccws_is
+      ∙ ap (λ (l : List Ccw). built (sense_begun paths path l) (started (history_of p) path (started_count (history_of p) path + 1))
+      (Some (begun_chain l (store_fixed s)))) ccws_is

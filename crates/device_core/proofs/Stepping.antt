@@ -14,7 +14,7 @@ use Rattle.ckd_chain.specs.declared.mark.Stage.{Stage}
 use Rattle.ckd_chain.specs.declared.mark.Stage.TheVariants as stages
 use Rattle.ckd_chain.specs.declared.progress.Progress.{Progress}
 use Rattle.ckd_chain.specs.State.{ChainState}
-use Rattle.ckd_chain.specs.Steps.{index_of, word_of, opened_by, opened, stage_by, behind, end_with, held_outcome, turned_by, stepped_by, stepped}
+use Rattle.ckd_chain.specs.Steps.{index_of, word_of, opened_by, chain_opened, stage_by, behind, end_with, held_outcome, step_turned, stepped_by, stepped}
 use Rattle.track_image.specs.Image.{Image}
 use Rattle.ckd_types.specs.declared.channel.CommandEnd.{CommandEnd}
 use Rattle.device_core.specs.Words.{IsReady}
@@ -46,7 +46,7 @@ opens : (s : ChainState) (o : Option Stage) → s.stage ≡ o → IsSome o → o
 opens s None e is = absurd cc
 opens s (Some stage) e is = refl
 
-pub begun_opened : (s : ChainState) → IsSome s.stage → opened s ≡ s
+pub begun_opened : (s : ChainState) → IsSome s.stage → chain_opened s ≡ s
 begun_opened s is = opens s s.stage refl is
 
 -- a command that has begun is at its word, and began at one
@@ -57,7 +57,7 @@ ready_at s begun running back = record {
 }
 
 module _ (n : ℕ) where
-  by_turned : (s : ChainState) (z : Stance) (turned : Turned) → IsAt n s → Waits n s (turned_by s z turned).chain (turned_by s z turned).progress
+  by_turned : (s : ChainState) (z : Stance) (turned : Turned) → IsAt n s → Waits n s (step_turned s z turned).chain (step_turned s z turned).progress
   by_turned s z (turns.Ended e) at = record { cylinders_are = at.cylinders_are; goes = goes_ready s (record { stance = z; ending = e }) }
   by_turned s z turns.Onward at =
       (record { running = at.running; begun = at.begun; back = at.back; cylinders_are = at.cylinders_are }, record { again = refl })

@@ -9,7 +9,7 @@ use Rattle.ckd_types.specs.declared.channel.CommandEnd.{CommandEnd}
 use Rattle.plain_device.specs.Acted.{settled_act, paths_behind}
 use Rattle.ckd_chain.specs.State.{ChainState}
 use Rattle.ckd_chain.specs.Steps as steps
-use Rattle.ckd_chain.specs.Steps.{again_from, behind, end_with, opened, settled_by, stepped}
+use Rattle.ckd_chain.specs.Steps.{again_from, behind, end_with, chain_opened, settled_by, stepped}
 use Rattle.plain_defs.specs.PlainState.{PathsState}
 use Rattle.track_image.specs.Image.{Image}
 use Rattle.device_outside.specs.Interaction.{Interaction}
@@ -34,13 +34,13 @@ pub to_equal : {R I K S A : Type 0} {had : Bool → Type 0} {hears : Hearing I K
 to_equal {had = had} {hears = hears} {i = i} {v = v} {w = w} {a = a} same ran = subst (λ x. Ran had hears i v x a w) same ran
 
 pub paths_ran : {K E : Type 0} {hears : Hearing Image K} {w : Outside (List ℕ) K} (d : DefinedDevice) (g : Geometry) (old new : PathsState) (path : ℕ)
-    (chain at behind : ChainState) (r : Result Came E) → at ≡ opened chain → d.store.geometry ≡ g → d.paths ≡ old →
+    (chain at behind : ChainState) (r : Result Came E) → at ≡ chain_opened chain → d.store.geometry ≡ g → d.paths ≡ old →
     IfOk r (Answers g old new path (stepped at None).chain (stepped at None).progress behind) →
     OnErr r ((behind ≡ again_from at) × (new ≡ old)) →
     Ran (where_ok r) hears (on_paths contents d path chain) w (came_to (record d { paths = new }) path behind r) (told r) w
 paths_ran d g old new path chain at behind (Ok came) is geometry same answers lacks =
     let e : stepped at None ≡ stepped chain None = ap (λ (x : ChainState). stepped x None) is ∙ stepped_opened chain None in
-    let answered = subst (λ (x : steps.Stepped). Answers g old new path x.chain x.progress behind came) e answers in
+    let answered = subst (λ (x : steps.ChainStep). Answers g old new path x.chain x.progress behind came) e answers in
     tries true refl (from_equal (λ i. i) (sym (answered.is d geometry same)) refl done)
 paths_ran d g old new path chain at behind (Err e) is geometry same answers lacks =
     tries false tt (ended (
@@ -64,9 +64,9 @@ answers_of g old new path chain z act how e how_is new_is e_is z_is =
     }
 
 -- behind want of memory the chain is at the word again
-pub word_again : (n : ℕ) (chain at new : ChainState) → IsAtWord n chain → at ≡ opened chain → new ≡ again_from at → IsAtWord n new
+pub word_again : (n : ℕ) (chain at new : ChainState) → IsAtWord n chain → at ≡ chain_opened chain → new ≡ again_from at → IsAtWord n new
 word_again n chain at new word is again =
-    let to : new ≡ again_from (opened chain) = again ∙ ap again_from is in
+    let to : new ≡ again_from (chain_opened chain) = again ∙ ap again_from is in
     subst (λ (x : ChainState). IsAtWord n x) (sym to) (record {
       ready = record { running = word.ready.back; back = word.ready.back };
       cylinders_are = ap (λ (f : Fixed). f.cylinders) (same_fixed chain) ∙ word.cylinders_are;

@@ -7,3 +7,5 @@ pub mod Halves
 pub mod State
 pub mod Starting
 pub mod OpenHalf
+pub mod Promises
+pub mod Pairs

@@ -142,3 +142,8 @@ opened_device d g cylinders plans = record {
 -- the programs of a path that ended, twice, and one more while one runs. It stops at the greatest of 64 bits
 abbrev pub count_of : History → ℕ → ℕ
 count_of h path = min (min (count_by (is_of_path path) h.items * 2) (2 ^ 64 - 1) + (if is_path_of h.running path then 1 else 0)) (2 ^ 64 - 1)
+
+-- it is the same device
+abbrev pub IsSameDevice : {V : Type 0} {G : Ghosts V} → Device V G → Device V G → Type 0
+IsSameDevice old new =
+    (new.store.number ≡ old.store.number) × (new.store.cylinders ≡ old.store.cylinders) × (new.store.geometry ≡ old.store.geometry)

@@ -1,14 +1,14 @@
-ghost use Rattle.std.specs.Prelude.{◌≡◌, ◌*◌, ◌≤◌, ◌+◌, ◌++◌, ◌∷◌, [], ℕ, IfOk, IfSome, IsSome, OnOk, Some, length, option_map};
+ghost use Rattle.std.specs.Prelude.{◌≡◌, ◌≤◌, ◌+◌, ◌++◌, ◌∷◌, [], ℕ, IfOk, IfSome, IsSome, OnOk, Some, length, option_map};
 ghost use Rattle.plain_defs.specs.History.{OpenEntry, acted};
 ghost use Rattle.device_defs.specs.Contents.{contents};
 ghost use Rattle.device_defs.specs.Device.{all_acted, with_store};
-ghost use Rattle.device_defs.specs.Owed.{ended};
+ghost use Rattle.device_defs.specs.Owed.{noted_end};
 ghost use Rattle.device_outside.specs.Keeper.{Heard};
 ghost use Rattle.device_outside.specs.Outside.{Ran};
 ghost use Rattle.device_store.specs.State.{state_of, outside, surely};
 ghost use Rattle.event_notes.specs.Loose.{weight};
 ghost use Rattle.device_core.specs.Kept.{open_of, chain_of, history_of, ActRoom, HasRoomFor, Keeps};
-ghost use Rattle.device_core.specs.State.{device_of};
+ghost use Rattle.device_core.specs.State.{device_of, IsSameDevice};
 ghost use Rattle.device_core.specs.Words.{HasEndRoom};
 
 use crate::Device;
@@ -139,9 +139,9 @@ impl<V: Volume> Device<V> {
     /// The acts of an event come to the device, and the event ends, before which so many tracks waited.
     pub(crate) fn close_event<P: Port, K: Keep<TrackImage>>(&mut self, before: u16, port: &mut P)
         requires room { ActRoom (weight self.old.store.loose) self.old.past }
-        ensures fixed { (self.new.store.number ≡ self.old.store.number) × (self.new.store.cylinders ≡ self.old.store.cylinders) × (self.new.store.geometry ≡ self.old.store.geometry) }
+        ensures fixed { IsSameDevice self.old self.new }
         ensures rest { state_of self.new.store ≡ record (state_of self.old.store) { owed = self.new.store.owed } }
-        ensures run { (k : K) → Ran surely (Heard K.hears K.takes) (ended contents before (state_of self.old.store))
+        ensures run { (k : K) → Ran surely (Heard K.hears K.takes) (noted_end contents before (state_of self.old.store))
             (outside (P.view port.old) self.old.store k) (state_of self.new.store) tt (outside (P.view port.new) self.new.store k) }
         ensures device { device_of self.new ≡ record (with_store (device_of self.old) (state_of self.old.store)) { store = state_of self.new.store } }
     {

@@ -1,6 +1,6 @@
 ghost use Rattle.std.specs.Prelude.{◌≡◌, ◌<◌, ◌≤◌, ◌+◌, ◌*◌, ℕ, IfOk, IsSome, None, OnErr, Some, false, is_some};
 ghost use Rattle.ckd_chain.specs.State.{ChainState};
-ghost use Rattle.ckd_chain.specs.Steps.{again_from, need_of, opened, stepped};
+ghost use Rattle.ckd_chain.specs.Steps.{again_from, need_of, chain_opened, stepped};
 ghost use Rattle.ckd_chain.specs.declared.mark.Stage.TheVariants.{Asks};
 ghost use Rattle.ckd_chain.specs.declared.progress.Progress.TheVariants.{Local};
 ghost use Rattle.device_defs.specs.Command.{follow, on_tracks};
@@ -10,7 +10,7 @@ ghost use Rattle.device_outside.specs.Interaction.{and_then};
 ghost use Rattle.device_outside.specs.Keeper.{Heard};
 ghost use Rattle.event_notes.specs.Loose.{weight};
 ghost use Rattle.device_outside.specs.Outside.{Ran, where_ok};
-ghost use Rattle.device_store.specs.State.{state_of, outside, Takes};
+ghost use Rattle.device_store.specs.State.{state_of, outside, TakesTracks};
 ghost use Rattle.plain_device.specs.Looking.{IsAtAnswer};
 ghost use Rattle.device_core.specs.State.{DefinedDevice, open_of, came_to, told, Answers};
 ghost use Rattle.device_core.specs.Turns.{IsAt, Left, is_half};
@@ -35,17 +35,17 @@ pub(crate) fn on_tracks<V: Volume, P: Port, K: Keep<TrackImage>>(
     keep: &mut K,
 ) -> Result<Came, NoMemory>
     requires track { t < store.old.cylinders * 15 }
-    requires takes { Takes K.takes keep.old store.old.number store.old.geometry (store.old.cylinders * 15) }
+    requires takes { TakesTracks K.takes keep.old store.old }
     requires at { IsAt store.old.cylinders running.old.chain }
     requires none { store.old.half ≡ None }
     ensures fixed { (store.new.number ≡ store.old.number) × (store.new.cylinders ≡ store.old.cylinders) × (store.new.geometry ≡ store.old.geometry) }
-    ensures takes { Takes K.takes keep.new store.new.number store.new.geometry (store.new.cylinders * 15) }
+    ensures takes { TakesTracks K.takes keep.new store.new }
     ensures open { (open_of running.new ≡ open_of running.old) × (running.new.ends ≡ running.old.ends) }
     ensures acts { (running.new.acts ≡ running.old.acts) × (running.new.room ≡ running.old.room) }
     ensures left { IfOk result (Left store.old.cylinders running.new.chain) }
     ensures again { OnErr result (running.new.chain ≡ again_from running.old.chain) }
     ensures weight { weight store.new.loose ≤ weight store.old.loose + 2 }
-    ensures run { (d : DefinedDevice) (path : ℕ) (z : ChainState) → running.old.chain ≡ opened z → need_of z ≡ Some t
+    ensures run { (d : DefinedDevice) (path : ℕ) (z : ChainState) → running.old.chain ≡ chain_opened z → need_of z ≡ Some t
         → Ran (where_ok result) (Heard K.hears K.takes) (and_then (follow contents (store.old.cylinders * 15) t z t (state_of store.old))
         (on_tracks contents d path z)) (outside (P.view port.old) store.old keep.old)
         (came_to (with_store d (state_of store.new)) path running.new.chain result) (told result) (outside (P.view port.new) store.new keep.new) }

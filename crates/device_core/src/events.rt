@@ -1,4 +1,4 @@
-ghost use Rattle.std.specs.Prelude.{◌≡◌, ◌<◌, ◌*◌, ℕ, IfOk, false, is_some};
+ghost use Rattle.std.specs.Prelude.{◌≡◌, ◌<◌, ◌*◌, IfOk, OnErr, OnOk, Some, false, is_some};
 ghost use Rattle.device_defs.specs.Contents.{contents};
 ghost use Rattle.device_defs.specs.Events.{background};
 ghost use Rattle.device_defs.specs.Peek.{peek};
@@ -6,10 +6,13 @@ ghost use Rattle.device_outside.specs.declared.keep.NoKeep.{NoKeep};
 ghost use Rattle.device_outside.specs.Keeper.{Heard, reply};
 ghost use Rattle.device_outside.specs.Outside.{Ran, where_ok};
 ghost use Rattle.device_store.specs.Looks.{peeked_by, IsPeeked};
-ghost use Rattle.device_store.specs.State.{state_of, outside, Takes, had};
-ghost use Rattle.device_core.specs.State.{device_of};
+ghost use Rattle.device_store.specs.State.{state_of, outside, had, TakesTracks};
+ghost use Rattle.device_core.specs.State.{device_of, IsSameDevice};
 ghost use Rattle.seen_laws.specs.Moved.{LookMoves, WorkMoves};
 ghost use Rattle.seen_laws.specs.Seen.{KeepsPaths};
+ghost use Rattle.device_core.specs.Promises.{StandsPlain, StaysExcused, StaysPlain, StaysSame, StaysSound};
+ghost use Rattle.look_laws.specs.Looking.{is_written_at};
+ghost use Rattle.turn_laws.specs.Found.{FoundPlain};
 
 use crate::Device;
 use ckd_types::{NoMemory, TrackNo};
@@ -28,14 +31,18 @@ impl<V: Volume> Device<V> {
         keep: &mut K,
     ) -> Result<Did, NoMemory>
         requires whole { is_some (device_of self.old).store.half ≡ false }
-        requires takes { Takes K.takes keep.old self.old.store.number self.old.store.geometry (self.old.store.cylinders * 15) }
-        ensures fixed { (self.new.store.number ≡ self.old.store.number) × (self.new.store.cylinders ≡ self.old.store.cylinders) × (self.new.store.geometry ≡ self.old.store.geometry) }
-        ensures takes { Takes K.takes keep.new self.new.store.number self.new.store.geometry (self.new.store.cylinders * 15) }
+        requires takes { TakesTracks K.takes keep.old self.old.store }
+        ensures fixed { IsSameDevice self.old self.new }
+        ensures takes { TakesTracks K.takes keep.new self.new.store }
         ensures run { Ran (where_ok result) (Heard K.hears K.takes) (background contents (device_of self.old))
             (outside (P.view port.old) self.old.store keep.old) (device_of self.new) (had (λ did. did) result)
             (outside (P.view port.new) self.new.store keep.new) }
         ensures paths { KeepsPaths (device_of self.old) (device_of self.new) }
         ensures transfers { WorkMoves (device_of self.old) (had (λ did. did) result) (device_of self.new) }
+        ensures sound { StaysSound self.old self.new }
+        ensures plain { StaysPlain self.old self.new }
+        ensures excused { OnOk result (StaysExcused self.old self.new) }
+        ensures same_without_memory { OnErr result (StaysSame self.old self.new) }
     {
         let before = self.store.waiting_count();
         self.store.begin_event();
@@ -48,17 +55,22 @@ impl<V: Volume> Device<V> {
     /// The same, with a keeper that keeps nothing.
     pub fn background<P: Port>(&mut self, port: &mut P) -> Result<Did, NoMemory>
         requires whole { is_some (device_of self.old).store.half ≡ false }
-        ensures fixed { (self.new.store.number ≡ self.old.store.number) × (self.new.store.cylinders ≡ self.old.store.cylinders) × (self.new.store.geometry ≡ self.old.store.geometry) }
+        ensures fixed { IsSameDevice self.old self.new }
         ensures run { (k : NoKeep) → Ran (where_ok result) (λ _ m r _. r ≡ reply m) (background contents (device_of self.old))
             (outside (P.view port.old) self.old.store k) (device_of self.new) (had (λ did. did) result) (outside (P.view port.new) self.new.store k) }
         ensures paths { KeepsPaths (device_of self.old) (device_of self.new) }
         ensures transfers { WorkMoves (device_of self.old) (had (λ did. did) result) (device_of self.new) }
+        ensures sound { StaysSound self.old self.new }
+        ensures plain { StaysPlain self.old self.new }
+        ensures excused { OnOk result (StaysExcused self.old self.new) }
+        ensures same_without_memory { OnErr result (StaysSame self.old self.new) }
     {
         let mut keep = NoKeep;
         self.background_with(port, &mut keep)
     }
 
-    /// A look at one track of the device past the channel. It takes no notes.
+    /// A look at one track of the device past the channel. It takes no notes. It finds the track of the plain device of its history; or that it is lost, where it
+    /// is; or a side that had the track and gave no bytes; or side A, where no side had it.
     pub fn peek_with<P: Port, K: Keep<TrackImage>>(
         &mut self,
         t: TrackNo,
@@ -66,14 +78,18 @@ impl<V: Volume> Device<V> {
         keep: &mut K,
     ) -> Result<Peeked, NoMemory>
         requires track { t < self.old.store.cylinders * 15 }
-        requires takes { Takes K.takes keep.old self.old.store.number self.old.store.geometry (self.old.store.cylinders * 15) }
-        ensures fixed { (self.new.store.number ≡ self.old.store.number) × (self.new.store.cylinders ≡ self.old.store.cylinders) × (self.new.store.geometry ≡ self.old.store.geometry) }
-        ensures takes { Takes K.takes keep.new self.new.store.number self.new.store.geometry (self.new.store.cylinders * 15) }
+        requires takes { TakesTracks K.takes keep.old self.old.store }
+        ensures fixed { IsSameDevice self.old self.new }
+        ensures takes { TakesTracks K.takes keep.new self.new.store }
         ensures there { IfOk result (IsPeeked (state_of self.new.store) t) }
         ensures run { Ran (where_ok result) (Heard K.hears K.takes) (peek contents (device_of self.old) t) (outside (P.view port.old) self.old.store keep.old)
             (device_of self.new) (had (peeked_by (state_of self.new.store) t) result) (outside (P.view port.new) self.new.store keep.new) }
         ensures paths { KeepsPaths (device_of self.old) (device_of self.new) }
         ensures transfers { LookMoves (device_of self.old) (device_of self.new) }
+        ensures sound { is_written_at (device_of self.old).store.half t ≡ false → StaysSound self.old self.new }
+        ensures plain { is_written_at (device_of self.old).store.half t ≡ false → StaysPlain self.old self.new }
+        ensures answers { StandsPlain self.old → is_written_at (device_of self.old).store.half t ≡ false
+            → IfOk result (λ p. FoundPlain (device_of self.old) t (Some (peeked_by (state_of self.new.store) t p))) }
     {
         let before = self.store.waiting_count();
         self.store.begin_event();
@@ -85,13 +101,17 @@ impl<V: Volume> Device<V> {
     /// The same, with a keeper that keeps nothing.
     pub fn peek<P: Port>(&mut self, t: TrackNo, port: &mut P) -> Result<Peeked, NoMemory>
         requires { t < self.old.store.cylinders * 15 }
-        ensures fixed { (self.new.store.number ≡ self.old.store.number) × (self.new.store.cylinders ≡ self.old.store.cylinders) × (self.new.store.geometry ≡ self.old.store.geometry) }
+        ensures fixed { IsSameDevice self.old self.new }
         ensures there { IfOk result (IsPeeked (state_of self.new.store) t) }
         ensures run { (k : NoKeep) → Ran (where_ok result) (λ _ m r _. r ≡ reply m) (peek contents (device_of self.old) t)
             (outside (P.view port.old) self.old.store k) (device_of self.new) (had (peeked_by (state_of self.new.store) t) result)
             (outside (P.view port.new) self.new.store k) }
         ensures paths { KeepsPaths (device_of self.old) (device_of self.new) }
         ensures transfers { LookMoves (device_of self.old) (device_of self.new) }
+        ensures sound { is_written_at (device_of self.old).store.half t ≡ false → StaysSound self.old self.new }
+        ensures plain { is_written_at (device_of self.old).store.half t ≡ false → StaysPlain self.old self.new }
+        ensures answers { StandsPlain self.old → is_written_at (device_of self.old).store.half t ≡ false
+            → IfOk result (λ p. FoundPlain (device_of self.old) t (Some (peeked_by (state_of self.new.store) t p))) }
     {
         let mut keep = NoKeep;
         self.peek_with(t, port, &mut keep)

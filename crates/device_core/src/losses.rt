@@ -1,13 +1,14 @@
-ghost use Rattle.std.specs.Prelude.{◌≡◌, ◌*◌};
+ghost use Rattle.std.specs.Prelude.{◌≡◌};
 ghost use Rattle.device_defs.specs.Contents.{contents};
 ghost use Rattle.device_defs.specs.Events.{lose};
 ghost use Rattle.device_outside.specs.declared.keep.NoKeep.{NoKeep};
 ghost use Rattle.device_outside.specs.Keeper.{Heard, reply};
 ghost use Rattle.device_outside.specs.Outside.{Ran};
-ghost use Rattle.device_store.specs.State.{outside, surely, Takes};
-ghost use Rattle.device_core.specs.State.{device_of};
+ghost use Rattle.device_store.specs.State.{outside, surely, TakesTracks};
+ghost use Rattle.device_core.specs.State.{device_of, IsSameDevice};
 ghost use Rattle.seen_laws.specs.Moved.{MovesNothing};
 ghost use Rattle.seen_laws.specs.Seen.{KeepsPaths};
+ghost use Rattle.device_core.specs.Promises.{StaysExcused, StaysPlain, StaysSound};
 
 use crate::Device;
 use device_outside::{Keep, NoKeep, Port, Volume};
@@ -23,13 +24,16 @@ impl<V: Volume> Device<V> {
         port: &mut P,
         keep: &mut K,
     )
-        requires { Takes K.takes keep.old self.old.store.number self.old.store.geometry (self.old.store.cylinders * 15) }
-        ensures fixed { (self.new.store.number ≡ self.old.store.number) × (self.new.store.cylinders ≡ self.old.store.cylinders) × (self.new.store.geometry ≡ self.old.store.geometry) }
-        ensures takes { Takes K.takes keep.new self.new.store.number self.new.store.geometry (self.new.store.cylinders * 15) }
+        requires { TakesTracks K.takes keep.old self.old.store }
+        ensures fixed { IsSameDevice self.old self.new }
+        ensures takes { TakesTracks K.takes keep.new self.new.store }
         ensures run { Ran surely (Heard K.hears K.takes) (lose contents (device_of self.old) loss) (outside (P.view port.old) self.old.store keep.old)
             (device_of self.new) tt (outside (P.view port.new) self.new.store keep.new) }
         ensures paths { KeepsPaths (device_of self.old) (device_of self.new) }
         ensures transfers { MovesNothing (device_of self.old) (device_of self.new) }
+        ensures sound { StaysSound self.old self.new }
+        ensures plain { StaysPlain self.old self.new }
+        ensures excused { StaysExcused self.old self.new }
     {
         let before = self.store.waiting_count();
         self.store.begin_event();
@@ -40,11 +44,14 @@ impl<V: Volume> Device<V> {
 
     /// The same, with a keeper that keeps nothing.
     pub fn lose<P: Port>(&mut self, loss: Loss, port: &mut P)
-        ensures fixed { (self.new.store.number ≡ self.old.store.number) × (self.new.store.cylinders ≡ self.old.store.cylinders) × (self.new.store.geometry ≡ self.old.store.geometry) }
+        ensures fixed { IsSameDevice self.old self.new }
         ensures run { (k : NoKeep) → Ran surely (λ _ m r _. r ≡ reply m) (lose contents (device_of self.old) loss)
             (outside (P.view port.old) self.old.store k) (device_of self.new) tt (outside (P.view port.new) self.new.store k) }
         ensures paths { KeepsPaths (device_of self.old) (device_of self.new) }
         ensures transfers { MovesNothing (device_of self.old) (device_of self.new) }
+        ensures sound { StaysSound self.old self.new }
+        ensures plain { StaysPlain self.old self.new }
+        ensures excused { StaysExcused self.old self.new }
     {
         let mut keep = NoKeep;
         self.lose_with(loss, port, &mut keep)

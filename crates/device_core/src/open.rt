@@ -3,7 +3,10 @@ ghost use Rattle.plain_defs.specs.History.{no_history};
 ghost use Rattle.device_core.specs.Kept.{history_of, Keeps};
 ghost use Rattle.device_store.specs.State.{on_a, on_b};
 ghost use Rattle.device_core.specs.State.{device_of, opened_device};
+ghost use Rattle.device_core.specs.Promises.{IsPromised};
+ghost use Rattle.device_outside.specs.Disk.{empty_contents};
 
+use crate::giving::plans_give;
 use crate::past::{KeptPath, Past};
 use crate::{Device, Log};
 use ckd_types::{DeviceNo, Geometry, NoMemory};
@@ -47,14 +50,18 @@ impl<V: Volume> Device<V> {
         ensures device { IfOk result (λ d. device_of d ≡ opened_device number geometry cylinders plans) }
         ensures volume { IfOk result (λ d. (on_a d.store ≡ Some volume) × (on_b d.store ≡ None)) }
         ensures back { IfErr result (λ e. (e.1 ≡ volume) × (e.2 ≡ plans)) }
+        ensures promised { IfOk result (λ d. (V.view volume).contents ≡ Some (empty_contents (cylinders * 15)) → IsPromised d) }
     {
+        plans_give(&plans);
+        let paths = Paths::new();
+        let past = Past::new(alloc);
         match DeviceStore::open(alloc, number, geometry, cylinders, volume) {
             Err((NoMemory, volume)) => Err((NoMemory, volume, plans)),
             Ok(store) => Ok(Device {
                 store,
-                paths: Paths::new(),
+                paths,
                 plans,
-                past: Past::new(alloc),
+                past,
             }),
         }
     }

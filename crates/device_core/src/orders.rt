@@ -2,7 +2,7 @@ ghost use Rattle.std.specs.Prelude.{◌≡◌, ◌≤◌, ◌*◌, ℕ, IfErr, N
 ghost use Rattle.track_table.specs.Tracks.{count_below};
 ghost use Rattle.plain_defs.specs.History.{emptied};
 ghost use Rattle.device_defs.specs.Contents.{contents};
-ghost use Rattle.device_defs.specs.Orders.{hold, join, lend, replace, restore, resume, split};
+ghost use Rattle.device_defs.specs.Orders.{hold_side, join, lend, replace, restore, resume, split};
 ghost use Rattle.device_defs.specs.Store.{side_of, stale_at, tracks_of};
 ghost use Rattle.device_outside.specs.declared.keep.NoKeep.{NoKeep};
 ghost use Rattle.device_outside.specs.Keeper.{Heard, reply};
@@ -10,7 +10,9 @@ ghost use Rattle.device_outside.specs.Outside.{Ran};
 ghost use Rattle.duplex_pair.specs.Sides.{other_of, volume_of};
 ghost use Rattle.device_store.specs.State.{on_a, on_b, outside, surely};
 ghost use Rattle.device_core.specs.Kept.{history_of, ActRoom, Keeps};
-ghost use Rattle.device_core.specs.State.{device_of};
+ghost use Rattle.device_core.specs.State.{device_of, IsSameDevice};
+ghost use Rattle.device_core.specs.Promises.{StaysExcused, StaysPlain, StaysSound, TellsTracks};
+ghost use Rattle.subsystem_defs.specs.Refusals.{replace_fault, suspend_fault, unpair_fault};
 
 use crate::Device;
 use crate::past::Past;
@@ -58,6 +60,9 @@ impl<V: Volume> Device<V> {
         ensures volume { volume_of self.new.store.pair.volumes side ≡ Some volume }
         ensures other { other_of self.new.store.pair.volumes side ≡ other_of self.old.store.pair.volumes side }
         ensures back { volume_of self.old.store.pair.volumes side ≡ Some result }
+        ensures sound { TellsTracks (V.view volume) (self.old.store.cylinders * 15) → (side_of (device_of self.old).store side).up ≡ false → StaysSound self.old self.new }
+        ensures plain { TellsTracks (V.view volume) (self.old.store.cylinders * 15) → (side_of (device_of self.old).store side).up ≡ false → StaysPlain self.old self.new }
+        ensures excused { TellsTracks (V.view volume) (self.old.store.cylinders * 15) → replace_fault (device_of self.old) side ≡ None → StaysExcused self.old self.new }
     {
         match self.store.replace(side, volume) {
             Some(old) => old,
@@ -67,8 +72,11 @@ impl<V: Volume> Device<V> {
 
     /// Side B takes nothing from here on.
     pub fn hold(&mut self)
-        ensures device { device_of self.new ≡ hold (device_of self.old) }
+        ensures device { device_of self.new ≡ hold_side (device_of self.old) }
         ensures volume { self.new.store.pair.volumes ≡ self.old.store.pair.volumes }
+        ensures sound { StaysSound self.old self.new }
+        ensures plain { StaysPlain self.old self.new }
+        ensures excused { suspend_fault (device_of self.old) ≡ None → StaysExcused self.old self.new }
     {
         self.store.hold();
     }
@@ -77,6 +85,9 @@ impl<V: Volume> Device<V> {
     pub fn resume(&mut self)
         ensures device { device_of self.new ≡ resume (device_of self.old) }
         ensures volume { self.new.store.pair.volumes ≡ self.old.store.pair.volumes }
+        ensures sound { StaysSound self.old self.new }
+        ensures plain { StaysPlain self.old self.new }
+        ensures excused { StaysExcused self.old self.new }
     {
         self.store.resume();
     }
@@ -88,6 +99,9 @@ impl<V: Volume> Device<V> {
         ensures device { device_of self.new ≡ join (device_of self.old) }
         ensures a { on_a self.new.store ≡ on_a self.old.store }
         ensures b { on_b self.new.store ≡ Some volume }
+        ensures sound { TellsTracks (V.view volume) (self.old.store.cylinders * 15) → (device_of self.old).store.paired ≡ false → StaysSound self.old self.new }
+        ensures plain { TellsTracks (V.view volume) (self.old.store.cylinders * 15) → (device_of self.old).store.paired ≡ false → StaysPlain self.old self.new }
+        ensures excused { TellsTracks (V.view volume) (self.old.store.cylinders * 15) → (device_of self.old).store.paired ≡ false → StaysExcused self.old self.new }
     {
         self.store.join(volume);
     }
@@ -98,6 +112,9 @@ impl<V: Volume> Device<V> {
         ensures a { on_a self.new.store ≡ on_a self.old.store }
         ensures b { on_b self.new.store ≡ None }
         ensures back { result ≡ on_b self.old.store }
+        ensures sound { unpair_fault (device_of self.old) ≡ None → StaysSound self.old self.new }
+        ensures plain { unpair_fault (device_of self.old) ≡ None → StaysPlain self.old self.new }
+        ensures excused { unpair_fault (device_of self.old) ≡ None → StaysExcused self.old self.new }
     {
         self.store.split()
     }
@@ -109,7 +126,7 @@ impl<V: Volume> Device<V> {
         port: &mut P,
     ) -> Option<V>
         requires { (device_of self.old).store.paired ≡ false }
-        ensures fixed { (self.new.store.number ≡ self.old.store.number) × (self.new.store.cylinders ≡ self.old.store.cylinders) × (self.new.store.geometry ≡ self.old.store.geometry) }
+        ensures fixed { IsSameDevice self.old self.new }
         ensures a { on_a self.new.store ≡ None }
         ensures b { on_b self.new.store ≡ None }
         ensures back { result ≡ on_a self.old.store }
@@ -126,7 +143,7 @@ impl<V: Volume> Device<V> {
     /// The same, with a keeper that keeps nothing.
     pub fn lend<P: Port>(&mut self, to: DeviceNo, port: &mut P) -> Option<V>
         requires { (device_of self.old).store.paired ≡ false }
-        ensures fixed { (self.new.store.number ≡ self.old.store.number) × (self.new.store.cylinders ≡ self.old.store.cylinders) × (self.new.store.geometry ≡ self.old.store.geometry) }
+        ensures fixed { IsSameDevice self.old self.new }
         ensures a { on_a self.new.store ≡ None }
         ensures b { on_b self.new.store ≡ None }
         ensures back { result ≡ on_a self.old.store }

@@ -1,4 +1,4 @@
-ghost use Rattle.std.specs.Prelude.{◌≡◌, ◌*◌, ◌≤◌, ◌<◌, ◌++◌, ◌∷◌, [], ℕ, None, false, map};
+ghost use Rattle.std.specs.Prelude.{◌≡◌, ◌≤◌, ◌<◌, ◌++◌, ◌∷◌, [], None, false, map};
 ghost use Rattle.plain_defs.specs.declared.journal.Item.TheVariants.{Power};
 ghost use Rattle.plain_defs.specs.History.{lost_power};
 ghost use Rattle.device_defs.specs.Contents.{contents};
@@ -6,11 +6,12 @@ ghost use Rattle.device_defs.specs.Cutting.{power};
 ghost use Rattle.device_outside.specs.declared.keep.NoKeep.{NoKeep};
 ghost use Rattle.device_outside.specs.Keeper.{Heard, reply};
 ghost use Rattle.device_outside.specs.Outside.{Ran};
-ghost use Rattle.device_store.specs.State.{outside, surely, Takes};
+ghost use Rattle.device_store.specs.State.{outside, surely, Takes, TakesTracks};
 ghost use Rattle.device_core.specs.Kept.{history_of, Keeps};
 ghost use Rattle.device_core.specs.Powered.{off_path};
-ghost use Rattle.device_core.specs.State.{device_of};
+ghost use Rattle.device_core.specs.State.{device_of, IsSameDevice};
 ghost use Rattle.seen_laws.specs.Moved.{MovesNothing};
+ghost use Rattle.device_core.specs.Promises.{StaysExcused, StaysPlain, StaysSound};
 
 use crate::Device;
 use crate::half::half_count;
@@ -74,12 +75,15 @@ impl<V: Volume> Device<V> {
     /// The loss of power. Takes no memory. The device takes no notes. An open half write ends; that of a command counts as done, and
     /// the keeper is told of its edit.
     pub fn power_with<P: Port, K: Keep<TrackImage>>(&mut self, port: &mut P, keep: &mut K)
-        requires takes { Takes K.takes keep.old self.old.store.number self.old.store.geometry (self.old.store.cylinders * 15) }
-        ensures fixed { (self.new.store.number ≡ self.old.store.number) × (self.new.store.cylinders ≡ self.old.store.cylinders) × (self.new.store.geometry ≡ self.old.store.geometry) }
-        ensures takes { Takes K.takes keep.new self.new.store.number self.new.store.geometry (self.new.store.cylinders * 15) }
+        requires takes { TakesTracks K.takes keep.old self.old.store }
+        ensures fixed { IsSameDevice self.old self.new }
+        ensures takes { TakesTracks K.takes keep.new self.new.store }
         ensures run { Ran surely (Heard K.hears K.takes) (power contents (device_of self.old)) (outside (P.view port.old) self.old.store keep.old)
             (device_of self.new) tt (outside (P.view port.new) self.new.store keep.new) }
         ensures transfers { MovesNothing (device_of self.old) (device_of self.new) }
+        ensures sound { StaysSound self.old self.new }
+        ensures plain { StaysPlain self.old self.new }
+        ensures excused { StaysExcused self.old self.new }
     {
         let before = self.store.waiting_count();
         self.store.begin_event();
@@ -93,10 +97,13 @@ impl<V: Volume> Device<V> {
 
     /// The same, with a keeper that keeps nothing.
     pub fn power<P: Port>(&mut self, port: &mut P)
-        ensures fixed { (self.new.store.number ≡ self.old.store.number) × (self.new.store.cylinders ≡ self.old.store.cylinders) × (self.new.store.geometry ≡ self.old.store.geometry) }
+        ensures fixed { IsSameDevice self.old self.new }
         ensures run { (k : NoKeep) → Ran surely (λ _ m r _. r ≡ reply m) (power contents (device_of self.old))
             (outside (P.view port.old) self.old.store k) (device_of self.new) tt (outside (P.view port.new) self.new.store k) }
         ensures transfers { MovesNothing (device_of self.old) (device_of self.new) }
+        ensures sound { StaysSound self.old self.new }
+        ensures plain { StaysPlain self.old self.new }
+        ensures excused { StaysExcused self.old self.new }
     {
         let mut keep = NoKeep;
         self.power_with(port, &mut keep)

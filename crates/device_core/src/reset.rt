@@ -1,4 +1,4 @@
-ghost use Rattle.std.specs.Prelude.{◌≡◌, ◌*◌, ◌≤◌, ◌+◌, ◌++◌, ◌∷◌, [], ℕ, None, Some, IsSome, length, option_map, false, true};
+ghost use Rattle.std.specs.Prelude.{◌≡◌, ◌≤◌, ◌+◌, ◌++◌, ◌∷◌, [], None, Some, IsSome, length, option_map, false, true};
 ghost use Rattle.plain_defs.specs.declared.journal.How.TheVariants.{Cut};
 ghost use Rattle.plain_defs.specs.declared.journal.Item.TheVariants.{Reset};
 ghost use Rattle.plain_defs.specs.History.{OpenEntry, cut_by, entry_of, has_used, is_path_of, put};
@@ -10,10 +10,11 @@ ghost use Rattle.device_outside.specs.declared.keep.NoKeep.{NoKeep};
 ghost use Rattle.device_outside.specs.Interaction.{Done};
 ghost use Rattle.device_outside.specs.Keeper.{Heard, reply};
 ghost use Rattle.device_outside.specs.Outside.{PortView, Ran};
-ghost use Rattle.device_store.specs.State.{outside, surely, Takes};
+ghost use Rattle.device_store.specs.State.{outside, surely, Takes, TakesTracks};
 ghost use Rattle.device_core.specs.Kept.{open_of, history_of, waiting_in, Keeps};
-ghost use Rattle.device_core.specs.State.{device_of};
+ghost use Rattle.device_core.specs.State.{device_of, IsSameDevice};
 ghost use Rattle.seen_laws.specs.Moved.{MovesNothing};
+ghost use Rattle.device_core.specs.Promises.{StaysExcused, StaysPlain, StaysSound};
 
 use crate::Device;
 use crate::half::half_count;
@@ -120,10 +121,10 @@ impl<V: Volume> Device<V> {
     /// Its path's reset cuts the program that runs. An open half write of its command counts as done.
     fn cut_program<K: Keep<TrackImage>>(&mut self, path: PathNo, keep: &mut K)
         requires runs { is_path_of (history_of self.old.past).running path ≡ true }
-        requires takes { Takes K.takes keep.old self.old.store.number self.old.store.geometry (self.old.store.cylinders * 15) }
-        ensures fixed { (self.new.store.number ≡ self.old.store.number) × (self.new.store.cylinders ≡ self.old.store.cylinders) × (self.new.store.geometry ≡ self.old.store.geometry) }
+        requires takes { TakesTracks K.takes keep.old self.old.store }
+        ensures fixed { IsSameDevice self.old self.new }
         ensures volume { self.new.store.pair.volumes ≡ self.old.store.pair.volumes }
-        ensures takes { Takes K.takes keep.new self.new.store.number self.new.store.geometry (self.new.store.cylinders * 15) }
+        ensures takes { TakesTracks K.takes keep.new self.new.store }
         ensures run { (p : PortView) → Ran surely (Heard K.hears K.takes) (reset contents (device_of self.old) path) (outside p self.old.store keep.old)
             (device_of self.new) tt (outside p self.new.store keep.new) }
     {
@@ -135,13 +136,16 @@ impl<V: Volume> Device<V> {
     /// A path is reset: a program that it runs is cut, and where another path's runs, the reset waits for its end. Of a path that used
     /// nothing since its last reset it is none. Takes no memory. The keeper is told of an edit that takes effect.
     pub fn reset_with<K: Keep<TrackImage>>(&mut self, path: PathNo, keep: &mut K)
-        requires takes { Takes K.takes keep.old self.old.store.number self.old.store.geometry (self.old.store.cylinders * 15) }
-        ensures fixed { (self.new.store.number ≡ self.old.store.number) × (self.new.store.cylinders ≡ self.old.store.cylinders) × (self.new.store.geometry ≡ self.old.store.geometry) }
+        requires takes { TakesTracks K.takes keep.old self.old.store }
+        ensures fixed { IsSameDevice self.old self.new }
         ensures volume { self.new.store.pair.volumes ≡ self.old.store.pair.volumes }
         ensures run { (p : PortView) → Ran surely (Heard K.hears K.takes) (reset contents (device_of self.old) path) (outside p self.old.store keep.old)
             (device_of self.new) tt (outside p self.new.store keep.new) }
         ensures transfers { MovesNothing (device_of self.old) (device_of self.new) }
-        ensures takes { Takes K.takes keep.new self.new.store.number self.new.store.geometry (self.new.store.cylinders * 15) }
+        ensures takes { TakesTracks K.takes keep.new self.new.store }
+        ensures sound { StaysSound self.old self.new }
+        ensures plain { StaysPlain self.old self.new }
+        ensures excused { StaysExcused self.old self.new }
     {
         if self.past.runs_on(path) {
             self.cut_program(path, keep);
@@ -155,10 +159,13 @@ impl<V: Volume> Device<V> {
 
     /// The same, with a keeper that keeps nothing.
     pub fn reset(&mut self, path: PathNo)
-        ensures fixed { (self.new.store.number ≡ self.old.store.number) × (self.new.store.cylinders ≡ self.old.store.cylinders) × (self.new.store.geometry ≡ self.old.store.geometry) }
+        ensures fixed { IsSameDevice self.old self.new }
         ensures volume { self.new.store.pair.volumes ≡ self.old.store.pair.volumes }
         ensures run { (p : PortView) (k : NoKeep) → Ran surely (λ _ m r _. r ≡ reply m) (reset contents (device_of self.old) path)
             (outside p self.old.store k) (device_of self.new) tt (outside p self.new.store k) }
+        ensures sound { StaysSound self.old self.new }
+        ensures plain { StaysPlain self.old self.new }
+        ensures excused { StaysExcused self.old self.new }
     {
         let mut keep = NoKeep;
         self.reset_with(path, &mut keep)

@@ -1,4 +1,5 @@
-ghost use Rattle.std.specs.Prelude.{◌≡◌, ◌≤◌, ◌+◌, ◌*◌, ℕ, [], IfOk, IfSome, IsSome, None, OnErr, OnOk, false, is_some, option_map};
+ghost use Rattle.std.specs.Prelude.{◌≡◌, ◌≤◌, ◌+◌, ℕ, [], IfOk, IfSome, IsSome, None, OnErr, OnOk, false, is_some, option_map};
+ghost use Rattle.ckd_chain.specs.Facts.{IsChain};
 ghost use Rattle.device_defs.specs.Command.{command, command_by};
 ghost use Rattle.device_defs.specs.Contents.{contents};
 ghost use Rattle.device_defs.specs.Device.{event};
@@ -6,13 +7,14 @@ ghost use Rattle.event_notes.specs.Loose.{loose_count, weight};
 ghost use Rattle.device_outside.specs.declared.keep.NoKeep.{NoKeep};
 ghost use Rattle.device_outside.specs.Keeper.{Heard, reply};
 ghost use Rattle.device_outside.specs.Outside.{Ran, where_ok};
-ghost use Rattle.device_store.specs.State.{outside, Takes};
+ghost use Rattle.device_store.specs.State.{outside, TakesTracks};
 ghost use Rattle.device_core.specs.Halves.{is_half_step};
 ghost use Rattle.device_core.specs.Kept.{open_of, chain_of, history_of, ActRoom, HasRoomFor, Keeps};
-ghost use Rattle.device_core.specs.State.{device_of, step_had};
+ghost use Rattle.device_core.specs.State.{device_of, step_had, IsSameDevice};
 ghost use Rattle.device_core.specs.Words.{HasEndRoom};
 ghost use Rattle.seen_laws.specs.Moved.{CommandMoves, HitReadsNone};
 ghost use Rattle.seen_laws.specs.Seen.{EndsAsSeen};
+ghost use Rattle.device_core.specs.Promises.{EndsSeen, StandsPlain, StaysExcused, StaysPlain, StaysSame, StaysSound};
 
 use crate::Device;
 use crate::past::{Past, Running, Stepped};
@@ -78,9 +80,9 @@ impl<V: Volume> Device<V> {
         requires fresh { self.old.store.loose.acts ≡ [] }
         requires whole { self.old.store.half ≡ None }
         requires room { ActRoom (weight self.old.store.loose + 2) self.old.past }
-        requires takes { Takes K.takes keep.old self.old.store.number self.old.store.geometry (self.old.store.cylinders * 15) }
-        ensures fixed { (self.new.store.number ≡ self.old.store.number) × (self.new.store.cylinders ≡ self.old.store.cylinders) × (self.new.store.geometry ≡ self.old.store.geometry) }
-        ensures takes { Takes K.takes keep.new self.new.store.number self.new.store.geometry (self.new.store.cylinders * 15) }
+        requires takes { TakesTracks K.takes keep.old self.old.store }
+        ensures fixed { IsSameDevice self.old self.new }
+        ensures takes { TakesTracks K.takes keep.new self.new.store }
         ensures half { IfOk result (λ step. is_some self.new.store.half ≡ is_half_step step) }
         ensures same { OnErr result (self.new.store.half ≡ None) }
         ensures run { Ran (where_ok result) (Heard K.hears K.takes)
@@ -116,9 +118,9 @@ impl<V: Volume> Device<V> {
         requires ends { IfSome self.old.past.running (λ r. HasEndRoom r.ends) }
         requires room { ActRoom (loose_count self.old.store.loose.loose + 2) self.old.past }
         requires whole { self.old.store.half ≡ None }
-        requires takes { Takes K.takes keep.old self.old.store.number self.old.store.geometry (self.old.store.cylinders * 15) }
-        ensures fixed { (self.new.store.number ≡ self.old.store.number) × (self.new.store.cylinders ≡ self.old.store.cylinders) × (self.new.store.geometry ≡ self.old.store.geometry) }
-        ensures takes { Takes K.takes keep.new self.new.store.number self.new.store.geometry (self.new.store.cylinders * 15) }
+        requires takes { TakesTracks K.takes keep.old self.old.store }
+        ensures fixed { IsSameDevice self.old self.new }
+        ensures takes { TakesTracks K.takes keep.new self.new.store }
         ensures half { IfOk result (λ step. is_some self.new.store.half ≡ is_half_step step) }
         ensures same { OnErr result (self.new.store.half ≡ None) }
         ensures run { Ran (where_ok result) (Heard K.hears K.takes) (event contents (device_of self.old) (λ z. command_by contents z z.history.running z.chain))
@@ -133,6 +135,16 @@ impl<V: Volume> Device<V> {
         stepped
     }
 
+    /// The chain of the program that runs keeps to what chains keep to. No code but for the proof.
+    fn recall_chain(&self)
+        ensures { IfSome self.now.past.running (λ r. IsChain r.chain) }
+    {
+        match &self.past.running {
+            Some(running) => running.chain.stands(),
+            None => (),
+        }
+    }
+
     /// The command at hand of the running program, while no write is half done. Its end stands in the journal (`last_end`): nothing
     /// of it is copied. Room is made first; after want of memory the program is where it was before the command.
     pub fn command_with<P: Port, K: Keep<TrackImage>>(
@@ -142,18 +154,25 @@ impl<V: Volume> Device<V> {
     ) -> Result<Stepped, NoMemory>
         requires running { IsSome self.old.past.running }
         requires whole { is_some (device_of self.old).store.half ≡ false }
-        requires takes { Takes K.takes keep.old self.old.store.number self.old.store.geometry (self.old.store.cylinders * 15) }
-        ensures fixed { (self.new.store.number ≡ self.old.store.number) × (self.new.store.cylinders ≡ self.old.store.cylinders) × (self.new.store.geometry ≡ self.old.store.geometry) }
-        ensures takes { Takes K.takes keep.new self.new.store.number self.new.store.geometry (self.new.store.cylinders * 15) }
+        requires takes { TakesTracks K.takes keep.old self.old.store }
+        ensures fixed { IsSameDevice self.old self.new }
+        ensures takes { TakesTracks K.takes keep.new self.new.store }
         ensures half { IfOk result (λ step. is_some (device_of self.new).store.half ≡ is_half_step step) }
         ensures same { OnErr result (is_some (device_of self.new).store.half ≡ false) }
         ensures run { Ran (where_ok result) (Heard K.hears K.takes) (command contents (device_of self.old)) (outside (P.view port.old) self.old.store keep.old)
             (device_of self.new) (step_had self.new.past result) (outside (P.view port.new) self.new.store keep.new) }
         ensures ends_as_seen { EndsAsSeen (where_ok result) (Heard K.hears K.takes) (device_of self.old) (outside (P.view port.old) self.old.store keep.old)
             (device_of self.new) (step_had self.new.past result) (outside (P.view port.new) self.new.store keep.new) }
+        ensures ends { StandsPlain self.old → EndsSeen (where_ok result) (Heard K.hears K.takes) (device_of self.old)
+            (outside (P.view port.old) self.old.store keep.old) (device_of self.new) (step_had self.new.past result) (outside (P.view port.new) self.new.store keep.new) }
         ensures hits { HitReadsNone (device_of self.old) (device_of self.new) }
         ensures transfers { CommandMoves (device_of self.old) (device_of self.new) }
+        ensures sound { StaysSound self.old self.new }
+        ensures plain { StaysPlain self.old self.new }
+        ensures excused { OnOk result (StaysExcused self.old self.new) }
+        ensures same_without_memory { OnErr result (StaysSame self.old self.new) }
     {
+        self.recall_chain();
         match self
             .past
             .reserve(self.store.alloc, self.store.loose.count() + 2)
@@ -168,16 +187,23 @@ impl<V: Volume> Device<V> {
     pub fn command<P: Port>(&mut self, port: &mut P) -> Result<Stepped, NoMemory>
         requires running { IsSome self.old.past.running }
         requires whole { is_some (device_of self.old).store.half ≡ false }
-        ensures fixed { (self.new.store.number ≡ self.old.store.number) × (self.new.store.cylinders ≡ self.old.store.cylinders) × (self.new.store.geometry ≡ self.old.store.geometry) }
+        ensures fixed { IsSameDevice self.old self.new }
         ensures half { IfOk result (λ step. is_some (device_of self.new).store.half ≡ is_half_step step) }
         ensures same { OnErr result (is_some (device_of self.new).store.half ≡ false) }
         ensures run { (k : NoKeep) → Ran (where_ok result) (λ _ m r _. r ≡ reply m) (command contents (device_of self.old))
             (outside (P.view port.old) self.old.store k) (device_of self.new) (step_had self.new.past result) (outside (P.view port.new) self.new.store k) }
         ensures ends_as_seen { (k : NoKeep) → EndsAsSeen (where_ok result) (λ _ m r _. r ≡ reply m) (device_of self.old)
             (outside (P.view port.old) self.old.store k) (device_of self.new) (step_had self.new.past result) (outside (P.view port.new) self.new.store k) }
+        ensures ends { StandsPlain self.old → (k : NoKeep) → EndsSeen (where_ok result) (λ _ m r _. r ≡ reply m) (device_of self.old)
+            (outside (P.view port.old) self.old.store k) (device_of self.new) (step_had self.new.past result) (outside (P.view port.new) self.new.store k) }
         ensures hits { HitReadsNone (device_of self.old) (device_of self.new) }
         ensures transfers { CommandMoves (device_of self.old) (device_of self.new) }
+        ensures sound { StaysSound self.old self.new }
+        ensures plain { StaysPlain self.old self.new }
+        ensures excused { OnOk result (StaysExcused self.old self.new) }
+        ensures same_without_memory { OnErr result (StaysSame self.old self.new) }
     {
+        self.recall_chain();
         let mut keep = NoKeep;
         self.command_with(port, &mut keep)
     }

@@ -1,4 +1,4 @@
-ghost use Rattle.std.specs.Prelude.{◌≡◌, ◌*◌, [], IsSome, None, Some, is_some, true, if◌then◌else◌};
+ghost use Rattle.std.specs.Prelude.{◌≡◌, [], IsSome, None, Some, is_some, true, if◌then◌else◌};
 ghost use Rattle.device_defs.specs.declared.answers.SecondEnd.{SecondEnd};
 ghost use Rattle.device_defs.specs.declared.answers.SecondEnd.TheVariants as seconds;
 ghost use Rattle.device_defs.specs.declared.answers.Took.TheVariants.{Whole, Unwritten};
@@ -10,10 +10,11 @@ ghost use Rattle.device_defs.specs.Events.{second, second_of};
 ghost use Rattle.device_outside.specs.declared.keep.NoKeep.{NoKeep};
 ghost use Rattle.device_outside.specs.Keeper.{Heard, reply};
 ghost use Rattle.device_outside.specs.Outside.{Ran};
-ghost use Rattle.device_store.specs.State.{outside, surely, Takes};
-ghost use Rattle.device_core.specs.State.{device_of, second_seen};
+ghost use Rattle.device_store.specs.State.{outside, surely, Takes, TakesTracks};
+ghost use Rattle.device_core.specs.State.{device_of, second_seen, IsSameDevice};
 ghost use Rattle.seen_laws.specs.Moved.{SecondMoves};
 ghost use Rattle.seen_laws.specs.Seen.{EndsAsKept};
+ghost use Rattle.device_core.specs.Promises.{StaysExcused, StaysPlain, StaysSound};
 
 use crate::Device;
 use ckd_types::TrackNo;
@@ -61,9 +62,9 @@ impl<V: Volume> Device<V> {
     ) -> SecondStep
         requires open { is_some self.old.store.half ≡ true }
         requires room { ActRoom (weight self.old.store.loose) self.old.past }
-        requires takes { Takes K.takes keep.old self.old.store.number self.old.store.geometry (self.old.store.cylinders * 15) }
-        ensures fixed { (self.new.store.number ≡ self.old.store.number) × (self.new.store.cylinders ≡ self.old.store.cylinders) × (self.new.store.geometry ≡ self.old.store.geometry) }
-        ensures takes { Takes K.takes keep.new self.new.store.number self.new.store.geometry (self.new.store.cylinders * 15) }
+        requires takes { TakesTracks K.takes keep.old self.old.store }
+        ensures fixed { IsSameDevice self.old self.new }
+        ensures takes { TakesTracks K.takes keep.new self.new.store }
         ensures whole { self.new.store.half ≡ None }
         ensures seen { IsSome (second_seen self.new.past result) }
         ensures run { (e : SecondEnd) → second_seen self.new.past result ≡ Some e
@@ -88,9 +89,9 @@ impl<V: Volume> Device<V> {
     ) -> SecondStep
         requires room { ActRoom (weight self.old.store.loose) self.old.past }
         requires fresh { self.old.store.loose.acts ≡ [] }
-        requires takes { Takes K.takes keep.old self.old.store.number self.old.store.geometry (self.old.store.cylinders * 15) }
-        ensures fixed { (self.new.store.number ≡ self.old.store.number) × (self.new.store.cylinders ≡ self.old.store.cylinders) × (self.new.store.geometry ≡ self.old.store.geometry) }
-        ensures takes { Takes K.takes keep.new self.new.store.number self.new.store.geometry (self.new.store.cylinders * 15) }
+        requires takes { TakesTracks K.takes keep.old self.old.store }
+        ensures fixed { IsSameDevice self.old self.new }
+        ensures takes { TakesTracks K.takes keep.new self.new.store }
         ensures whole { self.new.store.half ≡ None }
         ensures seen { IsSome (second_seen self.new.past result) }
         ensures run { (e : SecondEnd) → second_seen self.new.past result ≡ Some e
@@ -110,9 +111,9 @@ impl<V: Volume> Device<V> {
         port: &mut P,
         keep: &mut K,
     ) -> SecondStep
-        requires takes { Takes K.takes keep.old self.old.store.number self.old.store.geometry (self.old.store.cylinders * 15) }
-        ensures fixed { (self.new.store.number ≡ self.old.store.number) × (self.new.store.cylinders ≡ self.old.store.cylinders) × (self.new.store.geometry ≡ self.old.store.geometry) }
-        ensures takes { Takes K.takes keep.new self.new.store.number self.new.store.geometry (self.new.store.cylinders * 15) }
+        requires takes { TakesTracks K.takes keep.old self.old.store }
+        ensures fixed { IsSameDevice self.old self.new }
+        ensures takes { TakesTracks K.takes keep.new self.new.store }
         ensures whole { self.new.store.half ≡ None }
         ensures seen { IsSome (second_seen self.new.past result) }
         ensures run { (e : SecondEnd) → second_seen self.new.past result ≡ Some e
@@ -120,6 +121,9 @@ impl<V: Volume> Device<V> {
             (device_of self.new) e (outside (P.view port.new) self.new.store keep.new) }
         ensures ends_as_kept { (e : SecondEnd) → second_seen self.new.past result ≡ Some e → EndsAsKept (device_of self.old) (device_of self.new) e }
         ensures transfers { (e : SecondEnd) → second_seen self.new.past result ≡ Some e → SecondMoves (device_of self.old) (device_of self.new) }
+        ensures sound { is_some (device_of self.old).store.half ≡ true → StaysSound self.old self.new }
+        ensures plain { is_some (device_of self.old).store.half ≡ true → StaysPlain self.old self.new }
+        ensures excused { is_some (device_of self.old).store.half ≡ true → StaysExcused self.old self.new }
     {
         let before = self.store.waiting_count();
         self.store.begin_event();
@@ -131,7 +135,7 @@ impl<V: Volume> Device<V> {
 
     /// The same, with a keeper that keeps nothing.
     pub fn second<P: Port>(&mut self, port: &mut P) -> SecondStep
-        ensures fixed { (self.new.store.number ≡ self.old.store.number) × (self.new.store.cylinders ≡ self.old.store.cylinders) × (self.new.store.geometry ≡ self.old.store.geometry) }
+        ensures fixed { IsSameDevice self.old self.new }
         ensures whole { self.new.store.half ≡ None }
         ensures seen { IsSome (second_seen self.new.past result) }
         ensures run { (k : NoKeep) (e : SecondEnd) → second_seen self.new.past result ≡ Some e
@@ -139,6 +143,9 @@ impl<V: Volume> Device<V> {
             (device_of self.new) e (outside (P.view port.new) self.new.store k) }
         ensures ends_as_kept { (e : SecondEnd) → second_seen self.new.past result ≡ Some e → EndsAsKept (device_of self.old) (device_of self.new) e }
         ensures transfers { (e : SecondEnd) → second_seen self.new.past result ≡ Some e → SecondMoves (device_of self.old) (device_of self.new) }
+        ensures sound { is_some (device_of self.old).store.half ≡ true → StaysSound self.old self.new }
+        ensures plain { is_some (device_of self.old).store.half ≡ true → StaysPlain self.old self.new }
+        ensures excused { is_some (device_of self.old).store.half ≡ true → StaysExcused self.old self.new }
     {
         let mut keep = NoKeep;
         self.second_with(port, &mut keep)

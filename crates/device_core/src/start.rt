@@ -18,6 +18,7 @@ ghost use Rattle.device_defs.specs.Start.{
 ghost use Rattle.device_core.specs.Kept.{open_of, chain_of, history_of, of_path, ActRoom, Keeps};
 ghost use Rattle.device_core.specs.State.{device_of};
 ghost use Rattle.device_core.specs.Starting.{fault_told};
+ghost use Rattle.device_core.specs.Promises.{StaysExcused, StaysPlain, StaysSound};
 
 use crate::Device;
 use crate::kept::count_one_more;
@@ -226,7 +227,11 @@ impl<V: Volume> Device<V> {
         ensures started { OnOk result (device_of self.new ≡ start (device_of self.old) path) }
         ensures same { OnErr result (device_of self.new ≡ device_of self.old) }
         ensures store { self.new.store ≡ self.old.store }
+        ensures sound { StaysSound self.old self.new }
+        ensures plain { StaysPlain self.old self.new }
+        ensures excused { StaysExcused self.old self.new }
     {
+        let _number = path.get();
         match self.start_fault(path) {
             Some(fault) => return Err(NotStarted::Refused(fault)),
             None => (),

@@ -1,7 +1,5 @@
-ghost use Rattle.std.specs.Prelude.{◌≡◌, ◌<◌, ◌≤◌, ◌+◌, ◌*◌, ℕ, [], IfOk, IfSome, IsSome, None, OnErr, is_some, option_map};
+ghost use Rattle.std.specs.Prelude.{◌≡◌, ◌≤◌, ◌+◌, ℕ, [], IfOk, IfSome, IsSome, None, OnErr, is_some, option_map};
 ghost use Rattle.std.specs.List.{list_any};
-ghost use Rattle.ckd_chain.specs.State.{ChainState};
-ghost use Rattle.plain_defs.specs.History.{OpenEntry};
 ghost use Rattle.device_defs.specs.Command.{command, command_at, is_loss};
 ghost use Rattle.ckd_chain.specs.Steps.{need_of};
 ghost use Rattle.device_defs.specs.Contents.{contents};
@@ -9,7 +7,7 @@ ghost use Rattle.device_defs.specs.Device.{with_store};
 ghost use Rattle.device_outside.specs.Keeper.{Heard};
 ghost use Rattle.device_outside.specs.Outside.{Ran, where_ok};
 ghost use Rattle.event_notes.specs.Loose.{weight};
-ghost use Rattle.device_store.specs.State.{state_of, outside, Takes};
+ghost use Rattle.device_store.specs.State.{state_of, outside, TakesTracks};
 ghost use Rattle.device_core.specs.Kept.{HasRoomFor};
 ghost use Rattle.device_core.specs.State.{DefinedDevice, open_of, came_to, told, commanded, commanded_by, came_from};
 ghost use Rattle.device_core.specs.Turns.{Left, is_half};
@@ -37,10 +35,10 @@ fn on_running<V: Volume, P: Port, K: Keep<TrackImage>>(
 ) -> Result<Came, NoMemory>
     requires fresh { store.old.loose.acts ≡ [] }
     requires word { IsAtWord store.old.cylinders running.old.chain }
-    requires takes { Takes K.takes keep.old store.old.number store.old.geometry (store.old.cylinders * 15) }
+    requires takes { TakesTracks K.takes keep.old store.old }
     requires none { store.old.half ≡ None }
     ensures fixed { (store.new.number ≡ store.old.number) × (store.new.cylinders ≡ store.old.cylinders) × (store.new.geometry ≡ store.old.geometry) }
-    ensures takes { Takes K.takes keep.new store.new.number store.new.geometry (store.new.cylinders * 15) }
+    ensures takes { TakesTracks K.takes keep.new store.new }
     ensures open { (open_of running.new ≡ open_of running.old) × (running.new.ends ≡ running.old.ends) }
     ensures acts { (running.new.acts ≡ running.old.acts) × (running.new.room ≡ running.old.room) }
     ensures left { IfOk result (Left store.old.cylinders running.new.chain) }
@@ -87,10 +85,10 @@ fn on_program<V: Volume, P: Port, K: Keep<TrackImage>>(
 ) -> Result<Came, NoMemory>
     requires fresh { store.old.loose.acts ≡ [] }
     requires word { IsAtWord store.old.cylinders running.old.chain }
-    requires takes { Takes K.takes keep.old store.old.number store.old.geometry (store.old.cylinders * 15) }
+    requires takes { TakesTracks K.takes keep.old store.old }
     requires none { store.old.half ≡ None }
     ensures fixed { (store.new.number ≡ store.old.number) × (store.new.cylinders ≡ store.old.cylinders) × (store.new.geometry ≡ store.old.geometry) }
-    ensures takes { Takes K.takes keep.new store.new.number store.new.geometry (store.new.cylinders * 15) }
+    ensures takes { TakesTracks K.takes keep.new store.new }
     ensures open { (open_of running.new ≡ open_of running.old) × (running.new.ends ≡ running.old.ends) }
     ensures acts { (running.new.acts ≡ running.old.acts) × (running.new.room ≡ running.old.room) }
     ensures left { IfOk result (Left store.old.cylinders running.new.chain) }
@@ -121,10 +119,10 @@ pub(crate) fn on_past<V: Volume, P: Port, K: Keep<TrackImage>>(
     requires fresh { store.old.loose.acts ≡ [] }
     requires word { IfSome running.old (λ r. IsAtWord store.old.cylinders r.chain) }
     requires room { IfSome running.old (λ r. HasEndRoom r.ends) }
-    requires takes { Takes K.takes keep.old store.old.number store.old.geometry (store.old.cylinders * 15) }
+    requires takes { TakesTracks K.takes keep.old store.old }
     requires none { store.old.half ≡ None }
     ensures fixed { (store.new.number ≡ store.old.number) × (store.new.cylinders ≡ store.old.cylinders) × (store.new.geometry ≡ store.old.geometry) }
-    ensures takes { Takes K.takes keep.new store.new.number store.new.geometry (store.new.cylinders * 15) }
+    ensures takes { TakesTracks K.takes keep.new store.new }
     ensures running { IsSome running.new }
     ensures room { IfSome running.new (λ r. HasEndRoom r.ends) }
     ensures open { option_map open_of running.new ≡ option_map open_of running.old }

@@ -10,7 +10,7 @@ ghost use Rattle.device_defs.specs.Outcomes.{usage_of, wrote_turn, checks};
 ghost use Rattle.device_outside.specs.Keeper.{Heard};
 ghost use Rattle.device_outside.specs.Outside.{Ran, where_ok};
 ghost use Rattle.device_store.specs.Looks.{seen, IsSeen};
-ghost use Rattle.device_store.specs.State.{state_of, outside, Takes, had, is_opened};
+ghost use Rattle.device_store.specs.State.{state_of, outside, had, is_opened, TakesTracks};
 ghost use Rattle.device_core.specs.Turns.{turn_with, went_with, IsAt, Left, IsSameHand, GoesOn, KeepsWeight, is_half, is_half_over};
 ghost use Rattle.event_notes.specs.Loose.{weight};
 
@@ -92,10 +92,10 @@ fn write_seen<V: Volume, P: Port, K: Keep<TrackImage>>(
     requires there { IsSeen (state_of store.old) t (option_map (λ i. i.now) read) }
     requires suits { Suits (seen (state_of store.old) t (option_map (λ i. i.now) read)).geometry
         (seen (state_of store.old) t (option_map (λ i. i.now) read)).track.records edit }
-    requires takes { Takes K.takes keep.old store.old.number store.old.geometry (store.old.cylinders * 15) }
+    requires takes { TakesTracks K.takes keep.old store.old }
     requires none { store.old.half ≡ None }
     ensures fixed { (store.new.number ≡ store.old.number) × (store.new.cylinders ≡ store.old.cylinders) × (store.new.geometry ≡ store.old.geometry) }
-    ensures takes { Takes K.takes keep.new store.new.number store.new.geometry (store.new.cylinders * 15) }
+    ensures takes { TakesTracks K.takes keep.new store.new }
     ensures weight { weight store.new.loose ≤ weight store.old.loose + 2 }
     ensures run { Ran (where_ok result) (Heard K.hears K.takes) (write contents (state_of store.old) usage.now first t
         (seen (state_of store.old) t (option_map (λ i. i.now) read.entry)) edit) (outside (P.view port.old) store.old keep.old) (state_of store.new)
@@ -125,12 +125,12 @@ fn write_edit<V: Volume, P: Port, K: Keep<TrackImage>>(
     requires there { IsSeen (state_of store.old) t (option_map (λ i. i.now) read) }
     requires suits { Suits (seen (state_of store.old) t (option_map (λ i. i.now) read)).geometry
         (seen (state_of store.old) t (option_map (λ i. i.now) read)).track.records edit }
-    requires takes { Takes K.takes keep.old store.old.number store.old.geometry (store.old.cylinders * 15) }
+    requires takes { TakesTracks K.takes keep.old store.old }
     requires at { IsAt store.old.cylinders chain.old }
     requires written { MayBeWritten chain.old.stage }
     requires none { store.old.half ≡ None }
     ensures fixed { (store.new.number ≡ store.old.number) × (store.new.cylinders ≡ store.old.cylinders) × (store.new.geometry ≡ store.old.geometry) }
-    ensures takes { Takes K.takes keep.new store.new.number store.new.geometry (store.new.cylinders * 15) }
+    ensures takes { TakesTracks K.takes keep.new store.new }
     ensures goes { IfOk result (GoesOn store.old.cylinders chain.old chain.new) }
     ensures hand { OnErr result (IsSameHand chain.old chain.new) }
     ensures weight { weight store.new.loose ≤ weight store.old.loose + 2 }
@@ -160,13 +160,13 @@ fn on_image<V: Volume, P: Port, K: Keep<TrackImage>>(
     keep: &mut K,
 ) -> Result<Step, NoMemory>
     requires track { t < store.old.cylinders * 15 }
-    requires takes { Takes K.takes keep.old store.old.number store.old.geometry (store.old.cylinders * 15) }
+    requires takes { TakesTracks K.takes keep.old store.old }
     requires there { IsSeen (state_of store.old) t (option_map (λ i. i.now) read) }
     requires at { IsAt store.old.cylinders chain.old }
     requires usage { usage.now ≡ usage_of chain.old }
     requires none { store.old.half ≡ None }
     ensures fixed { (store.new.number ≡ store.old.number) × (store.new.cylinders ≡ store.old.cylinders) × (store.new.geometry ≡ store.old.geometry) }
-    ensures takes { Takes K.takes keep.new store.new.number store.new.geometry (store.new.cylinders * 15) }
+    ensures takes { TakesTracks K.takes keep.new store.new }
     ensures goes { IfOk result (GoesOn store.old.cylinders chain.old chain.new) }
     ensures hand { OnErr result (IsSameHand chain.old chain.new) }
     ensures weight { weight store.new.loose ≤ weight store.old.loose + 2 }
@@ -202,11 +202,11 @@ fn look<V: Volume, P: Port, K: Keep<TrackImage>>(
     keep: &mut K,
 ) -> Result<Step, NoMemory>
     requires track { t < store.old.cylinders * 15 }
-    requires takes { Takes K.takes keep.old store.old.number store.old.geometry (store.old.cylinders * 15) }
+    requires takes { TakesTracks K.takes keep.old store.old }
     requires at { IsAt store.old.cylinders chain.old }
     requires none { store.old.half ≡ None }
     ensures fixed { (store.new.number ≡ store.old.number) × (store.new.cylinders ≡ store.old.cylinders) × (store.new.geometry ≡ store.old.geometry) }
-    ensures takes { Takes K.takes keep.new store.new.number store.new.geometry (store.new.cylinders * 15) }
+    ensures takes { TakesTracks K.takes keep.new store.new }
     ensures goes { IfOk result (GoesOn store.old.cylinders chain.old chain.new) }
     ensures hand { OnErr result (IsSameHand chain.old chain.new) }
     ensures weight { weight store.new.loose ≤ weight store.old.loose + 2 }
@@ -241,11 +241,11 @@ pub fn follow<V: Volume, P: Port, K: Keep<TrackImage>>(
     keep: &mut K,
 ) -> Result<Came, NoMemory>
     requires track { first < store.old.cylinders * 15 }
-    requires takes { Takes K.takes keep.old store.old.number store.old.geometry (store.old.cylinders * 15) }
+    requires takes { TakesTracks K.takes keep.old store.old }
     requires at { IsAt store.old.cylinders chain.old }
     requires none { store.old.half ≡ None }
     ensures fixed { (store.new.number ≡ store.old.number) × (store.new.cylinders ≡ store.old.cylinders) × (store.new.geometry ≡ store.old.geometry) }
-    ensures takes { Takes K.takes keep.new store.new.number store.new.geometry (store.new.cylinders * 15) }
+    ensures takes { TakesTracks K.takes keep.new store.new }
     ensures left { IfOk result (Left store.old.cylinders chain.new) }
     ensures hand { OnErr result (IsSameHand chain.old chain.new) }
     ensures weight { weight store.new.loose ≤ weight store.old.loose + 2 }

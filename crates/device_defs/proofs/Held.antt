@@ -9,7 +9,7 @@ use Rattle.ckd_types.specs.Edit.{apply_edit}
 use Rattle.ckd_types.specs.Track.{empty_track, track_bytes}
 use Rattle.nv_store.specs.declared.patches.Stored.{Stored}
 use Rattle.nv_store.specs.Patch.{no_edits, added}
-use Rattle.plain_defs.specs.Loose.{is_loose as is_plainly_loose}
+use Rattle.plain_defs.specs.Loose.{is_loose_there as is_plainly_loose}
 use Rattle.track_cache.specs.declared.frames.Frame.{Frame}
 use Rattle.track_image.specs.Image.{Image}
 use Rattle.device_outside.specs.After.{Holdings, holds_of}

@@ -29,7 +29,7 @@ use Rattle.device_outside.specs.Pool.{
   store_repaired,
   power_lost,
 }
-use Rattle.device_outside.specs.Told.{Told, calls_of, read_fails, write_fails, read_counted, write_counted}
+use Rattle.device_outside.specs.Told.{Told, calls_of, read_fails, write_fails, told_read, told_write}
 use Rattle.device_defs.specs.declared.answers.Did.{Did}
 use Rattle.device_defs.specs.declared.answers.SecondEnd.{SecondEnd}
 use Rattle.device_defs.specs.declared.answers.StartFault.{StartFault}
@@ -40,7 +40,7 @@ use Rattle.device_defs.specs.Cutting.{reset, power}
 use Rattle.device_defs.specs.Device.{Device}
 use Rattle.device_defs.specs.Events.{second, background, lose}
 use Rattle.device_defs.specs.Marks.{no_counts, marks_of}
-use Rattle.device_defs.specs.Orders.{join, split, replace, hold as hold_b, resume, restore, lend}
+use Rattle.device_defs.specs.Orders.{join, split, replace, hold_side as hold_b, resume, restore, lend}
 use Rattle.device_defs.specs.Peek.{Peeked, peek}
 use Rattle.device_defs.specs.Start.{start_fault, start, next_ordinal}
 use Rattle.device_defs.specs.Store.{Store, new_side, no_side, no_debt}
@@ -150,10 +150,10 @@ play (Ask call k) w =
     play (k a) (record w { told = record w.told { pool = after w.told.pool call a } })
 play (Read side t k) w =
     play (k (if read_fails (calls_of w.told side) then None else Some (slice_index_or (held_by w side) t [])))
-    (record w { told = read_counted w.told side })
+    (record w { told = told_read w.told side })
 play (Write side t r k) w =
     let fails = write_fails (calls_of w.told side) in
-    play (k (not fails)) (holding (record w { told = write_counted w.told side }) side (slice_set (held_by w side) t (if fails then [] else r)))
+    play (k (not fails)) (holding (record w { told = told_write w.told side }) side (slice_set (held_by w side) t (if fails then [] else r)))
 play (Tell m k) w = play (k (replied w m)) (heard_by w m)
 
 abbrev pub OwnDevice : Type 0

@@ -13,7 +13,7 @@ use Rattle.plain_defs.specs.declared.journal.Item.{Item}
 use Rattle.plain_defs.specs.declared.journal.Item.TheVariants as items
 use Rattle.plain_defs.specs.Journal.{Plans}
 use Rattle.device_outside.specs.Pool.{Frame, Pool, new_pool, cache_failed, store_failed, cache_repaired, store_repaired, power_lost, all_waiting}
-use Rattle.device_outside.specs.Told.{Calls, Told, Outcome, hold}
+use Rattle.device_outside.specs.Told.{Calls, Told, RunOutcome, hold}
 use Rattle.device_defs.specs.declared.answers.Did.{Did}
 use Rattle.device_defs.specs.declared.answers.Did.TheVariants.{Copied}
 use Rattle.device_defs.specs.declared.answers.SecondEnd.{SecondEnd}
@@ -26,7 +26,7 @@ use Rattle.device_defs.specs.Contents.{by_plain}
 use Rattle.device_defs.specs.Cutting.{reset, power}
 use Rattle.device_defs.specs.Events.{second, background, lose}
 use Rattle.device_defs.specs.Marks.{MarksStore, MarksDevice, new_device}
-use Rattle.device_defs.specs.Orders.{join, split, replace, hold as hold_b, resume, restore, lend}
+use Rattle.device_defs.specs.Orders.{join, split, replace, hold_side as hold_b, resume, restore, lend}
 use Rattle.device_defs.specs.Peek.{Peeked, Track, peek}
 use Rattle.device_defs.specs.Store.{HalfWrite, stale_at, frame_at, patch_at, is_lost, is_loose}
 use Rattle.device_defs.specs.Start.{start_fault, start, next_ordinal}
@@ -106,13 +106,13 @@ abbrev pub back_line : Option Did → Told → Line
 back_line (Some d) w = Back d w.reads w.writes
 back_line None w = Lacking
 
-abbrev pub after_step : Stand → Outcome MarksDevice (Option Stepped) → Stand
+abbrev pub after_step : Stand → RunOutcome MarksDevice (Option Stepped) → Stand
 after_step s o = record { device = o.state; told = o.told; lines = s.lines ++ step_line o.answer o.told ∷ [] }
 
-abbrev pub after_second : Stand → Outcome MarksDevice SecondEnd → Stand
+abbrev pub after_second : Stand → RunOutcome MarksDevice SecondEnd → Stand
 after_second s o = record { device = o.state; told = o.told; lines = s.lines ++ second_line o.answer o.told ∷ [] }
 
-abbrev pub after_back : Stand → Outcome MarksDevice (Option Did) → Stand
+abbrev pub after_back : Stand → RunOutcome MarksDevice (Option Did) → Stand
 after_back s o = record { device = o.state; told = o.told; lines = s.lines ++ back_line o.answer o.told ∷ [] }
 
 abbrev pub body_of : List Record → List ℕ
@@ -124,11 +124,11 @@ look_line (Some (Track i)) w = Seen (body_of i.track.records) w.reads w.writes
 look_line (Some p) w = Unseen p w.reads w.writes
 look_line None w = Lacking
 
-abbrev pub after_look : Stand → Outcome MarksDevice (Option Peeked) → Stand
+abbrev pub after_look : Stand → RunOutcome MarksDevice (Option Peeked) → Stand
 after_look s o = record { device = o.state; told = o.told; lines = s.lines ++ look_line o.answer o.told ∷ [] }
 
 -- an event without a line
-abbrev pub after_loss : Stand → Outcome MarksDevice (Unit {0}) → Stand
+abbrev pub after_loss : Stand → RunOutcome MarksDevice (Unit {0}) → Stand
 after_loss s o = record s { device = o.state; told = o.told }
 
 abbrev pub starts_by : Stand → ℕ → Option StartFault → Stand

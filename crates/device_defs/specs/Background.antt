@@ -29,7 +29,7 @@ use Rattle.device_defs.specs.Store.{
   is_loose,
   with_stale,
 }
-use Rattle.device_defs.specs.Writing.{write_side, firm_first, write_first, write_done, opened}
+use Rattle.device_defs.specs.Writing.{write_side, firm_first, write_first, write_done, write_opened}
 
 -- an event in which a call failed is a fault, also where it did its work then
 abbrev pub did : Option Side → Did → Did
@@ -69,7 +69,7 @@ module _ {F P H R : Type 0} (c : Contents F P H R) where
 
   abbrev pub saved_by : ℕ → Image → Did → Option Side → Bool → Option Side → Store F P H → Took → Interaction R Image (Store F P H) Did
   saved_by t i d fault was_loose failed s Whole = and_then (write_done c s t i false) (λ z _. Done z (did fault (did failed d)))
-  saved_by t i d fault was_loose failed s Opened = and_then (opened c s t i OfBackground was_loose) (λ z _. Done z (did fault (Half t)))
+  saved_by t i d fault was_loose failed s Opened = and_then (write_opened c s t i OfBackground was_loose) (λ z _. Done z (did fault (Half t)))
   saved_by t i d fault was_loose failed s Unwritten = Done s (did fault (did failed Nothing))
 
   abbrev pub saving : Store F P H → ℕ → Image → Did → Option Side → Interaction R Image (Store F P H) Did
@@ -124,8 +124,8 @@ module _ {F P H R : Type 0} (c : Contents F P H R) where
   staged_bytes t s g None = unfilled s t (Some (did g.fault Nothing))
   staged_bytes t s g (Some r) = Try (λ ok. if ok then staged_image t s g (image_of c s t r) else unfilled s t None)
 
-  abbrev pub granted : Store F P H → ℕ → Bool → Interaction R Image (Store F P H) (Option Did)
-  granted s t given =
+  abbrev pub staging_granted : Store F P H → ℕ → Bool → Interaction R Image (Store F P H) (Option Did)
+  staging_granted s t given =
       if given then and_then (level_bytes c s t) (λ z g. staged_bytes t z g g.bytes)
       else Done s (Some (Skipped t))
 
@@ -133,7 +133,7 @@ module _ {F P H R : Type 0} (c : Contents F P H R) where
   abbrev pub stage : Store F P H → ℕ → Interaction R Image (Store F P H) (Option Did)
   stage s t =
       if is_some (frame_at s t) || is_lost s t then Done s (Some (Skipped t))
-      else tried s (Ask (WantFrame s.device t) (granted s t))
+      else tried s (Ask (WantFrame s.device t) (staging_granted s t))
 
   -- The order
 

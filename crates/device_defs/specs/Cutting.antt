@@ -1,6 +1,6 @@
 -- What cuts a running program: the reset of its path, and the loss of power.
 use Rattle.std.specs.Prelude.{ℕ, ◌==◌, Bool, true, false, [], Option, Some, None, if◌then◌else◌}
-use Rattle.plain_defs.specs.History.{OpenEntry, has_used, reset as history_reset, lost_power}
+use Rattle.plain_defs.specs.History.{OpenEntry, has_used, reset_in_history as history_reset, lost_power}
 use Rattle.plain_defs.specs.PlainState.{fresh_paths, reset_path}
 use Rattle.track_image.specs.Image.{Image}
 use Rattle.device_outside.specs.Keeper.{Firm}

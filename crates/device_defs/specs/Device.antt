@@ -8,7 +8,7 @@ use Rattle.plain_defs.specs.PlainState.{PathsState, reset_path}
 use Rattle.track_image.specs.Image.{Image}
 use Rattle.device_outside.specs.Interaction.{Interaction, Done, and_then}
 use Rattle.device_defs.specs.Contents.{Contents}
-use Rattle.device_defs.specs.Owed.{begun, hear, waiting_count, ended}
+use Rattle.device_defs.specs.Owed.{noted_begin, hear, waiting_count, noted_end}
 use Rattle.device_defs.specs.Store.{Store}
 
 -- with no more than the program's ends and acts so far, a history knows which paths used something, and which programs ran
@@ -33,12 +33,12 @@ module _ {F P H : Type 0} where
   with_store d s = record d { store = s; history = all_acted d.history s.acts }
 
   abbrev pub event_begun : Device F P H → Device F P H
-  event_begun d = record d { store = begun d.store }
+  event_begun d = record d { store = noted_begin d.store }
 
 module _ {F P H R : Type 0} (c : Contents F P H R) where
   -- an event that began with this device ends
   abbrev pub event_ended : {A : Type 0} → Device F P H → Device F P H → A → Interaction R Image (Device F P H) A
-  event_ended old d a = and_then (ended c (waiting_count c old.store) d.store) (λ z _. Done (record d { store = z }) a)
+  event_ended old d a = and_then (noted_end c (waiting_count c old.store) d.store) (λ z _. Done (record d { store = z }) a)
 
   -- an event that takes no notes
   abbrev pub quiet_event : {A : Type 0} → Device F P H → (Device F P H → Interaction R Image (Device F P H) A) →

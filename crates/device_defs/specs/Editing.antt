@@ -19,7 +19,7 @@ use Rattle.device_defs.specs.Losses.{settled}
 use Rattle.device_defs.specs.Memory.{tried}
 use Rattle.device_defs.specs.Owed.{is_clean}
 use Rattle.device_defs.specs.Store.{OfCommand, Store, has_level, takes_b, frame_at, is_loose}
-use Rattle.device_defs.specs.Writing.{write_first, write_second, write_done, firm_first, opened}
+use Rattle.device_defs.specs.Writing.{write_first, write_second, write_done, firm_first, write_opened}
 
 module _ {F P H : Type 0} where
   -- whether a track from `first` up to before t is loose: a command looks at tracks one behind the other
@@ -46,7 +46,7 @@ module _ {F P H R : Type 0} (c : Contents F P H R) where
   abbrev pub through_by : ℕ → Image → Edit → Bool → Bool → Bool → Store F P H → Took → Interaction R Image (Store F P H) Took
   through_by t i e bypass opens was_loose s Whole = whole s t i e bypass
   through_by t i e bypass opens was_loose s Opened =
-      if opens then and_then (opened c s t i (OfCommand bypass e) was_loose) (λ z _. Done z Opened)
+      if opens then and_then (write_opened c s t i (OfCommand bypass e) was_loose) (λ z _. Done z Opened)
       else at_once s t i e bypass
   through_by t i e bypass opens was_loose s Unwritten = Done s Unwritten
 

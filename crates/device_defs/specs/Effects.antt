@@ -21,16 +21,16 @@ module _ {F P H : Type 0} where
   abbrev pub with_loose_edit : Store F P H → ℕ → Edit → Store F P H
   with_loose_edit s t e = record s { plain = slice_set s.plain t (edited_track s t e) }
 
-  abbrev pub acted : Store F P H → Act → Store F P H
-  acted s act = record s { acts = s.acts ++ act ∷ [] }
+  abbrev pub act_noted : Store F P H → Act → Store F P H
+  act_noted s act = record s { acts = s.acts ++ act ∷ [] }
 
   -- from here on the track may go back to what it is now
   abbrev pub loosened : Store F P H → ℕ → Store F P H
-  loosened s t = with_loose (acted s (Loosen t)) t true
+  loosened s t = with_loose (act_noted s (Loosen t)) t true
 
   -- it can't any more
   abbrev pub hardened : Store F P H → ℕ → Store F P H
-  hardened s t = with_loose (record (acted s (Harden t)) { firm = slice_set s.firm t (track_in s.plain t) }) t false
+  hardened s t = with_loose (record (act_noted s (Harden t)) { firm = slice_set s.firm t (track_in s.plain t) }) t false
 
   -- each loose track is its firm one again, and the data have another number
   abbrev pub gone_back : Store F P H → Store F P H
@@ -38,4 +38,4 @@ module _ {F P H : Type 0} where
 
   -- the loss of the data of cache fast write, where there are some
   abbrev pub loose_lost : Store F P H → Store F P H
-  loose_lost s = if has_loose s then acted (gone_back s) CfwLost else s
+  loose_lost s = if has_loose s then act_noted (gone_back s) CfwLost else s

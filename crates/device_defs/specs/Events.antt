@@ -22,14 +22,14 @@ use Rattle.device_defs.specs.Second.{second_part}
 use Rattle.device_defs.specs.Store.{Origin, OfCommand, OfCut, OfBackground, HalfWrite, Store, tracks_of}
 use Rattle.device_defs.specs.Outcomes.{Turn, settles, checks, turned}
 
-abbrev pub one_more : Losses → Loss → Losses
-one_more l losses.Cache = record l { cache = counted l.cache }
-one_more l losses.Store = record l { store = counted l.store }
-one_more l (losses.Side side) = record l { sides = counted l.sides }
+abbrev pub one_loss_more : Losses → Loss → Losses
+one_loss_more l losses.Cache = record l { cache = counted l.cache }
+one_loss_more l losses.Store = record l { store = counted l.store }
+one_loss_more l (losses.Side side) = record l { sides = counted l.sides }
 
 module _ {F P H : Type 0} where
   abbrev pub with_loss : Store F P H → Loss → Store F P H
-  with_loss s loss = record s { counts = record s.counts { losses = one_more s.counts.losses loss } }
+  with_loss s loss = record s { counts = record s.counts { losses = one_loss_more s.counts.losses loss } }
 
 module _ {F P H R : Type 0} (c : Contents F P H R) where
   -- The second part

@@ -87,15 +87,15 @@ abbrev pub is_write : Option Command → Bool
 is_write (Some (Write w)) = true
 is_write _ = false
 
-abbrev pub command_at : List Ccw → ℕ → Part → Option ℕ → LastCommand
-command_at ccws path p (Some i) = record {
+abbrev pub last_command_at : List Ccw → ℕ → Part → Option ℕ → LastCommand
+last_command_at ccws path p (Some i) = record {
   touched = (effect_on p.fixed p.state path p.stance (ccw_at ccws i)).touched;
   writes = is_write (command_of (ccw_at ccws i).command);
 }
-command_at ccws path p None = record { touched = []; writes = false }
+last_command_at ccws path p None = record { touched = []; writes = false }
 
 abbrev pub command_in : List Ccw → ℕ → Part → LastCommand
-command_in ccws path p = command_at ccws path p p.next
+command_in ccws path p = last_command_at ccws path p p.next
 
 abbrev pub last_command : Plans → PlainState → ProgramEntry → LastCommand
 last_command plans state e =

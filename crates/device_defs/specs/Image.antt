@@ -42,9 +42,9 @@ pub data Imaged : Type 0 where
   BadTrack : Side → Imaged
 
 -- the first of two that failed
-abbrev pub first_fault : Option Side → Side → Side
-first_fault (Some side) later = side
-first_fault None later = later
+abbrev pub first_faulty_side : Option Side → Side → Side
+first_faulty_side (Some side) later = side
+first_faulty_side None later = later
 
 module _ {F P H : Type 0} where
   abbrev pub read_counted : Store F P H → Bool → Store F P H
@@ -69,7 +69,7 @@ module _ {F P H R : Type 0} (c : Contents F P H R) where
 
   abbrev pub second_read : Option Side → Store F P H → Option R → Interaction R Image (Store F P H) (Got R)
   second_read fault s (Some r) = Done s (got B (Some r) fault)
-  second_read fault s None = and_then (call_failed c s B None) (λ z _. Done z (got B None (Some (first_fault fault B))))
+  second_read fault s None = and_then (call_failed c s B None) (λ z _. Done z (got B None (Some (first_faulty_side fault B))))
 
   abbrev pub read_b : Store F P H → ℕ → Option Side → Interaction R Image (Store F P H) (Got R)
   read_b s t fault = if level_at s.b t then read_side s B t (second_read fault) else Done s (got B None fault)

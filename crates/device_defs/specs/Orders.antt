@@ -45,8 +45,8 @@ module _ {F P H : Type 0} where
   abbrev pub replace : Device F P H → Side → Device F P H
   replace d side = with_tracks d (with_side d.store side (new_side (tracks_of d.store) true))
 
-  abbrev pub hold : Device F P H → Device F P H
-  hold d = with_tracks d (record d.store { held = true })
+  abbrev pub hold_side : Device F P H → Device F P H
+  hold_side d = with_tracks d (record d.store { held = true })
 
   -- what is stale on side B is copied then
   abbrev pub resume : Device F P H → Device F P H

@@ -5,7 +5,7 @@ use Rattle.ckd_types.specs.Parameters.{is_provisional}
 use Rattle.ckd_chain.specs.declared.progress.Settled.{Settled}
 use Rattle.ckd_chain.specs.declared.progress.Settled.TheVariants.{Written, Equipment}
 use Rattle.ckd_chain.specs.State.{ChainState}
-use Rattle.ckd_chain.specs.Steps.{opened, behind, end_with, settled_by, again_from, mode_by, inhibits_by, last_by}
+use Rattle.ckd_chain.specs.Steps.{chain_opened, behind, end_with, settled_by, again_from, mode_by, inhibits_by, last_by}
 use Rattle.plain_defs.specs.History.{History, ended, checked}
 use Rattle.plain_defs.specs.PlainState.{with_sense}
 use Rattle.device_defs.specs.declared.answers.Came.{Came}
@@ -77,4 +77,4 @@ module _ {F P H : Type 0} where
 
   -- the chain is where it was before the command at hand: memory was lacking
   abbrev pub again : Device F P H → ChainState → Device F P H
-  again d chain = record d { chain = Some (again_from (opened chain)) }
+  again d chain = record d { chain = Some (again_from (chain_opened chain)) }

@@ -10,8 +10,8 @@ use Rattle.device_defs.specs.Store.{Store, no_debt, tracks_of, frame_at, patch_a
 
 module _ {F P H : Type 0} where
   -- an event begins
-  abbrev pub begun : Store F P H → Store F P H
-  begun s = record s { acts = [] }
+  abbrev pub noted_begin : Store F P H → Store F P H
+  noted_begin s = record s { acts = [] }
 
 module _ {F P H R : Type 0} (c : Contents F P H R) where
   abbrev pub is_modified : Option F → Bool
@@ -82,5 +82,5 @@ module _ {F P H R : Type 0} (c : Contents F P H R) where
       else Ask (TellWaiting s.device (waiting_count s)) (λ _. Done s tt)
 
   -- the end of an event before which so many tracks waited: what is owed, then the number where it is another
-  abbrev pub ended : ℕ → Store F P H → Interaction R Image (Store F P H) (Unit {0})
-  ended before s = and_then (all_told (tracks_of s) s) (λ z _. waiting_told before z)
+  abbrev pub noted_end : ℕ → Store F P H → Interaction R Image (Store F P H) (Unit {0})
+  noted_end before s = and_then (all_told (tracks_of s) s) (λ z _. waiting_told before z)

@@ -26,8 +26,8 @@ module _ {F P H : Type 0} where
   plainly_written s t (OfCut bypass) = plain_at s t
   plainly_written s t OfBackground = plain_at s t
 
-  abbrev pub closed : Store F P H → Store F P H
-  closed s = record s { half = None }
+  abbrev pub half_closed : Store F P H → Store F P H
+  half_closed s = record s { half = None }
 
 module _ {F P H R : Type 0} (c : Contents F P H R) where
   abbrev pub half_image_of : Store F P H → HalfWrite H → Image
@@ -60,7 +60,7 @@ module _ {F P H R : Type 0} (c : Contents F P H R) where
   second_absent s t i origin = Done (settled c (left_by s t i origin) t) false
 
   abbrev pub second_by : ℕ → Image → Origin → Store F P H → Interaction R Image (Store F P H) Bool
-  second_by t i origin s = if has_level s t then second_done (closed s) t i origin else second_absent (closed s) t i origin
+  second_by t i origin s = if has_level s t then second_done (half_closed s) t i origin else second_absent (half_closed s) t i origin
 
   -- side B is tried where it is up and not held. Whether the write is done then
   unfoldable pub second_part : Store F P H → HalfWrite H → Interaction R Image (Store F P H) Bool

@@ -25,7 +25,7 @@ use Rattle.track_image.specs.Image.{Image, edited_image}
 use Rattle.track_cache.specs.declared.frames.Frame.{Frame}
 use Rattle.nv_store.specs.declared.patches.Stored.{Stored}
 use Rattle.plain_defs.specs.History.{plain_of}
-use Rattle.plain_defs.specs.Loose.{is_loose as is_plainly_loose, firm}
+use Rattle.plain_defs.specs.Loose.{is_loose_there as is_plainly_loose, firm}
 use Rattle.plain_defs.specs.PlainState.{PlainState, empty_state}
 use Rattle.device_outside.specs.After.{Holdings, holds_of}
 use Rattle.device_defs.specs.Contents.{Contents, contents}

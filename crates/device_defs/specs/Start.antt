@@ -8,11 +8,11 @@ use Rattle.plain_defs.specs.History.{OpenEntry, History, is_path_of, started}
 use Rattle.plain_defs.specs.Journal.{planned, program_of}
 use Rattle.plain_defs.specs.Legal.{is_of_path}
 use Rattle.plain_defs.specs.PlainState.{is_admitted}
-use Rattle.plain_defs.specs.Program.{begun}
+use Rattle.plain_defs.specs.Program.{sense_begun}
 use Rattle.device_defs.specs.declared.answers.StartFault.{StartFault}
 use Rattle.device_defs.specs.declared.answers.StartFault.TheVariants.{Secondary, Busy, PlanDone, Shut, Reserved}
 use Rattle.device_defs.specs.Device.{Device}
-use Rattle.device_defs.specs.Store.{fixed_of}
+use Rattle.device_defs.specs.Store.{store_fixed}
 
 -- a history has the programs that were started, in their order
 abbrev pub started_count : History → ℕ → ℕ
@@ -67,9 +67,9 @@ module _ {F P H : Type 0} where
   unfoldable pub start : Device F P H → ℕ → Device F P H
   start d path =
       let ccws = next_program d path in record d {
-        paths = begun d.paths path ccws;
+        paths = sense_begun d.paths path ccws;
         history = started d.history path (next_ordinal d path);
-        chain = Some (begun_chain ccws (fixed_of d.store));
+        chain = Some (begun_chain ccws (store_fixed d.store));
       }
 
   -- a path has no program left, or is kept out

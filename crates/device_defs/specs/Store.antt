@@ -98,8 +98,8 @@ module _ {F P H : Type 0} where
   tracks_of s = s.cylinders * 15
 
   -- what a program goes by that starts now
-  abbrev pub fixed_of : Store F P H → Fixed
-  fixed_of s = record { geometry = s.geometry; cylinders = s.cylinders; number = s.number }
+  abbrev pub store_fixed : Store F P H → Fixed
+  store_fixed s = record { geometry = s.geometry; cylinders = s.cylinders; number = s.number }
 
   abbrev pub side_of : Store F P H → Side → SideMarks
   side_of s A = s.a

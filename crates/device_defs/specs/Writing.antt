@@ -113,8 +113,8 @@ module _ {F P H R : Type 0} (c : Contents F P H R) where
   cleaned (Some f) = Some (c.marked f false)
 
   -- side A has the track that was loose as this write began, so its frame is clean
-  abbrev pub opened : Store F P H → ℕ → Image → Origin → Bool → Interaction R Image (Store F P H) (Unit {0})
-  opened s t i origin was_loose =
+  abbrev pub write_opened : Store F P H → ℕ → Image → Origin → Bool → Interaction R Image (Store F P H) (Unit {0})
+  write_opened s t i origin was_loose =
       if was_loose then
       Ask (SetClean s.device t) (λ _. Done (half_opened (with_frame s t (cleaned (frame_at s t))) t i origin) tt)
       else Done (half_opened s t i origin) tt

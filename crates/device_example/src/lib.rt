@@ -2,10 +2,12 @@
 //! caller's own, and a test runs two programs over them.
 #![tactic(auto)]
 
+mod caller;
 mod port;
 #[cfg(test)]
 mod tests;
 mod volume;
 
+pub use caller::run_program;
 pub use port::CountedRequests;
 pub use volume::Watched;

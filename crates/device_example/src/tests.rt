@@ -1,8 +1,8 @@
-use crate::{CountedRequests, Watched};
+use crate::{CountedRequests, Watched, run_program};
 use ckd_ccw::Program;
 use ckd_types::{Bytes, Ccw, DeviceNo, Geometry, PathNo, TrackNo};
 use deck_plan::PathPlans;
-use device_core::{Device, Stepped};
+use device_core::Device;
 use device_outside::MemVolume;
 use std::alloc::Global;
 use std::test::Fail;
@@ -72,20 +72,6 @@ fn start(device: &mut Device<Watched<MemVolume>>, path: PathNo) -> Result<(), Fa
     }
 }
 
-/// One command of the program that runs.
-fn command(
-    device: &mut Device<Watched<MemVolume>>,
-    port: &mut CountedRequests,
-) -> Result<(), Fail> {
-    if device.active().is_none() || device.half_open() {
-        return Err("no program runs".into());
-    }
-    match device.command(port) {
-        Ok(Stepped::Ended) => Ok(()),
-        _ => Err("not ended".into()),
-    }
-}
-
 /// Starts the path's next program and runs its three commands.
 fn run(
     device: &mut Device<Watched<MemVolume>>,
@@ -93,10 +79,10 @@ fn run(
     port: &mut CountedRequests,
 ) -> Result<(), Fail> {
     start(device, path)?;
-    for _command in 0..3 {
-        command(device, port)?;
+    match run_program(device, port, 4) {
+        Ok(true) => Ok(()),
+        _ => Err("not over".into()),
     }
-    Ok(())
 }
 
 /// The residual count of the command that ended last, and whether it sent the data of record 1.

@@ -12,7 +12,7 @@ use Rattle.device_defs.specs.declared.answers.Did.TheVariants.{Skipped}
 use Rattle.device_outside.specs.Keeper.{Firm}
 use Rattle.device_outside.specs.Pool.{WantFrame}
 use Rattle.device_defs.specs.Memory.{tried}
-use Rattle.device_defs.specs.Background.{other, saved_by, saving, saved, copied, copy_read, copy_by, unfilled, staged_image, staged_bytes, granted, stage}
+use Rattle.device_defs.specs.Background.{other, saved_by, saving, saved, copied, copy_read, copy_by, unfilled, staged_image, staged_bytes, staging_granted, stage}
 use Rattle.device_defs.specs.Contents.{Contents}
 use Rattle.device_defs.specs.Effects.{hardened}
 use Rattle.device_defs.specs.Image.{Got, read_counted, level_bytes, image_of}
@@ -20,7 +20,7 @@ use Rattle.device_defs.specs.Losses.{stale_everywhere, framed_image}
 use Rattle.device_defs.specs.Store.{OfBackground, Store, takes_b, frame_at, is_lost, is_loose, with_stale}
 use Rattle.device_defs.specs.Transfers as M
 use Rattle.device_defs.specs.Transfers.{Moves, Miss, FirstPart, FramedTrack, Copy, Staging, both, one_or_both, Within, Makes}
-use Rattle.device_defs.specs.Writing.{write_counted, firm_first, write_first, opened}
+use Rattle.device_defs.specs.Writing.{write_counted, firm_first, write_first, write_opened}
 use Rattle.device_laws.proofs.Always.{Always, always_done, always_tell}
 use Rattle.device_laws.proofs.QuietParts.{
   Quiet,
@@ -89,7 +89,7 @@ module _ {F P H R : Type 0} (c : Contents F P H R) where
   nothing_fits : (s : Store F P H) (t : ℕ) → Within s (Staging t) 0 0
   nothing_fits s t = record { least_reads = omega arith; most_reads = omega arith; least_writes = omega arith; most_writes = omega arith }
 
-  granted_moves : (s : Store F P H) (t : ℕ) (given : Bool) → Moves (Within s (Staging t)) 0 0 (granted c s t given)
+  granted_moves : (s : Store F P H) (t : ℕ) (given : Bool) → Moves (Within s (Staging t)) 0 0 (staging_granted c s t given)
   unfolding M.Moves
   granted_moves s t true =
       then_quiet (Within s (Staging t)) 0 0 (level_bytes c s t) (λ z g. staged_bytes c t z g g.bytes)
@@ -98,13 +98,13 @@ module _ {F P H R : Type 0} (c : Contents F P H R) where
   granted_moves s t false = nothing_fits s t
 
   tried_moves : (s : Store F P H) (t : ℕ) (ok : Bool) → Moves (Within s (Staging t)) 0 0
-      (if ok then Ask (WantFrame s.device t) (granted c s t) else Done s None)
+      (if ok then Ask (WantFrame s.device t) (staging_granted c s t) else Done s None)
   unfolding M.Moves
   tried_moves s t true = λ given. granted_moves s t given
   tried_moves s t false = nothing_fits s t
 
   stage_by : (s : Store F P H) (t : ℕ) (b : Bool) → Moves (Within s (Staging t)) 0 0
-      (if b then Done s (Some (Skipped t)) else tried s (Ask (WantFrame s.device t) (granted c s t)))
+      (if b then Done s (Some (Skipped t)) else tried s (Ask (WantFrame s.device t) (staging_granted c s t)))
   unfolding M.Moves
   stage_by s t true = nothing_fits s t
   stage_by s t false = λ ok. tried_moves s t ok
@@ -131,7 +131,7 @@ module _ {F P H R : Type 0} (c : Contents F P H R) where
   firm_quiet : (s : Store F P H) (t : ℕ) → Quiet (firm_first c s t)
   firm_quiet s t = quiet_if (is_loose s t) (quiet_tell (λ _. quiet_done)) quiet_done
 
-  open_quiet : (s : Store F P H) (t : ℕ) (i : Image) (was_loose : Bool) → Quiet (opened c s t i OfBackground was_loose)
+  open_quiet : (s : Store F P H) (t : ℕ) (i : Image) (was_loose : Bool) → Quiet (write_opened c s t i OfBackground was_loose)
   open_quiet s t i true = quiet_ask (λ _. quiet_done)
   open_quiet s t i false = quiet_done
 

@@ -13,7 +13,7 @@ use Rattle.device_outside.specs.Pool.{Call, TellWaiting, AnswerTo}
 use Rattle.device_outside.specs.Volume.{counted, counted_if}
 use Rattle.device_defs.specs.declared.counts.Counts.{Counts}
 use Rattle.device_defs.specs.Losses.{down, stale_everywhere}
-use Rattle.device_defs.specs.Effects.{acted}
+use Rattle.device_defs.specs.Effects.{act_noted}
 use Rattle.device_defs.specs.Memory.{tried, had_by, and_had}
 use Rattle.device_defs.specs.Store.{Store}
 use Rattle.plain_defs.specs.declared.journal.Act.{Act}
@@ -127,7 +127,7 @@ module _ {F P H : Type 0} where
   base_if false s z e f = f
 
   -- an act that is no loss
-  pub acted_base : (s : Store F P H) (act : Act) → is_loss act ≡ false → base_of (acted s act) ≡ base_of s
+  pub acted_base : (s : Store F P H) (act : Act) → is_loss act ≡ false → base_of (act_noted s act) ≡ base_of s
   acted_base s act e = ap (λ (n : ℕ). record (base_of s) { gone = n }) (one_act 0 s.acts act e)
 
   pub stale_base : (s : Store F P H) (t : ℕ) → base_of (stale_everywhere s t) ≡ base_of s

@@ -15,8 +15,8 @@ use Rattle.device_defs.specs.Cutting.{origin_cut, half_cut, reset, powerless, po
 use Rattle.device_defs.specs.Device.{Device, with_store, event_begun, event_ended, quiet_event, event}
 use Rattle.device_defs.specs.Effects.{with_edit}
 use Rattle.device_defs.specs.Events as E
-use Rattle.device_defs.specs.Events.{one_more, with_loss, losing, second_of, second, background, lose}
-use Rattle.device_defs.specs.Owed.{hear, waiting_count, ended}
+use Rattle.device_defs.specs.Events.{one_loss_more, with_loss, losing, second_of, second, background, lose}
+use Rattle.device_defs.specs.Owed.{hear, waiting_count, noted_end}
 use Rattle.device_defs.specs.Peek as K
 use Rattle.device_defs.specs.Peek.{Peeked, peek_usage, peeked, peek_image, is_in_half, peek_half, peek_track, peek}
 use Rattle.device_defs.specs.Store.{Origin, OfCommand, OfCut, OfBackground, HalfWrite, Store, is_lost}
@@ -43,13 +43,13 @@ use Rattle.device_laws.proofs.walks.Moves.{Shut, stays, Ends, moved}
 use Rattle.device_laws.proofs.walks.Reads.{powerless_moves}
 use Rattle.device_laws.proofs.walks.Writes.{work_comes}
 use Rattle.device_laws.proofs.walks.Events.{follow_comes, by_bodies, second_bodies, reset_leads}
-use Rattle.device_laws.proofs.invariants.CallCounts.{calls, within_based, Steady, moves_count, ends_count, ends_steady, losing_steady, image_steady}
+use Rattle.device_laws.proofs.invariants.CallCounts.{calls, within_based, Steady, parts_count, ends_count, half_ends_count, ends_steady, losing_steady, image_steady}
 
 abbrev pub base_in : {F P H : Type 0} → Device F P H → Base
 base_in d = kept d.store
 
 abbrev pub with_one_loss : Loss → Base → Base
-with_one_loss loss b = record b { counts = record b.counts { losses = one_more b.counts.losses loss } }
+with_one_loss loss b = record b { counts = record b.counts { losses = one_loss_more b.counts.losses loss } }
 
 module _ {F P H R : Type 0} (c : Contents F P H R) where
   pub follow_steady : (n first : ℕ) (chain : ChainState) (t : ℕ) (s : Store F P H) → Steady c s (follow c n first chain t s)
@@ -68,7 +68,9 @@ module _ {F P H R : Type 0} (c : Contents F P H R) where
   command_body d = bodies_based d (by_bodies refl d d.history.running d.chain stays)
 
   pub second_body : (d : Device F P H) → Settled d (second_of c d d.store.half)
-  second_body d = bodies_based d (second_bodies d d.store.half stays)
+  second_body d =
+      based_forget {base = λ e. base_of e.store}
+      (within_based (within_weaker (second_bodies (λ e. absurd (cc)) d d.store.half refl stays) (λ n e a m. half_ends_count c d.store m)))
 
   pub work_body : (d : Device F P H) → Settled d (and_then (work c d.store) (λ s (did : Option Did). Done (with_store d s) did))
   work_body d =
@@ -80,7 +82,7 @@ module _ {F P H R : Type 0} (c : Contents F P H R) where
 
   -- An event's end, where it tells how many tracks wait
 
-  ended_steady : (before : ℕ) (s : Store F P H) → Based kept Any (kept s) (ended c before s)
+  ended_steady : (before : ℕ) (s : Store F P H) → Based kept Any (kept s) (noted_end c before s)
   ended_steady before s = asks_based (ended_asks c (λ z. kept z ≡ kept s) (λ z t e. e) before s refl)
 
   module _ {A : Type 0} where
@@ -153,7 +155,7 @@ module _ {F P H R : Type 0} (c : Contents F P H R) where
   -- Power
 
   powerless_base : (s : Store F P H) → kept (powerless c s) ≡ kept s
-  powerless_base s = ap forget (moves_count c s (powerless_moves s stays))
+  powerless_base s = ap forget (parts_count c s (powerless_moves tt s stays))
 
   cut_then : (d : Device F P H) (s : Store F P H) (h : HalfWrite H) (origin : Origin) →
       Based base_in Hushed (with_one_loss losses.Cache (kept s)) (and_then (origin_cut c s h origin) (λ z _. Done (powered_off c d z) (tt {0})))

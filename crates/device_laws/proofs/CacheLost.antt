@@ -34,7 +34,7 @@ use Rattle.track_table.specs.Tracks.{least, or_else}
 use Rattle.track_table.proofs.Places.{empty_places}
 use Rattle.device_defs.specs.Between.{HasSizes}
 use Rattle.device_defs.specs.Contents.{Contents}
-use Rattle.device_defs.specs.Effects.{acted, gone_back, loose_lost}
+use Rattle.device_defs.specs.Effects.{act_noted, gone_back, loose_lost}
 use Rattle.device_defs.specs.Losses as L
 use Rattle.device_defs.specs.Losses.{without_frame, settled, cache_lost}
 use Rattle.device_defs.specs.Store.{Store, tracks_of, is_loose, has_loose}
@@ -91,7 +91,7 @@ module _ {F P H R : Type 0} (c : Contents F P H R) (faithful : IsFaithful c) whe
   begun s = record (loose_lost s) { queue = [] }
 
   abbrev pub begun_by : Bool → Store F P H → Store F P H
-  begun_by b s = record (if b then acted (gone_back s) CfwLost else s) { queue = [] }
+  begun_by b s = record (if b then act_noted (gone_back s) CfwLost else s) { queue = [] }
 
   pub begun_sizes : (s : Store F P H) (b : Bool) → HasSizes s → HasSizes (begun_by b s)
   begun_sizes s true sizes =

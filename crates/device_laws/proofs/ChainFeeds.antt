@@ -15,26 +15,20 @@ use Rattle.ckd_chain.specs.declared.mark.Stage.{Stage}
 use Rattle.ckd_chain.specs.declared.mark.Stage.TheVariants as stages
 use Rattle.ckd_chain.specs.declared.progress.Progress.TheVariants as progresses
 use Rattle.ckd_chain.specs.State.{ChainState}
-use Rattle.ckd_chain.specs.Steps.{opened_by, opened, stage_by, stage_of, need_of, needed, standing, stepped, stepped_by, turned_by, word_of}
+use Rattle.ckd_chain.specs.Steps.{opened_by, chain_opened, stage_of, need_of, track_needed, standing, stepped, stepped_by, step_turned, word_of}
 use Rattle.plain_defs.specs.Whole.{GivesBytes}
 use Rattle.plain_device.proofs.Suiting.{SuitsTurn, look_suits}
 use Rattle.track_image.specs.Image.{Image}
 use Rattle.device_laws.specs.Feeding.{Feeds}
 use Rattle.device_laws.specs.PlainWrites.{SuitsTrack}
 use Rattle.device_laws.specs.Standing.{IsWithin, RunsOn, LooksAt}
-use Rattle.device_laws.proofs.ChainTracks.{within_stays, whole_cylinders}
+use Rattle.device_laws.proofs.Bools.{some_is}
+use Rattle.device_laws.proofs.ChainTracks.{within_stays, whole_cylinders, begun_stage, need_at}
 use Rattle.device_laws.proofs.OrdersStand.{chain_stands}
 
 some_records : (records : List Record) → HasZero records → 0 < length records
 some_records [] h = absurd h
 some_records (r ∷ rest) h = omega arith
-
-some_is : {X : Type 0} (x y : X) → Some x ≡ Some y → x ≡ y
-some_is x y e = cc
-
-pub begun_stage : (chain : ChainState) (o : Option Stage) → chain.stage ≡ o → (opened_by chain o).stage ≡ Some (stage_by chain o)
-begun_stage chain None e = refl
-begun_stage chain (Some stage) e = e
 
 same_word : (chain : ChainState) (o : Option Stage) → word_of (opened_by chain o) ≡ word_of chain
 same_word chain None = refl
@@ -44,10 +38,6 @@ same_fixed : (chain : ChainState) (o : Option Stage) → (opened_by chain o).fix
 same_fixed chain None = refl
 same_fixed chain (Some stage) = refl
 
-pub need_at : (v : ChainState) (look : Look) → v.stage ≡ Some (stages.Looks look) → need_of v ≡ Some v.at.stance.track
-need_at v look e =
-    ap (λ (x : ChainState). needed x (stage_of v)) (ap (opened_by v) e) ∙ ap (λ (x : Stage). needed v x) (ap (stage_by v) e)
-
 -- Where it goes on to another track
 
 record Next (u : ChainState) (v : ChainState) (q : ℕ) : Type 0 where
@@ -56,7 +46,7 @@ record Next (u : ChainState) (v : ChainState) (q : ℕ) : Type 0 where
   word : word_of v ≡ word_of u
 
 next_turned : (u : ChainState) (look : Look) (z : Stance) (t : Turned) (q : ℕ) → u.stage ≡ Some (stages.Looks look) →
-    (turned_by u z t).progress ≡ progresses.Need q → Next u (turned_by u z t).chain q
+    (step_turned u z t).progress ≡ progresses.Need q → Next u (step_turned u z t).chain q
 next_turned u look z (turns.Ended e) q at is = absurd (cc)
 next_turned u look z (turns.Edits edit e) q at is = absurd (cc)
 next_turned u look z turns.Onward q at is =
@@ -65,11 +55,11 @@ next_turned u look z turns.Onward q at is =
     record { needs = need_at v look at ∙ ap (λ (x : ℕ). Some x) same; fixed = refl; word = refl }
 
 next_by : (chain : ChainState) (i : Image) (stage : Stage) (q : ℕ) → stage_of chain ≡ stage →
-    (stepped_by (opened chain) (Some i) stage).progress ≡ progresses.Need q → Next (opened chain) (stepped_by (opened chain) (Some i) stage).chain q
+    (stepped_by (chain_opened chain) (Some i) stage).progress ≡ progresses.Need q → Next (chain_opened chain) (stepped_by (chain_opened chain) (Some i) stage).chain q
 next_by chain i stages.Over q at is = absurd (cc)
 next_by chain i (stages.Asks act) q at is = absurd (cc)
 next_by chain i (stages.Looks look) q at is =
-    let u = opened chain in
+    let u = chain_opened chain in
     let l = look_on i.geometry i.track u.at.stance (word_of u) look in
     next_turned u look l.stance l.turned q (begun_stage chain chain.stage refl ∙ ap (λ (x : Stage). Some x) at) is
 
@@ -80,7 +70,7 @@ record Edits (u : ChainState) (g : Geometry) (x : Track) (q : ℕ) (e : Edit) : 
   suits : SuitsTrack g x e
 
 edits_turned : (u : ChainState) (g : Geometry) (x : Track) (z : Stance) (t : Turned) (q : ℕ) (e : Edit) → SuitsTurn g x.records t →
-    (turned_by u z t).progress ≡ progresses.Write q e → Edits u g x q e
+    (step_turned u z t).progress ≡ progresses.Write q e → Edits u g x q e
 edits_turned u g x z (turns.Ended end) q e s is = absurd (cc)
 edits_turned u g x z turns.Onward q e s is = absurd (cc)
 edits_turned u g x z (turns.Edits edit end) q e s is =
@@ -90,17 +80,17 @@ edits_turned u g x z (turns.Edits edit end) q e s is =
       suits = subst (λ (y : Edit). SuitsTrack g x y) same (record { suits = s.0; ranges = s.1 });
     }
 
-edits_by : (chain : ChainState) (i : Image) (stage : Stage) (q : ℕ) (e : Edit) → GivesBytes (word_of (opened chain)) → Fits i.geometry i.track →
-    (stepped_by (opened chain) (Some i) stage).progress ≡ progresses.Write q e → Edits (opened chain) i.geometry i.track q e
+edits_by : (chain : ChainState) (i : Image) (stage : Stage) (q : ℕ) (e : Edit) → GivesBytes (word_of (chain_opened chain)) → Fits i.geometry i.track →
+    (stepped_by (chain_opened chain) (Some i) stage).progress ≡ progresses.Write q e → Edits (chain_opened chain) i.geometry i.track q e
 edits_by chain i stages.Over q e gives fits is = absurd (cc)
 edits_by chain i (stages.Asks act) q e gives fits is = absurd (cc)
 edits_by chain i (stages.Looks look) q e gives fits is =
-    let u = opened chain in
+    let u = chain_opened chain in
     let l = look_on i.geometry i.track u.at.stance (word_of u) look in
     edits_turned u i.geometry i.track l.stance l.turned q e
     (look_suits i.geometry u.at.stance (word_of u) gives i.track (some_records i.track.records fits.zero) look) is
 
-pub need_is : (u : ChainState) (stage : Stage) (t : ℕ) → needed u stage ≡ Some t → u.at.stance.track ≡ t
+pub need_is : (u : ChainState) (stage : Stage) (t : ℕ) → track_needed u stage ≡ Some t → u.at.stance.track ≡ t
 need_is u stages.Over t is = absurd (cc)
 need_is u (stages.Asks act) t is = absurd (cc)
 need_is u (stages.Looks look) t is = some_is u.at.stance.track t is
@@ -128,7 +118,7 @@ module _ (n : ℕ) (g : Geometry) where
   edits chain t i q e x on fits is =
       let f = edits_by chain i (stage_of chain) q e (subst GivesBytes (sym (same_word chain chain.stage)) x.gives)
       (subst (λ (y : Geometry). Fits y i.track) (sym on) fits) is in
-      (sym f.place ∙ need_is (opened chain) (stage_of chain) t x.needs, subst (λ (y : Geometry). SuitsTrack y i.track e) on f.suits)
+      (sym f.place ∙ need_is (chain_opened chain) (stage_of chain) t x.needs, subst (λ (y : Geometry). SuitsTrack y i.track e) on f.suits)
 
   pub chain_feeds : Feeds (n * 15) g looks
   chain_feeds = record {

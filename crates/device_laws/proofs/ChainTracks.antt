@@ -20,7 +20,7 @@ use Rattle.ckd_rules.specs.declared.stance.Stance.{Stance}
 use Rattle.ckd_rules.specs.declared.turned.Turned.{Turned}
 use Rattle.ckd_rules.specs.declared.turned.Turned.TheVariants as turns
 use Rattle.ckd_rules.specs.Formats.{key_given, body_given, has_room_behind, is_zero_given, format_behind, zero_on}
-use Rattle.ckd_rules.specs.Finding.{track_after, next_track, moves_on, from_index, missed, find_from}
+use Rattle.ckd_rules.specs.Finding.{track_after, next_track, moves_on, from_index, search_missed, find_from}
 use Rattle.ckd_rules.specs.Look.{look_on}
 use Rattle.ckd_rules.specs.Looked.{Looked}
 use Rattle.ckd_rules.specs.Reads.{record_at, read_sought}
@@ -32,7 +32,7 @@ use Rattle.ckd_chain.specs.declared.mark.Stage.{Stage}
 use Rattle.ckd_chain.specs.declared.mark.Stage.TheVariants as stages
 use Rattle.ckd_chain.specs.declared.progress.Progress.TheVariants as progresses
 use Rattle.ckd_chain.specs.State.{ChainState}
-use Rattle.ckd_chain.specs.Steps.{last_by, opened_by, opened, stage_by, stage_of, need_of, needed, standing, stepped_by, turned_by, word_of}
+use Rattle.ckd_chain.specs.Steps.{last_by, opened_by, chain_opened, stage_by, stage_of, need_of, track_needed, standing, stepped_by, step_turned, word_of}
 use Rattle.track_image.specs.Image.{Image}
 use Rattle.device_laws.specs.Standing.{IsWithin}
 use Rattle.device_laws.proofs.Commands.{Stays}
@@ -72,7 +72,7 @@ module _ (n : ℕ) (s : Stance) (whole : n % 15 ≡ 0) (on : s.track < n) (withi
   by_passes true sense passes o = tt
   by_passes false sense passes o = again passes o
 
-  missed_on : (multitrack : Bool) (o : Option ℕ) → SoughtFrom n s.track (missed multitrack s o)
+  missed_on : (multitrack : Bool) (o : Option ℕ) → SoughtFrom n s.track (search_missed multitrack s o)
   missed_on true o = moved (next_track s) refl
   missed_on false o = by_passes (nat_le 1 s.passes) _ (s.passes + 1) o
 
@@ -128,18 +128,18 @@ module _ (n : ℕ) (s : Stance) (whole : n % 15 ≡ 0) (on : s.track < n) (withi
   look_further g t c (looks.Reads r) = read_further t r.area c _ (found_on r.multitrack _ _)
   look_further g t c (looks.Writes w) = write_further g t c w
 
-begun_stage : (chain : ChainState) (o : Option Stage) → chain.stage ≡ o → (opened_by chain o).stage ≡ Some (stage_by chain o)
+pub begun_stage : (chain : ChainState) (o : Option Stage) → chain.stage ≡ o → (opened_by chain o).stage ≡ Some (stage_by chain o)
 begun_stage chain None e = refl
 begun_stage chain (Some stage) e = e
 
-need_at : (v : ChainState) (look : Look) → v.stage ≡ Some (stages.Looks look) → need_of v ≡ Some v.at.stance.track
+pub need_at : (v : ChainState) (look : Look) → v.stage ≡ Some (stages.Looks look) → need_of v ≡ Some v.at.stance.track
 need_at v look e =
-    ap (λ (x : ChainState). needed x (stage_of v)) (ap (opened_by v) e) ∙ ap (λ (x : Stage). needed v x) (ap (stage_by v) e)
+    ap (λ (x : ChainState). track_needed x (stage_of v)) (ap (opened_by v) e) ∙ ap (λ (x : Stage). track_needed v x) (ap (stage_by v) e)
 
 module _ (n : ℕ) (whole : n % 15 ≡ 0) where
   by_turned : (u : ChainState) (look : Look) (z : Stance) (t : Turned) (q : ℕ) → u.stage ≡ Some (stages.Looks look) →
-      IfSome u.at.stance.extent (λ e. e.last < n) → FurtherBy n u.at.stance z t → (turned_by u z t).progress ≡ progresses.Need q →
-      IsWithin n (turned_by u z t).chain × (q < n)
+      IfSome u.at.stance.extent (λ e. e.last < n) → FurtherBy n u.at.stance z t → (step_turned u z t).progress ≡ progresses.Need q →
+      IsWithin n (step_turned u z t).chain × (q < n)
   by_turned u look z (turns.Ended e) q at within f is = absurd (cc)
   by_turned u look z (turns.Edits edit e) q at within f is = absurd (cc)
   by_turned u look z turns.Onward q at within f is =
@@ -156,13 +156,13 @@ module _ (n : ℕ) (whole : n % 15 ≡ 0) where
       )
 
   by_stage : (chain : ChainState) (i : Image) (stage : Stage) (q : ℕ) → stage_of chain ≡ stage → IsWithin n chain →
-      (stepped_by (opened chain) (Some i) stage).progress ≡ progresses.Need q →
-      IsWithin n (stepped_by (opened chain) (Some i) stage).chain × (q < n)
+      (stepped_by (chain_opened chain) (Some i) stage).progress ≡ progresses.Need q →
+      IsWithin n (stepped_by (chain_opened chain) (Some i) stage).chain × (q < n)
   by_stage chain i stages.Over q at w is = absurd (cc)
   by_stage chain i (stages.Asks act) q at w is = absurd (cc)
   by_stage chain i (stages.Looks look) q at w is =
-      let u = opened chain in
-      let on = w.needs u.at.stance.track (ap (λ (x : Stage). needed u x) at) in
+      let u = chain_opened chain in
+      let on = w.needs u.at.stance.track (ap (λ (x : Stage). track_needed u x) at) in
       let l = look_on i.geometry i.track u.at.stance (word_of u) look in
       let f = look_further n u.at.stance whole on w.extent i.geometry i.track (word_of u) look in
       by_turned u look l.stance l.turned q (begun_stage chain chain.stage refl ∙ ap (λ (x : Stage). Some x) at) w.extent f.on is

@@ -1,6 +1,6 @@
 -- The choice of a write asks the pool and changes no mark. It fits the track; so a write to the frame keeps good marks good.
 use Rattle.std.proofs.Common.{◌≡◌, ◌<◌, ℕ, Bool, true, false, Option, Some, None, is_some, refl, sym, ap, subst, ◌∙◌, ◌⊎◌, inl, inr}
-use Rattle.std.specs.Prelude.{if◌then◌else◌, ◌&&◌, not}
+use Rattle.std.specs.Prelude.{if◌then◌else◌, ◌&&◌}
 use Rattle.ckd_types.specs.declared.record.Edit.{Edit}
 use Rattle.track_image.specs.Image.{Image}
 use Rattle.device_outside.specs.declared.port.SlotGrant.{SlotGrant}
@@ -27,6 +27,7 @@ use Rattle.device_defs.specs.Contents.{Contents}
 use Rattle.device_defs.specs.Effects.{with_edit, with_loose_edit, loosened}
 use Rattle.device_defs.specs.Owed.{is_clean}
 use Rattle.device_defs.specs.Store.{Store, tracks_of, frame_at, patch_at, is_loose, with_frame}
+use Rattle.device_laws.proofs.Bools.{and_right, not_true}
 use Rattle.device_laws.proofs.Always.{Always, always_done, always_ask}
 use Rattle.device_laws.proofs.Changes as C
 use Rattle.device_laws.proofs.Changes.{Changed, rest_of, changed_twice, changed_frame, changed_patch, changed_loose}
@@ -36,10 +37,6 @@ use Rattle.device_laws.proofs.Others.{opens, others_changed, shut_well}
 use Rattle.device_laws.proofs.TrackMarks as M
 use Rattle.device_laws.proofs.TrackMarks.{TrackMarks, IsFaithful, is_good, frame_mark, track_at}
 use Rattle.device_laws.proofs.WriteMarks.{framed_is_there, fast_good, again_good, loosened_good}
-
-and_right : (x y : Bool) → (x && y) ≡ true → y ≡ true
-and_right true y e = e
-and_right false y e = absurd (cc)
 
 module _ {F P H R : Type 0} (c : Contents F P H R) where
   -- a fast write is of a track that has a frame and isn't loose; a provisional one of a track that is loose, or has a clean frame
@@ -127,11 +124,7 @@ module _ {F P H R : Type 0} (c : Contents F P H R) where
 
   clean_mark : (f : Option F) → is_clean c f ≡ true → frame_mark c f ≡ Some false
   clean_mark None e = absurd (cc)
-  clean_mark (Some f) e = ap Some (not_false (c.modified f) e)
-    where
-      not_false : (b : Bool) → not b ≡ true → b ≡ false
-      not_false true e = absurd (cc)
-      not_false false e = refl
+  clean_mark (Some f) e = ap Some (not_true (c.modified f) e)
 
   module _ (faithful : IsFaithful c) (s : Store F P H) (t : ℕ) (lt : t < tracks_of s) (w : IsWell c s) where
     abbrev x : TrackMarks

@@ -14,7 +14,7 @@ use Rattle.plain_defs.specs.History.{OpenEntry, History, ended}
 use Rattle.plain_device.specs.Acted.{settled_act, paths_behind}
 use Rattle.track_image.specs.Image.{Image}
 use Rattle.device_outside.specs.Interaction.{Interaction, Done, Try, Ask, Read, Write, Tell, and_then}
-use Rattle.device_outside.specs.Keeper.{Message, ReplyTo, reply}
+use Rattle.device_outside.specs.Keeper.{Message, ReplyTo}
 use Rattle.device_outside.specs.Pool.{Call, AnswerTo}
 use Rattle.device_defs.specs.declared.answers.Came.{Came}
 use Rattle.device_defs.specs.declared.answers.Came.TheVariants.{Ends, Checks, HalfOpen}
@@ -101,10 +101,10 @@ use Rattle.device_defs.specs.Losses.{call_failed}
 use Rattle.device_defs.specs.Marks.{MarksStore, MarksDevice}
 use Rattle.device_defs.specs.Memory.{had_by}
 use Rattle.device_defs.specs.Outcomes.{Turn, ends_with, settles, checks, wrote_turn, usage_of, sense_kept, program_over, turned_by}
-use Rattle.device_defs.specs.Owed.{hear, waiting_count, ended as event_end}
+use Rattle.device_defs.specs.Owed.{hear, waiting_count, noted_end as event_end}
 use Rattle.device_defs.specs.Second.{second_part}
 use Rattle.device_defs.specs.Store.{Origin, OfCommand, OfCut, OfBackground, HalfWrite, level_at, tracks_of, frame_at, is_lost, with_frame, plain_at}
-use Rattle.device_defs.specs.Writing.{firm_first, write_first, write_done, opened}
+use Rattle.device_defs.specs.Writing.{firm_first, write_first, write_done, write_opened}
 use Rattle.device_laws.proofs.KeptHistories.{data_checks, ended_checks, checked_checks, acts_check}
 
 -- q holds behind an interaction, whatever is answered, where no bytes are bad
@@ -389,7 +389,7 @@ saved_by_clean t i d fault was_loose failed s Whole h =
     clean_then (λ z _. Done z (did fault (did failed d))) (clean_any (write_done by_plain s t i false))
     (λ z _ _. clean_done (did_well fault (did failed d) (did_well failed d h)))
 saved_by_clean t i d fault was_loose failed s Opened h =
-    clean_then (λ z _. Done z (did fault (dids.Half t))) (clean_any (opened by_plain s t i OfBackground was_loose))
+    clean_then (λ z _. Done z (did fault (dids.Half t))) (clean_any (write_opened by_plain s t i OfBackground was_loose))
     (λ z _ _. clean_done (did_well fault (dids.Half t) tt))
 saved_by_clean t i d fault was_loose failed s Unwritten h =
     clean_done (did_well fault (did failed dids.Nothing) (did_well failed dids.Nothing tt))

@@ -3,7 +3,7 @@ use Rattle.std.proofs.Common.{◌≡◌, ◌==◌, ℕ, [], ◌∷◌, ◌++◌,
 use Rattle.std.specs.Prelude.{◌||◌, ⊤, if◌then◌else◌}
 use Rattle.std.proofs.lemmas.Bool.{cond_both}
 use Rattle.plain_defs.specs.declared.journal.Item.TheVariants as items
-use Rattle.plain_defs.specs.History.{OpenEntry, History, is_path_of, has_used, cut_by, put, reset as history_reset, reset_in, lost_power, IsPlain}
+use Rattle.plain_defs.specs.History.{OpenEntry, History, is_path_of, has_used, cut_by, put, reset_in_history as history_reset, reset_in, lost_power, IsPlain}
 use Rattle.plain_defs.specs.Journal.{Plans, replay}
 use Rattle.plain_defs.specs.Legal.{is_used}
 use Rattle.plain_defs.specs.PlainState.{PlainState, reset_path}
@@ -13,7 +13,7 @@ use Rattle.device_defs.specs.Cutting as K
 use Rattle.device_defs.specs.Cutting.{counts_one_by, half_cut, reset_noted, path_cut, reset_by, powered_off}
 use Rattle.device_defs.specs.Device.{Device, event_begun}
 use Rattle.device_defs.specs.Orders.{restore}
-use Rattle.device_defs.specs.Owed.{waiting_count, ended}
+use Rattle.device_defs.specs.Owed.{waiting_count, noted_end}
 use Rattle.device_laws.proofs.Always as A
 use Rattle.device_laws.proofs.Always.{Behind, Always, always_done, always_then, always_weaker}
 use Rattle.device_laws.proofs.DueResets.{reset_due, lost_power_due, emptied_due}
@@ -113,7 +113,7 @@ module _ {F P H R : Type 0} (c : Contents F P H R) where
       always_then {p = λ y _. HasHistory d (lost_power d.history (counts_one_by d.store.half)) y}
       (always_then (always_any (half_cut c (event_begun d).store (event_begun d).store.half))
       (λ s _ _. always_done (record { plans = refl; history = refl })))
-      (λ y a g. always_then (always_any (ended c (waiting_count c d.store) y.store))
+      (λ y a g. always_then (always_any (noted_end c (waiting_count c d.store) y.store))
       (λ z _ _. always_done (record { plans = g.plans; history = g.history })))
 
   module _ (empty : PlainState) (d : Device F P H) (stands : StandsPlainly empty d) where

@@ -36,7 +36,7 @@ use Rattle.ckd_types.specs.Ccw.{ccw_at}
 use Rattle.ckd_types.specs.Sense.{equipment_sense, data_check_sense}
 use Rattle.ckd_rules.specs.declared.stance.Stance.{Stance}
 use Rattle.ckd_rules.specs.Ending.{refused}
-use Rattle.ckd_rules.specs.Ends.{end_of, would_go_on, at_limit}
+use Rattle.ckd_rules.specs.Ends.{end_at_word, would_go_on, at_limit}
 use Rattle.ckd_chain.specs.declared.progress.Settled.TheVariants.{Equipment, DataCheck}
 use Rattle.ckd_chain.specs.State.{ChainState}
 use Rattle.ckd_chain.specs.Steps.{index_of, end_with, settled_by, start_of}
@@ -63,7 +63,7 @@ no_more false b c = refl
 
 module _ (ccws : List Ccw) (i : ℕ) (z : Stance) (sense : Sense) where
   abbrev check_end : CommandEnd
-  check_end = end_of i (ccw_at ccws i) (refused z (ccw_at ccws i) sense)
+  check_end = end_at_word i (ccw_at ccws i) (refused z (ccw_at ccws i) sense)
 
   stops : would_go_on (ccw_at ccws i) (refused z (ccw_at ccws i) sense).ending ≡ false
   stops = no_more _ true true

@@ -7,7 +7,7 @@ use Rattle.device_defs.specs.Contents.{Contents}
 use Rattle.device_defs.specs.Losses.{slot_in}
 use Rattle.device_defs.specs.Store.{Origin, HalfWrite, Store, tracks_of, frame_at, patch_at, half_is, with_frame}
 use Rattle.device_defs.specs.Writing as W
-use Rattle.device_defs.specs.Writing.{slot_freed, unpatched, done_by, write_done, half_opened, cleaned, opened}
+use Rattle.device_defs.specs.Writing.{slot_freed, unpatched, done_by, write_done, half_opened, cleaned, write_opened}
 use Rattle.device_laws.proofs.Always.{Always, always_done, always_ask, always_weaker}
 use Rattle.device_laws.proofs.Changes as C
 use Rattle.device_laws.proofs.Changes.{Changed, rest_of, unchanged, changed_twice, changed_frame, changed_patch}
@@ -142,7 +142,7 @@ module _ {F P H R : Type 0} (c : Contents F P H R) (faithful : IsFaithful c) whe
 
   pub opened_keeps_good : (t : ℕ) (s z : Store F P H) (i : Image) (origin : Origin) (was_loose : Bool) → t < tracks_of z → Others c t s z →
       z.half ≡ None → (track_at c z t).lost ≡ false → (track_at c z t).loose ≡ false → z.b.up ≡ true →
-      Always (opened c z t i origin was_loose) (λ y _. Keeps s y)
+      Always (write_opened c z t i origin was_loose) (λ y _. Keeps s y)
   opened_keeps_good t s z i origin true lt o none there firm up =
       let u = with_frame z t (cleaned c (frame_at z t)) in
       let e = changed_frame c z t (cleaned c (frame_at z t)) lt o.sizes in

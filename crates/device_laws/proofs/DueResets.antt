@@ -20,7 +20,7 @@ use Rattle.plain_defs.specs.History.{
   checked_in,
   put,
   cut_by,
-  reset,
+  reset_in_history,
   reset_in,
   acted,
   acted_in,
@@ -137,7 +137,7 @@ module _ (h : History) (due : AreDue h) where
       (λ apart. cond_both (is_used path false h.items) (record h { waiting = put path h.waiting }) h (λ (k : History). AreDue k)
       (λ used. waits_due o running path apart used) (λ unused. due))
 
-  pub reset_due : (path more : ℕ) → AreDue (reset h path more)
+  pub reset_due : (path more : ℕ) → AreDue (reset_in_history h path more)
   reset_due path more = reset_by path more h.running refl
 
   acted_by : (act : Act) (r : Option OpenEntry) → h.running ≡ r → AreDue (acted_in h act r)

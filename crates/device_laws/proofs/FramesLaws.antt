@@ -39,8 +39,6 @@ use Rattle.loss_model.specs.declared.Loss.{Loss}
 use Rattle.loss_model.specs.declared.Loss.TheVariants as losses
 use Rattle.track_image.specs.Image.{Image}
 use Rattle.track_table.proofs.Places.{empty_places}
-use Rattle.plain_defs.specs.History.{OpenEntry, has_used}
-use Rattle.plain_defs.specs.PlainState.{reset_path}
 use Rattle.device_outside.specs.Interaction.{Interaction, Done, and_then}
 use Rattle.device_outside.specs.Keeper.{Hearing}
 use Rattle.device_outside.specs.Outside.{Outside, Ran}
@@ -50,23 +48,18 @@ use Rattle.device_defs.specs.declared.answers.Stepped.{Stepped}
 use Rattle.device_defs.specs.declared.counts.Losses.{Losses}
 use Rattle.device_defs.specs.Command.{command}
 use Rattle.device_defs.specs.Contents.{Contents}
-use Rattle.device_defs.specs.Cutting as U
-use Rattle.device_defs.specs.Cutting.{origin_cut, half_cut, counts_one_by, reset_noted, reset_by, reset, power}
-use Rattle.device_defs.specs.Device.{Device, all_reset, with_store, event_begun, event_ended}
+use Rattle.device_defs.specs.Cutting.{reset, power}
+use Rattle.device_defs.specs.Device.{Device, with_store, event_begun, event_ended}
 use Rattle.device_defs.specs.Events as E
 use Rattle.device_defs.specs.Events.{with_loss, losing, second, background, lose}
 use Rattle.device_defs.specs.Losses as L
 use Rattle.device_defs.specs.Losses.{store_lost, firm_told, all_firm_told}
 use Rattle.device_defs.specs.Excused.{count_lost, may_lose}
-use Rattle.device_defs.specs.Orders.{join, split, replace, hold, resume}
-use Rattle.device_defs.specs.Owed.{is_clean, waiting_count}
+use Rattle.device_defs.specs.Orders.{join, split, replace, hold_side, resume}
+use Rattle.device_defs.specs.Owed.{is_clean, waiting_count, noted_end}
 use Rattle.device_defs.specs.Start as S
 use Rattle.device_defs.specs.Start.{start}
 use Rattle.device_defs.specs.Store.{
-  Origin,
-  OfCommand,
-  OfCut,
-  OfBackground,
   HalfWrite,
   Store,
   tracks_of,
@@ -82,25 +75,25 @@ use Rattle.device_defs.specs.Store.{
   side_of,
 }
 use Rattle.device_laws.specs.NewDevice.{new_contents}
-use Rattle.device_laws.specs.Standing.{IsWithin, IsChainOf}
+use Rattle.device_laws.specs.Standing.{IsChainOf}
 use Rattle.device_laws.specs.Unharmed.{MarksAreGood, IsUnharmed, IsFramed, IsUncached}
 use Rattle.device_laws.proofs.Always.{Always}
 use Rattle.device_laws.proofs.Based.{kept, Any, Based, based_any}
 use Rattle.device_laws.proofs.BasedEvents.{base_in, command_based, second_based, background_based, lose_based, power_based, reset_body}
 use Rattle.device_laws.proofs.FailedCall.{IsWell}
-use Rattle.device_laws.proofs.FramesEvents.{end_keeps, steady_tried, command_frames, second_event_frames, background_frames}
 use Rattle.device_laws.proofs.FramesKept.{Plates, plates_of, HasFrames, hear_framed}
 use Rattle.device_laws.proofs.Harmless.{reset_goes, firm_goes}
+use Rattle.device_laws.proofs.invariants.PatchesHaveFrames.{command_frames, second_event_frames, background_frames, reset_frames}
 use Rattle.device_laws.proofs.KeepLaws.{always_ran, ran_same}
-use Rattle.device_laws.proofs.LossLaws.{some_counted, more_ran, kept_counts, unharmed_counts}
+use Rattle.device_laws.proofs.LossLaws.{some_counted, more_ran, kept_counts, unharmed_counts, none_less}
 use Rattle.device_laws.proofs.Lucky.{Lucky, lucky_done, lucky_tell, lucky_then, lucky_weaker, lucky_if, top, failed_in, with_always, where_none_failed}
-use Rattle.device_laws.proofs.OrdersStand.{chain_stands}
+use Rattle.device_laws.proofs.PoolWalks.{asks_lucky, ended_asks}
 use Rattle.device_laws.proofs.TrackMarks as M
 use Rattle.device_laws.proofs.TrackMarks.{IsFaithful, marks, is_good, frame_mark}
 use Rattle.device_laws.proofs.Unchecked.{lucky_both}
-use Rattle.device_laws.proofs.Unlost.{core_of, Fine, Steady, steady_on}
-use Rattle.device_laws.proofs.UnlostEvents.{marks_well, command_goes, background_goes, second_event_goes, end_goes}
-use Rattle.device_laws.proofs.UnlostParts.{hear_goes}
+use Rattle.device_laws.proofs.Unlost.{core_of, Fine, Steady, steady_on, steady_tried}
+use Rattle.device_laws.proofs.invariants.NoTrackIsLost.{command_goes, background_goes, second_event_goes}
+use Rattle.device_laws.proofs.UnlostParts.{hear_goes, marks_well, end_goes}
 use Rattle.device_laws.proofs.WholeLosses.{where_quiet, lose_quiet, lose_store_steady, store_framed}
 
 -- A frame that is clean has no patch, where the marks are good
@@ -160,40 +153,6 @@ module _ {F P H R : Type 0} (c : Contents F P H R) where
         framed = g.framed;
       }
 
--- The reset of a path
-
-module _ {F P H R : Type 0} (c : Contents F P H R) where
-  cut_framed : (s : Store F P H) (h : HalfWrite H) (origin : Origin) → s.half ≡ Some h → HasFrames c (plates_of s) →
-      Lucky (λ z (a : Unit {0}). HasFrames c (plates_of z)) (origin_cut c s h origin)
-  cut_framed s h (OfCommand bypass e) is f = lucky_tell (λ _. lucky_done (record {
-    framed = λ q none. f.framed q (ap (λ (o : Option (HalfWrite H)). half_is o q) is ∙ none);
-    clean = λ q none. f.clean q (ap (λ (o : Option (HalfWrite H)). half_is o q) is ∙ none);
-  }))
-  cut_framed s h (OfCut bypass) is f = lucky_done f
-  cut_framed s h OfBackground is f = lucky_done f
-
-  half_cut_framed : (s : Store F P H) (o : Option (HalfWrite H)) → s.half ≡ o → HasFrames c (plates_of s) →
-      Lucky (λ z (a : Unit {0}). HasFrames c (plates_of z)) (half_cut c s o)
-  half_cut_framed s (Some h) is f = cut_framed s h h.origin is f
-  half_cut_framed s None is f = lucky_done f
-
-  reset_by_framed : (d : Device F P H) (path : ℕ) (o : Option OpenEntry) → HasFrames c (plates_of d.store) →
-      Lucky (λ y (a : Unit {0}). HasFrames c (plates_of y.store)) (reset_by c d path o)
-  reset_by_framed d path (Some o) f =
-      lucky_if (o.path == path)
-      (λ _. lucky_then (λ s _. Done (record (reset_noted c d path (counts_one_by d.store.half)) {
-        store = s;
-        chain = None;
-        paths = all_reset (reset_path d.paths path) d.history.waiting;
-      }) (tt {0})) (half_cut_framed d.store d.store.half refl f) (λ s _ g. lucky_done g))
-      (λ _. lucky_done f)
-  reset_by_framed d path None f = lucky_if (has_used d.history path) (λ _. lucky_done f) (λ _. lucky_done f)
-
-  pub reset_framed : (d : Device F P H) (path : ℕ) → HasFrames c (plates_of d.store) →
-      Lucky (λ y (a : Unit {0}). HasFrames c (plates_of y.store)) (reset c d path)
-  unfolding U.reset
-  reset_framed d path f = reset_by_framed d path d.history.running f
-
 -- The loss of the store
 
 abbrev IsFramedIn : {F P H : Type 0} → Plates F P H → Type 0
@@ -206,6 +165,9 @@ module _ {F P H R : Type 0} (c : Contents F P H R) where
   told_plates p (suc n) s f =
       lucky_then (λ z _. firm_told c n z) (told_plates p n s f)
       (λ z _ g. lucky_if (owed_at z n).firm (λ _. lucky_tell (λ _. lucky_done g)) (λ _. lucky_done g))
+
+  end_keeps : (before : ℕ) (s : Store F P H) → IsFramedIn (plates_of s) → Lucky (λ z (a : Unit {0}). IsFramedIn (plates_of z)) (noted_end c before s)
+  end_keeps before s f = asks_lucky (ended_asks c (λ z. IsFramedIn (plates_of z)) (λ z t g. g) before s f)
 
   abbrev UpAndFramed : Store F P H → Type 0
   UpAndFramed s = (s.a.up ≡ true) × IsFramedIn (plates_of s)
@@ -228,7 +190,7 @@ module _ {F P H R : Type 0} (c : Contents F P H R) where
         (λ s _ g. lucky_then (λ y _. Done (with_store (record (event_begun d) { store = s }) y) (tt {0})) (store_goes s g.0 (g.1.up ∙ up))
         (λ y _ h. lucky_done h)))
         (λ y a g. lucky_then (λ z _. Done (record y { store = z }) a)
-        (lucky_both (end_goes c faithful (waiting_count c d.store) y.store) (end_keeps c IsFramedIn (waiting_count c d.store) y.store g.1))
+        (lucky_both (end_goes c faithful (waiting_count c d.store) y.store) (end_keeps (waiting_count c d.store) y.store g.1))
         (λ z _ h. lucky_done (h.0.up ∙ g.0, h.1)))
 
     pub lose_store_framed : (d : Device F P H) → HasFrames c (plates_of d.store) → IsFramed d.store →
@@ -244,9 +206,6 @@ module _ {F P H R : Type 0} (c : Contents F P H R) where
         }))
 
 -- Events of a run
-
-none_less : (n m : ℕ) → n ≤ m → m ≡ 0 → n ≡ 0
-none_less n m le is = omega (arith, le, is)
 
 module _ {F P H R K : Type 0} (c : Contents F P H R) {hears : Hearing Image K} (faithful : IsFaithful c) (d : Device F P H)
     (lt : d.store.counts.failed < top) (un : IsUncached d.store) {e : Device F P H} {u z : Outside R K} where
@@ -273,29 +232,28 @@ module _ {F P H R K : Type 0} (c : Contents F P H R) {hears : Hearing Image K} (
   command_uncached good none chains r =
       let well = marks_well c d.store good in
       event_uncached (command c d) (command_based c d)
-      (λ w. lucky_both (command_goes c faithful d chains well none)
-      (command_frames c faithful d
-      (λ chain is. let k = chains chain is in subst (λ (m : ℕ). IsWithin (m * 15) chain) k.cylinders (chain_stands chain k.is)) well none
-      (framed_frames c d.store well w))) r
+      (λ w. lucky_both (command_goes c faithful d well)
+      (command_frames c faithful d none (framed_frames c d.store well w))) r
 
   pub background_uncached : {a : Option Did} → MarksAreGood c d.store → d.store.half ≡ None → Ran (λ ok. Unit {0}) hears (background c d) u e a z →
       IsUncached e.store
   background_uncached good none r =
       let well = marks_well c d.store good in
       event_uncached (background c d) (background_based c d)
-      (λ w. lucky_both (background_goes c faithful d well) (background_frames c faithful d well none (framed_frames c d.store well w))) r
+      (λ w. lucky_both (background_goes c faithful d well) (background_frames c faithful d none (framed_frames c d.store well w))) r
 
   pub second_uncached : {a : SecondEnd} → MarksAreGood c d.store → Ran (λ ok. Unit {0}) hears (second c d) u e a z → IsUncached e.store
   second_uncached good r =
       let well = marks_well c d.store good in
       event_uncached (second c d) (second_based c d)
       (λ w. lucky_both (second_event_goes c faithful d well (steady_tried d.store (framed_steady c d.store w)))
-      (second_event_frames c faithful d well (framed_steady c d.store w) (framed_frames c d.store well w))) r
+      (second_event_frames c faithful d (steady_tried d.store (framed_steady c d.store w)) (framed_frames c d.store well w))) r
 
   pub reset_uncached : (path : ℕ) {a : Unit {0}} → MarksAreGood c d.store → Ran (λ ok. Unit {0}) hears (reset c d path) u e a z → IsUncached e.store
   reset_uncached path good r =
       event_uncached (reset c d path) (based_any (reset_body c d path))
-      (λ w. lucky_both (reset_goes c faithful d path) (reset_framed c d path (framed_frames c d.store (marks_well c d.store good) w))) r
+      (λ w. lucky_both (reset_goes c faithful d path) (reset_frames c faithful d path (steady_tried d.store (framed_steady c d.store w))
+      (framed_frames c d.store (marks_well c d.store good) w))) r
 
   -- losses
 
@@ -325,13 +283,13 @@ module _ {F P H R K : Type 0} (c : Contents F P H R) {hears : Hearing Image K} (
 -- Orders
 
 module _ {F P H : Type 0} (d : Device F P H) (un : IsUncached d.store) where
-  pub held_uncached : IsUncached (hold d).store × IsUncached (resume d).store
+  pub held_uncached : IsUncached (hold_side d).store × IsUncached (resume d).store
   held_uncached = (
     λ n. held (un (record { sides = n.sides; failed = n.failed; cache = n.cache })),
     λ n. resumed (un (record { sides = n.sides; failed = n.failed; cache = n.cache })),
   )
     where
-      held : IsFramed d.store → IsFramed (hold d).store
+      held : IsFramed d.store → IsFramed (hold_side d).store
       held w = record { up = w.up; kept = w.kept; half = w.half; framed = w.framed }
 
       resumed : IsFramed d.store → IsFramed (resume d).store

@@ -44,7 +44,7 @@ use Rattle.device_defs.specs.Contents.{Contents}
 use Rattle.device_defs.specs.Cutting as U
 use Rattle.device_defs.specs.Cutting.{counts_one_by, half_cut, half_lost, loose_gone, powerless, powered_off, power, reset_noted, reset_by, reset}
 use Rattle.device_defs.specs.Device.{Device, with_store, event_begun, quiet_event, event}
-use Rattle.device_defs.specs.Effects.{acted, gone_back, loose_lost}
+use Rattle.device_defs.specs.Effects.{act_noted, gone_back, loose_lost}
 use Rattle.device_defs.specs.Events as E
 use Rattle.device_defs.specs.Events.{with_loss, lost_by, losing, background, lose}
 use Rattle.device_defs.specs.Losses as L
@@ -124,8 +124,8 @@ module _ {F P H : Type 0} where
         lost = i.lost;
       })
 
-  loose_away : (s : Store F P H) (b : Bool) → IsLentOut s → IsLentOut (record (if b then acted (gone_back s) CfwLost else s) { queue = [] })
-  loose_away s true i = unqueued_away (gone_back s) (record (acted (gone_back s) CfwLost) { queue = [] }) (gone_back_away s i) refl
+  loose_away : (s : Store F P H) (b : Bool) → IsLentOut s → IsLentOut (record (if b then act_noted (gone_back s) CfwLost else s) { queue = [] })
+  loose_away s true i = unqueued_away (gone_back s) (record (act_noted (gone_back s) CfwLost) { queue = [] }) (gone_back_away s i) refl
   loose_away s false i = unqueued_away s (record s { queue = [] }) i refl
 
   powerless_away : (s : Store F P H) (b : Bool) → IsLentOut s → IsLentOut (record (if b then gone_back s else s) { queue = [] })

@@ -6,7 +6,7 @@ use Rattle.device_outside.specs.Interaction.{Interaction, Done, Try, Ask, Read, 
 use Rattle.device_outside.specs.Keeper.{Message, ReplyTo, reply}
 use Rattle.device_outside.specs.Pool.{Call, AnswerTo, answer, after}
 use Rattle.device_outside.specs.Told as T
-use Rattle.device_outside.specs.Told.{Told, hold, calls_of, read_fails, write_fails, read_counted, write_counted}
+use Rattle.device_outside.specs.Told.{Told, hold, calls_of, read_fails, write_fails, told_read, told_write}
 
 unfoldable pub BehindHad : {R I S A : Type 0} → Interaction R I S A → (S → A → Type 0) → Type 0
 BehindHad (Done s a) q = q s a
@@ -83,9 +83,9 @@ held_by r (Try k) q w h = held_by r (k true) q w h
 held_by r (Ask call k) q w h =
     held_by r (k (answer w.pool call)) q (record w { pool = after w.pool call (answer w.pool call) }) (h (answer w.pool call))
 held_by r (Read side t k) q w h =
-    let got = if read_fails (calls_of w side) then None else Some r in held_by r (k got) q (read_counted w side) (h got)
+    let got = if read_fails (calls_of w side) then None else Some r in held_by r (k got) q (told_read w side) (h got)
 held_by r (Write side t x k) q w h =
-    let ok = if write_fails (calls_of w side) then false else true in held_by r (k ok) q (write_counted w side) (h ok)
+    let ok = if write_fails (calls_of w side) then false else true in held_by r (k ok) q (told_write w side) (h ok)
 held_by r (Tell m k) q w h = held_by r (k (reply m)) q w h
 
 -- so behind the run of it where the outside is told

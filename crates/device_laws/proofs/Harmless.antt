@@ -1,5 +1,5 @@
 -- The losses of the cache and of power take no track that side A has.
-use Rattle.std.proofs.Common.{◌≡◌, ◌==◌, zero, suc, ℕ, Bool, true, false, not, Option, Some, None, get_or, option_map, ap, refl, ◌∙◌, inl}
+use Rattle.std.proofs.Common.{◌≡◌, ◌==◌, zero, suc, ℕ, Bool, true, false, not, Option, Some, None, get_or, refl, ◌∙◌}
 use Rattle.std.specs.Prelude.{◌&&◌, ◌||◌}
 use Rattle.ckd_types.specs.declared.paths.Side.{Side}
 use Rattle.loss_model.specs.declared.Loss.TheVariants as losses
@@ -13,15 +13,14 @@ use Rattle.device_defs.specs.Device.{Device, all_reset}
 use Rattle.device_defs.specs.Events.{lose}
 use Rattle.device_defs.specs.Losses as L
 use Rattle.device_defs.specs.Losses.{firm_told, all_firm_told}
-use Rattle.device_defs.specs.Owed.{begun}
-use Rattle.device_defs.specs.Second.{closed}
+use Rattle.device_defs.specs.Owed.{noted_begin}
+use Rattle.device_defs.specs.Second.{half_closed}
 use Rattle.device_defs.specs.Store.{with_stale, with_lost, Origin, OfCommand, OfCut, OfBackground, HalfWrite, Store, stale_at, level_at, owed_at}
 use Rattle.device_laws.specs.Unharmed.{IsWholeOnA}
 use Rattle.device_laws.proofs.Lucky.{lucky_done, lucky_tell, lucky_then, lucky_if}
 use Rattle.device_laws.proofs.TrackMarks.{IsFaithful}
-use Rattle.device_laws.proofs.Unlost.{Core, core_of, Fine, fine, fine_on, fine_off, taken_a_fine, side_fine, closed_fine}
-use Rattle.device_laws.proofs.UnlostEvents.{DeviceGoes}
-use Rattle.device_laws.proofs.UnlostParts.{Goes, goes_then, opened_fine}
+use Rattle.device_laws.proofs.Unlost.{Core, core_of, Fine, fine, fine_on, side_fine, closed_fine, opened_fine, cut_fine}
+use Rattle.device_laws.proofs.UnlostParts.{Goes, goes_then, DeviceGoes}
 use Rattle.device_laws.proofs.walks.Within.{lucky, within_lucky, within_weaker}
 use Rattle.device_laws.proofs.walks.Moves.{Losing, IsBare, Ends, IsKept, IsEnded, ends_keep}
 use Rattle.device_laws.proofs.walks.Events.{lose_leads, power_leads}
@@ -39,16 +38,6 @@ module _ {F P H R : Type 0} (c : Contents F P H R) where
   has_a true true b e f g = absurd (cc)
   has_a true false b e f g = absurd (cc)
   has_a false stale b e f g = absurd (cc)
-
-  -- what is cut was open
-  cut_fine : (s : Store F P H) (h : HalfWrite H) → s.half ≡ Some h → Fine (core_of s) (record (core_of s) { half = Some h.track })
-  cut_fine s h is = record {
-    lost = refl;
-    up = refl;
-    takes = refl;
-    level = λ up q e. e;
-    opens = λ q e. inl (ap (option_map (λ (x : HalfWrite H). x.track)) is ∙ e);
-  }
 
   module _ (s : Store F P H) (o : OnA (core_of s)) where
     abbrev So : Store F P H → Type 0
@@ -68,37 +57,40 @@ module _ {F P H R : Type 0} (c : Contents F P H R) where
       falls_reading = λ m n z side pair is f. absurd (cc);
       falls_writing = λ m n z side pair is f. absurd (cc);
       falls = λ n z side lost f. absurd (cc);
-      takes = λ n z t f. taken_a_fine (core_of s) z t (fine_off t (core_of s) (core_of z) f);
+      takes = λ n z t is up f. absurd (cc);
       levels = λ n z side t f. level_fine z side t f;
-      spoils = λ n z t is alone f. absurd (cc);
-      stales = λ n z t other away f. absurd (away refl);
-      firms = λ n z t is loose f. absurd (cc);
+      spoils = λ n z t is alone why f. absurd (cc);
+      stales = λ n z t other away f. absurd away;
+      firms = λ n z t is loose why f. absurd (cc);
+      firms_taken = λ m n z t is loose up wrote f. absurd (cc);
       marks = λ n z t g bare is clean f. f;
       hardens = λ n z t bare loose f. f;
       loses = λ n z t bare none half f. not_lost z t bare f;
       drops = λ n z t clean f. f;
-      fills = λ n z t i patched is f. f;
-      frames = λ n z t p f. f;
-      unframes = λ n z t f. f;
+      fills = λ n z t i patched is level f. f;
+      frames = λ n z t p bare why f. f;
+      renews = λ n z t i g bare is f. f;
+      unframes = λ n z t may f. f;
       patches = λ n z t f. f;
       unpatches = λ n z t slot f. f;
       queues = λ n z t room f. f;
-      dequeues = λ n z ts f. f;
+      dequeues = λ n z ts less f. f;
       edits = λ n z t e f. f;
-      goes_fast = λ n z t i e slot f. f;
+      goes_fast = λ n z t i e slot there f. f;
       goes_provisionally = λ n z t i e is f. absurd (cc);
-      goes_back = λ n z some f. f;
+      goes_back = λ n z may some f. f;
       loses_loose = λ n z lossy some f. f;
-      closes = λ n z f. fine_on (core_of s) (core_of z) (core_of (closed z)) f (closed_fine z);
+      closes = λ n z why f. fine_on (core_of s) (core_of z) (core_of (half_closed z)) f (closed_fine z);
       cuts = λ n z h bypass e is f. fine_on (core_of s) (core_of z) (record (core_of z) { half = Some h.track }) f (cut_fine z h is);
       notes = λ n z loss lossy f. f;
       pays = λ n z t p f. f;
     }
 
-    fine_ended : IsEnded {K = Unit {0}} c (λ n z. Fine (core_of s) (core_of z)) (λ n z. Fine (core_of s) (core_of z))
+    fine_ended : IsEnded lucky (Losing losses.Cache) c (λ n z. Fine (core_of s) (core_of z)) (λ n z. Fine (core_of s) (core_of z))
     fine_ended = record {
       weaker = λ n z f. f;
-      opens = λ n z t i origin may f. fine_on (core_of s) (core_of z) (record (core_of z) { half = Some t }) f (opened_fine c z t may);
+      opens = λ n z t i origin is may firm f. fine_on (core_of s) (core_of z) (record (core_of z) { half = Some t }) f (opened_fine z t may);
+      opens_cleaned = λ n z t i origin is may firm f. fine_on (core_of s) (core_of z) (record (core_of z) { half = Some t }) f (opened_fine z t may);
       pays = λ n z t p f. f;
     }
 
@@ -119,10 +111,10 @@ module _ {F P H R : Type 0} (c : Contents F P H R) where
 
   pub cache_goes : (d : Device F P H) → IsWholeOnA d.store → DeviceGoes c d.store (lose c d losses.Cache)
   cache_goes d whole =
-      within_lucky (within_weaker (lose_leads lucky c tt d losses.Cache) (λ n e a m. ends_fine (begun d.store) (whole_on d.store whole) m))
+      within_lucky (within_weaker (lose_leads lucky c tt d losses.Cache) (λ n e a m. ends_fine (noted_begin d.store) (whole_on d.store whole) m))
 
   pub power_goes : (d : Device F P H) → IsWholeOnA d.store → DeviceGoes c d.store (power c d)
-  power_goes d whole = within_lucky (within_weaker (power_leads lucky c tt d) (λ n e a m. ends_fine (begun d.store) (whole_on d.store whole) m))
+  power_goes d whole = within_lucky (within_weaker (power_leads lucky c tt d) (λ n e a m. ends_fine (noted_begin d.store) (whole_on d.store whole) m))
 
   module _ (faithful : IsFaithful c) where
     -- the reset of a path

@@ -13,7 +13,7 @@ use Rattle.device_outside.specs.Keeper.{reply}
 use Rattle.device_outside.specs.Pool as O
 use Rattle.device_outside.specs.Pool.{TellWaiting, answer, after}
 use Rattle.device_outside.specs.Told as T
-use Rattle.device_outside.specs.Told.{Told, Outcome, hold, calls_of, read_fails, write_fails, read_counted, write_counted}
+use Rattle.device_outside.specs.Told.{Told, RunOutcome, hold, calls_of, read_fails, write_fails, told_read, told_write}
 use Rattle.device_defs.specs.declared.answers.Did.{Did}
 use Rattle.device_defs.specs.Background.{work}
 use Rattle.device_defs.specs.Command as N
@@ -24,7 +24,7 @@ use Rattle.device_defs.specs.Cutting.{half_cut, powered_off, power}
 use Rattle.device_defs.specs.Device.{Device, with_store, event_begun, event_ended, quiet_event, event}
 use Rattle.device_defs.specs.Events as E
 use Rattle.device_defs.specs.Events.{losing, second_of, second, background, lose}
-use Rattle.device_defs.specs.Owed.{all_told, waiting_count, waiting_told, ended}
+use Rattle.device_defs.specs.Owed.{all_told, waiting_count, waiting_told, noted_end}
 use Rattle.device_defs.specs.Store.{Store, tracks_of}
 use Rattle.device_laws.proofs.Based.{Base, kept, Hushed, Based, based_done, based_try, based_ask, based_read, based_write, based_tell}
 use Rattle.device_laws.proofs.BasedEvents.{
@@ -51,11 +51,11 @@ record Split {R S U X Y : Type 0} (base : S → Base) (b : Base) (r : R) (i : In
   waiting : told.pool.waiting ≡ w.pool.waiting
   same : hold r (and_then i f) w ≡ hold r (f state answer) told
 
-read_pool : (w : Told) (side : Side) → (read_counted w side).pool ≡ w.pool
+read_pool : (w : Told) (side : Side) → (told_read w side).pool ≡ w.pool
 read_pool w sides.A = refl
 read_pool w sides.B = refl
 
-write_pool : (w : Told) (side : Side) → (write_counted w side).pool ≡ w.pool
+write_pool : (w : Told) (side : Side) → (told_write w side).pool ≡ w.pool
 write_pool w sides.A = refl
 write_pool w sides.B = refl
 
@@ -78,7 +78,7 @@ split r f (based_ask {call = call} m x) w =
       same = y.same;
     }
 split r f (based_read {side = side} x) w =
-    let y = split r f (x (if read_fails (calls_of w side) then None else Some r)) (read_counted w side) in
+    let y = split r f (x (if read_fails (calls_of w side) then None else Some r)) (told_read w side) in
     record {
       state = y.state;
       answer = y.answer;
@@ -88,7 +88,7 @@ split r f (based_read {side = side} x) w =
       same = y.same;
     }
 split r f (based_write {side = side} x) w =
-    let y = split r f (x (if write_fails (calls_of w side) then false else true)) (write_counted w side) in
+    let y = split r f (x (if write_fails (calls_of w side) then false else true)) (told_write w side) in
     record {
       state = y.state;
       answer = y.answer;
@@ -110,9 +110,9 @@ hushed_waits r (based_try x) w = hushed_waits r (x true) w
 hushed_waits r (based_ask {call = call} m x) w =
     let a = answer w.pool call in hushed_waits r (x a) (record w { pool = after w.pool call a }) ∙ after_waits w.pool call a m
 hushed_waits r (based_read {side = side} x) w =
-    hushed_waits r (x (if read_fails (calls_of w side) then None else Some r)) (read_counted w side) ∙ ap (λ (p : O.Pool). p.waiting) (read_pool w side)
+    hushed_waits r (x (if read_fails (calls_of w side) then None else Some r)) (told_read w side) ∙ ap (λ (p : O.Pool). p.waiting) (read_pool w side)
 hushed_waits r (based_write {side = side} x) w =
-    hushed_waits r (x (if write_fails (calls_of w side) then false else true)) (write_counted w side) ∙ ap (λ (p : O.Pool). p.waiting) (write_pool w side)
+    hushed_waits r (x (if write_fails (calls_of w side) then false else true)) (told_write w side) ∙ ap (λ (p : O.Pool). p.waiting) (write_pool w side)
 hushed_waits r (based_tell {m = m} x) w = hushed_waits r (x (reply m)) w
 
 hold_on : {R S U V X Y Z : Type 0} (r : R) (i : Interaction R Image S X) (f : S → X → Interaction R Image U Y) (g : U → Y → Interaction R Image V Z)
@@ -122,13 +122,13 @@ unfolding T.hold
 hold_on r (Done s a) f g w = refl
 hold_on r (Try k) f g w = hold_on r (k true) f g w
 hold_on r (Ask call k) f g w = hold_on r (k (answer w.pool call)) f g (record w { pool = after w.pool call (answer w.pool call) })
-hold_on r (Read side t k) f g w = hold_on r (k (if read_fails (calls_of w side) then None else Some r)) f g (read_counted w side)
-hold_on r (Write side t x k) f g w = hold_on r (k (if write_fails (calls_of w side) then false else true)) f g (write_counted w side)
+hold_on r (Read side t k) f g w = hold_on r (k (if read_fails (calls_of w side) then None else Some r)) f g (told_read w side)
+hold_on r (Write side t x k) f g w = hold_on r (k (if write_fails (calls_of w side) then false else true)) f g (told_write w side)
 hold_on r (Tell m k) f g w = hold_on r (k (reply m)) f g w
 
 module _ {F P H R : Type 0} (c : Contents F P H R) (r : R) where
   -- the pool has device n's number as it is behind this outcome
-  abbrev pub HasTold : {X : Type 0} → List ℕ → ℕ → Outcome (Device F P H) X → Type 0
+  abbrev pub HasTold : {X : Type 0} → List ℕ → ℕ → RunOutcome (Device F P H) X → Type 0
   HasTold ws n o = o.told.pool.waiting ≡ set ws n (waiting_count c o.state.store)
 
   module _ {X : Type 0} (y : Device F P H) (o : X) (before d : ℕ) (ws : List ℕ) (number : get_or ws d 0 ≡ before) where
@@ -140,7 +140,7 @@ module _ {F P H R : Type 0} (c : Contents F P H R) (r : R) where
     count_told s own false is w same =
         ap (λ (l : List ℕ). set l s.device (waiting_count c s)) same ∙ ap (λ (n : ℕ). set ws n (waiting_count c s)) own
 
-    end_told : y.store.device ≡ d → (w : Told) → w.pool.waiting ≡ ws → HasTold ws d (hold r (and_then (ended c before y.store) (put_in y o)) w)
+    end_told : y.store.device ≡ d → (w : Told) → w.pool.waiting ≡ ws → HasTold ws d (hold r (and_then (noted_end c before y.store) (put_in y o)) w)
     end_told own w same =
         let x = split r (λ z _. and_then (waiting_told c before z) (put_in y o)) (all_told_steady c (tracks_of y.store) y.store) w in
         subst (HasTold ws d) (sym (hold_on r (all_told c (tracks_of y.store) y.store) (λ z _. waiting_told c before z) (put_in y o) w ∙ x.same))

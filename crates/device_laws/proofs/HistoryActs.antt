@@ -6,7 +6,7 @@ use Rattle.ckd_types.specs.declared.channel.CommandEnd.{CommandEnd}
 use Rattle.ckd_types.specs.Ccw.{ccw_at}
 use Rattle.ckd_types.specs.Parameters.{is_provisional}
 use Rattle.ckd_rules.specs.declared.stance.Stance.{Stance}
-use Rattle.ckd_rules.specs.Ends.{end_of}
+use Rattle.ckd_rules.specs.Ends.{end_at_word}
 use Rattle.ckd_rules.specs.Walk.{TrackEdit}
 use Rattle.plain_defs.specs.declared.journal.Act.{Act}
 use Rattle.plain_defs.specs.declared.journal.Act.TheVariants.{Loosen, Harden, CfwLost}
@@ -15,7 +15,7 @@ use Rattle.plain_defs.specs.Effect.{effect_on}
 use Rattle.plain_defs.specs.History.{OpenEntry, History, open_part, plain_of, state_by, acted, acted_in, ended, IsOpen, IsPlain}
 use Rattle.plain_defs.specs.Journal.{Plans, program_of, replay}
 use Rattle.plain_defs.specs.Legal.{AreActs, IsSomeLoose, MayEdit, edit_at, track_of, next_edit}
-use Rattle.plain_defs.specs.Loose.{is_loose, is_loose_in, act_done}
+use Rattle.plain_defs.specs.Loose.{is_loose_there, is_loose_in, act_done}
 use Rattle.plain_defs.specs.PlainState.{LooseTrack, PlainState}
 use Rattle.plain_defs.specs.Program.{Part, acts_done, with_act}
 use Rattle.plain_defs.proofs.JournalLaws.{legal_more, replay-append}
@@ -115,8 +115,8 @@ module _ (plans : Plans) (empty : PlainState) (h : History) (plain : IsPlain pla
   abbrev ccws : List Ccw
   ccws = program_of plans o.path o.ordinal
 
-  module _ (t : ℕ) (firm : is_loose p.state t ≡ false) (edits : track_of (next_edit o.path ccws p) ≡ Some t) (i : ℕ)
-      (next : p.next ≡ Some i) (e : CommandEnd) (end_is : e ≡ end_of i (ccw_at ccws i) (effect_at plans replayed h.items o i).outcome)
+  module _ (t : ℕ) (firm : is_loose_there p.state t ≡ false) (edits : track_of (next_edit o.path ccws p) ≡ Some t) (i : ℕ)
+      (next : p.next ≡ Some i) (e : CommandEnd) (end_is : e ≡ end_at_word i (ccw_at ccws i) (effect_at plans replayed h.items o i).outcome)
       (provisional : is_provisional p.stance.extent ≡ true) where
     abbrev later : OpenEntry
     later = with_one_act o (Loosen t)
@@ -151,8 +151,8 @@ module _ (plans : Plans) (empty : PlainState) (h : History) (plain : IsPlain pla
     later_next : (open_part plans replayed later).next ≡ Some i
     later_next = ap (λ (x : Part). x.next) part_is ∙ next
 
-    later_end : e ≡ end_of i (ccw_at ccws i) (effect_at plans replayed h.items later i).outcome
-    later_end = end_is ∙ ap (λ (x : Part). end_of i (ccw_at ccws i) (effect_on x.fixed x.state o.path x.stance (ccw_at ccws i)).outcome)
+    later_end : e ≡ end_at_word i (ccw_at ccws i) (effect_at plans replayed h.items later i).outcome
+    later_end = end_is ∙ ap (λ (x : Part). end_at_word i (ccw_at ccws i) (effect_on x.fixed x.state o.path x.stance (ccw_at ccws i)).outcome)
         (sym part_is)
 
     later_may : MayEdit (open_part plans replayed later).state (open_part plans replayed later).stance (effect_at plans replayed h.items later i).edit

@@ -41,7 +41,7 @@ use Rattle.plain_defs.specs.History.{
   plain_of,
   state_by,
   cut_by,
-  reset,
+  reset_in_history,
   reset_in,
   put,
   lost_power,
@@ -223,7 +223,7 @@ module _ (plans : Plans) (empty : PlainState) (h : History) (plain : IsPlain pla
   by_other o path = cond_both (is_used path false h.items) (record h { waiting = put path h.waiting }) h
       (λ (k : History). IsPlain plans empty k) (λ used. waiting_plain (put path h.waiting)) (λ unused. plain)
 
-  pub idle_reset_plain : h.running ≡ None → (path more : ℕ) → IsPlain plans empty (reset h path more)
+  pub idle_reset_plain : h.running ≡ None → (path more : ℕ) → IsPlain plans empty (reset_in_history h path more)
   idle_reset_plain stands path more =
       subst (λ (r : Option OpenEntry). IsPlain plans empty (reset_in h path more r)) (sym stands)
       (cond_both (is_used path false h.items) (record h { items = h.items ++ items.Reset path ∷ [] }) h
@@ -233,7 +233,7 @@ module _ (plans : Plans) (empty : PlainState) (h : History) (plain : IsPlain pla
 
   -- of any path while a program runs: its own cuts it, and of the command at hand it may have taken the effect
   pub running_reset_plain : AreDue h → (o : OpenEntry) → h.running ≡ Some o → (path more : ℕ)
-      → ((o.path == path) ≡ true → MayTake plans s o more) → IsPlain plans empty (reset h path more)
+      → ((o.path == path) ≡ true → MayTake plans s o more) → IsPlain plans empty (reset_in_history h path more)
   running_reset_plain due o running path more may =
       subst (λ (r : Option OpenEntry). IsPlain plans empty (reset_in h path more r)) (sym running)
       (cond_both (o.path == path) (cut_by h o more) (if is_used path false h.items then record h { waiting = put path h.waiting } else h)
@@ -245,7 +245,7 @@ module _ (plans : Plans) (empty : PlainState) (h : History) (plain : IsPlain pla
   replay_one x = replay-append plans empty h.items (x ∷ [])
 
   pub idle_reset_state : h.running ≡ None → (path more : ℕ) → is_used path false h.items ≡ true
-      → plain_of plans empty (reset h path more) ≡ record s { paths = reset_path s.paths path }
+      → plain_of plans empty (reset_in_history h path more) ≡ record s { paths = reset_path s.paths path }
   idle_reset_state stands path more used =
       ap (λ (r : Option OpenEntry). plain_of plans empty (reset_in h path more r)) stands
       ∙ ap (λ (b : Bool). plain_of plans empty (cond b (record h { items = h.items ++ items.Reset path ∷ [] }) h)) used
@@ -262,7 +262,7 @@ module _ (plans : Plans) (empty : PlainState) (h : History) (plain : IsPlain pla
 
   -- a reset that waits changes nothing yet
   pub waiting_state : (o : OpenEntry) → h.running ≡ Some o → (path more : ℕ) → (o.path == path) ≡ false
-      → plain_of plans empty (reset h path more) ≡ plain_of plans empty h
+      → plain_of plans empty (reset_in_history h path more) ≡ plain_of plans empty h
   waiting_state o running path more other =
       ap (λ (r : Option OpenEntry). plain_of plans empty (reset_in h path more r)) running
       ∙ ap (λ (b : Bool). plain_of plans empty

@@ -36,7 +36,7 @@ use Rattle.ckd_types.specs.declared.channel.Ccw.{Ccw}
 use Rattle.ckd_types.specs.declared.channel.CommandEnd.{CommandEnd}
 use Rattle.ckd_types.specs.declared.sense.Sense.{Sense}
 use Rattle.ckd_types.specs.Ccw.{ccw_at}
-use Rattle.ckd_rules.specs.Ends.{end_of, is_over}
+use Rattle.ckd_rules.specs.Ends.{end_at_word, is_over}
 use Rattle.ckd_rules.specs.Walk.{TrackEdit}
 use Rattle.ckd_rules.proofs.Goes.{over_stops, more_goes}
 use Rattle.plain_defs.specs.declared.journal.Act.{Act}
@@ -77,20 +77,16 @@ use Rattle.plain_defs.specs.Legal.{
   IsLegal,
 }
 use Rattle.plain_defs.specs.PlainState.{PlainState, with_sense}
-use Rattle.plain_defs.specs.Program.{Part, stepped, stepped_at, ended_with, part_of}
+use Rattle.plain_defs.specs.Program.{Part, command_run, stepped_at, ended_with, part_of}
 use Rattle.plain_defs.proofs.JournalLaws.{legal_more, replay-append}
 use Rattle.plain_defs.proofs.PartLemmas.{acted_nothing, part_more}
 use Rattle.device_defs.specs.Device.{all_reset}
+use Rattle.device_laws.proofs.KeptHistories.{last_is}
 use Rattle.device_laws.proofs.OpenProgram.{IsGoing, going_of_open, no_acts, order_on}
 use Rattle.device_laws.proofs.WaitingResets.{AreDue, resets_follow, used_behind_program, replay_resets}
 
 abbrev pub all_reset_in : PlainState → List ℕ → PlainState
 all_reset_in s paths = record s { paths = all_reset s.paths paths }
-
-pub last_sense_is : (ends : List CommandEnd) (e : CommandEnd) → last_sense (ends ++ e ∷ []) ≡ e.sense
-last_sense_is [] e = refl
-last_sense_is (x ∷ []) e = refl
-last_sense_is (x ∷ y ∷ ends) e = last_sense_is (y ∷ ends) e
 
 pub one_longer : (ends : List CommandEnd) (e : CommandEnd) → length (ends ++ e ∷ []) ≡ suc (length ends)
 one_longer ends e = let sum = length-append ends (e ∷ []) in omega (arith, sum)
@@ -156,12 +152,12 @@ module _ (plans : Plans) (s : PlainState) (items : List Item) (o : OpenEntry) wh
         let p = open_part plans s o in
         let ccws = program_of plans o.path o.ordinal in
         let many : length p.ends ≡ length o.ends = ap length (sym going.ends) in
-        let longer : length (stepped o.path ccws p).ends ≡ suc (length p.ends) =
+        let longer : length (command_run o.path ccws p).ends ≡ suc (length p.ends) =
         ap (λ (x : Option ℕ). length (stepped_at o.path ccws p x).ends) next
-        ∙ one_longer p.ends (end_of i (ccw_at ccws i) (effect_at i).outcome) in
+        ∙ one_longer p.ends (end_at_word i (ccw_at ccws i) (effect_at i).outcome) in
         part_more o.path ccws o.acts s (length o.ends)
-        ∙ acted_nothing o.acts (stepped o.path ccws p)
-        (no_acts 0 (length o.ends + 1) (length (stepped o.path ccws p).ends) o.acts going.order (omega (arith, many, longer)))
+        ∙ acted_nothing o.acts (command_run o.path ccws p)
+        (no_acts 0 (length o.ends + 1) (length (command_run o.path ccws p).ends) o.acts going.order (omega (arith, many, longer)))
         ∙ ap (λ (x : Option ℕ). stepped_at o.path ccws p x) next
 
 -- Ends
@@ -214,12 +210,12 @@ module _ (plans : Plans) (empty : PlainState) (h : History) (legal : IsLegal pla
         ∙ ap (λ (k : ℕ). all_reset_in (record (part_of s o.path ccws o.acts k).state
         { paths = with_sense (part_of s o.path ccws o.acts k).state.paths o.path (last_sense (o.ends ++ e ∷ [])) }) h.waiting) one_less
         ∙ ap (λ (x : Option Sense). all_reset_in (record p.state { paths = with_sense p.state.paths o.path x }) h.waiting)
-        (last_sense_is o.ends e)
+        (last_is o.ends e)
 
   -- It ended as on the plain device
 
   module _ (going : IsGoing plans s h.items o (edited_next plans s h.items o)) (i : ℕ) (next : p.next ≡ Some i) (e : CommandEnd)
-      (end_is : e ≡ end_of i (ccw_at ccws i) (effect_at plans s h.items o i).outcome)
+      (end_is : e ≡ end_at_word i (ccw_at ccws i) (effect_at plans s h.items o i).outcome)
       (may : MayEdit p.state p.stance (effect_at plans s h.items o i).edit) where
     abbrev q : Part
     q = ended_with ccws p i (effect_at plans s h.items o i)
@@ -311,7 +307,7 @@ module _ (plans : Plans) (empty : PlainState) (h : History) (plain : IsPlain pla
 
   -- an end as on the plain device
   pub end_keeps_plain : (i : ℕ) → (open_part plans (replay plans empty h.items) o).next ≡ Some i → (e : CommandEnd)
-      → e ≡ end_of i (ccw_at (program_of plans o.path o.ordinal) i) (effect_at plans (replay plans empty h.items) h.items o i).outcome
+      → e ≡ end_at_word i (ccw_at (program_of plans o.path o.ordinal) i) (effect_at plans (replay plans empty h.items) h.items o i).outcome
       → MayEdit (open_part plans (replay plans empty h.items) o).state (open_part plans (replay plans empty h.items) o).stance
       (effect_at plans (replay plans empty h.items) h.items o i).edit
       → IsPlain plans empty (ended h e)

@@ -31,7 +31,7 @@ use Rattle.device_defs.specs.Events.{losing, lose, background, second_told, seco
 use Rattle.device_defs.specs.Orders as O
 use Rattle.device_defs.specs.Orders.{lend}
 use Rattle.device_defs.specs.Outcomes.{Turn, settles, checks, ends_with, told_step, turned, turned_by, sense_kept, program_over, again}
-use Rattle.device_defs.specs.Owed.{hear, ended, waiting_count}
+use Rattle.device_defs.specs.Owed.{hear, noted_end, waiting_count}
 use Rattle.device_defs.specs.Second.{second_part}
 use Rattle.device_defs.specs.Store.{Origin, OfCommand, OfCut, OfBackground, HalfWrite, Store, tracks_of}
 use Rattle.device_laws.proofs.Always.{Always, always_done, always_try, always_then}
@@ -86,7 +86,7 @@ module _ {F P H R : Type 0} (c : Contents F P H R) where
       ((s : Store F P H) → Always (body (record (event_begun d) { store = s })) (λ y a. q y.history a)) → Always (event c d body) (λ y a. q y.history a)
   event_history d body q h =
       always_then {p = λ y a. q y.history a} (always_then (always_any (hear c 960 (event_begun d).store)) (λ s _ _. h s))
-      (λ y a g. always_then (always_any (ended c (waiting_count c d.store) y.store)) (λ z _ _. always_done g))
+      (λ y a g. always_then (always_any (noted_end c (waiting_count c d.store) y.store)) (λ z _ _. always_done g))
 
   pub loss_told : (d : Device F P H) (loss : Loss) → Always (lose c d loss) (λ y (_ : Unit {0}). HasActed d.history y.history)
   unfolding V.lose
@@ -104,7 +104,7 @@ module _ {F P H R : Type 0} (c : Contents F P H R) where
   unfolding O.lend
   lend_told d to =
       always_then {S = Device F P H} {A = Unit {0}} {f = event_ended c d} {p = λ y _. y.history ≡ d.history} (always_done refl)
-      (λ y a g. always_then (always_any (ended c (waiting_count c d.store) y.store)) (λ z _ _. always_done g))
+      (λ y a g. always_then (always_any (noted_end c (waiting_count c d.store) y.store)) (λ z _ _. always_done g))
 
   -- A command
 

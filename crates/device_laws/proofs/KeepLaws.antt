@@ -26,7 +26,7 @@ use Rattle.device_defs.specs.Cutting as U
 use Rattle.device_defs.specs.Cutting.{half_cut, powered_off, power, reset}
 use Rattle.device_defs.specs.Device.{Device, with_store, event_begun, event}
 use Rattle.device_defs.specs.Events as E
-use Rattle.device_defs.specs.Events.{one_more, second_of, second, background, losing, lose}
+use Rattle.device_defs.specs.Events.{one_loss_more, second_of, second, background, losing, lose}
 use Rattle.device_defs.specs.Owed.{waiting_count}
 use Rattle.device_defs.specs.Peek as J
 use Rattle.device_defs.specs.Peek.{Peeked, peek_track, peek}
@@ -185,7 +185,7 @@ module _ {F P H R K : Type 0} (c : Contents F P H R) (hears : Hearing Image K) (
       event_kept (kept d.store) refl refl refl refl losses_before refl (background c d) (background_based c d)
       (background_goes c d.plans d.history d (itself d)) r
 
-  pub loss_kept : (loss : Loss) (a : Unit {0}) → AreWithin (one_more d.store.counts.losses loss) p.losses → Ran (λ ok. Unit {0}) hears (lose c d loss) u e a z →
+  pub loss_kept : (loss : Loss) (a : Unit {0}) → AreWithin (one_loss_more d.store.counts.losses loss) p.losses → Ran (λ ok. Unit {0}) hears (lose c d loss) u e a z →
       StaysInTurn p e (handed_then v z) z
   loss_kept loss a within r =
       event_kept (with_one_loss loss (kept d.store)) refl refl refl refl within refl (lose c d loss) (lose_based c d loss)
@@ -194,7 +194,7 @@ module _ {F P H R K : Type 0} (c : Contents F P H R) (hears : Hearing Image K) (
 -- a loss of a device that is lent and has no data of cache fast write
 pub lent_kept : {F P H R K : Type 0} (c : Contents F P H R) {hears : Hearing Image K} (p : Pledge) (v : Handed) (d e : Device F P H) (u z : Outside R K)
     (loss : Loss) (a : Unit {0}) → StaysInTurn p d v u → is_some d.store.lent ≡ true → has_loose d.store ≡ false →
-    AreWithin (one_more d.store.counts.losses loss) p.losses → Ran (λ ok. Unit {0}) hears (lose c d loss) u e a z → StaysInTurn p e (handed_then v z) z
+    AreWithin (one_loss_more d.store.counts.losses loss) p.losses → Ran (λ ok. Unit {0}) hears (lose c d loss) u e a z → StaysInTurn p e (handed_then v z) z
 lent_kept c p v d e u z loss a k lent firm within r =
     let same : e.history ≡ d.history = always_ran (lose c d loss) (λ y _. y.history ≡ d.history) (lent_loses c d loss lent firm).holds r in
     kept_by p v d e u z k (λ is. ap (λ (h : History). length h.items) same ∙ k.keeps.still is) (with_one_loss loss (kept d.store)) refl refl refl refl within

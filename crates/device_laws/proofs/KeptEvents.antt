@@ -23,7 +23,7 @@ use Rattle.device_defs.specs.Device.{Device, with_store, event_begun, quiet_even
 use Rattle.device_defs.specs.Events as E
 use Rattle.device_defs.specs.Events.{losing, second_turn, command_ended, second_ended, second_of, second, background, lose}
 use Rattle.device_defs.specs.Outcomes.{Turn, ends_with, settles, checks, sense_kept, program_over, turned_by}
-use Rattle.device_defs.specs.Owed.{hear, waiting_count, ended as event_end}
+use Rattle.device_defs.specs.Owed.{hear, waiting_count, noted_end as event_end}
 use Rattle.device_defs.specs.Second.{second_part}
 use Rattle.device_defs.specs.Store.{Origin, OfCommand, OfCut, OfBackground, HalfWrite, Store, tracks_of}
 use Rattle.device_laws.proofs.Always as A

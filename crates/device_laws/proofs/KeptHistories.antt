@@ -38,6 +38,7 @@ use Rattle.plain_defs.specs.Journal.{last_sense}
 use Rattle.device_defs.specs.Device.{all_acted}
 use Rattle.device_defs.specs.Excused.{is_data_check}
 use Rattle.device_defs.specs.Pledge.{is_fresh, fresh_count, is_uncut, is_kept_item, are_kept, is_kept_journal, ends_with_data_check}
+use Rattle.device_laws.proofs.Bools.{and_left, and_right}
 
 -- Counts of items
 
@@ -90,14 +91,6 @@ no_check_resets [] = tt
 no_check_resets (path ∷ paths) = (refl, no_check_resets paths)
 
 -- Kept journals
-
-and_left : (x y : Bool) → (x && y) ≡ true → x ≡ true
-and_left true y e = refl
-and_left false y e = absurd (cc)
-
-and_right : (x y : Bool) → (x && y) ≡ true → y ≡ true
-and_right true y e = e
-and_right false y e = absurd (cc)
 
 and_both : (x y : Bool) → x ≡ true → y ≡ true → (x && y) ≡ true
 and_both true y e f = f

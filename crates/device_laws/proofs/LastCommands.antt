@@ -60,7 +60,7 @@ use Rattle.device_defs.specs.Events as V
 use Rattle.device_defs.specs.Events.{second_turn, command_ended, second_ended, second_of, second}
 use Rattle.device_defs.specs.Marks.{MarksDevice, MarksStore}
 use Rattle.device_defs.specs.Outcomes.{Turn, program_over, sense_kept, turned_by, turned, settles}
-use Rattle.device_defs.specs.Owed.{begun, waiting_count}
+use Rattle.device_defs.specs.Owed.{noted_begin, waiting_count}
 use Rattle.device_defs.specs.Store.{Origin, OfCommand, HalfWrite, tracks_of}
 use Rattle.device_laws.proofs.DeviceHistory.{index_is}
 use Rattle.device_laws.proofs.Had.{Had, had_done, had_try, had_if, had_then}
@@ -153,10 +153,10 @@ module _ (num : ℕ) (empty : PlainState) (d : MarksDevice) (f : Follows num emp
         ∙ ap (λ (l : List Item). open_part d.plans (replay d.plans empty l) entry) (sym same)
 
     command_is : last_command d.plans (replay d.plans empty d.history.items) the_entry
-        ≡ X.command_at words entry.path the_part (Some (index_of chain.at.next))
+        ≡ X.last_command_at words entry.path the_part (Some (index_of chain.at.next))
     command_is =
         ap (λ (p : Part). X.command_in words entry.path p) part_is
-        ∙ ap (λ (k : Option ℕ). X.command_at words entry.path the_part k) (sym here.hand.next ∙ index_is chain.at.next some_next)
+        ∙ ap (λ (k : Option ℕ). X.last_command_at words entry.path the_part k) (sym here.hand.next ∙ index_is chain.at.next some_next)
 
     entry_tells : Tells the_entry
     entry_tells = record {
@@ -262,13 +262,13 @@ module _ (num : ℕ) (empty : PlainState) (d : MarksDevice) (f : Follows num emp
   answered_adds z same last (progresses.Write q e) none = absurd none
 
   event_adds : {A : Type 0} (body : MarksDevice → Interaction Bool Image MarksDevice A) →
-      ((s : MarksStore) → core_of s ≡ core_of (begun d.store) → AddsBehind (body (record (event_begun d) { store = s }))) → AddsBehind (event by_plain d body)
+      ((s : MarksStore) → core_of s ≡ core_of (noted_begin d.store) → AddsBehind (body (record (event_begun d) { store = s }))) → AddsBehind (event by_plain d body)
   event_adds body h =
-      had_then (had_then (hear_same 960 (begun d.store)) (λ s _ e. h s e))
+      had_then (had_then (hear_same 960 (noted_begin d.store)) (λ s _ e. h s e))
       (λ y a g. had_then (ended_same (waiting_count by_plain d.store) y.store) (λ z _ e. had_done g))
 
   module _ (now : d.chain ≡ Some chain) (whole : d.store.half ≡ None) where
-    module _ (s : MarksStore) (e : core_of s ≡ core_of (begun d.store)) where
+    module _ (s : MarksStore) (e : core_of s ≡ core_of (noted_begin d.store)) where
       abbrev with_it : MarksDevice
       with_it = record (event_begun d) { store = s }
 

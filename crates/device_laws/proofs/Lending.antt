@@ -233,7 +233,7 @@ module _ {F P H R : Type 0} (c : Contents F P H R) where
   abbrev Numbered : Store F P H → Store F P H → Unit {0} → Type 0
   Numbered s z u = z.device ≡ s.device
 
-  ended_number : (before : ℕ) (s : Store F P H) → Always (O.ended c before s) (Numbered s)
+  ended_number : (before : ℕ) (s : Store F P H) → Always (O.noted_end c before s) (Numbered s)
   ended_number before s = asks_always (ended_asks c (λ z. z.device ≡ s.device) (λ z t e. e) before s refl)
 
   unframed_number : (s : Store F P H) (t : ℕ) (b : Bool) →

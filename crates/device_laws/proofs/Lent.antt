@@ -10,7 +10,7 @@ use Rattle.plain_defs.specs.History.{
   acted_in,
   acted as act_done,
   reset_in,
-  reset as history_reset,
+  reset_in_history as history_reset,
   lost_power_in,
   lost_power,
   has_used,
@@ -42,7 +42,7 @@ use Rattle.device_defs.specs.Losses as L
 use Rattle.device_defs.specs.Losses.{over, without_frame, settled, patch_lost, cache_lost, store_lost, framed_image, all_firm_told}
 use Rattle.device_defs.specs.Marks.{MarksStore, MarksDevice, marks_of, frame_mark, patch_mark, half_mark}
 use Rattle.device_defs.specs.Owed as O
-use Rattle.device_defs.specs.Owed.{is_clean, dropped, heard, hear, begun, waiting_count, ended}
+use Rattle.device_defs.specs.Owed.{is_clean, dropped, heard, hear, noted_begin, waiting_count, noted_end}
 use Rattle.device_defs.specs.Sound.{DeviceStore}
 use Rattle.device_defs.specs.Store.{
   HalfWrite,
@@ -277,7 +277,7 @@ same_lent v w v' w' s z h k i e o = record {
 }
 
 ended_lent : (before : ℕ) (v w : List Track) (s : DeviceStore) (h : Held) → IsLentStore v w s h →
-    Twins Away (ended contents before s) (ended by_plain before (marks_of v w s)) h
+    Twins Away (noted_end contents before s) (noted_end by_plain before (marks_of v w s)) h
 ended_lent before v w s h i =
     twin_weaker (twin_always (ended_twin before v w s h (lent_ordered v w s h i)) (ending_changes_no_mark contents before s i.ground.sizes))
     (λ v' w' z a b k f. same_lent v w v' w' s z h k i f.1 f.0.order)
@@ -383,8 +383,8 @@ pub record LeavesLent {A : Type 0} (v w : List Track) (d : WholeDevice) (a b : A
 
 module _ {A : Type 0} where
   ending : (before : ℕ) (v w : List Track) (d : WholeDevice) (a b : A) (h : Held) → LeavesLent v w d a b h →
-      WholeTwins LeavesLent (and_then (ended contents before d.store) (λ z _. Done (record d { store = z }) a))
-      (and_then (ended by_plain before (marks_of v w d.store)) (λ z _. Done (record (marks_device v w d) { store = z }) b)) h
+      WholeTwins LeavesLent (and_then (noted_end contents before d.store) (λ z _. Done (record d { store = z }) a))
+      (and_then (noted_end by_plain before (marks_of v w d.store)) (λ z _. Done (record (marks_device v w d) { store = z }) b)) h
   ending before v w d a b h x =
       store_then (λ z _. Done (record d { store = z }) a) (λ z _. Done (record (marks_device v w d) { store = z }) b)
       (ended_lent before v w d.store h x.lent.store)
@@ -397,8 +397,8 @@ module _ {A : Type 0} where
       whole_then (event_ended contents d) (event_ended by_plain (marks_device v w d)) x
       (λ v' w' z a b k o.
       subst (λ (n : ℕ). WholeTwins LeavesLent
-      (and_then (ended contents (waiting_count contents d.store) z.store) (λ y _. Done (record z { store = y }) a))
-      (and_then (ended by_plain n (marks_of v' w' z.store)) (λ y _. Done (record (marks_device v' w' z) { store = y }) b)) k)
+      (and_then (noted_end contents (waiting_count contents d.store) z.store) (λ y _. Done (record z { store = y }) a))
+      (and_then (noted_end by_plain n (marks_of v' w' z.store)) (λ y _. Done (record (marks_device v' w' z) { store = y }) b)) k)
       (sym (count_twin v w d.store)) (ending (waiting_count contents d.store) v' w' z a b k o))
 
   event_lent : (v w : List Track) (d : WholeDevice) (h : Held) (f : WholeDevice → Interaction (List ℕ) Image WholeDevice A)
@@ -410,7 +410,7 @@ module _ {A : Type 0} where
       quiet_lent v w d h (λ z. and_then (hear contents 960 z.store) (λ s _. f (record z { store = s })))
       (λ z. and_then (hear by_plain 960 z.store) (λ s _. g (record z { store = s })))
       (store_then (λ s _. f (record (event_begun d) { store = s })) (λ s _. g (record (event_begun (marks_device v w d)) { store = s }))
-      (hear_lent 960 v w (begun d.store) h (acts_lent v w d.store h [] i.store))
+      (hear_lent 960 v w (noted_begin d.store) h (acts_lent v w d.store h [] i.store))
       (λ v' w' s _ _ k x. body v' w' s k x))
 
 pub background_lent : (v w : List Track) (d : WholeDevice) (h : Held) → IsLent v w d h →

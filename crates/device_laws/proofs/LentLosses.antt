@@ -14,10 +14,11 @@ use Rattle.device_defs.specs.Events as E
 use Rattle.device_defs.specs.Events.{lose}
 use Rattle.device_defs.specs.Image.{read_counted}
 use Rattle.device_defs.specs.Losses.{down}
-use Rattle.device_defs.specs.Owed.{begun, waiting_count, ended}
+use Rattle.device_defs.specs.Owed.{noted_begin, waiting_count, noted_end}
 use Rattle.device_defs.specs.Store.{Store, has_loose, with_stale}
 use Rattle.device_defs.specs.Writing.{write_counted}
 use Rattle.device_laws.proofs.Always.{Always, always_done, always_then}
+use Rattle.device_laws.proofs.HeldPlaces.{never}
 use Rattle.device_laws.proofs.KeptEvents.{always_any}
 use Rattle.device_laws.proofs.walks.Within.{always, within_always, within_weaker}
 use Rattle.device_laws.proofs.walks.Moves.{Losing, Goes, stays, IsKept, moves_keep}
@@ -38,10 +39,6 @@ record IsStill (x : Away) : Type 0 where
   lent : is_some x.lent ≡ true
   firm : is_some (least (x.cylinders * 15) (λ t. slice_index_or x.loose t false)) ≡ false
   acts : x.acts ≡ []
-
-never : {X : Type 0} (b : Bool) → b ≡ true → b ≡ false → X
-never true e f = absurd (cc)
-never false e f = absurd (cc)
 
 module _ {F P H R : Type 0} (c : Contents F P H R) where
   abbrev Stays : Store F P H → Type 0
@@ -67,28 +64,30 @@ module _ {F P H R : Type 0} (c : Contents F P H R) where
     falls_reading = λ m n z side pair is f. down_still (read_counted z false) side f;
     falls_writing = λ m n z side pair is f. down_still (write_counted z false) side f;
     falls = λ n z side lost f. down_still z side f;
-    takes = λ n z t f. marked_still z t false z.b.up f;
+    takes = λ n z t is up f. marked_still z t false z.b.up f;
     levels = λ n z side t f. level_still z side t f;
-    spoils = λ n z t is alone f. f;
+    spoils = λ n z t is alone why f. f;
     stales = λ n z t other away f. marked_still z t true z.paired f;
-    firms = λ n z t is loose f. absurd (cc);
+    firms = λ n z t is loose why f. absurd (cc);
+    firms_taken = λ m n z t is loose up wrote f. absurd (cc);
     marks = λ n z t g bare is clean f. never (is_some z.lent) f.lent bare.lent;
     hardens = λ n z t bare loose f. never (is_some z.lent) f.lent bare.lent;
     loses = λ n z t bare none half f. never (is_some z.lent) f.lent bare.lent;
     drops = λ n z t clean f. f;
-    fills = λ n z t i patched is f. f;
-    frames = λ n z t o f. f;
-    unframes = λ n z t f. f;
+    fills = λ n z t i patched is level f. f;
+    frames = λ n z t o bare why f. f;
+    renews = λ n z t i g bare is f. f;
+    unframes = λ n z t may f. f;
     patches = λ n z t f. f;
     unpatches = λ n z t slot f. f;
     queues = λ n z t room f. f;
-    dequeues = λ n z ts f. f;
+    dequeues = λ n z ts less f. f;
     edits = λ n z t e f. f;
-    goes_fast = λ n z t i e slot f. f;
+    goes_fast = λ n z t i e slot there f. f;
     goes_provisionally = λ n z t i e is f. absurd (cc);
-    goes_back = λ n z some f. never (has_loose z) some f.firm;
+    goes_back = λ n z may some f. never (has_loose z) some f.firm;
     loses_loose = λ n z lossy some f. never (has_loose z) some f.firm;
-    closes = λ n z f. f;
+    closes = λ n z why f. f;
     cuts = λ n z h bypass e is f. f;
     notes = λ n z noted lossy f. f;
     pays = λ n z t o f. f;
@@ -107,6 +106,6 @@ module _ {F P H R : Type 0} (c : Contents F P H R) where
   unfolding E.lose
   lent_loses d loss lent firm =
       always_then
-      (always_then (moves_still loss (begun d.store) (record { lent = lent; firm = firm; acts = refl }) (hear_goes 960 (begun d.store) stays))
+      (always_then (moves_still loss (noted_begin d.store) (record { lent = lent; firm = firm; acts = refl }) (hear_goes 960 (noted_begin d.store) stays))
       (λ s _ f. always_then (moves_still loss s f (losing_goes s loss refl stays)) (λ y _ g. always_done (acts_none d y g.acts))))
-      (λ y a h. always_then (always_any (ended c (waiting_count c d.store) y.store)) (λ z _ _. always_done h))
+      (λ y a h. always_then (always_any (noted_end c (waiting_count c d.store) y.store)) (λ z _ _. always_done h))

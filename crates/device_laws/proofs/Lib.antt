@@ -1,4 +1,6 @@
 pub mod TrackMarks
+pub mod HeldPlaces
+pub mod Bools
 pub mod Changes
 pub mod Settled
 pub mod Sweeps
@@ -103,7 +105,6 @@ pub mod Unlost
 pub mod UnlostParts
 pub mod Lent
 pub mod Lending
-pub mod UnlostEvents
 pub mod Harmless
 pub mod LossLaws
 pub mod Restoring
@@ -122,8 +123,6 @@ pub mod OneFailed
 pub mod OneFailedEvents
 pub mod FramesKept
 pub mod WholeLosses
-pub mod FramesParts
-pub mod FramesEvents
 pub mod FramesLaws
 pub mod Recoveries
 pub mod RecoveryEvents

@@ -50,14 +50,14 @@ use Rattle.device_defs.specs.Contents.{Contents}
 use Rattle.device_defs.specs.Cutting as U
 use Rattle.device_defs.specs.Cutting.{half_cut, counts_one_by, path_cut, reset_by, reset, powered_off, power}
 use Rattle.device_defs.specs.Device.{Device, all_acted, with_store, event_begun, event}
-use Rattle.device_defs.specs.Effects.{acted as store_acted, gone_back, loose_lost}
+use Rattle.device_defs.specs.Effects.{act_noted as store_acted, gone_back, loose_lost}
 use Rattle.device_defs.specs.Events as E
 use Rattle.device_defs.specs.Events.{with_loss, lost_by, losing, second_turn, command_ended, second_ended, second_of, second, background, lose}
 use Rattle.device_defs.specs.Excused.{losses_of, loose_losses}
 use Rattle.device_defs.specs.Losses as L
 use Rattle.device_defs.specs.Losses.{over, without_frame, settled, cache_lost, all_firm_told}
 use Rattle.device_defs.specs.Outcomes.{Turn, ends_with, settles, checks, sense_kept, program_over, turned_by}
-use Rattle.device_defs.specs.Owed.{waiting_count, ended as event_end}
+use Rattle.device_defs.specs.Owed.{waiting_count, noted_end as event_end}
 use Rattle.device_defs.specs.Store.{Origin, OfCommand, OfCut, OfBackground, HalfWrite, Store, tracks_of, has_loose}
 use Rattle.device_laws.specs.Unharmed.{running_losses, all_losses}
 use Rattle.device_laws.proofs.Always as A
@@ -260,11 +260,11 @@ module _ {F P H R : Type 0} (c : Contents F P H R) (n : ℕ) where
   second_ended_has d t (OfCut bypass) done f = always_done f
   second_ended_has d t OfBackground done f = always_done f
 
-  second_of_has : (d : Device F P H) (o : Option (HalfWrite H)) → loss_count d.store.acts ≡ 0 → Has n d → Holds (second_of c d o)
-  second_of_has d (Some w) none f =
-      always_then (always_gone (second_steady c d.store w))
+  second_of_has : (d : Device F P H) (o : Option (HalfWrite H)) → d.store.half ≡ o → loss_count d.store.acts ≡ 0 → Has n d → Holds (second_of c d o)
+  second_of_has d (Some w) is none f =
+      always_then (always_gone (second_steady c d.store w is))
       (λ s done e. second_ended_has (with_store d s) w.track w.origin done (store_has n d s (e ∙ none) f))
-  second_of_has d None none f = always_done f
+  second_of_has d None is none f = always_done f
 
   event_has : {A : Type 0} (q : Device F P H → Type 0) → ((y : Device F P H) (s : Store F P H) → q y → q (record y { store = s })) → (d : Device F P H)
       (body : Device F P H → Interaction R Image (Device F P H) A) →
@@ -285,7 +285,7 @@ module _ {F P H R : Type 0} (c : Contents F P H R) (n : ℕ) where
   pub second_has : (d : Device F P H) → Has n d → Holds (second c d)
   unfolding E.second
   second_has d f =
-      event_has (Has n) (λ y s g. g) d (λ z. second_of c z z.store.half) (λ s none. second_of_has (record (event_begun d) { store = s }) s.half none f)
+      event_has (Has n) (λ y s g. g) d (λ z. second_of c z z.store.half) (λ s none. second_of_has (record (event_begun d) { store = s }) s.half refl none f)
 
   pub background_has : (d : Device F P H) → Has n d → Holds (background c d)
   unfolding E.background

@@ -30,7 +30,7 @@ use Rattle.std.proofs.Common.{
   ◌∷◌,
 }
 use Rattle.std.specs.List.{fold}
-use Rattle.std.specs.Prelude.{◌*◌, ◌&&◌, ◌||◌, not, if◌then◌else◌}
+use Rattle.std.specs.Prelude.{◌*◌, if◌then◌else◌}
 use Rattle.ckd_chain.specs.State.{ChainState}
 use Rattle.ckd_types.specs.declared.geometry.Geometry.{Geometry}
 use Rattle.ckd_types.specs.declared.paths.Side.{Side}
@@ -53,8 +53,8 @@ use Rattle.device_defs.specs.Command.{command}
 use Rattle.device_defs.specs.Contents.{Contents, contents}
 use Rattle.device_defs.specs.Cutting.{power, reset}
 use Rattle.device_defs.specs.Device.{Device}
-use Rattle.device_defs.specs.Events.{second, background, lose, one_more}
-use Rattle.device_defs.specs.Orders.{join, split, replace, hold, resume}
+use Rattle.device_defs.specs.Events.{second, background, lose, one_loss_more}
+use Rattle.device_defs.specs.Orders.{join, split, replace, hold_side, resume}
 use Rattle.device_defs.specs.Sound.{DeviceStore}
 use Rattle.device_defs.specs.Start as S
 use Rattle.device_defs.specs.Start.{start}
@@ -79,8 +79,9 @@ use Rattle.device_laws.proofs.Harmless.{cache_goes, power_goes, reset_goes}
 use Rattle.device_laws.proofs.KeepLaws.{always_ran, ran_same}
 use Rattle.device_laws.proofs.Lucky.{top, failed_in, never_falls, where_none_failed, counted_rises}
 use Rattle.device_laws.proofs.TrackMarks.{IsFaithful}
-use Rattle.device_laws.proofs.Unlost.{core_of, Fine}
-use Rattle.device_laws.proofs.UnlostEvents.{DeviceGoes, marks_well, command_goes, background_goes, second_event_goes}
+use Rattle.device_laws.proofs.Unlost.{core_of, Fine, has_a}
+use Rattle.device_laws.proofs.UnlostParts.{DeviceGoes, marks_well}
+use Rattle.device_laws.proofs.invariants.NoTrackIsLost.{command_goes, background_goes, second_event_goes}
 
 -- a device that is in order has good marks
 pub order_marks : (v w : List Track) (s : DeviceStore) (h : Held) → IsInOrder v w s h → MarksAreGood contents s
@@ -96,11 +97,6 @@ order_marks v w s h i = record {
   there = i.there;
 }
 
-pub has_a : (up stale b : Bool) → up ≡ true → stale ≡ false → ((up && not stale) || b) ≡ true
-has_a true true b e f = absurd (cc)
-has_a true false b e f = refl
-has_a false stale b e f = absurd (cc)
-
 pub some_counted : (n : ℕ) → counted n ≡ 0 → ⊥
 unfolding V.counted
 some_counted n is = none_of (n + 1) top (omega arith) (omega arith) is where
@@ -109,7 +105,7 @@ some_counted n is = none_of (n + 1) top (omega arith) (omega arith) is where
 
 -- Nothing lost
 
-none_less : (n m : ℕ) → n ≤ m → m ≡ 0 → n ≡ 0
+pub none_less : (n m : ℕ) → n ≤ m → m ≡ 0 → n ≡ 0
 none_less n m le is = omega (arith, le, is)
 
 module _ {F P H : Type 0} where
@@ -167,7 +163,7 @@ module _ {F P H R K : Type 0} (c : Contents F P H R) {hears : Hearing Image K} w
     pub command_loses : {a : Option Stepped} → d.store.half ≡ None → ((chain : ChainState) → d.chain ≡ Some chain → IsChainOf d.store.cylinders chain) →
         Ran (λ ok. Unit {0}) hears (command c d) u e a z → e.store.counts.failed ≡ d.store.counts.failed → e.store.lost ≡ d.store.lost
     command_loses none chains r same =
-        (fine_ran d (command c d) refl (command_based c d) lt (command_goes c faithful d chains (marks_well c d.store good) none) r same).lost
+        (fine_ran d (command c d) refl (command_based c d) lt (command_goes c faithful d (marks_well c d.store good)) r same).lost
 
     pub background_loses : {a : Option Did} → Ran (λ ok. Unit {0}) hears (background c d) u e a z → e.store.counts.failed ≡ d.store.counts.failed →
         e.store.lost ≡ d.store.lost
@@ -190,7 +186,7 @@ module _ {F P H R K : Type 0} (c : Contents F P H R) {hears : Hearing Image K} w
         ((chain : ChainState) → d.chain ≡ Some chain → IsChainOf d.store.cylinders chain) → Ran (λ ok. Unit {0}) hears (command c d) u e a z →
         IsUnharmed e.store
     command_unharmed good none chains r =
-        event_unharmed (command c d) (command_based c d) (λ _. command_goes c faithful d chains (marks_well c d.store good) none) r
+        event_unharmed (command c d) (command_based c d) (λ _. command_goes c faithful d (marks_well c d.store good)) r
 
     pub background_unharmed : {a : Option Did} → MarksAreGood c d.store → Ran (λ ok. Unit {0}) hears (background c d) u e a z → IsUnharmed e.store
     background_unharmed good r =
@@ -228,13 +224,13 @@ module _ {F P H R K : Type 0} (c : Contents F P H R) {hears : Hearing Image K} w
     power_unharmed r = cache_event (power c d) (power_based c d) (λ whole. power_goes c d whole) r
 
 module _ {F P H : Type 0} (d : Device F P H) (un : IsUnharmed d.store) where
-  pub held_unharmed : IsUnharmed (hold d).store × IsUnharmed (resume d).store
+  pub held_unharmed : IsUnharmed (hold_side d).store × IsUnharmed (resume d).store
   held_unharmed = (
     λ n. whole_hold (un (record { sides = n.sides; failed = n.failed; store = n.store })),
     λ n. whole_resume (un (record { sides = n.sides; failed = n.failed; store = n.store })),
   )
     where
-      whole_hold : IsWholeOnA d.store → IsWholeOnA (hold d).store
+      whole_hold : IsWholeOnA d.store → IsWholeOnA (hold_side d).store
       whole_hold w = record { up = w.up; level = w.level; kept = w.kept }
 
       whole_resume : IsWholeOnA d.store → IsWholeOnA (resume d).store
@@ -300,10 +296,10 @@ module _ {F P H R K : Type 0} (c : Contents F P H R) {hears : Hearing Image K} (
       event_counted (power c d) (with_one_loss losses.Cache (kept d.store)) (omega (arith, more)) (power_based c d)
       (power_has c (all_losses d.history) d refl) r
 
-  lost_counted : (loss : Loss) {a : Unit {0}} → all_losses d.history + most_lost c (all_losses d.history) loss ≤ (one_more d.store.counts.losses loss).cache →
+  lost_counted : (loss : Loss) {a : Unit {0}} → all_losses d.history + most_lost c (all_losses d.history) loss ≤ (one_loss_more d.store.counts.losses loss).cache →
       Ran (λ ok. Unit {0}) hears (lose c d loss) u e a z → LossesAreCounted e
   lost_counted loss more r =
-      let same : e.store.counts.losses.cache ≡ (one_more d.store.counts.losses loss).cache =
+      let same : e.store.counts.losses.cache ≡ (one_loss_more d.store.counts.losses loss).cache =
       ap (λ (l : Losses). l.cache) (ran_same (lose_based c d loss) r).losses in
       let all = always_ran (lose c d loss) (λ y _. all_losses y.history ≤ all_losses d.history + most_lost c (all_losses d.history) loss)
       (lose_has c (all_losses d.history) d loss refl).holds r in

@@ -92,7 +92,7 @@ if_more false n le = (counted_more n le, counted_top n)
 abbrev pub failed_in : Base → ℕ
 failed_in b = b.counts.failed
 
-from : {R S A : Type 0} (i : Interaction R Image S A) {p q : S → A → Type 0} → Behind i p → ((s : S) (a : A) → p s a → q s a) → Behind i q
+pub from : {R S A : Type 0} (i : Interaction R Image S A) {p q : S → A → Type 0} → Behind i p → ((s : S) (a : A) → p s a → q s a) → Behind i q
 from i {p = p} h f = (always_weaker {i = i} {p = p} (record { holds = h }) f).holds
 
 module _ {R S X : Type 0} {base : S → Base} {may : Call → Type 0} where

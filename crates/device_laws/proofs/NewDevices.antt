@@ -59,7 +59,7 @@ map_replicate : {X Y : Type 0} (f : X → Y) (n : ℕ) (x : X) → map f (replic
 map_replicate f zero x = refl
 map_replicate f (suc n) x = ap (λ l. f x ∷ l) (map_replicate f n x)
 
-unpatched : (o : Option Image) → patched_by None o ≡ o
+pub unpatched : (o : Option Image) → patched_by None o ≡ o
 unpatched None = refl
 unpatched (Some i) = refl
 

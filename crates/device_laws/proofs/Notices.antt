@@ -2,11 +2,12 @@
 use Rattle.std.proofs.Common.{◌≡◌, ◌<◌, ◌≤◌, ℕ, Bool, true, false, Option, Some, None, length, refl, ap, ◌∙◌, arith, ◌⊎◌, inl, inr}
 use Rattle.std.proofs.lemmas.Bool.{cases_lt}
 use Rattle.std.proofs.lemmas.List.{length-set, get_or_past}
-use Rattle.std.specs.Prelude.{if◌then◌else◌, not}
+use Rattle.std.specs.Prelude.{if◌then◌else◌}
 use Rattle.device_defs.specs.Between.{HasSizes}
 use Rattle.device_defs.specs.Contents.{Contents}
-use Rattle.device_defs.specs.Owed.{is_clean, hear, ended}
+use Rattle.device_defs.specs.Owed.{is_clean, hear, noted_end}
 use Rattle.device_defs.specs.Store.{Store, no_debt, tracks_of, frame_at, with_frame, with_owed}
+use Rattle.device_laws.proofs.Bools.{not_true}
 use Rattle.device_laws.proofs.Always.{Always}
 use Rattle.device_laws.proofs.Changes as C
 use Rattle.device_laws.proofs.Changes.{rest_of, changed_frame}
@@ -31,11 +32,7 @@ module _ {F P H R : Type 0} (c : Contents F P H R) where
   clean_mark : (s : Store F P H) (t : ℕ) (o : Option F) → frame_at s t ≡ o → is_clean c o ≡ true → (track_at c s t).frame ≡ Some false
   unfolding M.track_at
   clean_mark s t None e f = absurd (cc)
-  clean_mark s t (Some g) e f = ap (frame_mark c) e ∙ ap Some (not_false (c.modified g) f)
-    where
-      not_false : (b : Bool) → not b ≡ true → b ≡ false
-      not_false true e = absurd (cc)
-      not_false false e = refl
+  clean_mark s t (Some g) e f = ap (frame_mark c) e ∙ ap Some (not_true (c.modified g) f)
 
   pub dropped_by : (s : Store F P H) (t : ℕ) (b : Bool) → is_clean c (frame_at s t) ≡ b → IsWell c s → Goes c s (if b then with_frame s t None else s)
   dropped_by s t true e w =
@@ -59,5 +56,5 @@ module _ {F P H R : Type 0} (c : Contents F P H R) where
   no_debt_left s z t f = record { sizes = record { are = simp length-set f.sizes.are }; rest = f.rest; marks = f.marks }
 
   -- the end of an event
-  pub ending_changes_no_mark : (before : ℕ) (s : Store F P H) → HasSizes s → Always (ended c before s) (λ y _. IsSame c s y)
+  pub ending_changes_no_mark : (before : ℕ) (s : Store F P H) → HasSizes s → Always (noted_end c before s) (λ y _. IsSame c s y)
   ending_changes_no_mark before s sizes = asks_always (ended_asks c (IsSame c s) (λ z t f. no_debt_left s z t f) before s (same_here s sizes))

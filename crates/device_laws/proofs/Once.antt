@@ -25,6 +25,7 @@ use Rattle.device_laws.proofs.Lucky.{
   top,
   failed_in,
   where_none_failed,
+  from,
 }
 use Rattle.device_laws.proofs.PoolWalks.{AsksPool, asks_done, asks_ask, asks_try}
 use Rattle.device_laws.proofs.QuietParts.{Quiet, quiet_done, quiet_try, quiet_ask, quiet_tell}
@@ -109,9 +110,6 @@ unfolding V.counted
 counted_is n lt = least_of (n + 1) top (omega (arith, lt)) where
   least_of : (x y : ℕ) → x < y + 1 → min x y ≡ x
   least_of x y lt = omega (arith, lt)
-
-from : {R S A : Type 0} (i : Interaction R Image S A) {p q : S → A → Type 0} → Behind i p → ((s : S) (a : A) → p s a → q s a) → Behind i q
-from i {p = p} h f = (always_weaker {i = i} {p = p} (record { holds = h }) f).holds
 
 one_more : (n m : ℕ) → m ≡ n → m ≡ n + 1 → ⊥
 one_more n m e f = omega (arith, e, f)

@@ -86,7 +86,9 @@ use Rattle.device_defs.specs.Store.{
   with_frame,
 }
 use Rattle.device_defs.specs.Writing as V
-use Rattle.device_defs.specs.Writing.{Wrote, write_counted, taken_a, taken_b, firm_first, failed_a, write_first, write_second, opened}
+use Rattle.device_defs.specs.Writing.{Wrote, write_counted, taken_a, taken_b, firm_first, failed_a, write_first, write_second, write_opened}
+use Rattle.device_laws.proofs.Bools.{or_left, or_right, up_level}
+use Rattle.device_laws.proofs.HeldPlaces.{never}
 use Rattle.device_laws.proofs.Lucky.{Lucky, lucky_done, lucky_read, lucky_write, lucky_tell, lucky_then, lucky_weaker, lucky_if}
 use Rattle.device_laws.proofs.Choices.{choice_fits}
 use Rattle.device_laws.proofs.Once.{
@@ -150,20 +152,6 @@ pub record OnSideA {H : Type 0} (x : Sides H) : Type 0 where
   pub up : x.a.up ≡ true
   pub level : (q : ℕ) → stale_at x.a q ≡ false
   pub kept : (q : ℕ) → get_or x.lost q false ≡ false
-
-pub never : {X : Type 0} (b : Bool) → b ≡ true → b ≡ false → X
-never true e f = absurd (cc)
-never false e f = absurd (cc)
-
-pub up_level : (up x : Bool) → up ≡ true → x ≡ false → (up && not x) ≡ true
-up_level up x e f = rw (e, f) refl
-
-pub or_right : (x y : Bool) → y ≡ true → (x || y) ≡ true
-or_right true y e = refl
-or_right false y e = e
-
-or_left : (x y : Bool) → x ≡ true → (x || y) ≡ true
-or_left x y e = rw e refl
 
 stale_other : (l : List Bool) (t q : ℕ) → (q == t) ≡ false → get_or l q false ≡ false → get_or (set l t true) q false ≡ false
 stale_other l t q ne e = get_or-set_other l t q true false (eqb-false q t ne) ∙ e
@@ -413,7 +401,7 @@ module _ {F P H R : Type 0} (c : Contents F P H R) where
   whole_quiet : (s : Store F P H) (t : ℕ) (i : Image) (e : Edit) (bypass : Bool) → Quiet (whole c s t i e bypass)
   whole_quiet s t i e bypass = quiet_tell (λ _. quiet_then (λ y _. Done y Whole) (done_quiet c _ t i bypass) (λ y _. quiet_done))
 
-  pub opened_quiet : (s : Store F P H) (t : ℕ) (i : Image) (origin : Origin) (was_loose : Bool) → Quiet (opened c s t i origin was_loose)
+  pub opened_quiet : (s : Store F P H) (t : ℕ) (i : Image) (origin : Origin) (was_loose : Bool) → Quiet (write_opened c s t i origin was_loose)
   opened_quiet s t i origin was_loose = quiet_if was_loose (quiet_ask (λ _. quiet_done)) quiet_done
 
   abbrev TookSo : Store F P H → Took → Type 0

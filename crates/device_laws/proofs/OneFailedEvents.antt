@@ -35,7 +35,6 @@ use Rattle.ckd_types.specs.declared.paths.Side.{Side}
 use Rattle.ckd_types.specs.declared.paths.Side.TheVariants as sides
 use Rattle.plain_defs.specs.History.{OpenEntry}
 use Rattle.track_image.specs.Image.{Image}
-use Rattle.track_table.specs.Tracks.{least}
 use Rattle.device_outside.specs.Interaction.{Interaction, Done, and_then}
 use Rattle.device_defs.specs.declared.answers.Did.{Did}
 use Rattle.device_defs.specs.declared.answers.Did.TheVariants.{Recovered, Destaged}
@@ -55,7 +54,7 @@ use Rattle.device_defs.specs.Background.{
   recover,
   copy_by,
   staged_bytes,
-  granted,
+  staging_granted,
   stage,
   destage_first,
   stage_first,
@@ -101,7 +100,8 @@ use Rattle.device_laws.proofs.LossEvents.{begun_same}
 use Rattle.device_laws.proofs.Lucky.{Lucky, lucky_done, lucky_then, lucky_weaker}
 use Rattle.device_laws.proofs.Notices.{hearing_keeps_good}
 use Rattle.device_laws.proofs.Once.{Once, once_done, once_try, once_ask, once_then, once_always, once_lucky, once_quiet, once_asks, once_if, once_tried}
-use Rattle.device_laws.proofs.OneFailed.{Sides, sides_of, OnBoth, steady_a, never, level_once, image_once, firm_once, first_once, write_once}
+use Rattle.device_laws.proofs.OneFailed.{Sides, sides_of, OnBoth, steady_a, level_once, image_once, firm_once, first_once, write_once}
+use Rattle.device_laws.proofs.HeldPlaces.{never}
 use Rattle.device_laws.proofs.PoolWalks.{hear_asks}
 use Rattle.device_laws.proofs.QuietParts.{Quiet, quiet_done, quiet_then, ended_quiet}
 use Rattle.device_laws.proofs.TrackImage.{level_bytes_keeps_good}
@@ -109,10 +109,10 @@ use Rattle.device_laws.proofs.TrackMarks.{IsFaithful}
 use Rattle.device_laws.proofs.Unchecked.{HasBytes, WasTaken, WentSo, TurnSo, StepIs, step_is, lucky_both, wrote_so, looked_so, look_so, follow_so}
 use Rattle.device_laws.proofs.UncheckedEvents.{equipment_checks, on_has}
 use Rattle.device_laws.proofs.Unlost.{core_of, Steady, steady_on, fine}
-use Rattle.device_laws.proofs.UnlostEvents.{looked_goes, follow_goes, on_goes, end_goes}
-use Rattle.device_laws.proofs.UnlostParts.{saved_by_goes, recovered_bytes_goes, staged_bytes_goes}
+use Rattle.device_laws.proofs.UnlostParts.{saved_by_goes, staged_bytes_goes, on_goes, end_goes}
+use Rattle.device_laws.proofs.invariants.NoTrackIsLost.{recovered_bytes_goes, looked_goes, follow_goes}
 use Rattle.device_laws.proofs.WholeImage.{Reaches, image_keeps_good}
-use Rattle.device_laws.proofs.Working.{least_found}
+use Rattle.device_laws.proofs.Working.{found_if}
 
 both_take : {H : Type 0} (x : Sides H) (t : Option ℕ) → OnBoth t x → (x.a.up || (x.b.up && not x.held)) ≡ true
 both_take x t o = ap (λ (b : Bool). b || (x.b.up && not x.held)) o.up_a
@@ -187,7 +187,7 @@ module _ {F P H R : Type 0} (c : Contents F P H R) where
           let f = steady_a (sides_of s) z None o g.1.1 in
           let below : t < tracks_of z = let tracks = g.0.goes.tracks in omega arith in
           lucky_weaker
-          (lucky_both (looked_goes c faithful n Within within chain first t z a below g.0.goes.well (f.kept t))
+          (lucky_both (looked_goes c faithful chain first t z a g.0.goes.well)
           (looked_so c faithful chain first t z a g.1.0 needs below g.0.goes.well (f.kept t) f.takes))
           (λ y b h. (h.1, steady_on (core_of z) (core_of y) h.0 f))))
 
@@ -213,7 +213,7 @@ module _ {F P H R : Type 0} (c : Contents F P H R) where
       on_by k first t s z (Some (Over turn)) same f so room g = lucky_done (so, g)
       on_by k first t s z (Some (On chain q)) same f so room g =
           lucky_weaker
-          (lucky_both (follow_goes c faithful n Within within k first chain q z f.on.1 (f.keeps.tracks ∙ same) f.on.2 f.keeps.well f.on.0)
+          (lucky_both (follow_goes c faithful k first chain q z f.keeps.well)
           (follow_so c faithful n Within within k first chain q z f.on.1 (f.keeps.tracks ∙ same) f.on.2 f.keeps.well f.on.0 so.1
           (let next = so.0 in omega (arith, next, room)) g.kept g.takes))
           (λ y b h. (h.1, steady_on (core_of z) (core_of y) h.0 g))
@@ -309,7 +309,7 @@ module _ {F P H R : Type 0} (c : Contents F P H R) where
         (λ z g k. recovered_works z g g.bytes (subst (OnBoth None) (sym k.1.1) o))
         (λ z g k.
         let f = steady_a (sides_of s) z None o k.1.1 in
-        lucky_weaker (recovered_bytes_goes c faithful t z g g.bytes (let tracks = k.0.goes.tracks in omega arith) k.0.goes.well (f.kept t))
+        lucky_weaker (recovered_bytes_goes c faithful t z g g.bytes k.0.goes.well)
         (λ y a h. steady_on (core_of z) (core_of y) h f))
       where
         image_works : (z : Store F P H) (g : Got R) (i : Option Image) → OnBoth None (sides_of z) → Works (B.recovered_image c t z g i)
@@ -359,13 +359,9 @@ module _ {F P H R : Type 0} (c : Contents F P H R) where
     first_works s None here w o = copy_works s (to_copy s) o
     first_works s (Some t) here w o = recover_works s t (frame_at s t) (here t refl) w o
 
-    found_if : (n : ℕ) (p : ℕ → Bool) (b : Bool) (t : ℕ) → (if b then least n p else None) ≡ Some t → t < n
-    found_if n p true t e = (least_found n p t e).0
-    found_if n p false t e = absurd (cc)
-
     work_works : (s : Store F P H) → IsWell c s → OnBoth None (sides_of s) → Works (work c s)
     unfolding B.work
-    work_works s w o = first_works s (to_recover c s) (λ t e. found_if (tracks_of s) (waits c s) (some_up s) t e) w o
+    work_works s w o = first_works s (to_recover c s) (λ t e. (found_if (tracks_of s) (waits c s) (some_up s) t e).0) w o
 
     worked_comes : (d : Device F P H) → IsWell c d.store → OnBoth None (sides_of d.store) →
         Once (λ (e : Device F P H) (a : Option Did). Unit {0}) (λ e a. Steady (core_of e.store))

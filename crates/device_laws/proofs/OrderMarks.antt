@@ -9,7 +9,7 @@ use Rattle.device_defs.specs.Between.{HasSizes}
 use Rattle.device_defs.specs.Contents.{Contents}
 use Rattle.device_defs.specs.Device.{Device}
 use Rattle.device_defs.specs.Losses.{over, without_frame}
-use Rattle.device_defs.specs.Orders.{join, split, restore, replace, hold, resume, lent_to, given_up}
+use Rattle.device_defs.specs.Orders.{join, split, restore, replace, hold_side, resume, lent_to, given_up}
 use Rattle.device_defs.specs.Store.{HalfWrite, Store, new_side, tracks_of, stale_at, level_at, has_level, side_of, half_is}
 use Rattle.device_laws.specs.InOrder.{AreBelow}
 use Rattle.device_laws.proofs.Changes as C
@@ -112,10 +112,10 @@ module _ {F P H R : Type 0} (c : Contents F P H R) (faithful : IsFaithful c) whe
       (λ q lt. ap (λ (v : Bool). record (track_at c s q) { level = v })
       (split_level s q (level_at (split d).store.b q) up (level q lt))) w
 
-  pub hold_keeps_good : (d : Device F P H) → IsWell c d.store → Keeps c faithful d.store (hold d).store
+  pub hold_keeps_good : (d : Device F P H) → IsWell c d.store → Keeps c faithful d.store (hold_side d).store
   unfolding M.track_at C.rest_of
   hold_keeps_good d w =
-      same_marks d.store (hold d).store (record { are = w.sizes.are })
+      same_marks d.store (hold_side d).store (record { are = w.sizes.are })
       (record { free = w.here.free; alone = w.here.alone; whole = w.here.whole; within = w.here.within; queued = w.here.queued }) refl (λ q lt. refl) w
 
   pub resume_keeps_good : (d : Device F P H) → IsWell c d.store → Keeps c faithful d.store (resume d).store

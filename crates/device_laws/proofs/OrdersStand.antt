@@ -65,8 +65,8 @@ use Rattle.ckd_types.specs.Parameters.{
 use Rattle.ckd_types.specs.Sense.{reject_sense}
 use Rattle.ckd_rules.specs.declared.opening.Opening.{Opening}
 use Rattle.ckd_rules.specs.declared.opening.Opening.TheVariants as openings
-use Rattle.ckd_rules.specs.declared.order.Order.{Order}
-use Rattle.ckd_rules.specs.declared.order.Order.TheVariants.{Nothing, Seeks, Recalibrates, SetsSector, SetsMask, Defines, Locates}
+use Rattle.ckd_rules.specs.declared.order.CommandOrder.{CommandOrder}
+use Rattle.ckd_rules.specs.declared.order.CommandOrder.TheVariants.{Nothing, Seeks, Recalibrates, SetsSector, SetsMask, Defines, Locates}
 use Rattle.ckd_rules.specs.declared.stance.Stance.{Stance}
 use Rattle.ckd_rules.specs.Checks.{
   is_in_sequence,
@@ -75,14 +75,14 @@ use Rattle.ckd_rules.specs.Checks.{
   defines,
   locates,
   control_order,
-  decoded,
+  decoded_order,
   masked_order,
   permitted_order,
   order_by,
   order_of,
 }
 use Rattle.ckd_rules.specs.Facts.{HasRoom, Stands, IsSought, IsOrder, Opens}
-use Rattle.ckd_rules.specs.Opening.{begun, opened_by}
+use Rattle.ckd_rules.specs.Opening.{begun, opening_with}
 use Rattle.ckd_rules.specs.Stance.{first_stance}
 use Rattle.ckd_rules.proofs.Openings.{opens}
 use Rattle.track_image.specs.Image.{Image}
@@ -92,8 +92,9 @@ use Rattle.ckd_chain.specs.declared.progress.Progress.TheVariants.{Need}
 use Rattle.ckd_chain.specs.Facts.{IsChain}
 use Rattle.ckd_chain.specs.State.{ChainState}
 use Rattle.ckd_chain.specs.Steps as S
-use Rattle.ckd_chain.specs.Steps.{begun_chain, opened, need_of, needed, stage_of, stepped, word_of}
+use Rattle.ckd_chain.specs.Steps.{begun_chain, chain_opened, need_of, track_needed, stage_of, stepped, word_of}
 use Rattle.device_laws.specs.Standing.{IsWithin}
+use Rattle.device_laws.proofs.Bools.{some_is}
 use Rattle.device_laws.proofs.ChainTracks.{within_stays, whole_cylinders}
 
 -- Answers behind a test
@@ -104,9 +105,6 @@ unless false x r y e = (refl, e)
 
 ok_is : {X Y : Type 0} (x y : X) (r : Result X Y) → r ≡ Ok y → Ok x ≡ r → x ≡ y
 ok_is x y r e f = cc
-
-some_is : {X : Type 0} (x y : X) → Some x ≡ Some y → x ≡ y
-some_is x y e = cc
 
 ok_if : {X Y : Type 0} (b : Bool) (x y : X) (z : Y) → (if b then Ok x else Err z) ≡ Ok y → x ≡ y
 ok_if true x y z e = cc
@@ -190,16 +188,16 @@ domain_on n bytes d is =
 
 -- Orders
 
-seeks_on : (n : ℕ) (x : Option ℕ) (o : Order) → ((t : ℕ) → x ≡ Some t → t < n) → seeks x ≡ Some o → IsOrder n o
+seeks_on : (n : ℕ) (x : Option ℕ) (o : CommandOrder) → ((t : ℕ) → x ≡ Some t → t < n) → seeks x ≡ Some o → IsOrder n o
 seeks_on n (Some t) o below is = subst (IsOrder n) (some_is (Seeks t) o is) (below t refl)
 seeks_on n None o below is = absurd (cc)
 
-defines_on : (own : ℕ) (r : Result Extent ParamFault) (n : ℕ) (o : Order) → ((e : Extent) → r ≡ Ok e → e.last < n) → defines own r ≡ Some o →
+defines_on : (own : ℕ) (r : Result Extent ParamFault) (n : ℕ) (o : CommandOrder) → ((e : Extent) → r ≡ Ok e → e.last < n) → defines own r ≡ Some o →
     IsOrder n o
 defines_on own (Ok e) n o last is = subst (IsOrder n) (some_if (has_own_number own e.number) (Defines e) o is) (last e refl)
 defines_on own (Err fault) n o last is = absurd (cc)
 
-locates_on : (r : Result Domain ParamFault) (n : ℕ) (o : Order) → ((d : Domain) → r ≡ Ok d → IsSought n d) → locates r ≡ Some o → IsOrder n o
+locates_on : (r : Result Domain ParamFault) (n : ℕ) (o : CommandOrder) → ((d : Domain) → r ≡ Ok d → IsSought n d) → locates r ≡ Some o → IsOrder n o
 locates_on (Ok d) n o sought is = subst (IsOrder n) (some_is (Locates d) o is) (sought d refl)
 locates_on (Err fault) n o sought is = absurd (cc)
 
@@ -207,7 +205,7 @@ module _ (f : Fixed) (s : Stance) (on : s.track < f.cylinders * 15) where
   abbrev n : ℕ
   n = f.cylinders * 15
 
-  control_on : (bytes : List ℕ) (c : Control) (o : Order) → control_order f s bytes c ≡ Some o → IsOrder n o
+  control_on : (bytes : List ℕ) (c : Control) (o : CommandOrder) → control_order f s bytes c ≡ Some o → IsOrder n o
   control_on bytes controls.NoOperation o is = subst (IsOrder n) (some_is Nothing o is) tt
   control_on bytes controls.Seek o is =
       seeks_on n (seek_to f.cylinders bytes) o (λ t e. sought_if f.cylinders (cchh_at bytes 2) (number_at bytes 0 == 0) t e) is
@@ -222,32 +220,32 @@ module _ (f : Fixed) (s : Stance) (on : s.track < f.cylinders * 15) where
       defines_on f.number (extent_of f.cylinders bytes) n o (λ e g. extent_last f.cylinders bytes e g) is
   control_on bytes controls.LocateRecord o is = locates_on (domain_of f.cylinders bytes) n o (λ d g. domain_on f.cylinders bytes d g) is
 
-  decoded_on : (c : Ccw) (k : Command) (o : Order) → decoded f s c k ≡ Some o → IsOrder n o
+  decoded_on : (c : Ccw) (k : Command) (o : CommandOrder) → decoded_order f s c k ≡ Some o → IsOrder n o
   decoded_on c (commands.Control k) o is = control_on (given 16 c) k o is
   decoded_on c (commands.Search x) o is = subst (IsOrder n) (some_is _ o is) tt
   decoded_on c (commands.Read r) o is = subst (IsOrder n) (some_is _ o is) tt
   decoded_on c (commands.Write w) o is = subst (IsOrder n) (some_is _ o is) tt
   decoded_on c (commands.Device d) o is = subst (IsOrder n) (some_is _ o is) tt
 
-  masked_is : (order o : Order) (x : Option Sense) → masked_order s order x ≡ Ok o → order ≡ o
+  masked_is : (order o : CommandOrder) (x : Option Sense) → masked_order s order x ≡ Ok o → order ≡ o
   masked_is order o (Some sense) is = absurd (cc)
   masked_is order o None is = ok_if _ order o _ is
 
-  permitted_on : (k : Command) (x : Option Order) (o : Order) → ((y : Order) → x ≡ Some y → IsOrder n y) → permitted_order s k x ≡ Ok o → IsOrder n o
+  permitted_on : (k : Command) (x : Option CommandOrder) (o : CommandOrder) → ((y : CommandOrder) → x ≡ Some y → IsOrder n y) → permitted_order s k x ≡ Ok o → IsOrder n o
   permitted_on k (Some order) o good is = subst (IsOrder n) (masked_is order o _ is) (good order refl)
   permitted_on k None o good is = absurd (cc)
 
-  by_command : (c : Ccw) (k : Option Command) (o : Order) → order_by f s c k ≡ Ok o → IsOrder n o
+  by_command : (c : Ccw) (k : Option Command) (o : CommandOrder) → order_by f s c k ≡ Ok o → IsOrder n o
   by_command c (Some k) o is =
-      let r : Result Order Sense = permitted_order s k (decoded f s c k) in
+      let r : Result CommandOrder Sense = permitted_order s k (decoded_order f s c k) in
       let short = nat_lt c.count (required_count k) in
-      permitted_on k (decoded f s c k) o (λ y e. decoded_on c k y e)
+      permitted_on k (decoded_order f s c k) o (λ y e. decoded_on c k y e)
       (unless short (reject_sense 3) r o
       (unless (not (is_in_sequence s s.domain k)) (reject_sense 2) (if short then Err (reject_sense 3) else r) o is).1).1
   by_command c None o is = absurd (cc)
 
   -- an order that isn't refused goes to a track of the device
-  pub order_stands : (c : Ccw) (o : Order) → order_of f s c ≡ Ok o → IsOrder n o
+  pub order_stands : (c : Ccw) (o : CommandOrder) → order_of f s c ≡ Ok o → IsOrder n o
   order_stands c o is = by_command c (command_of c.command) o is
 
 -- Chains
@@ -258,13 +256,13 @@ stands_by n old new (openings.Looks look) o = o.0.stands
 stands_by n old new (openings.Asks act) o = o.stands
 
 module _ (n : ℕ) (s : Stance) (on : Stands n s) (some : 0 < n) (whole : n % 15 ≡ 0) where
-  opened_stands : (c : Ccw) (r : Result Order Sense) → ((o : Order) → r ≡ Ok o → IsOrder n o) → Stands n (opened_by s c r).stance
+  opened_stands : (c : Ccw) (r : Result CommandOrder Sense) → ((o : CommandOrder) → r ≡ Ok o → IsOrder n o) → Stands n (opening_with s c r).stance
   opened_stands c (Ok order) good =
       stands_by n s (begun s c order).stance (begun s c order).opening
       (opens n s c order (begun s c order).stance (begun s c order).opening on some whole (good order refl) refl refl)
   opened_stands c (Err sense) good = record { track = on.track; extent = on.extent; left = on.left; passes = on.passes }
 
-need_below : (n : ℕ) (u : ChainState) (stage : Stage) (t : ℕ) → u.at.stance.track < n → needed u stage ≡ Some t → t < n
+need_below : (n : ℕ) (u : ChainState) (stage : Stage) (t : ℕ) → u.at.stance.track < n → track_needed u stage ≡ Some t → t < n
 need_below n u (stages.Looks look) t on is = let same : u.at.stance.track ≡ t = cc in omega arith
 need_below n u stages.Over t on is = absurd (cc)
 need_below n u (stages.Asks act) t on is = absurd (cc)
@@ -283,7 +281,7 @@ module _ (chain : ChainState) (is : IsChain chain) where
   chain_stands =
       let on = stood chain.stage in
       record {
-        needs = λ t e. need_below (chain.fixed.cylinders * 15) (opened chain) (stage_of chain) t on.track e;
+        needs = λ t e. need_below (chain.fixed.cylinders * 15) (chain_opened chain) (stage_of chain) t on.track e;
         used = is.stands.extent;
         extent = on.extent;
       }

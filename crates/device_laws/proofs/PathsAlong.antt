@@ -18,7 +18,7 @@ use Rattle.plain_defs.specs.History.{
   has_used,
   put,
   cut_by,
-  reset as history_reset,
+  reset_in_history as history_reset,
   reset_in,
   lost_power,
   lost_power_in,
@@ -26,7 +26,7 @@ use Rattle.plain_defs.specs.History.{
 use Rattle.plain_defs.specs.Journal.{program_of, replay}
 use Rattle.plain_defs.specs.Legal.{IsCheck, is_started, is_used}
 use Rattle.plain_defs.specs.PlainState.{PathsState, PlainState, fresh_paths, with_sense, reset_path}
-use Rattle.plain_defs.specs.Program.{Part, first_part, begun}
+use Rattle.plain_defs.specs.Program.{Part, first_part, sense_begun}
 use Rattle.plain_defs.proofs.PartLemmas.{acted_nothing}
 use Rattle.device_outside.specs.Interaction.{Done}
 use Rattle.device_defs.specs.Contents.{Contents}
@@ -35,7 +35,7 @@ use Rattle.device_defs.specs.Cutting.{counts_one_by, half_cut, reset_noted, path
 use Rattle.device_defs.specs.Device.{Device, all_reset, event_begun}
 use Rattle.device_defs.specs.Orders.{restore}
 use Rattle.device_defs.specs.Outcomes.{checks, turned}
-use Rattle.device_defs.specs.Owed.{waiting_count, ended}
+use Rattle.device_defs.specs.Owed.{waiting_count, noted_end}
 use Rattle.device_defs.specs.Start as S
 use Rattle.device_defs.specs.Start.{start, next_program, next_ordinal}
 use Rattle.device_laws.proofs.Always.{Always, always_done, always_then}
@@ -61,7 +61,7 @@ module _ {F P H : Type 0} (empty : PlainState) (d : Device F P H) (keeps : Keeps
   start_keeps path stands =
       let ccws = program_of d.plans path (next_ordinal d path) in
       let s = replay d.plans empty d.history.items in
-      ap (λ (x : PathsState). begun x path (next_program d path)) (idle_paths stands)
+      ap (λ (x : PathsState). sense_begun x path (next_program d path)) (idle_paths stands)
       ∙ sym (ap (λ (p : Part). p.state.paths) (part_is_acted path ccws s [] 0 ∙ acted_nothing [] (first_part s path ccws) refl))
 
   -- behind an order that gives it an empty volume
@@ -119,7 +119,7 @@ module _ {F P H R : Type 0} (c : Contents F P H R) (empty : PlainState) (d : Dev
       always_then {p = λ y _. KeepsPaths empty y}
       (always_then (always_any (half_cut c (event_begun d).store (event_begun d).store.half))
       (λ s _ _. always_done (sym (powerless_paths d.history.running refl may))))
-      (λ y a g. always_then (always_any (ended c (waiting_count c d.store) y.store)) (λ z _ _. always_done g))
+      (λ y a g. always_then (always_any (noted_end c (waiting_count c d.store) y.store)) (λ z _ _. always_done g))
 
 -- Behind a reset
 

@@ -47,7 +47,7 @@ use Rattle.ckd_chain.specs.Steps.{
   stage_for,
   opened_by,
   stage_by,
-  needed,
+  track_needed,
   need_of,
   index_of,
   word_of,
@@ -82,7 +82,7 @@ use Rattle.device_defs.specs.Contents.{by_plain}
 use Rattle.device_defs.specs.Device.{all_acted, with_store, event_begun, event}
 use Rattle.device_defs.specs.Marks.{MarksDevice, MarksStore}
 use Rattle.device_defs.specs.Outcomes.{Turn, checks, turned}
-use Rattle.device_defs.specs.Owed.{begun, waiting_count}
+use Rattle.device_defs.specs.Owed.{noted_begin, waiting_count}
 use Rattle.device_defs.specs.Store.{OfCommand, HalfWrite, tracks_of}
 use Rattle.device_laws.proofs.DeviceCuts.{StandsPlainly}
 use Rattle.device_laws.proofs.DeviceEnds.{all_acted-append}
@@ -547,7 +547,7 @@ module _ (num : ℕ) (empty : PlainState) (d : MarksDevice) (f : Follows num emp
   -- In an event that began
 
   module _ (now : d.chain ≡ Some chain) (whole : d.store.half ≡ None) where
-    pub walking_first : (s : MarksStore) → core_of s ≡ core_of (begun d.store) → Walking (core_of s)
+    pub walking_first : (s : MarksStore) → core_of s ≡ core_of (noted_begin d.store) → Walking (core_of s)
     walking_first s e = subst Walking (sym e) (record {
       of = of_begun p (core_of d.store) f.of;
       are = tt;
@@ -561,7 +561,7 @@ module _ (num : ℕ) (empty : PlainState) (d : MarksDevice) (f : Follows num emp
     abbrev started_with : MarksStore → MarksDevice
     started_with s = record (event_begun d) { store = s }
 
-    module _ (s : MarksStore) (e : core_of s ≡ core_of (begun d.store)) where
+    module _ (s : MarksStore) (e : core_of s ≡ core_of (noted_begin d.store)) where
       no_acts : s.acts ≡ []
       no_acts = ap (λ (c : Core). c.acts) e
 
@@ -625,7 +625,7 @@ module _ (num : ℕ) (empty : PlainState) (d : MarksDevice) (f : Follows num emp
             (asked_answer chain at.fresh d.paths o.path d.store.plain z act s.geometry (on.0 ∙ sym (ap (λ (c : Core). c.geometry) e))))
         by_opening_of z (openings.Looks look) is =
             absurd (let some : None ≡ Some _ = sym none ∙ needs_by chain at.fresh d.paths o.path d.store.plain
-            ∙ ap (λ (q : Opened). needed (begin_with chain q) (stage_for q.opening)) is in cc)
+            ∙ ap (λ (q : Opened). track_needed (begin_with chain q) (stage_for q.opening)) is in cc)
 
       untracked : need_of chain ≡ None → Had (command_at by_plain (started_with s) o.path chain None) (λ x (_ : Option Stepped). Follows num empty x)
       untracked none =
@@ -679,10 +679,10 @@ module _ (num : ℕ) (empty : PlainState) where
   }
 
   pub event_follows : {A : Type 0} (d : MarksDevice) (body : MarksDevice → Interaction Bool Image MarksDevice A) →
-      ((s : MarksStore) → core_of s ≡ core_of (begun d.store) → Had (body (record (event_begun d) { store = s })) (λ y (_ : A). Follows num empty y)) →
+      ((s : MarksStore) → core_of s ≡ core_of (noted_begin d.store) → Had (body (record (event_begun d) { store = s })) (λ y (_ : A). Follows num empty y)) →
       Had (event by_plain d body) (λ y (_ : A). Follows num empty y)
   event_follows d body h =
-      had_then (had_then (hear_same 960 (begun d.store)) (λ s _ e. h s e))
+      had_then (had_then (hear_same 960 (noted_begin d.store)) (λ s _ e. h s e))
       (λ y a g. had_then (ended_same (waiting_count by_plain d.store) y.store) (λ z _ e. had_done (follows_store y g z e)))
 
   by_chain : (d : MarksDevice) (f : Follows num empty d) (o : OpenEntry) → d.history.running ≡ Some o → d.store.half ≡ None →

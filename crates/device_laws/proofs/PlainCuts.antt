@@ -24,7 +24,7 @@ use Rattle.plain_defs.specs.History.{
   has_used,
   put,
   cut_by,
-  reset as history_reset,
+  reset_in_history as history_reset,
   reset_in,
 }
 use Rattle.plain_defs.specs.Journal.{program_of, replay}

@@ -11,14 +11,14 @@ use Rattle.ckd_chain.specs.Steps.{begun_chain}
 use Rattle.plain_defs.specs.History.{OpenEntry, open_part, state_by}
 use Rattle.plain_defs.specs.Journal.{Plans, replay}
 use Rattle.plain_defs.specs.PlainState.{PlainState, empty_state, fixed_of as plain_fixed}
-use Rattle.plain_defs.specs.Program.{Part, first_part, begun}
+use Rattle.plain_defs.specs.Program.{Part, first_part, sense_begun}
 use Rattle.plain_defs.proofs.PartLemmas.{acted_nothing}
 use Rattle.device_outside.specs.Interaction.{Interaction, Done, Try, Ask, Read, Write, Tell}
 use Rattle.device_outside.specs.Keeper.{reply}
 use Rattle.device_defs.specs.Marks.{MarksDevice, new_device}
 use Rattle.device_defs.specs.Start as S
 use Rattle.device_defs.specs.Start.{start, start_fault, fault_by, next_program, next_ordinal}
-use Rattle.device_defs.specs.Store.{fixed_of}
+use Rattle.device_defs.specs.Store.{store_fixed}
 use Rattle.device_laws.proofs.Always as A
 use Rattle.device_laws.proofs.Always.{Behind, Always}
 use Rattle.device_laws.proofs.ChainAtHand.{start_at_hand}
@@ -117,7 +117,7 @@ module _ (num : ℕ) (empty : PlainState) (d : MarksDevice) (f : Follows num emp
     first_is : open_part d.plans s (record { path = path; ordinal = next_ordinal d path; ends = []; acts = [] }) ≡ first_part s path (next_program d path)
     first_is = part_is_acted path (next_program d path) s [] 0 ∙ acted_nothing [] (first_part s path (next_program d path)) refl
 
-    fixed_is : d.history.running ≡ None → fixed_of d.store ≡ plain_fixed s
+    fixed_is : d.history.running ≡ None → store_fixed d.store ≡ plain_fixed s
     fixed_is none =
         let of = idle_of none in
         ap (λ (g : Geometry). record { geometry = g; cylinders = d.store.cylinders; number = d.store.number }) (sym of.geometry)
@@ -136,17 +136,17 @@ module _ (num : ℕ) (empty : PlainState) (d : MarksDevice) (f : Follows num emp
           stands = start_stands empty d f.stands path least most (idle_paths empty d f.keeps none) is;
           keeps = start_keeps empty d f.keeps path none;
           of = subst (λ (x : PlainState). IsOf x (core_of d.store)) (sym (ap (λ (p : Part). p.state) first_is))
-              (of_paths s (core_of d.store) (idle_of none) (begun s.paths path (next_program d path)));
+              (of_paths s (core_of d.store) (idle_of none) (sense_begun s.paths path (next_program d path)));
           places = f.places;
-          before = Some (begun_chain (next_program d path) (fixed_of d.store));
+          before = Some (begun_chain (next_program d path) (store_fixed d.store));
           runs = record {
-            hand = start_at_hand d.plans s path (next_ordinal d path) (fixed_of d.store);
+            hand = start_at_hand d.plans s path (next_ordinal d path) (store_fixed d.store);
             stance = sym (ap (λ (p : Part). p.stance) first_is);
             fixed = fixed_is none ∙ sym (ap (λ (p : Part). p.fixed) first_is);
             fresh = refl;
           };
           chain = (refl, refl);
           mid = mid_other (core_of d.store) (core_of d.store) d.store.half d.history.running (start d path).history.running f.before d.chain
-              (Some (begun_chain (next_program d path) (fixed_of d.store))) (Some (begun_chain (next_program d path) (fixed_of d.store))) none f.mid refl;
+              (Some (begun_chain (next_program d path) (store_fixed d.store))) (Some (begun_chain (next_program d path) (store_fixed d.store))) none f.mid refl;
           home = at_home d.store.lent (start d path).history.running (starts_at_home d path is);
         }

@@ -25,17 +25,17 @@ use Rattle.ckd_chain.specs.Fed as F
 use Rattle.ckd_chain.specs.Fed.{Fed, ended_by, fed_image, fed_by, fed}
 use Rattle.ckd_chain.specs.State.{ChainState}
 use Rattle.ckd_chain.specs.Steps.{
-  Stepped,
+  ChainStep,
   opening_at,
   stage_for,
   opened_by,
-  opened,
+  chain_opened,
   stage_by,
   stage_of,
-  needed,
+  track_needed,
   need_of,
   standing,
-  turned_by,
+  step_turned,
   stepped_by,
   stepped,
   settled_by,
@@ -46,8 +46,8 @@ use Rattle.ckd_rules.specs.declared.opening.Opening.TheVariants as openings
 use Rattle.ckd_rules.specs.declared.order.LocalAct.{LocalAct}
 use Rattle.ckd_rules.specs.declared.order.Look.{Look}
 use Rattle.ckd_rules.specs.declared.order.Look.TheVariants as looks
-use Rattle.ckd_rules.specs.declared.order.Order.{Order}
-use Rattle.ckd_rules.specs.declared.order.Order.TheVariants as orders
+use Rattle.ckd_rules.specs.declared.order.CommandOrder.{CommandOrder}
+use Rattle.ckd_rules.specs.declared.order.CommandOrder.TheVariants as orders
 use Rattle.ckd_rules.specs.declared.stance.Place.{Place}
 use Rattle.ckd_rules.specs.declared.stance.Place.TheVariants as places
 use Rattle.ckd_rules.specs.declared.stance.Stance.{Stance}
@@ -57,7 +57,7 @@ use Rattle.ckd_rules.specs.Checks.{order_of}
 use Rattle.ckd_rules.specs.Control.{unseen_place}
 use Rattle.ckd_rules.specs.Finding.{track_after}
 use Rattle.ckd_rules.specs.Look.{look_on}
-use Rattle.ckd_rules.specs.Opening.{Opened, moved, read_from, look_from, locating, begun, opened_by as order_opened}
+use Rattle.ckd_rules.specs.Opening.{Opened, moved, read_from, look_from, locating, begun, opening_with as order_opened}
 use Rattle.ckd_rules.specs.Walk.{TrackEdit}
 use Rattle.plain_defs.specs.PlainState.{PlainState}
 use Rattle.track_image.specs.Image.{Image}
@@ -73,8 +73,8 @@ use Rattle.device_defs.specs.Marks.{MarksStore}
 use Rattle.device_defs.specs.Memory.{had_by}
 use Rattle.device_defs.specs.Outcomes.{Turn, checks, usage_of}
 use Rattle.device_defs.specs.Store.{is_lost}
-use Rattle.device_laws.proofs.ChainFeeds.{begun_stage, need_at, need_is}
-use Rattle.device_laws.proofs.ChainTracks.{FurtherBy, look_further, whole_cylinders}
+use Rattle.device_laws.proofs.ChainFeeds.{need_is}
+use Rattle.device_laws.proofs.ChainTracks.{FurtherBy, look_further, whole_cylinders, begun_stage, need_at}
 use Rattle.device_laws.proofs.Had.{Had, had_done, had_try, had_if, had_then, had_weaker}
 use Rattle.device_laws.proofs.PlainStores.{Core, Open, core_of, Walks}
 use Rattle.device_laws.proofs.PlainWalks.{plain_image, Imaging, image_so, IsEdited, HalfSo, WroteSo, write_walks}
@@ -124,7 +124,7 @@ locating_keeps : (s : Stance) (c : Ccw) (d : Domain) (o : Option Place) → Keep
 locating_keeps s c d (Some place) = record { is = tt }
 locating_keeps s c d None = record { is = refl }
 
-begun_keeps : (s : Stance) (c : Ccw) (o : Order) → Keeping s (begun s c o)
+begun_keeps : (s : Stance) (c : Ccw) (o : CommandOrder) → Keeping s (begun s c o)
 begun_keeps s c orders.Nothing = record { is = tt }
 begun_keeps s c (orders.Seeks t) = record { is = tt }
 begun_keeps s c orders.Recalibrates = record { is = tt }
@@ -135,7 +135,7 @@ begun_keeps s c (orders.Locates d) = locating_keeps s c d (unseen_place d.orient
 begun_keeps s c (orders.Looks look) = look_keeps s c look
 begun_keeps s c (orders.Asks act) = record { is = tt }
 
-opening_keeps : (s : Stance) (c : Ccw) (r : Result Order Sense) → Keeping s (order_opened s c r)
+opening_keeps : (s : Stance) (c : Ccw) (r : Result CommandOrder Sense) → Keeping s (order_opened s c r)
 opening_keeps s c (Ok o) = begun_keeps s c o
 opening_keeps s c (Err sense) = record { is = tt }
 
@@ -203,7 +203,7 @@ opened_from origin chain None look from is = record {
 }
 
 -- what a step with an image gives
-data StepIs (origin : ChainState) (first t : ℕ) : Stepped → Type 0 where
+data StepIs (origin : ChainState) (first t : ℕ) : ChainStep → Type 0 where
   it_ended : (e : CommandEnd) (after : ChainState) → StepIs origin first t (record { progress = progresses.Ended e; chain = after })
   it_needs : (q : ℕ) (next : ChainState) → Looking origin next first q → t < q →
       StepIs origin first t (record { progress = progresses.Need q; chain = next })
@@ -212,7 +212,7 @@ data StepIs (origin : ChainState) (first t : ℕ) : Stepped → Type 0 where
 
 turned_step : (origin u : ChainState) (first t : ℕ) (look : Look) (z : Stance) (x : Turned) → first ≤ t → IsFrom origin u →
     u.stage ≡ Some (stages.Looks look) → u.at.stance.track ≡ t →
-    (x ≡ turns.Onward → (z.extent ≡ u.at.stance.extent) × (z.track ≡ u.at.stance.track + 1)) → StepIs origin first t (turned_by u z x)
+    (x ≡ turns.Onward → (z.extent ≡ u.at.stance.extent) × (z.track ≡ u.at.stance.track + 1)) → StepIs origin first t (step_turned u z x)
 turned_step origin u first t look z (turns.Ended e) above from at place stays = it_ended _ _
 turned_step origin u first t look z turns.Onward above from at place stays =
     let on = (stays refl).1 in
@@ -222,23 +222,23 @@ turned_step origin u first t look z turns.Onward above from at place stays =
       above = omega (arith, on, place, above);
     }) (omega (arith, on, place))
 turned_step origin u first t look z (turns.Edits edit e) above from at place stays =
-    subst (λ (q : ℕ). StepIs origin first q (turned_by u z (turns.Edits edit e))) place (it_writes edit _ (record {
+    subst (λ (q : ℕ). StepIs origin first q (step_turned u z (turns.Edits edit e))) place (it_writes edit _ (record {
       words = from.words;
       next = from.next;
     }))
 
 step_by : (origin chain : ChainState) (first t : ℕ) (i : Image) (stage : Stage) → first ≤ t → IsFrom origin chain → need_of chain ≡ Some t →
-    stage_of chain ≡ stage → StepIs origin first t (stepped_by (opened chain) (Some i) stage)
+    stage_of chain ≡ stage → StepIs origin first t (stepped_by (chain_opened chain) (Some i) stage)
 step_by origin chain first t i stages.Over above from needs at =
-    absurd (let none : None ≡ Some t = sym (ap (λ (x : Stage). needed (opened chain) x) at) ∙ needs in cc)
+    absurd (let none : None ≡ Some t = sym (ap (λ (x : Stage). track_needed (chain_opened chain) x) at) ∙ needs in cc)
 step_by origin chain first t i (stages.Asks act) above from needs at =
-    absurd (let none : None ≡ Some t = sym (ap (λ (x : Stage). needed (opened chain) x) at) ∙ needs in cc)
+    absurd (let none : None ≡ Some t = sym (ap (λ (x : Stage). track_needed (chain_opened chain) x) at) ∙ needs in cc)
 step_by origin chain first t i (stages.Looks look) above from needs at =
-    let u = opened chain in
+    let u = chain_opened chain in
     let l = look_on i.geometry i.track u.at.stance (word_of u) look in
     turned_step origin u first t look l.stance l.turned above (opened_from origin chain chain.stage look from at)
     (begun_stage chain chain.stage refl ∙ ap (λ (x : Stage). Some x) at)
-    (need_is u (stages.Looks look) t (sym (ap (λ (x : Stage). needed u x) at) ∙ needs))
+    (need_is u (stages.Looks look) t (sym (ap (λ (x : Stage). track_needed u x) at) ∙ needs))
     (look_stays i.geometry i.track u.at.stance (word_of u) look)
 
 -- The command
@@ -297,10 +297,10 @@ module _ (p : PlainState) (u : List Track) (g : Geometry) (n : ℕ) (m : Open) (
       ended_so x.end x.chain c (ap (λ (y : Fed). y.end) is) (ap (λ (y : Fed). y.chain) is) (subst (λ (y : Fed). EditSo y.edit c) (sym is) edit)
 
   module _ (chain : ChainState) (t : ℕ) (at : Looking origin chain first t) where
-    step_fed : (k : ℕ) (v : List Track) → track_in v t ≡ track_in u t → (x : Stepped) → stepped chain (Some (plain_image p u g n m t)) ≡ x →
+    step_fed : (k : ℕ) (v : List Track) → track_in v t ≡ track_in u t → (x : ChainStep) → stepped chain (Some (plain_image p u g n m t)) ≡ x →
         fed (suc k) (track_in v) answer chain ≡ fed_by answer (fed k (track_in v) answer) x.chain x.progress
     step_fed k v same x is =
-        fed_step k chain t v at same ∙ ap (λ (y : Stepped). fed_by answer (fed k (track_in v) answer) y.chain y.progress) is
+        fed_step k chain t v at same ∙ ap (λ (y : ChainStep). fed_by answer (fed k (track_in v) answer) y.chain y.progress) is
 
     wrote_so : (z : MarksStore) (e : Edit) (next : ChainState) (a : Option Took) → IsAtWord origin next →
         stepped chain (Some (plain_image p u g n m t)) ≡ record { progress = progresses.Write t e; chain = next } →
@@ -316,7 +316,7 @@ module _ (p : PlainState) (u : List Track) (g : Geometry) (n : ℕ) (m : Open) (
         (λ v agrees. step_fed k v (agrees t above (omega arith)) (record { progress = progresses.Write t e; chain = next }) is) w)
     wrote_so z e next (Some Unwritten) from is w = had_done (λ k. equipment next (core_of z) from w)
 
-    by_step : (s : MarksStore) (x : Stepped) → StepIs origin first t x → stepped chain (Some (plain_image p u g n m t)) ≡ x →
+    by_step : (s : MarksStore) (x : ChainStep) → StepIs origin first t x → stepped chain (Some (plain_image p u g n m t)) ≡ x →
         Walks p u g n m (core_of s) →
         Had (went_by by_plain (usage_of chain) first t s (plain_image p u g n m t) x.chain x.progress) (WentSo chain t)
     by_step s x (it_ended e after) is w =

@@ -41,7 +41,7 @@ use Rattle.loss_model.specs.declared.Loss.TheVariants as losses
 use Rattle.plain_defs.specs.declared.journal.Act.{Act}
 use Rattle.plain_defs.specs.declared.journal.Act.TheVariants.{CfwLost}
 use Rattle.plain_defs.specs.History.{OpenEntry, History, plain_of, acted, acted_in}
-use Rattle.plain_defs.specs.Journal.{Plans, replay}
+use Rattle.plain_defs.specs.Journal.{replay}
 use Rattle.plain_defs.specs.Legal.{AreActs}
 use Rattle.plain_defs.specs.Loose.{firm_in, restored, next_number, cfw_lost}
 use Rattle.plain_defs.specs.PlainState.{LooseTrack, PlainState, empty_state}
@@ -83,7 +83,7 @@ use Rattle.device_defs.specs.Image.{Got, filled}
 use Rattle.device_defs.specs.Losses as L
 use Rattle.device_defs.specs.Losses.{over, settled, patch_lost, without_frame, without_patch, slot_in, stale_everywhere, call_failed}
 use Rattle.device_defs.specs.Marks.{MarksDevice, MarksStore}
-use Rattle.device_defs.specs.Owed.{begun}
+use Rattle.device_defs.specs.Owed.{noted_begin}
 use Rattle.device_defs.specs.Store.{
   OfBackground,
   HalfWrite,
@@ -104,7 +104,7 @@ use Rattle.device_laws.proofs.Had.{Had, had_done, had_try, had_ask, had_read, ha
 use Rattle.device_laws.proofs.HistoryActs.{some_loose, all_acted_state}
 use Rattle.device_laws.proofs.OpenProgram.{acts_more}
 use Rattle.device_laws.proofs.PlainCommand.{event_follows, all_run, runs_first}
-use Rattle.device_laws.proofs.PlainEvents.{none_loose}
+use Rattle.device_laws.proofs.PlainEvents.{none_loose, runs_idle}
 use Rattle.device_laws.proofs.PlainStores.{
   Core,
   Open,
@@ -435,10 +435,6 @@ still_none : (acts : List Act) (h : History) → h.running ≡ None → (all_act
 still_none [] h e = e
 still_none (act ∷ acts) h e = still_none acts (acted h act) (act_idle h act h.running e e)
 
-idle : (plans : Plans) (x : PlainState) (r : Option OpenEntry) (k : Option ChainState) → r ≡ None → RunsAt plans x r k
-idle plans x (Some o) k e = absurd (cc)
-idle plans x None k e = tt
-
 act_some : (h : History) (act : Act) (r : Option OpenEntry) → IsSome r → IsSome (acted_in h act r).running
 act_some h act (Some o) some = refl
 act_some h act None some = absurd (some_none None some refl)
@@ -457,7 +453,7 @@ module _ (num : ℕ) (empty : PlainState) (d : MarksDevice) (f : Follows num emp
       let r = all_run num empty d f o running chain is o.path acts d.history f.stands.plain f.stands.due are (runs_first num empty d f o running chain is) in
       subst (λ (x : Option OpenEntry). RunsAt d.plans (replay d.plans empty (all_acted d.history acts).items) x (Some chain)) (sym r.running) r.at
   runs_by acts are None none k is =
-      idle d.plans (replay d.plans empty (all_acted d.history acts).items) (all_acted d.history acts).running k (still_none acts d.history none)
+      runs_idle d.plans (replay d.plans empty (all_acted d.history acts).items) (all_acted d.history acts).running k (still_none acts d.history none)
 
   -- behind the acts of an event
   pub acts_follow : (y : MarksStore) (u : List Track) →
@@ -496,7 +492,7 @@ module _ (num : ℕ) (empty : PlainState) (d : MarksDevice) (f : Follows num emp
       (mid_stays (core_of d.store) (core_of y) d.store.half d.history.running (all_acted d.history y.acts).running f.before d.chain w.stays
       w.walks.cylinders (still_some y.acts d.history) f.mid))
 
-  pub walks_first : (s : MarksStore) → core_of s ≡ core_of (begun d.store) →
+  pub walks_first : (s : MarksStore) → core_of s ≡ core_of (noted_begin d.store) →
       Walks (plain_of d.plans empty d.history) d.store.plain d.store.geometry d.store.cylinders (d.store.half, (d.store.lent, d.store.device)) (core_of s)
   walks_first s e = subst (Walks (plain_of d.plans empty d.history) d.store.plain d.store.geometry d.store.cylinders
       (d.store.half, (d.store.lent, d.store.device))) (sym e)

@@ -16,7 +16,7 @@ use Rattle.device_defs.specs.Losses.{over, without_frame, slot_in}
 use Rattle.device_defs.specs.Marks.{MarksDevice, MarksStore}
 use Rattle.device_defs.specs.Orders as O
 use Rattle.device_defs.specs.Orders.{given_up, lent_to, lend, restore}
-use Rattle.device_defs.specs.Owed.{begun, waiting_count}
+use Rattle.device_defs.specs.Owed.{noted_begin, waiting_count}
 use Rattle.device_defs.specs.Store.{tracks_of, frame_at, patch_at, owed_at, with_frame}
 use Rattle.device_laws.proofs.DeviceCuts.{restore_stands}
 use Rattle.device_laws.proofs.Had.{Had, had_done, had_then}
@@ -81,8 +81,8 @@ module _ (num : ℕ) (empty : PlainState) (d : MarksDevice) (f : Follows num emp
   pub lend_follows : (to : ℕ) → Had (lend by_plain d to) (λ y (_ : Unit {0}). Follows num empty y)
   unfolding O.lend
   lend_follows to =
-      let s = over (tracks_of d.store) (given_up by_plain) (begun d.store) in
-      let same = over_same (tracks_of d.store) (given_up by_plain) given_same (begun d.store) in
+      let s = over (tracks_of d.store) (given_up by_plain) (noted_begin d.store) in
+      let same = over_same (tracks_of d.store) (given_up by_plain) given_same (noted_begin d.store) in
       had_then {A = Unit {0}} {p = λ y _. Follows num empty y}
       (had_done (away_follows to (lent_to s to) (ap (λ (c : Core). record c { lent = Some to }) same)))
       (λ y a g. had_then (ended_same (waiting_count by_plain d.store) y.store) (λ z _ e. had_done (follows_store num empty y g z e)))

@@ -49,7 +49,7 @@ use Rattle.device_defs.specs.Effects.{gone_back}
 use Rattle.device_defs.specs.Events.{with_loss}
 use Rattle.device_defs.specs.Losses.{settled, slot_in, without_frame}
 use Rattle.device_defs.specs.Marks.{MarksDevice, MarksStore}
-use Rattle.device_defs.specs.Owed.{begun, waiting_count}
+use Rattle.device_defs.specs.Owed.{noted_begin, waiting_count}
 use Rattle.device_defs.specs.Store.{Origin, OfCommand, OfCut, OfBackground, HalfWrite, tracks_of, is_loose, patch_at}
 use Rattle.device_laws.proofs.CacheLost.{none_below}
 use Rattle.device_laws.proofs.DeviceCuts.{power_stands}
@@ -252,7 +252,7 @@ module _ (num : ℕ) (empty : PlainState) (d : MarksDevice) (f : Follows num emp
     chain : y.chain ≡ None
     stopped : y.history.running ≡ None
 
-  off_device : (z : MarksStore) → CutSo num empty d f d.history.running (counts_one_by d.store.half) (begun d.store) z →
+  off_device : (z : MarksStore) → CutSo num empty d f d.history.running (counts_one_by d.store.half) (noted_begin d.store) z →
       IsOff (powered_off by_plain (event_begun d) z)
   off_device z cut =
       let p = taken_by num empty d f d.history.running n in
@@ -284,7 +284,7 @@ module _ (num : ℕ) (empty : PlainState) (d : MarksDevice) (f : Follows num emp
   unfolding K.power
   goes_off =
       had_then {p = λ y _. IsOff y}
-      (had_then (half_so num empty d f (begun d.store) refl d.history.running refl d.store.half refl refl) (λ s _ cut. had_done (off_device s cut)))
+      (had_then (half_so num empty d f (noted_begin d.store) refl d.history.running refl d.store.half refl refl) (λ s _ cut. had_done (off_device s cut)))
       (λ y a o. had_then (ended_same (waiting_count by_plain d.store) y.store) (λ z _ e. had_done (off_store y z e o)))
 
   pub power_follows : Had (power by_plain d) (λ y (_ : Unit {0}). Follows num empty y)

@@ -14,7 +14,7 @@ use Rattle.ckd_chain.specs.Steps.{
   stage_for,
   opened_by,
   stage_by,
-  needed,
+  track_needed,
   need_of,
   index_of,
   word_of,
@@ -48,24 +48,24 @@ module _ (chain : ChainState) (fresh : chain.stage ≡ None) (paths : PathsState
   by_opening z x = effect_by chain.fixed paths (track_in u) path chain.at.stance (word_of chain) z x
 
   rules_by : (answer : LocalAct → Settled) (k t : ℕ) (v : ChainState) → suc k ≡ chain.fixed.cylinders * 15 → (z : Stance) (x : Opening) →
-      needed v (stage_for x) ≡ Some t →
+      track_needed v (stage_for x) ≡ Some t →
       by_rules (suc k) (track_in u) answer chain z x ≡ ended_by chain (by_opening z x).outcome (by_opening z x).edit
   rules_by answer k t v m z (openings.Over e) is = refl
   rules_by answer k t v m z (openings.Looks look) is =
       ap (λ (n : ℕ). let w = walk n chain.fixed.geometry (track_in u) chain.at.stance (word_of chain) look z in ended_by chain w.outcome w.edit) m
   rules_by answer k t v m z (openings.Asks act) is = absurd (cc)
 
-  kept_sense : (t : ℕ) (v : ChainState) (z : Stance) (x : Opening) → needed v (stage_for x) ≡ Some t →
+  kept_sense : (t : ℕ) (v : ChainState) (z : Stance) (x : Opening) → track_needed v (stage_for x) ≡ Some t →
       with_sense paths path (by_opening z x).outcome.ending.sense ≡ (by_opening z x).paths
   kept_sense t v z (openings.Over e) is = refl
   kept_sense t v z (openings.Looks look) is = refl
   kept_sense t v z (openings.Asks act) is = absurd (cc)
 
-  pub needs_by : need_of chain ≡ needed (begin_with chain (opening_at chain)) (stage_for (opening_at chain).opening)
-  needs_by = ap (λ (o : Option Stage). needed (opened_by chain o) (stage_by chain o)) fresh
+  pub needs_by : need_of chain ≡ track_needed (begin_with chain (opening_at chain)) (stage_for (opening_at chain).opening)
+  needs_by = ap (λ (o : Option Stage). track_needed (opened_by chain o) (stage_by chain o)) fresh
 
-  needs_so : (t : ℕ) → need_of chain ≡ Some t → needed (begin_with chain (opening_at chain)) (stage_for (opening_at chain).opening) ≡ Some t
-  needs_so t is = sym (ap (λ (o : Option Stage). needed (opened_by chain o) (stage_by chain o)) fresh) ∙ is
+  needs_so : (t : ℕ) → need_of chain ≡ Some t → track_needed (begin_with chain (opening_at chain)) (stage_for (opening_at chain).opening) ≡ Some t
+  needs_so t is = sym (ap (λ (o : Option Stage). track_needed (opened_by chain o) (stage_by chain o)) fresh) ∙ is
 
   pub fed_so : (answer : LocalAct → Settled) (k t : ℕ) → suc k ≡ chain.fixed.cylinders * 15 → need_of chain ≡ Some t →
       fed (suc k) (track_in u) answer chain ≡ ended_by chain eff_of.outcome eff_of.edit

@@ -22,9 +22,9 @@ use Rattle.device_defs.specs.Events.{second_of, second_ended, second_turn, comma
 use Rattle.device_defs.specs.Losses.{slot_in}
 use Rattle.device_defs.specs.Marks.{MarksDevice, MarksStore}
 use Rattle.device_defs.specs.Outcomes.{Turn, settles, checks, turned}
-use Rattle.device_defs.specs.Owed.{begun}
+use Rattle.device_defs.specs.Owed.{noted_begin}
 use Rattle.device_defs.specs.Second as N
-use Rattle.device_defs.specs.Second.{second_part, second_by, cut_kept, closed}
+use Rattle.device_defs.specs.Second.{second_part, second_by, cut_kept, half_closed}
 use Rattle.device_defs.specs.Store.{Origin, OfCommand, OfCut, OfBackground, HalfWrite, has_level, frame_at, patch_at, with_frame}
 use Rattle.device_laws.proofs.Had.{Had, had_done, had_tell, had_if, had_then}
 use Rattle.device_laws.proofs.PlainCommand.{equipment_on, edited_follows, sized_by, runs_on, event_follows}
@@ -72,7 +72,7 @@ module _ (p : PlainState) (u : List Track) (g : Geometry) (n : ℕ) (lent : Opti
   hard (OfCut bypass) m t c k w is = walks_hardened p u g n m c k w is
   hard OfBackground m t c k w is = walks_hardened p u g n m c k w is
 
-  closed_on : (h : Option (HalfWrite (Unit {0}))) (s : MarksStore) → Walks p u g n (h, lent) (core_of s) → On (closed s)
+  closed_on : (h : Option (HalfWrite (Unit {0}))) (s : MarksStore) → Walks p u g n (h, lent) (core_of s) → On (half_closed s)
   closed_on h s w = walks_half p u g n (h, lent) (core_of s) w None
 
   kept_on : (s : MarksStore) (t : ℕ) (i : Image) (o : Option Bool) → On s → On (cut_kept by_plain s t i o)
@@ -85,18 +85,18 @@ module _ (p : PlainState) (u : List Track) (g : Geometry) (n : ℕ) (lent : Opti
       Had (second_by by_plain t i origin s) (λ z done. SecondSo t origin z done)
   by_level h s t i (OfCommand bypass e) f =
       had_if (has_level s t)
-      (λ _. had_tell (had_then (done_same (with_edit (closed s) t e) t i bypass)
-      (λ z _ same. had_done (record { before = core_of (closed s); on = closed_on h s f.on; firm = f.firm; is = same }))))
-      (λ _. had_done (settled_on p u g n (None, lent) (closed s) t (closed_on h s f.on)))
+      (λ _. had_tell (had_then (done_same (with_edit (half_closed s) t e) t i bypass)
+      (λ z _ same. had_done (record { before = core_of (half_closed s); on = closed_on h s f.on; firm = f.firm; is = same }))))
+      (λ _. had_done (settled_on p u g n (None, lent) (half_closed s) t (closed_on h s f.on)))
   by_level h s t i (OfCut bypass) w =
       had_if (has_level s t)
-      (λ _. had_then (done_same (closed s) t i bypass) (λ z _ e. had_done (walks_on p u g n (None, lent) e (closed_on h s w))))
-      (λ _. had_done (settled_on p u g n (None, lent) (cut_kept by_plain (closed s) t i (frame_at (closed s) t)) t
-      (kept_on (closed s) t i (frame_at (closed s) t) (closed_on h s w))))
+      (λ _. had_then (done_same (half_closed s) t i bypass) (λ z _ e. had_done (walks_on p u g n (None, lent) e (closed_on h s w))))
+      (λ _. had_done (settled_on p u g n (None, lent) (cut_kept by_plain (half_closed s) t i (frame_at (half_closed s) t)) t
+      (kept_on (half_closed s) t i (frame_at (half_closed s) t) (closed_on h s w))))
   by_level h s t i OfBackground w =
       had_if (has_level s t)
-      (λ _. had_then (done_same (closed s) t i false) (λ z _ e. had_done (walks_on p u g n (None, lent) e (closed_on h s w))))
-      (λ _. had_done (settled_on p u g n (None, lent) (closed s) t (closed_on h s w)))
+      (λ _. had_then (done_same (half_closed s) t i false) (λ z _ e. had_done (walks_on p u g n (None, lent) e (closed_on h s w))))
+      (λ _. had_done (settled_on p u g n (None, lent) (half_closed s) t (closed_on h s w)))
 
   pub part_so : (s : MarksStore) (h : HalfWrite (Unit {0})) (m : Option (HalfWrite (Unit {0}))) → Holds h.origin (m, lent) h.track (core_of s) →
       Had (second_part by_plain s h) (λ z done. SecondSo h.track h.origin z done)
@@ -196,7 +196,7 @@ module _ (num : ℕ) (empty : PlainState) (d : MarksDevice) (f : Follows num emp
   ended_so t OfBackground mid y done w = had_done (other_follows y w mid)
 
   pub holds_first : (t : ℕ) (origin : Origin) → IsMidOf (core_of d.store) t origin d.history.running f.before d.chain → (s : MarksStore) →
-      core_of s ≡ core_of (begun d.store) →
+      core_of s ≡ core_of (noted_begin d.store) →
       Holds (plain_of d.plans empty d.history) d.store.plain d.store.geometry d.store.cylinders (d.store.lent, d.store.device) origin
       (d.store.half, (d.store.lent, d.store.device)) t (core_of s)
   holds_first t (OfCommand bypass e) mid s is = record {

@@ -15,7 +15,7 @@ use Rattle.ckd_chain.specs.State.{ChainState}
 use Rattle.ckd_chain.specs.Steps.{index_of, need_of, behind, end_with, settled_by}
 use Rattle.ckd_rules.specs.declared.order.LocalAct.{LocalAct}
 use Rattle.ckd_rules.specs.Ending.{Outcome}
-use Rattle.ckd_rules.specs.Ends.{end_of}
+use Rattle.ckd_rules.specs.Ends.{end_at_word}
 use Rattle.plain_defs.specs.declared.journal.Act.{Act}
 use Rattle.plain_defs.specs.declared.journal.How.TheVariants.{Full}
 use Rattle.plain_defs.specs.Effect.{Effect, behind_effect}
@@ -318,10 +318,10 @@ module _ (empty : PlainState) (d : MarksDevice) where
       next : (open_part d.plans s o).next ≡ Some (index_of chain.at.next)
       next = sym at.hand.next ∙ index_is chain.at.next (subst (λ (n : Option ℕ). IsSome n) (sym at.hand.next) going.runs)
 
-      end_is : end_with chain outcome ≡ end_of (index_of chain.at.next) (ccw_at (program_of d.plans o.path o.ordinal) (index_of chain.at.next)) eff.outcome
+      end_is : end_with chain outcome ≡ end_at_word (index_of chain.at.next) (ccw_at (program_of d.plans o.path o.ordinal) (index_of chain.at.next)) eff.outcome
       end_is =
-          ap (λ (l : List Ccw). end_of (index_of chain.at.next) (ccw_at l (index_of chain.at.next)) outcome) at.hand.words
-          ∙ ap (λ (x : Outcome). end_of (index_of chain.at.next) (ccw_at (program_of d.plans o.path o.ordinal) (index_of chain.at.next)) x) same
+          ap (λ (l : List Ccw). end_at_word (index_of chain.at.next) (ccw_at l (index_of chain.at.next)) outcome) at.hand.words
+          ∙ ap (λ (x : Outcome). end_at_word (index_of chain.at.next) (ccw_at (program_of d.plans o.path o.ordinal) (index_of chain.at.next)) x) same
 
       ends_stand : StandsPlainly empty (record d { history = history_ended d.history e })
       ends_stand = record {

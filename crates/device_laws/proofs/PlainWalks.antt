@@ -95,7 +95,7 @@ use Rattle.device_defs.specs.Losses.{
   down,
 }
 use Rattle.device_defs.specs.Marks.{MarksStore}
-use Rattle.device_defs.specs.Owed.{hear, is_clean, ended}
+use Rattle.device_defs.specs.Owed.{hear, is_clean, noted_end}
 use Rattle.device_defs.specs.Store.{
   Origin,
   OfCommand,
@@ -116,7 +116,8 @@ use Rattle.device_defs.specs.Store.{
   with_stale,
 }
 use Rattle.device_defs.specs.Writing as W
-use Rattle.device_defs.specs.Writing.{wrote, firm_first, unwritten, write_first, first_a, failed_a, alone_b, write_second, write_done, taken_a, cleaned, opened}
+use Rattle.device_defs.specs.Writing.{wrote, firm_first, unwritten, write_first, first_a, failed_a, alone_b, write_second, write_done, taken_a, cleaned, write_opened}
+use Rattle.device_laws.proofs.Bools.{not_true}
 use Rattle.device_laws.proofs.Had.{Had, had_done, had_try, had_ask, had_read, had_write, had_tell, had_if, had_then}
 use Rattle.device_laws.proofs.CacheLost.{none_below}
 use Rattle.device_laws.proofs.PlainStores.{
@@ -164,7 +165,7 @@ everywhere_same s t =
 pub hear_same : (n : ℕ) (s : MarksStore) → Had (hear by_plain n s) (λ y (_ : Unit {0}). core_of y ≡ core_of s)
 hear_same n s = asks_had (hear_asks by_plain (λ z. core_of z ≡ core_of s) (λ z t clean e. framed_same z t None ∙ e) n s refl)
 
-pub ended_same : (before : ℕ) (s : MarksStore) → Had (ended by_plain before s) (λ y (_ : Unit {0}). core_of y ≡ core_of s)
+pub ended_same : (before : ℕ) (s : MarksStore) → Had (noted_end by_plain before s) (λ y (_ : Unit {0}). core_of y ≡ core_of s)
 ended_same before s = asks_had (ended_asks by_plain (λ z. core_of z ≡ core_of s) (λ z t e. e) before s refl)
 
 -- What a loss of a side leaves
@@ -268,7 +269,7 @@ opened_half t origin = Some (record { track = t; origin = origin; image = tt })
 
 -- a half write is opened
 pub opened_core : (s : MarksStore) (t : ℕ) (i : Image) (origin : Origin) (was : Bool) →
-    Had (opened by_plain s t i origin was) (λ z (_ : Unit {0}). core_of z ≡ with_half (core_of s) (opened_half t origin))
+    Had (write_opened by_plain s t i origin was) (λ z (_ : Unit {0}). core_of z ≡ with_half (core_of s) (opened_half t origin))
 opened_core s t i origin was =
     had_if was
     (λ _. had_ask (λ _. had_done (ap (λ (c : Core). with_half c (opened_half t origin)) (framed_same s t (cleaned by_plain (frame_at s t))))))
@@ -447,10 +448,6 @@ module _ (p : PlainState) (u : List Track) (g : Geometry) (n : ℕ) (m : Open) w
     -- the tracks before this one that it looked at, where the write may take two events
     abbrev Looked : Bool → ℕ → Type 0
     Looked opens q = (opens ≡ true) × ((first ≤ q) × (q < t))
-
-    not_true : (b : Bool) → not b ≡ true → b ≡ false
-    not_true true is = absurd (cc)
-    not_true false is = refl
 
     second_false : (a b : Bool) → (a && b) ≡ false → a ≡ true → b ≡ false
     second_false true b is one = is

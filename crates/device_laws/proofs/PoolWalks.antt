@@ -32,7 +32,7 @@ use Rattle.device_defs.specs.Owed.{
   all_told,
   waiting_count,
   waiting_told,
-  ended,
+  noted_end,
 }
 use Rattle.device_defs.specs.Store.{Store, no_debt, tracks_of, frame_at, patch_at, is_loose, owed_at, with_frame, with_patch, with_owed}
 use Rattle.device_defs.specs.Writing as V
@@ -132,7 +132,7 @@ module _ {F P H R : Type 0} (c : Contents F P H R) (Q : Store F P H → Type 0) 
     told_asks (suc n) s f =
         asks_then (λ z _. track_told c n z) (told_asks n s f) (λ z _ g. asks_if (is_owed c (owed_at z n)) (debt_asks n z g) (asks_done g))
 
-    pub ended_asks : (before : ℕ) (s : Store F P H) → Q s → Asks Any (ended c before s)
+    pub ended_asks : (before : ℕ) (s : Store F P H) → Q s → Asks Any (noted_end c before s)
     ended_asks before s f =
         asks_then (λ z _. waiting_told c before z) (asks_any (told_asks (tracks_of s) s f))
         (λ z _ g. asks_if (waiting_count c z == before) (asks_done g) (asks_ask tt (λ _. asks_done g)))

@@ -14,7 +14,7 @@ use Rattle.device_defs.specs.Device.{Device, event_begun}
 use Rattle.device_defs.specs.Effects.{gone_back}
 use Rattle.device_defs.specs.Events.{with_loss}
 use Rattle.device_defs.specs.Losses.{over, without_frame, without_patch, settled}
-use Rattle.device_defs.specs.Second.{closed}
+use Rattle.device_defs.specs.Second.{half_closed}
 use Rattle.device_defs.specs.Store.{Origin, OfCommand, OfCut, OfBackground, HalfWrite, Store, tracks_of, has_loose, is_loose, half_is}
 use Rattle.device_laws.proofs.Always.{Always, always_done, always_then}
 use Rattle.device_laws.proofs.CacheLost.{none_below, unframed_settled, step}
@@ -78,7 +78,7 @@ module _ {F P H R : Type 0} (c : Contents F P H R) (faithful : IsFaithful c) whe
   gone_half s true = refl
   gone_half s false = refl
 
-  closed_cleared : (s z : Store F P H) → Cleared s z → Cleared s (closed z)
+  closed_cleared : (s z : Store F P H) → Cleared s z → Cleared s (half_closed z)
   unfolding M.track_at C.rest_of
   closed_cleared s z f = record {
     sizes = record { are = f.sizes.are };
@@ -123,10 +123,10 @@ module _ {F P H R : Type 0} (c : Contents F P H R) (faithful : IsFaithful c) whe
   ended_by : (s z : Store F P H) (h : HalfWrite H) (origin : Origin) → h.track < tracks_of z → Cleared s z → Ended s (half_ended c z h origin)
   ended_by s z h (OfCommand bypass e) lt f =
       let g = closed_cleared s z f in
-      record { cleared = patch_cleared s (closed z) h.track lt g; none = patch_half (closed z) h.track lt g.sizes }
+      record { cleared = patch_cleared s (half_closed z) h.track lt g; none = patch_half (half_closed z) h.track lt g.sizes }
   ended_by s z h (OfCut bypass) lt f =
       let g = closed_cleared s z f in
-      record { cleared = patch_cleared s (closed z) h.track lt g; none = patch_half (closed z) h.track lt g.sizes }
+      record { cleared = patch_cleared s (half_closed z) h.track lt g; none = patch_half (half_closed z) h.track lt g.sizes }
   ended_by s z h OfBackground lt f = record { cleared = closed_cleared s z f; none = refl }
 
   lost_by : (s z : Store F P H) (o : Option (HalfWrite H)) → z.half ≡ o → Cleared s z → Ended s (half_lost c z o)

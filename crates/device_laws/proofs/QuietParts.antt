@@ -18,9 +18,9 @@ use Rattle.device_defs.specs.Editing.{write_by}
 use Rattle.device_defs.specs.Events.{with_loss, lost_by, losing}
 use Rattle.device_defs.specs.Losses as L
 use Rattle.device_defs.specs.Losses.{firm_told, all_firm_told, side_lost, call_failed}
-use Rattle.device_defs.specs.Owed.{hear, ended}
+use Rattle.device_defs.specs.Owed.{hear, noted_end}
 use Rattle.device_defs.specs.Second as D
-use Rattle.device_defs.specs.Second.{half_image_of, closed, finished, second_done, second_absent, second_by, second_part}
+use Rattle.device_defs.specs.Second.{half_image_of, half_closed, finished, second_done, second_absent, second_by, second_part}
 use Rattle.device_defs.specs.Store.{Origin, OfCommand, OfCut, OfBackground, HalfWrite, Store, tracks_of, takes_b, has_level}
 use Rattle.device_defs.specs.Transfers as M
 use Rattle.device_defs.specs.Transfers.{Moves, FirstPart, SecondPart, InCache, Loss as LossPart, both, one_or_both, Within, Makes}
@@ -111,7 +111,7 @@ module _ {F P H R : Type 0} (c : Contents F P H R) where
   pub hear_quiet : (n : ℕ) (s : Store F P H) → Talks (hear c n s)
   hear_quiet n s = asks_quiet (hear_asks c (λ z. Unit {0}) (λ z t clean f. f) n s tt)
 
-  pub ended_quiet : (before : ℕ) (s : Store F P H) → Talks (ended c before s)
+  pub ended_quiet : (before : ℕ) (s : Store F P H) → Talks (noted_end c before s)
   ended_quiet before s = asks_quiet (ended_asks c (λ z. Unit {0}) (λ z t f. f) before s tt)
 
   -- Losses, failed calls and cuts
@@ -231,7 +231,7 @@ module _ {F P H R : Type 0} (c : Contents F P H R) where
       record {
         moves = then_quiet (Within s SecondPart) 0 0 (write_second c s h.track (c.bytes i)) (λ z _. second_by c h.track i h.origin z)
             (write_second_moves s h.track (c.bytes i))
-            (λ z _. quiet_if (has_level z h.track) (done_by_origin (closed z) h.track i h.origin) quiet_done);
+            (λ z _. quiet_if (has_level z h.track) (done_by_origin (half_closed z) h.track i h.origin) quiet_done);
       }
 
   -- What moves nothing makes the transfers of a loss

@@ -29,7 +29,7 @@ use Rattle.device_outside.specs.Volume as V
 use Rattle.device_outside.specs.Volume.{VolumeView, Spent, counted, counted_if}
 use Rattle.device_defs.specs.Contents.{Contents}
 use Rattle.device_defs.specs.Device.{Device, event_begun, event_ended, quiet_event}
-use Rattle.device_defs.specs.Owed.{all_told, waiting_count, waiting_told, ended}
+use Rattle.device_defs.specs.Owed.{all_told, waiting_count, waiting_told, noted_end}
 use Rattle.device_defs.specs.Pledge.{StaysWithin}
 use Rattle.device_defs.specs.Store.{Store, tracks_of}
 use Rattle.device_laws.specs.Handed.{allowance_of, in_all, allowance_in, waiting_of, waiting_in, HasWaiting, with_waiting}
@@ -180,7 +180,7 @@ module _ {F P H R K : Type 0} (c : Contents F P H R) {had : Bool → Type 0} {he
         ∙ ap (λ (x : Option (List ℕ)). with_waiting x d (waiting_count c s)) same
 
     end_told : y.store.device ≡ d → {u z : Outside R K} {e : Device F P H} {a : X} → waiting_in u ≡ w →
-        Ran had hears (and_then (ended c before y.store) (put_in y o)) u e a z → waiting_in z ≡ with_waiting w d (waiting_count c e.store)
+        Ran had hears (and_then (noted_end c before y.store) (put_in y o)) u e a z → waiting_in z ≡ with_waiting w d (waiting_count c e.store)
     end_told own same r =
         let x = split (λ z _. and_then (waiting_told c before z) (put_in y o)) (all_told_steady c (tracks_of y.store) y.store)
         (ran_on (all_told c (tracks_of y.store) y.store) (λ z _. waiting_told c before z) (put_in y o) r) in

@@ -93,7 +93,7 @@ use Rattle.device_defs.specs.Owed.{
   waits_by,
   waits,
   waiting_count,
-  ended,
+  noted_end,
 }
 use Rattle.device_defs.specs.Store.{
   OfBackground,
@@ -123,13 +123,14 @@ use Rattle.device_defs.specs.Writing.{
   slot_freed,
   write_done,
   cleaned,
-  opened,
+  write_opened,
 }
+use Rattle.device_laws.proofs.Bools.{not_true}
 use Rattle.device_laws.proofs.Always.{Always, always_done, always_try, always_ask, always_read, always_write, always_tell, always_then, always_weaker}
-use Rattle.device_laws.proofs.FramesKept.{none_at}
+use Rattle.device_laws.proofs.HeldPlaces.{none_at}
 use Rattle.device_laws.proofs.KeptEvents.{always_any, always_if}
 use Rattle.device_laws.proofs.TrackMarks.{IsFaithful}
-use Rattle.device_laws.proofs.UnlostParts.{found_if}
+use Rattle.device_laws.proofs.Working.{found_if}
 
 -- what says which tracks wait, and the open half write
 pub record Shelf (F P H : Type 0) : Type 0 where
@@ -189,10 +190,6 @@ loose_off m p false e = absurd (cc)
 loose_off false p true e = refl
 loose_off true true true e = refl
 loose_off true false true e = refl
-
-pub not_on : (b : Bool) → not b ≡ true → b ≡ false
-not_on true e = absurd (cc)
-not_on false e = refl
 
 module _ {F P H R : Type 0} (c : Contents F P H R) where
   -- Which tracks wait
@@ -263,7 +260,7 @@ module _ {F P H R : Type 0} (c : Contents F P H R) where
 
   clean_due : (o : Option F) (p l : Bool) → is_clean c o ≡ true → due o p l ≡ false
   clean_due None p l e = absurd (cc)
-  clean_due (Some f) p l e = clean_off (c.modified f) p l (not_on (c.modified f) e)
+  clean_due (Some f) p l e = clean_off (c.modified f) p l (not_true (c.modified f) e)
 
   dropped_waits : (x : Shelf F P H) (t : ℕ) → is_clean c (get_or x.frames t None) ≡ true → DropsWell x → (q : ℕ) → ((q ≡ t) ⊎ (q ≢ t)) →
       waits_in (dropped_in x t) q ≡ waits_in x q
@@ -331,7 +328,7 @@ module _ {F P H R : Type 0} (c : Contents F P H R) where
     told_shelf zero s e = always_done e
     told_shelf (suc n) s e = always_then (told_shelf n s e) (λ z _ g. always_if (is_owed c (owed_at z n)) (debt_shelf n z g) (always_done g))
 
-    pub end_shelf : (before : ℕ) (s : Store F P H) → shelf_of s ≡ x → Ends (ended c before s)
+    pub end_shelf : (before : ℕ) (s : Store F P H) → shelf_of s ≡ x → Ends (noted_end c before s)
     end_shelf before s e =
         always_then (told_shelf (tracks_of s) s e)
         (λ z _ g. always_if (waiting_count c z == before) (always_done g) (always_ask (λ _. always_done g)))
@@ -506,7 +503,7 @@ module _ {F P H R : Type 0} (c : Contents F P H R) where
     late_saved_by : (t : ℕ) (i : Image) (d : Did) (side : Side) (l : Bool) (failed : Option Side) (s : Store F P H) (took : Took) →
         Saves (saved_by c t i d (Some side) l failed s took)
     late_saved_by t i d side l failed s Whole = always_then (always_any (write_done c s t i false)) (λ z _ _. always_done tt)
-    late_saved_by t i d side l failed s Opened = always_then (always_any (opened c s t i OfBackground l)) (λ z _ _. always_done tt)
+    late_saved_by t i d side l failed s Opened = always_then (always_any (write_opened c s t i OfBackground l)) (λ z _ _. always_done tt)
     late_saved_by t i d side l failed s Unwritten = always_done tt
 
     late_saving : (s : Store F P H) (t : ℕ) (i : Image) (d : Did) (side : Side) → Saves (saving c s t i d (Some side))
@@ -544,7 +541,7 @@ module _ {F P H R : Type 0} (c : Contents F P H R) where
     staged_any t s g None = unfilled_any s t (Some (did g.fault dids.Nothing)) (plainly x (shelf_of s) g.fault dids.Nothing tt)
     staged_any t s g (Some r) = always_try (λ ok. always_if ok (staged_image_any t s g (image_of c s t r)) (unfilled_any s t None tt))
 
-    granted_any : (s : Store F P H) (t : ℕ) (given : Bool) → Works (K.granted c s t given)
+    granted_any : (s : Store F P H) (t : ℕ) (given : Bool) → Works (K.staging_granted c s t given)
     granted_any s t given = always_if given (always_then (always_any (level_bytes c s t)) (λ z g _. staged_any t z g g.bytes)) (always_done tt)
 
     stage_any : (s : Store F P H) (t : ℕ) → Works (stage c s t)
@@ -597,7 +594,7 @@ module _ {F P H R : Type 0} (c : Contents F P H R) where
             ∙ sym (none_on lost (due (Some f) patched (get_or x.loose t false)) (loose_off (c.modified f) patched (get_or x.loose t false) loose))
 
     opened_waits : (x : Shelf F P H) (t : ℕ) (i : Image) (l : Bool) (s : Store F P H) → get_or x.loose t false ≡ l → shelf_of s ≡ firmed x t l →
-        Always (opened c s t i OfBackground l) (λ z (a : Unit {0}). HalfIn x t (shelf_of z))
+        Always (write_opened c s t i OfBackground l) (λ z (a : Unit {0}). HalfIn x t (shelf_of z))
     opened_waits x t i true s loose e =
         let h : HalfWrite H = record { track = t; origin = OfBackground; image = c.half i } in
         always_ask (λ _. always_done (subst
@@ -665,7 +662,7 @@ module _ {F P H R : Type 0} (c : Contents F P H R) where
     destage_waits s (Some t) found = saved_waits s t (framed_image c s t (frame_at s t)) (dids.Destaged t) (found t refl) (λ y k. tt)
 
     stage_waits : (s : Store F P H) (l : List ℕ) → Works (shelf_of s) (stage_first c s l)
-    stage_waits s [] = destage_waits s (to_destage c s) (λ t e. (found_if c faithful (tracks_of s) (is_destaged c s) (some_up s) t e).0)
+    stage_waits s [] = destage_waits s (to_destage c s) (λ t e. (found_if (tracks_of s) (is_destaged c s) (some_up s) t e).0)
     stage_waits s (t ∷ ts) = stage_any (shelf_of s) (record s { queue = ts }) t
 
     copy_waits : (s : Store F P H) (o : Option ℕ) → Works (shelf_of s) (copy_first c s o)
@@ -679,4 +676,4 @@ module _ {F P H R : Type 0} (c : Contents F P H R) where
 
     pub work_waits : (s : Store F P H) → Works (shelf_of s) (work c s)
     unfolding K.work
-    work_waits s = recover_or s (to_recover c s) (λ t e. found_if c faithful (tracks_of s) (waits c s) (some_up s) t e)
+    work_waits s = recover_or s (to_recover c s) (λ t e. found_if (tracks_of s) (waits c s) (some_up s) t e)

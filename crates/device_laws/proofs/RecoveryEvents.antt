@@ -27,7 +27,7 @@ use Rattle.std.proofs.Common.{
 }
 use Rattle.std.proofs.lemmas.Bool.{cases_lt}
 use Rattle.std.proofs.lemmas.List.{get_or_past}
-use Rattle.std.specs.Prelude.{if◌then◌else◌, ◌&&◌, not}
+use Rattle.std.specs.Prelude.{◌&&◌, not}
 use Rattle.track_image.specs.Image.{Image}
 use Rattle.device_outside.specs.Interaction.{Interaction, Done}
 use Rattle.device_defs.specs.declared.answers.Did.{Did}
@@ -39,9 +39,9 @@ use Rattle.device_defs.specs.Device.{Device, with_store, event_begun, event_ende
 use Rattle.device_defs.specs.Events as E
 use Rattle.device_defs.specs.Events.{second_ended, second_of, second, background}
 use Rattle.device_defs.specs.Owed as O
-use Rattle.device_defs.specs.Owed.{is_clean, hear, waits, waiting_count, ended}
+use Rattle.device_defs.specs.Owed.{is_clean, hear, waits, waiting_count, noted_end}
 use Rattle.device_defs.specs.Second as D
-use Rattle.device_defs.specs.Second.{half_image_of, closed, second_by, second_part}
+use Rattle.device_defs.specs.Second.{half_image_of, half_closed, second_by, second_part}
 use Rattle.device_defs.specs.Store.{
   Origin,
   OfCommand,
@@ -60,25 +60,12 @@ use Rattle.device_defs.specs.Store.{
 }
 use Rattle.device_defs.specs.Writing as V
 use Rattle.device_defs.specs.Writing.{write_second, write_done}
+use Rattle.device_laws.proofs.Bools.{not_true}
 use Rattle.device_laws.proofs.Always.{Always, always_done, always_then}
 use Rattle.device_laws.proofs.FailedCall.{IsWell}
 use Rattle.device_laws.proofs.FramesLaws.{clean_bare, clean_is}
 use Rattle.device_laws.proofs.Lucky.{Lucky, lucky_done, lucky_write, lucky_then, lucky_if, with_always}
-use Rattle.device_laws.proofs.Recoveries.{
-  Shelf,
-  shelf_of,
-  not_on,
-  DoneIn,
-  SameIn,
-  HalfIn,
-  DropsWell,
-  hear_waits,
-  end_shelf,
-  DidWaits,
-  WorkWaits,
-  write_done_waits,
-  work_waits,
-}
+use Rattle.device_laws.proofs.Recoveries.{Shelf, shelf_of, DoneIn, SameIn, HalfIn, DropsWell, hear_waits, end_shelf, DidWaits, WorkWaits, write_done_waits, work_waits}
 use Rattle.device_laws.proofs.TrackMarks as M
 use Rattle.device_laws.proofs.TrackMarks.{IsFaithful, frame_mark}
 use Rattle.device_laws.proofs.Unchecked.{lucky_any}
@@ -104,7 +91,7 @@ module _ {F P H R : Type 0} (c : Contents F P H R) where
       (not (is_lost s t) && O.waits_by c s t o) ≡ true → true ≡ false
   own_is_held s t None clean e = absurd (cc)
   own_is_held s t (Some f) clean e =
-      waits_off (is_lost s t) (c.modified f) (is_some (patch_at s t)) (is_loose s t) (not_on (c.modified f) clean) e
+      waits_off (is_lost s t) (c.modified f) (is_some (patch_at s t)) (is_loose s t) (not_true (c.modified f) clean) e
 
   pub well_drops : (s : Store F P H) → IsWell c s → ((h : HalfWrite H) → s.half ≡ Some h → waits c s h.track ≡ true) → DropsWell c (shelf_of s)
   unfolding M.track_at O.waits
@@ -194,7 +181,7 @@ module _ {F P H R : Type 0} (c : Contents F P H R) where
     second_by_waits s z t i origin own same =
         subst (λ (o : Origin). Finishes (shelf_of s) t (second_by c t i o z)) (sym own)
         (lucky_if (has_level z t)
-        (λ _. lucky_then (λ y _. Done y true) (with_always (write_done_waits c faithful (closed z) t i) (lucky_any (write_done c (closed z) t i false)))
+        (λ _. lucky_then (λ y _. Done y true) (with_always (write_done_waits c faithful (half_closed z) t i) (lucky_any (write_done c (half_closed z) t i false)))
         (λ y _ k. lucky_done (λ _. subst (λ (x : Shelf F P H). DoneIn c x t (shelf_of y)) same (closed_done (shelf_of z) (shelf_of y) t k.0))))
         (λ _. lucky_done (λ e. absurd (cc))))
 
@@ -250,5 +237,5 @@ module _ {F P H R : Type 0} (c : Contents F P H R) where
         (with_always (hear_waits c 960 (event_begun d).store drops) (lucky_any (hear c 960 (event_begun d).store)))
         (λ s _ f. second_of_waits d s h own f.0 s.half (f.0.half ∙ is)))
         (λ y a g. lucky_then (λ z _. Done (record y { store = z }) a)
-        (with_always (end_shelf c (shelf_of y.store) (waiting_count c d.store) y.store refl) (lucky_any (ended c (waiting_count c d.store) y.store)))
+        (with_always (end_shelf c (shelf_of y.store) (waiting_count c d.store) y.store refl) (lucky_any (noted_end c (waiting_count c d.store) y.store)))
         (λ z _ e. lucky_done (subst (λ (w : Shelf F P H). SecondWaits x h.track w a) (sym e.0) g)))

@@ -1,28 +1,5 @@
 -- A device that was lent gets an empty volume, and is in order with empty tracks.
-use Rattle.std.proofs.Common.{
-  ◌≡◌,
-  ◌<◌,
-  ◌≤◌,
-  ◌*◌,
-  ℕ,
-  Bool,
-  true,
-  false,
-  List,
-  [],
-  length,
-  map,
-  Option,
-  Some,
-  None,
-  is_some,
-  get_or,
-  refl,
-  sym,
-  ap,
-  subst,
-  ◌∙◌,
-}
+use Rattle.std.proofs.Common.{◌≡◌, ◌<◌, ◌≤◌, ◌*◌, ℕ, Bool, true, false, List, [], length, map, Option, is_some, get_or, refl, sym, ap, subst, ◌∙◌}
 use Rattle.std.proofs.lemmas.List.FromFn.{length-map-range_with_len}
 use Rattle.std.specs.List.{range_with_len}
 use Rattle.std.specs.Prelude.{◌&&◌, not}
@@ -47,7 +24,7 @@ use Rattle.device_laws.specs.Lent.{IsLentStore}
 use Rattle.device_laws.specs.Whole.{WholeDevice, marks_device, holding}
 use Rattle.device_laws.proofs.ContentChanges.{same_slots}
 use Rattle.device_laws.proofs.FailedCall.{IsWell}
-use Rattle.device_laws.proofs.NewDevices.{reads}
+use Rattle.device_laws.proofs.NewDevices.{reads, unpatched}
 use Rattle.device_laws.proofs.OrderMarks.{IsGone, restore_makes_good}
 use Rattle.device_laws.proofs.TrackContents as T
 use Rattle.device_laws.proofs.TrackContents.{TrackContents, contents_at, Keeps, none_fits}
@@ -56,10 +33,6 @@ use Rattle.device_laws.proofs.TrackMarks.{track_at, device_is_faithful}
 use Rattle.device_laws.proofs.TwinAsks.{right_keeps}
 use Rattle.device_laws.proofs.TwinLaws.{is_in_order}
 use Rattle.device_laws.proofs.TwinSettled.{AllTold}
-
-patched_none : (o : Option Image) → patched_by None o ≡ o
-patched_none None = refl
-patched_none (Some i) = refl
 
 module _ (v w : List Track) (d : WholeDevice) (h : Held) (i : IsLentStore v w d.store h) (most : d.store.cylinders ≤ 64) where
   abbrev s : DeviceStore
@@ -121,7 +94,7 @@ module _ (v w : List Track) (d : WholeDevice) (h : Held) (i : IsLentStore v w d.
   keeps q lt = record {
     frame = λ f e. absurd (let none = i.frame q in cc);
     a = λ e. ap (λ (o : Option Stored). patched_by o (image_read g q (get_or k.a q []))) (i.patch q)
-        ∙ patched_none (image_read g q (get_or k.a q [])) ∙ reads 0 g n k most refl q lt;
+        ∙ unpatched (image_read g q (get_or k.a q [])) ∙ reads 0 g n k most refl q lt;
     b = λ e. absurd (off q e);
     patch = none_fits (contents_at z k q).patch (image_in z u q) (image_in z u q) (i.patch q);
   }

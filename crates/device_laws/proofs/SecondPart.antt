@@ -7,7 +7,7 @@ use Rattle.device_defs.specs.Contents.{Contents}
 use Rattle.device_defs.specs.Effects.{with_edit}
 use Rattle.device_defs.specs.Losses.{settled, without_patch}
 use Rattle.device_defs.specs.Second as D
-use Rattle.device_defs.specs.Second.{closed, half_image_of, finished, second_done, cut_kept, left_by, second_absent, second_by, second_part}
+use Rattle.device_defs.specs.Second.{half_closed, half_image_of, finished, second_done, cut_kept, left_by, second_absent, second_by, second_part}
 use Rattle.device_defs.specs.Store.{
   Origin,
   OfCommand,
@@ -57,19 +57,19 @@ is_other {H} o h q e ne = ap (λ (k : Option (HalfWrite H)). half_is k q) e ∙ 
 module _ {F P H R : Type 0} (c : Contents F P H R) (faithful : IsFaithful c) where
   -- the half write is closed, and its track is settled or done
 
-  pub closed_here : (y : Store F P H) (h : HalfWrite H) → y.half ≡ Some h → track_at c (closed y) h.track ≡ record (track_at c y h.track) { half = false }
+  pub closed_here : (y : Store F P H) (h : HalfWrite H) → y.half ≡ Some h → track_at c (half_closed y) h.track ≡ record (track_at c y h.track) { half = false }
   unfolding M.track_at
   closed_here y h e = refl
 
-  pub closed_elsewhere : (y : Store F P H) (h : HalfWrite H) → y.half ≡ Some h → (q : ℕ) → q ≢ h.track → track_at c (closed y) q ≡ track_at c y q
+  pub closed_elsewhere : (y : Store F P H) (h : HalfWrite H) → y.half ≡ Some h → (q : ℕ) → q ≢ h.track → track_at c (half_closed y) q ≡ track_at c y q
   unfolding M.track_at
   closed_elsewhere y h e q ne = ap (λ (b : Bool). record (track_at c y q) { half = b }) (sym (is_other y.half h q e ne))
 
-  closed_loose : (y : Store F P H) (q : ℕ) → (track_at c (closed y) q).loose ≡ (track_at c y q).loose
+  closed_loose : (y : Store F P H) (q : ℕ) → (track_at c (half_closed y) q).loose ≡ (track_at c y q).loose
   unfolding M.track_at
   closed_loose y q = refl
 
-  closed_is_here : (y : Store F P H) → IsHere (rest_of y) → IsHere (rest_of (closed y))
+  closed_is_here : (y : Store F P H) → IsHere (rest_of y) → IsHere (rest_of (half_closed y))
   unfolding C.rest_of
   closed_is_here y h = record { free = h.free; alone = h.alone; whole = λ e. refl; within = λ k e. absurd (cc); queued = h.queued }
 
@@ -77,7 +77,7 @@ module _ {F P H R : Type 0} (c : Contents F P H R) (faithful : IsFaithful c) whe
   unfolding M.track_at
   own_half s h e = is_own s.half h e
 
-  closed_others : (s y : Store F P H) (h : HalfWrite H) → s.half ≡ Some h → Open c h.track s y → Others c h.track (closed s) (closed y)
+  closed_others : (s y : Store F P H) (h : HalfWrite H) → s.half ≡ Some h → Open c h.track s y → Others c h.track (half_closed s) (half_closed y)
   closed_others s y h e o =
       let i = o.others in
       let same = closed_elsewhere y h (i.half ∙ e) in
@@ -156,11 +156,11 @@ module _ {F P H R : Type 0} (c : Contents F P H R) (faithful : IsFaithful c) whe
   left_goes t s z i OfBackground lt o there firm level = absent_goes t s z lt o there firm z lt o there firm level
 
   by_level : (t : ℕ) (s z : Store F P H) (i : Image) (origin : Origin) (b : Bool) → has_level z t ≡ b → t < tracks_of z →
-      Others c t (closed s) (closed z) → (track_at c (closed z) t).lost ≡ false → (track_at c (closed z) t).loose ≡ false →
-      (track_at c (closed z) t).level ≡ b →
-      Always (if b then second_done c (closed z) t i origin else second_absent c (closed z) t i origin) (λ y _. Goes c (closed s) y)
-  by_level t s z i origin true e lt o there firm level = done_by t (closed s) (closed z) i origin lt o there firm level
-  by_level t s z i origin false e lt o there firm level = always_done (left_goes t (closed s) (closed z) i origin lt o there firm level)
+      Others c t (half_closed s) (half_closed z) → (track_at c (half_closed z) t).lost ≡ false → (track_at c (half_closed z) t).loose ≡ false →
+      (track_at c (half_closed z) t).level ≡ b →
+      Always (if b then second_done c (half_closed z) t i origin else second_absent c (half_closed z) t i origin) (λ y _. Goes c (half_closed s) y)
+  by_level t s z i origin true e lt o there firm level = done_by t (half_closed s) (half_closed z) i origin lt o there firm level
+  by_level t s z i origin false e lt o there firm level = always_done (left_goes t (half_closed s) (half_closed z) i origin lt o there firm level)
 
   pub second_part_keeps_good : (s : Store F P H) (h : HalfWrite H) → h.track < tracks_of s → IsWell c s → s.half ≡ Some h →
       Always (second_part c s h) (λ y _. Keeps c faithful s y)

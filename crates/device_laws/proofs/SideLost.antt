@@ -8,6 +8,7 @@ use Rattle.device_defs.specs.Contents.{Contents}
 use Rattle.device_defs.specs.Losses as L
 use Rattle.device_defs.specs.Losses.{down, settled, settled_but, side_lost}
 use Rattle.device_defs.specs.Store.{Store, tracks_of, has_level}
+use Rattle.device_laws.proofs.Bools.{or_right}
 use Rattle.device_laws.proofs.Changes as C
 use Rattle.device_laws.proofs.Changes.{Changed, rest_of, unchanged}
 use Rattle.device_laws.proofs.Settled.{settled_changes_one_track}
@@ -65,10 +66,6 @@ module _ {F P H R : Type 0} (c : Contents F P H R) (faithful : IsFaithful c) whe
   or_true : (x : Bool) → (x || false) ≡ true → (y : Bool) → (x || y) ≡ true
   or_true true e y = refl
   or_true false e y = absurd (cc)
-
-  or_right : (x y : Bool) → y ≡ true → (x || y) ≡ true
-  or_right true y e = refl
-  or_right false y e = e
 
   -- a side that is down has nothing
   pub down_near : (s : Store F P H) (side : Side) (q : ℕ) → is_near (track_at c s q) ≡ true → is_near (track_at c (down s side) q) ≡ true

@@ -1,7 +1,6 @@
 -- A command ends with no equipment check where no call fails, no track that it looks at is lost, some side takes writes if it is one, and no data of
 -- its program were lost.
 use Rattle.std.proofs.Common.{◌≡◌, ◌<◌, ◌≤◌, ◌+◌, ◌*◌, zero, suc, ℕ, Bool, true, false, List, Option, Some, None, get_or, refl, sym, ap, subst, ◌∙◌, arith}
-use Rattle.std.specs.Prelude.{◌||◌}
 use Rattle.ckd_chain.specs.declared.mark.Stage.{Stage}
 use Rattle.ckd_chain.specs.declared.mark.Stage.TheVariants as stages
 use Rattle.ckd_chain.specs.State.{ChainState}
@@ -10,13 +9,13 @@ use Rattle.ckd_chain.specs.Steps.{
   opening_at,
   stage_for,
   opened_by,
-  opened,
+  chain_opened,
   stage_by,
   stage_of,
-  needed,
+  track_needed,
   need_of,
   standing,
-  turned_by,
+  step_turned,
   stepped_by,
   stepped,
   word_of,
@@ -65,12 +64,13 @@ use Rattle.device_defs.specs.Image.{Imaged, Has, NoBytes, BadTrack}
 use Rattle.device_defs.specs.Marks.{MarksDevice, MarksStore}
 use Rattle.device_defs.specs.Memory.{had_by}
 use Rattle.device_defs.specs.Outcomes.{Turn, usage_of}
-use Rattle.device_defs.specs.Owed.{begun, waiting_count, ended as event_end}
+use Rattle.device_defs.specs.Owed.{noted_begin, waiting_count, noted_end as event_end}
 use Rattle.device_defs.specs.Store.{tracks_of, is_lost, half_is}
 use Rattle.device_laws.specs.Standing.{IsWithin}
 use Rattle.device_laws.specs.Unharmed.{some_takes}
-use Rattle.device_laws.proofs.ChainFeeds.{begun_stage, need_at, need_is}
-use Rattle.device_laws.proofs.ChainTracks.{within_stays, whole_cylinders}
+use Rattle.device_laws.proofs.Bools.{neither}
+use Rattle.device_laws.proofs.ChainFeeds.{need_is}
+use Rattle.device_laws.proofs.ChainTracks.{within_stays, whole_cylinders, begun_stage, need_at}
 use Rattle.device_laws.proofs.Commands.{Stays, LookedAt, look_keeps_good}
 use Rattle.device_laws.proofs.FailedCall.{IsWell, goes_same, goes_on as well_on}
 use Rattle.device_laws.proofs.LossEvents.{begun_same}
@@ -86,14 +86,10 @@ use Rattle.device_laws.proofs.Served.{Served, served_done, served_then, served_b
 use Rattle.device_laws.proofs.TrackMarks.{marks_are_faithful}
 use Rattle.device_laws.proofs.Unchecked.{HasBytes, WasTaken, NoCheck, TurnSo, lucky_any, lucky_both, image_has, write_taken, wrote_so, takes_still}
 use Rattle.device_laws.proofs.UncheckedEvents.{equipment_checks, stage_none, on_has, answered_has}
-use Rattle.device_laws.proofs.UnlostEvents.{look_goes}
-use Rattle.device_laws.proofs.UnlostParts.{hear_goes, image_goes}
+use Rattle.device_laws.proofs.UnlostParts.{hear_goes}
+use Rattle.device_laws.proofs.invariants.NoTrackIsLost.{image_goes, look_goes}
 use Rattle.device_laws.proofs.WholeImage.{Reaches, image_keeps_good}
 use Rattle.device_laws.proofs.WriteLooks.{is_write_look, edits_write, OpeningBy, opening_is, writes_by}
-
-neither : (x y : Bool) → (x || y) ≡ false → (x ≡ false) × (y ≡ false)
-neither true y e = absurd (cc)
-neither false y e = (refl, e)
 
 -- the first track isn't lost, nor are those behind it
 front : (lost : List Bool) (t : ℕ) (on : Stance → Walked) (z : Stance) (x : Turned) → has_lost lost (walked t on z x).touched ≡ false →
@@ -111,7 +107,7 @@ module _ (p : PlainState) (u : List Track) (g : Geometry) (cylinders : ℕ) (ope
   pub record Ahead (k : ℕ) (chain : ChainState) (t : ℕ) : Type 0 where
     pub at : stage_of chain ≡ stages.Looks kind
     pub needs : need_of chain ≡ Some t
-    pub none : has_lost lost (walk_from k (opened chain)).touched ≡ false
+    pub none : has_lost lost (walk_from k (chain_opened chain)).touched ≡ false
 
   abbrev WentSo : ℕ → ℕ → MarksStore → Option Went → Type 0
   WentSo k t z None = Unit {0}
@@ -134,7 +130,7 @@ module _ (p : PlainState) (u : List Track) (g : Geometry) (cylinders : ℕ) (ope
 
   module _ (k : ℕ) (chain : ChainState) (first t : ℕ) (at : Ahead (suc k) chain t) where
     abbrev v : ChainState
-    v = opened chain
+    v = chain_opened chain
 
     abbrev seen : ℕ → Looked
     seen q = look_on g (track_in u q) v.at.stance (word_of v) kind
@@ -143,7 +139,7 @@ module _ (p : PlainState) (u : List Track) (g : Geometry) (cylinders : ℕ) (ope
     stage_is = begun_stage chain chain.stage refl ∙ ap (λ (x : Stage). Some x) at.at
 
     place : v.at.stance.track ≡ t
-    place = need_is v (stages.Looks kind) t (sym (ap (λ (x : Stage). needed v x) at.at) ∙ at.needs)
+    place = need_is v (stages.Looks kind) t (sym (ap (λ (x : Stage). track_needed v x) at.at) ∙ at.needs)
 
     abbrev later : Stance → Walked
     later z = walk k g (track_in u) start (word_of v) kind z
@@ -166,8 +162,8 @@ module _ (p : PlainState) (u : List Track) (g : Geometry) (cylinders : ℕ) (ope
 
     turned_so : (z : MarksStore) → OnWay z → t < tracks_of z → is_lost z t ≡ false → (x : Turned) → (seen t).turned ≡ x →
         Served (WentSo k t)
-        (went_by by_plain (usage_of chain) first t z (plain_image p u g cylinders open_is t) (turned_by v (seen t).stance x).chain
-        (turned_by v (seen t).stance x).progress)
+        (went_by by_plain (usage_of chain) first t z (plain_image p u g cylinders open_is t) (step_turned v (seen t).stance x).chain
+        (step_turned v (seen t).stance x).progress)
     turned_so z w lt kept (turns.Ended e) is = served_done tt
     turned_so z w lt kept turns.Onward is =
         served_done (
@@ -175,10 +171,10 @@ module _ (p : PlainState) (u : List Track) (g : Geometry) (cylinders : ℕ) (ope
           (w.walks, next_ahead is),
         )
     turned_so z w lt kept (turns.Edits edit e) is =
-        served_then (had_by (came_of_write by_plain (turned_by v (seen t).stance (turns.Edits edit e)).chain t))
+        served_then (had_by (came_of_write by_plain (step_turned v (seen t).stance (turns.Edits edit e)).chain t))
         (of_lucky (write_taken by_plain marks_are_faithful z (usage_of chain) first t (plain_image p u g cylinders open_is t) edit lt w.well kept
         (w.takes (edits_write g (track_in u t) v.at.stance (word_of v) kind edit e is))))
-        (λ y took taken. came_so k t (turned_by v (seen t).stance (turns.Edits edit e)).chain t y took taken)
+        (λ y took taken. came_so k t (step_turned v (seen t).stance (turns.Edits edit e)).chain t y took taken)
 
     has_so : (z : MarksStore) → OnWay z → t < tracks_of z → is_lost z t ≡ false →
         Served (WentSo k t) (looked by_plain chain first t z (Has (plain_image p u g cylinders open_is t)))
@@ -207,7 +203,7 @@ module _ (p : PlainState) (u : List Track) (g : Geometry) (cylinders : ℕ) (ope
         (with_always
         (image_keeps_good by_plain marks_are_faithful s (usage_of chain) t
         (subst (Reaches (usage_of chain)) (sym w.tracks) (within.reaches chain is)) lt w.well)
-        (lucky_both (image_goes by_plain s (usage_of chain) t)
+        (lucky_both (image_goes by_plain marks_are_faithful s (usage_of chain) t w.well)
         (image_has by_plain s (usage_of chain) t (w.well.good t lt) kept (ap (λ (h : _). half_is h t) w.whole)))))
         (λ z o x. looked_so z o (record {
           tracks = x.1.0.goes.tracks ∙ w.tracks;
@@ -245,7 +241,7 @@ module _ (p : PlainState) (u : List Track) (g : Geometry) (cylinders : ℕ) (ope
       served_then (had_by (goes_on by_plain (follow by_plain k first)))
       (served_also
       (with_always (look_keeps_good by_plain marks_are_faithful m Within within chain first t s is w.tracks below w.well w.whole)
-      (look_goes by_plain marks_are_faithful m Within within chain first t s is w.tracks below w.well))
+      (look_goes by_plain marks_are_faithful chain first t s w.well))
       (look_so k chain first t at s is w below))
       (λ z o g. by_went k first t s z o (follow_touched k first) w g.0.0 g.1 room g.0.1.lost (λ up. takes_still by_plain s z g.0.1.up g.0.1.takes up))
 
@@ -280,7 +276,7 @@ module _ (num : ℕ) (empty : PlainState) (d : MarksDevice) (f : Follows num emp
 
     -- what is so behind the notices
     record Heard (s : MarksStore) : Type 0 where
-      core : plain_core s ≡ plain_core (begun d.store)
+      core : plain_core s ≡ plain_core (noted_begin d.store)
       tracks : tracks_of s ≡ m
       well : IsWell by_plain s
       none : s.half ≡ None
@@ -335,10 +331,10 @@ module _ (num : ℕ) (empty : PlainState) (d : MarksDevice) (f : Follows num emp
     looks_by s h t needs (openings.Looks look) at = looks_at s h t needs look at
     looks_by s h t needs (openings.Over e) at =
         absurd (let none : None ≡ Some t = sym (needs_by chain fresh d.paths o.path d.store.plain
-        ∙ ap (λ (x : Opening). needed (begin_with chain (opening_at chain)) (stage_for x)) at) ∙ needs in cc)
+        ∙ ap (λ (x : Opening). track_needed (begin_with chain (opening_at chain)) (stage_for x)) at) ∙ needs in cc)
     looks_by s h t needs (openings.Asks act) at =
         absurd (let none : None ≡ Some t = sym (needs_by chain fresh d.paths o.path d.store.plain
-        ∙ ap (λ (x : Opening). needed (begin_with chain (opening_at chain)) (stage_for x)) at) ∙ needs in cc)
+        ∙ ap (λ (x : Opening). track_needed (begin_with chain (opening_at chain)) (stage_for x)) at) ∙ needs in cc)
 
     at_touched : (s : MarksStore) → Heard s → (k : Option ℕ) → need_of chain ≡ k → Holds (command_at by_plain (with_it s) o.path chain k)
     at_touched s h (Some t) needs = looks_by s h t needs (opening_at chain).opening refl
@@ -364,7 +360,7 @@ module _ (num : ℕ) (empty : PlainState) (d : MarksDevice) (f : Follows num emp
         served_tried d _
         (served_then (event_ended by_plain d)
         (served_then (λ s _. command_by by_plain (with_it s) d.history.running d.chain)
-        (served_by (hear_same 960 (begun d.store))
+        (served_by (hear_same 960 (noted_begin d.store))
         (with_always (hearing_keeps_good by_plain 960 (event_begun d).store begins.well) (hear_goes by_plain 960 (event_begun d).store)))
         (λ s _ g.
         let well = well_on by_plain d.store (event_begun d).store s begins g.1.0 in

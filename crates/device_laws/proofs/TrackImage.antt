@@ -1,5 +1,5 @@
 -- The image of a track, read or held, keeps good marks good whatever is answered, also where volumes don't tell what they hold.
-use Rattle.std.proofs.Common.{◌≡◌, ◌<◌, ◌||◌, ℕ, Bool, true, false, Option, Some, None, is_some, refl, sym, ap, subst, ◌∙◌}
+use Rattle.std.proofs.Common.{◌≡◌, ◌<◌, ℕ, Bool, true, false, Option, Some, None, is_some, refl, sym, ap, subst, ◌∙◌}
 use Rattle.std.specs.Prelude.{if◌then◌else◌}
 use Rattle.ckd_types.specs.declared.paths.Side.{Side}
 use Rattle.ckd_types.specs.declared.paths.Side.TheVariants.{A, B}
@@ -10,6 +10,7 @@ use Rattle.device_defs.specs.Contents.{Contents}
 use Rattle.device_defs.specs.Image as I
 use Rattle.device_defs.specs.Image.{Got, Imaged, Has, NoBytes, got, read_counted, read_side, second_read, read_b, first_read, level_bytes, filled, framed}
 use Rattle.device_defs.specs.Store.{Store, tracks_of, level_at, has_level, patch_at, is_loose}
+use Rattle.device_laws.proofs.Bools.{or_left, or_right}
 use Rattle.device_laws.proofs.Always.{Always, always_done, always_ask, always_read, always_then}
 use Rattle.device_laws.proofs.Changes as C
 use Rattle.device_laws.proofs.Changes.{Changed, rest_of, changed_frame}
@@ -17,13 +18,6 @@ use Rattle.device_laws.proofs.FailedCall.{IsWell, IsSame, Goes, stays, goes_on, 
 use Rattle.device_laws.proofs.Soundness.{and_not}
 use Rattle.device_laws.proofs.TrackMarks as M
 use Rattle.device_laws.proofs.TrackMarks.{TrackMarks, marks, IsFaithful, is_good, frame_mark, track_at}
-
-or_left : (x y : Bool) → x ≡ true → (x || y) ≡ true
-or_left x y e = rw e refl
-
-or_right : (x y : Bool) → y ≡ true → (x || y) ≡ true
-or_right true y e = refl
-or_right false y e = e
 
 -- a level track that isn't loose may have a frame, which is modified where a patch is held
 filled_by : (f : Option Bool) (p l h : Bool) → is_good (marks f p l false h true) ≡ true → is_good (marks (Some p) p l false h true) ≡ true

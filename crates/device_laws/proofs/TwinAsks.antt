@@ -126,7 +126,7 @@ pub record Ordered (v w : List Track) (s : DeviceStore) (h : Held) : Type 0 wher
   pub sure : Sure v w s h
   pub told : AllTold s h
 
-lost_is : (s : DeviceStore) (h : Held) (t : ℕ) → (contents_at s h t).lost ≡ is_lost s t
+pub lost_is : (s : DeviceStore) (h : Held) (t : ℕ) → (contents_at s h t).lost ≡ is_lost s t
 unfolding T.contents_at
 lost_is s h t = refl
 

@@ -39,7 +39,7 @@ use Rattle.plain_defs.specs.declared.journal.Act.TheVariants.{CfwLost}
 use Rattle.device_defs.specs.declared.owed.Owed.{Owed}
 use Rattle.device_defs.specs.Between.{HasSizes}
 use Rattle.device_defs.specs.Contents.{contents, by_plain}
-use Rattle.device_defs.specs.Effects.{acted, gone_back}
+use Rattle.device_defs.specs.Effects.{act_noted, gone_back}
 use Rattle.device_defs.specs.Events.{with_loss, losing}
 use Rattle.device_defs.specs.Losses as L
 use Rattle.device_defs.specs.Losses.{over, without_frame, settled, cache_lost}
@@ -309,7 +309,7 @@ swept_pair h u w y x (suc n) le =
 -- The loss begins: data of cache fast write go
 
 abbrev pub begun_with : {F P H : Type 0} → Bool → Store F P H → Store F P H
-begun_with b s = record (if b then acted (gone_back s) CfwLost else s) { queue = [] }
+begun_with b s = record (if b then act_noted (gone_back s) CfwLost else s) { queue = [] }
 
 module _ (v w : List Track) (s : DeviceStore) (h : Held) (sure : RightBut None v w s h) (told : AllTold s h) where
   begun_marks : (b : Bool) → marks_of (if b then w else v) w (begun_with b s) ≡ begun_with b (marks_of v w s)

@@ -34,7 +34,7 @@ use Rattle.device_outside.specs.Interaction.{Done, and_then}
 use Rattle.device_outside.proofs.BothRules.{on_test, on_tests}
 use Rattle.device_defs.specs.declared.answers.Did.{Did}
 use Rattle.device_defs.specs.declared.answers.Did.TheVariants.{Nothing, Staged, Skipped, Fault}
-use Rattle.device_defs.specs.Background.{did, copies_to, copy_by, unfilled, staged_image, staged_bytes, granted, stage}
+use Rattle.device_defs.specs.Background.{did, copies_to, copy_by, unfilled, staged_image, staged_bytes, staging_granted, stage}
 use Rattle.device_defs.specs.Contents.{contents, by_plain, patched_by, image_read}
 use Rattle.device_defs.specs.Image.{Got, read_counted, image_of}
 use Rattle.device_defs.specs.Losses.{call_failed}
@@ -44,6 +44,7 @@ use Rattle.device_defs.specs.Store.{tracks_of, stale_at, level_at, takes_b, fram
 use Rattle.device_defs.specs.Writing.{write_counted}
 use Rattle.device_laws.specs.Agrees.{Held, image_in}
 use Rattle.device_laws.specs.Twin.{Twins}
+use Rattle.device_laws.proofs.Bools.{neither, or_left, or_right}
 use Rattle.device_laws.proofs.ContentChanges as C
 use Rattle.device_laws.proofs.ContentChanges.{
   base_of,
@@ -104,14 +105,6 @@ counted_write v w s h ok o = record {
       (record { sizes = record { are = o.sure.ground.sizes.are }; base = refl; same = λ q. refl; slots = refl });
   told = o.told;
 }
-
-or_left : (x y : Bool) → x ≡ true → (x || y) ≡ true
-or_left true y e = refl
-or_left false y e = absurd (cc)
-
-or_right : (x y : Bool) → y ≡ true → (x || y) ≡ true
-or_right true y e = refl
-or_right false y e = e
 
 -- Copying, while no half write is open
 
@@ -320,7 +313,7 @@ module _ (u : List Track) (y : DeviceStore) (t : ℕ) where
 
   granted_twin : (v w : List Track) (s : DeviceStore) (h : Held) (given : Bool) → t < tracks_of s → is_loose s t ≡ false → half_is s.half t ≡ false →
       InOrder v w s h →
-      v ≡ u → Stays y s → Twins Ends (granted contents s t given) (granted by_plain (marks_of v w s) t given) h
+      v ≡ u → Stays y s → Twins Ends (staging_granted contents s t given) (staging_granted by_plain (marks_of v w s) t given) h
   granted_twin v w s h given lt firm off o plain stays =
       on_test given
       (λ _. twin_then (λ z g. staged_bytes contents t z g g.bytes) (λ z g. staged_bytes by_plain t z g g.bytes)
@@ -331,10 +324,6 @@ module _ (u : List Track) (y : DeviceStore) (t : ℕ) where
       (sym (track_loose z) ∙ f.1.goes.firm t lt (track_loose s ∙ firm)) (stays_off s z t f.0.stays off) f.0.order (f.0.plain
       ∙ plain) (stays_on y s z stays f.0.stays)))
       (λ _. ended v w s h (Some (Skipped t)) (Some (Skipped t)) refl (record { sure = o.sure; told = o.told }) plain stays)
-
-or_none : (x y : Bool) → (x || y) ≡ false → (x ≡ false) × (y ≡ false)
-or_none true y e = absurd (cc)
-or_none false y e = (refl, e)
 
 frameless_mark : (s : DeviceStore) (t : ℕ) → is_some (frame_at s t) ≡ false → (track_at contents s t).frame ≡ None
 unfolding M.track_at
@@ -353,7 +342,7 @@ stage_twin v w s h t lt none o =
     (ap (λ (b : Bool). b || is_lost s t) (has_frame_twin v w s t))
     (λ _. ended v s t v w s h (Some (Skipped t)) (Some (Skipped t)) refl order refl (stays_same s))
     (λ free.
-    let firm = unframed_is_firm (track_at contents s t) (frameless_mark s t (or_none (is_some (frame_at s t)) (is_lost s t) free).0) (o.well.good t lt) in
+    let firm = unframed_is_firm (track_at contents s t) (frameless_mark s t (neither (is_some (frame_at s t)) (is_lost s t) free).0) (o.well.good t lt) in
     both_try
     (ask_frame s.device t (λ given. granted_twin v s t v w s h given lt (sym (track_loose v s t s) ∙ firm) (none_off s.half t none) o refl (stays_same s)))
     (ended v s t v w s h None None refl order refl (stays_same s)))

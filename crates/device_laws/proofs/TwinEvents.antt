@@ -36,7 +36,6 @@ use Rattle.ckd_types.specs.Volume.{track_in}
 use Rattle.track_table.specs.Tracks as T
 use Rattle.track_table.specs.Tracks.{count_below}
 use Rattle.track_image.specs.Image.{Image}
-use Rattle.track_cache.specs.declared.frames.Frame.{Frame}
 use Rattle.device_outside.specs.Both.{both_free}
 use Rattle.device_outside.specs.Interaction.{Interaction, Done, Ask, and_then}
 use Rattle.device_outside.specs.Pool.{FreeSlot, TellWaiting}
@@ -44,7 +43,7 @@ use Rattle.device_outside.specs.Slots.{held_after}
 use Rattle.device_outside.proofs.BothRules.{on_test, on_tests}
 use Rattle.device_defs.specs.declared.owed.Owed.{Owed}
 use Rattle.device_defs.specs.Contents.{contents, by_plain}
-use Rattle.device_defs.specs.Marks.{MarksStore, marks_of, frame_mark, slot_mark}
+use Rattle.device_defs.specs.Marks.{MarksStore, marks_of, slot_mark}
 use Rattle.device_defs.specs.Owed as O
 use Rattle.device_defs.specs.Owed.{
   is_modified,
@@ -62,7 +61,7 @@ use Rattle.device_defs.specs.Owed.{
   track_told,
   all_told,
   waiting_told,
-  ended,
+  noted_end,
 }
 use Rattle.device_defs.specs.Sound.{DeviceStore}
 use Rattle.device_defs.specs.Store.{tracks_of, frame_at, owed_at, with_frame, with_owed, no_debt}
@@ -91,7 +90,7 @@ use Rattle.device_laws.proofs.TwinLooks.{unframed_order}
 use Rattle.device_laws.proofs.TwinSettled.{told_altered}
 use Rattle.device_laws.proofs.TwinSlots.{may_free, freed_slots}
 use Rattle.device_laws.proofs.TwinWalks.{some_map, twin_done, twin_ends, twin_then, twin_weaker}
-use Rattle.device_laws.proofs.TwinWork.{waits_same}
+use Rattle.device_laws.proofs.TwinWork.{waits_same, modified_frame}
 
 pub record Hears (u : List Track) (s : DeviceStore) (v w : List Track) (z : DeviceStore) (k : Held) : Type 0 where
   pub order : Ordered v w z k
@@ -151,10 +150,6 @@ record Same (v w : List Track) (s : DeviceStore) (v' w' : List Track) (z : Devic
 
 same_is : (v w : List Track) (s : DeviceStore) (k : Held) → Ordered v w s k → Same v w s v w s k
 same_is v w s k o = record { plain = refl; firm = refl; store = refl; order = o }
-
-modified_frame : (f : Option Frame) → is_modified by_plain (option_map frame_mark f) ≡ is_modified contents f
-modified_frame None = refl
-modified_frame (Some f) = refl
 
 base_slots : (s : DeviceStore) (h : Held) (z : DeviceStore) (o : Option (List ℕ)) → C.base_of z (record h { slots = o }) ≡ C.base_of z h
 unfolding C.base_of
@@ -354,7 +349,7 @@ waiting_twin before v w s h o =
     (λ _. ask_waiting s.device (waiting_count contents s) (twin_done (record { order = o; plain = refl; stays = stays_same s }))))
 
 pub ended_twin : (before : ℕ) (v w : List Track) (s : DeviceStore) (h : Held) → Ordered v w s h →
-    Twins (λ v' w' z _ _ k. Hears v s v' w' z k) (ended contents before s) (ended by_plain before (marks_of v w s)) h
+    Twins (λ v' w' z _ _ k. Hears v s v' w' z k) (noted_end contents before s) (noted_end by_plain before (marks_of v w s)) h
 ended_twin before v w s h o =
     twin_then (λ z _. waiting_told contents before z) (λ z _. waiting_told by_plain before z) (told_twins (tracks_of s) v w s h (omega arith) o)
     (λ v' w' z _ _ k f.

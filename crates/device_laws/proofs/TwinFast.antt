@@ -54,6 +54,7 @@ use Rattle.device_defs.specs.Sound.{DeviceStore}
 use Rattle.device_defs.specs.Store.{tracks_of, patch_at, is_lost, is_loose, half_is, with_frame, with_patch}
 use Rattle.device_laws.specs.Agrees.{Held, image_in, PatchHas, PatchFits, slot_at, HasSlots}
 use Rattle.device_laws.specs.PlainWrites.{SuitsTrack}
+use Rattle.device_laws.proofs.Bools.{some_is}
 use Rattle.device_laws.proofs.ContentChanges as C
 use Rattle.device_laws.proofs.ContentChanges.{
   base_of,
@@ -86,9 +87,6 @@ use Rattle.device_laws.proofs.TwinSettled.{told_altered}
 use Rattle.device_laws.proofs.TwinSlots.{new_slots}
 use Rattle.device_defs.specs.declared.answers.Choice.TheVariants.{Fast}
 
-some_is : {X : Type 0} (x y : X) → Some x ≡ Some y → x ≡ y
-some_is x y e = cc
-
 -- One more edit
 
 none_applied : (i : Image) → is_fit i.geometry i.track.records ≡ true → applied no_edits i ≡ Some i
@@ -115,7 +113,7 @@ one_edit_more None (Some k) e (Some j) i place is fits suits gave =
 one_edit_more (Some q) None e (Some j) i place is fits suits gave = one_more q.patch e j i (is q refl) gave suits.suits suits.ranges
 one_edit_more (Some q) (Some k) e (Some j) i place is fits suits gave = one_more q.patch e j i (is q refl) gave suits.suits suits.ranges
 
-patched_has : (p : Option Stored) (i : Image) → PatchHas p i → patched_by p (Some i) ≡ Some i
+pub patched_has : (p : Option Stored) (i : Image) → PatchHas p i → patched_by p (Some i) ≡ Some i
 patched_has None i f = refl
 patched_has (Some q) i f = f q refl
 

@@ -1,30 +1,5 @@
 -- The image of a track is the plain one, and a device and its twin on marks ask the same for it.
-use Rattle.std.proofs.Common.{
-  ◌≡◌,
-  ◌≢◌,
-  ◌<◌,
-  ◌||◌,
-  ℕ,
-  Bool,
-  true,
-  false,
-  List,
-  [],
-  Option,
-  Some,
-  None,
-  is_some,
-  get_or,
-  refl,
-  sym,
-  ap,
-  subst,
-  ◌∙◌,
-  arith,
-  ◌⊎◌,
-  inl,
-  inr,
-}
+use Rattle.std.proofs.Common.{◌≡◌, ◌≢◌, ◌<◌, ℕ, Bool, true, false, List, [], Option, Some, None, is_some, get_or, refl, sym, ap, subst, ◌∙◌, arith, ◌⊎◌, inl, inr}
 use Rattle.std.proofs.lemmas.Bool.{cases_eq}
 use Rattle.ckd_types.specs.declared.paths.Side.{Side}
 use Rattle.ckd_types.specs.declared.paths.Side.TheVariants.{A, B}
@@ -43,7 +18,7 @@ use Rattle.device_defs.specs.Image.{
   Has,
   NoBytes,
   BadTrack,
-  first_fault,
+  first_faulty_side,
   loads,
   read_counted,
   read_side,
@@ -70,6 +45,7 @@ use Rattle.device_defs.specs.Sound.{DeviceStore}
 use Rattle.device_defs.specs.Store.{tracks_of, level_at, has_level, patch_at, is_lost, half_is, with_frame}
 use Rattle.device_laws.specs.Agrees.{Held, image_in}
 use Rattle.device_laws.specs.Twin.{Twins}
+use Rattle.device_laws.proofs.Bools.{or_left, or_right}
 use Rattle.device_laws.proofs.Changes as D
 use Rattle.device_laws.proofs.ContentChanges as C
 use Rattle.device_laws.proofs.ContentChanges.{
@@ -135,14 +111,6 @@ not_lost s t lt w level = by_case (is_lost s t) refl
     by_case true e = absurd (let f = good_is_nowhere contents s t (w.good t lt) e in cc)
     by_case false e = refl
 
-or_left : (x y : Bool) → x ≡ true → (x || y) ≡ true
-or_left true y e = refl
-or_left false y e = absurd (cc)
-
-or_right : (x y : Bool) → y ≡ true → (x || y) ≡ true
-or_right true y e = refl
-or_right false y e = e
-
 side_a : (v w : List Track) (s : DeviceStore) (h : Held) (t : ℕ) → InOrder v w s h → t < tracks_of s → half_is s.half t ≡ false → level_at s.a t ≡ true →
     patched_by (patch_at s t) (image_read s.geometry t (get_or h.a t [])) ≡ Some (image_in s w t)
 unfolding T.contents_at
@@ -165,7 +133,7 @@ module _ (u : List Track) (y : DeviceStore) (t : ℕ) where
   b_failed : (v w : List Track) (s : DeviceStore) (h : Held) (fault : Option Side) → InOrder v w s h → v ≡ u → Stays y s →
       Twins Gives (second_read contents fault s None) (second_read by_plain fault (marks_of v w s) None) h
   b_failed v w s h fault i plain stays =
-      twin_then (λ z _. Done z (got B None (Some (first_fault fault B)))) (λ z _. Done z (got B None (Some (first_fault fault B))))
+      twin_then (λ z _. Done z (got B None (Some (first_faulty_side fault B)))) (λ z _. Done z (got B None (Some (first_faulty_side fault B))))
       (failed_twin None h v w s B i.sure i.told)
       (λ v' w' z _ _ k f. twin_done (record {
         order = record { sure = f.but; told = f.told };

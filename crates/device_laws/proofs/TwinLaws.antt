@@ -19,7 +19,7 @@ use Rattle.device_defs.specs.Events.{losing}
 use Rattle.device_defs.specs.Image.{image}
 use Rattle.device_defs.specs.Losses.{call_failed}
 use Rattle.device_defs.specs.Marks.{marks_of, half_mark}
-use Rattle.device_defs.specs.Owed.{hear, ended}
+use Rattle.device_defs.specs.Owed.{hear, noted_end}
 use Rattle.device_defs.specs.Second.{second_part}
 use Rattle.device_defs.specs.Sound.{DeviceStore}
 use Rattle.device_defs.specs.Store.{HalfWrite, tracks_of, patch_at, is_lost, half_is}
@@ -28,6 +28,7 @@ use Rattle.device_laws.specs.Feeding.{Feeds, FollowIs}
 use Rattle.device_laws.specs.InOrder.{IsOpen, IsInOrder, StaysInOrder, ImageIs, WriteIs, SecondIs, plain_lost, plain_cut}
 use Rattle.device_laws.specs.PlainWrites.{SuitsTrack, OriginSuits}
 use Rattle.device_laws.specs.Twin.{Twins}
+use Rattle.device_laws.proofs.TwinThrough.{mark_lost}
 use Rattle.device_laws.proofs.Changes as C
 use Rattle.device_laws.proofs.ContentChanges as D
 use Rattle.device_laws.proofs.ContentChanges.{Sure, agrees_sure, sure_agrees, unseen_right}
@@ -43,7 +44,7 @@ use Rattle.device_laws.proofs.TrackContents as T
 use Rattle.device_laws.proofs.TrackContents.{contents_at, Writes, HeldBy, held_of, writes_own}
 use Rattle.device_laws.proofs.TrackMarks as M
 use Rattle.device_laws.proofs.TrackMarks.{track_at, device_is_faithful}
-use Rattle.device_laws.proofs.TwinAsks.{InOrder, Ordered, keeps_at}
+use Rattle.device_laws.proofs.TwinAsks.{InOrder, Ordered, keeps_at, lost_is}
 use Rattle.device_laws.proofs.TwinCuts.{cut_by}
 use Rattle.device_laws.proofs.TwinEvents.{hear_twin, ended_twin}
 use Rattle.device_laws.proofs.TwinFailed.{failed_twin}
@@ -129,14 +130,6 @@ module _ (v w : List Track) (s : DeviceStore) (h : Held) where
     opened = opened_there o.sure w';
   }
 
-lost_is : (s : DeviceStore) (t : ℕ) → (track_at contents s t).lost ≡ is_lost s t
-unfolding M.track_at
-lost_is s t = refl
-
-lost_there : (s : DeviceStore) (h : Held) (t : ℕ) → (contents_at s h t).lost ≡ is_lost s t
-unfolding T.contents_at
-lost_there s h t = refl
-
 -- a failed call that isn't a write's
 pub failed_call_leaves_order : (v w : List Track) (s : DeviceStore) (h : Held) (side : Side) → IsInOrder v w s h →
     Twins (λ v' w' z a b k. StaysInOrder v v' w' z a b k) (call_failed contents s side None) (call_failed by_plain (marks_of v w s) side None) h
@@ -169,7 +162,7 @@ write_is_plain v w s h u first t e i lt there none suits =
     let o = in_order v w s h i in
     twin_weaker
     (twin_always (write_twin v w s t e u first lt there none suits o.well h (record { sure = o.sure; told = o.told }))
-    (write_keeps_good contents device_is_faithful u first t s lt o.well none (lost_is s t ∙ there) (image_in s v t) e))
+    (write_keeps_good contents device_is_faithful u first t s lt o.well none (mark_lost s t ∙ there) (image_in s v t) e))
     (λ v' w' z a b k f. record { order = is_in_order v' w' z k f.0.order f.1.well; plain = f.0.plain; same = f.0.same })
 
 pub second_part_is_plain : (v w : List Track) (s : DeviceStore) (h : Held) (i : HalfWrite Image) → IsInOrder v w s h → s.half ≡ Some i →
@@ -179,7 +172,7 @@ second_part_is_plain v w s h i order is suits =
     let o = in_order v w s h order in
     let lt = order.within i is in
     twin_weaker
-    (twin_always (second_part_twin v w s h i is lt (lost_there s h i.track
+    (twin_always (second_part_twin v w s h i is lt (lost_is s h i.track
     ∙ order.there i is) o suits) (second_part_keeps_good contents device_is_faithful s i lt o.well is))
     (λ v' w' z a b k f. record { order = is_in_order v' w' z k f.0.order f.1.well; plain = f.0.plain; same = f.0.same })
 
@@ -255,7 +248,7 @@ pub cut_leaves_order : (v w : List Track) (s : DeviceStore) (h : Held) → IsInO
 cut_leaves_order v w s h i suits =
     let o = in_order v w s h i in
     twin_weaker
-    (twin_always (cut_by v w s h o s.half refl i.within (λ hw is. lost_there s h hw.track ∙ i.there hw is) suits)
+    (twin_always (cut_by v w s h o s.half refl i.within (λ hw is. lost_is s h hw.track ∙ i.there hw is) suits)
     (cutting_keeps_good contents device_is_faithful s o.well))
     (λ v' w' z a b k f. record { order = is_in_order v' w' z k f.0.order f.1.well; plain = f.0.plain; same = refl })
 
@@ -269,7 +262,7 @@ notices_leave_order n v w s h i =
 
 -- what it tells at its end
 pub end_leaves_order : (before : ℕ) (v w : List Track) (s : DeviceStore) (h : Held) → IsInOrder v w s h →
-    Twins (λ v' w' z a b k. StaysInOrder v v' w' z a b k) (ended contents before s) (ended by_plain before (marks_of v w s)) h
+    Twins (λ v' w' z a b k. StaysInOrder v v' w' z a b k) (noted_end contents before s) (noted_end by_plain before (marks_of v w s)) h
 end_leaves_order before v w s h i =
     let o = in_order v w s h i in
     twin_weaker

@@ -18,6 +18,7 @@ use Rattle.device_defs.specs.Sound.{DeviceStore}
 use Rattle.device_defs.specs.Store.{HalfWrite, tracks_of, patch_at, half_is, with_stale}
 use Rattle.device_laws.specs.Agrees.{Held, image_in}
 use Rattle.device_laws.specs.Twin.{Twins}
+use Rattle.device_laws.proofs.Bools.{and_not_true}
 use Rattle.device_laws.proofs.ContentChanges as C
 use Rattle.device_laws.proofs.ContentChanges.{
   Base,
@@ -93,10 +94,6 @@ stale_by v w y t false = refl
 
 stale_twin : (v w : List Track) (y : DeviceStore) (t : ℕ) → marks_of v w (stale_everywhere y t) ≡ stale_everywhere (marks_of v w y) t
 stale_twin v w y t = stale_by v w y t y.paired
-
-and_not_true : (b : Bool) → (b && not true) ≡ false
-and_not_true true = refl
-and_not_true false = refl
 
 -- what it has then
 record StaleNow (y : DeviceStore) (h : Held) (t : ℕ) (z : DeviceStore) : Type 0 where

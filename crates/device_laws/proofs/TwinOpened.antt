@@ -59,10 +59,11 @@ use Rattle.device_defs.specs.Store.{
   with_stale,
   with_frame,
 }
-use Rattle.device_defs.specs.Writing.{firm_first, half_opened, cleaned, opened}
+use Rattle.device_defs.specs.Writing.{firm_first, half_opened, cleaned, write_opened}
 use Rattle.device_laws.specs.Agrees.{Held, image_in, PatchHas, PatchFits, slot_at}
 use Rattle.device_laws.specs.PlainWrites.{OriginSuits}
 use Rattle.device_laws.specs.Twin.{Twins}
+use Rattle.device_laws.proofs.Bools.{and_not_true}
 use Rattle.device_laws.proofs.ContentChanges as C
 use Rattle.device_laws.proofs.ContentChanges.{
   base_of,
@@ -203,10 +204,6 @@ module _ (v w : List Track) (s : DeviceStore) (h : Held) (t : ℕ) (lt : t < tra
         elsewhere = g.elsewhere;
         here = g.here ∙ ap (λ (c : TrackContents). record c { a = s.a.up && not true }) f.here;
       })
-
-  and_not_true : (b : Bool) → (b && not true) ≡ false
-  and_not_true true = refl
-  and_not_true false = refl
 
   firms : (z : DeviceStore) (c : TrackContents) → Altered s h z h t c → c.frame ≡ x.frame → c.patch ≡ x.patch → c.freed ≡ x.freed → c.debt ≡ x.debt →
       c.loose ≡ false →
@@ -452,7 +449,7 @@ module _ (t : ℕ) (v w : List Track) (i : Image) (origin : Origin) where
   opens_end z k o = record { order = record { sure = opens_sure z k o; told = told_half z k o.told }; plain = refl; geometry = refl; cylinders = refl }
 
   pub opened_twin : (z : DeviceStore) (k : Held) (was_loose : Bool) → Opening z k →
-      Twins (λ v' w' y _ _ n. Opens v' w' y z n) (opened contents z t i origin was_loose) (opened by_plain (marks_of v w z) t i origin was_loose) k
+      Twins (λ v' w' y _ _ n. Opens v' w' y z n) (write_opened contents z t i origin was_loose) (write_opened by_plain (marks_of v w z) t i origin was_loose) k
   opened_twin z k was_loose o =
       on_test was_loose
       (λ _. ask_clean z.device t

@@ -21,7 +21,7 @@ use Rattle.device_defs.specs.Losses.{framed_image}
 use Rattle.device_defs.specs.Marks.{marks_of, frame_mark}
 use Rattle.device_defs.specs.Sound.{DeviceStore}
 use Rattle.device_defs.specs.Store.{OfBackground, Store, tracks_of, frame_at, is_lost, is_loose, half_is}
-use Rattle.device_defs.specs.Writing.{Wrote, write_first, write_done, opened}
+use Rattle.device_defs.specs.Writing.{Wrote, write_first, write_done, write_opened}
 use Rattle.device_laws.specs.Agrees.{Held, image_in, PatchHas}
 use Rattle.device_laws.specs.Twin.{Twins}
 use Rattle.device_laws.proofs.Sweeps.{is_alone}
@@ -35,7 +35,7 @@ use Rattle.device_laws.proofs.TwinChanges.{frame_twin}
 use Rattle.device_laws.proofs.TwinDone.{Closing, write_done_twin}
 use Rattle.device_laws.proofs.TwinImage.{Delivers, bytes_twin, not_lost}
 use Rattle.device_laws.proofs.TwinOpened.{Opening, opened_twin, firm_twin}
-use Rattle.device_laws.proofs.TwinThrough.{none_off}
+use Rattle.device_laws.proofs.TwinThrough.{none_off, mark_lost}
 use Rattle.device_laws.proofs.TwinWalks.{twin_done, twin_then, twin_always, twin_weaker}
 use Rattle.device_laws.proofs.TwinWrites.{Written, First, first_twin}
 use Rattle.device_laws.proofs.WholeImage.{unframed_is_firm}
@@ -124,8 +124,8 @@ module _ (u : List Track) (y : DeviceStore) (j : Held) (t : ℕ) (lt : t < track
       suits = tt;
     }
 
-    half_end : (was_loose : Bool) → Twins Ends (and_then (opened contents z t i OfBackground was_loose) (λ q _. Done q (did fault (Half t))))
-        (and_then (opened by_plain (marks_of v w z) t i OfBackground was_loose) (λ q _. Done q (did fault (Half t)))) k
+    half_end : (was_loose : Bool) → Twins Ends (and_then (write_opened contents z t i OfBackground was_loose) (λ q _. Done q (did fault (Half t))))
+        (and_then (write_opened by_plain (marks_of v w z) t i OfBackground was_loose) (λ q _. Done q (did fault (Half t)))) k
     half_end was_loose =
         twin_then (λ q _. Done q (did fault (Half t))) (λ q _. Done q (did fault (Half t)))
         (opened_twin t v w i OfBackground z k was_loose opening)
@@ -144,10 +144,6 @@ module _ (u : List Track) (y : DeviceStore) (j : Held) (t : ℕ) (lt : t < track
   by_took v w z k was_loose Opened failed plain stays done undone = half_end v w z k (done refl) was_loose
   by_took v w z k was_loose Unwritten failed plain stays done undone =
       twin_done (record { order = undone refl; same = refl; plain = plain; geometry = stays.geometry; cylinders = stays.cylinders })
-
-mark_lost : (s : DeviceStore) (t : ℕ) → (track_at contents s t).lost ≡ is_lost s t
-unfolding M.track_at
-mark_lost s t = refl
 
 -- what is behind the firm track
 abbrev saved_then : {F P H R : Type 0} (c : Contents F P H R) → ℕ → Did → Option Side → Image → Store F P H → Bool → Interaction R Image (Store F P H) Did

@@ -1,5 +1,5 @@
 -- The second part of a write leaves all right, by whose write it is, and the plain volume has a command's edit where it is done; with its twin on marks.
-use Rattle.std.proofs.Common.{◌≡◌, ◌≢◌, ◌<◌, ◌==◌, ◌||◌, ℕ, Bool, true, false, List, Option, Some, None, set, refl, sym, ap, subst, ◌∙◌, arith}
+use Rattle.std.proofs.Common.{◌≡◌, ◌≢◌, ◌<◌, ◌==◌, ℕ, Bool, true, false, List, Option, Some, None, set, refl, sym, ap, subst, ◌∙◌, arith}
 use Rattle.std.specs.Prelude.{option_map, is_some, if◌then◌else◌}
 use Rattle.ckd_types.specs.declared.geometry.Geometry.{Geometry}
 use Rattle.ckd_types.specs.declared.record.Edit.{Edit}
@@ -21,7 +21,7 @@ use Rattle.device_defs.specs.Losses as L
 use Rattle.device_defs.specs.Losses.{settled, by_frame, lost_now, without_patch}
 use Rattle.device_defs.specs.Marks.{MarksStore, marks_of, frame_mark, half_mark}
 use Rattle.device_defs.specs.Second as S
-use Rattle.device_defs.specs.Second.{plainly_written, closed, half_image_of, finished, second_done, cut_kept, left_by, second_absent, second_by, second_part}
+use Rattle.device_defs.specs.Second.{plainly_written, half_closed, half_image_of, finished, second_done, cut_kept, left_by, second_absent, second_by, second_part}
 use Rattle.device_defs.specs.Sound.{DeviceStore, written_on}
 use Rattle.device_defs.specs.Store.{
   Origin,
@@ -44,6 +44,7 @@ use Rattle.device_defs.specs.Writing.{write_second}
 use Rattle.device_laws.specs.Agrees.{Held, image_in, PatchHas, PatchFits, PatchOf, slot_at}
 use Rattle.device_laws.specs.PlainWrites.{SuitsTrack, plain_second, OriginSuits}
 use Rattle.device_laws.specs.Twin.{Twins}
+use Rattle.device_laws.proofs.Bools.{neither}
 use Rattle.device_laws.proofs.ContentChanges.{
   Altered,
   altered_twice,
@@ -104,10 +105,6 @@ settled_ends v w z k t lt sure told firm =
       (e.plain, stays_by z k (settled contents z t) k e.base),
     ))
 
-or_false : (x y : Bool) → (x || y) ≡ false → (x ≡ false) × (y ≡ false)
-or_false true y e = absurd (cc)
-or_false false y e = (refl, e)
-
 pub plainly_is : (v w : List Track) (s : DeviceStore) (t : ℕ) (origin : Origin) → plainly_written (marks_of v w s) t origin ≡ written_on (image_in s v t) origin
 plainly_is v w s t (OfCommand bypass e) = refl
 plainly_is v w s t (OfCut bypass) = refl
@@ -115,16 +112,16 @@ plainly_is v w s t OfBackground = refl
 
 -- The half write is closed
 
-closed_slots : (z : DeviceStore) (kept : Bool) (q : ℕ) → slot_at (closed z) kept q ≡ slot_at z kept q
+closed_slots : (z : DeviceStore) (kept : Bool) (q : ℕ) → slot_at (half_closed z) kept q ≡ slot_at z kept q
 closed_slots z true q = refl
 closed_slots z false q = refl
 
-closed_contents : (z : DeviceStore) (k : Held) (q : ℕ) → contents_at (closed z) k q ≡ contents_at z k q
+closed_contents : (z : DeviceStore) (k : Held) (q : ℕ) → contents_at (half_closed z) k q ≡ contents_at z k q
 unfolding T.contents_at
 closed_contents z k q = refl
 
 closed_right : (hw : HalfWrite Image) (v w : List Track) (z : DeviceStore) (k : Held) → z.half ≡ Some hw → RightBut (Some hw.track) v w z k →
-    RightBut (Some hw.track) v w (closed z) k
+    RightBut (Some hw.track) v w (half_closed z) k
 closed_right hw v w z k is b = record {
   ground = record {
     sizes = record { are = b.ground.sizes.are };
@@ -134,7 +131,7 @@ closed_right hw v w z k is b = record {
     apart = λ q e. refl;
     patches = b.ground.patches;
     long = b.ground.long;
-    slots = same_slots z (closed z) k.slots (closed_slots z) b.ground.slots;
+    slots = same_slots z (half_closed z) k.slots (closed_slots z) b.ground.slots;
   };
   right = λ q lt ne.
       subst (λ (c : TrackContents). IsRight z.geometry q None c (image_in z v q) (image_in z w q)) (sym (closed_contents z k q))
@@ -150,7 +147,7 @@ closed_right hw v w z k is b = record {
         (held_of z.geometry q (Some hw) (contents_at z k q) (image_in z v q) (image_in z w q) e
         (subst (λ (n : Option (HalfWrite Image)). IsRight z.geometry q n (contents_at z k q) (image_in z v q) (image_in z w q)) is r)))
 
-closed_told : (z : DeviceStore) (k : Held) → AllTold z k → AllTold (closed z) k
+closed_told : (z : DeviceStore) (k : Held) → AllTold z k → AllTold (half_closed z) k
 unfolding T.contents_at
 closed_told z k told = told
 
@@ -231,7 +228,7 @@ module _ (u w0 : List Track) (s : DeviceStore) (h : Held) (hw : HalfWrite Image)
     firm_now : is_loose z t ≡ false
     firm_now = loose_is z k ∙ d.mid.sided.loose ∙ sym (loose_is s h) ∙ firm
 
-    but : RightBut (Some t) v w (closed z) k
+    but : RightBut (Some t) v w (half_closed z) k
     but = closed_right hw v w z k (d.mid.stays.half ∙ is_half) d.mid.but
 
     plain_is : image_in z v t ≡ image_in s u t
@@ -241,7 +238,7 @@ module _ (u w0 : List Track) (s : DeviceStore) (h : Held) (hw : HalfWrite Image)
     firm_is = d.mid.but.ground.same t below firm_now
 
     -- a track as it is, whose new image is the plain one
-    closing_plain : hw.image ≡ image_in s u t → Closing t v w (track_in v t) (closed z) k
+    closing_plain : hw.image ≡ image_in s u t → Closing t v w (track_in v t) (half_closed z) k
     closing_plain same = record {
       but = but;
       told = closed_told z k d.mid.told;
@@ -261,12 +258,12 @@ module _ (u w0 : List Track) (s : DeviceStore) (h : Held) (hw : HalfWrite Image)
         bytes_is = ap (λ (i : Image). track_bytes i.track) (same ∙ sym plain_is)
 
     finished_plain : (bypass : Bool) → hw.image ≡ image_in s u t → plain_second hw.origin true u t ≡ u →
-        Twins Ends (finished contents (closed z) t hw.image bypass) (finished by_plain (closed (marks_of v w z)) t hw.image bypass) k
+        Twins Ends (finished contents (half_closed z) t hw.image bypass) (finished by_plain (half_closed (marks_of v w z)) t hw.image bypass) k
     finished_plain bypass same stays =
-        subst (λ (i : Image). Twins Ends (finished contents (closed z) t i bypass) (finished by_plain (closed (marks_of v w z)) t i bypass) k)
+        subst (λ (i : Image). Twins Ends (finished contents (half_closed z) t i bypass) (finished by_plain (half_closed (marks_of v w z)) t i bypass) k)
         (plain_is ∙ sym same)
         (twin_then (λ y _. Done y true) (λ y _. Done y true)
-        (write_done_twin t v w (track_in v t) (closed z) k bypass (closing_plain same))
+        (write_done_twin t v w (track_in v t) (half_closed z) k bypass (closing_plain same))
         (λ v' w' y _ _ n f. twin_done (record {
           order = f.order;
           same = refl;
@@ -289,17 +286,17 @@ module _ (u w0 : List Track) (s : DeviceStore) (h : Held) (hw : HalfWrite Image)
           (subst (λ (g : Geometry). Suits g (track_in v t).records e) (sym d.mid.stays.geometry)
           (subst (λ (l : List Track). Suits s.geometry (track_in l t).records e) (sym d.mid.plain) suit.suits)) suit.ranges
 
-      edited_contents : (q : ℕ) → contents_at (with_edit (closed z) t e) k q ≡ contents_at z k q
+      edited_contents : (q : ℕ) → contents_at (with_edit (half_closed z) t e) k q ≡ contents_at z k q
       unfolding T.contents_at
       edited_contents q = refl
 
-      edited_told : AllTold (with_edit (closed z) t e) k
+      edited_told : AllTold (with_edit (half_closed z) t e) k
       unfolding T.contents_at
       edited_told = d.mid.told
 
-      closing_edit : Closing t (set v t n) (set w t n) n (with_edit (closed z) t e) k
+      closing_edit : Closing t (set v t n) (set w t n) n (with_edit (half_closed z) t e) k
       closing_edit = record {
-        but = edit_right t (set v t n) (set w t n) (closed z) k e (put_right t v w (closed z) k n below but (d.mid.but.ground.plain.homes t below) fits);
+        but = edit_right t (set v t n) (set w t n) (half_closed z) k e (put_right t v w (half_closed z) k n below but (d.mid.but.ground.plain.homes t below) fits);
         told = edited_told;
         below = below;
         off = refl;
@@ -315,14 +312,14 @@ module _ (u w0 : List Track) (s : DeviceStore) (h : Held) (hw : HalfWrite Image)
           bytes_is = ap (λ (i : Image). track_bytes i.track) image_now
 
       edit_twin : plain_second hw.origin true u t ≡ set u t (apply_edit e (track_in u t)) →
-          Twins Ends (second_done contents (closed z) t hw.image (OfCommand bypass e)) (second_done by_plain (closed (marks_of v w z)) t hw.image
+          Twins Ends (second_done contents (half_closed z) t hw.image (OfCommand bypass e)) (second_done by_plain (half_closed (marks_of v w z)) t hw.image
           (OfCommand bypass e)) k
       edit_twin after =
-          subst (λ (i : Image). Twins Ends (second_done contents (closed z) t i (OfCommand bypass e))
-          (second_done by_plain (closed (marks_of v w z)) t i (OfCommand bypass e)) k) (sym image_now)
+          subst (λ (i : Image). Twins Ends (second_done contents (half_closed z) t i (OfCommand bypass e))
+          (second_done by_plain (half_closed (marks_of v w z)) t i (OfCommand bypass e)) k) (sym image_now)
           (both_tell (λ _.
           twin_then (λ y _. Done y true) (λ y _. Done y true)
-          (write_done_twin t (set v t n) (set w t n) n (with_edit (closed z) t e) k bypass closing_edit)
+          (write_done_twin t (set v t n) (set w t n) n (with_edit (half_closed z) t e) k bypass closing_edit)
           (λ v' w' y _ _ m f. twin_done (record {
             order = f.order;
             same = refl;
@@ -332,18 +329,18 @@ module _ (u w0 : List Track) (s : DeviceStore) (h : Held) (hw : HalfWrite Image)
           }))))
 
     done_by : (origin : Origin) → hw.origin ≡ origin → hw.image ≡ written_on (image_in s u t) origin → OriginSuits s.geometry (track_in u t) origin →
-        Twins Ends (second_done contents (closed z) t hw.image origin) (second_done by_plain (closed (marks_of v w z)) t hw.image origin) k
+        Twins Ends (second_done contents (half_closed z) t hw.image origin) (second_done by_plain (half_closed (marks_of v w z)) t hw.image origin) k
     done_by (OfCommand bypass e) is image suit = edit_twin bypass e image suit (ap (λ (x : Origin). plain_second x true u t) is)
     done_by (OfCut bypass) is image suit = finished_plain bypass image (ap (λ (x : Origin). plain_second x true u t) is)
     done_by OfBackground is image suit = finished_plain false image (ap (λ (x : Origin). plain_second x true u t) is)
 
     -- No side has it
 
-    levels_off : has_level z t ≡ false → ((contents_at (closed z) k t).a ≡ false) × ((contents_at (closed z) k t).b ≡ false)
+    levels_off : has_level z t ≡ false → ((contents_at (half_closed z) k t).a ≡ false) × ((contents_at (half_closed z) k t).b ≡ false)
     unfolding T.contents_at
-    levels_off e = or_false (level_at z.a t) (level_at z.b t) e
+    levels_off e = neither (level_at z.a t) (level_at z.b t) e
 
-    absent_sure : (c : TrackContents) (y : DeviceStore) → contents_at y k t ≡ c → RightBut (Some t) v w y k → Stays (closed z) y → c.a ≡ false → c.b ≡ false →
+    absent_sure : (c : TrackContents) (y : DeviceStore) → contents_at y k t ≡ c → RightBut (Some t) v w y k → Stays (half_closed z) y → c.a ≡ false → c.b ≡ false →
         FrameHas c.frame (image_in z v t) → PatchHas c.patch (image_in z v t) → Sure v w y k
     absent_sure c y is b stays a no_b frame patch =
         shut t v w y k b
@@ -359,7 +356,7 @@ module _ (u w0 : List Track) (s : DeviceStore) (h : Held) (hw : HalfWrite Image)
               (subst (λ (l : Track). PatchFits c.patch (image_in z v t) (record { geometry = z.geometry; track = l })) (sym firm_is) (patch, patch));
         })))
 
-    absent_ends : (y : DeviceStore) (m : MarksStore) → marks_of v w y ≡ m → Sure v w y k → AllTold y k → Stays (closed z) y → is_loose y t ≡ false →
+    absent_ends : (y : DeviceStore) (m : MarksStore) → marks_of v w y ≡ m → Sure v w y k → AllTold y k → Stays (half_closed z) y → is_loose y t ≡ false →
         plain_second hw.origin false u t ≡ u →
         Twins Ends (Done (settled contents y t) false) (Done (settled by_plain m t) false) k
     absent_ends y m is sure told stays loose after =
@@ -373,23 +370,23 @@ module _ (u w0 : List Track) (s : DeviceStore) (h : Held) (hw : HalfWrite Image)
           cylinders = f.is.1.1.cylinders ∙ stays.cylinders ∙ d.mid.stays.cylinders;
         }))
 
-    frame_was : (f : Frame) → (contents_at (closed z) k t).frame ≡ Some f → (contents_at s h t).frame ≡ Some f
+    frame_was : (f : Frame) → (contents_at (half_closed z) k t).frame ≡ Some f → (contents_at s h t).frame ≡ Some f
     frame_was f e = sym d.mid.sided.frame ∙ sym (ap (λ (c : TrackContents). c.frame) (closed_contents z k t)) ∙ e
 
-    patch_was : (contents_at (closed z) k t).patch ≡ (contents_at s h t).patch
+    patch_was : (contents_at (half_closed z) k t).patch ≡ (contents_at s h t).patch
     patch_was = ap (λ (c : TrackContents). c.patch) (closed_contents z k t) ∙ d.mid.sided.patch
 
     kept_ends : has_level z t ≡ false → FrameHas (contents_at s h t).frame (image_in s u t) → PatchHas (contents_at s h t).patch (image_in s u t) →
         plain_second hw.origin false u t ≡ u →
-        Twins Ends (Done (settled contents (closed z) t) false) (Done (settled by_plain (closed (marks_of v w z)) t) false) k
+        Twins Ends (Done (settled contents (half_closed z) t) false) (Done (settled by_plain (half_closed (marks_of v w z)) t) false) k
     kept_ends none frame patch after =
         let levels = levels_off none in
-        absent_ends (closed z) (closed (marks_of v w z)) refl
-        (absent_sure (contents_at (closed z) k t) (closed z) refl but (stays_same (closed z)) levels.0 levels.1
+        absent_ends (half_closed z) (half_closed (marks_of v w z)) refl
+        (absent_sure (contents_at (half_closed z) k t) (half_closed z) refl but (stays_same (half_closed z)) levels.0 levels.1
         (λ f e. frame f (frame_was f e) ∙ sym plain_is)
         (subst (λ (o : Option Stored). PatchHas o (image_in z v t)) (sym patch_was)
         (subst (λ (i : Image). PatchHas (contents_at s h t).patch i) (sym plain_is) patch)))
-        (closed_told z k d.mid.told) (stays_same (closed z)) firm_now after
+        (closed_told z k d.mid.told) (stays_same (half_closed z)) firm_now after
 
     -- the frame of a command that was cut has the new track then, and its patch goes
     module _ (f : Frame) (image : hw.image ≡ image_in s u t) (none : has_level z t ≡ false) where
@@ -397,21 +394,21 @@ module _ (u w0 : List Track) (s : DeviceStore) (h : Held) (hw : HalfWrite Image)
       fresh = record { image = hw.image; modified = f.modified }
 
       abbrev framed : DeviceStore
-      framed = with_frame (closed z) t (Some fresh)
+      framed = with_frame (half_closed z) t (Some fresh)
 
-      cut_altered : Altered (closed z) k (without_patch contents framed t) k t (unpatched (record (contents_at (closed z) k t) { frame = Some fresh }))
+      cut_altered : Altered (half_closed z) k (without_patch contents framed t) k t (unpatched (record (contents_at (half_closed z) k t) { frame = Some fresh }))
       cut_altered =
-          let g = altered_frame (closed z) k t below but.ground.sizes (Some fresh) in
+          let g = altered_frame (half_closed z) k t below but.ground.sizes (Some fresh) in
           let e = altered_unpatched framed k t below g.sizes in
           altered_twice g (record { sizes = e.sizes; base = e.base; elsewhere = e.elsewhere; here = e.here ∙ ap unpatched g.here })
 
       cut_right : RightBut (Some t) v w (without_patch contents framed t) k
       cut_right =
-          let c = unpatched (record (contents_at (closed z) k t) { frame = Some fresh }) in
-          let still = sits_still v w (closed z) k t (contents_at (closed z) k t) below but.ground refl refl in
-          right_altered (Some t) v w (closed z) k (without_patch contents framed t) k t c but cut_altered
+          let c = unpatched (record (contents_at (half_closed z) k t) { frame = Some fresh }) in
+          let still = sits_still v w (half_closed z) k t (contents_at (half_closed z) k t) below but.ground refl refl in
+          right_altered (Some t) v w (half_closed z) k (without_patch contents framed t) k t c but cut_altered
           (record { same = still.same; patch = λ p e. absurd (cc); apart = λ e. refl })
-          (unpatched_slots (closed z) k (without_patch contents framed t) k t c cut_altered refl refl refl but.ground.slots) (λ ne. absurd (ne refl))
+          (unpatched_slots (half_closed z) k (without_patch contents framed t) k t c cut_altered refl refl refl but.ground.slots) (λ ne. absurd (ne refl))
 
       fresh_is : (g : Frame) → Some fresh ≡ Some g → g.image ≡ image_in z v t
       fresh_is g e = (let same : g.image ≡ hw.image = cc in same) ∙ image ∙ sym plain_is
@@ -423,38 +420,38 @@ module _ (u w0 : List Track) (s : DeviceStore) (h : Held) (hw : HalfWrite Image)
 
       cut_ends : plain_second hw.origin false u t ≡ u →
           Twins Ends (Done (settled contents (without_patch contents framed t) t) false)
-          (Done (settled by_plain (without_patch by_plain (with_frame (closed (marks_of v w z)) t (Some f.modified)) t) t) false) k
+          (Done (settled by_plain (without_patch by_plain (with_frame (half_closed (marks_of v w z)) t (Some f.modified)) t) t) false) k
       cut_ends after =
           let levels = levels_off none in
-          let c = unpatched (record (contents_at (closed z) k t) { frame = Some fresh }) in
-          absent_ends (without_patch contents framed t) (without_patch by_plain (with_frame (closed (marks_of v w z)) t (Some f.modified)) t)
-          (without_patch_twin v w framed t ∙ ap (λ (m : MarksStore). without_patch by_plain m t) (with_frame_twin v w (closed z) t (Some fresh)))
-          (absent_sure c (without_patch contents framed t) cut_altered.here cut_right (stays_by (closed z) k
+          let c = unpatched (record (contents_at (half_closed z) k t) { frame = Some fresh }) in
+          absent_ends (without_patch contents framed t) (without_patch by_plain (with_frame (half_closed (marks_of v w z)) t (Some f.modified)) t)
+          (without_patch_twin v w framed t ∙ ap (λ (m : MarksStore). without_patch by_plain m t) (with_frame_twin v w (half_closed z) t (Some fresh)))
+          (absent_sure c (without_patch contents framed t) cut_altered.here cut_right (stays_by (half_closed z) k
           (without_patch contents framed t) k cut_altered.base)
           levels.0 levels.1 fresh_is (λ p e. absurd (cc)))
-          (told_altered (closed z) k (without_patch contents framed t) k t c (closed_told z k d.mid.told) cut_altered refl)
-          (stays_by (closed z) k (without_patch contents framed t) k cut_altered.base) loose_cut after
+          (told_altered (half_closed z) k (without_patch contents framed t) k t c (closed_told z k d.mid.told) cut_altered refl)
+          (stays_by (half_closed z) k (without_patch contents framed t) k cut_altered.base) loose_cut after
 
     -- nothing is left of it
-    gone_altered : Altered (closed z) k (lost_now contents (closed z) t) k t (unpatched (record (contents_at (closed z) k t) { lost = true }))
+    gone_altered : Altered (half_closed z) k (lost_now contents (half_closed z) t) k t (unpatched (record (contents_at (half_closed z) k t) { lost = true }))
     gone_altered =
-        let g = altered_lost (closed z) k t below but.ground.sizes in
-        let e = altered_unpatched (with_lost (closed z) t) k t below g.sizes in
+        let g = altered_lost (half_closed z) k t below but.ground.sizes in
+        let e = altered_unpatched (with_lost (half_closed z) t) k t below g.sizes in
         altered_twice g (record { sizes = e.sizes; base = e.base; elsewhere = e.elsewhere; here = e.here ∙ ap unpatched g.here })
 
-    gone_order : Ordered v w (lost_now contents (closed z) t) k
+    gone_order : Ordered v w (lost_now contents (half_closed z) t) k
     gone_order =
-        let c = unpatched (record (contents_at (closed z) k t) { lost = true }) in
-        let y = lost_now contents (closed z) t in
-        let still = sits_still v w (closed z) k t (contents_at (closed z) k t) below but.ground refl refl in
-        let b = right_altered (Some t) v w (closed z) k y k t c but gone_altered
+        let c = unpatched (record (contents_at (half_closed z) k t) { lost = true }) in
+        let y = lost_now contents (half_closed z) t in
+        let still = sits_still v w (half_closed z) k t (contents_at (half_closed z) k t) below but.ground refl refl in
+        let b = right_altered (Some t) v w (half_closed z) k y k t c but gone_altered
         (record { same = still.same; patch = λ p e. absurd (cc); apart = λ e. refl })
-        (unpatched_slots (closed z) k y k t c gone_altered refl refl refl but.ground.slots) (λ ne. absurd (ne refl)) in
+        (unpatched_slots (half_closed z) k y k t c gone_altered refl refl refl but.ground.slots) (λ ne. absurd (ne refl)) in
         record {
           sure = shut t v w y k b
               (subst (λ (x : TrackContents). IsRight y.geometry t y.half x (image_in y v t) (image_in y w t)) (sym gone_altered.here)
               (right_lost y.geometry t y.half c (image_in y v t) (image_in y w t) refl));
-          told = told_altered (closed z) k y k t c (closed_told z k d.mid.told) gone_altered refl;
+          told = told_altered (half_closed z) k y k t c (closed_told z k d.mid.told) gone_altered refl;
         }
 
     lost_mark : is_lost z t ≡ false
@@ -462,14 +459,14 @@ module _ (u w0 : List Track) (s : DeviceStore) (h : Held) (hw : HalfWrite Image)
     lost_mark = d.mid.sided.lost ∙ there
 
     gone_ends : is_some z.lent ≡ false → frame_at z t ≡ None → has_level z t ≡ false → plain_second hw.origin false u t ≡ u →
-        Twins Ends (Done (settled contents (closed z) t) false) (Done (settled by_plain (closed (marks_of v w z)) t) false) k
+        Twins Ends (Done (settled contents (half_closed z) t) false) (Done (settled by_plain (half_closed (marks_of v w z)) t) false) k
     gone_ends free e none after =
-        let stays = stays_by (closed z) k (lost_now contents (closed z) t) k gone_altered.base in
-        subst (λ (x : DeviceStore). Twins Ends (Done x false) (Done (settled by_plain (closed (marks_of v w z)) t) false) k)
-        (sym (settles_lost contents (closed z) t free lost_mark none e refl))
-        (subst (λ (x : MarksStore). Twins Ends (Done (lost_now contents (closed z) t) false) (Done x false) k)
-        (sym (settles_lost by_plain (closed (marks_of v w z)) t free lost_mark none (frame_twin v w z t ∙ ap (option_map frame_mark) e) refl))
-        (twin_ends (without_patch_twin v w (with_lost (closed z) t) t) (record {
+        let stays = stays_by (half_closed z) k (lost_now contents (half_closed z) t) k gone_altered.base in
+        subst (λ (x : DeviceStore). Twins Ends (Done x false) (Done (settled by_plain (half_closed (marks_of v w z)) t) false) k)
+        (sym (settles_lost contents (half_closed z) t free lost_mark none e refl))
+        (subst (λ (x : MarksStore). Twins Ends (Done (lost_now contents (half_closed z) t) false) (Done x false) k)
+        (sym (settles_lost by_plain (half_closed (marks_of v w z)) t free lost_mark none (frame_twin v w z t ∙ ap (option_map frame_mark) e) refl))
+        (twin_ends (without_patch_twin v w (with_lost (half_closed z) t) t) (record {
           order = gone_order;
           same = refl;
           plain = d.mid.plain ∙ sym after;
@@ -479,19 +476,19 @@ module _ (u w0 : List Track) (s : DeviceStore) (h : Held) (hw : HalfWrite Image)
 
     cut_by : is_some z.lent ≡ false → (o' : Option Frame) → frame_at z t ≡ o' → hw.image ≡ image_in s u t → has_level z t ≡ false →
         plain_second hw.origin false u t ≡ u →
-        Twins Ends (Done (settled contents (cut_kept contents (closed z) t hw.image o') t) false)
-        (Done (settled by_plain (cut_kept by_plain (closed (marks_of v w z)) t hw.image (option_map frame_mark o')) t) false) k
+        Twins Ends (Done (settled contents (cut_kept contents (half_closed z) t hw.image o') t) false)
+        (Done (settled by_plain (cut_kept by_plain (half_closed (marks_of v w z)) t hw.image (option_map frame_mark o')) t) false) k
     cut_by free None e image none after = gone_ends free e none after
     cut_by free (Some f) e image none after = cut_ends f image none after
 
     absent_by : is_some z.lent ≡ false → (origin : Origin) → hw.origin ≡ origin → hw.image ≡ written_on (image_in s u t) origin →
         FrameOf origin (contents_at s h t).frame (image_in s u t) → PatchOf origin (contents_at s h t).patch (image_in s u t) →
         has_level z t ≡ false →
-        Twins Ends (second_absent contents (closed z) t hw.image origin) (second_absent by_plain (closed (marks_of v w z)) t hw.image origin) k
+        Twins Ends (second_absent contents (half_closed z) t hw.image origin) (second_absent by_plain (half_closed (marks_of v w z)) t hw.image origin) k
     absent_by free (OfCommand bypass e) is image frame patch none = kept_ends none frame patch (ap (λ (x : Origin). plain_second x false u t) is)
     absent_by free (OfCut bypass) is image frame patch none =
-        subst (λ (g : Option Bool). Twins Ends (Done (settled contents (cut_kept contents (closed z) t hw.image (frame_at z t)) t) false)
-        (Done (settled by_plain (cut_kept by_plain (closed (marks_of v w z)) t hw.image g) t) false) k) (sym (frame_twin v w z t))
+        subst (λ (g : Option Bool). Twins Ends (Done (settled contents (cut_kept contents (half_closed z) t hw.image (frame_at z t)) t) false)
+        (Done (settled by_plain (cut_kept by_plain (half_closed (marks_of v w z)) t hw.image g) t) false) k) (sym (frame_twin v w z t))
         (cut_by free (frame_at z t) refl image none (ap (λ (x : Origin). plain_second x false u t) is))
     absent_by free OfBackground is image frame patch none = kept_ends none frame patch (ap (λ (x : Origin). plain_second x false u t) is)
 

@@ -1,30 +1,5 @@
 -- Settling leaves contents right, and does on marks what it does on contents.
-use Rattle.std.proofs.Common.{
-  ◌≡◌,
-  ◌≢◌,
-  ◌<◌,
-  ◌||◌,
-  ℕ,
-  Bool,
-  true,
-  false,
-  List,
-  Option,
-  Some,
-  None,
-  is_some,
-  set,
-  length,
-  refl,
-  sym,
-  ap,
-  subst,
-  ◌∙◌,
-  arith,
-  ◌⊎◌,
-  inl,
-  inr,
-}
+use Rattle.std.proofs.Common.{◌≡◌, ◌≢◌, ◌<◌, ℕ, Bool, true, false, List, Option, Some, None, is_some, set, length, refl, sym, ap, subst, ◌∙◌, arith, ◌⊎◌, inl, inr}
 use Rattle.std.proofs.lemmas.Bool.{cases_eq}
 use Rattle.std.specs.Prelude.{option_map, if◌then◌else◌}
 use Rattle.ckd_types.specs.declared.record.Track.{Track}
@@ -58,6 +33,7 @@ use Rattle.device_defs.specs.Store.{
   with_owed,
 }
 use Rattle.device_laws.specs.Agrees.{Held, image_in, slot_at, AreSlots, HasSlots}
+use Rattle.device_laws.proofs.Bools.{neither}
 use Rattle.device_laws.proofs.ContentChanges as C
 use Rattle.device_laws.proofs.ContentChanges.{
   Base,
@@ -239,10 +215,6 @@ pub record SettlesOff (exempt : ℕ → Type 0) (h : Held) (u : List Track) (s :
   pub plain : v ≡ u
   pub own : (t : ℕ) → exempt t → contents_at z h t ≡ contents_at s h t
 
-or_false : (x y : Bool) → (x || y) ≡ false → (x ≡ false) × (y ≡ false)
-or_false true y e = absurd (cc)
-or_false false y e = (refl, e)
-
 module _ (exempt : ℕ → Type 0) (h : Held) (v w : List Track) (s : DeviceStore) (t : ℕ) (lt : t < tracks_of s) (b : RightOff exempt v w s h)
     (d : DebtsOff exempt s h) (other : (exempt t → ⊥)) where
   abbrev x : TrackContents
@@ -330,7 +302,7 @@ module _ (exempt : ℕ → Type 0) (h : Held) (v w : List Track) (s : DeviceStor
 
       levels : has_level s t ≡ false → (x.a ≡ false) × (x.b ≡ false)
       unfolding T.contents_at
-      levels none = or_false (level_at s.a t) (level_at s.b t) none
+      levels none = neither (level_at s.a t) (level_at s.b t) none
 
       firm_image : image_in s firm_now t ≡ image_in s v t
       firm_image = ap (λ (l : Track). record { geometry = s.geometry; track = l }) (put_here w t (track_in v t) long)

@@ -1,5 +1,5 @@
 -- A write that goes through to the volumes: its edit is the plain one where it is done, and all is right, with its twin on marks.
-use Rattle.std.proofs.Common.{◌≡◌, ◌<◌, ◌||◌, ℕ, Bool, true, false, List, Option, Some, None, set, refl, sym, ap, subst, ◌∙◌, arith}
+use Rattle.std.proofs.Common.{◌≡◌, ◌<◌, ℕ, Bool, true, false, List, Option, Some, None, set, refl, sym, ap, subst, ◌∙◌, arith}
 use Rattle.std.specs.Prelude.{if◌then◌else◌}
 use Rattle.ckd_types.specs.declared.geometry.Geometry.{Geometry}
 use Rattle.ckd_types.specs.declared.record.Edit.{Edit}
@@ -28,6 +28,7 @@ use Rattle.device_defs.specs.Writing.{write_first}
 use Rattle.device_laws.specs.Agrees.{Held, image_in, PatchHas}
 use Rattle.device_laws.specs.PlainWrites.{SuitsTrack, plain_after}
 use Rattle.device_laws.specs.Twin.{Twins}
+use Rattle.device_laws.proofs.Bools.{neither}
 use Rattle.device_laws.proofs.PlainVolumes.{put_here}
 use Rattle.device_laws.proofs.Sweeps.{is_alone}
 use Rattle.device_laws.proofs.TrackContents as T
@@ -48,10 +49,6 @@ pub record WroteTwin (u : List Track) (s : DeviceStore) (t : ℕ) (e : Edit) (v 
   pub plain : v ≡ plain_after a u t e
   pub geometry : z.geometry ≡ s.geometry
   pub cylinders : z.cylinders ≡ s.cylinders
-
-or_false : (x y : Bool) → (x || y) ≡ false → (x ≡ false) × (y ≡ false)
-or_false true y e = absurd (cc)
-or_false false y e = (refl, e)
 
 -- t is being written with the image i of the edit, over the store y that the write began with
 module _ (u : List Track) (y : DeviceStore) (j : Held) (t : ℕ) (e : Edit) (lt : t < tracks_of y) (firm : is_loose y t ≡ false)
@@ -125,7 +122,7 @@ module _ (u : List Track) (y : DeviceStore) (j : Held) (t : ℕ) (e : Edit) (lt 
 
   levels_off : (z : DeviceStore) (k : Held) → has_level z t ≡ false → ((contents_at z k t).a ≡ false) × ((contents_at z k t).b ≡ false)
   unfolding T.contents_at
-  levels_off z k e = or_false (level_at z.a t) (level_at z.b t) e
+  levels_off z k e = neither (level_at z.a t) (level_at z.b t) e
 
   loose_is : (z : DeviceStore) (k : Held) → is_loose z t ≡ (contents_at z k t).loose
   unfolding T.contents_at
@@ -217,7 +214,7 @@ pub none_off : (o : Option (HalfWrite Image)) (t : ℕ) → o ≡ None → half_
 none_off None t e = refl
 none_off (Some h) t e = absurd (cc)
 
-mark_lost : (s : DeviceStore) (t : ℕ) → (track_at contents s t).lost ≡ is_lost s t
+pub mark_lost : (s : DeviceStore) (t : ℕ) → (track_at contents s t).lost ≡ is_lost s t
 unfolding M.track_at
 mark_lost s t = refl
 

@@ -43,6 +43,8 @@ use Rattle.device_defs.specs.Store.{tracks_of, some_up, frame_at, patch_at, is_l
 use Rattle.device_laws.specs.Agrees.{Held}
 use Rattle.device_laws.specs.InOrder.{AreBelow}
 use Rattle.device_laws.specs.Twin.{Twins}
+use Rattle.device_laws.proofs.TwinThrough.{mark_lost}
+use Rattle.device_laws.proofs.Bools.{and_left}
 use Rattle.device_laws.proofs.Sweeps.{all_queued}
 use Rattle.device_laws.proofs.TrackMarks as M
 use Rattle.device_laws.proofs.TrackMarks.{marks, is_good, track_at, device_is_faithful}
@@ -53,7 +55,7 @@ use Rattle.device_laws.proofs.TwinLooks.{queue_order}
 use Rattle.device_laws.proofs.TwinOpened.{loose_good}
 use Rattle.device_laws.proofs.TwinSaving.{Works, recover_twin, destage_twin}
 use Rattle.device_laws.proofs.TwinWalks.{twin_done, twin_weaker}
-use Rattle.device_laws.proofs.Working.{least_found, destaged_there, waits_there, queue_goes}
+use Rattle.device_laws.proofs.Working.{least_found, found_if, destaged_there, waits_there, queue_goes}
 
 pub least_same : (n : ℕ) (p r : ℕ → Bool) → ((q : ℕ) → p q ≡ r q) → least n p ≡ least n r
 unfolding T.least
@@ -75,7 +77,7 @@ waits_same v w s t =
     ap (λ (f : Option Bool). not (is_lost s t) && waits_by by_plain (marks_of v w s) t f) (frame_twin v w s t)
     ∙ ap (λ (b : Bool). not (is_lost s t) && b) (waits_frame s v w t (frame_at s t))
 
-modified_frame : (f : Option Frame) → is_modified by_plain (option_map frame_mark f) ≡ is_modified contents f
+pub modified_frame : (f : Option Frame) → is_modified by_plain (option_map frame_mark f) ≡ is_modified contents f
 modified_frame None = refl
 modified_frame (Some f) = refl
 
@@ -85,18 +87,10 @@ destaged_same v w s t =
     (ap (is_modified by_plain) (frame_twin v w s t) ∙ modified_frame (frame_at s t))
     ∙ ap (λ (b : Bool). is_loose s t || (is_modified contents (frame_at s t) && b)) (has_patch_twin v w s t)
 
-found_if : (n : ℕ) (p : ℕ → Bool) (b : Bool) (t : ℕ) → (if b then least n p else None) ≡ Some t → (t < n) × (p t ≡ true)
-found_if n p true t e = least_found n p t e
-found_if n p false t e = absurd (cc)
-
 -- what is destaged has a frame
 or_parts : (x y : Bool) → (x || y) ≡ true → x ≡ false → y ≡ true
 or_parts true y e f = absurd (cc)
 or_parts false y e f = e
-
-and_first : (x y : Bool) → (x && y) ≡ true → x ≡ true
-and_first true y e = refl
-and_first false y e = e
 
 modified_some : (f : Option Frame) → is_modified contents f ≡ true → is_some f ≡ true
 modified_some None e = absurd (cc)
@@ -116,11 +110,7 @@ loose_framed s t loose good =
 destaged_framed : (s : DeviceStore) (t : ℕ) (b : Bool) → is_loose s t ≡ b → is_destaged contents s t ≡ true → is_good (track_at contents s t) ≡ true →
     is_some (frame_at s t) ≡ true
 destaged_framed s t true e f good = loose_framed s t e good
-destaged_framed s t false e f good = modified_some (frame_at s t) (and_first _ (is_some (patch_at s t)) (or_parts (is_loose s t) _ f e))
-
-mark_lost : (s : DeviceStore) (t : ℕ) → (track_at contents s t).lost ≡ is_lost s t
-unfolding M.track_at
-mark_lost s t = refl
+destaged_framed s t false e f good = modified_some (frame_at s t) (and_left _ (is_some (patch_at s t)) (or_parts (is_loose s t) _ f e))
 
 module _ (v w : List Track) (s : DeviceStore) (h : Held) (none : s.half ≡ None) (o : InOrder v w s h) where
   abbrev Ends : List Track → List Track → DeviceStore → Option Did → Option Did → Held → Type 0

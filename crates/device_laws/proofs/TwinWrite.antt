@@ -28,6 +28,7 @@ use Rattle.device_defs.specs.Store.{tracks_of, frame_at, patch_at, is_lost, is_l
 use Rattle.device_laws.specs.Agrees.{Held, image_in}
 use Rattle.device_laws.specs.PlainWrites.{SuitsTrack, plain_had}
 use Rattle.device_laws.specs.Twin.{Twins}
+use Rattle.device_laws.proofs.Bools.{no_some, not_true}
 use Rattle.device_laws.proofs.Choices.{Fits, choice_fits}
 use Rattle.device_laws.proofs.FailedCall.{IsWell}
 use Rattle.device_laws.proofs.TrackMarks as M
@@ -54,17 +55,9 @@ no_patch (Some false) true true false e c = absurd (cc)
 no_patch (Some false) true false true e c = absurd (cc)
 no_patch (Some false) true false false e c = absurd (cc)
 
-none_there : {X : Type 0} (o : Option X) → is_some o ≡ false → o ≡ None
-none_there None e = refl
-none_there (Some x) e = absurd (cc)
-
 clean_mark : (f : Option Frame) → is_clean contents f ≡ true → M.frame_mark contents f ≡ Some false
 clean_mark None e = absurd (cc)
 clean_mark (Some f) e = ap Some (not_true f.modified e)
-  where
-    not_true : (b : Bool) → not b ≡ true → b ≡ false
-    not_true true e = absurd (cc)
-    not_true false e = refl
 
 pub record HadTwin (u : List Track) (s : DeviceStore) (t : ℕ) (e : Edit) (v w : List Track) (z : DeviceStore) (a b : Option Took) (k : Held) : Type 0 where
   pub order : Ordered v w z k
@@ -95,7 +88,7 @@ module _ (v w : List Track) (s : DeviceStore) (t : ℕ) (e : Edit) (u : Usage) (
   unfolding M.track_at
   unpatched fit =
       let x = track_at contents s t in
-      none_there (patch_at s t) (no_patch x.frame x.patched x.loose x.level
+      no_some (patch_at s t) (no_patch x.frame x.patched x.loose x.level
       (subst (λ (b : Bool). is_good (marks x.frame x.patched b x.loose false x.level) ≡ true) there
       (subst (λ (b : Bool). is_good (marks x.frame x.patched x.lost x.loose b x.level) ≡ true) off (well.good t lt)))
       (clean_there fit))

@@ -34,6 +34,7 @@ use Rattle.device_defs.specs.Writing.{
 }
 use Rattle.device_laws.specs.Agrees.{Held, image_in}
 use Rattle.device_laws.specs.Twin.{Twins}
+use Rattle.device_laws.proofs.Bools.{and_not_true, and_left}
 use Rattle.device_laws.proofs.ContentChanges as C
 use Rattle.device_laws.proofs.ContentChanges.{
   base_of,
@@ -59,7 +60,6 @@ use Rattle.device_laws.proofs.ContentChanges.{
   shut,
   opens_write,
 }
-use Rattle.device_laws.proofs.Soundness.{and_left}
 use Rattle.device_laws.proofs.TrackContents as T
 use Rattle.device_laws.proofs.TrackContents.{TrackContents, contents_at, Keeps, Fewer, keeps_fewer, IsRight, not_both}
 use Rattle.device_laws.proofs.TwinAsks.{Stays, stays_same, stays_on, stays_by, stays_fell, stays_image, stays_off, Ordered, right_keeps}
@@ -91,10 +91,6 @@ sided_on x y z f g = record {
 sided_slots : (x y : TrackContents) → Sided x y → (kept : Bool) → slot_of kept y ≡ slot_of kept x
 sided_slots x y e true = ap (λ (o : Option _). slot_of true (record x { patch = o })) e.patch
 sided_slots x y e false = e.freed
-
-and_not_true : (b : Bool) → (b && not true) ≡ false
-and_not_true true = refl
-and_not_true false = refl
 
 fell_a : (p : Bool) (s : DeviceStore) (h : Held) (t : ℕ) →
     contents_at (fell p s A) h t ≡ record (contents_at s h t) { a = if p then false else (contents_at s h t).a }

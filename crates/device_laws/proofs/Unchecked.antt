@@ -6,7 +6,7 @@ use Rattle.ckd_chain.specs.declared.mark.Stage.TheVariants as stages
 use Rattle.ckd_chain.specs.declared.progress.Progress.{Progress}
 use Rattle.ckd_chain.specs.declared.progress.Progress.TheVariants as progresses
 use Rattle.ckd_chain.specs.State.{ChainState}
-use Rattle.ckd_chain.specs.Steps.{opened as opened_chain, stage_of, needed, need_of, standing, turned_by as chain_turned, stepped_by, stepped, word_of}
+use Rattle.ckd_chain.specs.Steps.{chain_opened as opened_chain, stage_of, track_needed, need_of, standing, step_turned as chain_turned, stepped_by, stepped, word_of}
 use Rattle.ckd_rules.specs.declared.order.Look.{Look}
 use Rattle.ckd_rules.specs.declared.stance.Stance.{Stance}
 use Rattle.ckd_rules.specs.declared.turned.Turned.{Turned}
@@ -58,11 +58,12 @@ use Rattle.device_defs.specs.Losses.{settled}
 use Rattle.device_defs.specs.Memory.{had_by}
 use Rattle.device_defs.specs.Owed.{is_clean}
 use Rattle.device_defs.specs.Outcomes.{Turn, usage_of, wrote_turn}
-use Rattle.device_defs.specs.Store.{OfCommand, Store, tracks_of, level_at, has_level, takes_b, frame_at, patch_at, is_lost, is_loose, half_is, with_frame}
+use Rattle.device_defs.specs.Store.{OfCommand, Store, tracks_of, level_at, has_level, takes_b, frame_at, is_lost, half_is, with_frame}
 use Rattle.device_defs.specs.Writing as V
-use Rattle.device_defs.specs.Writing.{Wrote, write_counted, firm_first, write_first, write_second, write_done, opened}
+use Rattle.device_defs.specs.Writing.{Wrote, write_counted, firm_first, write_first, write_second, write_done, write_opened}
 use Rattle.device_laws.specs.Unharmed.{some_takes}
-use Rattle.device_laws.proofs.ChainFeeds.{begun_stage, need_at, need_is}
+use Rattle.device_laws.proofs.ChainFeeds.{need_is}
+use Rattle.device_laws.proofs.ChainTracks.{begun_stage, need_at}
 use Rattle.device_laws.proofs.Choices.{choice_fits}
 use Rattle.device_laws.proofs.Commands.{Stays, LookedAt, look_keeps_good}
 use Rattle.device_laws.proofs.FailedCall.{IsWell}
@@ -82,8 +83,8 @@ use Rattle.device_laws.proofs.Lucky.{
 use Rattle.device_laws.proofs.PlainLooks.{look_stays}
 use Rattle.device_laws.proofs.TrackMarks as M
 use Rattle.device_laws.proofs.TrackMarks.{TrackMarks, marks, is_true, is_good, IsFaithful, frame_mark, track_at}
-use Rattle.device_laws.proofs.UnlostEvents.{look_goes}
-use Rattle.device_laws.proofs.UnlostParts.{image_goes, second_lucky, firm_first_off}
+use Rattle.device_laws.proofs.UnlostParts.{second_lucky, firm_first_off}
+use Rattle.device_laws.proofs.invariants.NoTrackIsLost.{level_of, image_goes, look_goes}
 use Rattle.device_laws.proofs.WholeImage.{Reaches, image_keeps_good}
 use Rattle.device_laws.proofs.Writes.{is_taken, firm_first_keeps_good, write_first_keeps_good}
 
@@ -105,11 +106,11 @@ stage_is : (chain : ChainState) (t : ℕ) (i : Image) (stage : Stage) → need_o
     StepIs t (stepped_by (opened_chain chain) (Some i) stage).progress (stepped_by (opened_chain chain) (Some i) stage).chain
 stage_is chain t i stages.Over needs at = tt
 stage_is chain t i (stages.Asks act) needs at =
-    absurd (let none : None ≡ Some t = sym (ap (λ (x : Stage). needed (opened_chain chain) x) at) ∙ needs in cc)
+    absurd (let none : None ≡ Some t = sym (ap (λ (x : Stage). track_needed (opened_chain chain) x) at) ∙ needs in cc)
 stage_is chain t i (stages.Looks look) needs at =
     let u = opened_chain chain in
     let l = look_on i.geometry i.track u.at.stance (word_of u) look in
-    let place : u.at.stance.track ≡ t = need_is u (stages.Looks look) t (sym (ap (λ (x : Stage). needed u x) at) ∙ needs) in
+    let place : u.at.stance.track ≡ t = need_is u (stages.Looks look) t (sym (ap (λ (x : Stage). track_needed u x) at) ∙ needs) in
     turned_is u t look l.stance l.turned (begun_stage chain chain.stage refl ∙ ap (λ (x : Stage). Some x) at)
     (λ on. (look_stays i.geometry i.track u.at.stance (word_of u) look on).1 ∙ ap (λ (n : ℕ). n + 1) place)
 
@@ -165,12 +166,6 @@ abbrev pub TurnSo : Option Turn → Type 0
 TurnSo None = Unit {0}
 TurnSo (Some turn) = NoCheck turn.came
 
-needs_side : (f : Option Bool) → is_true f ≡ false → (p o v : Bool) → is_good (marks f p false o false v) ≡ true → v ≡ true
-needs_side f e p o true good = refl
-needs_side None e p o false good = absurd (cc)
-needs_side (Some true) e p o false good = absurd (cc)
-needs_side (Some false) e p o false good = absurd (cc)
-
 module _ {F P H R : Type 0} (c : Contents F P H R) where
   neither : (x y : Bool) → x ≡ false → y ≡ false → (x || y) ≡ true → ⊥
   neither true y e f g = absurd (cc)
@@ -212,19 +207,10 @@ module _ {F P H R : Type 0} (c : Contents F P H R) where
   by_frame s u t None level = miss_has s u t (level refl)
   by_frame s u t (Some f) level = lucky_if (c.modified f) (λ _. lucky_done tt) (λ clean. clean_has s u t f (level clean))
 
-  level_of : (s : Store F P H) (t : ℕ) → is_good (track_at c s t) ≡ true → is_lost s t ≡ false → half_is s.half t ≡ false →
-      is_true (frame_mark c (frame_at s t)) ≡ false → has_level s t ≡ true
-  unfolding M.track_at
-  level_of s t good there half clean =
-      needs_side (frame_mark c (frame_at s t)) clean (is_some (patch_at s t)) (is_loose s t) (has_level s t)
-      (subst (λ (l : Bool). is_good (marks (frame_mark c (frame_at s t)) (is_some (patch_at s t)) l (is_loose s t) false (has_level s t)) ≡ true) there
-      (subst (λ (h : Bool). is_good (marks (frame_mark c (frame_at s t)) (is_some (patch_at s t)) (is_lost s t) (is_loose s t) h
-      (has_level s t)) ≡ true) half good))
-
   pub image_has : (s : Store F P H) (u : Usage) (t : ℕ) → is_good (track_at c s t) ≡ true → is_lost s t ≡ false → half_is s.half t ≡ false →
       Lucky (λ z a. HasBytes a) (image c s u t)
   unfolding I.image
-  image_has s u t good there half = by_frame s u t (frame_at s t) (level_of s t good there half)
+  image_has s u t good there half = by_frame s u t (frame_at s t) (level_of c s t good there half)
 
   -- A write
 
@@ -267,7 +253,7 @@ module _ {F P H R : Type 0} (c : Contents F P H R) where
         (is_taken took ≡ true → has_level s t ≡ true) → Lucky (λ z (x : Took). IsTaken x) (through_by c t i e bypass opens was_loose s took)
     by_taken t i e bypass opens was_loose s Whole is level = whole_taken s t i e bypass
     by_taken t i e bypass opens was_loose s Opened is level =
-        lucky_if opens (λ _. lucky_then (λ z _. Done z Opened) (lucky_any (opened c s t i (OfCommand bypass e) was_loose)) (λ z _ _. lucky_done tt))
+        lucky_if opens (λ _. lucky_then (λ z _. Done z Opened) (lucky_any (write_opened c s t i (OfCommand bypass e) was_loose)) (λ z _ _. lucky_done tt))
         (λ _. once_taken s t i e bypass (level refl))
     by_taken t i e bypass opens was_loose s Unwritten is level = absurd is
 
@@ -360,7 +346,7 @@ module _ {F P H R : Type 0} (c : Contents F P H R) where
           lucky_if (is_lost s t) (λ lost. absurd (let both : true ≡ false = sym lost ∙ there in cc))
           (λ _. lucky_then (had_by (looked c chain first t))
           (with_always (image_keeps_good c faithful s (usage_of chain) t (subst (Reaches (usage_of chain)) (sym same) (within.reaches chain is)) lt w)
-          (lucky_both (image_goes c s (usage_of chain) t) (image_has s (usage_of chain) t (w.good t lt) there (none_half s t none))))
+          (lucky_both (image_goes c faithful s (usage_of chain) t w) (image_has s (usage_of chain) t (w.good t lt) there (none_half s t none))))
           (λ z o g. looked_so chain first t z o g.1.1 needs (let tracks = g.0.goes.tracks in omega arith) g.0.goes.well
           (ap (λ (l : List Bool). get_or l t false) g.1.0.lost ∙ there) (takes_still s z g.1.0.up g.1.0.takes up)))
 
@@ -383,7 +369,7 @@ module _ {F P H R : Type 0} (c : Contents F P H R) where
       follow_so (suc k) first chain t s is same lt w none needs room there up =
           lucky_then (had_by (goes_on c (follow c k first)))
           (with_always (look_keeps_good c faithful n Within within chain first t s is same (omega arith) w none)
-          (lucky_both (look_goes c faithful n Within within chain first t s is same (omega arith) w)
+          (lucky_both (look_goes c faithful chain first t s w)
           (look_so chain first t s is same (omega arith) w none needs (there t) up)))
           (λ z o g. by_went k first t s z o (follow_so k first) same g.0 g.1.1 room (λ q. ap (λ (l : List Bool). get_or l q false) g.1.0.lost ∙ there q)
           (takes_still s z g.1.0.up g.1.0.takes up))

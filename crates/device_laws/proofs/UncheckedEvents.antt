@@ -6,7 +6,7 @@ use Rattle.ckd_chain.specs.declared.mark.Stage.TheVariants as stages
 use Rattle.ckd_chain.specs.declared.progress.Progress.{Progress}
 use Rattle.ckd_chain.specs.declared.progress.Progress.TheVariants as progresses
 use Rattle.ckd_chain.specs.State.{ChainState}
-use Rattle.ckd_chain.specs.Steps.{opened as opened_chain, stage_of, needed, need_of, stepped_by, stepped}
+use Rattle.ckd_chain.specs.Steps.{chain_opened as opened_chain, stage_of, track_needed, need_of, stepped_by, stepped}
 use Rattle.ckd_types.specs.declared.channel.CommandEnd.{CommandEnd}
 use Rattle.plain_defs.specs.declared.journal.Act.{Act}
 use Rattle.plain_defs.specs.declared.journal.How.{How}
@@ -24,7 +24,7 @@ use Rattle.device_defs.specs.Contents.{Contents}
 use Rattle.device_defs.specs.Device.{Device, all_acted, with_store, event_begun, event_ended}
 use Rattle.device_defs.specs.Excused.{is_equipment_check}
 use Rattle.device_defs.specs.Outcomes.{Turn, ends_with, settles, sense_kept, program_over, turned_by}
-use Rattle.device_defs.specs.Owed.{waiting_count, ended as event_end}
+use Rattle.device_defs.specs.Owed.{waiting_count, noted_end as event_end}
 use Rattle.device_defs.specs.Store.{Store, tracks_of}
 use Rattle.device_laws.specs.Standing.{IsWithin, IsChainOf}
 use Rattle.device_laws.specs.Unharmed.{ends_with_equipment_check, RunsUnharmed, IsCalm}
@@ -87,7 +87,7 @@ pub stage_none : (chain : ChainState) (stage : Stage) → need_of chain ≡ None
 stage_none chain stages.Over none at = tt
 stage_none chain (stages.Asks act) none at = tt
 stage_none chain (stages.Looks look) none at =
-    absurd (let some : None ≡ Some _ = sym none ∙ ap (λ (x : Stage). needed (opened_chain chain) x) at in cc)
+    absurd (let some : None ≡ Some _ = sym none ∙ ap (λ (x : Stage). track_needed (opened_chain chain) x) at in cc)
 
 -- The command
 

@@ -1,44 +1,13 @@
 -- Where no call fails, no part of an event loses a track, and each side stays as it is; and while side A is up, no track becomes stale there.
-use Rattle.std.proofs.Common.{
-  ◌≡◌,
-  ◌≢◌,
-  ◌<◌,
-  ◌≤◌,
-  ℕ,
-  Bool,
-  true,
-  false,
-  List,
-  Option,
-  Some,
-  None,
-  is_some,
-  length,
-  set,
-  get_or,
-  option_map,
-  refl,
-  sym,
-  ap,
-  subst,
-  ◌∙◌,
-  arith,
-  ◌⊎◌,
-  inl,
-  inr,
-}
+use Rattle.std.proofs.Common.{◌≡◌, ◌≢◌, ◌<◌, ◌≤◌, ℕ, Bool, true, false, List, Option, Some, None, length, set, get_or, option_map, refl, sym, ap, subst, ◌∙◌, arith, ◌⊎◌, inl, inr}
 use Rattle.std.proofs.lemmas.Bool.{cases_eq, cases_lt}
 use Rattle.std.proofs.lemmas.List.{get_or-set_same, get_or-set_other, get_or_past, length-set}
-use Rattle.std.specs.Prelude.{if◌then◌else◌, ◌||◌}
+use Rattle.std.specs.Prelude.{if◌then◌else◌, ◌&&◌, ◌||◌, not}
 use Rattle.ckd_types.specs.declared.paths.Side.{Side}
 use Rattle.ckd_types.specs.declared.paths.Side.TheVariants as sides
-use Rattle.device_defs.specs.Contents.{Contents}
-use Rattle.device_defs.specs.Losses as L
-use Rattle.device_defs.specs.Losses.{slot_in, by_frame, kept_by_frame, hardened_by_loss, settled, stale_everywhere}
-use Rattle.device_defs.specs.Store.{Store, takes_b, has_level, frame_at, patch_at, is_lost, is_loose, half_is, with_stale}
+use Rattle.device_defs.specs.Losses.{stale_everywhere}
+use Rattle.device_defs.specs.Store.{HalfWrite, Store, stale_at, level_at, takes_b, has_level, with_stale}
 use Rattle.device_defs.specs.Writing.{taken_a}
-use Rattle.device_laws.proofs.TrackMarks as M
-use Rattle.device_laws.proofs.TrackMarks.{TrackMarks, marks, is_good, frame_mark, track_at}
 
 -- what is said of a store
 pub record Core : Type 0 where
@@ -119,6 +88,21 @@ off_down t x y f down = record {
   opens = f.opens;
 }
 
+pub has_a : (up stale b : Bool) → up ≡ true → stale ≡ false → ((up && not stale) || b) ≡ true
+has_a true true b e f = absurd (cc)
+has_a true false b e f = refl
+has_a false stale b e f = absurd (cc)
+
+-- a steady device tries the second part of its open half write
+pub steady_tried : {F P H : Type 0} (s : Store F P H) → Steady (core_of s) → (h : HalfWrite H) → s.half ≡ Some h →
+    (takes_b s ≡ true) ⊎ (has_level s h.track ≡ true)
+steady_tried {H = H} s x h is = by_up s.a.up refl where
+  by_up : (b : Bool) → s.a.up ≡ b → (takes_b s ≡ true) ⊎ (has_level s h.track ≡ true)
+  by_up true up =
+      inr (has_a s.a.up (stale_at s.a h.track) (level_at s.b h.track) up
+      (x.half h.track (ap (option_map (λ (k : HalfWrite H). k.track)) is) up))
+  by_up false down = inl (ap (λ (b : Bool). b || takes_b s) (sym down) ∙ x.takes)
+
 -- Places
 
 clear_by : (l : List Bool) (t : ℕ) → ((t < length l) ⊎ (length l ≤ t)) → get_or (set l t false) t false ≡ false
@@ -185,39 +169,23 @@ module _ {F P H : Type 0} where
   pub closed_fine : (s : Store F P H) → Fine (core_of s) (core_of (record s { half = None }))
   closed_fine s = record { lost = refl; up = refl; takes = refl; level = λ up q e. e; opens = λ t e. absurd (cc) }
 
-  pub fine_if : (x : Core) (b : Bool) (s z : Store F P H) → (b ≡ true → Fine x (core_of s)) → (b ≡ false → Fine x (core_of z)) →
-      Fine x (core_of (if b then s else z))
-  fine_if x true s z f g = f refl
-  fine_if x false s z f g = g refl
+  -- a half write is to be opened where side A took the track and side B takes writes
+  pub opened_fine : (s : Store F P H) (t : ℕ) → (s.a.up ≡ true) × (takes_b s ≡ true) × (stale_at s.a t ≡ false) →
+      Fine (core_of s) (record (core_of s) { half = Some t })
+  opened_fine s t may = record {
+    lost = refl;
+    up = refl;
+    takes = refl;
+    level = λ up q e. e;
+    opens = λ q e. inr (may.0, may.1, let same : t ≡ q = cc in subst (λ (p : ℕ). stale_at s.a p ≡ false) same may.2);
+  }
 
--- A good track is settled without loss
-
-not_bare : (l h v : Bool) → (p o : Bool) → l ≡ false → h ≡ false → v ≡ false → is_good (marks None p l o h v) ≡ true → ⊥
-not_bare true h v p o bad i j e = cc
-not_bare false true v p o i bad j e = cc
-not_bare false false true p o i j bad e = cc
-not_bare false false false true true i j k e = cc
-not_bare false false false true false i j k e = cc
-not_bare false false false false true i j k e = cc
-not_bare false false false false false i j k e = cc
-
-module _ {F P H R : Type 0} (c : Contents F P H R) where
-  frame_fine : (s : Store F P H) (t : ℕ) (o : Option F) → frame_at s t ≡ o → is_good (track_at c s t) ≡ true → is_lost s t ≡ false → has_level s t ≡ false →
-      Fine (core_of s) (core_of (by_frame c s t o))
-  unfolding M.track_at
-  frame_fine s t (Some f) e good there none =
-      fine_if (core_of s) (is_loose s t) (hardened_by_loss s t) (kept_by_frame c s t f) (λ _. fine (core_of s))
-      (λ _. fine_if (core_of s) (c.modified f) s _ (λ _. fine (core_of s)) (λ _. fine (core_of s)))
-  frame_fine s t None e good there none =
-      fine_if (core_of s) (half_is s.half t) s _ (λ _. fine (core_of s))
-      (λ half. absurd (not_bare (is_lost s t) (half_is s.half t) (has_level s t) (is_some (patch_at s t)) (is_loose s t) there half none
-      (subst (λ (k : Option Bool). is_good (marks k (is_some (patch_at s t)) (is_lost s t) (is_loose s t) (half_is s.half t) (has_level s t)) ≡ true)
-      (ap (frame_mark c) e) good)))
-
-  pub settled_fine : (s : Store F P H) (t : ℕ) → is_good (track_at c s t) ≡ true → Fine (core_of s) (core_of (settled c s t))
-  unfolding L.settled
-  settled_fine s t good =
-      fine_if (core_of s) (is_some s.lent) s _ (λ _. fine (core_of s))
-      (λ _. fine_if (core_of s) (is_lost s t) s _ (λ _. fine (core_of s))
-      (λ there. fine_if (core_of s) (has_level s t) s _ (λ _. fine (core_of s))
-      (λ none. frame_fine s t (frame_at s t) refl good there none)))
+  -- what is cut was open
+  pub cut_fine : (s : Store F P H) (h : HalfWrite H) → s.half ≡ Some h → Fine (core_of s) (record (core_of s) { half = Some h.track })
+  cut_fine s h is = record {
+    lost = refl;
+    up = refl;
+    takes = refl;
+    level = λ up q e. e;
+    opens = λ q e. inl (ap (option_map (λ (x : HalfWrite H). x.track)) is ∙ e);
+  }

@@ -30,18 +30,18 @@ use Rattle.device_defs.specs.Owed.{heard, hear, waiting_count}
 use Rattle.device_defs.specs.Store.{HalfWrite, Store, tracks_of, has_level, stale_at, takes_b, frame_at, patch_at, is_lost, is_loose, half_is, with_stale}
 use Rattle.device_laws.proofs.Always as A
 use Rattle.device_laws.proofs.Always.{Behind, Always}
-use Rattle.device_laws.proofs.FramesKept.{plates_of, HasFrames, some_still, no_more, hear_framed}
+use Rattle.device_laws.proofs.FramesKept.{plates_of, HasFrames, hear_framed}
+use Rattle.device_laws.proofs.HeldPlaces.{never, some_still, no_more}
 use Rattle.device_laws.proofs.Harmless.{firm_goes}
 use Rattle.device_laws.proofs.Lucky.{Lucky, lucky_done, lucky_try, lucky_ask, lucky_tell, lucky_then, lucky_weaker}
 use Rattle.device_laws.proofs.Once.{where_none}
-use Rattle.device_laws.proofs.OneFailed.{Sides, sides_of, fallen_a, fallen_b, OnSideA, IsSomewhere, never, steady_fallen, steady_b, lost_a, lost_b, told_sides}
+use Rattle.device_laws.proofs.OneFailed.{Sides, sides_of, fallen_a, fallen_b, OnSideA, IsSomewhere, steady_fallen, steady_b, lost_a, lost_b, told_sides}
 use Rattle.device_laws.proofs.OneFailedEvents.{hear_same, end_quiet}
 use Rattle.device_laws.proofs.QuietParts.{Quiet, quiet_done, quiet_try, quiet_ask, quiet_tell, quiet_then, hear_quiet, losing_quiet}
 use Rattle.device_laws.proofs.TrackMarks.{IsFaithful}
 use Rattle.device_laws.proofs.Unchecked.{lucky_both}
 use Rattle.device_laws.proofs.Unlost.{core_of, Steady, steady_on}
-use Rattle.device_laws.proofs.UnlostEvents.{end_goes}
-use Rattle.device_laws.proofs.UnlostParts.{hear_goes}
+use Rattle.device_laws.proofs.UnlostParts.{hear_goes, end_goes}
 
 -- what holds where no call fails, where nothing is called
 quiet_behind : {R I S A : Type 0} {q : S → A → Type 0} (i : Interaction R I S A) → Quiet i → Lucky q i → Behind i q

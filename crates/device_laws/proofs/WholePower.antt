@@ -21,12 +21,14 @@ use Rattle.device_defs.specs.Effects.{gone_back}
 use Rattle.device_defs.specs.Events.{with_loss}
 use Rattle.device_defs.specs.Losses.{over, without_frame, without_patch, settled}
 use Rattle.device_defs.specs.Marks.{MarksStore, marks_of, half_mark}
-use Rattle.device_defs.specs.Second.{closed}
+use Rattle.device_defs.specs.Second.{half_closed}
 use Rattle.device_defs.specs.Sound.{DeviceStore, written_on}
 use Rattle.device_defs.specs.Store.{Origin, OfCommand, OfCut, OfBackground, HalfWrite, tracks_of, has_loose}
 use Rattle.device_laws.specs.Agrees.{Held, image_in, slot_at, PatchHas, PatchOf, IsGround}
 use Rattle.device_laws.specs.InOrder.{IsInOrder}
 use Rattle.device_laws.specs.Whole.{WholeDevice, marks_device, WholeTwins, Leaves, BehindPower}
+use Rattle.device_laws.proofs.TwinFast.{patched_has}
+use Rattle.device_laws.proofs.Bools.{some_is}
 use Rattle.device_laws.proofs.Always.{Always, always_done, always_tell}
 use Rattle.device_laws.proofs.ContentChanges as C
 use Rattle.device_laws.proofs.ContentChanges.{Altered, ground_altered, same_tracks, same_right, same_slots, sits_still, RightBut}
@@ -62,9 +64,6 @@ use Rattle.device_laws.proofs.WholeTwins.{whole_ends, store_then, quiet_twin, be
 abbrev IsCut : Option (HalfWrite Image) → Type 0
 IsCut o = (i : HalfWrite Image) → o ≡ Some i → is_of_command i.origin ≡ false
 
-some_is : {X : Type 0} (x y : X) → Some x ≡ Some y → x ≡ y
-some_is x y e = cc
-
 cut_by : (s : DeviceStore) (hw : HalfWrite Image) (origin : Origin) → s.half ≡ Some hw → hw.origin ≡ origin →
     Always (origin_cut contents s hw origin) (λ z _. IsCut z.half × (has_loose z ≡ has_loose s))
 cut_by s hw (OfCommand bypass e) is own =
@@ -87,10 +86,6 @@ plain_written i OfBackground f = refl
 read_none : (o : Option Image) (i : Image) → patched_by None o ≡ Some i → o ≡ Some i
 read_none None i e = e
 read_none (Some j) i e = e
-
-patched_has : (p : Option Stored) (i : Image) → PatchHas p i → patched_by p (Some i) ≡ Some i
-patched_has None i f = refl
-patched_has (Some q) i f = f q refl
 
 -- Its acts and its queue aren't among what its tracks keep
 
@@ -213,11 +208,11 @@ module _ (h : Held) (u w : List Track) (y : DeviceStore) (x : Swept h u y 0 u w 
           (keeps_other g q hw (bare (contents_at y h q)) (image_in y u q) (image_in y u q) other
           (held_of g q (Some hw) (bare (contents_at y h q)) (image_in y u q) (image_in y u q) e r))
 
-  closed_slots : (kept : Bool) (q : ℕ) → slot_at (closed y) kept q ≡ slot_at y kept q
+  closed_slots : (kept : Bool) (q : ℕ) → slot_at (half_closed y) kept q ≡ slot_at y kept q
   closed_slots true q = refl
   closed_slots false q = refl
 
-  closed_ground : IsGround u w (closed y) h
+  closed_ground : IsGround u w (half_closed y) h
   closed_ground = record {
     sizes = record { are = x.off.ground.sizes.are };
     plain = x.off.ground.plain;
@@ -226,18 +221,18 @@ module _ (h : Held) (u w : List Track) (y : DeviceStore) (x : Swept h u y 0 u w 
     apart = λ q e. refl;
     patches = x.off.ground.patches;
     long = x.off.ground.long;
-    slots = same_slots y (closed y) h.slots closed_slots x.off.ground.slots;
+    slots = same_slots y (half_closed y) h.slots closed_slots x.off.ground.slots;
   }
 
-  closed_contents : (q : ℕ) → contents_at (closed y) h q ≡ contents_at y h q
+  closed_contents : (q : ℕ) → contents_at (half_closed y) h q ≡ contents_at y h q
   unfolding T.contents_at
   closed_contents q = refl
 
-  closed_told : AllTold (closed y) h
+  closed_told : AllTold (half_closed y) h
   unfolding T.contents_at
   closed_told = x.told
 
-  background_swept : hw.origin ≡ OfBackground → Swept h u (closed y) 0 u w (closed y)
+  background_swept : hw.origin ≡ OfBackground → Swept h u (half_closed y) 0 u w (half_closed y)
   background_swept origin = record {
     off = record { ground = closed_ground; right = λ q below ne. absurd (ne (omega arith)) };
     later = λ q below le.
@@ -254,28 +249,28 @@ module _ (h : Held) (u w : List Track) (y : DeviceStore) (x : Swept h u y 0 u w 
       by_place q below (inr off) = other_right q below off
 
   abbrev z : DeviceStore
-  z = without_patch contents (closed y) hw.track
+  z = without_patch contents (half_closed y) hw.track
 
-  z_altered : Altered (closed y) h z h t (unpatched (contents_at (closed y) h t))
-  z_altered = altered_unpatched (closed y) h t lt closed_ground.sizes
+  z_altered : Altered (half_closed y) h z h t (unpatched (contents_at (half_closed y) h t))
+  z_altered = altered_unpatched (half_closed y) h t lt closed_ground.sizes
 
   cut_ground : IsGround u w z h
   cut_ground =
       let e = z_altered in
-      let k = unpatched (contents_at (closed y) h t) in
-      let still = sits_still u w (closed y) h t (contents_at (closed y) h t) lt closed_ground refl refl in
-      ground_altered u w (closed y) h z h t k closed_ground e (record { same = still.same; patch = λ p f. absurd (cc); apart = λ f. refl })
-      (unpatched_slots (closed y) h z h t k e refl refl refl closed_ground.slots)
+      let k = unpatched (contents_at (half_closed y) h t) in
+      let still = sits_still u w (half_closed y) h t (contents_at (half_closed y) h t) lt closed_ground refl refl in
+      ground_altered u w (half_closed y) h z h t k closed_ground e (record { same = still.same; patch = λ p f. absurd (cc); apart = λ f. refl })
+      (unpatched_slots (half_closed y) h z h t k e refl refl refl closed_ground.slots)
 
   still_there : (q : ℕ) → q < tracks_of z → q < tracks_of y
-  still_there q below = let same = same_tracks (closed y) h z h z_altered.base in omega arith
+  still_there q below = let same = same_tracks (half_closed y) h z h z_altered.base in omega arith
 
   cut_swept : is_of_command hw.origin ≡ false → Swept h u z 0 u w z
   cut_swept cut = record {
     off = record { ground = cut_ground; right = λ q below ne. absurd (ne (omega arith)) };
     later = λ q below le. by_place q (still_there q below) (cases_eq q t);
     firm = λ q below le. firm_by q (still_there q below) (cases_eq q t);
-    told = told_altered (closed y) h z h t (unpatched (contents_at (closed y) h t)) closed_told z_altered refl;
+    told = told_altered (half_closed y) h z h t (unpatched (contents_at (half_closed y) h t)) closed_told z_altered refl;
     base = refl;
     plain = refl;
   }
@@ -284,10 +279,10 @@ module _ (h : Held) (u w : List Track) (y : DeviceStore) (x : Swept h u y 0 u w 
           IsRight z.geometry q z.half (bare (contents_at z h q)) (image_in z u q) (image_in z u q)
       by_place q below (inl at) =
           subst (λ (p : ℕ). IsRight z.geometry p z.half (bare (contents_at z h p)) (image_in z u p) (image_in z u p)) (sym at)
-          (same_right (closed y) h z h z_altered.base u u t (bare (unpatched (contents_at (closed y) h t))) (bare (contents_at z h t)) (ap bare z_altered.here)
+          (same_right (half_closed y) h z h z_altered.base u u t (bare (unpatched (contents_at (half_closed y) h t))) (bare (contents_at z h t)) (ap bare z_altered.here)
           (subst (λ (k : TrackContents). IsRight g t None (bare (unpatched k)) i i) (sym (closed_contents t)) (cut_right cut)))
       by_place q below (inr off) =
-          same_right (closed y) h z h z_altered.base u u q (bare (contents_at (closed y) h q)) (bare (contents_at z h q)) (ap bare (z_altered.elsewhere q off))
+          same_right (half_closed y) h z h z_altered.base u u q (bare (contents_at (half_closed y) h q)) (bare (contents_at z h q)) (ap bare (z_altered.elsewhere q off))
           (subst (λ (k : TrackContents). IsRight g q None (bare k) (image_in y u q) (image_in y u q)) (sym (closed_contents q)) (other_right q below off))
 
       firm_by : (q : ℕ) → q < tracks_of y → ((q ≡ hw.track) ⊎ (q ≢ hw.track)) → (contents_at z h q).loose ≡ false
@@ -308,7 +303,7 @@ ended_by : (h : Held) (u w : List Track) (y : DeviceStore) (x : Swept h u y 0 u 
 ended_by h u w y x hw (OfCommand bypass e) is own lt cut = absurd (cc)
 ended_by h u w y x hw (OfCut bypass) is own lt cut = record {
   swept = cut_swept h u w y x hw is lt (ap is_of_command own);
-  tracks = same_tracks (closed y) h (without_patch contents (closed y) hw.track) h (z_altered h u w y x hw is lt).base;
+  tracks = same_tracks (half_closed y) h (without_patch contents (half_closed y) hw.track) h (z_altered h u w y x hw is lt).base;
 }
 ended_by h u w y x hw OfBackground is own lt cut = record { swept = background_swept h u w y x hw is lt own; tracks = refl }
 
@@ -319,8 +314,8 @@ half_by h u w y x (Some hw) is cut within = ended_by h u w y x hw hw.origin is r
 
 ended_marks : (u w : List Track) (y : DeviceStore) (hw : HalfWrite Image) (origin : Origin) →
     marks_of u w (half_ended contents y hw origin) ≡ half_ended by_plain (marks_of u w y) (half_mark hw) origin
-ended_marks u w y hw (OfCommand bypass e) = without_patch_twin u w (closed y) hw.track
-ended_marks u w y hw (OfCut bypass) = without_patch_twin u w (closed y) hw.track
+ended_marks u w y hw (OfCommand bypass e) = without_patch_twin u w (half_closed y) hw.track
+ended_marks u w y hw (OfCut bypass) = without_patch_twin u w (half_closed y) hw.track
 ended_marks u w y hw OfBackground = refl
 
 half_marks : (u w : List Track) (y : DeviceStore) (o : Option (HalfWrite Image)) →

@@ -12,7 +12,7 @@ use Rattle.device_outside.proofs.Link.{linked}
 use Rattle.device_defs.specs.Contents.{contents, by_plain}
 use Rattle.device_defs.specs.Device.{event_begun, event_ended, quiet_event, event}
 use Rattle.device_defs.specs.Marks.{MarksStore, MarksDevice, marks_of}
-use Rattle.device_defs.specs.Owed.{waiting_count, begun, hear, ended}
+use Rattle.device_defs.specs.Owed.{waiting_count, noted_begin, hear, noted_end}
 use Rattle.device_defs.specs.Sound.{DeviceStore}
 use Rattle.device_laws.specs.Agrees.{Held}
 use Rattle.device_laws.specs.InOrder.{IsInOrder}
@@ -70,7 +70,7 @@ hears n v w s h i =
     (λ v' w' z a b k f. record { order = is_in_order v' w' z k f.0.order f.1.well; plain = f.0.plain; stays = f.0.stays })
 
 ends : (before : ℕ) (v w : List Track) (s : DeviceStore) (h : Held) → IsInOrder v w s h →
-    Twins (λ v' w' z _ _ k. Goes v s v' w' z k) (ended contents before s) (ended by_plain before (marks_of v w s)) h
+    Twins (λ v' w' z _ _ k. Goes v s v' w' z k) (noted_end contents before s) (noted_end by_plain before (marks_of v w s)) h
 ends before v w s h i =
     let o = in_order v w s h i in
     twin_weaker
@@ -82,15 +82,15 @@ ends before v w s h i =
     })
 
 module _ (v w : List Track) (s : DeviceStore) (h : Held) where
-  begun_ordered : Ordered v w s h → Ordered v w (begun s) h
+  begun_ordered : Ordered v w s h → Ordered v w (noted_begin s) h
   unfolding T.contents_at D.base_of
   begun_ordered o = record {
-    sure = unseen_right None v w s h (begun s) h o.sure
+    sure = unseen_right None v w s h (noted_begin s) h o.sure
         (record { sizes = record { are = o.sure.ground.sizes.are }; base = refl; same = λ q. refl; slots = refl });
     told = o.told;
   }
 
-  begun_well : IsWell contents s → IsWell contents (begun s)
+  begun_well : IsWell contents s → IsWell contents (noted_begin s)
   unfolding M.track_at C.rest_of
   begun_well y = record {
     sizes = record { are = y.sizes.are };
@@ -99,17 +99,17 @@ module _ (v w : List Track) (s : DeviceStore) (h : Held) where
     kept = y.kept;
   }
 
-  pub begun_order : IsInOrder v w s h → IsInOrder v w (begun s) h
+  pub begun_order : IsInOrder v w s h → IsInOrder v w (noted_begin s) h
   begun_order i =
       let o = in_order v w s h i in
-      is_in_order v w (begun s) h (begun_ordered (record { sure = o.sure; told = o.told })) (begun_well o.well)
+      is_in_order v w (noted_begin s) h (begun_ordered (record { sure = o.sure; told = o.told })) (begun_well o.well)
 
 -- Whole events
 
 module _ {A : Type 0} {p : List Track → Type 0} where
   ending : (before : ℕ) (v w : List Track) (d : WholeDevice) (a b : A) (h : Held) → Leaves p v w d a b h →
-      WholeTwins (Leaves p) (and_then (ended contents before d.store) (λ z _. Done (record d { store = z }) a))
-      (and_then (ended by_plain before (marks_of v w d.store)) (λ z _. Done (record (marks_device v w d) { store = z }) b)) h
+      WholeTwins (Leaves p) (and_then (noted_end contents before d.store) (λ z _. Done (record d { store = z }) a))
+      (and_then (noted_end by_plain before (marks_of v w d.store)) (λ z _. Done (record (marks_device v w d) { store = z }) b)) h
   ending before v w d a b h x =
       store_then (λ z _. Done (record d { store = z }) a) (λ z _. Done (record (marks_device v w d) { store = z }) b) (ends before v w d.store h x.order)
       (λ v' w' z _ _ k f. whole_done v' w' (record d { store = z }) (record { order = f.order; same = x.same; is = subst p (sym f.plain) x.is }))
@@ -122,8 +122,8 @@ module _ {A : Type 0} {p : List Track → Type 0} where
       whole_then (event_ended contents d) (event_ended by_plain (marks_device v w d)) x
       (λ v' w' z a b k o.
       subst (λ (n : ℕ). WholeTwins (Leaves p)
-      (and_then (ended contents (waiting_count contents d.store) z.store) (λ y _. Done (record z { store = y }) a))
-      (and_then (ended by_plain n (marks_of v' w' z.store)) (λ y _. Done (record (marks_device v' w' z) { store = y }) b)) k)
+      (and_then (noted_end contents (waiting_count contents d.store) z.store) (λ y _. Done (record z { store = y }) a))
+      (and_then (noted_end by_plain n (marks_of v' w' z.store)) (λ y _. Done (record (marks_device v' w' z) { store = y }) b)) k)
       (sym (count_twin v w d.store)) (ending (waiting_count contents d.store) v' w' z a b k o))
 
   -- and one that first takes the notes
@@ -136,7 +136,7 @@ module _ {A : Type 0} {p : List Track → Type 0} where
       quiet_twin v w d h (λ z. and_then (hear contents 960 z.store) (λ s _. f (record z { store = s })))
       (λ z. and_then (hear by_plain 960 z.store) (λ s _. g (record z { store = s })))
       (store_then (λ s _. f (record (event_begun d) { store = s })) (λ s _. g (record (event_begun (marks_device v w d)) { store = s }))
-      (hears 960 v w (begun d.store) h (begun_order v w d.store h i))
+      (hears 960 v w (noted_begin d.store) h (begun_order v w d.store h i))
       (λ v' w' s _ _ k x.
       subst (λ (y : List Track). WholeTwins (Leaves p) (f (record (event_begun d) { store = s }))
       (g (marks_device y w' (record (event_begun d) { store = s }))) k)

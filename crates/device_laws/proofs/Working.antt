@@ -60,7 +60,7 @@ use Rattle.device_defs.specs.Background.{
   unfilled,
   staged_image,
   staged_bytes,
-  granted,
+  staging_granted,
   stage,
   destage_first,
   stage_first,
@@ -92,6 +92,7 @@ use Rattle.device_defs.specs.Store.{
 }
 use Rattle.device_defs.specs.Writing.{write_counted}
 use Rattle.device_laws.specs.InOrder.{AreBelow}
+use Rattle.device_laws.proofs.Bools.{and_left, and_right, no_some, not_true, or_left, or_right}
 use Rattle.device_laws.proofs.Always.{Always, always_done, always_try, always_ask, always_read, always_write, always_then, always_weaker}
 use Rattle.device_laws.proofs.Changes as C
 use Rattle.device_laws.proofs.Changes.{Changed, rest_of}
@@ -121,32 +122,13 @@ least_found (suc n) p t e = by_place (least_found n p t) (found_in (least n p) (
     by_place below (inl f) = let g = below f in (let h = g.0 in omega arith, g.1)
     by_place below (inr f) = (let h = f.1 in omega arith, subst (λ (q : ℕ). p q ≡ true) f.1 f.0)
 
-and_left : (x y : Bool) → (x && y) ≡ true → x ≡ true
-and_left true y e = refl
-and_left false y e = absurd (cc)
-
-and_right : (x y : Bool) → (x && y) ≡ true → y ≡ true
-and_right true y e = e
-and_right false y e = absurd (cc)
-
-not_true : (b : Bool) → not b ≡ true → b ≡ false
-not_true true e = absurd (cc)
-not_true false e = refl
-
-or_left : (x y : Bool) → x ≡ true → (x || y) ≡ true
-or_left x y e = rw e refl
-
-or_right : (x y : Bool) → y ≡ true → (x || y) ≡ true
-or_right true y e = refl
-or_right false y e = e
+pub found_if : (n : ℕ) (p : ℕ → Bool) (b : Bool) (t : ℕ) → (if b then least n p else None) ≡ Some t → (t < n) × (p t ≡ true)
+found_if n p true t e = least_found n p t e
+found_if n p false t e = absurd (cc)
 
 or_neither : (x y : Bool) → (x || y) ≡ false → x ≡ false
 or_neither true y e = absurd (cc)
 or_neither false y e = refl
-
-no_some : {X : Type 0} (o : Option X) → is_some o ≡ false → o ≡ None
-no_some None e = refl
-no_some (Some x) e = absurd (cc)
 
 module _ {F P H R : Type 0} (c : Contents F P H R) (faithful : IsFaithful c) where
   lost_mark : (s : Store F P H) (t : ℕ) (b : Bool) → is_lost s t ≡ b → (track_at c s t).lost ≡ b
@@ -372,17 +354,17 @@ module _ {F P H R : Type 0} (c : Contents F P H R) (faithful : IsFaithful c) whe
   staged_got t s z g (Some r) e firm f = always_try (λ ok. staged_if t s z g r ok firm (f.level (ap is_some e)) f.goes)
 
   given_by : (t : ℕ) (s : Store F P H) (given : Bool) → (t < tracks_of s → is_loose s t ≡ false) → IsWell c s →
-      Always (granted c s t given) (λ y _. Goes c s y)
+      Always (staging_granted c s t given) (λ y _. Goes c s y)
   given_by t s true firm w = always_then (level_bytes_keeps_good c faithful s t w) (λ z g f. staged_got t s z g g.bytes refl firm f)
   given_by t s false firm w = always_done (stays c s w)
 
   stage_if : (t : ℕ) (s : Store F P H) (ok : Bool) → (t < tracks_of s → is_loose s t ≡ false) → IsWell c s →
-      Always (if ok then Ask (WantFrame s.device t) (granted c s t) else Done s None) (λ y _. Goes c s y)
+      Always (if ok then Ask (WantFrame s.device t) (staging_granted c s t) else Done s None) (λ y _. Goes c s y)
   stage_if t s true firm w = always_ask (λ given. given_by t s given firm w)
   stage_if t s false firm w = always_done (stays c s w)
 
   stage_by : (t : ℕ) (s : Store F P H) (b : Bool) → (is_some (frame_at s t) || is_lost s t) ≡ b → IsWell c s →
-      Always (if b then Done s (Some (Skipped t)) else Try (λ ok. if ok then Ask (WantFrame s.device t) (granted c s t) else Done s None))
+      Always (if b then Done s (Some (Skipped t)) else Try (λ ok. if ok then Ask (WantFrame s.device t) (staging_granted c s t) else Done s None))
       (λ y _. Goes c s y)
   stage_by t s true e w = always_done (stays c s w)
   stage_by t s false e w =
@@ -406,10 +388,6 @@ module _ {F P H R : Type 0} (c : Contents F P H R) (faithful : IsFaithful c) whe
   destage_by s (Some t) found w none =
       let f = found t refl in
       saved_keeps_good t s (framed_image c s t (frame_at s t)) (Destaged t) None f.0 w none (destaged_there t s (is_loose s t) refl f.1 f.0 w)
-
-  found_if : (n : ℕ) (p : ℕ → Bool) (b : Bool) (t : ℕ) → (if b then least n p else None) ≡ Some t → (t < n) × (p t ≡ true)
-  found_if n p true t e = least_found n p t e
-  found_if n p false t e = absurd (cc)
 
   stage_or : (s : Store F P H) (l : List ℕ) → AreBelow (tracks_of s) l → IsWell c s → s.half ≡ None → Always (stage_first c s l) (λ y _. Keeps c faithful s y)
   stage_or s [] below w none = destage_by s (to_destage c s) (λ t e. found_if (tracks_of s) (is_destaged c s) (some_up s) t e) w none

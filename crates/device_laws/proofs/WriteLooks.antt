@@ -30,8 +30,8 @@ use Rattle.ckd_rules.specs.declared.opening.Opening.{Opening}
 use Rattle.ckd_rules.specs.declared.opening.Opening.TheVariants as openings
 use Rattle.ckd_rules.specs.declared.order.Look.{Look}
 use Rattle.ckd_rules.specs.declared.order.Look.TheVariants as looks
-use Rattle.ckd_rules.specs.declared.order.Order.{Order}
-use Rattle.ckd_rules.specs.declared.order.Order.TheVariants as orders
+use Rattle.ckd_rules.specs.declared.order.CommandOrder.{CommandOrder}
+use Rattle.ckd_rules.specs.declared.order.CommandOrder.TheVariants as orders
 use Rattle.ckd_rules.specs.declared.stance.Place.{Place}
 use Rattle.ckd_rules.specs.declared.stance.Place.TheVariants as places
 use Rattle.ckd_rules.specs.declared.stance.Stance.{Stance}
@@ -45,7 +45,7 @@ use Rattle.ckd_rules.specs.Checks.{
   defines,
   locates,
   control_order,
-  decoded,
+  decoded_order,
   mask_fault,
   is_within,
   first_track,
@@ -58,7 +58,7 @@ use Rattle.ckd_rules.specs.Control.{unseen_place}
 use Rattle.ckd_rules.specs.Finding.{track_after}
 use Rattle.ckd_rules.specs.Look.{look_on}
 use Rattle.ckd_rules.specs.Looked.{Looked}
-use Rattle.ckd_rules.specs.Opening.{Opened, moved, read_from, look_from, locating, begun, opened_by, opening_of}
+use Rattle.ckd_rules.specs.Opening.{Opened, moved, read_from, look_from, locating, begun, opening_with, opening_of}
 use Rattle.ckd_rules.specs.Reads.{read_sought}
 use Rattle.ckd_rules.specs.Searches.{search_sought}
 use Rattle.ckd_rules.specs.Walk as W
@@ -109,30 +109,30 @@ edits_write g t s c look edit e is = by_test (is_write_look look) refl where
 
 -- Codes
 
-abbrev pub OrderBy : Option Command → Order → Type 0
+abbrev pub OrderBy : Option Command → CommandOrder → Type 0
 OrderBy command (orders.Looks (looks.Writes w)) = is_write command ≡ true
 OrderBy command (orders.Looks look) = Unit {0}
 OrderBy command order = Unit {0}
 
-abbrev MaybeBy : Option Command → Option Order → Type 0
+abbrev MaybeBy : Option Command → Option CommandOrder → Type 0
 MaybeBy command (Some order) = OrderBy command order
 MaybeBy command None = Unit {0}
 
-abbrev ResultBy : Option Command → Result Order Sense → Type 0
+abbrev ResultBy : Option Command → Result CommandOrder Sense → Type 0
 ResultBy command (Ok order) = OrderBy command order
 ResultBy command (Err sense) = Unit {0}
 
-record Decodes (command : Option Command) (o : Option Order) : Type 0 where
+record Decodes (command : Option Command) (o : Option CommandOrder) : Type 0 where
   is : MaybeBy command o
 
-record Orders (command : Option Command) (r : Result Order Sense) : Type 0 where
+record Orders (command : Option Command) (r : Result CommandOrder Sense) : Type 0 where
   is : ResultBy command r
 
-result_if : (command : Option Command) (b : Bool) {x y : Result Order Sense} → Orders command x → Orders command y → Orders command (if b then x else y)
+result_if : (command : Option Command) (b : Bool) {x y : Result CommandOrder Sense} → Orders command x → Orders command y → Orders command (if b then x else y)
 result_if command true f g = f
 result_if command false f g = g
 
-maybe_if : (command : Option Command) (b : Bool) {x y : Option Order} → Decodes command x → Decodes command y → Decodes command (if b then x else y)
+maybe_if : (command : Option Command) (b : Bool) {x y : Option CommandOrder} → Decodes command x → Decodes command y → Decodes command (if b then x else y)
 maybe_if command true f g = f
 maybe_if command false f g = g
 
@@ -162,18 +162,18 @@ control_to command f s bytes controls.SetFileMask = mask_to command (slice_index
 control_to command f s bytes controls.DefineExtent = defines_to command f.number _
 control_to command f s bytes controls.LocateRecord = locates_to command _
 
-decodes : (f : Fixed) (s : Stance) (c : Ccw) (command : Command) → Decodes (Some command) (decoded f s c command)
+decodes : (f : Fixed) (s : Stance) (c : Ccw) (command : Command) → Decodes (Some command) (decoded_order f s c command)
 decodes f s c (commands.Control k) = control_to (Some (commands.Control k)) f s (given 16 c) k
 decodes f s c (commands.Search x) = record { is = tt }
 decodes f s c (commands.Read r) = record { is = tt }
 decodes f s c (commands.Write w) = record { is = refl }
 decodes f s c (commands.Device d) = record { is = tt }
 
-masked_to : (command : Option Command) (s : Stance) (order : Order) (fault : Option Sense) → OrderBy command order → Orders command (masked_order s order fault)
+masked_to : (command : Option Command) (s : Stance) (order : CommandOrder) (fault : Option Sense) → OrderBy command order → Orders command (masked_order s order fault)
 masked_to command s order (Some sense) is = record { is = tt }
 masked_to command s order None is = result_if command (is_within s.extent (first_track s order)) (record { is = is }) (record { is = tt })
 
-permitted_to : (s : Stance) (command : Command) (o : Option Order) → Decodes (Some command) o → Orders (Some command) (permitted_order s command o)
+permitted_to : (s : Stance) (command : Command) (o : Option CommandOrder) → Decodes (Some command) o → Orders (Some command) (permitted_order s command o)
 permitted_to s command None d = record { is = tt }
 permitted_to s command (Some order) d = masked_to (Some command) s order (mask_fault s.mask command) d.is
 
@@ -182,7 +182,7 @@ orders_to f s c None = record { is = tt }
 orders_to f s c (Some command) =
     result_if (Some command) (not (is_in_sequence s s.domain command)) (record { is = tt })
     (result_if (Some command) (nat_lt c.count (required_count command)) (record { is = tt })
-    (permitted_to s command (decoded f s c command) (decodes f s c command)))
+    (permitted_to s command (decoded_order f s c command) (decodes f s c command)))
 
 -- How a command begins
 
@@ -230,7 +230,7 @@ locating_by : (command : Option Command) (s : Stance) (c : Ccw) (d : Domain) (o 
 locating_by command s c d (Some place) = record { is = tt }
 locating_by command s c d None = record { is = tt }
 
-begun_by : (command : Option Command) (s : Stance) (c : Ccw) (o : Order) → OrderBy command o → Opens command (begun s c o)
+begun_by : (command : Option Command) (s : Stance) (c : Ccw) (o : CommandOrder) → OrderBy command o → Opens command (begun s c o)
 begun_by command s c orders.Nothing is = record { is = tt }
 begun_by command s c (orders.Seeks t) is = record { is = tt }
 begun_by command s c orders.Recalibrates is = record { is = tt }
@@ -241,7 +241,7 @@ begun_by command s c (orders.Locates d) is = locating_by command s c d (unseen_p
 begun_by command s c (orders.Looks look) is = look_by command s c look is
 begun_by command s c (orders.Asks act) is = record { is = tt }
 
-result_by : (command : Option Command) (s : Stance) (c : Ccw) (r : Result Order Sense) → ResultBy command r → Opens command (opened_by s c r)
+result_by : (command : Option Command) (s : Stance) (c : Ccw) (r : Result CommandOrder Sense) → ResultBy command r → Opens command (opening_with s c r)
 result_by command s c (Ok o) is = begun_by command s c o is
 result_by command s c (Err sense) is = record { is = tt }
 

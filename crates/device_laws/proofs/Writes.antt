@@ -31,26 +31,16 @@ use Rattle.device_defs.specs.Writing.{
   tried_b,
   write_second,
 }
+use Rattle.device_laws.proofs.Bools.{or_left, or_right, up_level, and_left}
 use Rattle.device_laws.proofs.Always.{Always, always_done, always_write, always_tell, always_then, always_weaker}
 use Rattle.device_laws.proofs.Changes as C
 use Rattle.device_laws.proofs.Changes.{Changed, rest_of, changed_twice, changed_hardened, changed_stale_everywhere}
 use Rattle.device_laws.proofs.FailedCall.{IsKept, IsWell, IsSame, Goes, stays, changed_goes}
 use Rattle.device_laws.proofs.Others.{Open, opens, open_same, others_changed, shut_goes, changed_stale, failed_write_keeps_others, settled_goes, stale_open}
-use Rattle.device_laws.proofs.Soundness.{and_left}
 use Rattle.device_laws.proofs.Sweeps.{IsHere, is_alone}
 use Rattle.device_laws.proofs.TrackMarks as M
 use Rattle.device_laws.proofs.TrackMarks.{TrackMarks, IsFaithful, is_good, track_at, good_is_near}
 use Rattle.device_laws.proofs.WriteMarks.{taken_good, firm_good}
-
-up_level : (up x : Bool) → up ≡ true → x ≡ false → (up && not x) ≡ true
-up_level up x e f = rw (e, f) refl
-
-or_left : (x y : Bool) → x ≡ true → (x || y) ≡ true
-or_left x y e = rw e refl
-
-or_right : (x y : Bool) → y ≡ true → (x || y) ≡ true
-or_right true y e = refl
-or_right false y e = e
 
 less_by : (up x y z : Bool) → x ≡ true → ((up && not x) || y) ≡ true → (z || y) ≡ true
 less_by true true y z e f = or_right z y f

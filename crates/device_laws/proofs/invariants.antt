@@ -1,2 +1,4 @@
 pub mod CallCounts
 pub mod LedSides
+pub mod PatchesHaveFrames
+pub mod NoTrackIsLost

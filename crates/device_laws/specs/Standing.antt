@@ -4,7 +4,7 @@ use Rattle.ckd_types.specs.declared.geometry.Geometry.{Geometry}
 use Rattle.ckd_types.specs.Ccw.{ccw_at}
 use Rattle.ckd_chain.specs.Facts.{IsChain}
 use Rattle.ckd_chain.specs.State.{ChainState}
-use Rattle.ckd_chain.specs.Steps.{opened, need_of, word_of}
+use Rattle.ckd_chain.specs.Steps.{chain_opened, need_of, word_of}
 use Rattle.plain_defs.specs.Whole.{GivesBytes}
 
 -- a chain that keeps to what chains keep to, of a device with this many cylinders
@@ -16,7 +16,7 @@ pub record IsChainOf (n : ℕ) (chain : ChainState) : Type 0 where
 pub record IsWithin (n : ℕ) (chain : ChainState) : Type 0 where
   pub needs : (t : ℕ) → need_of chain ≡ Some t → t < n
   pub used : IfSome chain.at.stance.extent (λ e. e.last < n)
-  pub extent : IfSome (opened chain).at.stance.extent (λ e. e.last < n)
+  pub extent : IfSome (chain_opened chain).at.stance.extent (λ e. e.last < n)
 
 -- a chain of a program of a device with this many cylinders and this geometry. Each of its words gives bytes
 pub record RunsOn (n : ℕ) (g : Geometry) (chain : ChainState) : Type 0 where

@@ -6,7 +6,7 @@ ghost use Rattle.ckd_chain.specs.declared.progress.Progress.TheVariants.{Need};
 ghost use Rattle.ckd_chain.specs.Facts.{IsChain};
 ghost use Rattle.ckd_chain.specs.State.{ChainState};
 ghost use Rattle.ckd_chain.specs.Steps.{begun_chain, stepped};
-ghost use Rattle.ckd_rules.specs.declared.order.Order.{Order};
+ghost use Rattle.ckd_rules.specs.declared.order.CommandOrder.{CommandOrder};
 ghost use Rattle.ckd_rules.specs.declared.stance.Stance.{Stance};
 ghost use Rattle.ckd_rules.specs.Checks.{order_of};
 ghost use Rattle.ckd_rules.specs.Facts.{IsOrder};
@@ -30,7 +30,7 @@ ghost use Rattle.device_defs.specs.Events.{losing};
 ghost use Rattle.device_defs.specs.Image.{image};
 ghost use Rattle.device_defs.specs.Losses.{call_failed};
 ghost use Rattle.device_defs.specs.Marks.{marks_of, half_mark, new_store};
-ghost use Rattle.device_defs.specs.Owed.{hear, ended};
+ghost use Rattle.device_defs.specs.Owed.{hear, noted_end};
 ghost use Rattle.device_defs.specs.Second.{second_part};
 ghost use Rattle.device_defs.specs.Sound.{DeviceStore};
 ghost use Rattle.device_defs.specs.Store.{HalfWrite, tracks_of, is_lost, half_is};
@@ -140,12 +140,12 @@ pub fn notices_leave_order()
 /// What an event tells at its end: what it owes of each track, and how many tracks wait, where before it so many did.
 pub fn end_leaves_order()
     ensures { (before : ℕ) (v w : List Track) (s : DeviceStore) (h : Held) → IsInOrder v w s h →
-        Twins (λ v2 w2 z a b k. StaysInOrder v v2 w2 z a b k) (ended contents before s) (ended by_plain before (marks_of v w s)) h }
+        Twins (λ v2 w2 z a b k. StaysInOrder v v2 w2 z a b k) (noted_end contents before s) (noted_end by_plain before (marks_of v w s)) h }
 {}
 
 /// What a command is to do, where no check refuses it, goes to tracks of its device.
 pub fn order_is_on_device()
-    ensures { (f : Fixed) (s : Stance) (c : Ccw) (o : Order) → s.track < f.cylinders * 15 → order_of f s c ≡ Ok o →
+    ensures { (f : Fixed) (s : Stance) (c : Ccw) (o : CommandOrder) → s.track < f.cylinders * 15 → order_of f s c ≡ Ok o →
         IsOrder (f.cylinders * 15) o }
 {}
 

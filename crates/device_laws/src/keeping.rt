@@ -15,7 +15,7 @@ ghost use Rattle.device_defs.specs.declared.answers.Stepped.{Stepped};
 ghost use Rattle.device_defs.specs.Command.{command};
 ghost use Rattle.device_defs.specs.Contents.{contents, by_plain};
 ghost use Rattle.device_defs.specs.Cutting.{power};
-ghost use Rattle.device_defs.specs.Events.{one_more, second, background, lose};
+ghost use Rattle.device_defs.specs.Events.{one_loss_more, second, background, lose};
 ghost use Rattle.device_defs.specs.Marks.{MarksDevice};
 ghost use Rattle.device_defs.specs.Owed.{waiting_count};
 ghost use Rattle.device_defs.specs.Peek.{Peeked, peek};
@@ -47,13 +47,13 @@ pub fn turn_keeps_pledge<K: Keep<TrackImage>>()
         Ran (λ ok. Unit {0}) K.hears (background contents d) u e a z → StaysInTurn p e (handed_then v z) z }
     ensures lose { (p : Pledge) (v : Handed) (d e : WholeDevice) (u z : Outside (List ℕ) K) (a : Unit {0}) (loss : Loss) →
         StaysInTurn p d v u → d.store.lent ≡ None →
-        (one_more d.store.counts.losses loss).cache ≤ p.losses.cache → (one_more d.store.counts.losses loss).store ≤ p.losses.store →
-        (one_more d.store.counts.losses loss).sides ≤ p.losses.sides → Ran (λ ok. Unit {0}) K.hears (lose contents d loss) u e a z →
+        (one_loss_more d.store.counts.losses loss).cache ≤ p.losses.cache → (one_loss_more d.store.counts.losses loss).store ≤ p.losses.store →
+        (one_loss_more d.store.counts.losses loss).sides ≤ p.losses.sides → Ran (λ ok. Unit {0}) K.hears (lose contents d loss) u e a z →
         StaysInTurn p e (handed_then v z) z }
     ensures lent { (p : Pledge) (v : Handed) (d e : WholeDevice) (u z : Outside (List ℕ) K) (a : Unit {0}) (loss : Loss) → StaysInTurn p d v u →
         is_some d.store.lent ≡ true → has_loose d.store ≡ false →
-        (one_more d.store.counts.losses loss).cache ≤ p.losses.cache → (one_more d.store.counts.losses loss).store ≤ p.losses.store →
-        (one_more d.store.counts.losses loss).sides ≤ p.losses.sides → Ran (λ ok. Unit {0}) K.hears (lose contents d loss) u e a z →
+        (one_loss_more d.store.counts.losses loss).cache ≤ p.losses.cache → (one_loss_more d.store.counts.losses loss).store ≤ p.losses.store →
+        (one_loss_more d.store.counts.losses loss).sides ≤ p.losses.sides → Ran (λ ok. Unit {0}) K.hears (lose contents d loss) u e a z →
         StaysInTurn p e (handed_then v z) z }
 {}
 

@@ -16,7 +16,7 @@ ghost use Rattle.device_defs.specs.Contents.{contents};
 ghost use Rattle.device_defs.specs.Cutting.{power, reset};
 ghost use Rattle.device_defs.specs.Events.{second, background, lose};
 ghost use Rattle.device_defs.specs.Excused.{count_lost, loose_losses, may_lose};
-ghost use Rattle.device_defs.specs.Orders.{join, split, replace, hold, resume};
+ghost use Rattle.device_defs.specs.Orders.{join, split, replace, hold_side, resume};
 ghost use Rattle.device_defs.specs.Sound.{DeviceStore};
 ghost use Rattle.device_defs.specs.Start.{start};
 ghost use Rattle.device_defs.specs.Store.{side_of};
@@ -78,7 +78,7 @@ pub fn unharmed_device_loses_no_track<K: Keep<TrackImage>>()
         Ran (λ ok. Unit {0}) K.hears (reset contents d path) u e a z → IsUnharmed e.store }
     ensures power { (d e : WholeDevice) (u z : Outside (List ℕ) K) (a : Unit {0}) → d.store.counts.failed < 2 ^ 64 - 1 → IsUnharmed d.store →
         Ran (λ ok. Unit {0}) K.hears (power contents d) u e a z → IsUnharmed e.store }
-    ensures held { (d : WholeDevice) → IsUnharmed d.store → IsUnharmed (hold d).store × IsUnharmed (resume d).store }
+    ensures held { (d : WholeDevice) → IsUnharmed d.store → IsUnharmed (hold_side d).store × IsUnharmed (resume d).store }
     ensures paired { (d : WholeDevice) → IsUnharmed d.store → IsUnharmed (join d).store × IsUnharmed (split d).store }
     ensures replaced { (d : WholeDevice) (side : Side) → IsUnharmed d.store → (side_of d.store side).up ≡ false → IsUnharmed (replace d side).store }
 {}
@@ -103,7 +103,7 @@ pub fn excused_device_loses_no_track<K: Keep<TrackImage>>()
         d.store.counts.failed < 2 ^ 64 - 1 → IsUncached d.store → Ran (λ ok. Unit {0}) K.hears (reset contents d path) u e a z → IsUncached e.store }
     ensures power { (d e : WholeDevice) (u z : Outside (List ℕ) K) (a : Unit {0}) → d.store.counts.failed < 2 ^ 64 - 1 → IsUncached d.store →
         Ran (λ ok. Unit {0}) K.hears (power contents d) u e a z → IsUncached e.store }
-    ensures held { (d : WholeDevice) → IsUncached d.store → IsUncached (hold d).store × IsUncached (resume d).store }
+    ensures held { (d : WholeDevice) → IsUncached d.store → IsUncached (hold_side d).store × IsUncached (resume d).store }
     ensures paired { (d : WholeDevice) → IsUncached d.store → IsUncached (join d).store × IsUncached (split d).store }
     ensures replaced { (d : WholeDevice) (side : Side) → IsUncached d.store → (side_of d.store side).up ≡ false → IsUncached (replace d side).store }
 {}

@@ -16,7 +16,7 @@ ghost use Rattle.device_defs.specs.Editing.{write_by};
 ghost use Rattle.device_defs.specs.Events.{losing};
 ghost use Rattle.device_defs.specs.Image.{image};
 ghost use Rattle.device_defs.specs.Marks.{MarksStore};
-ghost use Rattle.device_defs.specs.Owed.{hear, ended};
+ghost use Rattle.device_defs.specs.Owed.{hear, noted_end};
 ghost use Rattle.device_defs.specs.Second.{second_part};
 ghost use Rattle.device_defs.specs.Sound.{DeviceStore};
 ghost use Rattle.device_defs.specs.Store.{HalfWrite, frame_at};
@@ -27,7 +27,7 @@ ghost use Rattle.device_defs.specs.Writing.{write_first};
 pub fn losses_move_nothing()
     ensures lost { (s : DeviceStore) (loss : Loss) → Makes s LossPart (losing contents s loss) }
     ensures heard { (s : DeviceStore) (n : ℕ) → Makes s LossPart (hear contents n s) }
-    ensures told { (s : DeviceStore) (before : ℕ) → Makes s LossPart (ended contents before s) }
+    ensures told { (s : DeviceStore) (before : ℕ) → Makes s LossPart (noted_end contents before s) }
     ensures cut { (s : DeviceStore) (half : Option (HalfWrite Image)) → Makes s LossPart (half_cut contents s half) }
     ensures run { (s : MarksStore) (loss : Loss) → Makes s LossPart (losing by_plain s loss) }
 {}

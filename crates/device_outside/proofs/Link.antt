@@ -13,7 +13,7 @@ use Rattle.device_outside.specs.Outside.{ByPool, Outside, view_of, with_view, Ha
 use Rattle.device_outside.specs.Told as H
 use Rattle.device_outside.specs.Hears as E
 use Rattle.device_outside.specs.Hears.{messages, HeardAll, heard_none, heard_next}
-use Rattle.device_outside.specs.Told.{Calls, Told, calls_of, read_counted, write_counted, read_fails, write_fails, Outcome, hold}
+use Rattle.device_outside.specs.Told.{Calls, Told, calls_of, told_read, told_write, read_fails, write_fails, RunOutcome, hold}
 use Rattle.device_outside.specs.After.{Holdings, holds_of, with_held, with_slots}
 use Rattle.device_outside.specs.Both.{Both, both_done, both_try, both_ask, both_free, both_read, both_write, both_tell, SideIs, PoolTold, TellsAll, Linked}
 use Rattle.device_outside.proofs.SharedSlots.{shared_after, free_of_own, counted_answer, counted_after, counted_free, owns_others}
@@ -35,7 +35,7 @@ read_side n got i g = record {
 
 read_told : {R K : Type 0} {others : List ℕ} (w : Outside R K) (h : Holdings R) (t : Told) (side : Side) (n : ℕ)
     (got : Option R) {v u : VolumeView R} → TellsAll others w h t → SideIs v (holds_of h side) (calls_of t side) →
-    ReadOf v n got u → TellsAll others (with_view w side u) h (read_counted t side)
+    ReadOf v n got u → TellsAll others (with_view w side u) h (told_read t side)
 read_told w h t sides.A n got i v g = record { pool = i.pool; mine = i.mine; slots = i.slots; shared = i.shared; a = read_side n got v g; b = i.b }
 read_told w h t sides.B n got i v g = record { pool = i.pool; mine = i.mine; slots = i.slots; shared = i.shared; a = i.a; b = read_side n got v g }
 
@@ -52,7 +52,7 @@ write_told : {R K : Type 0} {others : List ℕ} (w : Outside R K) (h : Holdings 
     (r x : R) (ok : Bool) {v u : VolumeView R} → TellsAll others w h t →
     SideIs v (holds_of h side) (calls_of t side) → WriteOf v n r ok u →
     u.contents ≡ Some (set (holds_of h side) n x) → TellsAll others (with_view w side u) (with_held h side n x)
-    (write_counted t side)
+    (told_write t side)
 write_told w h t sides.A n r x ok i v g c = record { pool = i.pool; mine = i.mine; slots = i.slots; shared = i.shared; a = write_side n r ok v g c; b = i.b }
 write_told w h t sides.B n r x ok i v g c = record { pool = i.pool; mine = i.mine; slots = i.slots; shared = i.shared; a = i.a; b = write_side n r ok v g c }
 
@@ -191,7 +191,7 @@ module _ {R O I K S A T B : Type 0} {had : Bool → Type 0} {hears : Hearing I K
       let p : is_some got ≡ cond (read_fails (calls_of t side)) false true =
       planned v.plan (calls_of t side).plan (λ (y : Plan). y.reads) v.reads (calls_of t side).reads
       (is_some got) f.plan f.reads gives.planned in
-      let o = linked h (read_counted t side) (read_both z g q k l h side n got
+      let o = linked h (told_read t side) (read_both z g q k l h side n got
       (read_fails (calls_of t side)) p d x y) r (read_told w h t side n got i f gives) in
       record { state = o.state; answer = o.answer; holdings = o.holdings; told = o.told; ran = o.ran; is = o.is; tells = o.tells }
   linked h t {u = w} (both_write {side = side} {t = n} {r = b} {k = k} {l = l} x y) (wrote {ok = ok} {v = v} {u = u} e takes r) i =
@@ -201,7 +201,7 @@ module _ {R O I K S A T B : Type 0} {had : Bool → Type 0} {hears : Hearing I K
       planned v.plan (calls_of t side).plan (λ (y : Plan). y.writes) v.writes
       (calls_of t side).writes ok f.plan f.writes takes.planned in
       let m = write_both z g q k l h side n b ok (write_fails (calls_of t side)) u.contents p d x y in
-      let o = linked (with_held h side n m.left) (write_counted t side) m.next r (write_told w h t side n b m.left ok i f takes m.holds) in
+      let o = linked (with_held h side n m.left) (told_write t side) m.next r (write_told w h t side n b m.left ok i f takes m.holds) in
       record { state = o.state; answer = o.answer; holdings = o.holdings; told = o.told; ran = o.ran; is = o.is; tells = o.tells }
   linked h t (both_tell {m = m} {k = k} {l = l} x) (told y heard n r) i =
       let e = had_reply m y memory n in
@@ -258,7 +258,7 @@ module _ {R O I K S A T B : Type 0} {had : Bool → Type 0} {hears : Hearing I K
       planned v.plan (calls_of t side).plan (λ (y : Plan). y.reads) v.reads (calls_of t side).reads
       (is_some got) f.plan f.reads gives.planned in
       subst (λ (c : K). HeardAll hears c (messages g (Read side n l) t) last.keeper) (keeper_stays w side u)
-      (linked_hears h (read_counted t side) (read_both z g q k l h side n got
+      (linked_hears h (told_read t side) (read_both z g q k l h side n got
       (read_fails (calls_of t side)) p d x y) r (read_told w h t side n got i f gives))
   linked_hears h t {u = w} {w = last} (both_write {side = side} {t = n} {r = b} {k = k} {l = l} x y) (wrote {ok = ok} {v = v} {u = u} e takes r) i =
       let f = side_is w h t side i e in
@@ -268,7 +268,7 @@ module _ {R O I K S A T B : Type 0} {had : Bool → Type 0} {hears : Hearing I K
       (calls_of t side).writes ok f.plan f.writes takes.planned in
       let m = write_both z g q k l h side n b ok (write_fails (calls_of t side)) u.contents p d x y in
       subst (λ (c : K). HeardAll hears c (messages g (Write side n g l) t) last.keeper) (keeper_stays w side u)
-      (linked_hears (with_held h side n m.left) (write_counted t side) m.next r (write_told w h t side n b m.left ok i f takes m.holds))
+      (linked_hears (with_held h side n m.left) (told_write t side) m.next r (write_told w h t side n b m.left ok i f takes m.holds))
   linked_hears h t {u = w} (both_tell {m = m} {k = k} {l = l} x) (told {l = kept} y heard n r) i =
       let e = had_reply m y memory n in
       heard_next (subst (λ (v : ReplyTo m). hears w.keeper m v kept) e heard)

@@ -75,15 +75,15 @@ is_of d t place = (d == place.0) && (t == place.1)
 abbrev pub is_listed : List Frame → ℕ → ℕ → Bool
 is_listed fs d t = is_some (lookup (is_of d t) fs)
 
-abbrev pub without : List Frame → ℕ → ℕ → List Frame
-without fs d t = remove_entry (is_of d t) fs
+abbrev pub frame_removed : List Frame → ℕ → ℕ → List Frame
+frame_removed fs d t = remove_entry (is_of d t) fs
 
 abbrev pub marked : List Frame → ℕ → ℕ → Bool → List Frame
 marked fs d t m = set_value (is_of d t) fs m
 
 -- it comes first, where it is listed
 abbrev pub in_front : List Frame → ℕ → ℕ → List Frame
-in_front fs d t = option_map_or (λ f. f ∷ without fs d t) (lookup_entry (is_of d t) fs) fs
+in_front fs d t = option_map_or (λ f. f ∷ frame_removed fs d t) (lookup_entry (is_of d t) fs) fs
 
 -- the first clean frame of a list
 abbrev pub first_clean : List Frame → Option (ℕ × ℕ)
@@ -134,7 +134,7 @@ pub record IsAnswer (p : Pool) (c : Call) (a : AnswerTo c) : Type 0 where
 -- one frame fewer, and a note of its track for its device
 abbrev pub less_frame : List Frame → Option (ℕ × ℕ) → List Frame
 less_frame fs None = fs
-less_frame fs (Some f) = without fs f.0 f.1
+less_frame fs (Some f) = frame_removed fs f.0 f.1
 
 abbrev pub noted : List (List ℕ) → Option (ℕ × ℕ) → List (List ℕ)
 noted notes None = notes
@@ -167,7 +167,7 @@ after p (Touch d t) a = record p { frames = in_front p.frames d t }
 after p (WantFrame d t) a = record p { frames = frames_wanted p d t; notes = notes_wanted p d t }
 after p (SetModified d t) a = record p { frames = marked p.frames d t true }
 after p (SetClean d t) a = record p { frames = marked p.frames d t false }
-after p (DropFrame d t) a = record p { frames = without p.frames d t }
+after p (DropFrame d t) a = record p { frames = frame_removed p.frames d t }
 after p WantSlot a = record p { used = used_more p.used a }
 after p (FreeSlot k) a = record p { used = less_one k p.used }
 after p (TellWaiting d n) a = record p { waiting = slice_set p.waiting d n }

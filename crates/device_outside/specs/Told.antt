@@ -26,15 +26,15 @@ abbrev pub calls_of : Told → Side → Calls
 calls_of w A = w.a
 calls_of w B = w.b
 
-abbrev pub with_calls : Told → Side → Calls → Told
-with_calls w A v = record w { a = v }
-with_calls w B v = record w { b = v }
+abbrev pub told_calls : Told → Side → Calls → Told
+told_calls w A v = record w { a = v }
+told_calls w B v = record w { b = v }
 
-abbrev pub read_counted : Told → Side → Told
-read_counted w side = let v = calls_of w side in record (with_calls w side (record v { reads = counted v.reads })) { reads = w.reads + 1 }
+abbrev pub told_read : Told → Side → Told
+told_read w side = let v = calls_of w side in record (told_calls w side (record v { reads = counted v.reads })) { reads = w.reads + 1 }
 
-abbrev pub write_counted : Told → Side → Told
-write_counted w side = let v = calls_of w side in record (with_calls w side (record v { writes = counted v.writes })) { writes = w.writes + 1 }
+abbrev pub told_write : Told → Side → Told
+told_write w side = let v = calls_of w side in record (told_calls w side (record v { writes = counted v.writes })) { writes = w.writes + 1 }
 
 abbrev pub read_fails : Calls → Bool
 read_fails v = is_in (counted v.reads) v.plan.reads
@@ -42,16 +42,16 @@ read_fails v = is_in (counted v.reads) v.plan.reads
 abbrev pub write_fails : Calls → Bool
 write_fails v = is_in (counted v.writes) v.plan.writes
 
-pub record Outcome (S A : Type 0) : Type 0 where
+pub record RunOutcome (S A : Type 0) : Type 0 where
   pub state : S
   pub answer : A
   pub told : Told
 
 -- a read that doesn't fail hands over r
-unfoldable pub hold : {R I S A : Type 0} → R → Interaction R I S A → Told → Outcome S A
+unfoldable pub hold : {R I S A : Type 0} → R → Interaction R I S A → Told → RunOutcome S A
 hold r (Done s a) w = record { state = s; answer = a; told = w }
 hold r (Try k) w = hold r (k true) w
 hold r (Ask call k) w = hold r (k (answer w.pool call)) (record w { pool = after w.pool call (answer w.pool call) })
-hold r (Read side t k) w = hold r (k (if read_fails (calls_of w side) then None else Some r)) (read_counted w side)
-hold r (Write side t x k) w = hold r (k (if write_fails (calls_of w side) then false else true)) (write_counted w side)
+hold r (Read side t k) w = hold r (k (if read_fails (calls_of w side) then None else Some r)) (told_read w side)
+hold r (Write side t x k) w = hold r (k (if write_fails (calls_of w side) then false else true)) (told_write w side)
 hold r (Tell m k) w = hold r (k (reply m)) w

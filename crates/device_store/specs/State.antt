@@ -133,6 +133,14 @@ surely ok = ok ≡ true
 pub record Takes {K : Type 0} (takes : K → ℕ → ℕ → Image → Type 0) (keeper : K) (d : ℕ) (g : Geometry) (n : ℕ) : Type 0 where
   pub all : (t : ℕ) (i : Image) → t < n → IsImageOf g t i → Fits i.geometry i.track → takes keeper d t i
 
+-- the same of the tracks of a device
+abbrev pub TakesTracks : {V : Type 0} {G : Ghosts V} {K : Type 0} → (K → ℕ → ℕ → Image → Type 0) → K → DeviceStore V G → Type 0
+TakesTracks takes keeper s = Takes takes keeper s.number s.geometry (s.cylinders * 15)
+
+-- a track of the device
+abbrev pub HasTrack : {V : Type 0} {G : Ghosts V} → DeviceStore V G → ℕ → Type 0
+HasTrack s t = t < s.cylinders * 15
+
 abbrev pub had : {A X E : Type 0} → (X → A) → Result X E → Option A
 had view (Ok x) = Some (view x)
 had view (Err e) = None

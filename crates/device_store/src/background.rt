@@ -1,10 +1,10 @@
-ghost use Rattle.std.specs.Prelude.{◌≡◌, ◌<◌, ◌≤◌, ◌*◌, IfSome, None, drop, slice_get};
+ghost use Rattle.std.specs.Prelude.{◌≡◌, ◌<◌, ◌*◌, IfSome, None, drop, slice_get};
 ghost use Rattle.device_outside.specs.Keeper.{Heard};
 ghost use Rattle.device_outside.specs.Outside.{Ran, where_ok};
 ghost use Rattle.device_defs.specs.Background.{copy_first, did, stage_first, to_copy, work};
 ghost use Rattle.device_defs.specs.Contents.{contents};
-ghost use Rattle.event_notes.specs.Loose.{weight};
-ghost use Rattle.device_store.specs.State.{state_of, outside, OnlyBackground, Takes, had};
+ghost use Rattle.device_store.specs.Leaves.{ChangesMarksAlone, KeepsWeight};
+ghost use Rattle.device_store.specs.State.{state_of, outside, OnlyBackground, Takes, had, TakesTracks};
 
 use crate::DeviceStore;
 use ckd_types::{NoMemory, Side, TrackNo};
@@ -25,10 +25,7 @@ pub(crate) fn did(fault: Option<Side>, work: Did) -> Did
 impl<V: Volume> DeviceStore<V> {
     /// Takes the oldest queued track.
     fn next_queued(&mut self) -> Option<TrackNo>
-        ensures fixed { (self.new.number ≡ self.old.number) × (self.new.cylinders ≡ self.old.cylinders) × (self.new.geometry ≡ self.old.geometry) }
-        ensures half { self.new.half ≡ self.old.half }
-        ensures volume { self.new.pair.volumes ≡ self.old.pair.volumes }
-        ensures loose { self.new.loose ≡ self.old.loose }
+        ensures leaves { ChangesMarksAlone self.old self.new }
         ensures here { IfSome result (λ t. t < self.old.cylinders * 15) }
         ensures oldest { result ≡ slice_get self.old.queue 0 }
         ensures state { state_of self.new ≡ record (state_of self.old) { queue = drop 1 self.old.queue } }
@@ -43,11 +40,10 @@ impl<V: Volume> DeviceStore<V> {
         keep: &mut K,
     ) -> Result<Did, NoMemory>
         requires none { self.old.half ≡ None }
-        requires takes { Takes K.takes keep.old self.old.number self.old.geometry (self.old.cylinders * 15) }
-        ensures fixed { (self.new.number ≡ self.old.number) × (self.new.cylinders ≡ self.old.cylinders) × (self.new.geometry ≡ self.old.geometry) }
+        requires takes { TakesTracks K.takes keep.old self.old }
+        ensures leaves { KeepsWeight self.old self.new }
         ensures opened { OnlyBackground self.new.half }
-        ensures weight { weight self.new.loose ≡ weight self.old.loose }
-        ensures takes { Takes K.takes keep.new self.new.number self.new.geometry (self.new.cylinders * 15) }
+        ensures takes { TakesTracks K.takes keep.new self.new }
         ensures run { Ran (where_ok result) (Heard K.hears K.takes) (stage_first contents (state_of self.old) self.old.queue)
             (outside (P.view port.old) self.old keep.old) (state_of self.new) (had (λ did. did) result) (outside (P.view port.new) self.new keep.new) }
     {
@@ -67,11 +63,10 @@ impl<V: Volume> DeviceStore<V> {
         keep: &mut K,
     ) -> Result<Did, NoMemory>
         requires none { self.old.half ≡ None }
-        requires takes { Takes K.takes keep.old self.old.number self.old.geometry (self.old.cylinders * 15) }
-        ensures fixed { (self.new.number ≡ self.old.number) × (self.new.cylinders ≡ self.old.cylinders) × (self.new.geometry ≡ self.old.geometry) }
+        requires takes { TakesTracks K.takes keep.old self.old }
+        ensures leaves { KeepsWeight self.old self.new }
         ensures opened { OnlyBackground self.new.half }
-        ensures weight { weight self.new.loose ≡ weight self.old.loose }
-        ensures takes { Takes K.takes keep.new self.new.number self.new.geometry (self.new.cylinders * 15) }
+        ensures takes { TakesTracks K.takes keep.new self.new }
         ensures run { Ran (where_ok result) (Heard K.hears K.takes) (copy_first contents (state_of self.old) (to_copy (state_of self.old)))
             (outside (P.view port.old) self.old keep.old) (state_of self.new) (had (λ did. did) result) (outside (P.view port.new) self.new keep.new) }
     {
@@ -89,11 +84,10 @@ impl<V: Volume> DeviceStore<V> {
         keep: &mut K,
     ) -> Result<Did, NoMemory>
         requires none { self.old.half ≡ None }
-        requires takes { Takes K.takes keep.old self.old.number self.old.geometry (self.old.cylinders * 15) }
-        ensures fixed { (self.new.number ≡ self.old.number) × (self.new.cylinders ≡ self.old.cylinders) × (self.new.geometry ≡ self.old.geometry) }
+        requires takes { TakesTracks K.takes keep.old self.old }
+        ensures leaves { KeepsWeight self.old self.new }
         ensures opened { OnlyBackground self.new.half }
-        ensures weight { weight self.new.loose ≡ weight self.old.loose }
-        ensures takes { Takes K.takes keep.new self.new.number self.new.geometry (self.new.cylinders * 15) }
+        ensures takes { TakesTracks K.takes keep.new self.new }
         ensures run { Ran (where_ok result) (Heard K.hears K.takes) (work contents (state_of self.old)) (outside (P.view port.old) self.old keep.old)
             (state_of self.new) (had (λ did. did) result) (outside (P.view port.new) self.new keep.new) }
     {

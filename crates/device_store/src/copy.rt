@@ -1,11 +1,10 @@
 ghost use Rattle.std.specs.Prelude.{◌≡◌, ◌<◌, ◌*◌, IfSome, Some, true};
-ghost use Rattle.device_defs.specs.Background.{copied, copies_to, copy_by, copy_read, other, to_copy};
+ghost use Rattle.device_defs.specs.Background.{copied, copies_to, copy_by, other, to_copy};
 ghost use Rattle.device_defs.specs.Contents.{contents};
-ghost use Rattle.device_defs.specs.Store.{side_of};
 ghost use Rattle.device_outside.specs.Keeper.{Heard};
 ghost use Rattle.device_outside.specs.Outside.{PortView, Ran};
-ghost use Rattle.event_notes.specs.Loose.{weight};
-ghost use Rattle.device_store.specs.State.{state_of, outside, surely, Takes};
+ghost use Rattle.device_store.specs.Leaves.{KeepsHalfWrite, MovesNothing};
+ghost use Rattle.device_store.specs.State.{state_of, outside, surely, HasTrack, TakesTracks};
 
 use crate::DeviceStore;
 use crate::marks::{count_read, count_write};
@@ -41,13 +40,10 @@ impl<V: Volume> DeviceStore<V> {
         took: bool,
         keep: &mut K,
     ) -> Did
-        requires track { t < self.old.cylinders * 15 }
-        requires takes { Takes K.takes keep.old self.old.number self.old.geometry (self.old.cylinders * 15) }
-        ensures fixed { (self.new.number ≡ self.old.number) × (self.new.cylinders ≡ self.old.cylinders) × (self.new.geometry ≡ self.old.geometry) }
-        ensures volume { self.new.pair.volumes ≡ self.old.pair.volumes }
-        ensures half { self.new.half ≡ self.old.half }
-        ensures weight { weight self.new.loose ≡ weight self.old.loose }
-        ensures takes { Takes K.takes keep.new self.new.number self.new.geometry (self.new.cylinders * 15) }
+        requires track { HasTrack self.old t }
+        requires takes { TakesTracks K.takes keep.old self.old }
+        ensures leaves { MovesNothing self.old self.new }
+        ensures takes { TakesTracks K.takes keep.new self.new }
         ensures run { (p : PortView) → Ran surely (Heard K.hears K.takes) (copied contents t side (state_of self.old) took) (outside p self.old keep.old)
             (state_of self.new) (Some result) (outside p self.new keep.new) }
     {
@@ -61,14 +57,12 @@ impl<V: Volume> DeviceStore<V> {
 
     /// Copies a track from the other side to one: the bytes as they are.
     fn copy_to<K: Keep<TrackImage>>(&mut self, t: TrackNo, side: Side, keep: &mut K) -> Did
-        requires track { t < self.old.cylinders * 15 }
+        requires track { HasTrack self.old t }
         requires a { self.old.pair.a.up ≡ true }
         requires b { self.old.pair.b.up ≡ true }
-        requires takes { Takes K.takes keep.old self.old.number self.old.geometry (self.old.cylinders * 15) }
-        ensures fixed { (self.new.number ≡ self.old.number) × (self.new.cylinders ≡ self.old.cylinders) × (self.new.geometry ≡ self.old.geometry) }
-        ensures half { self.new.half ≡ self.old.half }
-        ensures weight { weight self.new.loose ≡ weight self.old.loose }
-        ensures takes { Takes K.takes keep.new self.new.number self.new.geometry (self.new.cylinders * 15) }
+        requires takes { TakesTracks K.takes keep.old self.old }
+        ensures leaves { KeepsHalfWrite self.old self.new }
+        ensures takes { TakesTracks K.takes keep.new self.new }
         ensures run { (p : PortView) → Ran surely (Heard K.hears K.takes) (copy_by contents (state_of self.old) t (Some side)) (outside p self.old keep.old)
             (state_of self.new) (Some result) (outside p self.new keep.new) }
     {
@@ -90,12 +84,10 @@ impl<V: Volume> DeviceStore<V> {
 
     /// Copies a track that is to be copied.
     pub(crate) fn copy_one<K: Keep<TrackImage>>(&mut self, t: TrackNo, keep: &mut K) -> Did
-        requires track { t < self.old.cylinders * 15 }
-        requires takes { Takes K.takes keep.old self.old.number self.old.geometry (self.old.cylinders * 15) }
-        ensures fixed { (self.new.number ≡ self.old.number) × (self.new.cylinders ≡ self.old.cylinders) × (self.new.geometry ≡ self.old.geometry) }
-        ensures half { self.new.half ≡ self.old.half }
-        ensures weight { weight self.new.loose ≡ weight self.old.loose }
-        ensures takes { Takes K.takes keep.new self.new.number self.new.geometry (self.new.cylinders * 15) }
+        requires track { HasTrack self.old t }
+        requires takes { TakesTracks K.takes keep.old self.old }
+        ensures leaves { KeepsHalfWrite self.old self.new }
+        ensures takes { TakesTracks K.takes keep.new self.new }
         ensures run { (p : PortView) → Ran surely (Heard K.hears K.takes) (copy_by contents (state_of self.old) t (copies_to (state_of self.old) t))
             (outside p self.old keep.old) (state_of self.new) (Some result) (outside p self.new keep.new) }
     {

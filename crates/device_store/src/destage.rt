@@ -7,10 +7,10 @@ ghost use Rattle.device_defs.specs.Writing.{write_first};
 ghost use Rattle.device_outside.specs.Interaction.{and_then};
 ghost use Rattle.device_outside.specs.Keeper.{Heard};
 ghost use Rattle.device_outside.specs.Outside.{Ran, where_ok};
-ghost use Rattle.event_notes.specs.Loose.{weight};
 ghost use Rattle.track_table.specs.Bits.{is_marked};
+ghost use Rattle.device_store.specs.Leaves.{KeepsHalfWrite, KeepsLooseTracks, KeepsWeight};
 ghost use Rattle.device_store.specs.Looks.{frame_in};
-ghost use Rattle.device_store.specs.State.{state_of, outside, surely, OnlyBackground, Takes, had};
+ghost use Rattle.device_store.specs.State.{state_of, outside, surely, OnlyBackground, had, HasTrack, TakesTracks};
 
 use crate::DeviceStore;
 use crate::background::did;
@@ -49,13 +49,11 @@ impl<V: Volume> DeviceStore<V> {
         done: Did,
         port: &mut P,
     ) -> Did
-        requires track { t < self.old.cylinders * 15 }
+        requires track { HasTrack self.old t }
         requires framed { is_some (frame_at (state_of self.old) t) ≡ true }
         requires firm { is_loose (state_of self.old) t ≡ false }
         requires single { (state_of self.old).paired ≡ false }
-        ensures fixed { (self.new.number ≡ self.old.number) × (self.new.cylinders ≡ self.old.cylinders) × (self.new.geometry ≡ self.old.geometry) }
-        ensures half { self.new.half ≡ self.old.half }
-        ensures loose { self.new.loose ≡ self.old.loose }
+        ensures leaves { KeepsLooseTracks self.old self.new }
         ensures run { (k : K) (was_loose : Bool) → Ran surely (Heard K.hears K.takes)
             (and_then (write_first contents (state_of self.old) t (track_bytes (frame_in (state_of self.old) t).track))
             (λ y w. saved_by contents t (frame_in (state_of self.old) t) done None was_loose w.fault y w.took)) (outside (P.view port.old) self.old k)
@@ -80,14 +78,12 @@ impl<V: Volume> DeviceStore<V> {
         port: &mut P,
         keep: &mut K,
     ) -> Did
-        requires track { t < self.old.cylinders * 15 }
+        requires track { HasTrack self.old t }
         requires framed { is_some (frame_at (state_of self.old) t) ≡ true }
         requires single { (state_of self.old).paired ≡ false }
-        requires takes { Takes K.takes keep.old self.old.number self.old.geometry (self.old.cylinders * 15) }
-        ensures fixed { (self.new.number ≡ self.old.number) × (self.new.cylinders ≡ self.old.cylinders) × (self.new.geometry ≡ self.old.geometry) }
-        ensures half { self.new.half ≡ self.old.half }
-        ensures weight { weight self.new.loose ≡ weight self.old.loose }
-        ensures takes { Takes K.takes keep.new self.new.number self.new.geometry (self.new.cylinders * 15) }
+        requires takes { TakesTracks K.takes keep.old self.old }
+        ensures leaves { KeepsHalfWrite self.old self.new }
+        ensures takes { TakesTracks K.takes keep.new self.new }
         ensures run { Ran surely (Heard K.hears K.takes) (saving contents (state_of self.old) t (frame_in (state_of self.old) t) done None)
             (outside (P.view port.old) self.old keep.old) (state_of self.new) result (outside (P.view port.new) self.new keep.new) }
     {
@@ -104,14 +100,13 @@ impl<V: Volume> DeviceStore<V> {
         port: &mut P,
         keep: &mut K,
     ) -> Result<Did, NoMemory>
-        requires track { t < self.old.cylinders * 15 }
+        requires track { HasTrack self.old t }
         requires framed { is_some (frame_at (state_of self.old) t) ≡ true }
         requires none { self.old.half ≡ None }
-        requires takes { Takes K.takes keep.old self.old.number self.old.geometry (self.old.cylinders * 15) }
-        ensures fixed { (self.new.number ≡ self.old.number) × (self.new.cylinders ≡ self.old.cylinders) × (self.new.geometry ≡ self.old.geometry) }
+        requires takes { TakesTracks K.takes keep.old self.old }
+        ensures leaves { KeepsWeight self.old self.new }
         ensures opened { OnlyBackground self.new.half }
-        ensures weight { weight self.new.loose ≡ weight self.old.loose }
-        ensures takes { Takes K.takes keep.new self.new.number self.new.geometry (self.new.cylinders * 15) }
+        ensures takes { TakesTracks K.takes keep.new self.new }
         ensures run { Ran (where_ok result) (Heard K.hears K.takes) (saved contents (state_of self.old) t (frame_in (state_of self.old) t) done None)
             (outside (P.view port.old) self.old keep.old) (state_of self.new) (had (λ did. did) result) (outside (P.view port.new) self.new keep.new) }
     {

@@ -1,11 +1,11 @@
-ghost use Rattle.std.specs.Prelude.{◌≡◌, ◌<◌, ◌≤◌, ◌*◌};
+ghost use Rattle.std.specs.Prelude.{◌≡◌, ◌*◌};
 ghost use Rattle.ckd_types.specs.declared.paths.Side.TheVariants as sides;
 ghost use Rattle.device_defs.specs.Contents.{contents};
 ghost use Rattle.device_defs.specs.Losses.{all_firm_told, call_failed, down, firm_told, over, settled_but, side_lost};
 ghost use Rattle.device_outside.specs.Keeper.{Heard};
 ghost use Rattle.device_outside.specs.Outside.{PortView, Ran};
-ghost use Rattle.event_notes.specs.Loose.{weight};
-ghost use Rattle.device_store.specs.State.{is_written, state_of, outside, surely, StaysFirm, Takes};
+ghost use Rattle.device_store.specs.Leaves.{ChangesMarksAlone, KeepsHalfWrite, MovesNothing};
+ghost use Rattle.device_store.specs.State.{is_written, state_of, outside, surely, StaysFirm, HasTrack, TakesTracks};
 
 use crate::DeviceStore;
 use crate::marks::track;
@@ -26,10 +26,7 @@ fn is_written(writing: &Option<TrackNo>, t: TrackNo) -> bool
 impl<V: Volume> DeviceStore<V> {
     /// A side is down, and a held mark ends.
     fn down(&mut self, side: Side)
-        ensures fixed { (self.new.number ≡ self.old.number) × (self.new.cylinders ≡ self.old.cylinders) × (self.new.geometry ≡ self.old.geometry) }
-        ensures volume { self.new.pair.volumes ≡ self.old.pair.volumes }
-        ensures half { self.new.half ≡ self.old.half }
-        ensures loose { self.new.loose ≡ self.old.loose }
+        ensures leaves { ChangesMarksAlone self.old self.new }
         ensures up_b { side ≡ sides.A → self.new.pair.b.up ≡ self.old.pair.b.up }
         ensures state { state_of self.new ≡ down (state_of self.old) side }
     {
@@ -43,14 +40,12 @@ impl<V: Volume> DeviceStore<V> {
         t: TrackNo,
         keep: &mut K,
     )
-        requires track { t < self.old.cylinders * 15 }
-        requires takes { Takes K.takes keep.old self.old.number self.old.geometry (self.old.cylinders * 15) }
-        ensures fixed { (self.new.number ≡ self.old.number) × (self.new.cylinders ≡ self.old.cylinders) × (self.new.geometry ≡ self.old.geometry) }
+        requires track { HasTrack self.old t }
+        requires takes { TakesTracks K.takes keep.old self.old }
+        ensures leaves { KeepsHalfWrite self.old self.new }
         ensures volume { self.new.pair ≡ self.old.pair }
-        ensures half { self.new.half ≡ self.old.half }
-        ensures weight { weight self.new.loose ≡ weight self.old.loose }
         ensures firm { StaysFirm self.old.loose.loose self.new.loose.loose }
-        ensures takes { Takes K.takes keep.new self.new.number self.new.geometry (self.new.cylinders * 15) }
+        ensures takes { TakesTracks K.takes keep.new self.new }
         ensures run { (p : PortView) → Ran surely (Heard K.hears K.takes) (firm_told contents t (settled_but contents writing.now t (state_of self.old)))
             (outside p self.old keep.old) (state_of self.new) tt (outside p self.new keep.new) }
     {
@@ -63,13 +58,11 @@ impl<V: Volume> DeviceStore<V> {
 
     /// Each track that is level on no side is settled. The keeper is told of those that become firm.
     fn settle_all<K: Keep<TrackImage>>(&mut self, writing: &Option<TrackNo>, keep: &mut K)
-        requires takes { Takes K.takes keep.old self.old.number self.old.geometry (self.old.cylinders * 15) }
-        ensures fixed { (self.new.number ≡ self.old.number) × (self.new.cylinders ≡ self.old.cylinders) × (self.new.geometry ≡ self.old.geometry) }
+        requires takes { TakesTracks K.takes keep.old self.old }
+        ensures leaves { KeepsHalfWrite self.old self.new }
         ensures volume { self.new.pair ≡ self.old.pair }
-        ensures half { self.new.half ≡ self.old.half }
-        ensures weight { weight self.new.loose ≡ weight self.old.loose }
         ensures firm { StaysFirm self.old.loose.loose self.new.loose.loose }
-        ensures takes { Takes K.takes keep.new self.new.number self.new.geometry (self.new.cylinders * 15) }
+        ensures takes { TakesTracks K.takes keep.new self.new }
         ensures run { (p : PortView) → Ran surely (Heard K.hears K.takes)
             (all_firm_told contents (self.old.cylinders * 15) (over (self.old.cylinders * 15) (settled_but contents writing.now) (state_of self.old)))
             (outside p self.old keep.old) (state_of self.new) tt (outside p self.new keep.new) }
@@ -87,14 +80,11 @@ impl<V: Volume> DeviceStore<V> {
         writing: Option<TrackNo>,
         keep: &mut K,
     )
-        requires takes { Takes K.takes keep.old self.old.number self.old.geometry (self.old.cylinders * 15) }
-        ensures fixed { (self.new.number ≡ self.old.number) × (self.new.cylinders ≡ self.old.cylinders) × (self.new.geometry ≡ self.old.geometry) }
-        ensures volume { self.new.pair.volumes ≡ self.old.pair.volumes }
-        ensures half { self.new.half ≡ self.old.half }
+        requires takes { TakesTracks K.takes keep.old self.old }
+        ensures leaves { MovesNothing self.old self.new }
         ensures up_b { side ≡ sides.A → self.new.pair.b.up ≡ self.old.pair.b.up }
-        ensures weight { weight self.new.loose ≡ weight self.old.loose }
         ensures firm { StaysFirm self.old.loose.loose self.new.loose.loose }
-        ensures takes { Takes K.takes keep.new self.new.number self.new.geometry (self.new.cylinders * 15) }
+        ensures takes { TakesTracks K.takes keep.new self.new }
         ensures run { (p : PortView) → Ran surely (Heard K.hears K.takes)
             (all_firm_told contents (self.old.cylinders * 15) (side_lost contents (state_of self.old) side writing)) (outside p self.old keep.old)
             (state_of self.new) tt (outside p self.new keep.new) }
@@ -110,14 +100,11 @@ impl<V: Volume> DeviceStore<V> {
         writing: Option<TrackNo>,
         keep: &mut K,
     )
-        requires takes { Takes K.takes keep.old self.old.number self.old.geometry (self.old.cylinders * 15) }
-        ensures fixed { (self.new.number ≡ self.old.number) × (self.new.cylinders ≡ self.old.cylinders) × (self.new.geometry ≡ self.old.geometry) }
-        ensures volume { self.new.pair.volumes ≡ self.old.pair.volumes }
-        ensures half { self.new.half ≡ self.old.half }
+        requires takes { TakesTracks K.takes keep.old self.old }
+        ensures leaves { MovesNothing self.old self.new }
         ensures up_b { side ≡ sides.A → self.new.pair.b.up ≡ self.old.pair.b.up }
-        ensures weight { weight self.new.loose ≡ weight self.old.loose }
         ensures firm { StaysFirm self.old.loose.loose self.new.loose.loose }
-        ensures takes { Takes K.takes keep.new self.new.number self.new.geometry (self.new.cylinders * 15) }
+        ensures takes { TakesTracks K.takes keep.new self.new }
         ensures run { (p : PortView) → Ran surely (Heard K.hears K.takes) (call_failed contents (state_of self.old) side writing) (outside p self.old keep.old)
             (state_of self.new) tt (outside p self.new keep.new) }
     {

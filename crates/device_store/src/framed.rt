@@ -1,6 +1,6 @@
 //! A write of a track whose image is in its frame: where it stays there, the edit is made in place.
 
-ghost use Rattle.std.specs.Prelude.{◌≡◌, ◌<◌, ◌≤◌, ◌+◌, ◌*◌, ℕ, None, OnErr, OnOk, IfOk, Some, is_some, slice_set, true};
+ghost use Rattle.std.specs.Prelude.{◌≡◌, ◌≤◌, ◌+◌, ℕ, None, OnErr, OnOk, IfOk, Some, is_some, slice_set, true};
 ghost use Rattle.ckd_rules.specs.Facts.{Suits};
 ghost use Rattle.device_defs.specs.declared.answers.Choice.TheVariants.{Fast, Provisional, Through};
 ghost use Rattle.device_defs.specs.declared.answers.Took.TheVariants.{Whole};
@@ -19,9 +19,10 @@ ghost use Rattle.track_cache.specs.declared.frames.Frame.{Frame};
 ghost use Rattle.track_image.specs.Image.{edited_image};
 ghost use Rattle.ckd_types.specs.declared.record.Edit.{Edit};
 ghost use Rattle.ckd_types.specs.Track.{Fits};
+ghost use Rattle.device_store.specs.Leaves.{IsSameDevice, KeepsLooseTracks, KeepsVolumes, MovesNothing};
 ghost use Rattle.device_store.specs.Chosen.{FitsSlot};
 ghost use Rattle.device_store.specs.Looks.{frame_in, StoreOf};
-ghost use Rattle.device_store.specs.State.{is_opened, state_of, outside, surely, Takes, had};
+ghost use Rattle.device_store.specs.State.{is_opened, state_of, outside, surely, had, HasTrack, TakesTracks};
 
 use crate::DeviceStore;
 use crate::write::copy_edit;
@@ -83,10 +84,7 @@ fn edit_firm<K: Keep<TrackImage>>(
 impl<V: Volume> DeviceStore<V> {
     /// Makes all room that an edit in place needs, and a copy of it for the frame.
     fn room_framed(&mut self, usage: &Usage, t: TrackNo, edit: &Edit) -> Result<Edit, NoMemory>
-        ensures fixed { (self.new.number ≡ self.old.number) × (self.new.cylinders ≡ self.old.cylinders) × (self.new.geometry ≡ self.old.geometry) }
-        ensures half { self.new.half ≡ self.old.half }
-        ensures volume { self.new.pair.volumes ≡ self.old.pair.volumes }
-        ensures weight { weight self.new.loose ≡ weight self.old.loose }
+        ensures leaves { MovesNothing self.old self.new }
         ensures state { state_of self.new ≡ state_of self.old }
         ensures patch { OnOk result (room_for (stored_at self.new.patches t) ≤ self.new.edits) }
         ensures loose { OnOk result (usage.now.provisional ≡ true → loose_count self.new.loose.loose + 2 ≤ self.new.loose.spare) }
@@ -107,18 +105,16 @@ impl<V: Volume> DeviceStore<V> {
         slot: Option<usize>,
         keep: &mut K,
     )
-        requires track { t < self.old.cylinders * 15 }
+        requires track { HasTrack self.old t }
         requires copy { copy ≡ edit }
         requires fits { FitsSlot (is_some (patch_at (state_of self.old) t)) slot }
         requires there { is_some (frame_at (state_of self.old) t) ≡ true }
         requires suits { SuitsFrame edit (framed.frame_at self.old.frames t) }
         requires patch { room_for (stored_at self.old.patches t) ≤ self.old.edits }
         requires frame { HasFrameRoom edit (framed.frame_at self.old.frames t) self.old.records }
-        requires takes { Takes K.takes keep.old self.old.number self.old.geometry (self.old.cylinders * 15) }
-        ensures fixed { (self.new.number ≡ self.old.number) × (self.new.cylinders ≡ self.old.cylinders) × (self.new.geometry ≡ self.old.geometry) }
-        ensures half { self.new.half ≡ self.old.half }
-        ensures takes { Takes K.takes keep.new self.new.number self.new.geometry (self.new.cylinders * 15) }
-        ensures loose { self.new.loose ≡ self.old.loose }
+        requires takes { TakesTracks K.takes keep.old self.old }
+        ensures leaves { KeepsLooseTracks self.old self.new }
+        ensures takes { TakesTracks K.takes keep.new self.new }
         ensures run { (u : Usage) (first : ℕ) (p : PortView)
             → Ran surely (Heard K.hears K.takes) (write_by contents u first t (edited_image edit (frame_in (state_of self.old) t)) edit (state_of self.old)
             (Fast slot)) (outside p self.old keep.old) (state_of self.new) Whole (outside p self.new keep.new) }
@@ -137,14 +133,12 @@ impl<V: Volume> DeviceStore<V> {
     /// A write of data of cache fast write: the edit is made in the frame alone.
     fn edit_loose(&mut self, t: TrackNo, edit: Edit)
         requires none { self.old.half ≡ None }
-        requires track { t < self.old.cylinders * 15 }
+        requires track { HasTrack self.old t }
         requires there { is_some (frame_at (state_of self.old) t) ≡ true }
         requires suits { SuitsFrame edit (framed.frame_at self.old.frames t) }
         requires frame { HasFrameRoom edit (framed.frame_at self.old.frames t) self.old.records }
         requires room { loose_count self.old.loose.loose + 2 ≤ self.old.loose.spare }
-        ensures fixed { (self.new.number ≡ self.old.number) × (self.new.cylinders ≡ self.old.cylinders) × (self.new.geometry ≡ self.old.geometry) }
-        ensures half { self.new.half ≡ self.old.half }
-        ensures volume { self.new.pair.volumes ≡ self.old.pair.volumes }
+        ensures leaves { KeepsVolumes self.old self.new }
         ensures weight { weight self.new.loose ≤ weight self.old.loose + 2 }
         ensures state { (e : Edit) → state_of self.new
             ≡ provisionally_written contents (state_of self.old) t (edited_image edit (frame_in (state_of self.old) t)) e }
@@ -167,18 +161,18 @@ impl<V: Volume> DeviceStore<V> {
         keep: &mut K,
     ) -> Result<Took, NoMemory>
         requires none { self.old.half ≡ None }
-        requires track { t < self.old.cylinders * 15 }
+        requires track { HasTrack self.old t }
         requires copy { copy ≡ edit }
         requires fits { FitsSlot (is_some (patch_at (state_of self.old) t)) slot }
         requires there { is_some (frame_at (state_of self.old) t) ≡ true }
         requires suits { SuitsFrame edit (framed.frame_at self.old.frames t) }
         requires patch { room_for (stored_at self.old.patches t) ≤ self.old.edits }
         requires frame { HasFrameRoom edit (framed.frame_at self.old.frames t) self.old.records }
-        requires takes { Takes K.takes keep.old self.old.number self.old.geometry (self.old.cylinders * 15) }
-        ensures fixed { (self.new.number ≡ self.old.number) × (self.new.cylinders ≡ self.old.cylinders) × (self.new.geometry ≡ self.old.geometry) }
+        requires takes { TakesTracks K.takes keep.old self.old }
+        ensures leaves { IsSameDevice self.old self.new }
         ensures half { IfOk result (λ took. is_some self.new.half ≡ is_opened took) }
         ensures same { OnErr result (self.new.half ≡ self.old.half) }
-        ensures takes { Takes K.takes keep.new self.new.number self.new.geometry (self.new.cylinders * 15) }
+        ensures takes { TakesTracks K.takes keep.new self.new }
         ensures loose { self.new.loose ≡ self.old.loose }
         ensures run { (u : Usage) (first : ℕ) → Ran (where_ok result) (Heard K.hears K.takes)
             (write_chosen contents u first t (frame_in (state_of self.old) t) edit (state_of self.old) (Fast slot))
@@ -205,16 +199,16 @@ impl<V: Volume> DeviceStore<V> {
         keep: &mut K,
     ) -> Result<Took, NoMemory>
         requires none { self.old.half ≡ None }
-        requires track { t < self.old.cylinders * 15 }
+        requires track { HasTrack self.old t }
         requires there { is_some (frame_at (state_of self.old) t) ≡ true }
         requires suits { SuitsFrame edit (framed.frame_at self.old.frames t) }
         requires frame { HasFrameRoom edit (framed.frame_at self.old.frames t) self.old.records }
         requires room { loose_count self.old.loose.loose + 2 ≤ self.old.loose.spare }
-        requires takes { Takes K.takes keep.old self.old.number self.old.geometry (self.old.cylinders * 15) }
-        ensures fixed { (self.new.number ≡ self.old.number) × (self.new.cylinders ≡ self.old.cylinders) × (self.new.geometry ≡ self.old.geometry) }
+        requires takes { TakesTracks K.takes keep.old self.old }
+        ensures leaves { IsSameDevice self.old self.new }
         ensures half { IfOk result (λ took. is_some self.new.half ≡ is_opened took) }
         ensures same { OnErr result (self.new.half ≡ self.old.half) }
-        ensures takes { Takes K.takes keep.new self.new.number self.new.geometry (self.new.cylinders * 15) }
+        ensures takes { TakesTracks K.takes keep.new self.new }
         ensures weight { weight self.new.loose ≤ weight self.old.loose + 2 }
         ensures run { (u : Usage) (first : ℕ) → Ran (where_ok result) (Heard K.hears K.takes)
             (write_chosen contents u first t (frame_in (state_of self.old) t) edit (state_of self.old) Provisional)
@@ -255,16 +249,16 @@ impl<V: Volume> DeviceStore<V> {
         keep: &mut K,
     ) -> Result<Took, NoMemory>
         requires none { self.old.half ≡ None }
-        requires track { t < self.old.cylinders * 15 }
+        requires track { HasTrack self.old t }
         requires framed { is_some (frame_at (state_of self.old) t) ≡ true }
         requires image { image ≡ edited_image edit (frame_in (state_of self.old) t) }
         requires patch { room_for (stored_at self.old.patches t) ≤ self.old.edits }
         requires loose { usage.now.provisional ≡ true → loose_count self.old.loose.loose + 2 ≤ self.old.loose.spare }
-        requires takes { Takes K.takes keep.old self.old.number self.old.geometry (self.old.cylinders * 15) }
-        ensures fixed { (self.new.number ≡ self.old.number) × (self.new.cylinders ≡ self.old.cylinders) × (self.new.geometry ≡ self.old.geometry) }
+        requires takes { TakesTracks K.takes keep.old self.old }
+        ensures leaves { IsSameDevice self.old self.new }
         ensures half { IfOk result (λ took. is_some self.new.half ≡ is_opened took) }
         ensures same { OnErr result (self.new.half ≡ self.old.half) }
-        ensures takes { Takes K.takes keep.new self.new.number self.new.geometry (self.new.cylinders * 15) }
+        ensures takes { TakesTracks K.takes keep.new self.new }
         ensures weight { weight self.new.loose ≤ weight self.old.loose + 2 }
         ensures run { Ran (where_ok result) (Heard K.hears K.takes)
             (write_chosen contents usage.now first t (frame_in (state_of self.old) t) edit (state_of self.old) Through)
@@ -289,17 +283,17 @@ impl<V: Volume> DeviceStore<V> {
         keep: &mut K,
     ) -> Result<Took, NoMemory>
         requires none { self.old.half ≡ None }
-        requires track { t < self.old.cylinders * 15 }
+        requires track { HasTrack self.old t }
         requires copy { copy ≡ edit }
         requires there { is_some (frame_at (state_of self.old) t) ≡ true }
         requires suits { Suits (frame_in (state_of self.old) t).geometry (frame_in (state_of self.old) t).track.records edit }
         requires patch { room_for (stored_at self.old.patches t) ≤ self.old.edits }
         requires loose { usage.now.provisional ≡ true → loose_count self.old.loose.loose + 2 ≤ self.old.loose.spare }
-        requires takes { Takes K.takes keep.old self.old.number self.old.geometry (self.old.cylinders * 15) }
-        ensures fixed { (self.new.number ≡ self.old.number) × (self.new.cylinders ≡ self.old.cylinders) × (self.new.geometry ≡ self.old.geometry) }
+        requires takes { TakesTracks K.takes keep.old self.old }
+        ensures leaves { IsSameDevice self.old self.new }
         ensures half { IfOk result (λ took. is_some self.new.half ≡ is_opened took) }
         ensures same { OnErr result (self.new.half ≡ self.old.half) }
-        ensures takes { Takes K.takes keep.new self.new.number self.new.geometry (self.new.cylinders * 15) }
+        ensures takes { TakesTracks K.takes keep.new self.new }
         ensures weight { weight self.new.loose ≤ weight self.old.loose + 2 }
         ensures run { (p : PortView) → p ≡ P.view port.old
             → Ran surely (Heard K.hears K.takes) (choose contents (state_of self.old) usage.now t) (outside p self.old keep.old) (state_of self.old) Through
@@ -325,18 +319,18 @@ impl<V: Volume> DeviceStore<V> {
         keep: &mut K,
     ) -> Result<Took, NoMemory>
         requires none { self.old.half ≡ None }
-        requires track { t < self.old.cylinders * 15 }
+        requires track { HasTrack self.old t }
         requires copy { copy ≡ edit }
         requires there { is_some (frame_at (state_of self.old) t) ≡ true }
         requires suits { Suits (frame_in (state_of self.old) t).geometry (frame_in (state_of self.old) t).track.records edit }
         requires patch { room_for (stored_at self.old.patches t) ≤ self.old.edits }
         requires loose { usage.now.provisional ≡ true → loose_count self.old.loose.loose + 2 ≤ self.old.loose.spare }
         requires frame { HasFrameRoom edit (framed.frame_at self.old.frames t) self.old.records }
-        requires takes { Takes K.takes keep.old self.old.number self.old.geometry (self.old.cylinders * 15) }
-        ensures fixed { (self.new.number ≡ self.old.number) × (self.new.cylinders ≡ self.old.cylinders) × (self.new.geometry ≡ self.old.geometry) }
+        requires takes { TakesTracks K.takes keep.old self.old }
+        ensures leaves { IsSameDevice self.old self.new }
         ensures half { IfOk result (λ took. is_some self.new.half ≡ is_opened took) }
         ensures same { OnErr result (self.new.half ≡ self.old.half) }
-        ensures takes { Takes K.takes keep.new self.new.number self.new.geometry (self.new.cylinders * 15) }
+        ensures takes { TakesTracks K.takes keep.new self.new }
         ensures weight { weight self.new.loose ≤ weight self.old.loose + 2 }
         ensures run { Ran (where_ok result) (Heard K.hears K.takes) (write contents (state_of self.old) usage.now first t (frame_in (state_of self.old) t) edit)
             (outside (P.view port.old) self.old keep.old) (state_of self.new) (had (λ took. took) result) (outside (P.view port.new) self.new keep.new) }
@@ -360,14 +354,14 @@ impl<V: Volume> DeviceStore<V> {
         keep: &mut K,
     ) -> Result<Took, NoMemory>
         requires none { self.old.half ≡ None }
-        requires track { t < self.old.cylinders * 15 }
+        requires track { HasTrack self.old t }
         requires there { is_some (frame_at (state_of self.old) t) ≡ true }
         requires suits { Suits (frame_in (state_of self.old) t).geometry (frame_in (state_of self.old) t).track.records edit }
-        requires takes { Takes K.takes keep.old self.old.number self.old.geometry (self.old.cylinders * 15) }
-        ensures fixed { (self.new.number ≡ self.old.number) × (self.new.cylinders ≡ self.old.cylinders) × (self.new.geometry ≡ self.old.geometry) }
+        requires takes { TakesTracks K.takes keep.old self.old }
+        ensures leaves { IsSameDevice self.old self.new }
         ensures half { IfOk result (λ took. is_some self.new.half ≡ is_opened took) }
         ensures same { OnErr result (self.new.half ≡ self.old.half) }
-        ensures takes { Takes K.takes keep.new self.new.number self.new.geometry (self.new.cylinders * 15) }
+        ensures takes { TakesTracks K.takes keep.new self.new }
         ensures weight { weight self.new.loose ≤ weight self.old.loose + 2 }
         ensures run { Ran (where_ok result) (Heard K.hears K.takes) (write contents (state_of self.old) usage.now first t (frame_in (state_of self.old) t) edit)
             (outside (P.view port.old) self.old keep.old) (state_of self.new) (had (λ took. took) result) (outside (P.view port.new) self.new keep.new) }

@@ -1,13 +1,14 @@
-ghost use Rattle.std.specs.Prelude.{◌≡◌, ◌<◌, ◌*◌, None, false, is_some, option_map, true};
+ghost use Rattle.std.specs.Prelude.{◌≡◌, None, false, is_some, option_map, true};
 ghost use Rattle.device_outside.specs.Keeper.{Heard};
 ghost use Rattle.device_outside.specs.Outside.{Ran};
 ghost use Rattle.device_defs.specs.Contents.{contents};
 ghost use Rattle.device_defs.specs.Image.{filled, framed};
 ghost use Rattle.device_defs.specs.Owed.{is_clean};
 ghost use Rattle.device_defs.specs.Store.{frame_at, is_loose, with_frame};
+ghost use Rattle.device_store.specs.Leaves.{ChangesMarksAlone, KeepsLooseTracks};
 ghost use Rattle.device_store.specs.Images.{IsImageOf};
 ghost use Rattle.device_store.specs.Looks.{frame_in, seen, IsSeen};
-ghost use Rattle.device_store.specs.State.{state_of, outside, surely};
+ghost use Rattle.device_store.specs.State.{state_of, outside, surely, HasTrack};
 ghost use Rattle.track_cache.specs.Frames.{is_modified};
 
 use crate::DeviceStore;
@@ -54,10 +55,7 @@ impl<V: Volume> DeviceStore<V> {
     /// A track has no frame any more.
     pub(crate) fn forget(&mut self, t: TrackNo)
         requires { is_modified self.old.frames t ≡ false }
-        ensures fixed { (self.new.number ≡ self.old.number) × (self.new.cylinders ≡ self.old.cylinders) × (self.new.geometry ≡ self.old.geometry) }
-        ensures half { self.new.half ≡ self.old.half }
-        ensures loose { self.new.loose ≡ self.old.loose }
-        ensures volume { self.new.pair.volumes ≡ self.old.pair.volumes }
+        ensures leaves { ChangesMarksAlone self.old self.new }
         ensures none { is_modified self.new.frames t ≡ false }
         ensures state { state_of self.new ≡ with_frame (state_of self.old) t None }
     {
@@ -66,13 +64,10 @@ impl<V: Volume> DeviceStore<V> {
 
     /// An image becomes a track's frame.
     pub(crate) fn put_frame(&mut self, t: TrackNo, image: TrackImage, modified: bool)
-        requires track { t < self.old.cylinders * 15 }
+        requires track { HasTrack self.old t }
         requires of { IsImageOf self.old.geometry t image }
         requires firm { is_loose (state_of self.old) t ≡ false }
-        ensures fixed { (self.new.number ≡ self.old.number) × (self.new.cylinders ≡ self.old.cylinders) × (self.new.geometry ≡ self.old.geometry) }
-        ensures half { self.new.half ≡ self.old.half }
-        ensures loose { self.new.loose ≡ self.old.loose }
-        ensures volume { self.new.pair.volumes ≡ self.old.pair.volumes }
+        ensures leaves { ChangesMarksAlone self.old self.new }
         ensures there { is_some (frame_at (state_of self.new) t) ≡ true }
         ensures image { frame_in (state_of self.new) t ≡ image }
         ensures state { state_of self.new ≡ framed contents (state_of self.old) t image modified }
@@ -87,12 +82,10 @@ impl<V: Volume> DeviceStore<V> {
         image: TrackImage,
         port: &mut P,
     )
-        requires track { t < self.old.cylinders * 15 }
+        requires track { HasTrack self.old t }
         requires of { IsImageOf self.old.geometry t image }
         requires firm { is_loose (state_of self.old) t ≡ false }
-        ensures fixed { (self.new.number ≡ self.old.number) × (self.new.cylinders ≡ self.old.cylinders) × (self.new.geometry ≡ self.old.geometry) }
-        ensures half { self.new.half ≡ self.old.half }
-        ensures loose { self.new.loose ≡ self.old.loose }
+        ensures leaves { KeepsLooseTracks self.old self.new }
         ensures there { is_some (frame_at (state_of self.new) t) ≡ true }
         ensures image { frame_in (state_of self.new) t ≡ image }
         ensures run { (k : K) → Ran surely (Heard K.hears K.takes) (filled contents (state_of self.old) t image) (outside (P.view port.old) self.old k)

@@ -4,12 +4,12 @@ ghost use Rattle.device_outside.specs.Keeper.{Heard};
 ghost use Rattle.device_outside.specs.Outside.{PortView, Ran, where_ok};
 ghost use Rattle.device_defs.specs.Contents.{contents};
 ghost use Rattle.ckd_types.specs.Parameters.{is_bypass};
-ghost use Rattle.device_defs.specs.Image.{loads, is_sequential, queued, ahead, image_of, first_fault, level_bytes, loaded, miss, missed, got, image, read_b};
+ghost use Rattle.device_defs.specs.Image.{loads, is_sequential, queued, ahead, image_of, first_faulty_side, level_bytes, loaded, miss, missed, got, image, read_b};
 ghost use Rattle.device_defs.specs.Store.{frame_at, is_loose};
-ghost use Rattle.event_notes.specs.Loose.{weight};
+ghost use Rattle.device_store.specs.Leaves.{ChangesMarksAlone, KeepsHalfWrite, KeepsLooseTracks};
 ghost use Rattle.device_store.specs.Images.{IsImageOf};
 ghost use Rattle.device_store.specs.Looks.{imaged, IsThere, applied_by, clean_by};
-ghost use Rattle.device_store.specs.State.{state_of, outside, surely, StaysFirm, Takes, had, got_by};
+ghost use Rattle.device_store.specs.State.{state_of, outside, surely, StaysFirm, had, got_by, HasTrack, TakesTracks};
 ghost use Rattle.track_cache.specs.Frames.{is_modified};
 
 use crate::marks::count_read;
@@ -78,7 +78,7 @@ fn patched(
 
 /// The first of two that failed.
 fn first_fault(fault: Option<Side>, later: Side) -> Side
-    ensures { result ≡ first_fault fault later }
+    ensures { result ≡ first_faulty_side fault later }
 {
     fault.unwrap_or(later)
 }
@@ -91,14 +91,12 @@ impl<V: Volume> DeviceStore<V> {
         fault: Option<Side>,
         keep: &mut K,
     ) -> Given
-        requires track { t < self.old.cylinders * 15 }
-        requires takes { Takes K.takes keep.old self.old.number self.old.geometry (self.old.cylinders * 15) }
-        ensures fixed { (self.new.number ≡ self.old.number) × (self.new.cylinders ≡ self.old.cylinders) × (self.new.geometry ≡ self.old.geometry) }
-        ensures half { self.new.half ≡ self.old.half }
+        requires track { HasTrack self.old t }
+        requires takes { TakesTracks K.takes keep.old self.old }
+        ensures leaves { KeepsHalfWrite self.old self.new }
         ensures here { result.given ≡ true → (is_some self.old.pair.lent ≡ false) × (is_some self.new.pair.lent ≡ false) }
-        ensures weight { weight self.new.loose ≡ weight self.old.loose }
         ensures firm { StaysFirm self.old.loose.loose self.new.loose.loose }
-        ensures takes { Takes K.takes keep.new self.new.number self.new.geometry (self.new.cylinders * 15) }
+        ensures takes { TakesTracks K.takes keep.new self.new }
         ensures run { (p : PortView) → Ran surely (Heard K.hears K.takes) (read_b contents (state_of self.old) t fault) (outside p self.old keep.old)
             (state_of self.new) (got_by self.new.buffer result) (outside p self.new keep.new) }
     {
@@ -125,14 +123,12 @@ impl<V: Volume> DeviceStore<V> {
 
     /// Reads a track from side A where it is level, else from side B, also where A fails.
     pub(crate) fn level_bytes<K: Keep<TrackImage>>(&mut self, t: TrackNo, keep: &mut K) -> Given
-        requires track { t < self.old.cylinders * 15 }
-        requires takes { Takes K.takes keep.old self.old.number self.old.geometry (self.old.cylinders * 15) }
-        ensures fixed { (self.new.number ≡ self.old.number) × (self.new.cylinders ≡ self.old.cylinders) × (self.new.geometry ≡ self.old.geometry) }
-        ensures half { self.new.half ≡ self.old.half }
+        requires track { HasTrack self.old t }
+        requires takes { TakesTracks K.takes keep.old self.old }
+        ensures leaves { KeepsHalfWrite self.old self.new }
         ensures here { result.given ≡ true → (is_some self.old.pair.lent ≡ false) × (is_some self.new.pair.lent ≡ false) }
-        ensures weight { weight self.new.loose ≡ weight self.old.loose }
         ensures firm { StaysFirm self.old.loose.loose self.new.loose.loose }
-        ensures takes { Takes K.takes keep.new self.new.number self.new.geometry (self.new.cylinders * 15) }
+        ensures takes { TakesTracks K.takes keep.new self.new }
         ensures run { (p : PortView) → Ran surely (Heard K.hears K.takes) (level_bytes contents (state_of self.old) t) (outside p self.old keep.old)
             (state_of self.new) (got_by self.new.buffer result) (outside p self.new keep.new) }
     {
@@ -171,10 +167,7 @@ impl<V: Volume> DeviceStore<V> {
     /// Queues a track for staging where it is in the extent.
     fn queue_one(&mut self, last: Option<TrackNo>, t: u16)
         requires { IfSome last (λ l. l < self.old.cylinders * 15) }
-        ensures fixed { (self.new.number ≡ self.old.number) × (self.new.cylinders ≡ self.old.cylinders) × (self.new.geometry ≡ self.old.geometry) }
-        ensures half { self.new.half ≡ self.old.half }
-        ensures loose { self.new.loose ≡ self.old.loose }
-        ensures volume { self.new.pair.volumes ≡ self.old.pair.volumes }
+        ensures leaves { ChangesMarksAlone self.old self.new }
         ensures lent { self.new.pair.lent ≡ self.old.pair.lent }
         ensures frames { self.new.frames ≡ self.old.frames }
         ensures state { state_of self.new ≡ queued last (state_of self.old) t }
@@ -189,10 +182,7 @@ impl<V: Volume> DeviceStore<V> {
     /// In sequential mode the two tracks behind a missed one are to be staged.
     fn queue_ahead(&mut self, usage: &Usage, t: TrackNo)
         requires { IfSome usage.now.last (λ l. l < self.old.cylinders * 15) }
-        ensures fixed { (self.new.number ≡ self.old.number) × (self.new.cylinders ≡ self.old.cylinders) × (self.new.geometry ≡ self.old.geometry) }
-        ensures half { self.new.half ≡ self.old.half }
-        ensures loose { self.new.loose ≡ self.old.loose }
-        ensures volume { self.new.pair.volumes ≡ self.old.pair.volumes }
+        ensures leaves { ChangesMarksAlone self.old self.new }
         ensures lent { self.new.pair.lent ≡ self.old.pair.lent }
         ensures frames { self.new.frames ≡ self.old.frames }
         ensures state { state_of self.new ≡ ahead usage.now (state_of self.old) t }
@@ -211,13 +201,11 @@ impl<V: Volume> DeviceStore<V> {
         mode: Mode,
         port: &mut P,
     ) -> Result<Looked, NoMemory>
-        requires track { t < self.old.cylinders * 15 }
+        requires track { HasTrack self.old t }
         requires of { IsImageOf self.old.geometry t image }
         requires here { is_some self.old.pair.lent ≡ false }
         requires firm { is_loose (state_of self.old) t ≡ false }
-        ensures fixed { (self.new.number ≡ self.old.number) × (self.new.cylinders ≡ self.old.cylinders) × (self.new.geometry ≡ self.old.geometry) }
-        ensures half { self.new.half ≡ self.old.half }
-        ensures loose { self.new.loose ≡ self.old.loose }
+        ensures leaves { KeepsLooseTracks self.old self.new }
         ensures there { IfOk result (IsThere (state_of self.new) t) }
         ensures run { (k : K) → Ran (where_ok result) (Heard K.hears K.takes) (loaded contents (state_of self.old) t image mode)
             (outside (P.view port.old) self.old k) (state_of self.new) (had (imaged (state_of self.new) t) result) (outside (P.view port.new) self.new k) }
@@ -243,13 +231,11 @@ impl<V: Volume> DeviceStore<V> {
         side: Side,
         port: &mut P,
     ) -> Result<Looked, NoMemory>
-        requires track { t < self.old.cylinders * 15 }
+        requires track { HasTrack self.old t }
         requires last { IfSome usage.now.last (λ l. l < self.old.cylinders * 15) }
         requires here { is_some self.old.pair.lent ≡ false }
         requires firm { is_loose (state_of self.old) t ≡ false }
-        ensures fixed { (self.new.number ≡ self.old.number) × (self.new.cylinders ≡ self.old.cylinders) × (self.new.geometry ≡ self.old.geometry) }
-        ensures half { self.new.half ≡ self.old.half }
-        ensures loose { self.new.loose ≡ self.old.loose }
+        ensures leaves { KeepsLooseTracks self.old self.new }
         ensures there { IfOk result (IsThere (state_of self.new) t) }
         ensures run { (k : K) → Ran (where_ok result) (Heard K.hears K.takes)
             (missed contents usage.now t (state_of self.old) (got side (Some self.old.buffer) None) (Some self.old.buffer))
@@ -273,14 +259,12 @@ impl<V: Volume> DeviceStore<V> {
         port: &mut P,
         keep: &mut K,
     ) -> Result<Looked, NoMemory>
-        requires track { t < self.old.cylinders * 15 }
+        requires track { HasTrack self.old t }
         requires last { IfSome usage.now.last (λ l. l < self.old.cylinders * 15) }
-        requires takes { Takes K.takes keep.old self.old.number self.old.geometry (self.old.cylinders * 15) }
+        requires takes { TakesTracks K.takes keep.old self.old }
         requires firm { is_some self.old.pair.lent ≡ false → is_loose (state_of self.old) t ≡ false }
-        ensures fixed { (self.new.number ≡ self.old.number) × (self.new.cylinders ≡ self.old.cylinders) × (self.new.geometry ≡ self.old.geometry) }
-        ensures half { self.new.half ≡ self.old.half }
-        ensures weight { weight self.new.loose ≡ weight self.old.loose }
-        ensures takes { Takes K.takes keep.new self.new.number self.new.geometry (self.new.cylinders * 15) }
+        ensures leaves { KeepsHalfWrite self.old self.new }
+        ensures takes { TakesTracks K.takes keep.new self.new }
         ensures there { IfOk result (IsThere (state_of self.new) t) }
         ensures run { Ran (where_ok result) (Heard K.hears K.takes) (miss contents (state_of self.old) usage.now t)
             (outside (P.view port.old) self.old keep.old) (state_of self.new) (had (imaged (state_of self.new) t) result)
@@ -301,16 +285,14 @@ impl<V: Volume> DeviceStore<V> {
         port: &mut P,
         keep: &mut K,
     ) -> Result<Looked, NoMemory>
-        requires track { t < self.old.cylinders * 15 }
+        requires track { HasTrack self.old t }
         requires last { IfSome usage.now.last (λ l. l < self.old.cylinders * 15) }
-        requires takes { Takes K.takes keep.old self.old.number self.old.geometry (self.old.cylinders * 15) }
+        requires takes { TakesTracks K.takes keep.old self.old }
         requires clean { is_modified self.old.frames t ≡ false }
         requires firm { is_some self.old.pair.lent ≡ false → is_loose (state_of self.old) t ≡ false }
         requires there { is_some (frame_at (state_of self.old) t) ≡ true }
-        ensures fixed { (self.new.number ≡ self.old.number) × (self.new.cylinders ≡ self.old.cylinders) × (self.new.geometry ≡ self.old.geometry) }
-        ensures half { self.new.half ≡ self.old.half }
-        ensures weight { weight self.new.loose ≡ weight self.old.loose }
-        ensures takes { Takes K.takes keep.new self.new.number self.new.geometry (self.new.cylinders * 15) }
+        ensures leaves { KeepsHalfWrite self.old self.new }
+        ensures takes { TakesTracks K.takes keep.new self.new }
         ensures there { IfOk result (IsThere (state_of self.new) t) }
         ensures run { Ran (where_ok result) (Heard K.hears K.takes) (clean_by (state_of self.old) usage.now t) (outside (P.view port.old) self.old keep.old)
             (state_of self.new) (had (imaged (state_of self.new) t) result) (outside (P.view port.new) self.new keep.new) }
@@ -333,13 +315,11 @@ impl<V: Volume> DeviceStore<V> {
         port: &mut P,
         keep: &mut K,
     ) -> Result<Looked, NoMemory>
-        requires track { t < self.old.cylinders * 15 }
+        requires track { HasTrack self.old t }
         requires last { IfSome usage.now.last (λ l. l < self.old.cylinders * 15) }
-        requires takes { Takes K.takes keep.old self.old.number self.old.geometry (self.old.cylinders * 15) }
-        ensures fixed { (self.new.number ≡ self.old.number) × (self.new.cylinders ≡ self.old.cylinders) × (self.new.geometry ≡ self.old.geometry) }
-        ensures half { self.new.half ≡ self.old.half }
-        ensures weight { weight self.new.loose ≡ weight self.old.loose }
-        ensures takes { Takes K.takes keep.new self.new.number self.new.geometry (self.new.cylinders * 15) }
+        requires takes { TakesTracks K.takes keep.old self.old }
+        ensures leaves { KeepsHalfWrite self.old self.new }
+        ensures takes { TakesTracks K.takes keep.new self.new }
         ensures there { IfOk result (IsThere (state_of self.new) t) }
         ensures run { Ran (where_ok result) (Heard K.hears K.takes) (image contents (state_of self.old) usage.now t)
             (outside (P.view port.old) self.old keep.old) (state_of self.new) (had (imaged (state_of self.new) t) result)

@@ -2,15 +2,16 @@ ghost use Rattle.std.specs.Prelude.{◌≡◌, ◌<◌, ◌≤◌, ◌*◌, ◌|
 ghost use Rattle.device_defs.specs.Contents.{contents};
 ghost use Rattle.device_defs.specs.Cutting.{loose_gone, powerless};
 ghost use Rattle.device_defs.specs.Effects.{loose_lost};
-ghost use Rattle.device_defs.specs.Events.{losing, lost_by, one_more, with_loss};
-ghost use Rattle.device_defs.specs.Losses.{all_firm_told, cache_lost, down, firm_told, over, patch_lost, settled, side_lost, store_lost, without_frame};
+ghost use Rattle.device_defs.specs.Events.{losing, lost_by, one_loss_more, with_loss};
+ghost use Rattle.device_defs.specs.Losses.{all_firm_told, cache_lost, firm_told, over, patch_lost, settled, store_lost, without_frame};
 ghost use Rattle.device_defs.specs.Store.{has_level, is_loose, is_lost};
 ghost use Rattle.device_outside.specs.Keeper.{Heard};
 ghost use Rattle.device_outside.specs.Outside.{PortView, Ran};
 ghost use Rattle.event_notes.specs.Loose.{weight};
 ghost use Rattle.loss_model.specs.declared.Loss.TheVariants as losses;
 ghost use Rattle.track_table.specs.Bits.{is_marked};
-ghost use Rattle.device_store.specs.State.{state_of, outside, surely, Takes};
+ghost use Rattle.device_store.specs.Leaves.{ChangesMarksAlone, IsSameDevice, KeepsHalfWrite, KeepsVolumes, MovesNothing};
+ghost use Rattle.device_store.specs.State.{state_of, outside, surely, HasTrack, TakesTracks};
 
 use crate::DeviceStore;
 use ckd_types::TrackNo;
@@ -24,7 +25,7 @@ use track_table::TrackBits;
 
 /// Counts a loss.
 fn count_loss(losses: &mut Losses, loss: Loss)
-    ensures { losses.new ≡ one_more losses.old loss }
+    ensures { losses.new ≡ one_loss_more losses.old loss }
 {
     match loss {
         Loss::Cache => losses.cache = counted(losses.cache),
@@ -36,9 +37,7 @@ fn count_loss(losses: &mut Losses, loss: Loss)
 impl<V: Volume> DeviceStore<V> {
     /// Data of cache fast write are lost, where there are some.
     fn lose_loose(&mut self)
-        ensures fixed { (self.new.number ≡ self.old.number) × (self.new.cylinders ≡ self.old.cylinders) × (self.new.geometry ≡ self.old.geometry) }
-        ensures volume { self.new.pair.volumes ≡ self.old.pair.volumes }
-        ensures half { self.new.half ≡ self.old.half }
+        ensures leaves { KeepsVolumes self.old self.new }
         ensures weight { weight self.new.loose ≤ weight self.old.loose }
         ensures firm { (t : ℕ) → is_loose (state_of self.new) t ≡ false }
         ensures state { state_of self.new ≡ loose_lost (state_of self.old) }
@@ -51,9 +50,7 @@ impl<V: Volume> DeviceStore<V> {
 
     /// The same with the power, of which no act tells.
     fn clear_loose(&mut self)
-        ensures fixed { (self.new.number ≡ self.old.number) × (self.new.cylinders ≡ self.old.cylinders) × (self.new.geometry ≡ self.old.geometry) }
-        ensures volume { self.new.pair.volumes ≡ self.old.pair.volumes }
-        ensures half { self.new.half ≡ self.old.half }
+        ensures leaves { KeepsVolumes self.old self.new }
         ensures weight { weight self.new.loose ≤ weight self.old.loose }
         ensures firm { (t : ℕ) → is_loose (state_of self.new) t ≡ false }
         ensures state { state_of self.new ≡ loose_gone contents (state_of self.old) }
@@ -66,13 +63,10 @@ impl<V: Volume> DeviceStore<V> {
 
     /// The frame of a track goes.
     fn lose_frame(&mut self, t: TrackNo)
-        requires track { t < self.old.cylinders * 15 }
+        requires track { HasTrack self.old t }
         requires firm { is_loose (state_of self.old) t ≡ false }
-        ensures fixed { (self.new.number ≡ self.old.number) × (self.new.cylinders ≡ self.old.cylinders) × (self.new.geometry ≡ self.old.geometry) }
-        ensures volume { self.new.pair.volumes ≡ self.old.pair.volumes }
-        ensures half { self.new.half ≡ self.old.half }
+        ensures leaves { ChangesMarksAlone self.old self.new }
         ensures weight { weight self.new.loose ≡ weight self.old.loose }
-        ensures loose { self.new.loose ≡ self.old.loose }
         ensures state { state_of self.new ≡ settled contents (without_frame (state_of self.old) t) t }
     {
         self.give_up_frame(t);
@@ -115,10 +109,7 @@ impl<V: Volume> DeviceStore<V> {
     /// All frames go. No track is loose. A track that has no frame and isn't settled stays as it is.
     fn lose_frames(&mut self)
         requires firm { (t : ℕ) → is_loose (state_of self.old) t ≡ false }
-        ensures fixed { (self.new.number ≡ self.old.number) × (self.new.cylinders ≡ self.old.cylinders) × (self.new.geometry ≡ self.old.geometry) }
-        ensures volume { self.new.pair.volumes ≡ self.old.pair.volumes }
-        ensures half { self.new.half ≡ self.old.half }
-        ensures weight { weight self.new.loose ≡ weight self.old.loose }
+        ensures leaves { MovesNothing self.old self.new }
         ensures state { state_of self.new ≡ over (self.old.cylinders * 15) (λ t z. settled contents (without_frame z t) t) (state_of self.old) }
     {
         let marks = self.frames.framed_tracks().or(&self.unsettled());
@@ -129,9 +120,7 @@ impl<V: Volume> DeviceStore<V> {
 
     /// What goes with the cache.
     fn lose_cache(&mut self)
-        ensures fixed { (self.new.number ≡ self.old.number) × (self.new.cylinders ≡ self.old.cylinders) × (self.new.geometry ≡ self.old.geometry) }
-        ensures volume { self.new.pair.volumes ≡ self.old.pair.volumes }
-        ensures half { self.new.half ≡ self.old.half }
+        ensures leaves { KeepsVolumes self.old self.new }
         ensures weight { weight self.new.loose ≤ weight self.old.loose }
         ensures state { state_of self.new ≡ cache_lost contents (state_of self.old) }
     {
@@ -142,13 +131,11 @@ impl<V: Volume> DeviceStore<V> {
 
     /// The patch of a track goes: the volumes haven't what it had, but for what an open half write wrote.
     fn lose_patch<K: Keep<TrackImage>>(&mut self, t: TrackNo, keep: &mut K)
-        requires track { t < self.old.cylinders * 15 }
-        requires takes { Takes K.takes keep.old self.old.number self.old.geometry (self.old.cylinders * 15) }
-        ensures fixed { (self.new.number ≡ self.old.number) × (self.new.cylinders ≡ self.old.cylinders) × (self.new.geometry ≡ self.old.geometry) }
+        requires track { HasTrack self.old t }
+        requires takes { TakesTracks K.takes keep.old self.old }
+        ensures leaves { KeepsHalfWrite self.old self.new }
         ensures volume { self.new.pair.volumes ≡ self.old.pair.volumes }
-        ensures half { self.new.half ≡ self.old.half }
-        ensures weight { weight self.new.loose ≡ weight self.old.loose }
-        ensures takes { Takes K.takes keep.new self.new.number self.new.geometry (self.new.cylinders * 15) }
+        ensures takes { TakesTracks K.takes keep.new self.new }
         ensures run { (p : PortView) → Ran surely (Heard K.hears K.takes) (firm_told contents t (patch_lost contents t (state_of self.old)))
             (outside p self.old keep.old) (state_of self.new) tt (outside p self.new keep.new) }
     {
@@ -168,12 +155,9 @@ impl<V: Volume> DeviceStore<V> {
 
     /// All patches go.
     fn lose_store<K: Keep<TrackImage>>(&mut self, keep: &mut K)
-        requires takes { Takes K.takes keep.old self.old.number self.old.geometry (self.old.cylinders * 15) }
-        ensures fixed { (self.new.number ≡ self.old.number) × (self.new.cylinders ≡ self.old.cylinders) × (self.new.geometry ≡ self.old.geometry) }
-        ensures volume { self.new.pair.volumes ≡ self.old.pair.volumes }
-        ensures half { self.new.half ≡ self.old.half }
-        ensures weight { weight self.new.loose ≡ weight self.old.loose }
-        ensures takes { Takes K.takes keep.new self.new.number self.new.geometry (self.new.cylinders * 15) }
+        requires takes { TakesTracks K.takes keep.old self.old }
+        ensures leaves { MovesNothing self.old self.new }
+        ensures takes { TakesTracks K.takes keep.new self.new }
         ensures run { (p : PortView) → Ran surely (Heard K.hears K.takes) (all_firm_told contents (self.old.cylinders * 15)
             (store_lost contents (state_of self.old))) (outside p self.old keep.old) (state_of self.new) tt (outside p self.new keep.new) }
     {
@@ -188,12 +172,10 @@ impl<V: Volume> DeviceStore<V> {
 
     /// What goes with a loss.
     fn lose_by<K: Keep<TrackImage>>(&mut self, loss: Loss, keep: &mut K)
-        requires takes { Takes K.takes keep.old self.old.number self.old.geometry (self.old.cylinders * 15) }
-        ensures fixed { (self.new.number ≡ self.old.number) × (self.new.cylinders ≡ self.old.cylinders) × (self.new.geometry ≡ self.old.geometry) }
-        ensures volume { self.new.pair.volumes ≡ self.old.pair.volumes }
-        ensures half { self.new.half ≡ self.old.half }
+        requires takes { TakesTracks K.takes keep.old self.old }
+        ensures leaves { KeepsVolumes self.old self.new }
         ensures weight { weight self.new.loose ≤ weight self.old.loose }
-        ensures takes { Takes K.takes keep.new self.new.number self.new.geometry (self.new.cylinders * 15) }
+        ensures takes { TakesTracks K.takes keep.new self.new }
         ensures run { (p : PortView) → Ran surely (Heard K.hears K.takes)
             (all_firm_told contents (self.old.cylinders * 15) (lost_by contents (state_of self.old) loss)) (outside p self.old keep.old)
             (state_of self.new) tt (outside p self.new keep.new) }
@@ -210,12 +192,10 @@ impl<V: Volume> DeviceStore<V> {
 
     /// A loss. The keeper is told of the tracks that it made firm.
     pub fn lose<K: Keep<TrackImage>>(&mut self, loss: Loss, keep: &mut K)
-        requires takes { Takes K.takes keep.old self.old.number self.old.geometry (self.old.cylinders * 15) }
-        ensures fixed { (self.new.number ≡ self.old.number) × (self.new.cylinders ≡ self.old.cylinders) × (self.new.geometry ≡ self.old.geometry) }
-        ensures volume { self.new.pair.volumes ≡ self.old.pair.volumes }
-        ensures half { self.new.half ≡ self.old.half }
+        requires takes { TakesTracks K.takes keep.old self.old }
+        ensures leaves { KeepsVolumes self.old self.new }
         ensures weight { weight self.new.loose ≤ weight self.old.loose }
-        ensures takes { Takes K.takes keep.new self.new.number self.new.geometry (self.new.cylinders * 15) }
+        ensures takes { TakesTracks K.takes keep.new self.new }
         ensures run { (p : PortView) → Ran surely (Heard K.hears K.takes) (losing contents (state_of self.old) loss) (outside p self.old keep.old)
             (state_of self.new) tt (outside p self.new keep.new) }
     {
@@ -225,7 +205,7 @@ impl<V: Volume> DeviceStore<V> {
 
     /// What the loss of power takes: it counts as one of the cache.
     pub fn lose_power(&mut self)
-        ensures fixed { (self.new.number ≡ self.old.number) × (self.new.cylinders ≡ self.old.cylinders) × (self.new.geometry ≡ self.old.geometry) }
+        ensures leaves { IsSameDevice self.old self.new }
         ensures volume { self.new.pair.volumes ≡ self.old.pair.volumes }
         ensures half { self.new.half ≡ None }
         ensures weight { weight self.new.loose ≤ weight self.old.loose }

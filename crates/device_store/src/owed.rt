@@ -1,10 +1,10 @@
-ghost use Rattle.std.specs.Prelude.{◌≡◌, ◌*◌, ◌≤◌, ◌<◌, ◌&&◌, ◌||◌, ℕ, is_some, false, true};
+ghost use Rattle.std.specs.Prelude.{◌≡◌, ◌*◌, ◌||◌, ℕ, is_some, false, true};
 ghost use Rattle.device_defs.specs.Contents.{contents};
 ghost use Rattle.device_defs.specs.Owed.{
   all_told,
-  begun,
+  noted_begin,
   dropped_told,
-  ended,
+  noted_end,
   freed_told,
   is_owed,
   modified_told,
@@ -19,6 +19,7 @@ ghost use Rattle.device_outside.specs.Keeper.{Heard};
 ghost use Rattle.device_outside.specs.Outside.{Ran};
 ghost use Rattle.event_notes.specs.Debts.{owed_in};
 ghost use Rattle.track_table.specs.Bits.{is_marked};
+ghost use Rattle.device_store.specs.Leaves.{ChangesMarksAlone, KeepsVolumes};
 ghost use Rattle.device_store.specs.State.{state_of, outside, surely};
 
 use crate::DeviceStore;
@@ -48,11 +49,9 @@ fn is_owed(owed: &Owed) -> bool
 impl<V: Volume> DeviceStore<V> {
     /// An event begins.
     pub fn begin_event(&mut self)
-        ensures fixed { (self.new.number ≡ self.old.number) × (self.new.cylinders ≡ self.old.cylinders) × (self.new.geometry ≡ self.old.geometry) }
-        ensures half { self.new.half ≡ self.old.half }
-        ensures volume { self.new.pair.volumes ≡ self.old.pair.volumes }
+        ensures leaves { KeepsVolumes self.old self.new }
         ensures loose { self.new.loose.loose ≡ self.old.loose.loose }
-        ensures state { state_of self.new ≡ begun (state_of self.old) }
+        ensures state { state_of self.new ≡ noted_begin (state_of self.old) }
     {
         self.loose.begin();
     }
@@ -121,10 +120,7 @@ impl<V: Volume> DeviceStore<V> {
 
     /// The port is told what it is owed of a track.
     fn settle_debt<P: Port, K: Keep<TrackImage>>(&mut self, t: TrackNo, port: &mut P)
-        ensures fixed { (self.new.number ≡ self.old.number) × (self.new.cylinders ≡ self.old.cylinders) × (self.new.geometry ≡ self.old.geometry) }
-        ensures half { self.new.half ≡ self.old.half }
-        ensures volume { self.new.pair.volumes ≡ self.old.pair.volumes }
-        ensures loose { self.new.loose ≡ self.old.loose }
+        ensures leaves { ChangesMarksAlone self.old self.new }
         ensures rest { state_of self.new ≡ record (state_of self.old) { owed = self.new.owed } }
         ensures paid { (q : ℕ) → owed_in self.old.owed q ≡ no_debt → owed_in self.new.owed q ≡ no_debt }
         ensures run { (k : K) → Ran surely (Heard K.hears K.takes) (settles_debt contents t (state_of self.old)) (outside (P.view port.old) self.old k)
@@ -137,10 +133,7 @@ impl<V: Volume> DeviceStore<V> {
     }
 
     fn tell_track<P: Port, K: Keep<TrackImage>>(&mut self, t: TrackNo, port: &mut P)
-        ensures fixed { (self.new.number ≡ self.old.number) × (self.new.cylinders ≡ self.old.cylinders) × (self.new.geometry ≡ self.old.geometry) }
-        ensures half { self.new.half ≡ self.old.half }
-        ensures volume { self.new.pair.volumes ≡ self.old.pair.volumes }
-        ensures loose { self.new.loose ≡ self.old.loose }
+        ensures leaves { ChangesMarksAlone self.old self.new }
         ensures rest { state_of self.new ≡ record (state_of self.old) { owed = self.new.owed } }
         ensures paid { (q : ℕ) → owed_in self.old.owed q ≡ no_debt → owed_in self.new.owed q ≡ no_debt }
         ensures run { (k : K) → Ran surely (Heard K.hears K.takes) (track_told contents t (state_of self.old)) (outside (P.view port.old) self.old k)
@@ -153,10 +146,7 @@ impl<V: Volume> DeviceStore<V> {
 
     /// The port is told what it is owed of each track.
     fn tell_each<P: Port, K: Keep<TrackImage>>(&mut self, port: &mut P)
-        ensures fixed { (self.new.number ≡ self.old.number) × (self.new.cylinders ≡ self.old.cylinders) × (self.new.geometry ≡ self.old.geometry) }
-        ensures half { self.new.half ≡ self.old.half }
-        ensures volume { self.new.pair.volumes ≡ self.old.pair.volumes }
-        ensures loose { self.new.loose ≡ self.old.loose }
+        ensures leaves { ChangesMarksAlone self.old self.new }
         ensures rest { state_of self.new ≡ record (state_of self.old) { owed = self.new.owed } }
         ensures run { (k : K) → Ran surely (Heard K.hears K.takes) (all_told contents (self.old.cylinders * 15) (state_of self.old))
             (outside (P.view port.old) self.old k) (state_of self.new) tt (outside (P.view port.new) self.new k) }
@@ -170,10 +160,7 @@ impl<V: Volume> DeviceStore<V> {
 
     /// The same. Where nothing is owed no track is looked at.
     fn tell_all<P: Port, K: Keep<TrackImage>>(&mut self, port: &mut P)
-        ensures fixed { (self.new.number ≡ self.old.number) × (self.new.cylinders ≡ self.old.cylinders) × (self.new.geometry ≡ self.old.geometry) }
-        ensures half { self.new.half ≡ self.old.half }
-        ensures volume { self.new.pair.volumes ≡ self.old.pair.volumes }
-        ensures loose { self.new.loose ≡ self.old.loose }
+        ensures leaves { ChangesMarksAlone self.old self.new }
         ensures rest { state_of self.new ≡ record (state_of self.old) { owed = self.new.owed } }
         ensures run { (k : K) → Ran surely (Heard K.hears K.takes) (all_told contents (self.old.cylinders * 15) (state_of self.old))
             (outside (P.view port.old) self.old k) (state_of self.new) tt (outside (P.view port.new) self.new k) }
@@ -198,12 +185,9 @@ impl<V: Volume> DeviceStore<V> {
 
     /// An event ends before which so many tracks waited: the port is told what it is owed, and then how many tracks wait.
     pub fn end_event<P: Port, K: Keep<TrackImage>>(&mut self, before: u16, port: &mut P)
-        ensures fixed { (self.new.number ≡ self.old.number) × (self.new.cylinders ≡ self.old.cylinders) × (self.new.geometry ≡ self.old.geometry) }
-        ensures half { self.new.half ≡ self.old.half }
-        ensures volume { self.new.pair.volumes ≡ self.old.pair.volumes }
-        ensures loose { self.new.loose ≡ self.old.loose }
+        ensures leaves { ChangesMarksAlone self.old self.new }
         ensures rest { state_of self.new ≡ record (state_of self.old) { owed = self.new.owed } }
-        ensures run { (k : K) → Ran surely (Heard K.hears K.takes) (ended contents before (state_of self.old)) (outside (P.view port.old) self.old k)
+        ensures run { (k : K) → Ran surely (Heard K.hears K.takes) (noted_end contents before (state_of self.old)) (outside (P.view port.old) self.old k)
             (state_of self.new) tt (outside (P.view port.new) self.new k) }
     {
         self.tell_all::<P, K>(port);

@@ -1,11 +1,11 @@
-ghost use Rattle.std.specs.Prelude.{◌≡◌, ℕ, ◌<◌, ◌*◌, IfOk, is_some, true};
+ghost use Rattle.std.specs.Prelude.{◌≡◌, ℕ, IfOk, is_some, true};
 ghost use Rattle.device_outside.specs.Keeper.{Heard};
 ghost use Rattle.device_outside.specs.Outside.{Ran, where_ok};
 ghost use Rattle.device_defs.specs.Contents.{contents};
 ghost use Rattle.device_defs.specs.Peek.{peek_usage, peek_track, peeked};
-ghost use Rattle.event_notes.specs.Loose.{weight};
+ghost use Rattle.device_store.specs.Leaves.{KeepsHalfWrite};
 ghost use Rattle.device_store.specs.Looks.{StoreOf, imaged, in_half, peeked_by, IsHalfCopied, IsPeeked, IsThere};
-ghost use Rattle.device_store.specs.State.{state_of, outside, Takes, had};
+ghost use Rattle.device_store.specs.State.{state_of, outside, had, HasTrack, TakesTracks};
 
 use crate::{DeviceStore, Looked, Peeked};
 use ckd_types::{Mode, NoMemory, Side, TrackNo};
@@ -63,12 +63,10 @@ impl<V: Volume> DeviceStore<V> {
         port: &mut P,
         keep: &mut K,
     ) -> Result<Peeked, NoMemory>
-        requires track { t < self.old.cylinders * 15 }
-        requires takes { Takes K.takes keep.old self.old.number self.old.geometry (self.old.cylinders * 15) }
-        ensures fixed { (self.new.number ≡ self.old.number) × (self.new.cylinders ≡ self.old.cylinders) × (self.new.geometry ≡ self.old.geometry) }
-        ensures half { self.new.half ≡ self.old.half }
-        ensures weight { weight self.new.loose ≡ weight self.old.loose }
-        ensures takes { Takes K.takes keep.new self.new.number self.new.geometry (self.new.cylinders * 15) }
+        requires track { HasTrack self.old t }
+        requires takes { TakesTracks K.takes keep.old self.old }
+        ensures leaves { KeepsHalfWrite self.old self.new }
+        ensures takes { TakesTracks K.takes keep.new self.new }
         ensures there { IfOk result (IsPeeked (state_of self.new) t) }
         ensures run { Ran (where_ok result) (Heard K.hears K.takes) (peek_track contents (state_of self.old) t) (outside (P.view port.old) self.old keep.old)
             (state_of self.new) (had (peeked_by (state_of self.new) t) result) (outside (P.view port.new) self.new keep.new) }

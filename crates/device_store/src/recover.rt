@@ -1,14 +1,14 @@
-ghost use Rattle.std.specs.Prelude.{◌≡◌, ◌<◌, ◌*◌, ◌≤◌, IfSome, None, Option, Some, false, is_some, true};
+ghost use Rattle.std.specs.Prelude.{◌≡◌, ◌<◌, ◌*◌, IfSome, None, Option, Some, false, is_some, true};
 ghost use Rattle.ckd_types.specs.declared.paths.Side.{Side};
+ghost use Rattle.device_store.specs.Leaves.{IsSameDevice, KeepsWeight};
 ghost use Rattle.device_store.specs.declared.half.Origin.TheVariants.{OfBackground};
 ghost use Rattle.device_defs.specs.Background.{did, recover, recovered_bytes, saved_by, saving, to_recover};
 ghost use Rattle.device_defs.specs.Contents.{contents};
 ghost use Rattle.device_defs.specs.Store.{frame_at, is_loose};
 ghost use Rattle.device_outside.specs.Keeper.{Heard};
 ghost use Rattle.device_outside.specs.Outside.{Ran, where_ok};
-ghost use Rattle.event_notes.specs.Loose.{weight};
 ghost use Rattle.device_store.specs.Images.{IsImageOf};
-ghost use Rattle.device_store.specs.State.{state_of, outside, surely, OnlyBackground, Takes, had, got_by};
+ghost use Rattle.device_store.specs.State.{state_of, outside, surely, OnlyBackground, had, got_by, HasTrack, TakesTracks};
 
 use crate::background::did;
 use crate::image::Given;
@@ -45,7 +45,7 @@ impl<V: Volume> DeviceStore<V> {
         requires firm { is_loose (state_of self.old) half.track ≡ false }
         requires background { half.origin ≡ OfBackground }
         requires none { self.old.half ≡ None }
-        ensures fixed { (self.new.number ≡ self.old.number) × (self.new.cylinders ≡ self.old.cylinders) × (self.new.geometry ≡ self.old.geometry) }
+        ensures leaves { IsSameDevice self.old self.new }
         ensures opened { OnlyBackground self.new.half }
         ensures loose { self.new.loose ≡ self.old.loose }
         ensures run { (k : K) (fault : Option Side)
@@ -76,15 +76,14 @@ impl<V: Volume> DeviceStore<V> {
         port: &mut P,
         keep: &mut K,
     ) -> Did
-        requires track { t < self.old.cylinders * 15 }
+        requires track { HasTrack self.old t }
         requires of { IsImageOf self.old.geometry t image }
         requires kept { is_loose (state_of self.old) t ≡ true → is_some (frame_at (state_of self.old) t) ≡ true }
         requires none { self.old.half ≡ None }
-        requires takes { Takes K.takes keep.old self.old.number self.old.geometry (self.old.cylinders * 15) }
-        ensures fixed { (self.new.number ≡ self.old.number) × (self.new.cylinders ≡ self.old.cylinders) × (self.new.geometry ≡ self.old.geometry) }
+        requires takes { TakesTracks K.takes keep.old self.old }
+        ensures leaves { KeepsWeight self.old self.new }
         ensures opened { OnlyBackground self.new.half }
-        ensures weight { weight self.new.loose ≡ weight self.old.loose }
-        ensures takes { Takes K.takes keep.new self.new.number self.new.geometry (self.new.cylinders * 15) }
+        ensures takes { TakesTracks K.takes keep.new self.new }
         ensures run { Ran surely (Heard K.hears K.takes) (saving contents (state_of self.old) t image done fault) (outside (P.view port.old) self.old keep.old)
             (state_of self.new) result (outside (P.view port.new) self.new keep.new) }
     {
@@ -109,14 +108,13 @@ impl<V: Volume> DeviceStore<V> {
         port: &mut P,
         keep: &mut K,
     ) -> Result<Did, NoMemory>
-        requires track { t < self.old.cylinders * 15 }
+        requires track { HasTrack self.old t }
         requires here { is_some self.old.pair.lent ≡ false }
         requires none { self.old.half ≡ None }
-        requires takes { Takes K.takes keep.old self.old.number self.old.geometry (self.old.cylinders * 15) }
-        ensures fixed { (self.new.number ≡ self.old.number) × (self.new.cylinders ≡ self.old.cylinders) × (self.new.geometry ≡ self.old.geometry) }
+        requires takes { TakesTracks K.takes keep.old self.old }
+        ensures leaves { KeepsWeight self.old self.new }
         ensures opened { OnlyBackground self.new.half }
-        ensures weight { weight self.new.loose ≡ weight self.old.loose }
-        ensures takes { Takes K.takes keep.new self.new.number self.new.geometry (self.new.cylinders * 15) }
+        ensures takes { TakesTracks K.takes keep.new self.new }
         ensures run { Ran (where_ok result) (Heard K.hears K.takes)
             (recovered_bytes contents t (state_of self.old) (got_by self.old.buffer given) (Some self.old.buffer))
             (outside (P.view port.old) self.old keep.old) (state_of self.new) (had (λ did. did) result) (outside (P.view port.new) self.new keep.new) }
@@ -137,13 +135,12 @@ impl<V: Volume> DeviceStore<V> {
         port: &mut P,
         keep: &mut K,
     ) -> Result<Did, NoMemory>
-        requires track { t < self.old.cylinders * 15 }
+        requires track { HasTrack self.old t }
         requires none { self.old.half ≡ None }
-        requires takes { Takes K.takes keep.old self.old.number self.old.geometry (self.old.cylinders * 15) }
-        ensures fixed { (self.new.number ≡ self.old.number) × (self.new.cylinders ≡ self.old.cylinders) × (self.new.geometry ≡ self.old.geometry) }
+        requires takes { TakesTracks K.takes keep.old self.old }
+        ensures leaves { KeepsWeight self.old self.new }
         ensures opened { OnlyBackground self.new.half }
-        ensures weight { weight self.new.loose ≡ weight self.old.loose }
-        ensures takes { Takes K.takes keep.new self.new.number self.new.geometry (self.new.cylinders * 15) }
+        ensures takes { TakesTracks K.takes keep.new self.new }
         ensures run { Ran (where_ok result) (Heard K.hears K.takes) (recover contents (state_of self.old) t (frame_at (state_of self.old) t))
             (outside (P.view port.old) self.old keep.old) (state_of self.new) (had (λ did. did) result) (outside (P.view port.new) self.new keep.new) }
     {

@@ -3,7 +3,7 @@ ghost use Rattle.ckd_types.specs.Track.{track_bytes};
 ghost use Rattle.device_defs.specs.Contents.{contents};
 ghost use Rattle.device_defs.specs.Cutting.{half_cut, half_ended, half_lost, is_of_command};
 ghost use Rattle.device_defs.specs.Losses.{settled};
-ghost use Rattle.device_defs.specs.Second.{closed, cut_kept, left_by, second_done, second_part};
+ghost use Rattle.device_defs.specs.Second.{half_closed, cut_kept, left_by, second_done, second_part};
 ghost use Rattle.device_defs.specs.Store.{frame_at, is_loose, takes_b};
 ghost use Rattle.device_defs.specs.Writing.{write_second};
 ghost use Rattle.device_outside.specs.Keeper.{Heard};
@@ -11,12 +11,12 @@ ghost use Rattle.device_outside.specs.Outside.{PortView, Ran};
 ghost use Rattle.device_outside.specs.Volume.{WriteOf, counted, counted_if};
 ghost use Rattle.duplex_pair.specs.Sides.{HasSides};
 ghost use Rattle.duplex_pair.specs.Volumes.{IsThere, view_in};
-ghost use Rattle.event_notes.specs.Loose.{weight};
+ghost use Rattle.device_store.specs.Leaves.{IsSameDevice, KeepsHalfWrite, KeepsLooseTracks, KeepsWeight};
 ghost use Rattle.device_store.specs.declared.half.HalfWrite.{HalfWrite};
 ghost use Rattle.device_store.specs.Halves.{half_below};
 ghost use Rattle.device_store.specs.Images.{IsImageOf};
 ghost use Rattle.device_store.specs.Looks.{StoreOf};
-ghost use Rattle.device_store.specs.State.{closing, half_of, origin_of, state_of, outside, surely, Takes};
+ghost use Rattle.device_store.specs.State.{closing, half_of, origin_of, state_of, outside, surely, Takes, HasTrack, TakesTracks};
 
 use crate::through::write_side;
 use crate::{DeviceStore, HalfWrite, Origin};
@@ -87,11 +87,9 @@ impl<V: Volume> DeviceStore<V> {
         requires track { half.track < self.old.cylinders * 15 }
         requires of { IsImageOf self.old.geometry half.track half.image }
         requires firm { is_loose (state_of self.old) half.track ≡ false }
-        requires takes { Takes K.takes keep.old self.old.number self.old.geometry (self.old.cylinders * 15) }
-        ensures fixed { (self.new.number ≡ self.old.number) × (self.new.cylinders ≡ self.old.cylinders) × (self.new.geometry ≡ self.old.geometry) }
-        ensures half { self.new.half ≡ self.old.half }
-        ensures loose { self.new.loose ≡ self.old.loose }
-        ensures takes { Takes K.takes keep.new self.new.number self.new.geometry (self.new.cylinders * 15) }
+        requires takes { TakesTracks K.takes keep.old self.old }
+        ensures leaves { KeepsLooseTracks self.old self.new }
+        ensures takes { TakesTracks K.takes keep.new self.new }
         ensures run { Ran surely (Heard K.hears K.takes) (second_done contents (state_of self.old) half.track half.image (origin_of half.origin))
             (outside (P.view port.old) self.old keep.old) (state_of self.new) true (outside (P.view port.new) self.new keep.new) }
     {
@@ -112,13 +110,11 @@ impl<V: Volume> DeviceStore<V> {
 
     /// The write of a cut command isn't done: a frame has the new track, and the patch, which is of the old one, goes.
     fn keep_cut(&mut self, t: TrackNo, image: TrackImage)
-        requires track { t < self.old.cylinders * 15 }
+        requires track { HasTrack self.old t }
         requires of { IsImageOf self.old.geometry t image }
         requires firm { is_loose (state_of self.old) t ≡ false }
-        ensures fixed { (self.new.number ≡ self.old.number) × (self.new.cylinders ≡ self.old.cylinders) × (self.new.geometry ≡ self.old.geometry) }
+        ensures leaves { KeepsLooseTracks self.old self.new }
         ensures volume { self.new.pair ≡ self.old.pair }
-        ensures half { self.new.half ≡ self.old.half }
-        ensures loose { self.new.loose ≡ self.old.loose }
         ensures state { state_of self.new ≡ cut_kept contents (state_of self.old) t image (frame_at (state_of self.old) t) }
     {
         if self.frames.has(t) {
@@ -133,10 +129,8 @@ impl<V: Volume> DeviceStore<V> {
         requires track { half.track < self.old.cylinders * 15 }
         requires of { IsImageOf self.old.geometry half.track half.image }
         requires firm { is_loose (state_of self.old) half.track ≡ false }
-        ensures fixed { (self.new.number ≡ self.old.number) × (self.new.cylinders ≡ self.old.cylinders) × (self.new.geometry ≡ self.old.geometry) }
+        ensures leaves { KeepsLooseTracks self.old self.new }
         ensures volume { self.new.pair ≡ self.old.pair }
-        ensures half { self.new.half ≡ self.old.half }
-        ensures loose { self.new.loose ≡ self.old.loose }
         ensures state { state_of self.new ≡ left_by contents (state_of self.old) half.track half.image (origin_of half.origin) }
     {
         match half.origin {
@@ -151,10 +145,8 @@ impl<V: Volume> DeviceStore<V> {
         requires track { half.track < self.old.cylinders * 15 }
         requires of { IsImageOf self.old.geometry half.track half.image }
         requires firm { is_loose (state_of self.old) half.track ≡ false }
-        ensures fixed { (self.new.number ≡ self.old.number) × (self.new.cylinders ≡ self.old.cylinders) × (self.new.geometry ≡ self.old.geometry) }
+        ensures leaves { KeepsLooseTracks self.old self.new }
         ensures volume { self.new.pair ≡ self.old.pair }
-        ensures half { self.new.half ≡ self.old.half }
-        ensures loose { self.new.loose ≡ self.old.loose }
         ensures state { state_of self.new ≡ settled contents (left_by contents (state_of self.old) half.track half.image (origin_of half.origin)) half.track }
     {
         let t = half.track;
@@ -166,7 +158,7 @@ impl<V: Volume> DeviceStore<V> {
     #[tactic(auto, using(crate::proofs::Halved::half_firm, crate::proofs::Halved::half_within, crate::proofs::Placed::half_image))]
     fn take_half(&mut self) -> HalfWrite
         requires open { is_some self.old.half ≡ true }
-        ensures fixed { (self.new.number ≡ self.old.number) × (self.new.cylinders ≡ self.old.cylinders) × (self.new.geometry ≡ self.old.geometry) }
+        ensures leaves { IsSameDevice self.old self.new }
         ensures volume { self.new.pair ≡ self.old.pair }
         ensures half { self.new.half ≡ None }
         ensures loose { self.new.loose ≡ self.old.loose }
@@ -174,7 +166,7 @@ impl<V: Volume> DeviceStore<V> {
         ensures track { result.track < self.new.cylinders * 15 }
         ensures of { IsImageOf self.new.geometry result.track result.image }
         ensures firm { is_loose (state_of self.new) result.track ≡ false }
-        ensures state { state_of self.new ≡ closed (state_of self.old) }
+        ensures state { state_of self.new ≡ half_closed (state_of self.old) }
     {
         match replace(&mut self.half, None) {
             None => unreachable!(),
@@ -186,7 +178,7 @@ impl<V: Volume> DeviceStore<V> {
     #[tactic(auto, using(crate::proofs::Halved::half_within))]
     fn half_track(&self) -> TrackNo
         requires open { is_some self.now.half ≡ true }
-        ensures here { result < self.now.cylinders * 15 }
+        ensures here { HasTrack self.now result }
         ensures of { (h : HalfWrite) → self.now.half ≡ Some h → result ≡ h.track }
     {
         match &self.half {
@@ -198,11 +190,9 @@ impl<V: Volume> DeviceStore<V> {
     /// Side B is given the track of the open half write, where it is up and not held.
     fn write_half<K: Keep<TrackImage>>(&mut self, keep: &mut K)
         requires open { is_some self.old.half ≡ true }
-        requires takes { Takes K.takes keep.old self.old.number self.old.geometry (self.old.cylinders * 15) }
-        ensures fixed { (self.new.number ≡ self.old.number) × (self.new.cylinders ≡ self.old.cylinders) × (self.new.geometry ≡ self.old.geometry) }
-        ensures half { self.new.half ≡ self.old.half }
-        ensures weight { weight self.new.loose ≡ weight self.old.loose }
-        ensures takes { Takes K.takes keep.new self.new.number self.new.geometry (self.new.cylinders * 15) }
+        requires takes { TakesTracks K.takes keep.old self.old }
+        ensures leaves { KeepsHalfWrite self.old self.new }
+        ensures takes { TakesTracks K.takes keep.new self.new }
         ensures run { (h : HalfWrite) (p : PortView) → self.old.half ≡ Some h
             → Ran surely (Heard K.hears K.takes) (write_second contents (state_of self.old) h.track (track_bytes h.image.track)) (outside p self.old keep.old)
             (state_of self.new) tt (outside p self.new keep.new) }
@@ -225,11 +215,11 @@ impl<V: Volume> DeviceStore<V> {
         requires track { half.track < self.old.cylinders * 15 }
         requires of { IsImageOf self.old.geometry half.track half.image }
         requires firm { is_loose (state_of self.old) half.track ≡ false }
-        requires takes { Takes K.takes keep.old self.old.number self.old.geometry (self.old.cylinders * 15) }
-        ensures fixed { (self.new.number ≡ self.old.number) × (self.new.cylinders ≡ self.old.cylinders) × (self.new.geometry ≡ self.old.geometry) }
+        requires takes { TakesTracks K.takes keep.old self.old }
+        ensures leaves { IsSameDevice self.old self.new }
         ensures half { self.new.half ≡ None }
         ensures loose { self.new.loose ≡ self.old.loose }
-        ensures takes { Takes K.takes keep.new self.new.number self.new.geometry (self.new.cylinders * 15) }
+        ensures takes { TakesTracks K.takes keep.new self.new }
         ensures run { Ran surely (Heard K.hears K.takes) (closing (state_of self.old) half.track half.image (origin_of half.origin))
             (outside (P.view port.old) self.old keep.old) (state_of self.new) result (outside (P.view port.new) self.new keep.new) }
     {
@@ -244,11 +234,10 @@ impl<V: Volume> DeviceStore<V> {
     /// The second part of the open half write.
     pub fn second<P: Port, K: Keep<TrackImage>>(&mut self, port: &mut P, keep: &mut K) -> SecondPart
         requires open { is_some self.old.half ≡ true }
-        requires takes { Takes K.takes keep.old self.old.number self.old.geometry (self.old.cylinders * 15) }
-        ensures fixed { (self.new.number ≡ self.old.number) × (self.new.cylinders ≡ self.old.cylinders) × (self.new.geometry ≡ self.old.geometry) }
+        requires takes { TakesTracks K.takes keep.old self.old }
+        ensures leaves { KeepsWeight self.old self.new }
         ensures half { self.new.half ≡ None }
-        ensures weight { weight self.new.loose ≡ weight self.old.loose }
-        ensures takes { Takes K.takes keep.new self.new.number self.new.geometry (self.new.cylinders * 15) }
+        ensures takes { TakesTracks K.takes keep.new self.new }
         ensures track { (h : HalfWrite) → self.old.half ≡ Some h → result.track ≡ h.track }
         ensures command { (h : HalfWrite) → self.old.half ≡ Some h → result.of_command ≡ is_of_command (origin_of h.origin) }
         ensures run { (h : HalfWrite) → self.old.half ≡ Some h
@@ -269,12 +258,12 @@ impl<V: Volume> DeviceStore<V> {
 
     /// An open half write of the command at hand counts as done: its edit takes effect now, and the keeper is told.
     pub fn cut_half<K: Keep<TrackImage>>(&mut self, keep: &mut K)
-        requires takes { Takes K.takes keep.old self.old.number self.old.geometry (self.old.cylinders * 15) }
-        ensures fixed { (self.new.number ≡ self.old.number) × (self.new.cylinders ≡ self.old.cylinders) × (self.new.geometry ≡ self.old.geometry) }
+        requires takes { TakesTracks K.takes keep.old self.old }
+        ensures leaves { IsSameDevice self.old self.new }
         ensures volume { self.new.pair ≡ self.old.pair }
         ensures half { IfSome self.new.half (λ h. is_of_command (origin_of h.origin) ≡ false) }
         ensures loose { self.new.loose ≡ self.old.loose }
-        ensures takes { Takes K.takes keep.new self.new.number self.new.geometry (self.new.cylinders * 15) }
+        ensures takes { TakesTracks K.takes keep.new self.new }
         ensures run { (p : PortView) → Ran surely (Heard K.hears K.takes) (half_cut contents (state_of self.old) (state_of self.old).half)
             (outside p self.old keep.old) (state_of self.new) tt (outside p self.new keep.new) }
     {
@@ -315,11 +304,9 @@ impl<V: Volume> DeviceStore<V> {
 
     /// A half write ended: a command's or a cut one's patch is of the old track.
     fn end_by(&mut self, half: HalfWrite)
-        ensures fixed { (self.new.number ≡ self.old.number) × (self.new.cylinders ≡ self.old.cylinders) × (self.new.geometry ≡ self.old.geometry) }
+        ensures leaves { KeepsLooseTracks self.old self.new }
         ensures volume { self.new.pair ≡ self.old.pair }
-        ensures half { self.new.half ≡ self.old.half }
-        ensures loose { self.new.loose ≡ self.old.loose }
-        ensures state { (s : StoreOf) → closed s ≡ state_of self.old → state_of self.new ≡ half_ended contents s (half_of half) (origin_of half.origin) }
+        ensures state { (s : StoreOf) → half_closed s ≡ state_of self.old → state_of self.new ≡ half_ended contents s (half_of half) (origin_of half.origin) }
     {
         match half.origin {
             Origin::OfBackground => (),
@@ -330,7 +317,7 @@ impl<V: Volume> DeviceStore<V> {
 
     /// An open half write ends with the power.
     pub(crate) fn end_half(&mut self)
-        ensures fixed { (self.new.number ≡ self.old.number) × (self.new.cylinders ≡ self.old.cylinders) × (self.new.geometry ≡ self.old.geometry) }
+        ensures leaves { IsSameDevice self.old self.new }
         ensures volume { self.new.pair ≡ self.old.pair }
         ensures half { self.new.half ≡ None }
         ensures loose { self.new.loose ≡ self.old.loose }

@@ -1,6 +1,6 @@
-ghost use Rattle.std.specs.Prelude.{◌≡◌, ◌<◌, ◌≤◌, ◌*◌, ◌||◌, ℕ, Some, false, is_some, true};
+ghost use Rattle.std.specs.Prelude.{◌≡◌, ◌||◌, Some, false, is_some, true};
 ghost use Rattle.device_defs.specs.Contents.{contents};
-ghost use Rattle.device_defs.specs.Effects.{hardened, loose_lost};
+ghost use Rattle.device_defs.specs.Effects.{hardened};
 ghost use Rattle.device_defs.specs.Losses.{
   by_frame,
   firm_told,
@@ -19,7 +19,8 @@ ghost use Rattle.device_outside.specs.Keeper.{Heard};
 ghost use Rattle.device_outside.specs.Outside.{PortView, Ran};
 ghost use Rattle.event_notes.specs.Loose.{weight};
 ghost use Rattle.track_cache.specs.declared.frames.Frame.{Frame};
-ghost use Rattle.device_store.specs.State.{state_of, outside, surely, StaysFirm, Takes};
+ghost use Rattle.device_store.specs.Leaves.{ChangesMarksAlone, KeepsHalfWrite, KeepsLooseTracks};
+ghost use Rattle.device_store.specs.State.{state_of, outside, surely, StaysFirm, HasTrack, TakesTracks};
 
 use crate::DeviceStore;
 use ckd_types::{Side, TrackNo};
@@ -29,11 +30,9 @@ use track_image::TrackImage;
 impl<V: Volume> DeviceStore<V> {
     /// The frame was marked modified.
     fn owe_modified(&mut self, t: TrackNo)
-        ensures fixed { (self.new.number ≡ self.old.number) × (self.new.cylinders ≡ self.old.cylinders) × (self.new.geometry ≡ self.old.geometry) }
+        ensures leaves { KeepsLooseTracks self.old self.new }
         ensures volume { self.new.pair ≡ self.old.pair }
-        ensures half { self.new.half ≡ self.old.half }
         ensures weight { weight self.new.loose ≡ weight self.old.loose }
-        ensures loose { self.new.loose ≡ self.old.loose }
         ensures state { state_of self.new ≡ owes_modified (state_of self.old) t }
     {
         let mut owed = self.owed.at(t);
@@ -44,11 +43,9 @@ impl<V: Volume> DeviceStore<V> {
     /// The frame of a track is given up. It isn't loose, or the volume is lent.
     pub(crate) fn give_up_frame(&mut self, t: TrackNo)
         requires { is_some self.old.pair.lent ≡ false → is_loose (state_of self.old) t ≡ false }
-        ensures fixed { (self.new.number ≡ self.old.number) × (self.new.cylinders ≡ self.old.cylinders) × (self.new.geometry ≡ self.old.geometry) }
+        ensures leaves { KeepsLooseTracks self.old self.new }
         ensures volume { self.new.pair ≡ self.old.pair }
-        ensures half { self.new.half ≡ self.old.half }
         ensures weight { weight self.new.loose ≡ weight self.old.loose }
-        ensures loose { self.new.loose ≡ self.old.loose }
         ensures state { state_of self.new ≡ without_frame (state_of self.old) t }
     {
         if self.frames.has(t) {
@@ -61,11 +58,9 @@ impl<V: Volume> DeviceStore<V> {
 
     /// The patch is given up with its slot.
     pub(crate) fn give_up_patch(&mut self, t: TrackNo)
-        ensures fixed { (self.new.number ≡ self.old.number) × (self.new.cylinders ≡ self.old.cylinders) × (self.new.geometry ≡ self.old.geometry) }
+        ensures leaves { KeepsLooseTracks self.old self.new }
         ensures volume { self.new.pair ≡ self.old.pair }
-        ensures half { self.new.half ≡ self.old.half }
         ensures weight { weight self.new.loose ≡ weight self.old.loose }
-        ensures loose { self.new.loose ≡ self.old.loose }
         ensures state { state_of self.new ≡ without_patch contents (state_of self.old) t }
     {
         match self.patches.slot_of(t) {
@@ -81,12 +76,10 @@ impl<V: Volume> DeviceStore<V> {
 
     /// The track is lost, and with it its patch.
     fn lose_track(&mut self, t: TrackNo)
-        requires { t < self.old.cylinders * 15 }
-        ensures fixed { (self.new.number ≡ self.old.number) × (self.new.cylinders ≡ self.old.cylinders) × (self.new.geometry ≡ self.old.geometry) }
+        requires { HasTrack self.old t }
+        ensures leaves { KeepsLooseTracks self.old self.new }
         ensures volume { self.new.pair ≡ self.old.pair }
-        ensures half { self.new.half ≡ self.old.half }
         ensures weight { weight self.new.loose ≡ weight self.old.loose }
-        ensures loose { self.new.loose ≡ self.old.loose }
         ensures state { state_of self.new ≡ lost_now contents (state_of self.old) t }
     {
         self.lost.add(t);
@@ -96,11 +89,9 @@ impl<V: Volume> DeviceStore<V> {
     /// Its frame, which is modified then, keeps the track.
     fn keep_by_frame(&mut self, t: TrackNo)
         requires { is_some (frame_at (state_of self.old) t) ≡ true }
-        ensures fixed { (self.new.number ≡ self.old.number) × (self.new.cylinders ≡ self.old.cylinders) × (self.new.geometry ≡ self.old.geometry) }
+        ensures leaves { KeepsLooseTracks self.old self.new }
         ensures volume { self.new.pair ≡ self.old.pair }
-        ensures half { self.new.half ≡ self.old.half }
         ensures weight { weight self.new.loose ≡ weight self.old.loose }
-        ensures loose { self.new.loose ≡ self.old.loose }
         ensures state { (f : Frame) → frame_at (state_of self.old) t ≡ Some f → state_of self.new ≡ kept_by_frame contents (state_of self.old) t f }
     {
         if !self.frames.modified(t) {
@@ -111,12 +102,10 @@ impl<V: Volume> DeviceStore<V> {
 
     /// A loose track becomes firm.
     pub(crate) fn harden(&mut self, t: TrackNo)
-        requires track { t < self.old.cylinders * 15 }
+        requires track { HasTrack self.old t }
         requires loose { is_loose (state_of self.old) t ≡ true }
-        ensures fixed { (self.new.number ≡ self.old.number) × (self.new.cylinders ≡ self.old.cylinders) × (self.new.geometry ≡ self.old.geometry) }
+        ensures leaves { KeepsHalfWrite self.old self.new }
         ensures volume { self.new.pair ≡ self.old.pair }
-        ensures half { self.new.half ≡ self.old.half }
-        ensures weight { weight self.new.loose ≡ weight self.old.loose }
         ensures firm { StaysFirm self.old.loose.loose self.new.loose.loose }
         ensures state { state_of self.new ≡ hardened (state_of self.old) t }
     {
@@ -142,13 +131,11 @@ impl<V: Volume> DeviceStore<V> {
 
     /// A track that isn't loose and is level on no side is kept by its frame or by an open half write, or is lost.
     fn keep_or_lose(&mut self, t: TrackNo)
-        requires track { t < self.old.cylinders * 15 }
+        requires track { HasTrack self.old t }
         requires firm { is_loose (state_of self.old) t ≡ false }
-        ensures fixed { (self.new.number ≡ self.old.number) × (self.new.cylinders ≡ self.old.cylinders) × (self.new.geometry ≡ self.old.geometry) }
+        ensures leaves { KeepsLooseTracks self.old self.new }
         ensures volume { self.new.pair ≡ self.old.pair }
-        ensures half { self.new.half ≡ self.old.half }
         ensures weight { weight self.new.loose ≡ weight self.old.loose }
-        ensures loose { self.new.loose ≡ self.old.loose }
         ensures state { state_of self.new ≡ by_frame contents (state_of self.old) t (frame_at (state_of self.old) t) }
     {
         if self.frames.has(t) {
@@ -163,13 +150,11 @@ impl<V: Volume> DeviceStore<V> {
 
     /// A track that isn't loose is kept by its frame where it is level on no side, or is lost.
     pub(crate) fn settle(&mut self, t: TrackNo)
-        requires track { t < self.old.cylinders * 15 }
+        requires track { HasTrack self.old t }
         requires firm { is_loose (state_of self.old) t ≡ false }
-        ensures fixed { (self.new.number ≡ self.old.number) × (self.new.cylinders ≡ self.old.cylinders) × (self.new.geometry ≡ self.old.geometry) }
+        ensures leaves { KeepsLooseTracks self.old self.new }
         ensures volume { self.new.pair ≡ self.old.pair }
-        ensures half { self.new.half ≡ self.old.half }
         ensures weight { weight self.new.loose ≡ weight self.old.loose }
-        ensures loose { self.new.loose ≡ self.old.loose }
         ensures state { state_of self.new ≡ settled contents (state_of self.old) t }
     {
         if self.stands(t) {
@@ -180,11 +165,8 @@ impl<V: Volume> DeviceStore<V> {
 
     /// Marks a track of a side as stale, or as level.
     pub(crate) fn mark(&mut self, side: Side, t: TrackNo, stale: bool)
-        requires track { t < self.old.cylinders * 15 }
-        ensures fixed { (self.new.number ≡ self.old.number) × (self.new.cylinders ≡ self.old.cylinders) × (self.new.geometry ≡ self.old.geometry) }
-        ensures volume { self.new.pair.volumes ≡ self.old.pair.volumes }
-        ensures half { self.new.half ≡ self.old.half }
-        ensures loose { self.new.loose ≡ self.old.loose }
+        requires track { HasTrack self.old t }
+        ensures leaves { ChangesMarksAlone self.old self.new }
         ensures state { state_of self.new ≡ with_stale (state_of self.old) side t stale }
     {
         match side {
@@ -195,11 +177,8 @@ impl<V: Volume> DeviceStore<V> {
 
     /// No side holds a track.
     pub(crate) fn stale_everywhere(&mut self, t: TrackNo)
-        requires track { t < self.old.cylinders * 15 }
-        ensures fixed { (self.new.number ≡ self.old.number) × (self.new.cylinders ≡ self.old.cylinders) × (self.new.geometry ≡ self.old.geometry) }
-        ensures volume { self.new.pair.volumes ≡ self.old.pair.volumes }
-        ensures half { self.new.half ≡ self.old.half }
-        ensures loose { self.new.loose ≡ self.old.loose }
+        requires track { HasTrack self.old t }
+        ensures leaves { ChangesMarksAlone self.old self.new }
         ensures frames { self.new.frames ≡ self.old.frames }
         ensures state { state_of self.new ≡ stale_everywhere (state_of self.old) t }
     {
@@ -211,11 +190,8 @@ impl<V: Volume> DeviceStore<V> {
 
     /// Marks a track of side A as stale, or as level.
     pub(crate) fn mark_a(&mut self, t: TrackNo, stale: bool)
-        requires track { t < self.old.cylinders * 15 }
-        ensures fixed { (self.new.number ≡ self.old.number) × (self.new.cylinders ≡ self.old.cylinders) × (self.new.geometry ≡ self.old.geometry) }
-        ensures volume { self.new.pair.volumes ≡ self.old.pair.volumes }
-        ensures half { self.new.half ≡ self.old.half }
-        ensures loose { self.new.loose ≡ self.old.loose }
+        requires track { HasTrack self.old t }
+        ensures leaves { ChangesMarksAlone self.old self.new }
         ensures frames { self.new.frames ≡ self.old.frames }
         ensures takes { takes_b (state_of self.new) ≡ takes_b (state_of self.old) }
         ensures state { state_of self.new ≡ with_stale (state_of self.old) A t stale }
@@ -225,11 +201,8 @@ impl<V: Volume> DeviceStore<V> {
 
     /// The same of side B.
     pub(crate) fn mark_b(&mut self, t: TrackNo, stale: bool)
-        requires track { t < self.old.cylinders * 15 }
-        ensures fixed { (self.new.number ≡ self.old.number) × (self.new.cylinders ≡ self.old.cylinders) × (self.new.geometry ≡ self.old.geometry) }
-        ensures volume { self.new.pair.volumes ≡ self.old.pair.volumes }
-        ensures half { self.new.half ≡ self.old.half }
-        ensures loose { self.new.loose ≡ self.old.loose }
+        requires track { HasTrack self.old t }
+        ensures leaves { ChangesMarksAlone self.old self.new }
         ensures frames { self.new.frames ≡ self.old.frames }
         ensures takes { takes_b (state_of self.new) ≡ takes_b (state_of self.old) }
         ensures state { state_of self.new ≡ with_stale (state_of self.old) B t stale }
@@ -239,13 +212,10 @@ impl<V: Volume> DeviceStore<V> {
 
     /// No side took a track. On a volume that is alone it is stale then.
     pub(crate) fn refuse(&mut self, t: TrackNo)
-        requires track { t < self.old.cylinders * 15 }
+        requires track { HasTrack self.old t }
         requires firm { is_loose (state_of self.old) t ≡ false }
-        ensures fixed { (self.new.number ≡ self.old.number) × (self.new.cylinders ≡ self.old.cylinders) × (self.new.geometry ≡ self.old.geometry) }
-        ensures volume { self.new.pair.volumes ≡ self.old.pair.volumes }
-        ensures half { self.new.half ≡ self.old.half }
+        ensures leaves { ChangesMarksAlone self.old self.new }
         ensures weight { weight self.new.loose ≡ weight self.old.loose }
-        ensures loose { self.new.loose ≡ self.old.loose }
         ensures state { state_of self.new ≡ unwritten contents (state_of self.old) t }
     {
         if self.pair.is_paired() {
@@ -259,14 +229,12 @@ impl<V: Volume> DeviceStore<V> {
 
     /// The same of any track. The keeper is told of a loose one that becomes firm, which its frame alone keeps.
     pub(crate) fn settle_told<K: Keep<TrackImage>>(&mut self, t: TrackNo, keep: &mut K)
-        requires track { t < self.old.cylinders * 15 }
-        requires takes { Takes K.takes keep.old self.old.number self.old.geometry (self.old.cylinders * 15) }
-        ensures fixed { (self.new.number ≡ self.old.number) × (self.new.cylinders ≡ self.old.cylinders) × (self.new.geometry ≡ self.old.geometry) }
+        requires track { HasTrack self.old t }
+        requires takes { TakesTracks K.takes keep.old self.old }
+        ensures leaves { KeepsHalfWrite self.old self.new }
         ensures volume { self.new.pair ≡ self.old.pair }
-        ensures half { self.new.half ≡ self.old.half }
         ensures firm { StaysFirm self.old.loose.loose self.new.loose.loose }
-        ensures weight { weight self.new.loose ≡ weight self.old.loose }
-        ensures takes { Takes K.takes keep.new self.new.number self.new.geometry (self.new.cylinders * 15) }
+        ensures takes { TakesTracks K.takes keep.new self.new }
         ensures run { (p : PortView) → Ran surely (Heard K.hears K.takes) (firm_told contents t (settled contents (state_of self.old) t))
             (outside p self.old keep.old) (state_of self.new) tt (outside p self.new keep.new) }
     {
@@ -280,15 +248,13 @@ impl<V: Volume> DeviceStore<V> {
 
     /// The same of a loose track.
     fn settle_loose<K: Keep<TrackImage>>(&mut self, t: TrackNo, keep: &mut K)
-        requires track { t < self.old.cylinders * 15 }
+        requires track { HasTrack self.old t }
         requires loose { is_loose (state_of self.old) t ≡ true }
-        requires takes { Takes K.takes keep.old self.old.number self.old.geometry (self.old.cylinders * 15) }
-        ensures fixed { (self.new.number ≡ self.old.number) × (self.new.cylinders ≡ self.old.cylinders) × (self.new.geometry ≡ self.old.geometry) }
+        requires takes { TakesTracks K.takes keep.old self.old }
+        ensures leaves { KeepsHalfWrite self.old self.new }
         ensures volume { self.new.pair ≡ self.old.pair }
-        ensures half { self.new.half ≡ self.old.half }
         ensures firm { StaysFirm self.old.loose.loose self.new.loose.loose }
-        ensures weight { weight self.new.loose ≡ weight self.old.loose }
-        ensures takes { Takes K.takes keep.new self.new.number self.new.geometry (self.new.cylinders * 15) }
+        ensures takes { TakesTracks K.takes keep.new self.new }
         ensures run { (p : PortView) → Ran surely (Heard K.hears K.takes) (firm_told contents t (settled contents (state_of self.old) t))
             (outside p self.old keep.old) (state_of self.new) tt (outside p self.new keep.new) }
     {
@@ -301,16 +267,14 @@ impl<V: Volume> DeviceStore<V> {
 
     /// A loose track becomes firm, and the keeper is told its frame's image.
     fn harden_told<K: Keep<TrackImage>>(&mut self, t: TrackNo, keep: &mut K)
-        requires track { t < self.old.cylinders * 15 }
+        requires track { HasTrack self.old t }
         requires here { is_some self.old.pair.lent ≡ false }
         requires loose { is_loose (state_of self.old) t ≡ true }
-        requires takes { Takes K.takes keep.old self.old.number self.old.geometry (self.old.cylinders * 15) }
-        ensures fixed { (self.new.number ≡ self.old.number) × (self.new.cylinders ≡ self.old.cylinders) × (self.new.geometry ≡ self.old.geometry) }
+        requires takes { TakesTracks K.takes keep.old self.old }
+        ensures leaves { KeepsHalfWrite self.old self.new }
         ensures volume { self.new.pair ≡ self.old.pair }
-        ensures half { self.new.half ≡ self.old.half }
         ensures firm { StaysFirm self.old.loose.loose self.new.loose.loose }
-        ensures weight { weight self.new.loose ≡ weight self.old.loose }
-        ensures takes { Takes K.takes keep.new self.new.number self.new.geometry (self.new.cylinders * 15) }
+        ensures takes { TakesTracks K.takes keep.new self.new }
         ensures run { (p : PortView) → Ran surely (Heard K.hears K.takes)
             (firm_told contents t (by_frame contents (state_of self.old) t (frame_at (state_of self.old) t))) (outside p self.old keep.old)
             (state_of self.new) tt (outside p self.new keep.new) }

@@ -1,4 +1,4 @@
-ghost use Rattle.std.specs.Prelude.{◌≡◌, ◌<◌, ◌≤◌, ◌*◌, ℕ, None, Some, false, is_some, replicate, true};
+ghost use Rattle.std.specs.Prelude.{◌≡◌, ◌≤◌, ◌*◌, None, Some, false, is_some, replicate, true};
 ghost use Rattle.track_table.specs.Tracks.{count_below};
 ghost use Rattle.device_defs.specs.Contents.{contents};
 ghost use Rattle.device_defs.specs.Losses.{over};
@@ -6,7 +6,8 @@ ghost use Rattle.device_defs.specs.Orders.{given_up, lent_to};
 ghost use Rattle.device_defs.specs.Store.{new_side, no_side, side_of, stale_at, with_side};
 ghost use Rattle.duplex_pair.specs.Sides.{other_of, volume_of};
 ghost use Rattle.event_notes.specs.Loose.{weight};
-ghost use Rattle.device_store.specs.State.{on_a, on_b, state_of};
+ghost use Rattle.device_store.specs.Leaves.{ChangesMarksAlone, IsSameDevice, KeepsLooseTracks};
+ghost use Rattle.device_store.specs.State.{on_a, on_b, state_of, HasTrack};
 
 use crate::DeviceStore;
 use crate::marks::track;
@@ -19,9 +20,7 @@ impl<V: Volume> DeviceStore<V> {
         requires here { self.old.pair.lent ≡ None }
         requires there { is_some (volume_of self.old.pair.volumes side) ≡ true }
         requires size { (V.view volume).tracks ≡ self.old.cylinders * 15 }
-        ensures fixed { (self.new.number ≡ self.old.number) × (self.new.cylinders ≡ self.old.cylinders) × (self.new.geometry ≡ self.old.geometry) }
-        ensures half { self.new.half ≡ self.old.half }
-        ensures loose { self.new.loose ≡ self.old.loose }
+        ensures leaves { KeepsLooseTracks self.old self.new }
         ensures volume { volume_of self.new.pair.volumes side ≡ Some volume }
         ensures back { result ≡ volume_of self.old.pair.volumes side }
         ensures other { other_of self.new.pair.volumes side ≡ other_of self.old.pair.volumes side }
@@ -34,9 +33,7 @@ impl<V: Volume> DeviceStore<V> {
     pub fn join(&mut self, volume: V)
         requires here { self.old.pair.lent ≡ None }
         requires size { (V.view volume).tracks ≡ self.old.cylinders * 15 }
-        ensures fixed { (self.new.number ≡ self.old.number) × (self.new.cylinders ≡ self.old.cylinders) × (self.new.geometry ≡ self.old.geometry) }
-        ensures half { self.new.half ≡ self.old.half }
-        ensures loose { self.new.loose ≡ self.old.loose }
+        ensures leaves { KeepsLooseTracks self.old self.new }
         ensures a { on_a self.new ≡ on_a self.old }
         ensures b { on_b self.new ≡ Some volume }
         ensures state { state_of self.new ≡ record (state_of self.old) { paired = true; b = new_side (self.old.cylinders * 15) true } }
@@ -46,9 +43,7 @@ impl<V: Volume> DeviceStore<V> {
 
     /// Side B leaves, and a held mark ends. It answers its volume.
     pub fn split(&mut self) -> Option<V>
-        ensures fixed { (self.new.number ≡ self.old.number) × (self.new.cylinders ≡ self.old.cylinders) × (self.new.geometry ≡ self.old.geometry) }
-        ensures half { self.new.half ≡ self.old.half }
-        ensures loose { self.new.loose ≡ self.old.loose }
+        ensures leaves { KeepsLooseTracks self.old self.new }
         ensures a { on_a self.new ≡ on_a self.old }
         ensures b { on_b self.new ≡ None }
         ensures back { result ≡ on_b self.old }
@@ -59,10 +54,7 @@ impl<V: Volume> DeviceStore<V> {
 
     /// Side B takes nothing from here on.
     pub fn hold(&mut self)
-        ensures fixed { (self.new.number ≡ self.old.number) × (self.new.cylinders ≡ self.old.cylinders) × (self.new.geometry ≡ self.old.geometry) }
-        ensures half { self.new.half ≡ self.old.half }
-        ensures loose { self.new.loose ≡ self.old.loose }
-        ensures volume { self.new.pair.volumes ≡ self.old.pair.volumes }
+        ensures leaves { ChangesMarksAlone self.old self.new }
         ensures state { state_of self.new ≡ record (state_of self.old) { held = true } }
     {
         self.pair.hold();
@@ -70,10 +62,7 @@ impl<V: Volume> DeviceStore<V> {
 
     /// Side B takes what is written from here on, and what is stale there is copied.
     pub fn resume(&mut self)
-        ensures fixed { (self.new.number ≡ self.old.number) × (self.new.cylinders ≡ self.old.cylinders) × (self.new.geometry ≡ self.old.geometry) }
-        ensures half { self.new.half ≡ self.old.half }
-        ensures loose { self.new.loose ≡ self.old.loose }
-        ensures volume { self.new.pair.volumes ≡ self.old.pair.volumes }
+        ensures leaves { ChangesMarksAlone self.old self.new }
         ensures state { state_of self.new ≡ record (state_of self.old) { held = false } }
     {
         self.pair.resume();
@@ -82,7 +71,7 @@ impl<V: Volume> DeviceStore<V> {
     /// An empty volume takes the place of one that was lent, and no track is loose.
     pub fn restore(&mut self, volume: V)
         requires size { (V.view volume).tracks ≡ self.old.cylinders * 15 }
-        ensures fixed { (self.new.number ≡ self.old.number) × (self.new.cylinders ≡ self.old.cylinders) × (self.new.geometry ≡ self.old.geometry) }
+        ensures leaves { IsSameDevice self.old self.new }
         ensures half { self.new.half ≡ self.old.half }
         ensures weight { weight self.new.loose ≤ weight self.old.loose }
         ensures a { on_a self.new ≡ Some volume }
@@ -96,12 +85,10 @@ impl<V: Volume> DeviceStore<V> {
 
     /// The frame and the patch of a track are given up. The volume is lent.
     fn give_up(&mut self, t: TrackNo)
-        requires track { t < self.old.cylinders * 15 }
+        requires track { HasTrack self.old t }
         requires away { is_some self.old.pair.lent ≡ true }
-        ensures fixed { (self.new.number ≡ self.old.number) × (self.new.cylinders ≡ self.old.cylinders) × (self.new.geometry ≡ self.old.geometry) }
+        ensures leaves { KeepsLooseTracks self.old self.new }
         ensures volume { self.new.pair ≡ self.old.pair }
-        ensures half { self.new.half ≡ self.old.half }
-        ensures loose { self.new.loose ≡ self.old.loose }
         ensures state { state_of self.new ≡ given_up contents t (state_of self.old) }
     {
         self.give_up_frame(t);
@@ -111,10 +98,8 @@ impl<V: Volume> DeviceStore<V> {
     /// The same of all tracks.
     fn give_up_all(&mut self)
         requires { is_some self.old.pair.lent ≡ true }
-        ensures fixed { (self.new.number ≡ self.old.number) × (self.new.cylinders ≡ self.old.cylinders) × (self.new.geometry ≡ self.old.geometry) }
+        ensures leaves { KeepsLooseTracks self.old self.new }
         ensures volume { self.new.pair ≡ self.old.pair }
-        ensures half { self.new.half ≡ self.old.half }
-        ensures loose { self.new.loose ≡ self.old.loose }
         ensures state { state_of self.new ≡ over (self.old.cylinders * 15) (given_up contents) (state_of self.old) }
     {
         let tracks = u16::from(self.cylinders) * HEADS;
@@ -127,9 +112,7 @@ impl<V: Volume> DeviceStore<V> {
     /// Its loose tracks stay that. It answers the volume.
     pub fn lend(&mut self, to: DeviceNo) -> Option<V>
         requires { self.old.pair.b.up ≡ false }
-        ensures fixed { (self.new.number ≡ self.old.number) × (self.new.cylinders ≡ self.old.cylinders) × (self.new.geometry ≡ self.old.geometry) }
-        ensures half { self.new.half ≡ self.old.half }
-        ensures loose { self.new.loose ≡ self.old.loose }
+        ensures leaves { KeepsLooseTracks self.old self.new }
         ensures a { on_a self.new ≡ None }
         ensures b { on_b self.new ≡ on_b self.old }
         ensures back { result ≡ on_a self.old }

@@ -1,11 +1,11 @@
-ghost use Rattle.std.specs.Prelude.{◌≡◌, ◌<◌, ◌*◌, Some, false, is_some, true};
+ghost use Rattle.std.specs.Prelude.{◌≡◌, Some, false, is_some, true};
 ghost use Rattle.device_outside.specs.Keeper.{Heard};
 ghost use Rattle.device_outside.specs.Outside.{Ran, where_ok};
-ghost use Rattle.device_defs.specs.Background.{granted, stage, staged_bytes};
+ghost use Rattle.device_defs.specs.Background.{staging_granted, stage, staged_bytes};
 ghost use Rattle.device_defs.specs.Contents.{contents};
 ghost use Rattle.device_defs.specs.Store.{is_loose};
-ghost use Rattle.event_notes.specs.Loose.{weight};
-ghost use Rattle.device_store.specs.State.{state_of, outside, Takes, had, got_by};
+ghost use Rattle.device_store.specs.Leaves.{KeepsHalfWrite, KeepsLooseTracks};
+ghost use Rattle.device_store.specs.State.{state_of, outside, had, got_by, HasTrack, TakesTracks};
 
 use crate::DeviceStore;
 use crate::background::did;
@@ -23,11 +23,9 @@ impl<V: Volume> DeviceStore<V> {
         given: Given,
         port: &mut P,
     ) -> Result<Did, NoMemory>
-        requires track { t < self.old.cylinders * 15 }
+        requires track { HasTrack self.old t }
         requires firm { is_loose (state_of self.old) t ≡ false }
-        ensures fixed { (self.new.number ≡ self.old.number) × (self.new.cylinders ≡ self.old.cylinders) × (self.new.geometry ≡ self.old.geometry) }
-        ensures half { self.new.half ≡ self.old.half }
-        ensures loose { self.new.loose ≡ self.old.loose }
+        ensures leaves { KeepsLooseTracks self.old self.new }
         ensures run { (k : K) → Ran (where_ok result) (Heard K.hears K.takes)
             (staged_bytes contents t (state_of self.old) (got_by self.old.buffer given) (Some self.old.buffer)) (outside (P.view port.old) self.old k)
             (state_of self.new) (had (λ did. did) result) (outside (P.view port.new) self.new k) }
@@ -55,14 +53,12 @@ impl<V: Volume> DeviceStore<V> {
         port: &mut P,
         keep: &mut K,
     ) -> Result<Did, NoMemory>
-        requires track { t < self.old.cylinders * 15 }
-        requires takes { Takes K.takes keep.old self.old.number self.old.geometry (self.old.cylinders * 15) }
+        requires track { HasTrack self.old t }
+        requires takes { TakesTracks K.takes keep.old self.old }
         requires firm { is_some self.old.pair.lent ≡ false → is_loose (state_of self.old) t ≡ false }
-        ensures fixed { (self.new.number ≡ self.old.number) × (self.new.cylinders ≡ self.old.cylinders) × (self.new.geometry ≡ self.old.geometry) }
-        ensures half { self.new.half ≡ self.old.half }
-        ensures weight { weight self.new.loose ≡ weight self.old.loose }
-        ensures takes { Takes K.takes keep.new self.new.number self.new.geometry (self.new.cylinders * 15) }
-        ensures run { Ran (where_ok result) (Heard K.hears K.takes) (granted contents (state_of self.old) t true) (outside (P.view port.old) self.old keep.old)
+        ensures leaves { KeepsHalfWrite self.old self.new }
+        ensures takes { TakesTracks K.takes keep.new self.new }
+        ensures run { Ran (where_ok result) (Heard K.hears K.takes) (staging_granted contents (state_of self.old) t true) (outside (P.view port.old) self.old keep.old)
             (state_of self.new) (had (λ did. did) result) (outside (P.view port.new) self.new keep.new) }
     {
         let got = self.level_bytes(t, keep);
@@ -80,12 +76,10 @@ impl<V: Volume> DeviceStore<V> {
         port: &mut P,
         keep: &mut K,
     ) -> Result<Did, NoMemory>
-        requires track { t < self.old.cylinders * 15 }
-        requires takes { Takes K.takes keep.old self.old.number self.old.geometry (self.old.cylinders * 15) }
-        ensures fixed { (self.new.number ≡ self.old.number) × (self.new.cylinders ≡ self.old.cylinders) × (self.new.geometry ≡ self.old.geometry) }
-        ensures half { self.new.half ≡ self.old.half }
-        ensures weight { weight self.new.loose ≡ weight self.old.loose }
-        ensures takes { Takes K.takes keep.new self.new.number self.new.geometry (self.new.cylinders * 15) }
+        requires track { HasTrack self.old t }
+        requires takes { TakesTracks K.takes keep.old self.old }
+        ensures leaves { KeepsHalfWrite self.old self.new }
+        ensures takes { TakesTracks K.takes keep.new self.new }
         ensures run { Ran (where_ok result) (Heard K.hears K.takes) (stage contents (state_of self.old) t) (outside (P.view port.old) self.old keep.old)
             (state_of self.new) (had (λ did. did) result) (outside (P.view port.new) self.new keep.new) }
     {

@@ -1,4 +1,4 @@
-ghost use Rattle.std.specs.Prelude.{◌≡◌, ◌<◌, ◌*◌, Bool, List, None, ℕ, Some, false, if◌then◌else◌, is_some, length, not, true};
+ghost use Rattle.std.specs.Prelude.{◌≡◌, ◌<◌, ◌*◌, List, None, ℕ, Some, false, if◌then◌else◌, is_some, length, not, true};
 ghost use Rattle.ckd_types.specs.declared.paths.Side.TheVariants.{B};
 ghost use Rattle.ckd_types.specs.declared.record.Edit.{Edit};
 ghost use Rattle.ckd_types.specs.Track.{track_bytes};
@@ -12,7 +12,7 @@ ghost use Rattle.device_defs.specs.Writing.{
   failed_a,
   first_a,
   firm_first,
-  opened,
+  write_opened,
   taken_a,
   tried_b,
   unpatched,
@@ -26,11 +26,11 @@ ghost use Rattle.device_outside.specs.Outside.{PortView, Ran};
 ghost use Rattle.device_outside.specs.Volume.{WriteOf, counted, counted_if};
 ghost use Rattle.duplex_pair.specs.Sides.{HasSides, other_of, state_in, volume_of};
 ghost use Rattle.duplex_pair.specs.Volumes.{IsThere, view_in};
-ghost use Rattle.event_notes.specs.Loose.{weight};
 ghost use Rattle.track_cache.specs.Frames.{has_frame, image_at};
+ghost use Rattle.device_store.specs.Leaves.{ChangesMarksAlone, IsSameDevice, KeepsHalfWrite, KeepsLooseTracks, KeepsWeight, MovesNothing};
 ghost use Rattle.device_store.specs.Images.{IsImageOf};
 ghost use Rattle.device_store.specs.Looks.{frame_in};
-ghost use Rattle.device_store.specs.State.{is_opened, origin_of, state_of, outside, surely, StaysFirm, Takes, wrote_by};
+ghost use Rattle.device_store.specs.State.{is_opened, origin_of, state_of, outside, surely, StaysFirm, wrote_by, HasTrack, TakesTracks};
 
 use crate::marks::count_write;
 use crate::{DeviceStore, HalfWrite, Origin};
@@ -92,14 +92,12 @@ fn image_in(frames: &Frames, t: TrackNo) -> &TrackImage
 impl<V: Volume> DeviceStore<V> {
     /// Before the first write of a loose track it becomes firm, and no side holds it.
     pub(crate) fn firm_first<K: Keep<TrackImage>>(&mut self, t: TrackNo, keep: &mut K) -> bool
-        requires track { t < self.old.cylinders * 15 }
+        requires track { HasTrack self.old t }
         requires kept { is_loose (state_of self.old) t ≡ true → is_some (frame_at (state_of self.old) t) ≡ true }
-        requires takes { Takes K.takes keep.old self.old.number self.old.geometry (self.old.cylinders * 15) }
-        ensures fixed { (self.new.number ≡ self.old.number) × (self.new.cylinders ≡ self.old.cylinders) × (self.new.geometry ≡ self.old.geometry) }
+        requires takes { TakesTracks K.takes keep.old self.old }
+        ensures leaves { KeepsHalfWrite self.old self.new }
         ensures volume { self.new.pair.volumes ≡ self.old.pair.volumes }
-        ensures half { self.new.half ≡ self.old.half }
-        ensures weight { weight self.new.loose ≡ weight self.old.loose }
-        ensures takes { Takes K.takes keep.new self.new.number self.new.geometry (self.new.cylinders * 15) }
+        ensures takes { TakesTracks K.takes keep.new self.new }
         ensures frames { self.new.frames ≡ self.old.frames }
         ensures firm { is_loose (state_of self.new) t ≡ false }
         ensures run { (p : PortView) → Ran surely (Heard K.hears K.takes) (firm_first contents (state_of self.old) t) (outside p self.old keep.old)
@@ -118,13 +116,11 @@ impl<V: Volume> DeviceStore<V> {
 
     /// No side takes writes.
     fn unheld<K: Keep<TrackImage>>(&mut self, t: TrackNo) -> Written
-        requires track { t < self.old.cylinders * 15 }
+        requires track { HasTrack self.old t }
         requires firm { is_loose (state_of self.old) t ≡ false }
         requires down { self.old.pair.a.up ≡ false }
         requires none { takes_b (state_of self.old) ≡ false }
-        ensures fixed { (self.new.number ≡ self.old.number) × (self.new.cylinders ≡ self.old.cylinders) × (self.new.geometry ≡ self.old.geometry) }
-        ensures half { self.new.half ≡ self.old.half }
-        ensures loose { self.new.loose ≡ self.old.loose }
+        ensures leaves { KeepsLooseTracks self.old self.new }
         ensures refused { result.took ≡ Unwritten }
         ensures run { (p : PortView) (k : K) (bytes : List ℕ)
             → Ran surely (Heard K.hears K.takes) (write_first contents (state_of self.old) t bytes) (outside p self.old k) (state_of self.new) (wrote_by result)
@@ -139,11 +135,8 @@ impl<V: Volume> DeviceStore<V> {
 
     /// Side A took a track, which is stale on a side B that is up.
     fn taken_a(&mut self, t: TrackNo)
-        requires { t < self.old.cylinders * 15 }
-        ensures fixed { (self.new.number ≡ self.old.number) × (self.new.cylinders ≡ self.old.cylinders) × (self.new.geometry ≡ self.old.geometry) }
-        ensures volume { self.new.pair.volumes ≡ self.old.pair.volumes }
-        ensures half { self.new.half ≡ self.old.half }
-        ensures loose { self.new.loose ≡ self.old.loose }
+        requires { HasTrack self.old t }
+        ensures leaves { ChangesMarksAlone self.old self.new }
         ensures frames { self.new.frames ≡ self.old.frames }
         ensures takes { takes_b (state_of self.new) ≡ takes_b (state_of self.old) }
         ensures state { state_of self.new ≡ taken_a (state_of self.old) t }
@@ -163,15 +156,13 @@ impl<V: Volume> DeviceStore<V> {
         first: Side,
         keep: &mut K,
     ) -> Written
-        requires track { t < self.old.cylinders * 15 }
+        requires track { HasTrack self.old t }
         requires firm { is_loose (state_of self.old) t ≡ false }
-        requires takes { Takes K.takes keep.old self.old.number self.old.geometry (self.old.cylinders * 15) }
+        requires takes { TakesTracks K.takes keep.old self.old }
         requires up { self.old.pair.b.up ≡ true }
-        ensures fixed { (self.new.number ≡ self.old.number) × (self.new.cylinders ≡ self.old.cylinders) × (self.new.geometry ≡ self.old.geometry) }
-        ensures half { self.new.half ≡ self.old.half }
-        ensures weight { weight self.new.loose ≡ weight self.old.loose }
+        ensures leaves { KeepsHalfWrite self.old self.new }
         ensures firm { StaysFirm self.old.loose.loose self.new.loose.loose }
-        ensures takes { Takes K.takes keep.new self.new.number self.new.geometry (self.new.cylinders * 15) }
+        ensures takes { TakesTracks K.takes keep.new self.new }
         ensures run { (p : PortView) → Ran surely (Heard K.hears K.takes)
             (write_side contents (state_of self.old) B t (track_bytes image.now.track) (alone_b contents t fault first)) (outside p self.old keep.old)
             (state_of self.new) (wrote_by result) (outside p self.new keep.new) }
@@ -197,15 +188,13 @@ impl<V: Volume> DeviceStore<V> {
         takes: bool,
         keep: &mut K,
     ) -> Written
-        requires track { t < self.old.cylinders * 15 }
+        requires track { HasTrack self.old t }
         requires firm { is_loose (state_of self.old) t ≡ false }
-        requires takes { Takes K.takes keep.old self.old.number self.old.geometry (self.old.cylinders * 15) }
+        requires takes { TakesTracks K.takes keep.old self.old }
         requires up { takes ≡ true → self.old.pair.b.up ≡ true }
-        ensures fixed { (self.new.number ≡ self.old.number) × (self.new.cylinders ≡ self.old.cylinders) × (self.new.geometry ≡ self.old.geometry) }
-        ensures half { self.new.half ≡ self.old.half }
-        ensures weight { weight self.new.loose ≡ weight self.old.loose }
+        ensures leaves { KeepsHalfWrite self.old self.new }
         ensures firm { StaysFirm self.old.loose.loose self.new.loose.loose }
-        ensures takes { Takes K.takes keep.new self.new.number self.new.geometry (self.new.cylinders * 15) }
+        ensures takes { TakesTracks K.takes keep.new self.new }
         ensures run { (p : PortView) → Ran surely (Heard K.hears K.takes) (failed_a contents t (track_bytes image.now.track) takes (state_of self.old))
             (outside p self.old keep.old) (state_of self.new) (wrote_by result) (outside p self.new keep.new) }
     {
@@ -226,15 +215,13 @@ impl<V: Volume> DeviceStore<V> {
         image: &TrackImage,
         keep: &mut K,
     ) -> Written
-        requires track { t < self.old.cylinders * 15 }
+        requires track { HasTrack self.old t }
         requires firm { is_loose (state_of self.old) t ≡ false }
-        requires takes { Takes K.takes keep.old self.old.number self.old.geometry (self.old.cylinders * 15) }
+        requires takes { TakesTracks K.takes keep.old self.old }
         requires up { self.old.pair.a.up ≡ true }
-        ensures fixed { (self.new.number ≡ self.old.number) × (self.new.cylinders ≡ self.old.cylinders) × (self.new.geometry ≡ self.old.geometry) }
-        ensures half { self.new.half ≡ self.old.half }
-        ensures weight { weight self.new.loose ≡ weight self.old.loose }
+        ensures leaves { KeepsHalfWrite self.old self.new }
         ensures firm { StaysFirm self.old.loose.loose self.new.loose.loose }
-        ensures takes { Takes K.takes keep.new self.new.number self.new.geometry (self.new.cylinders * 15) }
+        ensures takes { TakesTracks K.takes keep.new self.new }
         ensures run { (p : PortView) → Ran surely (Heard K.hears K.takes) (write_first contents (state_of self.old) t (track_bytes image.now.track))
             (outside p self.old keep.old) (state_of self.new) (wrote_by result) (outside p self.new keep.new) }
     {
@@ -257,14 +244,12 @@ impl<V: Volume> DeviceStore<V> {
         image: &TrackImage,
         keep: &mut K,
     ) -> Written
-        requires track { t < self.old.cylinders * 15 }
+        requires track { HasTrack self.old t }
         requires firm { is_loose (state_of self.old) t ≡ false }
-        requires takes { Takes K.takes keep.old self.old.number self.old.geometry (self.old.cylinders * 15) }
-        ensures fixed { (self.new.number ≡ self.old.number) × (self.new.cylinders ≡ self.old.cylinders) × (self.new.geometry ≡ self.old.geometry) }
-        ensures half { self.new.half ≡ self.old.half }
-        ensures weight { weight self.new.loose ≡ weight self.old.loose }
+        requires takes { TakesTracks K.takes keep.old self.old }
+        ensures leaves { KeepsHalfWrite self.old self.new }
         ensures firm { StaysFirm self.old.loose.loose self.new.loose.loose }
-        ensures takes { Takes K.takes keep.new self.new.number self.new.geometry (self.new.cylinders * 15) }
+        ensures takes { TakesTracks K.takes keep.new self.new }
         ensures run { (p : PortView) → Ran surely (Heard K.hears K.takes) (write_first contents (state_of self.old) t (track_bytes image.now.track))
             (outside p self.old keep.old) (state_of self.new) (wrote_by result) (outside p self.new keep.new) }
     {
@@ -279,13 +264,10 @@ impl<V: Volume> DeviceStore<V> {
 
     /// Behind a write of a volume that is alone, by whether it took the track.
     fn taken_alone<K: Keep<TrackImage>>(&mut self, t: TrackNo, done: bool) -> Written
-        requires track { t < self.old.cylinders * 15 }
+        requires track { HasTrack self.old t }
         requires firm { is_loose (state_of self.old) t ≡ false }
         requires single { (state_of self.old).paired ≡ false }
-        ensures fixed { (self.new.number ≡ self.old.number) × (self.new.cylinders ≡ self.old.cylinders) × (self.new.geometry ≡ self.old.geometry) }
-        ensures volume { self.new.pair.volumes ≡ self.old.pair.volumes }
-        ensures half { self.new.half ≡ self.old.half }
-        ensures loose { self.new.loose ≡ self.old.loose }
+        ensures leaves { ChangesMarksAlone self.old self.new }
         ensures kept { result.took ≡ Whole → self.new.frames ≡ self.old.frames }
         ensures whole { (result.took ≡ Opened) → ⊥ }
         ensures run { (p : PortView) (k : K) (bytes : List ℕ)
@@ -308,13 +290,11 @@ impl<V: Volume> DeviceStore<V> {
 
     /// A volume that is alone is given the image in a track's frame.
     pub(crate) fn write_frame<K: Keep<TrackImage>>(&mut self, t: TrackNo) -> Written
-        requires track { t < self.old.cylinders * 15 }
+        requires track { HasTrack self.old t }
         requires firm { is_loose (state_of self.old) t ≡ false }
         requires framed { is_some (frame_at (state_of self.old) t) ≡ true }
         requires single { (state_of self.old).paired ≡ false }
-        ensures fixed { (self.new.number ≡ self.old.number) × (self.new.cylinders ≡ self.old.cylinders) × (self.new.geometry ≡ self.old.geometry) }
-        ensures half { self.new.half ≡ self.old.half }
-        ensures loose { self.new.loose ≡ self.old.loose }
+        ensures leaves { KeepsLooseTracks self.old self.new }
         ensures kept { result.took ≡ Whole → self.new.frames ≡ self.old.frames }
         ensures whole { (result.took ≡ Opened) → ⊥ }
         ensures run { (p : PortView) (k : K) → Ran surely (Heard K.hears K.takes)
@@ -331,14 +311,11 @@ impl<V: Volume> DeviceStore<V> {
 
     /// Behind a write of side B in a second part.
     pub(crate) fn tried_b<K: Keep<TrackImage>>(&mut self, t: TrackNo, took: bool, keep: &mut K)
-        requires track { t < self.old.cylinders * 15 }
-        requires takes { Takes K.takes keep.old self.old.number self.old.geometry (self.old.cylinders * 15) }
-        ensures volume { self.new.pair.volumes ≡ self.old.pair.volumes }
-        ensures fixed { (self.new.number ≡ self.old.number) × (self.new.cylinders ≡ self.old.cylinders) × (self.new.geometry ≡ self.old.geometry) }
-        ensures half { self.new.half ≡ self.old.half }
-        ensures weight { weight self.new.loose ≡ weight self.old.loose }
+        requires track { HasTrack self.old t }
+        requires takes { TakesTracks K.takes keep.old self.old }
+        ensures leaves { MovesNothing self.old self.new }
         ensures firm { StaysFirm self.old.loose.loose self.new.loose.loose }
-        ensures takes { Takes K.takes keep.new self.new.number self.new.geometry (self.new.cylinders * 15) }
+        ensures takes { TakesTracks K.takes keep.new self.new }
         ensures run { (p : PortView) → Ran surely (Heard K.hears K.takes) (tried_b contents t (state_of self.old) took) (outside p self.old keep.old)
             (state_of self.new) tt (outside p self.new keep.new) }
     {
@@ -351,13 +328,11 @@ impl<V: Volume> DeviceStore<V> {
 
     /// The second part of a write: side B, where it is up and not held.
     fn write_second<K: Keep<TrackImage>>(&mut self, t: TrackNo, image: &TrackImage, keep: &mut K)
-        requires track { t < self.old.cylinders * 15 }
-        requires takes { Takes K.takes keep.old self.old.number self.old.geometry (self.old.cylinders * 15) }
-        ensures fixed { (self.new.number ≡ self.old.number) × (self.new.cylinders ≡ self.old.cylinders) × (self.new.geometry ≡ self.old.geometry) }
-        ensures half { self.new.half ≡ self.old.half }
-        ensures weight { weight self.new.loose ≡ weight self.old.loose }
+        requires track { HasTrack self.old t }
+        requires takes { TakesTracks K.takes keep.old self.old }
+        ensures leaves { KeepsHalfWrite self.old self.new }
         ensures firm { StaysFirm self.old.loose.loose self.new.loose.loose }
-        ensures takes { Takes K.takes keep.new self.new.number self.new.geometry (self.new.cylinders * 15) }
+        ensures takes { TakesTracks K.takes keep.new self.new }
         ensures run { (p : PortView) → Ran surely (Heard K.hears K.takes) (write_second contents (state_of self.old) t (track_bytes image.now.track))
             (outside p self.old keep.old) (state_of self.new) tt (outside p self.new keep.new) }
     {
@@ -377,11 +352,11 @@ impl<V: Volume> DeviceStore<V> {
         requires track { half.track < self.old.cylinders * 15 }
         requires of { IsImageOf self.old.geometry half.track half.image }
         requires firm { is_loose (state_of self.old) half.track ≡ false }
-        ensures fixed { (self.new.number ≡ self.old.number) × (self.new.cylinders ≡ self.old.cylinders) × (self.new.geometry ≡ self.old.geometry) }
+        ensures leaves { IsSameDevice self.old self.new }
         ensures volume { self.new.pair.volumes ≡ self.old.pair.volumes }
         ensures half { self.new.half ≡ Some half }
         ensures loose { self.new.loose ≡ self.old.loose }
-        ensures run { (k : K) → Ran surely (Heard K.hears K.takes) (opened contents (state_of self.old) half.track half.image (origin_of half.origin) was_loose)
+        ensures run { (k : K) → Ran surely (Heard K.hears K.takes) (write_opened contents (state_of self.old) half.track half.image (origin_of half.origin) was_loose)
             (outside (P.view port.old) self.old k) (state_of self.new) tt (outside (P.view port.new) self.new k) }
     {
         if was_loose {
@@ -395,10 +370,7 @@ impl<V: Volume> DeviceStore<V> {
 
     /// The patch goes with its slot.
     fn free_patch<P: Port, K: Keep<TrackImage>>(&mut self, t: TrackNo, port: &mut P)
-        ensures fixed { (self.new.number ≡ self.old.number) × (self.new.cylinders ≡ self.old.cylinders) × (self.new.geometry ≡ self.old.geometry) }
-        ensures volume { self.new.pair.volumes ≡ self.old.pair.volumes }
-        ensures half { self.new.half ≡ self.old.half }
-        ensures loose { self.new.loose ≡ self.old.loose }
+        ensures leaves { ChangesMarksAlone self.old self.new }
         ensures run { (k : K) → Ran surely (Heard K.hears K.takes) (unpatched contents (state_of self.old) t) (outside (P.view port.old) self.old k)
             (state_of self.new) tt (outside (P.view port.new) self.new k) }
     {
@@ -421,10 +393,7 @@ impl<V: Volume> DeviceStore<V> {
     )
         requires firm { is_loose (state_of self.old) t ≡ false }
         requires of { IsImageOf self.old.geometry t image }
-        ensures fixed { (self.new.number ≡ self.old.number) × (self.new.cylinders ≡ self.old.cylinders) × (self.new.geometry ≡ self.old.geometry) }
-        ensures volume { self.new.pair.volumes ≡ self.old.pair.volumes }
-        ensures half { self.new.half ≡ self.old.half }
-        ensures loose { self.new.loose ≡ self.old.loose }
+        ensures leaves { ChangesMarksAlone self.old self.new }
         ensures run { (k : K) → Ran surely (Heard K.hears K.takes) (done_by contents (state_of self.old) t image bypass true)
             (outside (P.view port.old) self.old k) (state_of self.new) tt (outside (P.view port.new) self.new k) }
     {
@@ -450,10 +419,7 @@ impl<V: Volume> DeviceStore<V> {
     )
         requires firm { is_loose (state_of self.old) t ≡ false }
         requires of { IsImageOf self.old.geometry t image }
-        ensures fixed { (self.new.number ≡ self.old.number) × (self.new.cylinders ≡ self.old.cylinders) × (self.new.geometry ≡ self.old.geometry) }
-        ensures volume { self.new.pair.volumes ≡ self.old.pair.volumes }
-        ensures half { self.new.half ≡ self.old.half }
-        ensures loose { self.new.loose ≡ self.old.loose }
+        ensures leaves { ChangesMarksAlone self.old self.new }
         ensures run { (k : K) → Ran surely (Heard K.hears K.takes) (write_done contents (state_of self.old) t image bypass)
             (outside (P.view port.old) self.old k) (state_of self.new) tt (outside (P.view port.new) self.new k) }
     {
@@ -468,10 +434,7 @@ impl<V: Volume> DeviceStore<V> {
     pub(crate) fn frame_done<P: Port, K: Keep<TrackImage>>(&mut self, t: TrackNo, port: &mut P)
         requires firm { is_loose (state_of self.old) t ≡ false }
         requires framed { is_some (frame_at (state_of self.old) t) ≡ true }
-        ensures fixed { (self.new.number ≡ self.old.number) × (self.new.cylinders ≡ self.old.cylinders) × (self.new.geometry ≡ self.old.geometry) }
-        ensures volume { self.new.pair.volumes ≡ self.old.pair.volumes }
-        ensures half { self.new.half ≡ self.old.half }
-        ensures loose { self.new.loose ≡ self.old.loose }
+        ensures leaves { ChangesMarksAlone self.old self.new }
         ensures run { (k : K) → Ran surely (Heard K.hears K.takes) (write_done contents (state_of self.old) t (frame_in (state_of self.old) t) false)
             (outside (P.view port.old) self.old k) (state_of self.new) tt (outside (P.view port.new) self.new k) }
     {
@@ -489,14 +452,12 @@ impl<V: Volume> DeviceStore<V> {
         port: &mut P,
         keep: &mut K,
     )
-        requires track { t < self.old.cylinders * 15 }
+        requires track { HasTrack self.old t }
         requires of { IsImageOf self.old.geometry t image }
         requires firm { is_loose (state_of self.old) t ≡ false }
-        requires takes { Takes K.takes keep.old self.old.number self.old.geometry (self.old.cylinders * 15) }
-        ensures fixed { (self.new.number ≡ self.old.number) × (self.new.cylinders ≡ self.old.cylinders) × (self.new.geometry ≡ self.old.geometry) }
-        ensures half { self.new.half ≡ self.old.half }
-        ensures loose { self.new.loose ≡ self.old.loose }
-        ensures takes { Takes K.takes keep.new self.new.number self.new.geometry (self.new.cylinders * 15) }
+        requires takes { TakesTracks K.takes keep.old self.old }
+        ensures leaves { KeepsLooseTracks self.old self.new }
+        ensures takes { TakesTracks K.takes keep.new self.new }
         ensures run { (e : Edit) → Ran surely (Heard K.hears K.takes) (whole contents (state_of self.old) t image e bypass)
             (outside (P.view port.old) self.old keep.old) (state_of self.new) Whole (outside (P.view port.new) self.new keep.new) }
     {
@@ -514,14 +475,12 @@ impl<V: Volume> DeviceStore<V> {
         port: &mut P,
         keep: &mut K,
     ) -> Took
-        requires track { t < self.old.cylinders * 15 }
+        requires track { HasTrack self.old t }
         requires of { IsImageOf self.old.geometry t image }
         requires firm { is_loose (state_of self.old) t ≡ false }
-        requires takes { Takes K.takes keep.old self.old.number self.old.geometry (self.old.cylinders * 15) }
-        ensures fixed { (self.new.number ≡ self.old.number) × (self.new.cylinders ≡ self.old.cylinders) × (self.new.geometry ≡ self.old.geometry) }
-        ensures half { self.new.half ≡ self.old.half }
-        ensures weight { weight self.new.loose ≡ weight self.old.loose }
-        ensures takes { Takes K.takes keep.new self.new.number self.new.geometry (self.new.cylinders * 15) }
+        requires takes { TakesTracks K.takes keep.old self.old }
+        ensures leaves { KeepsHalfWrite self.old self.new }
+        ensures takes { TakesTracks K.takes keep.new self.new }
         ensures ends { (result ≡ Opened) → ⊥ }
         ensures run { (e : Edit) → Ran surely (Heard K.hears K.takes) (at_once contents (state_of self.old) t image e bypass)
             (outside (P.view port.old) self.old keep.old) (state_of self.new) result (outside (P.view port.new) self.new keep.new) }
@@ -550,11 +509,10 @@ impl<V: Volume> DeviceStore<V> {
         requires of { IsImageOf self.old.geometry half.track half.image }
         requires firm { is_loose (state_of self.old) half.track ≡ false }
         requires none { self.old.half ≡ None }
-        requires takes { Takes K.takes keep.old self.old.number self.old.geometry (self.old.cylinders * 15) }
-        ensures fixed { (self.new.number ≡ self.old.number) × (self.new.cylinders ≡ self.old.cylinders) × (self.new.geometry ≡ self.old.geometry) }
+        requires takes { TakesTracks K.takes keep.old self.old }
+        ensures leaves { KeepsWeight self.old self.new }
         ensures half { self.new.half ≡ (if is_opened result then Some half else None) }
-        ensures weight { weight self.new.loose ≡ weight self.old.loose }
-        ensures takes { Takes K.takes keep.new self.new.number self.new.geometry (self.new.cylinders * 15) }
+        ensures takes { TakesTracks K.takes keep.new self.new }
         ensures run { (e : Edit) → origin_of half.origin ≡ OfCommand bypass e
             → Ran surely (Heard K.hears K.takes) (through_by contents half.track half.image e bypass opens was_loose (state_of self.old) took)
             (outside (P.view port.old) self.old keep.old) (state_of self.new) result (outside (P.view port.new) self.new keep.new) }
@@ -587,15 +545,14 @@ impl<V: Volume> DeviceStore<V> {
         port: &mut P,
         keep: &mut K,
     ) -> Took
-        requires track { t < self.old.cylinders * 15 }
+        requires track { HasTrack self.old t }
         requires of { IsImageOf self.old.geometry t image }
         requires kept { is_loose (state_of self.old) t ≡ true → is_some (frame_at (state_of self.old) t) ≡ true }
         requires none { self.old.half ≡ None }
-        requires takes { Takes K.takes keep.old self.old.number self.old.geometry (self.old.cylinders * 15) }
-        ensures fixed { (self.new.number ≡ self.old.number) × (self.new.cylinders ≡ self.old.cylinders) × (self.new.geometry ≡ self.old.geometry) }
+        requires takes { TakesTracks K.takes keep.old self.old }
+        ensures leaves { KeepsWeight self.old self.new }
         ensures half { is_some self.new.half ≡ is_opened result }
-        ensures weight { weight self.new.loose ≡ weight self.old.loose }
-        ensures takes { Takes K.takes keep.new self.new.number self.new.geometry (self.new.cylinders * 15) }
+        ensures takes { TakesTracks K.takes keep.new self.new }
         ensures run { Ran surely (Heard K.hears K.takes) (through contents (state_of self.old) t image edit bypass opens)
             (outside (P.view port.old) self.old keep.old) (state_of self.new) result (outside (P.view port.new) self.new keep.new) }
     {

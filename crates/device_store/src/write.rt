@@ -1,4 +1,4 @@
-ghost use Rattle.std.specs.Prelude.{◌≡◌, ◌<◌, ◌*◌, ◌+◌, ◌≤◌, IfOk, None, OnErr, OnOk, false, is_ok, is_some, slice_set, true};
+ghost use Rattle.std.specs.Prelude.{◌≡◌, ◌*◌, ◌+◌, ◌≤◌, IfOk, None, OnErr, OnOk, false, is_ok, is_some, slice_set, true};
 ghost use Rattle.ckd_rules.specs.Facts.{Suits};
 ghost use Rattle.ckd_types.specs.declared.record.Edit.{Edit};
 ghost use Rattle.device_defs.specs.declared.answers.Choice.TheVariants.{Fast};
@@ -13,10 +13,11 @@ ghost use Rattle.event_notes.specs.Loose.{loose_count, weight};
 ghost use Rattle.nv_store.specs.Patches.{stored_at};
 ghost use Rattle.nv_store.specs.Room.{room_for};
 ghost use Rattle.track_image.specs.Image.{edited_image};
+ghost use Rattle.device_store.specs.Leaves.{ChangesMarksAlone, IsSameDevice, KeepsVolumes, MovesNothing};
 ghost use Rattle.device_store.specs.Chosen.{Fits, FitsSlot, told_before};
 ghost use Rattle.device_store.specs.Images.{IsImageOf};
 ghost use Rattle.device_store.specs.Looks.{frame_in};
-ghost use Rattle.device_store.specs.State.{is_opened, state_of, outside, surely, Takes, had};
+ghost use Rattle.device_store.specs.State.{is_opened, state_of, outside, surely, Takes, had, HasTrack, TakesTracks};
 
 use crate::DeviceStore;
 use crate::image::is_bypass;
@@ -64,10 +65,7 @@ fn edited(alloc: Global, image: &TrackImage, edit: &Edit) -> Result<TrackImage, 
 impl<V: Volume> DeviceStore<V> {
     /// Makes room for an edit of a track's patch, and for the track to become loose where it may.
     pub(crate) fn make_room(&mut self, usage: &Usage, t: TrackNo) -> Result<(), NoMemory>
-        ensures fixed { (self.new.number ≡ self.old.number) × (self.new.cylinders ≡ self.old.cylinders) × (self.new.geometry ≡ self.old.geometry) }
-        ensures half { self.new.half ≡ self.old.half }
-        ensures volume { self.new.pair.volumes ≡ self.old.pair.volumes }
-        ensures weight { weight self.new.loose ≡ weight self.old.loose }
+        ensures leaves { MovesNothing self.old self.new }
         ensures state { state_of self.new ≡ state_of self.old }
         ensures patch { OnOk result (room_for (stored_at self.new.patches t) ≤ self.new.edits) }
         ensures loose { OnOk result (usage.now.provisional ≡ true → loose_count self.new.loose.loose + 2 ≤ self.new.loose.spare) }
@@ -83,10 +81,7 @@ impl<V: Volume> DeviceStore<V> {
     pub(crate) fn keep_edit(&mut self, t: TrackNo, edit: Edit, slot: Option<usize>)
         requires fits { FitsSlot (is_some (patch_at (state_of self.old) t)) slot }
         requires room { room_for (stored_at self.old.patches t) ≤ self.old.edits }
-        ensures fixed { (self.new.number ≡ self.old.number) × (self.new.cylinders ≡ self.old.cylinders) × (self.new.geometry ≡ self.old.geometry) }
-        ensures half { self.new.half ≡ self.old.half }
-        ensures volume { self.new.pair.volumes ≡ self.old.pair.volumes }
-        ensures loose { self.new.loose ≡ self.old.loose }
+        ensures leaves { ChangesMarksAlone self.old self.new }
         ensures frames { self.new.frames ≡ self.old.frames }
         ensures state { state_of self.new ≡ record (state_of self.old)
             { patches = slice_set self.old.patches t (patch_with contents edit slot (patch_at (state_of self.old) t)) } }
@@ -106,10 +101,7 @@ impl<V: Volume> DeviceStore<V> {
         requires fits { FitsSlot (is_some (patch_at (state_of self.old) t)) slot }
         requires of { IsImageOf self.old.geometry t image }
         requires room { room_for (stored_at self.old.patches t) ≤ self.old.edits }
-        ensures fixed { (self.new.number ≡ self.old.number) × (self.new.cylinders ≡ self.old.cylinders) × (self.new.geometry ≡ self.old.geometry) }
-        ensures half { self.new.half ≡ self.old.half }
-        ensures volume { self.new.pair.volumes ≡ self.old.pair.volumes }
-        ensures loose { self.new.loose ≡ self.old.loose }
+        ensures leaves { ChangesMarksAlone self.old self.new }
         ensures state { state_of self.new ≡ fast_written contents (state_of self.old) t image edit slot }
     {
         self.keep_edit(t, edit, slot);
@@ -120,12 +112,10 @@ impl<V: Volume> DeviceStore<V> {
     /// A write of data of cache fast write: to the frame alone. A track that isn't loose becomes that.
     fn write_provisional(&mut self, t: TrackNo, image: TrackImage)
         requires none { self.old.half ≡ None }
-        requires track { t < self.old.cylinders * 15 }
+        requires track { HasTrack self.old t }
         requires of { IsImageOf self.old.geometry t image }
         requires room { loose_count self.old.loose.loose + 2 ≤ self.old.loose.spare }
-        ensures fixed { (self.new.number ≡ self.old.number) × (self.new.cylinders ≡ self.old.cylinders) × (self.new.geometry ≡ self.old.geometry) }
-        ensures half { self.new.half ≡ self.old.half }
-        ensures volume { self.new.pair.volumes ≡ self.old.pair.volumes }
+        ensures leaves { KeepsVolumes self.old self.new }
         ensures weight { weight self.new.loose ≤ weight self.old.loose + 2 }
         ensures state { (e : Edit) → state_of self.new ≡ provisionally_written contents (state_of self.old) t image e }
     {
@@ -149,16 +139,16 @@ impl<V: Volume> DeviceStore<V> {
         keep: &mut K,
     ) -> Took
         requires none { self.old.half ≡ None }
-        requires track { t < self.old.cylinders * 15 }
+        requires track { HasTrack self.old t }
         requires of { IsImageOf self.old.geometry t image }
         requires kept { is_loose (state_of self.old) t ≡ true → is_some (frame_at (state_of self.old) t) ≡ true }
         requires fits { Fits usage.now.provisional (is_some (patch_at (state_of self.old) t)) choice }
         requires patch { room_for (stored_at self.old.patches t) ≤ self.old.edits }
         requires loose { usage.now.provisional ≡ true → loose_count self.old.loose.loose + 2 ≤ self.old.loose.spare }
-        requires takes { Takes K.takes keep.old self.old.number self.old.geometry (self.old.cylinders * 15) }
-        ensures fixed { (self.new.number ≡ self.old.number) × (self.new.cylinders ≡ self.old.cylinders) × (self.new.geometry ≡ self.old.geometry) }
+        requires takes { TakesTracks K.takes keep.old self.old }
+        ensures leaves { IsSameDevice self.old self.new }
         ensures half { is_some self.new.half ≡ is_opened result }
-        ensures takes { Takes K.takes keep.new self.new.number self.new.geometry (self.new.cylinders * 15) }
+        ensures takes { TakesTracks K.takes keep.new self.new }
         ensures weight { weight self.new.loose ≤ weight self.old.loose + 2 }
         ensures run { Ran surely (Heard K.hears K.takes) (write_by contents usage.now first t image edit (state_of self.old) choice)
             (outside (P.view port.old) self.old keep.old) (state_of self.new) result (outside (P.view port.new) self.new keep.new) }
@@ -262,18 +252,18 @@ impl<V: Volume> DeviceStore<V> {
         keep: &mut K,
     ) -> Result<Took, NoMemory>
         requires none { self.old.half ≡ None }
-        requires track { t < self.old.cylinders * 15 }
+        requires track { HasTrack self.old t }
         requires of { IsImageOf self.old.geometry t old.now }
         requires kept { is_loose (state_of self.old) t ≡ true → is_some (frame_at (state_of self.old) t) ≡ true }
         requires image { image ≡ edited_image edit old.now }
         requires fits { Fits usage.now.provisional (is_some (patch_at (state_of self.old) t)) choice }
         requires patch { room_for (stored_at self.old.patches t) ≤ self.old.edits }
         requires loose { usage.now.provisional ≡ true → loose_count self.old.loose.loose + 2 ≤ self.old.loose.spare }
-        requires takes { Takes K.takes keep.old self.old.number self.old.geometry (self.old.cylinders * 15) }
-        ensures fixed { (self.new.number ≡ self.old.number) × (self.new.cylinders ≡ self.old.cylinders) × (self.new.geometry ≡ self.old.geometry) }
+        requires takes { TakesTracks K.takes keep.old self.old }
+        ensures leaves { IsSameDevice self.old self.new }
         ensures half { IfOk result (λ took. is_some self.new.half ≡ is_opened took) }
         ensures same { OnErr result (self.new.half ≡ self.old.half) }
-        ensures takes { Takes K.takes keep.new self.new.number self.new.geometry (self.new.cylinders * 15) }
+        ensures takes { TakesTracks K.takes keep.new self.new }
         ensures weight { weight self.new.loose ≤ weight self.old.loose + 2 }
         ensures run { Ran (where_ok result) (Heard K.hears K.takes) (told_before (state_of self.old) usage.now first t old.now edit choice)
             (outside (P.view port.old) self.old keep.old) (state_of self.new) (had (λ took. took) result) (outside (P.view port.new) self.new keep.new) }
@@ -301,17 +291,17 @@ impl<V: Volume> DeviceStore<V> {
         keep: &mut K,
     ) -> Result<Took, NoMemory>
         requires none { self.old.half ≡ None }
-        requires track { t < self.old.cylinders * 15 }
+        requires track { HasTrack self.old t }
         requires of { IsImageOf self.old.geometry t old.now }
         requires kept { is_loose (state_of self.old) t ≡ true → is_some (frame_at (state_of self.old) t) ≡ true }
         requires image { image ≡ edited_image edit old.now }
         requires patch { room_for (stored_at self.old.patches t) ≤ self.old.edits }
         requires loose { usage.now.provisional ≡ true → loose_count self.old.loose.loose + 2 ≤ self.old.loose.spare }
-        requires takes { Takes K.takes keep.old self.old.number self.old.geometry (self.old.cylinders * 15) }
-        ensures fixed { (self.new.number ≡ self.old.number) × (self.new.cylinders ≡ self.old.cylinders) × (self.new.geometry ≡ self.old.geometry) }
+        requires takes { TakesTracks K.takes keep.old self.old }
+        ensures leaves { IsSameDevice self.old self.new }
         ensures half { IfOk result (λ took. is_some self.new.half ≡ is_opened took) }
         ensures same { OnErr result (self.new.half ≡ self.old.half) }
-        ensures takes { Takes K.takes keep.new self.new.number self.new.geometry (self.new.cylinders * 15) }
+        ensures takes { TakesTracks K.takes keep.new self.new }
         ensures weight { weight self.new.loose ≤ weight self.old.loose + 2 }
         ensures run { Ran (where_ok result) (Heard K.hears K.takes)
             (and_then (choose contents (state_of self.old) usage.now t) (write_chosen contents usage.now first t old.now edit))
@@ -337,15 +327,15 @@ impl<V: Volume> DeviceStore<V> {
         keep: &mut K,
     ) -> Result<Took, NoMemory>
         requires none { self.old.half ≡ None }
-        requires track { t < self.old.cylinders * 15 }
+        requires track { HasTrack self.old t }
         requires of { IsImageOf self.old.geometry t old.now }
         requires here { is_some self.old.pair.lent ≡ false }
         requires suits { Suits old.now.geometry old.now.track.records edit }
-        requires takes { Takes K.takes keep.old self.old.number self.old.geometry (self.old.cylinders * 15) }
-        ensures fixed { (self.new.number ≡ self.old.number) × (self.new.cylinders ≡ self.old.cylinders) × (self.new.geometry ≡ self.old.geometry) }
+        requires takes { TakesTracks K.takes keep.old self.old }
+        ensures leaves { IsSameDevice self.old self.new }
         ensures half { IfOk result (λ took. is_some self.new.half ≡ is_opened took) }
         ensures same { OnErr result (self.new.half ≡ self.old.half) }
-        ensures takes { Takes K.takes keep.new self.new.number self.new.geometry (self.new.cylinders * 15) }
+        ensures takes { TakesTracks K.takes keep.new self.new }
         ensures weight { weight self.new.loose ≤ weight self.old.loose + 2 }
         ensures run { Ran (where_ok result) (Heard K.hears K.takes) (write contents (state_of self.old) usage.now first t old.now edit)
             (outside (P.view port.old) self.old keep.old) (state_of self.new) (had (λ took. took) result) (outside (P.view port.new) self.new keep.new) }
@@ -366,7 +356,7 @@ impl<V: Volume> DeviceStore<V> {
         t: TrackNo,
         keep: &mut K,
     ) -> Result<(), NoMemory>
-        requires track { t < self.now.cylinders * 15 }
+        requires track { HasTrack self.now t }
         requires framed { is_some (frame_at (state_of self.now) t) ≡ true }
         requires takes { Takes K.takes keep.old self.now.number self.now.geometry (self.now.cylinders * 15) }
         ensures { Heard K.hears K.takes keep.old (BeforeEdit self.now.number t (frame_in (state_of self.now) t)) (is_ok result) keep.new }
@@ -389,17 +379,17 @@ impl<V: Volume> DeviceStore<V> {
         keep: &mut K,
     ) -> Result<Took, NoMemory>
         requires none { self.old.half ≡ None }
-        requires track { t < self.old.cylinders * 15 }
+        requires track { HasTrack self.old t }
         requires framed { is_some (frame_at (state_of self.old) t) ≡ true }
         requires image { image ≡ edited_image edit (frame_in (state_of self.old) t) }
         requires fits { Fits usage.now.provisional (is_some (patch_at (state_of self.old) t)) choice }
         requires patch { room_for (stored_at self.old.patches t) ≤ self.old.edits }
         requires loose { usage.now.provisional ≡ true → loose_count self.old.loose.loose + 2 ≤ self.old.loose.spare }
-        requires takes { Takes K.takes keep.old self.old.number self.old.geometry (self.old.cylinders * 15) }
-        ensures fixed { (self.new.number ≡ self.old.number) × (self.new.cylinders ≡ self.old.cylinders) × (self.new.geometry ≡ self.old.geometry) }
+        requires takes { TakesTracks K.takes keep.old self.old }
+        ensures leaves { IsSameDevice self.old self.new }
         ensures half { IfOk result (λ took. is_some self.new.half ≡ is_opened took) }
         ensures same { OnErr result (self.new.half ≡ self.old.half) }
-        ensures takes { Takes K.takes keep.new self.new.number self.new.geometry (self.new.cylinders * 15) }
+        ensures takes { TakesTracks K.takes keep.new self.new }
         ensures weight { weight self.new.loose ≤ weight self.old.loose + 2 }
         ensures run { Ran (where_ok result) (Heard K.hears K.takes)
             (told_before (state_of self.old) usage.now first t (frame_in (state_of self.old) t) edit choice)

@@ -29,9 +29,21 @@ module _ {H Q : Type 0} where
     abbrev pub MayLeave : View Q → H → Type 0
     MayLeave v h = keeps v.pledge h × Still (counts h) v.loaded
 
-    -- what stood in the slot is out with the seat, or another seat has the turn
+    -- what stood in the slot is out with the seat: a word of each other seat was loaded since, and it may go back
+    pub record HasTurn (before after : Me (Option H) (View Q)) (h : H) : Type 0 where
+      pub loaded : List (ℕ × ℕ)
+      pub out : after ≡ (with_loaded loaded (staged Out before.0), (0, None) ∷ [])
+      pub complete : IsComplete after.0
+      pub others : Without after.0.number loaded
+      pub kept : MayLeave after.0 h
+      pub counted : slice_index (counts h) before.0.number ≡ before.0.word
+
+    -- another seat has the turn
+    pub record FindsTaken (before after : Me (Option H) (View Q)) (k : ℕ) : Type 0 where
+      pub same : after ≡ before
+      pub other : k ≢ before.0.number
+      pub seat : k < 6
+
     abbrev pub Entered : Me (Option H) (View Q) → Me (Option H) (View Q) → Enter H → Type 0
-    Entered before after (Got h) =
-        (es : List (ℕ × ℕ)) × (after ≡ (with_loaded es (staged Out before.0), (0, None) ∷ [])) × IsComplete after.0
-        × Without after.0.number es × MayLeave after.0 h × (slice_index (counts h) before.0.number ≡ before.0.word)
-    Entered before after (Taken k) = (after ≡ before) × (k ≢ before.0.number) × (k < 6)
+    Entered before after (Got h) = HasTurn before after h
+    Entered before after (Taken k) = FindsTaken before after k

@@ -1,5 +1,6 @@
 -- The volume that an image file holds.
-use Rattle.std.specs.Prelude.{◌≡◌, ◌≢◌, ◌⊎◌, ◌<◌, ℕ, ◌+◌, ◌*◌, List, [], ◌∷◌, ◌++◌, ⊤, length, take, Option, Some, None, Result, Ok, Err}
+use Rattle.std.specs.Prelude.{◌≡◌, ◌≢◌, ◌⊎◌, ◌<◌, ℕ, ◌+◌, ◌*◌, List, [], ◌∷◌, ◌++◌, ⊤, length, take, Option, Some, None, Result, Ok, Err, IsErrOf}
+use Rattle.ckd_outside.specs.Causes.{Rose}
 use Rattle.std.specs.List.{flat_map, range_with_len}
 use Rattle.ckd_types.specs.declared.geometry.Geometry.{Geometry}
 use Rattle.ckd_types.specs.declared.record.Track.{Track}
@@ -82,3 +83,7 @@ TellsBad held l (BadTrack t offset) =
 TellsBad held l FileFault = ⊤
 TellsBad held l NoMemory = ⊤
 TellsBad held l _ = ⊥
+
+-- a failed call of the file is answered only where one failed, by the file's count of faults before and after
+abbrev pub FileFaultHasCause : {X : Type 0} → Result X ImageFault → ℕ → ℕ → Type 0
+FileFaultHasCause result before after = IsErrOf result FileFault → Rose before after

@@ -1,7 +1,7 @@
-ghost use Rattle.std.specs.Prelude.{◌≡◌, ◌≤◌, ◌+◌, ◌*◌, IfErr, IfOk, IsErrOf, OnOk, length};
-ghost use Rattle.ckd_outside.specs.Causes.{Rose};
+ghost use Rattle.std.specs.Prelude.{◌≡◌, ◌≤◌, ◌+◌, ◌*◌, IfErr, IfOk, OnOk, length};
 ghost use Rattle.disk_image.specs.Image.{HasEmpty, IsEmpty};
 ghost use Rattle.disk_image.specs.File.{head_of, room_size};
+ghost use Rattle.disk_image.specs.Volume.{FileFaultHasCause};
 
 use crate::head::{HEAD, head_front};
 use crate::room::write_whole;
@@ -33,7 +33,7 @@ fn write_empty<F: DiskFile>(
     ensures put { OnOk result (HasEmpty geometry t (F.held file.old) → HasEmpty geometry (t + 1) (F.held file.new)) }
     ensures size { length room.new ≡ length room.old }
     ensures later { F.faults file.old ≤ F.faults file.new }
-    ensures cause { IsErrOf result ImageFault.FileFault → Rose (F.faults file.old) (F.faults file.new) }
+    ensures cause { FileFaultHasCause result (F.faults file.old) (F.faults file.new) }
 {
     let image = TrackImage::empty(alloc, geometry, t)?;
     image.fits();
@@ -54,7 +54,7 @@ pub fn create<F: DiskFile>(
     requires most { cylinders ≤ 64 }
     ensures made { OnOk result (HasEmpty geometry (cylinders * 15) (F.held file.new)) }
     ensures later { F.faults file.old ≤ F.faults file.new }
-    ensures cause { IsErrOf result ImageFault.FileFault → Rose (F.faults file.old) (F.faults file.new) }
+    ensures cause { FileFaultHasCause result (F.faults file.old) (F.faults file.new) }
 {
     let head = head_of(alloc, geometry)?;
     let mut room = TrackRoom::new(alloc, geometry)?;

@@ -1,7 +1,7 @@
-ghost use Rattle.std.specs.Prelude.{◌≡◌, ◌⊎◌, ◌≤◌, IfErr, IfOk, IsErrOf, length, min};
-ghost use Rattle.ckd_outside.specs.Causes.{Rose};
+ghost use Rattle.std.specs.Prelude.{◌≡◌, ◌⊎◌, ◌≤◌, IfErr, IfOk, length, min};
 ghost use Rattle.disk_image.specs.Calls.{IsAt};
 ghost use Rattle.disk_image.specs.Image.{IsLayoutOf, TellsOpening};
+ghost use Rattle.disk_image.specs.Volume.{FileFaultHasCause};
 
 use crate::head::{HEAD, head_in, layout_by};
 use crate::{DiskFile, ImageFault, Layout};
@@ -14,7 +14,7 @@ fn read_head<F: DiskFile>(alloc: Global, file: &mut F, size: u64) -> Result<Vec<
     ensures early { IfErr result (λ e. (e ≡ ImageFault.FileFault) ⊎ (e ≡ ImageFault.NoMemory)) }
     ensures held { F.held file.new ≡ F.held file.old }
     ensures later { F.faults file.old ≤ F.faults file.new }
-    ensures cause { IsErrOf result ImageFault.FileFault → Rose (F.faults file.old) (F.faults file.new) }
+    ensures cause { FileFaultHasCause result (F.faults file.old) (F.faults file.new) }
 {
     let mut field = vec![in alloc; 0; size.min(HEAD as u64) as usize]?;
     let count = file.read_at(0, field.as_mut_slice())?;
@@ -31,7 +31,7 @@ pub fn open_image<F: DiskFile>(alloc: Global, file: &mut F) -> Result<Layout, Im
     ensures layout { IfOk result (λ l. IsLayoutOf (F.held file.old) l) }
     ensures held { F.held file.new ≡ F.held file.old }
     ensures later { F.faults file.old ≤ F.faults file.new }
-    ensures cause { IsErrOf result ImageFault.FileFault → Rose (F.faults file.old) (F.faults file.new) }
+    ensures cause { FileFaultHasCause result (F.faults file.old) (F.faults file.new) }
 {
     let size = file.len()?;
     let field = read_head(alloc, file, size)?;

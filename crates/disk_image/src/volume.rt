@@ -1,10 +1,9 @@
-ghost use Rattle.std.specs.Prelude.{◌≡◌, ◌⊎◌, ◌≤◌, ◌*◌, ◌++◌, ◌∷◌, [], IfErr, IfOk, IsErrOf, OnOk, length};
+ghost use Rattle.std.specs.Prelude.{◌≡◌, ◌⊎◌, ◌≤◌, ◌*◌, ◌++◌, ◌∷◌, [], IfErr, IfOk, OnOk, length};
 ghost use Rattle.ckd_types.specs.Track.{track_bytes};
-ghost use Rattle.ckd_outside.specs.Causes.{Rose};
 ghost use Rattle.volume_file.specs.File.{IsPlaced};
 ghost use Rattle.disk_image.specs.Image.{IsLayoutOf};
 ghost use Rattle.disk_image.specs.File.{room_size, track_in};
-ghost use Rattle.disk_image.specs.Volume.{HasTracks, IsFault, IsHanded, Notes, TellsBad, TellsTrack, Told, fault_at, faults_by, faults_in};
+ghost use Rattle.disk_image.specs.Volume.{HasTracks, IsFault, IsHanded, Notes, TellsBad, TellsTrack, Told, fault_at, faults_by, faults_in, FileFaultHasCause};
 
 use crate::layout::place_of;
 use crate::{DiskFile, ImageFault, Layout, TrackRoom, read_room};
@@ -60,7 +59,7 @@ fn read_image<F: DiskFile>(
     ensures size { length room.new ≡ length room.old }
     ensures held { F.held file.new ≡ F.held file.old }
     ensures later { F.faults file.old ≤ F.faults file.new }
-    ensures cause { IsErrOf result ImageFault.FileFault → Rose (F.faults file.old) (F.faults file.new) }
+    ensures cause { FileFaultHasCause result (F.faults file.old) (F.faults file.new) }
 {
     read_room(file, geometry, t, room)?;
     image_of(alloc, geometry, t, room.track())
@@ -79,7 +78,7 @@ pub fn load_volume<F: DiskFile>(
     ensures bad { IfErr result (λ fault. TellsBad (F.held file.old) layout fault) }
     ensures held { F.held file.new ≡ F.held file.old }
     ensures later { F.faults file.old ≤ F.faults file.new }
-    ensures cause { IsErrOf result ImageFault.FileFault → Rose (F.faults file.old) (F.faults file.new) }
+    ensures cause { FileFaultHasCause result (F.faults file.old) (F.faults file.new) }
 {
     let geometry = layout.geometry;
     let mut volume = FileVolume::new(alloc, geometry, layout.cylinders)?;
@@ -129,7 +128,7 @@ fn note_bad<F: DiskFile>(
     ensures size { length room.new ≡ length room.old }
     ensures held { F.held file.new ≡ F.held file.old }
     ensures later { F.faults file.old ≤ F.faults file.new }
-    ensures cause { IsErrOf result ImageFault.FileFault → Rose (F.faults file.old) (F.faults file.new) }
+    ensures cause { FileFaultHasCause result (F.faults file.old) (F.faults file.new) }
 {
     match read_image(alloc, file, geometry, t, room) {
         Ok(_image) => Ok(()),
@@ -149,7 +148,7 @@ pub fn find_bad<F: DiskFile>(
     ensures early { IfErr result (λ e. (e ≡ ImageFault.FileFault) ⊎ (e ≡ ImageFault.NoMemory)) }
     ensures held { F.held file.new ≡ F.held file.old }
     ensures later { F.faults file.old ≤ F.faults file.new }
-    ensures cause { IsErrOf result ImageFault.FileFault → Rose (F.faults file.old) (F.faults file.new) }
+    ensures cause { FileFaultHasCause result (F.faults file.old) (F.faults file.new) }
 {
     let geometry = layout.geometry;
     let mut room = TrackRoom::new(alloc, geometry)?;

@@ -36,7 +36,7 @@ use Rattle.ckd_types.specs.declared.channel.CommandEnd.{CommandEnd}
 use Rattle.ckd_types.specs.declared.record.Track.{Track}
 use Rattle.ckd_types.specs.Ccw.{ccw_at}
 use Rattle.ckd_types.specs.Volume.{track_in}
-use Rattle.ckd_rules.specs.Ends.{end_of}
+use Rattle.ckd_rules.specs.Ends.{end_at_word}
 use Rattle.plain_defs.specs.declared.journal.Act.{Act}
 use Rattle.plain_defs.specs.declared.journal.Act.TheVariants.{Loosen, Harden, CfwLost}
 use Rattle.plain_defs.specs.declared.journal.Acted.{Acted}
@@ -61,7 +61,7 @@ use Rattle.plain_defs.specs.History.{
   checked_in,
   put,
   cut_by,
-  reset as history_reset,
+  reset_in_history as history_reset,
   reset_in,
   acted,
   acted_in,
@@ -73,7 +73,7 @@ use Rattle.plain_defs.specs.Legal.{AreInOrder, is_used, is_started}
 use Rattle.plain_defs.specs.Loose.{act_done}
 use Rattle.plain_defs.specs.PlainState.{PlainState}
 use Rattle.plain_defs.specs.Program as P
-use Rattle.plain_defs.specs.Program.{Part, first_part, acts_at, acts_done, with_act, acted_at, acted as part_acted, stepped, stepped_at, part_of}
+use Rattle.plain_defs.specs.Program.{Part, first_part, acts_at, acts_done, with_act, acted_at, acts_made as part_acted, command_run, stepped_at, part_of}
 use Rattle.plain_defs.proofs.ActLists.{acts_elsewhere, acts_here}
 use Rattle.plain_defs.proofs.JournalLaws.{replay-append}
 use Rattle.plain_defs.proofs.PartLemmas.{acted_beside, part_counts, part_more}
@@ -131,7 +131,7 @@ no_act acts q None none = refl
 
 module _ (path : ℕ) (ccws : List Ccw) (state : PlainState) where
   abbrev steps : List Acted → Part → List FirmWrite
-  steps acts p = step_writes path ccws p p.next ++ acted_writes acts (stepped path ccws p) (stepped path ccws p).next
+  steps acts p = step_writes path ccws p p.next ++ acted_writes acts (command_run path ccws p) (command_run path ccws p).next
 
   writes_before : (acts : List Acted) (a : Acted) (k : ℕ) → k < a.after →
       part_writes state path ccws (acts ++ a ∷ []) k ≡ part_writes state path ccws acts k
@@ -140,7 +140,7 @@ module _ (path : ℕ) (ccws : List Ccw) (state : PlainState) where
       let p = first_part state path ccws in other_acts acts a p p.next (ne_eqb a.after 0 (omega (arith, lt)))
   writes_before acts a (suc k) lt =
       let p = part_of state path ccws acts k in
-      let q = stepped path ccws p in
+      let q = command_run path ccws p in
       let many : length q.ends ≡ length (part_of state path ccws acts (suc k)).ends =
       ap length (sym (acted_beside acts q).ends) ∙ ap (λ (x : Part). length x.ends) (sym (part_more path ccws acts state k)) in
       let most = (part_counts path ccws acts state (suc k)).most in
@@ -159,7 +159,7 @@ module _ (path : ℕ) (ccws : List Ccw) (state : PlainState) where
   writes_here acts (suc k) act many runs =
       let a : Acted = record { after = suc k; act = act } in
       let p = part_of state path ccws acts k in
-      let q = stepped path ccws p in
+      let q = command_run path ccws p in
       let beside = acted_beside acts q in
       let ends : length q.ends ≡ suc k = ap length (sym beside.ends) ∙ many in
       let some : IsSome q.next = subst (λ (x : Option ℕ). IsSome x) beside.next runs in
@@ -172,12 +172,12 @@ module _ (path : ℕ) (ccws : List Ccw) (state : PlainState) where
 
   -- one command more, with no act behind it
   writes_more : (acts : List Acted) (n i : ℕ) → (part_of state path ccws acts n).next ≡ Some i →
-      acts_at acts (length (stepped path ccws (part_of state path ccws acts n)).ends) ≡ [] →
+      acts_at acts (length (command_run path ccws (part_of state path ccws acts n)).ends) ≡ [] →
       part_writes state path ccws acts (suc n) ≡ part_writes state path ccws acts n ++ step_writes path ccws (part_of state path ccws acts n) (Some i)
   unfolding F.part_writes
   writes_more acts n i next none =
       let p = part_of state path ccws acts n in
-      let q = stepped path ccws p in
+      let q = command_run path ccws p in
       ap (λ (l : List FirmWrite). part_writes state path ccws acts n ++ (step_writes path ccws p p.next ++ l)) (no_act acts q q.next none)
       ∙ ap (λ (l : List FirmWrite). part_writes state path ccws acts n ++ l) (append-nil (step_writes path ccws p p.next))
       ∙ ap (λ (x : Option ℕ). part_writes state path ccws acts n ++ step_writes path ccws p x) next
@@ -217,11 +217,11 @@ module _ (plans : Plans) where
         let p = open_part plans s o in
         let ccws = program_of plans o.path o.ordinal in
         let many = g.many in
-        let longer : length (stepped o.path ccws p).ends ≡ suc (length p.ends) =
+        let longer : length (command_run o.path ccws p).ends ≡ suc (length p.ends) =
         ap (λ (x : Option ℕ). length (stepped_at o.path ccws p x).ends) next
-        ∙ one_longer p.ends (end_of i (ccw_at ccws i) (effect_at plans s [] o i).outcome) in
+        ∙ one_longer p.ends (end_at_word i (ccw_at ccws i) (effect_at plans s [] o i).outcome) in
         writes_more o.path ccws s o.acts (length o.ends) i next
-        (no_acts 0 (length o.ends + 1) (length (stepped o.path ccws p).ends) o.acts g.order (omega (arith, many, longer)))
+        (no_acts 0 (length o.ends + 1) (length (command_run o.path ccws p).ends) o.acts g.order (omega (arith, many, longer)))
 
 -- Journals
 

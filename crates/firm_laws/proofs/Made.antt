@@ -11,7 +11,7 @@ use Rattle.ckd_types.specs.Edit.{apply_edit}
 use Rattle.ckd_types.specs.Fixed.{Fixed}
 use Rattle.ckd_types.specs.Volume.{track_in}
 use Rattle.ckd_rules.specs.declared.stance.Stance.{Stance}
-use Rattle.ckd_rules.specs.Ends.{end_of}
+use Rattle.ckd_rules.specs.Ends.{end_at_word}
 use Rattle.ckd_rules.specs.Walk.{TrackEdit}
 use Rattle.plain_defs.specs.declared.journal.Act.{Act}
 use Rattle.plain_defs.specs.declared.journal.Act.TheVariants.{Loosen, Harden, CfwLost}
@@ -21,7 +21,7 @@ use Rattle.plain_defs.specs.History.{OpenEntry, History, open_part, plain_of, wi
 use Rattle.plain_defs.specs.Journal.{Plans, program_of, replay}
 use Rattle.plain_defs.specs.Loose.{is_loose_in, act_done}
 use Rattle.plain_defs.specs.PlainState.{LooseTrack, PathsState, PlainState}
-use Rattle.plain_defs.specs.Program.{Part, acts_done, stepped, stepped_at, part_of}
+use Rattle.plain_defs.specs.Program.{Part, acts_done, command_run, stepped_at, part_of}
 use Rattle.plain_defs.proofs.PartLemmas.{acted_nothing, part_more}
 use Rattle.device_defs.specs.Device.{all_acted}
 use Rattle.device_defs.specs.Marks.{MarksDevice, MarksStore}
@@ -112,14 +112,14 @@ module _ (plans : Plans) (empty : PlainState) where
         let p = open_part plans (replay plans empty h.items) o in
         let ccws = program_of plans o.path o.ordinal in
         let many = g.many in
-        let longer : length (stepped o.path ccws p).ends ≡ suc (length p.ends) =
+        let longer : length (command_run o.path ccws p).ends ≡ suc (length p.ends) =
         ap (λ (x : Option ℕ). length (stepped_at o.path ccws p x).ends) next
-        ∙ one_longer p.ends (end_of i (ccw_at ccws i) (effect_at plans (replay plans empty h.items) h.items o i).outcome) in
+        ∙ one_longer p.ends (end_at_word i (ccw_at ccws i) (effect_at plans (replay plans empty h.items) h.items o i).outcome) in
         ap (λ (k : ℕ). (part_of (replay plans empty h.items) o.path ccws o.acts k).state.loose) (one_longer o.ends e)
         ∙ ap (λ (x : Part). x.state.loose)
         (part_more o.path ccws o.acts (replay plans empty h.items) (length o.ends)
-        ∙ acted_nothing o.acts (stepped o.path ccws p)
-        (no_acts 0 (length o.ends + 1) (length (stepped o.path ccws p).ends) o.acts g.order (omega (arith, many, longer)))
+        ∙ acted_nothing o.acts (command_run o.path ccws p)
+        (no_acts 0 (length o.ends + 1) (length (command_run o.path ccws p).ends) o.acts g.order (omega (arith, many, longer)))
         ∙ ap (λ (x : Option ℕ). stepped_at o.path ccws p x) next)
 
     ended_loose : (plain_of plans empty (ended (record h { running = Some o }) e)).loose ≡ loose

@@ -19,47 +19,7 @@ use Rattle.subsystem_defs.specs.Subsystem.{Mounted, Subsystem, number_of, mounte
 use Rattle.subsystem_laws.specs.Waits.{AreNumbered}
 use Rattle.subsystem_laws.proofs.Walks.{mounted_number}
 use Rattle.keeper_laws.specs.Firmness.{has_one}
-
--- each has the number of the one in its place
-data Alike : List Mounted → List Mounted → Type 0 where
-  none_left : Alike [] []
-  one_more : {x y : Mounted} {xs ys : List Mounted} → number_of y ≡ number_of x → Alike xs ys → Alike (x ∷ xs) (y ∷ ys)
-
-alike_same : (ms : List Mounted) → Alike ms ms
-alike_same [] = none_left
-alike_same (x ∷ xs) = one_more refl (alike_same xs)
-
-alike_then : {xs ys zs : List Mounted} → Alike xs ys → Alike ys zs → Alike xs zs
-alike_then none_left none_left = none_left
-alike_then (one_more e a) (one_more f b) = one_more (f ∙ e) (alike_then a b)
-
-module _ (n : ℕ) where
-  if_there : (b : Bool) (x y : Mounted) (o r : Option Mounted) → is_some r ≡ is_some o → is_some (if b then Some y else r) ≡ is_some (if b then Some x else o)
-  if_there true x y o r e = refl
-  if_there false x y o r e = e
-
-  there_so : {xs ys : List Mounted} → Alike xs ys → is_some (mounted_in ys n) ≡ is_some (mounted_in xs n)
-  there_so none_left = refl
-  there_so (one_more {x = x} {y = y} {xs = xs} {ys = ys} e a) =
-      ap (λ (k : ℕ). is_some (if k == n then Some y else mounted_in ys n)) e
-      ∙ if_there (number_of x == n) x y (mounted_in xs n) (mounted_in ys n) (there_so a)
-
-  if_one : (b c d f g : Bool) → d ≡ c → g ≡ f → (if b then not d else g) ≡ (if b then not c else f)
-  if_one true c d f g e h = ap not e
-  if_one false c d f g e h = h
-
-  one_so : {xs ys : List Mounted} → Alike xs ys → has_one n ys ≡ has_one n xs
-  one_so none_left = refl
-  one_so (one_more {x = x} {y = y} {xs = xs} {ys = ys} e a) =
-      ap (λ (k : ℕ). if k == n then not (is_some (mounted_in ys n)) else has_one n ys) e
-      ∙ if_one (number_of x == n) (is_some (mounted_in xs n)) (is_some (mounted_in ys n)) (has_one n xs) (has_one n ys) (there_so a) (one_so a)
-
-put_alike : (ms : List Mounted) (k : ℕ) (y : Mounted) → number_of y ≡ k → Alike ms (put_in ms k y)
-put_alike [] k y is = none_left
-put_alike (x ∷ ms) k y is = by_test (number_of x == k) refl (put_alike ms k y is) where
-  by_test : (b : Bool) → (number_of x == k) ≡ b → Alike ms (put_in ms k y) → Alike (x ∷ ms) (if b then y ∷ ms else x ∷ put_in ms k y)
-  by_test true e rest = one_more (is ∙ sym (eqb-true (number_of x) k e)) (alike_same ms)
-  by_test false e rest = one_more refl rest
+use Rattle.keeper_laws.proofs.FirmNumbers.{Alike, none_left, one_more, alike_same, alike_then, one_so, put_alike}
 
 restored_alike : (ms : List Mounted) (k : ℕ) (volume : Calls) → Alike ms (restored_in ms k volume)
 restored_alike [] k volume = none_left

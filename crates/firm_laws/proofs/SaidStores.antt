@@ -1,39 +1,7 @@
 -- The tracks that an event noted as firm and those that were told, and what the changes of a device's marks make of both.
-use Rattle.std.proofs.Common.{
-  ◌≡◌,
-  ◌≢◌,
-  ◌<◌,
-  ◌≤◌,
-  ◌*◌,
-  ◌==◌,
-  ℕ,
-  zero,
-  suc,
-  Bool,
-  true,
-  false,
-  List,
-  [],
-  ◌∷◌,
-  ◌++◌,
-  Option,
-  Some,
-  None,
-  is_some,
-  length,
-  set,
-  append_assoc,
-  refl,
-  sym,
-  ap,
-  subst,
-  ◌∙◌,
-  arith,
-  inl,
-  inr,
-}
+use Rattle.std.proofs.Common.{◌≡◌, ◌≢◌, ◌<◌, ◌≤◌, ◌*◌, ◌==◌, ℕ, zero, suc, Bool, true, false, List, [], ◌∷◌, ◌++◌, Option, Some, None, is_some, length, set, append_assoc, refl, sym, ap, subst, ◌∙◌, arith, inl, inr}
 use Rattle.std.specs.Prelude.{◌⊎◌, if◌then◌else◌}
-use Rattle.std.proofs.lemmas.Bool.{cond_both, eqb-true, eqb-false}
+use Rattle.std.proofs.lemmas.Bool.{cond_both}
 use Rattle.std.proofs.lemmas.List.{append-nil, length-set, get_or-set_same, get_or-set_other}
 use Rattle.ckd_types.specs.declared.geometry.Geometry.{Geometry}
 use Rattle.ckd_types.specs.declared.paths.Side.{Side}
@@ -43,27 +11,12 @@ use Rattle.device_defs.specs.declared.owed.Owed.{Owed}
 use Rattle.device_defs.specs.Contents.{by_plain}
 use Rattle.device_defs.specs.Effects.{hardened}
 use Rattle.device_defs.specs.Losses as L
-use Rattle.device_defs.specs.Losses.{
-  settled,
-  settled_but,
-  by_frame,
-  kept_by_frame,
-  hardened_by_loss,
-  lost_now,
-  slot_in,
-  without_frame,
-  without_patch,
-  patch_lost,
-  stale_everywhere,
-  over,
-  down,
-  side_lost,
-}
+use Rattle.device_defs.specs.Losses.{settled, settled_but, by_frame, kept_by_frame, hardened_by_loss, lost_now, slot_in, without_frame, without_patch, patch_lost, stale_everywhere, over, down, side_lost}
 use Rattle.device_defs.specs.Marks.{MarksStore}
 use Rattle.device_defs.specs.Store.{HalfWrite, no_debt, tracks_of, has_level, frame_at, patch_at, is_lost, is_loose, half_is, owed_at, with_lost}
-use Rattle.device_laws.proofs.PlainStores.{Core, core_of, put_keeps}
+use Rattle.device_laws.proofs.PlainStores.{Core, core_of}
 use Rattle.device_laws.proofs.PlainWalks.{framed_same, patch_same, everywhere_same, down_same}
-use Rattle.keeper_laws.proofs.FirmStores.{NotLoose, like_owed, like_everywhere, like_down, like_unframed, like_unpatched}
+use Rattle.keeper_laws.proofs.FirmStores.{NotLoose, still_firm, like_owed, like_everywhere, like_down, like_unframed, like_unpatched}
 use Rattle.firm_laws.specs.FirmWrites.{FirmWrite}
 use Rattle.firm_laws.proofs.HistoryWrites.{firmings, firmings_more, Takes, takes_more}
 
@@ -175,16 +128,6 @@ over_same zero f h s = same_itself s
 over_same (suc n) f h s = same_then s (over n f s) (f n (over n f s)) (over_same n f h s) (h n (over n f s))
 
 -- What is so along an event
-
-pub same_or_other : (q t : ℕ) → (q ≡ t) ⊎ (q ≢ t)
-same_or_other q t = by_test (q == t) refl where
-  by_test : (b : Bool) → (q == t) ≡ b → (q ≡ t) ⊎ (q ≢ t)
-  by_test true e = inl (eqb-true q t e)
-  by_test false e = inr (eqb-false q t e)
-
-pub still_firm : (o : Option ℕ) (l : List Bool) (q : ℕ) → NotLoose o l → NotLoose o (set l q false)
-still_firm None l q e = tt
-still_firm (Some t) l q e = put_keeps l q t e
 
 -- h is the half write, o a track that isn't loose, b the plain volume
 module _ (h : Option (HalfWrite (Unit {0}))) (o : Option ℕ) (b : List Track) (g : Geometry) where

@@ -14,7 +14,7 @@ use Rattle.device_defs.specs.Image as I
 use Rattle.device_defs.specs.Image.{Imaged, image, image_by, miss, ahead}
 use Rattle.device_defs.specs.Marks.{MarksDevice, MarksStore}
 use Rattle.device_defs.specs.Memory.{had_by}
-use Rattle.device_defs.specs.Owed.{begun, waiting_count}
+use Rattle.device_defs.specs.Owed.{noted_begin, waiting_count}
 use Rattle.device_defs.specs.Peek as P
 use Rattle.device_defs.specs.Peek.{Peeked, peek_usage, peeked, peek_image, is_in_half, peek_half, peek_track, peek}
 use Rattle.device_defs.specs.Store.{HalfWrite, frame_at, is_lost, with_frame}
@@ -87,10 +87,10 @@ peek_follows num empty d f q =
     let g = d.store.geometry in
     let n = d.store.cylinders in
     had_then
-    (had_then (track_holds (Walked p g n (core_of d.store)) (walked_hardened p g n (core_of d.store)) q (begun d.store)
+    (had_then (track_holds (Walked p g n (core_of d.store)) (walked_hardened p g n (core_of d.store)) q (noted_begin d.store)
     (record {
       plain = d.store.plain;
-      walks = walks_first num empty d f (begun d.store) refl;
+      walks = walks_first num empty d f (noted_begin d.store) refl;
       stays = record { loose = λ t firm. firm; plain = λ t firm. refl };
     }))
     (λ z found w. had_done (walked_follow num empty d f z w)))

@@ -13,7 +13,7 @@ use Rattle.ckd_chain.specs.declared.progress.Progress.TheVariants as progresses
 use Rattle.ckd_chain.specs.declared.progress.Settled.TheVariants.{Equipment}
 use Rattle.ckd_chain.specs.Fed.{Fed, fed}
 use Rattle.ckd_chain.specs.State.{ChainState}
-use Rattle.ckd_chain.specs.Steps.{begin_with, opening_at, stage_for, needed, need_of, index_of, stepped}
+use Rattle.ckd_chain.specs.Steps.{begin_with, opening_at, stage_for, track_needed, need_of, index_of, stepped}
 use Rattle.ckd_rules.specs.declared.opening.Opening.{Opening}
 use Rattle.ckd_rules.specs.declared.opening.Opening.TheVariants as openings
 use Rattle.ckd_rules.specs.declared.stance.Stance.{Stance}
@@ -22,21 +22,7 @@ use Rattle.loss_model.specs.declared.Loss.TheVariants as losses
 use Rattle.plain_defs.specs.declared.journal.Act.{Act}
 use Rattle.plain_defs.specs.declared.journal.Act.TheVariants.{CfwLost}
 use Rattle.plain_defs.specs.Effect.{Effect}
-use Rattle.plain_defs.specs.History.{
-  OpenEntry,
-  History,
-  open_part,
-  plain_of,
-  state_by,
-  has_used,
-  ended as history_ended,
-  checked as history_checked,
-  put,
-  reset as history_reset,
-  reset_in,
-  cut_by,
-  lost_power,
-}
+use Rattle.plain_defs.specs.History.{OpenEntry, History, open_part, plain_of, state_by, has_used, ended as history_ended, checked as history_checked, put, reset_in_history as history_reset, reset_in, cut_by, lost_power}
 use Rattle.plain_defs.specs.Legal.{is_used}
 use Rattle.plain_defs.specs.Journal.{replay}
 use Rattle.plain_defs.specs.Loose.{is_loose_in}
@@ -58,7 +44,7 @@ use Rattle.device_defs.specs.Events as V
 use Rattle.device_defs.specs.Events.{with_loss, losing, lose, background, second_turn, command_ended, second_ended, second_of, second}
 use Rattle.device_defs.specs.Marks.{MarksDevice, MarksStore}
 use Rattle.device_defs.specs.Outcomes.{Turn, checks, settles, ends_with, turned, turned_by, sense_kept, program_over}
-use Rattle.device_defs.specs.Owed.{begun, waiting_count}
+use Rattle.device_defs.specs.Owed.{noted_begin, waiting_count}
 use Rattle.device_defs.specs.Peek as P
 use Rattle.device_defs.specs.Peek.{peek}
 use Rattle.device_defs.specs.Store.{Origin, OfCommand, OfCut, OfBackground, HalfWrite, no_debt, tracks_of, has_loose, with_frame, with_owed}
@@ -82,7 +68,8 @@ use Rattle.firm_laws.proofs.SaidEvents.{SecondSays, part_says, work_notes, store
 use Rattle.firm_laws.proofs.SaidParts.{at_none}
 use Rattle.firm_laws.proofs.SaidStores.{Same, same_itself, On, on_same}
 use Rattle.firm_laws.proofs.SaidWrites.{Noted, noted}
-use Rattle.firm_laws.proofs.Tells.{Tells, tells_done, tells_try, tells_told, tells_then, tells_if, asks_tells}
+use Rattle.keeper_laws.proofs.Firms.{firms_done, firms_try, firms_told, firms_then, firms_if, asks_firms}
+use Rattle.firm_laws.proofs.Tells.{Tells}
 
 -- How an event begins and ends
 
@@ -90,7 +77,7 @@ firm_half : (h : Option (HalfWrite (Unit {0}))) (l : List Bool) → is_half_loos
 firm_half None l e = tt
 firm_half (Some h) l e = e
 
-on_first : (d : MarksDevice) → IsTold d.store → On d.store.half (half_track d.store.half) d.store.plain d.store.geometry [] (begun d.store)
+on_first : (d : MarksDevice) → IsTold d.store → On d.store.half (half_track d.store.half) d.store.plain d.store.geometry [] (noted_begin d.store)
 on_first d told = record {
   said = refl;
   takes = tt;
@@ -113,19 +100,19 @@ module _ (d : MarksDevice) (Q : List FirmWrite → MarksDevice → Type 0)
     (closed : (u : List FirmWrite) (y : MarksDevice) (z : MarksStore) → core_of z ≡ core_of y.store → Q u y → Q u (record y { store = z })) where
   pub end_tells : {A : Type 0} (w : List FirmWrite) (y : MarksDevice) (a : A) → Q w y → Tells (λ u x (_ : A). Q u x) w (event_ended by_plain d y a)
   end_tells w y a k =
-      tells_then {p = λ v z (_ : Unit {0}). Q v (record y { store = z })} (λ z _. Done (record y { store = z }) a)
-      (asks_tells (ended_asks by_plain (λ z. Q w (record y { store = z }))
+      firms_then {p = λ v z (_ : Unit {0}). Q v (record y { store = z })} (λ z _. Done (record y { store = z }) a)
+      (asks_firms (ended_asks by_plain (λ z. Q w (record y { store = z }))
       (λ z t j. closed w (record y { store = z }) (with_owed z t no_debt) refl j) (waiting_count by_plain d.store) y.store k))
-      (λ u z _ j. tells_done j)
+      (λ u z _ j. firms_done j)
 
   event_tells : {A : Type 0} (body : MarksDevice → Interaction Bool Image MarksDevice A) →
-      ((s : MarksStore) → Same (begun d.store) s → Tells (λ u y (_ : A). Q u y) [] (body (record (event_begun d) { store = s }))) →
+      ((s : MarksStore) → Same (noted_begin d.store) s → Tells (λ u y (_ : A). Q u y) [] (body (record (event_begun d) { store = s }))) →
       Tells (λ u y (_ : A). Q u y) [] (event by_plain d body)
   event_tells body does =
-      tells_then (event_ended by_plain d)
-      (tells_then {p = λ v z (_ : Unit {0}). Untold (begun d.store) v z} (λ s _. body (record (event_begun d) { store = s }))
-      (asks_tells (hear_asks by_plain (Untold (begun d.store) []) (λ z t clean e. (e.0, same_framed (begun d.store) z t None e.1)) 960
-      (begun d.store) (refl, same_itself (begun d.store))))
+      firms_then (event_ended by_plain d)
+      (firms_then {p = λ v z (_ : Unit {0}). Untold (noted_begin d.store) v z} (λ s _. body (record (event_begun d) { store = s }))
+      (asks_firms (hear_asks by_plain (Untold (noted_begin d.store) []) (λ z t clean e. (e.0, same_framed (noted_begin d.store) z t None e.1)) 960
+      (noted_begin d.store) (refl, same_itself (noted_begin d.store))))
       (λ u s _ e. subst (λ (l : List FirmWrite). Tells (λ v y a. Q v y) l (body (record (event_begun d) { store = s }))) (sym e.0) (does s e.1)))
       (λ u y a k. end_tells u y a k)
 
@@ -139,10 +126,10 @@ module _ (num : ℕ) (empty : PlainState) (d : MarksDevice) (f : Follows num emp
   abbrev here : MarksStore → MarksDevice
   here s = record (event_begun d) { store = s }
 
-  on_now : (s : MarksStore) → Same (begun d.store) s → On d.store.half (half_track d.store.half) d.store.plain d.store.geometry [] s
-  on_now s e = on_same d.store.half (half_track d.store.half) d.store.plain d.store.geometry (begun d.store) s e (on_first d told)
+  on_now : (s : MarksStore) → Same (noted_begin d.store) s → On d.store.half (half_track d.store.half) d.store.plain d.store.geometry [] s
+  on_now s e = on_same d.store.half (half_track d.store.half) d.store.plain d.store.geometry (noted_begin d.store) s e (on_first d told)
 
-  no_acts : (s : MarksStore) → Same (begun d.store) s → s.acts ≡ []
+  no_acts : (s : MarksStore) → Same (noted_begin d.store) s → s.acts ≡ []
   no_acts s e = ap (λ (c : Core). c.acts) e.core
 
   acts_left : (u : List FirmWrite) (s z : MarksStore) → Noted d.store.plain u (core_of z) → Left u (with_store (here s) z)
@@ -191,12 +178,12 @@ module _ (num : ℕ) (empty : PlainState) (d : MarksDevice) (f : Follows num emp
       abbrev the_edit : Option TrackEdit
       the_edit = (the_effect num empty d f o running chain is).edit
 
-      whole_now : (s : MarksStore) → Same (begun d.store) s → On None None d.store.plain d.store.geometry [] s
+      whole_now : (s : MarksStore) → Same (noted_begin d.store) s → On None None d.store.plain d.store.geometry [] s
       whole_now s e =
           at_none (half_track d.store.half) s
           (subst (λ (h : Option (HalfWrite (Unit {0}))). On h (half_track d.store.half) d.store.plain d.store.geometry [] s) whole (on_now s e))
 
-      fed_is : (s : MarksStore) → Same (begun d.store) s → (t : ℕ) → need_of chain ≡ Some t →
+      fed_is : (s : MarksStore) → Same (noted_begin d.store) s → (t : ℕ) → need_of chain ≡ Some t →
           (fed (tracks_of s) (track_in d.store.plain) (settled_act chain.fixed.geometry d.paths o.path) chain).edit ≡ the_edit
       fed_is s e t needs =
           let two = on num empty d f o running chain is in
@@ -208,10 +195,10 @@ module _ (num : ℕ) (empty : PlainState) (d : MarksDevice) (f : Follows num emp
           (ap (λ (n : ℕ). fed n (track_in d.store.plain) (settled_act chain.fixed.geometry d.paths o.path) chain) (many ∙ sym k.1)
           ∙ fed_so chain (there chain is).fresh d.paths o.path d.store.plain (settled_act chain.fixed.geometry d.paths o.path) k.0 t k.1 needs)
 
-      tracked : (s : MarksStore) → Same (begun d.store) s → (t : ℕ) → need_of chain ≡ Some t →
+      tracked : (s : MarksStore) → Same (noted_begin d.store) s → (t : ℕ) → need_of chain ≡ Some t →
           Tells (λ u y _. Left u y) [] (command_at by_plain (here s) o.path chain (Some t))
       tracked s e t needs =
-          tells_then (on_tracks by_plain (here s) o.path chain)
+          firms_then (on_tracks by_plain (here s) o.path chain)
           (follow_says d.store.plain d.store.geometry (settled_act chain.fixed.geometry d.paths o.path) (tracks_of s) t chain t
           (record { needs = needs; geometry = (on num empty d f o running chain is).0 }) s (whole_now s e))
           (λ u z a x. out u z a x)
@@ -219,9 +206,9 @@ module _ (num : ℕ) (empty : PlainState) (d : MarksDevice) (f : Follows num emp
           out : (u : List FirmWrite) (z : MarksStore) (a : Option Turn) →
               FollowSays d.store.plain d.store.geometry (settled_act chain.fixed.geometry d.paths o.path) (tracks_of s) chain u z a →
               Tells (λ v y _. Left v y) u (on_tracks by_plain (here s) o.path chain z a)
-          out u z None x = tells_done (refl, only_acts refl x)
+          out u z None x = firms_done (refl, only_acts refl x)
           out u z (Some turn) x =
-              tells_done (turn_left the_edit (next_of chain is the_edit refl) (with_store (here s) z) refl refl o.path u turn.chain turn.came
+              firms_done (turn_left the_edit (next_of chain is the_edit refl) (with_store (here s) z) refl refl o.path u turn.chain turn.came
               (subst (λ (k : Option TrackEdit). CameSays d.store.plain k u z turn.came) (fed_is s e t needs) x))
 
       -- it looks at no track
@@ -229,14 +216,14 @@ module _ (num : ℕ) (empty : PlainState) (d : MarksDevice) (f : Follows num emp
       none_edit none = by_opening_of (opening_at chain).stance (opening_at chain).opening
           (sym (needs_by chain (there chain is).fresh d.paths o.path d.store.plain) ∙ none)
         where
-          by_opening_of : (z : Stance) (k : Opening) → needed (begin_with chain (opening_at chain)) (stage_for k) ≡ None →
+          by_opening_of : (z : Stance) (k : Opening) → track_needed (begin_with chain (opening_at chain)) (stage_for k) ≡ None →
               (by_opening chain (there chain is).fresh d.paths o.path d.store.plain z k).edit ≡ None
           by_opening_of z (openings.Over ending) free = (over_answer chain (there chain is).fresh d.paths o.path d.store.plain z ending).none
           by_opening_of z (openings.Asks act) free =
               (asked_answer chain (there chain is).fresh d.paths o.path d.store.plain z act chain.fixed.geometry refl).none
           by_opening_of z (openings.Looks look) free = absurd (cc)
 
-      answered : (s : MarksStore) → Same (begun d.store) s → the_edit ≡ None → (next : ChainState) (p : Progress) →
+      answered : (s : MarksStore) → Same (noted_begin d.store) s → the_edit ≡ None → (next : ChainState) (p : Progress) →
           Tells (λ u y _. Left u y) [] (answered_by by_plain (here s) o.path next p)
       answered s e none next p = by_progress p
         where
@@ -253,24 +240,24 @@ module _ (num : ℕ) (empty : PlainState) (d : MarksDevice) (f : Follows num emp
               (subst (λ (z : MarksStore). CameSays d.store.plain None [] z turn.came) (sym store) x)
 
           by_progress : (k : Progress) → Tells (λ u y _. Left u y) [] (answered_by by_plain (here s) o.path next k)
-          by_progress (progresses.Ended c) = tells_done (left (here s) refl history refl (ends_with next c) nothing)
-          by_progress (progresses.Need q) = tells_done (left (here s) refl history refl (checks next Equipment) nothing)
-          by_progress (progresses.Write q c) = tells_done (left (here s) refl history refl (checks next Equipment) nothing)
+          by_progress (progresses.Ended c) = firms_done (left (here s) refl history refl (ends_with next c) nothing)
+          by_progress (progresses.Need q) = firms_done (left (here s) refl history refl (checks next Equipment) nothing)
+          by_progress (progresses.Write q c) = firms_done (left (here s) refl history refl (checks next Equipment) nothing)
           by_progress (progresses.Local act) =
-              tells_done (left (record (here s) { paths = paths_behind d.paths o.path act }) refl history refl
+              firms_done (left (record (here s) { paths = paths_behind d.paths o.path act }) refl history refl
               (settles next (settled_act s.geometry d.paths o.path act)) nothing)
 
-      by_need : (s : MarksStore) → Same (begun d.store) s → (k : Option ℕ) → need_of chain ≡ k →
+      by_need : (s : MarksStore) → Same (noted_begin d.store) s → (k : Option ℕ) → need_of chain ≡ k →
           Tells (λ u y _. Left u y) [] (command_at by_plain (here s) o.path chain k)
       by_need s e (Some t) needs = tracked s e t needs
-      by_need s e None none = tells_try (answered s e (none_edit none) (stepped chain None).chain (stepped chain None).progress)
+      by_need s e None none = firms_try (answered s e (none_edit none) (stepped chain None).chain (stepped chain None).progress)
 
-      begun_left : (s : MarksStore) → Same (begun d.store) s → Tells (λ u y _. Left u y) [] (command_by by_plain (here s) d.history.running d.chain)
+      begun_left : (s : MarksStore) → Same (noted_begin d.store) s → Tells (λ u y _. Left u y) [] (command_by by_plain (here s) d.history.running d.chain)
       begun_left s e =
           subst (λ (r : Option OpenEntry). Tells (λ u y _. Left u y) [] (command_by by_plain (here s) r d.chain)) (sym running)
           (subst (λ (k : Option ChainState). Tells (λ u y _. Left u y) [] (command_by by_plain (here s) (Some o) k)) (sym now)
-          (tells_if (has_loss o.acts)
-          (λ _. tells_done (turn_left the_edit (next_of chain is the_edit refl) (here s) refl (sym (ap (all_acted d.history) (no_acts s e))) o.path []
+          (firms_if (has_loss o.acts)
+          (λ _. firms_done (turn_left the_edit (next_of chain is the_edit refl) (here s) refl (sym (ap (all_acted d.history) (no_acts s e))) o.path []
           (checks chain Equipment).chain (checks chain Equipment).came (noted d.store.plain s (on_now s e))))
           (λ _. by_need s e (need_of chain) refl)))
 
@@ -281,7 +268,7 @@ module _ (num : ℕ) (empty : PlainState) (d : MarksDevice) (f : Follows num emp
         (subst (λ (r : Option OpenEntry). RunsAt d.plans (replay d.plans empty d.history.items) r f.before) running f.runs))
     by_chain whole (Some chain) is =
         let now = none_mid (core_of d.store) d.store.half d.history.running f.before d.chain whole f.mid ∙ is in
-        tells_try (event_tells d Left closed (λ z. command_by by_plain z z.history.running z.chain) (λ s e. begun_left chain is now whole s e))
+        firms_try (event_tells d Left closed (λ z. command_by by_plain z z.history.running z.chain) (λ s e. begun_left chain is now whole s e))
 
     pub command_left : d.store.half ≡ None → Tells (λ u y _. Left u y) [] (command by_plain d)
     command_left whole = by_chain whole f.before refl
@@ -318,7 +305,7 @@ module _ (num : ℕ) (empty : PlainState) (d : MarksDevice) (f : Follows num emp
       subst (λ (r : Option OpenEntry). Tells (λ v y _. Left v y) u (command_ended by_plain (with_store (here s) z) t r d.chain done))
       (sym (ap (λ (h : History). h.running) l.is))
       (subst (λ (k : Option ChainState). Tells (λ v y _. Left v y) u (command_ended by_plain (with_store (here s) z) t (Some l.entry) k done)) (sym mid.is)
-      (tells_done (turn_left o running (Some (record { track = t; edit = e })) (mid_next o running t e mid) (with_store (here s) z) refl refl l.entry.path u
+      (firms_done (turn_left o running (Some (record { track = t; edit = e })) (mid_next o running t e mid) (with_store (here s) z) refl refl l.entry.path u
       (second_turn by_plain mid.chain done).chain (second_turn by_plain mid.chain done).came (says done x))))
     where
       says : (c : Bool) → SecondSays d.store.plain d.store.geometry t (OfCommand bypass e) u z c →
@@ -330,8 +317,8 @@ module _ (num : ℕ) (empty : PlainState) (d : MarksDevice) (f : Follows num emp
       (done : Bool) → SecondSays d.store.plain d.store.geometry t origin u z done →
       Tells (λ v y _. Left v y) u (second_ended by_plain (with_store (here s) z) t origin done)
   second_by t (OfCommand bypass e) mid s z u done x = its_second t bypass e mid d.history.running refl s z u done x
-  second_by t (OfCut bypass) mid s z u done x = tells_done (acts_left u s z x)
-  second_by t OfBackground mid s z u done x = tells_done (acts_left u s z x)
+  second_by t (OfCut bypass) mid s z u done x = firms_done (acts_left u s z x)
+  second_by t OfBackground mid s z u done x = firms_done (acts_left u s z x)
 
   pub second_left : (h : HalfWrite (Unit {0})) → d.store.half ≡ Some h → Tells (λ u y _. Left u y) [] (second by_plain d)
   unfolding V.second
@@ -339,7 +326,7 @@ module _ (num : ℕ) (empty : PlainState) (d : MarksDevice) (f : Follows num emp
       event_tells d Left closed (λ z. second_of by_plain z z.store.half)
       (λ s e. subst (λ (x : Option (HalfWrite (Unit {0}))). Tells (λ u y _. Left u y) [] (second_of by_plain (here s) x))
       (sym (ap (λ (c : Core). c.half) e.core ∙ there))
-      (tells_then (λ z done. second_ended by_plain (with_store (here s) z) h.track h.origin done)
+      (firms_then (λ z done. second_ended by_plain (with_store (here s) z) h.track h.origin done)
       (part_says d.store.plain d.store.geometry s h
       (subst (λ (x : Option (HalfWrite (Unit {0}))). On x (half_track x) d.store.plain d.store.geometry [] s) there (on_now s e)))
       (λ u z done x. second_by h.track h.origin (mid_of h there) s z u done x)))
@@ -350,24 +337,24 @@ module _ (num : ℕ) (empty : PlainState) (d : MarksDevice) (f : Follows num emp
   unfolding V.background
   background_left whole =
       event_tells d Left closed (λ z. and_then (work by_plain z.store) (λ s did. Done (with_store z s) did))
-      (λ s e. tells_then (λ z did. Done (with_store (here s) z) did)
+      (λ s e. firms_then (λ z did. Done (with_store (here s) z) did)
       (work_notes d.store.plain d.store.geometry s (at_none (half_track d.store.half) s
       (subst (λ (h : Option (HalfWrite (Unit {0}))). On h (half_track d.store.half) d.store.plain d.store.geometry [] s) whole (on_now s e))))
-      (λ u z did x. tells_done (acts_left u s z x)))
+      (λ u z did x. firms_done (acts_left u s z x)))
 
   pub store_left : Tells (λ u y (_ : Unit {0}). Left u y) [] (lose by_plain d losses.Store)
   unfolding V.lose
   store_left =
       event_tells d Left closed (λ z. and_then (losing by_plain z.store losses.Store) (λ s _. Done (with_store z s) tt))
-      (λ s e. tells_then (λ z _. Done (with_store (here s) z) tt)
-      (store_notes d.store.plain d.store.geometry d.store.half (half_track d.store.half) s (on_now s e)) (λ u z _ x. tells_done (acts_left u s z x)))
+      (λ s e. firms_then (λ z _. Done (with_store (here s) z) tt)
+      (store_notes d.store.plain d.store.geometry d.store.half (half_track d.store.half) s (on_now s e)) (λ u z _ x. firms_done (acts_left u s z x)))
 
   pub side_left : (side : Side) → Tells (λ u y (_ : Unit {0}). Left u y) [] (lose by_plain d (losses.Side side))
   unfolding V.lose
   side_left side =
       event_tells d Left closed (λ z. and_then (losing by_plain z.store (losses.Side side)) (λ s _. Done (with_store z s) tt))
-      (λ s e. tells_then (λ z _. Done (with_store (here s) z) tt)
-      (side_notes d.store.plain d.store.geometry d.store.half (half_track d.store.half) s side (on_now s e)) (λ u z _ x. tells_done (acts_left u s z x)))
+      (λ s e. firms_then (λ z _. Done (with_store (here s) z) tt)
+      (side_notes d.store.plain d.store.geometry d.store.half (half_track d.store.half) s side (on_now s e)) (λ u z _ x. firms_done (acts_left u s z x)))
 
   -- the loss of data of cache fast write is no write
   cache_written : (s : MarksStore) → s.acts ≡ [] → (acts : List Act) → acts ≡ (loose_lost (with_loss s losses.Cache)).acts →
@@ -384,8 +371,8 @@ module _ (num : ℕ) (empty : PlainState) (d : MarksDevice) (f : Follows num emp
   unfolding V.lose
   cache_left =
       event_tells d Left closed (λ z. and_then (losing by_plain z.store losses.Cache) (λ s _. Done (with_store z s) tt))
-      (λ s e. tells_then (λ z _. Done (with_store (here s) z) tt) (cache_tells s (λ t. e.free t ∙ told.free t))
-      (λ u z _ x. tells_done (
+      (λ s e. firms_then (λ z _. Done (with_store (here s) z) tt) (cache_tells s (λ t. e.free t ∙ told.free t))
+      (λ u z _ x. firms_done (
         refl,
         then_known
             (cache_written s (no_acts s e) z.acts (ap (λ (c : Core). c.acts) x.1)
@@ -404,10 +391,10 @@ module _ (num : ℕ) (empty : PlainState) (d : MarksDevice) (f : Follows num emp
   pub peek_left : (q : ℕ) → Tells (λ u y _. Looked u y) [] (peek by_plain d q)
   unfolding P.peek
   peek_left q =
-      tells_then (event_ended by_plain d)
-      (tells_then (λ s found. Done (with_store (event_begun d) s) found)
-      (track_notes d.store.plain d.store.geometry d.store.half (half_track d.store.half) (begun d.store) q (on_first d told))
-      (λ u z found x. tells_done (refl, refl, x)))
+      firms_then (event_ended by_plain d)
+      (firms_then (λ s found. Done (with_store (event_begun d) s) found)
+      (track_notes d.store.plain d.store.geometry d.store.half (half_track d.store.half) (noted_begin d.store) q (on_first d told))
+      (λ u z found x. firms_done (refl, refl, x)))
       (λ u y a k. end_tells d Looked looked_closed u y a k)
 
   -- Cuts
@@ -425,15 +412,15 @@ module _ (num : ℕ) (empty : PlainState) (d : MarksDevice) (f : Follows num emp
   origin_says : (s : MarksStore) (h : HalfWrite (Unit {0})) (origin : Origin) → s.plain ≡ d.store.plain → h.origin ≡ origin →
       Tells (λ u z (_ : Unit {0}). u ≡ origin_writes h.track origin) [] (origin_cut by_plain s h origin)
   origin_says s h (OfCommand bypass e) plain of =
-      tells_told (tells_done (ap (λ (t : Track). (h.track, t) ∷ [])
+      firms_told tt (firms_done (ap (λ (t : Track). (h.track, t) ∷ [])
       (half_image 0 ⊥ s h e bypass of ∙ ap (λ (v : List Track). apply_edit e (track_in v h.track)) plain)))
-  origin_says s h (OfCut bypass) plain of = tells_done refl
-  origin_says s h OfBackground plain of = tells_done refl
+  origin_says s h (OfCut bypass) plain of = firms_done refl
+  origin_says s h OfBackground plain of = firms_done refl
 
   half_says : (s : MarksStore) (k : Option (HalfWrite (Unit {0}))) → s.plain ≡ d.store.plain →
       Tells (λ u z (_ : Unit {0}). u ≡ cut_writes k) [] (half_cut by_plain s k)
   half_says s (Some h) plain = origin_says s h h.origin plain refl
-  half_says s None plain = tells_done refl
+  half_says s None plain = firms_done refl
 
   -- the history behind a cut, with so many commands more than ended
   module _ (o : OpenEntry) (running : d.history.running ≡ Some o) (behind : ℕ → History)
@@ -475,28 +462,28 @@ module _ (num : ℕ) (empty : PlainState) (d : MarksDevice) (f : Follows num emp
 
   by_running : (path : ℕ) (r : Option OpenEntry) → d.history.running ≡ r → Tells (λ u y (_ : Unit {0}). Left u y) [] (reset_by by_plain d path r)
   by_running path (Some o) running =
-      tells_if (o.path == path)
-      (λ same. tells_then
+      firms_if (o.path == path)
+      (λ same. firms_then
       (λ s _. Done (record (reset_noted by_plain d path (counts_one_by d.store.half)) {
         store = s;
         chain = None;
         paths = all_reset (reset_path d.paths path) d.history.waiting;
       }) tt)
       (half_says d.store d.store.half refl)
-      (λ u z _ x. tells_done (
+      (λ u z _ x. firms_done (
         refl,
         then_known (path_written path o running same ∙ ap (λ (l : List FirmWrite). firm_writes d.plans empty d.history ++ l)
             (sym x)),
       )))
-      (λ other. tells_done (
+      (λ other. firms_done (
         refl,
         then_known
             (later_written d.plans empty d.history path 0 o running other ∙ sym (append-nil (firm_writes d.plans empty d.history))),
       ))
   by_running path None none =
-      tells_if (has_used d.history path)
-      (λ _. tells_done (refl, then_known (idle_reset d.plans empty d.history path 0 none ∙ sym (append-nil (firm_writes d.plans empty d.history)))))
-      (λ _. tells_done (refl, then_known (sym (append-nil (firm_writes d.plans empty d.history)))))
+      firms_if (has_used d.history path)
+      (λ _. firms_done (refl, then_known (idle_reset d.plans empty d.history path 0 none ∙ sym (append-nil (firm_writes d.plans empty d.history)))))
+      (λ _. firms_done (refl, then_known (sym (append-nil (firm_writes d.plans empty d.history)))))
 
   pub reset_left : (path : ℕ) → Tells (λ u y (_ : Unit {0}). Left u y) [] (reset by_plain d path)
   unfolding U.reset
@@ -527,9 +514,9 @@ module _ (num : ℕ) (empty : PlainState) (d : MarksDevice) (f : Follows num emp
   pub power_left : Tells (λ u y (_ : Unit {0}). Left u y) [] (power by_plain d)
   unfolding U.power
   power_left =
-      tells_then (event_ended by_plain d)
-      (tells_then (λ s _. Done (powered_off by_plain (event_begun d) s) tt) (half_says (begun d.store) (begun d.store).half refl)
-      (λ u z _ x. tells_done (
+      firms_then (event_ended by_plain d)
+      (firms_then (λ s _. Done (powered_off by_plain (event_begun d) s) tt) (half_says (noted_begin d.store) (noted_begin d.store).half refl)
+      (λ u z _ x. firms_done (
         refl,
         then_known (power_written d.history.running refl
             ∙ ap (λ (l : List FirmWrite). firm_writes d.plans empty d.history ++ l) (sym x)),

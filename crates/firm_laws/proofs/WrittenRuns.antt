@@ -24,7 +24,7 @@ use Rattle.device_defs.specs.Losses.{without_frame}
 use Rattle.device_defs.specs.Marks.{MarksDevice, MarksStore}
 use Rattle.device_defs.specs.Orders as O
 use Rattle.device_defs.specs.Orders.{restore, replace, lend, lent_to, with_tracks, given_up}
-use Rattle.device_defs.specs.Owed.{begun}
+use Rattle.device_defs.specs.Owed.{noted_begin}
 use Rattle.device_defs.specs.Peek.{peek}
 use Rattle.device_defs.specs.Start as S
 use Rattle.device_defs.specs.Start.{start, start_fault, next_ordinal}
@@ -43,20 +43,7 @@ use Rattle.subsystem_defs.specs.declared.end.EventEnd.TheVariants as ends
 use Rattle.subsystem_defs.specs.declared.event.Event.{Event}
 use Rattle.subsystem_defs.specs.Deeds.{Ends, Becomes, Asks, Each, Repairs, Lends, deed, end_of, ends_done}
 use Rattle.subsystem_defs.specs.Happening as H
-use Rattle.subsystem_defs.specs.Happening.{
-  MarksDeed,
-  Talk,
-  told_to,
-  held_with,
-  mounted_behind,
-  asks,
-  sweep,
-  happens_by,
-  happens,
-  replaced,
-  is_lent_to,
-  unpaired,
-}
+use Rattle.subsystem_defs.specs.Happening.{MarksDeed, Talk, told_to, held_with, mounted_behind, asks, sweep, happens_by, happens, replaced, is_lent_to, unpaired}
 use Rattle.subsystem_defs.specs.Looks as K
 use Rattle.subsystem_defs.specs.Looks.{looked_at, looked}
 use Rattle.subsystem_defs.specs.Promised.{empty_of}
@@ -72,7 +59,6 @@ use Rattle.keeper_laws.proofs.FirmCommands.{Keeps, command_keeps}
 use Rattle.keeper_laws.proofs.FirmEvents.{second_keeps, background_keeps}
 use Rattle.keeper_laws.proofs.FirmLosses.{lose_keeps, reset_keeps, power_keeps, peek_keeps}
 use Rattle.keeper_laws.proofs.FirmWrites.{Rest}
-use Rattle.keeper_laws.proofs.Firms.{firms_done, firms_then, firms_held}
 use Rattle.keeper_laws.proofs.Sizes.{peek_sized}
 use Rattle.keeper_laws.proofs.Places.{IsAt, Leaves, place, put_at, put_here, first_at, later_at, deed_at, replaced_there, unpaired_there}
 use Rattle.firm_laws.specs.FirmWrites.{FirmWrite, firm_writes, firm_writes_of, firms_in}
@@ -80,21 +66,9 @@ use Rattle.firm_laws.specs.Written.{HasWritten}
 use Rattle.firm_laws.proofs.HistoryWrites.{started_written, emptied_written}
 use Rattle.firm_laws.proofs.Made.{acts_written, made_written}
 use Rattle.firm_laws.proofs.SaidStores.{Same, same_then, same_unframed, same_unpatched, over_same}
-use Rattle.firm_laws.proofs.Tells.{Tells, tells_done, tells_then, tells_held, all_firms, own_held, own_firms, other_firms, firms_more}
-use Rattle.firm_laws.proofs.WrittenEvents.{
-  end_tells,
-  Left,
-  Looked,
-  command_left,
-  second_left,
-  background_left,
-  store_left,
-  side_left,
-  cache_left,
-  reset_left,
-  power_left,
-  peek_left,
-}
+use Rattle.keeper_laws.proofs.Firms.{firms_done, firms_then, firms_held}
+use Rattle.firm_laws.proofs.Tells.{Tells, tells_held, all_firms, own_held, own_firms, other_firms, firms_more}
+use Rattle.firm_laws.proofs.WrittenEvents.{end_tells, Left, Looked, command_left, second_left, background_left, store_left, side_left, cache_left, reset_left, power_left, peek_left}
 
 some_is : {X : Type 0} {x y : X} → Some x ≡ Some y → x ≡ y
 some_is e = cc
@@ -123,9 +97,9 @@ alike_closed d u y z e k = (
 lend_alike : (d : MarksDevice) (to : ℕ) → Tells (λ u y (_ : Unit {0}). Alike d u y) [] (lend by_plain d to)
 unfolding O.lend
 lend_alike d to =
-    let same = over_same (tracks_of d.store) (given_up by_plain) given_same (begun d.store) in
+    let same = over_same (tracks_of d.store) (given_up by_plain) given_same (noted_begin d.store) in
     end_tells d (Alike d) (alike_closed d) []
-    (with_tracks (event_begun d) (lent_to (L.over (tracks_of d.store) (given_up by_plain) (begun d.store)) to)) tt
+    (with_tracks (event_begun d) (lent_to (L.over (tracks_of d.store) (given_up by_plain) (noted_begin d.store)) to)) tt
     (refl, refl, ap (λ (c : Core). c.device) same.core, ap (λ (c : Core). c.geometry) same.core, ap (λ (c : Core). c.cylinders) same.core)
 
 module _ (n : ℕ) (m : Mounted) (s : Subsystem) (there : mounted_in s.mounted n ≡ Some m) (told : IsTold m.device.store) (plain : Plainly m.device) where
@@ -333,7 +307,7 @@ module _ (n : ℕ) (m : Mounted) (s : Subsystem) (there : mounted_in s.mounted n
         main : Is d → (o : Told) → So (before ++ firms_in n (messages true (and_then talk (λ e a. Done e (f a))) o))
             (hold true (and_then talk (λ e a. Done e (f a))) o).state
         main x o =
-            left_so d x (and_then talk (λ e a. Done e (f a))) all_own (tells_then (λ e a. Done e (f a)) (tells x) (λ u y a k. tells_done k))
+            left_so d x (and_then talk (λ e a. Done e (f a))) all_own (firms_then (λ e a. Done e (f a)) (tells x) (λ u y a k. firms_done k))
             (had_then (had x) (λ y a g. had_done g)) o
 
         by_found : (o : Option Mounted) → mounted_in s.mounted d.store.device ≡ o →

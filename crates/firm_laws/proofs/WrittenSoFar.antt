@@ -1,11 +1,8 @@
 -- So it is behind events that come one after another.
-use Rattle.std.proofs.Common.{◌≡◌, ◌==◌, ◌++◌, ℕ, true, List, [], ◌∷◌, Some, set, append_assoc, refl, sym, ap, ◌∙◌}
-use Rattle.std.specs.Prelude.{All, if◌then◌else◌}
+use Rattle.std.proofs.Common.{◌≡◌, ◌++◌, ℕ, true, List, [], ◌∷◌, Some, append_assoc, refl, sym, ap, ◌∙◌}
+use Rattle.std.specs.Prelude.{All}
 use Rattle.std.proofs.lemmas.List.{append-nil}
 use Rattle.std.proofs.lemmas.List.Elements.{All-head, All-tail}
-use Rattle.ckd_types.specs.declared.record.Track.{Track}
-use Rattle.track_image.specs.Image.{Image}
-use Rattle.device_outside.specs.Keeper.{Message, BeforeEdit, Firm}
 use Rattle.subsystem_defs.specs.declared.event.Event.{Event}
 use Rattle.subsystem_defs.specs.Happening.{happens}
 use Rattle.subsystem_defs.specs.Subsystem.{Mounted, Subsystem, mounted_in}
@@ -14,7 +11,7 @@ use Rattle.subsystem_laws.proofs.PlainRuns.{ArePlain, event_plain}
 use Rattle.keeper_laws.specs.Firmness.{told_firm, IsTold, has_one, IsFirm}
 use Rattle.keeper_laws.specs.Messages.{event_messages}
 use Rattle.keeper_laws.proofs.FirmNumbers.{one_event}
-use Rattle.keeper_laws.proofs.FirmRuns.{firm_event}
+use Rattle.keeper_laws.proofs.FirmRuns.{firm_event, told_both}
 use Rattle.firm_laws.specs.FirmWrites.{FirmWrite, firm_writes_of, firms_in}
 use Rattle.firm_laws.specs.Written.{HasWritten, all_messages, behind_all}
 use Rattle.firm_laws.proofs.StillPlain.{plain_there}
@@ -23,11 +20,6 @@ use Rattle.firm_laws.proofs.WrittenRuns.{written_event}
 
 some_is : {X : Type 0} {x y : X} → Some x ≡ Some y → x ≡ y
 some_is e = cc
-
-told_both : (n : ℕ) (ms ns : List (Message Image)) (v : List Track) → told_firm n (ms ++ ns) v ≡ told_firm n ns (told_firm n ms v)
-told_both n [] ns v = refl
-told_both n (BeforeEdit d t i ∷ ms) ns v = told_both n ms ns v
-told_both n (Firm d t i ∷ ms) ns v = told_both n ms ns (if d == n then set v t i.track else v)
 
 -- the firm volume is the one before with all Firm messages put in
 pub firm_all : (n : ℕ) (es : List Event) (s : Subsystem) (m : Mounted) → mounted_in s.mounted n ≡ Some m → IsTold m.device.store →

@@ -14,9 +14,9 @@ use Rattle.plain_defs.specs.declared.journal.Item.TheVariants as items
 use Rattle.plain_defs.specs.Effect.{effect_on}
 use Rattle.plain_defs.specs.History.{OpenEntry, History}
 use Rattle.plain_defs.specs.Journal.{Plans, program_of, effects_of, replay, replay_item}
-use Rattle.plain_defs.specs.Loose.{is_loose, act_done}
+use Rattle.plain_defs.specs.Loose.{is_loose_there, act_done}
 use Rattle.plain_defs.specs.PlainState.{PlainState}
-use Rattle.plain_defs.specs.Program.{Part, first_part, acts_at, stepped, part_of}
+use Rattle.plain_defs.specs.Program.{Part, first_part, acts_at, command_run, part_of}
 use Rattle.track_image.specs.Image.{Image}
 use Rattle.device_outside.specs.Keeper.{Message, BeforeEdit, Firm}
 use Rattle.device_defs.specs.Marks.{MarksDevice}
@@ -32,7 +32,7 @@ FirmWrite = ℕ × Track
 abbrev pub edit_writes : PlainState → Option TrackEdit → List FirmWrite
 edit_writes state None = []
 edit_writes state (Some e) =
-    if is_loose state e.track then [] else (e.track, apply_edit e.edit (track_in state.volume e.track)) ∷ []
+    if is_loose_there state e.track then [] else (e.track, apply_edit e.edit (track_in state.volume e.track)) ∷ []
 
 -- of an act: one where a loose track becomes firm, as it is
 abbrev pub act_writes : PlainState → Act → List FirmWrite
@@ -60,7 +60,7 @@ unfoldable pub part_writes : PlainState → ℕ → List Ccw → List Acted → 
 part_writes state path ccws acts zero = acted_writes acts (first_part state path ccws) (first_part state path ccws).next
 part_writes state path ccws acts (suc k) =
     let p = part_of state path ccws acts k in
-    let q = stepped path ccws p in
+    let q = command_run path ccws p in
     part_writes state path ccws acts k ++ (step_writes path ccws p p.next ++ acted_writes acts q q.next)
 
 -- of an item: of a program that was cut, also of the command whose half write was open; a new volume is none

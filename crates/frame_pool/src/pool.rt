@@ -1,6 +1,6 @@
 ghost use Rattle.std.specs.Prelude.{◌≡◌, Some, true, false, IfOk, MatchOption, ◌<◌, OnOk, OnErr, ◌∷◌, option_map, slice_get, sum};
 ghost use Rattle.device_outside.specs.Pool.{NextNotice, Touch, WantFrame, SetModified, SetClean, DropFrame, WantSlot, FreeSlot, TellWaiting};
-ghost use Rattle.device_outside.specs.Pool.{in_front, is_listed, has_room, victim, without, noted, new_pool, cache_failed, store_failed, power_lost};
+ghost use Rattle.device_outside.specs.Pool.{in_front, is_listed, has_room, victim, frame_removed, noted, new_pool, cache_failed, store_failed, power_lost};
 ghost use Rattle.device_outside.specs.Pool.{all_waiting};
 ghost use Rattle.device_outside.specs.Volume.{counted};
 ghost use Rattle.frame_pool.specs.Shared.{Shared, shared_view, Repairs};
@@ -205,7 +205,7 @@ impl Pool {
         requires victim { victim self.old.pool.frames ≡ Some old }
         ensures done { OnOk result (self.new ≡ record self.old {
           pool = record self.old.pool {
-            frames = (place, false) ∷ without self.old.pool.frames old.0 old.1;
+            frames = (place, false) ∷ frame_removed self.old.pool.frames old.0 old.1;
             notes = noted self.old.pool.notes (Some old);
           };
         }) }

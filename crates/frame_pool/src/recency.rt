@@ -1,5 +1,5 @@
 ghost use Rattle.std.specs.Prelude.{◌≡◌, ◌+◌, ◌≤◌, ◌∷◌, Some, None, false, length, OnOk, OnErr};
-ghost use Rattle.device_outside.specs.Pool.{is_listed, in_front, marked, without, victim, noted};
+ghost use Rattle.device_outside.specs.Pool.{is_listed, in_front, marked, frame_removed, victim, noted};
 
 use crate::notes::AllNotes;
 use crate::place::Place;
@@ -40,7 +40,7 @@ pub(crate) fn mark(frames: &mut Frames, place: Place, modified: bool) -> bool
 /// Takes a frame out.
 #[tactic(auto, using(crate::proofs::Order::length_remove_entry))]
 pub(crate) fn take_out(frames: &mut Frames, place: Place)
-    ensures entries { frames.new.entries ≡ without frames.old.entries place.0 place.1 }
+    ensures entries { frames.new.entries ≡ frame_removed frames.old.entries place.0 place.1 }
     ensures cap { frames.new.cap ≡ frames.old.cap }
     ensures len { length frames.new.entries ≤ length frames.old.entries }
 {
@@ -82,7 +82,7 @@ pub(crate) fn put_over(
     requires new { is_listed frames.old.entries place.0 place.1 ≡ false }
     requires room { length frames.old.entries + 1 ≤ frames.old.cap }
     requires victim { victim frames.old.entries ≡ Some old }
-    ensures entries { OnOk result (frames.new.entries ≡ (place, false) ∷ without frames.old.entries old.0 old.1) }
+    ensures entries { OnOk result (frames.new.entries ≡ (place, false) ∷ frame_removed frames.old.entries old.0 old.1) }
     ensures notes { OnOk result (notes.new ≡ noted notes.old (Some old)) }
     ensures len { OnOk result (length frames.new.entries ≡ length frames.old.entries) }
     ensures same { OnErr result ((frames.new ≡ frames.old) × (notes.new ≡ notes.old)) }

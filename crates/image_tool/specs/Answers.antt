@@ -27,6 +27,7 @@ use Rattle.image_tool.specs.declared.status.ImageStatus.TheVariants.{
 use Rattle.image_tool.specs.Reading.{Checks, Shows, checking}
 use Rattle.image_tool.specs.Storing.{TellsFrom, TellsNew}
 use Rattle.image_tool.specs.Written.{IsWritten, Outside}
+use Rattle.ckd_outside.specs.Causes.{Rose}
 
 -- the exit status of the program
 abbrev pub code_of : ImageStatus → ℕ
@@ -99,3 +100,11 @@ Suits tasks.List left file = (all : List ℕ) × (file ≡ Some all) × ((v : Im
 Suits tasks.ToVolume left file = (all : List ℕ) × (file ≡ Some all) × ((v : ImageVolume) × IsWhole v × Holds v all)
 Suits tasks.FromVolume left file =
     (v : ImageVolume) × IsWhole v × (left ≡ Some (file_of v)) × ((all : List ℕ) × (file ≡ Some all) × (opening all ≡ Ok (layout_of v)))
+
+-- a failed write is told only where a write failed, by the sink's count of faults before and after
+abbrev pub WriteFaultHasCause : ImageStatus → ℕ → ℕ → Type 0
+WriteFaultHasCause status before after = status ≡ WriteFault → Rose before after
+
+-- and a failed call of the file only where one failed
+abbrev pub ToldFaultHasCause : ImageStatus → ℕ → ℕ → Type 0
+ToldFaultHasCause status before after = status ≡ FileFault → Rose before after

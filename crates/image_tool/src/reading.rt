@@ -1,12 +1,12 @@
-ghost use Rattle.std.specs.Prelude.{◌≡◌, ◌≢◌, ◌⊎◌, Err, IfErr, IfOk, IsErrOf, Ok};
+ghost use Rattle.std.specs.Prelude.{◌≡◌, ◌≢◌, ◌⊎◌, Err, IfErr, IfOk, Ok};
 ghost use Rattle.std.specs.List.{flat_map};
-ghost use Rattle.ckd_outside.specs.Causes.{Rose};
-ghost use Rattle.disk_image.specs.Volume.{Told};
+ghost use Rattle.disk_image.specs.Volume.{Told, FileFaultHasCause};
 ghost use Rattle.volume_file.specs.File.{IsWhole, file_of};
 ghost use Rattle.volume_texts.specs.List.{list_text, rows_text};
 ghost use Rattle.image_tool.specs.Reading.{Checks, Finds, IsChecked, IsHeld, Shows, checking, found_status, refused_by};
 ghost use Rattle.image_tool.specs.Texts.{fault_text, found_text, good_text, track_text};
 ghost use Rattle.image_tool.specs.Written.{IsOfSink, IsWritten};
+ghost use Rattle.image_tool.specs.Answers.{WriteFaultHasCause, ToldFaultHasCause};
 
 use crate::status::{ImageStatus, refused_by};
 use crate::texts::{write_fault, write_found, write_good};
@@ -22,7 +22,7 @@ fn bad_tracks<F: DiskFile>(alloc: Global, file: &mut F) -> Result<Vec<TrackFault
     ensures found { IfOk result (λ found. Told (F.held file.old) (λ all. checking all ≡ Ok found.items)) }
     ensures fault { IfErr result (λ fault. Finds IsChecked (F.held file.old) (Err fault)) }
     ensures same { F.held file.new ≡ F.held file.old }
-    ensures cause { IsErrOf result ImageFault.FileFault → Rose (F.faults file.old) (F.faults file.new) }
+    ensures cause { FileFaultHasCause result (F.faults file.old) (F.faults file.new) }
 {
     let layout = open_image(alloc, file)?;
     let found = find_bad(alloc, file, layout)?;
@@ -34,7 +34,7 @@ fn held_volume<F: DiskFile>(alloc: Global, file: &mut F) -> Result<FileVolume, I
     ensures found { Finds IsHeld (F.held file.old) result }
     ensures whole { IfOk result (λ v. IsWhole v) }
     ensures same { F.held file.new ≡ F.held file.old }
-    ensures cause { IsErrOf result ImageFault.FileFault → Rose (F.faults file.old) (F.faults file.new) }
+    ensures cause { FileFaultHasCause result (F.faults file.old) (F.faults file.new) }
 {
     let layout = open_image(alloc, file)?;
     let volume = load_volume(alloc, file, layout)?;
@@ -45,7 +45,7 @@ fn held_volume<F: DiskFile>(alloc: Global, file: &mut F) -> Result<FileVolume, I
 /// Tells why a file is refused.
 pub(crate) fn refuse<K: Sink>(sink: &mut K, fault: ImageFault) -> ImageStatus
     ensures told { IsWritten result (refused_by fault) (K.held sink.old) (K.held sink.new) (fault_text fault) }
-    ensures write { result ≡ ImageStatus.WriteFault → Rose (K.faults sink.old) (K.faults sink.new) }
+    ensures write { WriteFaultHasCause result (K.faults sink.old) (K.faults sink.new) }
     ensures read { result ≢ ImageStatus.ReadFault }
     ensures file { result ≡ ImageStatus.FileFault → fault ≡ ImageFault.FileFault }
 {
@@ -57,7 +57,7 @@ pub(crate) fn refuse<K: Sink>(sink: &mut K, fault: ImageFault) -> ImageStatus
 
 fn tell_good<K: Sink>(sink: &mut K) -> ImageStatus
     ensures told { IsWritten result ImageStatus.Done (K.held sink.old) (K.held sink.new) good_text }
-    ensures write { result ≡ ImageStatus.WriteFault → Rose (K.faults sink.old) (K.faults sink.new) }
+    ensures write { WriteFaultHasCause result (K.faults sink.old) (K.faults sink.new) }
     ensures other { IsOfSink result }
 {
     match write_good(sink) {
@@ -68,7 +68,7 @@ fn tell_good<K: Sink>(sink: &mut K) -> ImageStatus
 
 fn tell_bad<K: Sink>(sink: &mut K, found: &[TrackFault]) -> ImageStatus
     ensures told { IsWritten result ImageStatus.BadTracks (K.held sink.old) (K.held sink.new) (flat_map track_text found.now) }
-    ensures write { result ≡ ImageStatus.WriteFault → Rose (K.faults sink.old) (K.faults sink.new) }
+    ensures write { WriteFaultHasCause result (K.faults sink.old) (K.faults sink.new) }
     ensures other { IsOfSink result }
 {
     match write_found(sink, found) {
@@ -80,7 +80,7 @@ fn tell_bad<K: Sink>(sink: &mut K, found: &[TrackFault]) -> ImageStatus
 /// Tells which tracks are bad.
 fn tell_found<K: Sink>(sink: &mut K, found: &[TrackFault]) -> ImageStatus
     ensures told { IsWritten result (found_status found.now) (K.held sink.old) (K.held sink.new) (found_text found.now) }
-    ensures write { result ≡ ImageStatus.WriteFault → Rose (K.faults sink.old) (K.faults sink.new) }
+    ensures write { WriteFaultHasCause result (K.faults sink.old) (K.faults sink.new) }
     ensures other { IsOfSink result }
 {
     if found.is_empty() {
@@ -93,7 +93,7 @@ fn tell_found<K: Sink>(sink: &mut K, found: &[TrackFault]) -> ImageStatus
 fn show_list<K: Sink>(alloc: Global, sink: &mut K, volume: &FileVolume) -> ImageStatus
     ensures told { IsWritten result ImageStatus.Done (K.held sink.old) (K.held sink.new) (list_text volume.now)
         ⊎ ((result ≡ ImageStatus.NoMemory) × (K.held sink.new ≡ K.held sink.old)) }
-    ensures write { result ≡ ImageStatus.WriteFault → Rose (K.faults sink.old) (K.faults sink.new) }
+    ensures write { WriteFaultHasCause result (K.faults sink.old) (K.faults sink.new) }
     ensures other { IsOfSink result }
 {
     match list_volume(alloc, volume) {
@@ -105,7 +105,7 @@ fn show_list<K: Sink>(alloc: Global, sink: &mut K, volume: &FileVolume) -> Image
 fn write_rows<K: Sink>(sink: &mut K, volume: &FileVolume, rows: &[Row]) -> ImageStatus
     ensures told { IsWritten result ImageStatus.Done
         (K.held sink.old) (K.held sink.new) (rows_text volume.now.geometry volume.now.cylinders rows.now) }
-    ensures write { result ≡ ImageStatus.WriteFault → Rose (K.faults sink.old) (K.faults sink.new) }
+    ensures write { WriteFaultHasCause result (K.faults sink.old) (K.faults sink.new) }
     ensures other { IsOfSink result }
 {
     match write_listing(sink, volume.geometry(), volume.cylinders(), rows) {
@@ -117,7 +117,7 @@ fn write_rows<K: Sink>(sink: &mut K, volume: &FileVolume, rows: &[Row]) -> Image
 /// Writes the file of a volume.
 fn show_file<K: Sink>(sink: &mut K, volume: &FileVolume) -> ImageStatus
     ensures told { IsWritten result ImageStatus.Done (K.held sink.old) (K.held sink.new) (file_of volume.now) }
-    ensures write { result ≡ ImageStatus.WriteFault → Rose (K.faults sink.old) (K.faults sink.new) }
+    ensures write { WriteFaultHasCause result (K.faults sink.old) (K.faults sink.new) }
     ensures other { IsOfSink result }
 {
     match save(volume, sink) {
@@ -134,9 +134,9 @@ pub(crate) fn serve_check<K: Sink, F: DiskFile>(
 ) -> ImageStatus
     ensures told { Checks result (F.held file.old) (K.held sink.old) (K.held sink.new) }
     ensures same { F.held file.new ≡ F.held file.old }
-    ensures write { result ≡ ImageStatus.WriteFault → Rose (K.faults sink.old) (K.faults sink.new) }
+    ensures write { WriteFaultHasCause result (K.faults sink.old) (K.faults sink.new) }
     ensures read { result ≢ ImageStatus.ReadFault }
-    ensures file { result ≡ ImageStatus.FileFault → Rose (F.faults file.old) (F.faults file.new) }
+    ensures file { ToldFaultHasCause result (F.faults file.old) (F.faults file.new) }
 {
     match bad_tracks(alloc, file) {
         Ok(found) => tell_found(sink, &found),
@@ -152,9 +152,9 @@ pub(crate) fn serve_list<K: Sink, F: DiskFile>(
 ) -> ImageStatus
     ensures told { Shows list_text result (F.held file.old) (K.held sink.old) (K.held sink.new) }
     ensures same { F.held file.new ≡ F.held file.old }
-    ensures write { result ≡ ImageStatus.WriteFault → Rose (K.faults sink.old) (K.faults sink.new) }
+    ensures write { WriteFaultHasCause result (K.faults sink.old) (K.faults sink.new) }
     ensures read { result ≢ ImageStatus.ReadFault }
-    ensures file { result ≡ ImageStatus.FileFault → Rose (F.faults file.old) (F.faults file.new) }
+    ensures file { ToldFaultHasCause result (F.faults file.old) (F.faults file.new) }
 {
     match held_volume(alloc, file) {
         Ok(volume) => show_list(alloc, sink, &volume),
@@ -170,9 +170,9 @@ pub(crate) fn serve_to_volume<K: Sink, F: DiskFile>(
 ) -> ImageStatus
     ensures told { Shows file_of result (F.held file.old) (K.held sink.old) (K.held sink.new) }
     ensures same { F.held file.new ≡ F.held file.old }
-    ensures write { result ≡ ImageStatus.WriteFault → Rose (K.faults sink.old) (K.faults sink.new) }
+    ensures write { WriteFaultHasCause result (K.faults sink.old) (K.faults sink.new) }
     ensures read { result ≢ ImageStatus.ReadFault }
-    ensures file { result ≡ ImageStatus.FileFault → Rose (F.faults file.old) (F.faults file.new) }
+    ensures file { ToldFaultHasCause result (F.faults file.old) (F.faults file.new) }
 {
     match held_volume(alloc, file) {
         Ok(volume) => show_file(sink, &volume),

@@ -1,9 +1,9 @@
-ghost use Rattle.std.specs.Prelude.{◌≡◌, ◌≢◌, ◌≤◌, ◌*◌, IsErrOf, Ok, OnOk};
+ghost use Rattle.std.specs.Prelude.{◌≡◌, ◌≢◌, ◌≤◌, ◌*◌, Ok, OnOk};
 ghost use Rattle.ckd_outside.specs.Causes.{Rose};
 ghost use Rattle.disk_image.specs.Calls.{IsLong};
 ghost use Rattle.disk_image.specs.Image.{HasEmpty, IsEmpty, IsLayoutOf};
 ghost use Rattle.disk_image.specs.Opening.{opening};
-ghost use Rattle.disk_image.specs.Volume.{Told, layout_of};
+ghost use Rattle.disk_image.specs.Volume.{Told, layout_of, FileFaultHasCause};
 ghost use Rattle.volume_texts.specs.Faults.{head_text, track_text, trailing_text};
 ghost use Rattle.image_tool.specs.Storing.{
   MadeBy,
@@ -19,6 +19,7 @@ ghost use Rattle.image_tool.specs.Storing.{
 };
 ghost use Rattle.image_tool.specs.Texts.{bytes_text, other_text};
 ghost use Rattle.image_tool.specs.Written.{IsOfSink, IsWritten};
+ghost use Rattle.image_tool.specs.Answers.{WriteFaultHasCause, ToldFaultHasCause};
 
 use crate::reading::refuse;
 use crate::status::{ImageStatus, refused_by};
@@ -33,7 +34,7 @@ use volume_texts::{write_head, write_track, write_trailing};
 /// Tells that the file of a new image has bytes.
 fn full<K: Sink>(sink: &mut K) -> ImageStatus
     ensures told { IsWritten result ImageStatus.HasBytes (K.held sink.old) (K.held sink.new) bytes_text }
-    ensures write { result ≡ ImageStatus.WriteFault → Rose (K.faults sink.old) (K.faults sink.new) }
+    ensures write { WriteFaultHasCause result (K.faults sink.old) (K.faults sink.new) }
     ensures other { IsOfSink result }
 {
     match write_bytes(sink) {
@@ -52,7 +53,7 @@ fn create_whole<F: DiskFile>(
     requires empty { IsEmpty (F.held file.old) }
     requires most { cylinders ≤ 64 }
     ensures made { OnOk result (HasEmpty geometry (cylinders * 15) (F.held file.new)) }
-    ensures cause { IsErrOf result ImageFault.FileFault → Rose (F.faults file.old) (F.faults file.new) }
+    ensures cause { FileFaultHasCause result (F.faults file.old) (F.faults file.new) }
 {
     create(alloc, file, geometry, cylinders)?;
     file.sync()?;
@@ -65,7 +66,7 @@ fn make<F: DiskFile>(alloc: Global, file: &mut F, geometry: Geometry, cylinders:
     requires most { cylinders ≤ 64 }
     ensures made { MadeBy result geometry cylinders (F.held file.new) }
     ensures read { result ≢ ImageStatus.ReadFault }
-    ensures file { result ≡ ImageStatus.FileFault → Rose (F.faults file.old) (F.faults file.new) }
+    ensures file { ToldFaultHasCause result (F.faults file.old) (F.faults file.new) }
 {
     match create_whole(alloc, file, geometry, cylinders) {
         Ok(()) => ImageStatus::Done,
@@ -86,9 +87,9 @@ fn make_new<K: Sink, F: DiskFile>(
     requires long { IsLong (F.held file.old) size }
     requires most { cylinders ≤ 64 }
     ensures told { TellsNew result geometry cylinders (F.held file.old) (F.held file.new) (K.held sink.old) (K.held sink.new) }
-    ensures write { result ≡ ImageStatus.WriteFault → Rose (K.faults sink.old) (K.faults sink.new) }
+    ensures write { WriteFaultHasCause result (K.faults sink.old) (K.faults sink.new) }
     ensures read { result ≢ ImageStatus.ReadFault }
-    ensures file { result ≡ ImageStatus.FileFault → Rose (F.faults file.old) (F.faults file.new) }
+    ensures file { ToldFaultHasCause result (F.faults file.old) (F.faults file.new) }
 {
     if size > 0 {
         return full(sink);
@@ -106,9 +107,9 @@ pub(crate) fn serve_new<K: Sink, F: DiskFile>(
 ) -> ImageStatus
     requires { cylinders ≤ 64 }
     ensures told { TellsNew result geometry cylinders (F.held file.old) (F.held file.new) (K.held sink.old) (K.held sink.new) }
-    ensures write { result ≡ ImageStatus.WriteFault → Rose (K.faults sink.old) (K.faults sink.new) }
+    ensures write { WriteFaultHasCause result (K.faults sink.old) (K.faults sink.new) }
     ensures read { result ≢ ImageStatus.ReadFault }
-    ensures file { result ≡ ImageStatus.FileFault → Rose (F.faults file.old) (F.faults file.new) }
+    ensures file { ToldFaultHasCause result (F.faults file.old) (F.faults file.new) }
 {
     match file.len() {
         Ok(size) => make_new(alloc, geometry, cylinders, size, sink, file),
@@ -149,7 +150,7 @@ fn layout_of(volume: &FileVolume) -> Layout
 /// Tells that a volume isn't for an image of this layout.
 fn unlike<K: Sink>(sink: &mut K, image: Layout, volume: Layout) -> ImageStatus
     ensures told { IsWritten result (ImageStatus.Other image volume) (K.held sink.old) (K.held sink.new) (other_text image volume) }
-    ensures write { result ≡ ImageStatus.WriteFault → Rose (K.faults sink.old) (K.faults sink.new) }
+    ensures write { WriteFaultHasCause result (K.faults sink.old) (K.faults sink.new) }
     ensures other { IsOfSink result }
 {
     match write_other(sink, image, volume) {
@@ -161,7 +162,7 @@ fn unlike<K: Sink>(sink: &mut K, image: Layout, volume: Layout) -> ImageStatus
 fn bad_head<K: Sink>(sink: &mut K, offset: u32) -> ImageStatus
     ensures told { IsWritten result (ImageStatus.BadVolume (LoadFault.BadHead offset))
         (K.held sink.old) (K.held sink.new) (head_text offset) }
-    ensures write { result ≡ ImageStatus.WriteFault → Rose (K.faults sink.old) (K.faults sink.new) }
+    ensures write { WriteFaultHasCause result (K.faults sink.old) (K.faults sink.new) }
     ensures other { IsOfSink result }
 {
     match write_head(sink, offset) {
@@ -173,7 +174,7 @@ fn bad_head<K: Sink>(sink: &mut K, offset: u32) -> ImageStatus
 fn bad_track<K: Sink>(sink: &mut K, track: TrackNo, offset: u32) -> ImageStatus
     ensures told { IsWritten result (ImageStatus.BadVolume (LoadFault.BadTrack track offset))
         (K.held sink.old) (K.held sink.new) (track_text track offset) }
-    ensures write { result ≡ ImageStatus.WriteFault → Rose (K.faults sink.old) (K.faults sink.new) }
+    ensures write { WriteFaultHasCause result (K.faults sink.old) (K.faults sink.new) }
     ensures other { IsOfSink result }
 {
     match write_track(sink, track, offset) {
@@ -185,7 +186,7 @@ fn bad_track<K: Sink>(sink: &mut K, track: TrackNo, offset: u32) -> ImageStatus
 fn trailing<K: Sink>(sink: &mut K, offset: u32) -> ImageStatus
     ensures told { IsWritten result (ImageStatus.BadVolume (LoadFault.Trailing offset))
         (K.held sink.old) (K.held sink.new) (trailing_text offset) }
-    ensures write { result ≡ ImageStatus.WriteFault → Rose (K.faults sink.old) (K.faults sink.new) }
+    ensures write { WriteFaultHasCause result (K.faults sink.old) (K.faults sink.new) }
     ensures other { IsOfSink result }
 {
     match write_trailing(sink, offset) {
@@ -197,7 +198,7 @@ fn trailing<K: Sink>(sink: &mut K, offset: u32) -> ImageStatus
 /// Tells why the source gave no volume.
 fn refuse_volume<K: Sink>(sink: &mut K, fault: LoadFault) -> ImageStatus
     ensures told { TellsLoad result fault (K.held sink.old) (K.held sink.new) }
-    ensures write { result ≡ ImageStatus.WriteFault → Rose (K.faults sink.old) (K.faults sink.new) }
+    ensures write { WriteFaultHasCause result (K.faults sink.old) (K.faults sink.new) }
     ensures file { result ≢ ImageStatus.FileFault }
 {
     match fault {
@@ -218,7 +219,7 @@ fn store_whole<F: DiskFile>(
     requires layout { IsLayoutOf (F.held file.old) (layout_of volume.now) }
     requires opened { Told (F.held file.old) (λ all. opening all ≡ Ok (layout_of volume.now)) }
     ensures stored { StoresWhole volume.now (F.held file.old) result (F.held file.new) }
-    ensures cause { IsErrOf result ImageFault.FileFault → Rose (F.faults file.old) (F.faults file.new) }
+    ensures cause { FileFaultHasCause result (F.faults file.old) (F.faults file.new) }
 {
     let mut room = TrackRoom::new(alloc, volume.geometry())?;
     store_volume(file, volume, &mut room)?;
@@ -232,7 +233,7 @@ fn store<F: DiskFile>(alloc: Global, file: &mut F, volume: &FileVolume) -> Image
     requires opened { Told (F.held file.old) (λ all. opening all ≡ Ok (layout_of volume.now)) }
     ensures stored { StoredBy result volume.now (F.held file.old) (F.held file.new) }
     ensures read { result ≢ ImageStatus.ReadFault }
-    ensures file { result ≡ ImageStatus.FileFault → Rose (F.faults file.old) (F.faults file.new) }
+    ensures file { ToldFaultHasCause result (F.faults file.old) (F.faults file.new) }
 {
     match store_whole(alloc, file, volume) {
         Ok(()) => ImageStatus::Done,
@@ -251,9 +252,9 @@ fn serve_volume<K: Sink, F: DiskFile>(
     requires layout { IsLayoutOf (F.held file.old) layout }
     requires opened { Told (F.held file.old) (λ all. opening all ≡ Ok layout) }
     ensures told { TellsVolume result layout volume.now (F.held file.old) (F.held file.new) (K.held sink.old) (K.held sink.new) }
-    ensures write { result ≡ ImageStatus.WriteFault → Rose (K.faults sink.old) (K.faults sink.new) }
+    ensures write { WriteFaultHasCause result (K.faults sink.old) (K.faults sink.new) }
     ensures read { result ≢ ImageStatus.ReadFault }
-    ensures file { result ≡ ImageStatus.FileFault → Rose (F.faults file.old) (F.faults file.new) }
+    ensures file { ToldFaultHasCause result (F.faults file.old) (F.faults file.new) }
 {
     let given = layout_of(volume);
     if !is_alike(layout, given) {
@@ -277,8 +278,8 @@ fn serve_given<S: Source, K: Sink, F: DiskFile>(
         (record { left = S.left source.new; held = K.held sink.new; file = F.held file.new }) }
     ensures read { result ≡ ImageStatus.ReadFault → Rose (S.faults source.old) (S.faults source.new) }
     ensures calm { result ≢ ImageStatus.ReadFault → S.faults source.new ≡ S.faults source.old }
-    ensures write { result ≡ ImageStatus.WriteFault → Rose (K.faults sink.old) (K.faults sink.new) }
-    ensures file { result ≡ ImageStatus.FileFault → Rose (F.faults file.old) (F.faults file.new) }
+    ensures write { WriteFaultHasCause result (K.faults sink.old) (K.faults sink.new) }
+    ensures file { ToldFaultHasCause result (F.faults file.old) (F.faults file.new) }
 {
     match load(alloc, source) {
         Ok(volume) => {
@@ -301,8 +302,8 @@ pub(crate) fn serve_from_volume<S: Source, K: Sink, F: DiskFile>(
         (record { left = S.left source.new; held = K.held sink.new; file = F.held file.new }) }
     ensures read { result ≡ ImageStatus.ReadFault → Rose (S.faults source.old) (S.faults source.new) }
     ensures calm { result ≢ ImageStatus.ReadFault → S.faults source.new ≡ S.faults source.old }
-    ensures write { result ≡ ImageStatus.WriteFault → Rose (K.faults sink.old) (K.faults sink.new) }
-    ensures file { result ≡ ImageStatus.FileFault → Rose (F.faults file.old) (F.faults file.new) }
+    ensures write { WriteFaultHasCause result (K.faults sink.old) (K.faults sink.new) }
+    ensures file { ToldFaultHasCause result (F.faults file.old) (F.faults file.new) }
 {
     match open_image(alloc, file) {
         Ok(layout) => serve_given(alloc, layout, source, sink, file),

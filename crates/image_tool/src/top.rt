@@ -1,6 +1,6 @@
 ghost use Rattle.std.specs.Prelude.{◌≡◌, ◌≢◌, ◌⊎◌, IfSome, Some, None, [], map};
 ghost use Rattle.ckd_outside.specs.Causes.{Rose};
-ghost use Rattle.image_tool.specs.Answers.{Suits, Tells, task_of, usage_text};
+ghost use Rattle.image_tool.specs.Answers.{Suits, Tells, task_of, usage_text, WriteFaultHasCause, ToldFaultHasCause};
 ghost use Rattle.image_tool.specs.Written.{IsOfSink, IsWritten};
 
 use crate::reading::{serve_check, serve_list, serve_to_volume};
@@ -25,7 +25,7 @@ pub fn words_of<'a>(arguments: Option<&'a [&'a str]>) -> &'a [&'a str]
 
 fn usage<K: Sink>(sink: &mut K) -> ImageStatus
     ensures told { IsWritten result ImageStatus.Usage (K.held sink.old) (K.held sink.new) usage_text }
-    ensures write { result ≡ ImageStatus.WriteFault → Rose (K.faults sink.old) (K.faults sink.new) }
+    ensures write { WriteFaultHasCause result (K.faults sink.old) (K.faults sink.new) }
     ensures other { IsOfSink result }
 {
     match write_usage(sink) {
@@ -46,8 +46,8 @@ fn serve<S: Source, K: Sink, F: DiskFile>(
         (record { left = S.left source.new; held = K.held sink.new; file = F.held file.new }) }
     ensures read { result ≡ ImageStatus.ReadFault → Rose (S.faults source.old) (S.faults source.new) }
     ensures calm { result ≢ ImageStatus.ReadFault → S.faults source.new ≡ S.faults source.old }
-    ensures write { result ≡ ImageStatus.WriteFault → Rose (K.faults sink.old) (K.faults sink.new) }
-    ensures file { result ≡ ImageStatus.FileFault → Rose (F.faults file.old) (F.faults file.new) }
+    ensures write { WriteFaultHasCause result (K.faults sink.old) (K.faults sink.new) }
+    ensures file { ToldFaultHasCause result (F.faults file.old) (F.faults file.new) }
 {
     match task_of(words) {
         Some(
@@ -81,8 +81,8 @@ pub fn image_top<S: Source, K: Sink, F: DiskFile>(
         (record { left = S.left source.new; held = K.held sink.new; file = F.held file.new }) }
     ensures read { result ≡ ImageStatus.ReadFault → Rose (S.faults source.old) (S.faults source.new) }
     ensures calm { result ≢ ImageStatus.ReadFault → S.faults source.new ≡ S.faults source.old }
-    ensures write { result ≡ ImageStatus.WriteFault → Rose (K.faults sink.old) (K.faults sink.new) }
-    ensures file { result ≡ ImageStatus.FileFault → Rose (F.faults file.old) (F.faults file.new) }
+    ensures write { WriteFaultHasCause result (K.faults sink.old) (K.faults sink.new) }
+    ensures file { ToldFaultHasCause result (F.faults file.old) (F.faults file.new) }
 
     // What source and file are there for is done, unless memory runs out or the outside fails.
     ensures complete { (task : Task) → task_of (map (λ w. w.now) words.now) ≡ Some task

@@ -38,7 +38,7 @@ use Rattle.device_defs.specs.Image.{Imaged, Has, NoBytes, BadTrack}
 use Rattle.device_defs.specs.Marks.{MarksDevice, MarksStore}
 use Rattle.device_defs.specs.Memory.{had_by}
 use Rattle.device_defs.specs.Outcomes.{Turn, ends_with, settles, checks, usage_of, turned}
-use Rattle.device_defs.specs.Owed.{begun, waiting_count}
+use Rattle.device_defs.specs.Owed.{noted_begin, waiting_count}
 use Rattle.device_defs.specs.Store.{tracks_of, is_lost}
 use Rattle.device_laws.proofs.PlainStores.{core_of}
 use Rattle.device_laws.proofs.WholeEvents.{turned_same}
@@ -104,7 +104,7 @@ module _ (w : Watch) where
   Kept i = Silent (λ d _. OnDevice d) i
 
   -- an event begins
-  pub begun_on : (s : MarksStore) → On w s → On w (begun s)
+  pub begun_on : (s : MarksStore) → On w s → On w (noted_begin s)
   begun_on s k = acts_keep w (core_of s) _ k
 
   pub end_kept : {X : Type 0} (old d : MarksDevice) (a : X) → OnDevice d → Kept (event_ended by_plain old d a)
@@ -144,6 +144,6 @@ module _ (w : Watch) where
   command_says d k =
       names_try (names_then (event_ended by_plain d)
       (names_then (λ s _. command_by by_plain (record (event_begun d) { store = s }) d.history.running d.chain)
-      (silent_names (hear_stays w 960 (begun d.store) (begun_on d.store k)))
+      (silent_names (hear_stays w 960 (noted_begin d.store) (begun_on d.store k)))
       (λ s _ x. by_says (record (event_begun d) { store = s }) d.history.running d.chain x))
       (λ e a x. silent_names (end_kept d e a x)))

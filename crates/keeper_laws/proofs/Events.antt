@@ -1,5 +1,5 @@
 -- The other events of a device tell a keeper of no edit, and leave a track that is calm as it is.
-use Rattle.std.proofs.Common.{◌≡◌, ◌==◌, ◌||◌, ℕ, Bool, true, false, List, [], ◌∷◌, Option, Some, None, is_some, refl, ap}
+use Rattle.std.proofs.Common.{◌≡◌, ◌==◌, ℕ, Bool, true, false, [], Option, Some, None, is_some, refl, ap}
 use Rattle.std.proofs.lemmas.Bool.{cond_both}
 use Rattle.ckd_types.specs.declared.paths.Side.{Side}
 use Rattle.ckd_chain.specs.State.{ChainState}
@@ -9,128 +9,41 @@ use Rattle.plain_defs.specs.History.{OpenEntry, has_used}
 use Rattle.plain_defs.specs.PlainState.{reset_path}
 use Rattle.track_image.specs.Image.{Image}
 use Rattle.device_outside.specs.Interaction.{Interaction, Done, and_then}
-use Rattle.device_defs.specs.declared.answers.Did.{Did}
-use Rattle.device_defs.specs.declared.answers.Took.{Took}
-use Rattle.device_defs.specs.declared.answers.Took.TheVariants.{Whole, Opened, Unwritten}
-use Rattle.device_defs.specs.Background as B
-use Rattle.device_defs.specs.Background.{
-  did,
-  other,
-  saved_by,
-  saving,
-  saved,
-  recovered_bytes,
-  recover,
-  copied,
-  copy_read,
-  copy_by,
-  copies_to,
-  staged_bytes,
-  stage,
-  destage_first,
-  to_destage,
-  stage_first,
-  copy_first,
-  to_copy,
-  recover_first,
-  to_recover,
-  work,
-}
+use Rattle.device_defs.specs.Background.{did, work}
 use Rattle.device_defs.specs.Contents.{by_plain}
 use Rattle.device_defs.specs.Cutting as K
-use Rattle.device_defs.specs.Cutting.{
-  origin_cut,
-  half_cut,
-  reset_noted,
-  counts_one_by,
-  path_cut,
-  reset_by,
-  reset,
-  half_ended,
-  half_lost,
-  loose_gone,
-  powerless,
-  powered_off,
-  power,
-}
+use Rattle.device_defs.specs.Cutting.{origin_cut, half_cut, reset_noted, counts_one_by, path_cut, reset_by, reset, half_ended, half_lost, loose_gone, powerless, powered_off, power}
 use Rattle.device_defs.specs.Device.{all_reset, with_store, event_begun, event_ended, event}
 use Rattle.device_defs.specs.Effects.{with_edit, gone_back, loose_lost}
 use Rattle.device_defs.specs.Events as V
 use Rattle.device_defs.specs.Events.{with_loss, lost_by, losing, lose, second_turn, command_ended, second_ended, second_of, second, background}
-use Rattle.device_defs.specs.Image.{Got, Imaged}
+use Rattle.device_defs.specs.Image.{Imaged}
 use Rattle.device_defs.specs.Losses as L
-use Rattle.device_defs.specs.Losses.{settled, patch_lost, without_frame, without_patch, slot_in, stale_everywhere, call_failed}
+use Rattle.device_defs.specs.Losses.{settled, patch_lost, without_frame, without_patch, slot_in, stale_everywhere}
 use Rattle.device_defs.specs.Marks.{MarksDevice, MarksStore}
 use Rattle.device_defs.specs.Memory.{had_by}
 use Rattle.device_defs.specs.Orders as O
-use Rattle.device_defs.specs.Orders.{given_up, lent_to, with_tracks, lend}
-use Rattle.device_defs.specs.Owed.{begun}
+use Rattle.device_defs.specs.Orders.{given_up, lend}
+use Rattle.device_defs.specs.Owed.{noted_begin}
 use Rattle.device_defs.specs.Peek as P
-use Rattle.device_defs.specs.Peek.{Peeked, peek_usage, peeked, peek_image, is_in_half, peek_half, peek_track, peek}
+use Rattle.device_defs.specs.Peek.{peek_usage, peeked, peek_image, is_in_half, peek_half, peek_track, peek}
 use Rattle.device_defs.specs.Second as N
-use Rattle.device_defs.specs.Second.{closed, finished, second_done, cut_kept, second_by, second_part}
-use Rattle.device_defs.specs.Store.{
-  Origin,
-  OfCommand,
-  OfCut,
-  OfBackground,
-  HalfWrite,
-  tracks_of,
-  has_level,
-  has_loose,
-  frame_at,
-  patch_at,
-  is_lost,
-  half_is,
-  plain_at,
-  with_frame,
-  with_stale,
-}
-use Rattle.device_defs.specs.Writing as W
-use Rattle.device_defs.specs.Writing.{firm_first, write_first, opened}
+use Rattle.device_defs.specs.Second.{half_closed, finished, cut_kept, second_by, second_part}
+use Rattle.device_defs.specs.Store.{Origin, OfCommand, OfCut, OfBackground, HalfWrite, tracks_of, has_level, has_loose, frame_at, patch_at, is_lost, half_is, with_frame}
 use Rattle.device_laws.proofs.PlainStores.{core_of}
-use Rattle.device_laws.proofs.PlainWalks.{patch_same, everywhere_same, stale_same, over_holds, side_holds}
+use Rattle.device_laws.proofs.PlainWalks.{patch_same, everywhere_same, over_holds, side_holds}
 use Rattle.look_laws.specs.Looking.{is_written}
-use Rattle.keeper_laws.proofs.Calm.{
-  Watch,
-  is_watched,
-  Keeps,
-  hardened_keeps,
-  edited_keeps,
-  gone_keeps,
-  acts_keep,
-  half_keeps,
-  lent_keeps,
-  half_unwatched,
-  unwritten,
-  unwatched,
-}
+use Rattle.keeper_laws.proofs.Calm.{Watch, is_watched, Keeps, hardened_keeps, edited_keeps, gone_keeps, acts_keep, half_keeps, lent_keeps, half_unwatched, unwritten, unwatched}
 use Rattle.keeper_laws.proofs.Commands.{OnDevice, Kept, begun_on, end_kept, turned_has}
-use Rattle.keeper_laws.proofs.Parts.{
-  On,
-  on_core,
-  Stays,
-  Imaging,
-  frames_on,
-  settled_on,
-  hear_stays,
-  told_stays,
-  failed_stays,
-  bytes_stay,
-  filled_stays,
-  image_has,
-  firm_first_stays,
-  write_first_stays,
-  write_second_stays,
-  done_stays,
-  opened_stays,
-}
-use Rattle.keeper_laws.proofs.Silent.{silent_done, silent_try, silent_ask, silent_read, silent_write, silent_firm, silent_then, silent_if}
+use Rattle.keeper_laws.proofs.FirmWalk.{work_rests}
+use Rattle.keeper_laws.proofs.Firms.{silent_of, says_of}
+use Rattle.keeper_laws.proofs.Parts.{On, on_core, Stays, Imaging, calm, frames_on, settled_on, hear_stays, told_stays, image_has, write_second_stays, done_stays, opened_stays}
+use Rattle.keeper_laws.proofs.Silent.{silent_done, silent_try, silent_firm, silent_then, silent_if}
 
 module _ (w : Watch) where
   -- The other part of a write
 
-  closed_on : (s : MarksStore) → On w s → On w (closed s)
+  closed_on : (s : MarksStore) → On w s → On w (half_closed s)
   closed_on s k = half_keeps w (core_of s) None k (λ _. refl)
 
   kept_on : (s : MarksStore) (q : ℕ) (i : Image) (o : Option Bool) → On w s → On w (cut_kept by_plain s q i o)
@@ -146,14 +59,14 @@ module _ (w : Watch) where
       Stays w (second_by by_plain q i origin s)
   level_stays s q i (OfCommand bypass e) off k =
       silent_if (has_level s q)
-      (λ _. silent_firm (finished_stays (with_edit (closed s) q e) q i bypass (edited_keeps w (core_of (closed s)) q (closed_on s k) (off refl) e)))
-      (λ _. silent_done (settled_on w (closed s) q (closed_on s k)))
+      (λ _. silent_firm (finished_stays (with_edit (half_closed s) q e) q i bypass (edited_keeps w (core_of (half_closed s)) q (closed_on s k) (off refl) e)))
+      (λ _. silent_done (settled_on w (half_closed s) q (closed_on s k)))
   level_stays s q i (OfCut bypass) off k =
-      silent_if (has_level s q) (λ _. finished_stays (closed s) q i bypass (closed_on s k))
-      (λ _. silent_done (settled_on w (cut_kept by_plain (closed s) q i (frame_at (closed s) q)) q
-      (kept_on (closed s) q i (frame_at (closed s) q) (closed_on s k))))
+      silent_if (has_level s q) (λ _. finished_stays (half_closed s) q i bypass (closed_on s k))
+      (λ _. silent_done (settled_on w (cut_kept by_plain (half_closed s) q i (frame_at (half_closed s) q)) q
+      (kept_on (half_closed s) q i (frame_at (half_closed s) q) (closed_on s k))))
   level_stays s q i OfBackground off k =
-      silent_if (has_level s q) (λ _. finished_stays (closed s) q i false (closed_on s k)) (λ _. silent_done (settled_on w (closed s) q (closed_on s k)))
+      silent_if (has_level s q) (λ _. finished_stays (half_closed s) q i false (closed_on s k)) (λ _. silent_done (settled_on w (half_closed s) q (closed_on s k)))
 
   part_stays : (s : MarksStore) (h : HalfWrite (Unit {0})) → s.half ≡ Some h → On w s → Stays w (second_part by_plain s h)
   unfolding N.second_part
@@ -183,7 +96,7 @@ module _ (w : Watch) where
       ((s : MarksStore) → On w s → Kept w (body (record (event_begun d) { store = s }))) → Kept w (event by_plain d body)
   noted_kept d body k does =
       silent_then (event_ended by_plain d)
-      (silent_then (λ s _. body (record (event_begun d) { store = s })) (hear_stays w 960 (begun d.store) (begun_on w d.store k)) (λ s _ x. does s x))
+      (silent_then (λ s _. body (record (event_begun d) { store = s })) (hear_stays w 960 (noted_begin d.store) (begun_on w d.store k)) (λ s _ x. does s x))
       (λ e a x. end_kept w d e a x)
 
   pub second_kept : (d : MarksDevice) → OnDevice w d → Kept w (second by_plain d)
@@ -193,76 +106,10 @@ module _ (w : Watch) where
 
   -- Work in the background
 
-  saved_stays : (q : ℕ) (i : Image) (d : Did) (fault : Option Side) (was : Bool) (failed : Option Side) (s : MarksStore) (took : Took) → On w s →
-      Stays w (saved_by by_plain q i d fault was failed s took)
-  saved_stays q i d fault was failed s Whole k =
-      silent_then (λ z _. Done z (did fault (did failed d))) (done_stays w s q i false k) (λ z _ x. silent_done x)
-  saved_stays q i d fault was failed s Opened k =
-      silent_then (λ z _. Done z (did fault _)) (opened_stays w s q i OfBackground was k (λ _. unwritten w q OfBackground refl)) (λ z _ x. silent_done x)
-  saved_stays q i d fault was failed s Unwritten k = silent_done k
-
-  save_stays : (s : MarksStore) (q : ℕ) (i : Image) (d : Did) (fault : Option Side) → On w s → Stays w (saved by_plain s q i d fault)
-  save_stays s q i d fault k =
-      silent_try (silent_then (λ z e. Done z (Some e))
-      (silent_then (λ z was. and_then (write_first by_plain z q true) (λ y r. saved_by by_plain q i d fault was r.fault y r.took)) (firm_first_stays w s q k)
-      (λ z was x. silent_then (λ y r. saved_by by_plain q i d fault was r.fault y r.took) (write_first_stays w q z true x)
-      (λ y r x. saved_stays q i d fault was r.fault y r.took x)))
-      (λ z e x. silent_done x))
-
-  recovered_stays : (q : ℕ) (s : MarksStore) (g : Got Bool) (b : Option Bool) → On w s → Stays w (recovered_bytes by_plain q s g b)
-  recovered_stays q s g None k = silent_done k
-  recovered_stays q s g (Some true) k = silent_try (save_stays s q _ _ g.fault k)
-  recovered_stays q s g (Some false) k = silent_try (silent_done k)
-
-  recover_stays : (s : MarksStore) (q : ℕ) (f : Option Bool) → On w s → Stays w (recover by_plain s q f)
-  recover_stays s q (Some f) k = save_stays s q _ _ None k
-  recover_stays s q None k = silent_then (λ z g. recovered_bytes by_plain q z g g.bytes) (bytes_stay w s q k) (λ z g x. recovered_stays q z g g.bytes x)
-
-  stopped_stays : (s : MarksStore) (side : Side) (d : Option Did) → On w s → Stays w (and_then (call_failed by_plain s side None) (λ z _. Done z d))
-  stopped_stays s side d k = silent_then (λ z _. Done z d) (failed_stays w s side None k) (λ z _ x. silent_done x)
-
-  copied_stays : (q : ℕ) (side : Side) (s : MarksStore) (ok : Bool) → On w s → Stays w (copied by_plain q side s ok)
-  copied_stays q side s ok k =
-      silent_if ok (λ _. silent_done (on_core w s (with_stale s side q false) (stale_same s side q false) k)) (λ _. stopped_stays s side _ k)
-
-  copy_stays : (q : ℕ) (side : Side) (s : MarksStore) (r : Option Bool) → On w s → Stays w (copy_read by_plain q side s r)
-  copy_stays q side s None k = stopped_stays s (other side) _ k
-  copy_stays q side s (Some r) k = silent_write (λ ok. copied_stays q side (W.write_counted s ok) ok k)
-
-  copies_stay : (s : MarksStore) (q : ℕ) (o : Option Side) → On w s → Stays w (copy_by by_plain s q o)
-  copies_stay s q None k = silent_done k
-  copies_stay s q (Some side) k = silent_read (copy_stays q side _ None k) (copy_stays q side _ (Some true) k)
-
-  staged_stays : (q : ℕ) (s : MarksStore) (g : Got Bool) (b : Option Bool) → On w s → Stays w (staged_bytes by_plain q s g b)
-  staged_stays q s g None k = silent_ask (λ _. silent_done k)
-  staged_stays q s g (Some true) k = silent_try (silent_then (λ z _. Done z _) (filled_stays w s q (plain_at s q) k) (λ z _ x. silent_done x))
-  staged_stays q s g (Some false) k = silent_try (silent_ask (λ _. silent_done k))
-
-  stage_stays : (s : MarksStore) (q : ℕ) → On w s → Stays w (stage by_plain s q)
-  stage_stays s q k =
-      silent_if (is_some (frame_at s q) || is_lost s q) (λ _. silent_done k)
-      (λ _. silent_try (silent_ask (λ given. silent_if given
-      (λ _. silent_then (λ z g. staged_bytes by_plain q z g g.bytes) (bytes_stay w s q k) (λ z g x. staged_stays q z g g.bytes x)) (λ _. silent_done k))))
-
-  destage_stays : (s : MarksStore) (o : Option ℕ) → On w s → Stays w (destage_first by_plain s o)
-  destage_stays s None k = silent_done k
-  destage_stays s (Some q) k = save_stays s q _ _ None k
-
-  stages_stay : (s : MarksStore) (ts : List ℕ) → On w s → Stays w (stage_first by_plain s ts)
-  stages_stay s [] k = destage_stays s (to_destage by_plain s) k
-  stages_stay s (q ∷ ts) k = stage_stays (record s { queue = ts }) q k
-
-  copy_first_stays : (s : MarksStore) (o : Option ℕ) → On w s → Stays w (copy_first by_plain s o)
-  copy_first_stays s None k = stages_stay s s.queue k
-  copy_first_stays s (Some q) k = copies_stay s q (copies_to s q) k
-
-  recover_first_stays : (s : MarksStore) (o : Option ℕ) → On w s → Stays w (recover_first by_plain s o)
-  recover_first_stays s None k = copy_first_stays s (to_copy s) k
-  recover_first_stays s (Some q) k = recover_stays s q (frame_at s q) k
-
   work_stays : (s : MarksStore) → On w s → Stays w (work by_plain s)
-  unfolding B.work
-  work_stays s k = recover_first_stays s (to_recover by_plain s) k
+  work_stays s k =
+      silent_of (work_rests (calm w) (λ u z. On w z) (λ o u z x. x)
+      (λ q i u z was x. says_of (opened_stays w z q i OfBackground was x (λ _. unwritten w q OfBackground refl)) u) {v = tt} s k)
 
   pub background_kept : (d : MarksDevice) → OnDevice w d → Kept w (background by_plain d)
   unfolding V.background
@@ -368,7 +215,7 @@ module _ (w : Watch) where
   unfolding K.power
   power_kept d k =
       silent_then (event_ended by_plain d)
-      (silent_then (λ s _. Done (powered_off by_plain (event_begun d) s) tt) (half_stays (begun d.store) d.store.half refl (begun_on w d.store k))
+      (silent_then (λ s _. Done (powered_off by_plain (event_begun d) s) tt) (half_stays (noted_begin d.store) d.store.half refl (begun_on w d.store k))
       (λ s _ x. silent_done (powerless_on (with_loss s losses.Cache) x)))
       (λ e a x. end_kept w d e a x)
 
@@ -380,9 +227,9 @@ module _ (w : Watch) where
   pub lend_kept : (d : MarksDevice) (to : ℕ) → OnDevice w d → Kept w (lend by_plain d to)
   unfolding O.lend
   lend_kept d to k =
-      let s = L.over (tracks_of d.store) (given_up by_plain) (begun d.store) in
+      let s = L.over (tracks_of d.store) (given_up by_plain) (noted_begin d.store) in
       silent_then (event_ended by_plain d)
-      (silent_done (lent_keeps w (core_of s) (Some to) (over_on (tracks_of d.store) (given_up by_plain) given_on (begun d.store) (begun_on w d.store k))))
+      (silent_done (lent_keeps w (core_of s) (Some to) (over_on (tracks_of d.store) (given_up by_plain) given_on (noted_begin d.store) (begun_on w d.store k))))
       (λ e a x. end_kept w d e a x)
 
   -- A look
@@ -406,5 +253,5 @@ module _ (w : Watch) where
   unfolding P.peek
   peek_kept d q k =
       silent_then (event_ended by_plain d)
-      (silent_then (λ s found. Done (with_store (event_begun d) s) found) (track_stays (begun d.store) q (begun_on w d.store k)) (λ s found x. silent_done x))
+      (silent_then (λ s found. Done (with_store (event_begun d) s) found) (track_stays (noted_begin d.store) q (begun_on w d.store k)) (λ s found x. silent_done x))
       (λ e a x. end_kept w d e a x)

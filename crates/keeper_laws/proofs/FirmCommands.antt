@@ -14,35 +14,19 @@ use Rattle.device_outside.specs.Interaction.{Interaction, Done}
 use Rattle.device_defs.specs.declared.answers.Took.{Took}
 use Rattle.device_defs.specs.declared.usage.Usage.{Usage}
 use Rattle.device_defs.specs.Command as N
-use Rattle.device_defs.specs.Command.{
-  Went,
-  Over,
-  On as Onward,
-  has_loss,
-  came_of_write,
-  went_by,
-  looked,
-  look,
-  goes_on,
-  follow,
-  came_out,
-  on_tracks,
-  answered_by,
-  command_at,
-  command_by,
-  command,
-}
+use Rattle.device_defs.specs.Command.{Went, Over, On as Onward, has_loss, came_of_write, went_by, looked, look, goes_on, follow, came_out, on_tracks, answered_by, command_at, command_by, command}
 use Rattle.device_defs.specs.Contents.{by_plain}
 use Rattle.device_defs.specs.Device.{with_store, event_begun, event_ended}
 use Rattle.device_defs.specs.Image.{Imaged, Has, NoBytes, BadTrack}
 use Rattle.device_defs.specs.Marks.{MarksDevice, MarksStore}
 use Rattle.device_defs.specs.Memory.{had_by}
 use Rattle.device_defs.specs.Outcomes.{Turn, ends_with, settles, checks, usage_of, turned}
-use Rattle.device_defs.specs.Owed.{begun, waiting_count}
+use Rattle.device_defs.specs.Owed.{noted_begin, waiting_count}
 use Rattle.device_defs.specs.Store.{tracks_of, is_lost}
 use Rattle.device_laws.proofs.WholeEvents.{turned_same}
-use Rattle.keeper_laws.proofs.FirmParts.{Imaging, hear_goes, ended_goes, image_has}
+use Rattle.keeper_laws.proofs.FirmParts.{Imaging, ended_goes, said}
 use Rattle.keeper_laws.proofs.FirmStores.{half_track, On}
+use Rattle.keeper_laws.proofs.FirmWalk.{hear_goes, image_has}
 use Rattle.keeper_laws.proofs.FirmWrites.{Rest, rest_from, rest_at, Rests, write_rests}
 use Rattle.keeper_laws.proofs.Firms.{Firms, firms_done, firms_try, firms_then, firms_if}
 
@@ -89,7 +73,7 @@ module _ (k : ℕ) (p : Type 0) where
     unfolding N.look
     look_looks chain first t s x =
         firms_if (is_lost s t) (λ _. firms_done (now_rest s x))
-        (λ _. firms_then (had_by (looked by_plain chain first t)) (image_has k p None None b t s (usage_of chain) x)
+        (λ _. firms_then (had_by (looked by_plain chain first t)) (image_has (said k p b) None None t s (usage_of chain) x)
         (λ u z o y. looked_looks chain first t z o y))
 
     by_went : {v : List Track} (n first : ℕ) (s : MarksStore) (o : Option Went) → After v s o →
@@ -156,6 +140,6 @@ module _ (k : ℕ) (p : Type 0) where
   command_keeps d none x =
       firms_try (firms_then (event_ended by_plain d)
       (firms_then (λ s _. command_by by_plain (record (event_begun d) { store = s }) d.history.running d.chain)
-      (hear_goes k p None None d.store.plain 960 (begun d.store) (rest_at k p None d.store none x))
+      (hear_goes (said k p d.store.plain) None None 960 (noted_begin d.store) (rest_at k p None d.store none x))
       (λ u s _ y. by_keeps d.store.plain (record (event_begun d) { store = s }) d.history.running d.chain y))
       (λ u e a y. end_keeps d e a y))

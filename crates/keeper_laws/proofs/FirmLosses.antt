@@ -1,32 +1,5 @@
 -- Losses, cuts, looks and the lending of a volume keep the firm volume as it was told.
-use Rattle.std.proofs.Common.{
-  ◌≡◌,
-  ◌<◌,
-  ◌≤◌,
-  ◌==◌,
-  ℕ,
-  zero,
-  suc,
-  Bool,
-  false,
-  List,
-  Option,
-  Some,
-  None,
-  is_some,
-  length,
-  replicate,
-  [],
-  set,
-  get_or,
-  refl,
-  sym,
-  ap,
-  arith,
-  inl,
-  inr,
-  ◌∙◌,
-}
+use Rattle.std.proofs.Common.{◌≡◌, ◌<◌, ◌≤◌, ◌==◌, ℕ, zero, suc, Bool, false, List, Option, Some, None, is_some, length, replicate, [], set, get_or, refl, sym, ap, arith, inl, inr, ◌∙◌}
 use Rattle.std.specs.Prelude.{◌⊎◌}
 use Rattle.std.proofs.lemmas.Bool.{cond_both, cases_lt}
 use Rattle.std.proofs.lemmas.List.{length-set, get_or_past, get_or-set_same}
@@ -37,25 +10,10 @@ use Rattle.loss_model.specs.declared.Loss.{Loss}
 use Rattle.loss_model.specs.declared.Loss.TheVariants as losses
 use Rattle.plain_defs.specs.History.{OpenEntry, has_used}
 use Rattle.plain_defs.specs.PlainState.{reset_path}
-use Rattle.track_image.specs.Image.{Image}
-use Rattle.device_outside.specs.Interaction.{Interaction, Done, and_then}
+use Rattle.device_outside.specs.Interaction.{Done, and_then}
 use Rattle.device_defs.specs.Contents.{by_plain}
 use Rattle.device_defs.specs.Cutting as K
-use Rattle.device_defs.specs.Cutting.{
-  origin_cut,
-  half_cut,
-  reset_noted,
-  counts_one_by,
-  path_cut,
-  reset_by,
-  reset,
-  half_ended,
-  half_lost,
-  loose_gone,
-  powerless,
-  powered_off,
-  power,
-}
+use Rattle.device_defs.specs.Cutting.{origin_cut, half_cut, reset_noted, counts_one_by, path_cut, reset_by, reset, half_ended, half_lost, loose_gone, powerless, powered_off, power}
 use Rattle.device_defs.specs.Device.{all_reset, with_store, event_begun, event_ended}
 use Rattle.device_defs.specs.Effects.{gone_back, loose_lost}
 use Rattle.device_defs.specs.Events as V
@@ -65,44 +23,18 @@ use Rattle.device_defs.specs.Losses as L
 use Rattle.device_defs.specs.Losses.{settled, all_firm_told, patch_lost, without_frame, without_patch, stale_everywhere}
 use Rattle.device_defs.specs.Marks.{MarksDevice, MarksStore}
 use Rattle.device_defs.specs.Memory.{had_by}
-use Rattle.device_defs.specs.Owed.{begun}
+use Rattle.device_defs.specs.Owed.{noted_begin}
 use Rattle.device_defs.specs.Peek as P
 use Rattle.device_defs.specs.Peek.{peek_usage, peeked, peek_image, is_in_half, peek_half, peek_track, peek}
-use Rattle.device_defs.specs.Store.{
-  Origin,
-  OfCommand,
-  OfCut,
-  OfBackground,
-  HalfWrite,
-  tracks_of,
-  has_loose,
-  frame_at,
-  patch_at,
-  is_lost,
-  half_is,
-}
+use Rattle.device_defs.specs.Store.{Origin, OfCommand, OfCut, OfBackground, HalfWrite, tracks_of, has_loose, frame_at, patch_at, is_lost, half_is}
 use Rattle.device_laws.proofs.PlainEvents.{none_loose}
 use Rattle.keeper_laws.proofs.FirmCommands.{Keeps, end_keeps}
 use Rattle.keeper_laws.proofs.FirmEvents.{half_image, noted_keeps}
-use Rattle.keeper_laws.proofs.FirmParts.{at_none, Goes, Imaging, all_told_goes, image_has}
-use Rattle.keeper_laws.proofs.FirmStores.{
-  NotLoose,
-  half_track,
-  On,
-  on_like,
-  calm_settled,
-  Owes,
-  owes_none,
-  owes_like,
-  owes_settled,
-  owes_over,
-  owes_side,
-  like_everywhere,
-  like_unframed,
-  like_unpatched,
-}
+use Rattle.keeper_laws.proofs.FirmParts.{at_none, Imaging, all_told_goes, said}
+use Rattle.keeper_laws.proofs.FirmStores.{NotLoose, half_track, On, on_like, calm_settled, Owes, owes_none, owes_like, owes_settled, owes_over, owes_side, like_everywhere, like_unframed, like_unpatched}
+use Rattle.keeper_laws.proofs.FirmWalk.{image_has}
 use Rattle.keeper_laws.proofs.FirmWrites.{Rest, rest_from, rest_at, Rests}
-use Rattle.keeper_laws.proofs.Firms.{firms_done, firms_try, firms_ask, firms_read, firms_write, firms_named, firms_told, firms_then, firms_if}
+use Rattle.keeper_laws.proofs.Firms.{firms_done, firms_try, firms_told, firms_then, firms_weaker, firms_if}
 
 none_firm : (o : Option ℕ) (n : ℕ) → NotLoose o (replicate n false)
 none_firm None n = tt
@@ -153,16 +85,8 @@ module _ (k : ℕ) (p : Type 0) where
   -- then the keeper is told
   rests_all : (v : List Track) (h : Option (HalfWrite (Unit {0}))) (b : List Track) (m : ℕ) (s : MarksStore) → Owes k p h (half_track h) b m v s →
       Rests k p v (all_firm_told by_plain m s)
-  rests_all v h b m s x = resting (all_told_goes k p h (half_track h) b v m s x)
-    where
-      resting : {u : List Track} {i : Interaction Bool Image MarksStore (Unit {0})} → Goes k p h (half_track h) b u i → Rests k p u i
-      resting (firms_done {s = z} y) = firms_done (rest_from k p {h = h} {b = b} z y)
-      resting (firms_try y) = firms_try (resting y)
-      resting (firms_ask y) = firms_ask (λ a. resting (y a))
-      resting (firms_read y z) = firms_read (resting y) (resting z)
-      resting (firms_write y) = firms_write (λ ok. resting (y ok))
-      resting (firms_named y) = firms_named (resting y)
-      resting (firms_told e y) = firms_told e (resting y)
+  rests_all v h b m s x =
+      firms_weaker (all_told_goes k p h (half_track h) b v m s x) (λ u z _ y. rest_from k p {h = h} {b = b} z y)
 
   losing_goes : (v : List Track) (h : Option (HalfWrite (Unit {0}))) (b : List Track) (s : MarksStore) (loss : Loss) → On k p h (half_track h) b v s →
       Rests k p v (losing by_plain s loss)
@@ -284,7 +208,7 @@ module _ (k : ℕ) (p : Type 0) where
   unfolding K.power
   power_keeps d x =
       firms_then (event_ended by_plain d)
-      (firms_then (λ s _. Done (powered_off by_plain (event_begun d) s) tt) (half_rests (begun d.store) d.store.half refl x)
+      (firms_then (λ s _. Done (powered_off by_plain (event_begun d) s) tt) (half_rests (noted_begin d.store) d.store.half refl x)
       (λ u s _ y. firms_done (powerless_rest (with_loss s losses.Cache) y)))
       (λ u e a y. end_keeps k p d e a y)
 
@@ -297,7 +221,7 @@ module _ (k : ℕ) (p : Type 0) where
 
   peeked_rests : {v : List Track} (s : MarksStore) (q : ℕ) → Rest k p v s → Rests k p v (peek_image by_plain s q)
   peeked_rests s q x =
-      firms_then (had_by (λ z i. Done z (Some (peeked i)))) (image_has k p s.half (half_track s.half) s.plain q s peek_usage x)
+      firms_then (had_by (λ z i. Done z (Some (peeked i)))) (image_has (said k p s.plain) s.half (half_track s.half) q s peek_usage x)
       (λ u z o y. found_rests s.half s.plain z q o y)
 
   in_half_rests : {v : List Track} (s : MarksStore) (q : ℕ) (o : Option (HalfWrite (Unit {0}))) → Rest k p v s → Rests k p v (peek_half by_plain s q o)
@@ -311,5 +235,5 @@ module _ (k : ℕ) (p : Type 0) where
   unfolding P.peek
   peek_keeps d q x =
       firms_then (event_ended by_plain d)
-      (firms_then (λ s found. Done (with_store (event_begun d) s) found) (track_rests (begun d.store) q x) (λ u s found y. firms_done y))
+      (firms_then (λ s found. Done (with_store (event_begun d) s) found) (track_rests (noted_begin d.store) q x) (λ u s found y. firms_done y))
       (λ u e a y. end_keeps k p d e a y)

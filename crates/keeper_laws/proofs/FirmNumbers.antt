@@ -53,15 +53,15 @@ use Rattle.keeper_laws.proofs.Sizes.{
 }
 
 -- each has the number of the one in its place
-data Alike : List Mounted → List Mounted → Type 0 where
+pub data Alike : List Mounted → List Mounted → Type 0 where
   none_left : Alike [] []
   one_more : {x y : Mounted} {xs ys : List Mounted} → number_of y ≡ number_of x → Alike xs ys → Alike (x ∷ xs) (y ∷ ys)
 
-same : (ms : List Mounted) → Alike ms ms
-same [] = none_left
-same (x ∷ xs) = one_more refl (same xs)
+pub alike_same : (ms : List Mounted) → Alike ms ms
+alike_same [] = none_left
+alike_same (x ∷ xs) = one_more refl (alike_same xs)
 
-alike_then : {xs ys zs : List Mounted} → Alike xs ys → Alike ys zs → Alike xs zs
+pub alike_then : {xs ys zs : List Mounted} → Alike xs ys → Alike ys zs → Alike xs zs
 alike_then none_left none_left = none_left
 alike_then (one_more e a) (one_more f b) = one_more (f ∙ e) (alike_then a b)
 
@@ -80,17 +80,17 @@ module _ (n : ℕ) where
   if_one true c d f g e h = ap not e
   if_one false c d f g e h = h
 
-  one_so : {xs ys : List Mounted} → Alike xs ys → has_one n ys ≡ has_one n xs
+  pub one_so : {xs ys : List Mounted} → Alike xs ys → has_one n ys ≡ has_one n xs
   one_so none_left = refl
   one_so (one_more {x = x} {y = y} {xs = xs} {ys = ys} e a) =
       ap (λ (k : ℕ). if k == n then not (is_some (mounted_in ys n)) else has_one n ys) e
       ∙ if_one (number_of x == n) (is_some (mounted_in xs n)) (is_some (mounted_in ys n)) (has_one n xs) (has_one n ys) (there_so a) (one_so a)
 
-put_alike : (ms : List Mounted) (k : ℕ) (y : Mounted) → number_of y ≡ k → Alike ms (put_in ms k y)
+pub put_alike : (ms : List Mounted) (k : ℕ) (y : Mounted) → number_of y ≡ k → Alike ms (put_in ms k y)
 put_alike [] k y is = none_left
 put_alike (x ∷ ms) k y is = by_test (number_of x == k) refl (put_alike ms k y is) where
   by_test : (b : Bool) → (number_of x == k) ≡ b → Alike ms (put_in ms k y) → Alike (x ∷ ms) (if b then y ∷ ms else x ∷ put_in ms k y)
-  by_test true e rest = one_more (is ∙ sym (eqb-true (number_of x) k e)) (same ms)
+  by_test true e rest = one_more (is ∙ sym (eqb-true (number_of x) k e)) (alike_same ms)
   by_test false e rest = one_more refl rest
 
 swept_alike : (f : MarksDevice → Talk (Unit {0})) → ((d : MarksDevice) (t : Told) → IsSized d (hold true (f d) t).state) → (ms : List Mounted) (pool : Pool) →
@@ -103,19 +103,19 @@ swept_alike f sized (x ∷ ms) pool =
 module _ (s : Subsystem) where
   asked_alike : (k : ℕ) (talk : Talk (Option EventEnd)) (o : Option Mounted) → mounted_in s.mounted k ≡ o →
       ((y : Mounted) → mounted_in s.mounted k ≡ Some y → (held_with s.pool y talk).state.store.device ≡ k) → Alike s.mounted (asks s k o talk).behind.mounted
-  asked_alike k talk None is h = same s.mounted
+  asked_alike k talk None is h = alike_same s.mounted
   asked_alike k talk (Some y) is h = put_alike s.mounted k (mounted_behind (held_with s.pool y talk)) (h y is)
 
   becomes_alike : (d : MarksDevice) (o : Option Mounted) → Alike s.mounted (becomes s d.store.device o d).mounted
-  becomes_alike d None = same s.mounted
+  becomes_alike d None = alike_same s.mounted
   becomes_alike d (Some y) = put_alike s.mounted d.store.device (record y { device = d }) refl
 
   joined_alike : (z : Subsystem) (k : ℕ) (volume : Calls) (o : Option Mounted) → mounted_in z.mounted k ≡ o → Alike z.mounted (joined z k volume o).mounted
-  joined_alike z k volume None is = same z.mounted
+  joined_alike z k volume None is = alike_same z.mounted
   joined_alike z k volume (Some y) is = put_alike z.mounted k (record y { device = join y.device; b = volume }) (mounted_number z.mounted k y is)
 
   lends_alike : (a b : ℕ) (o : Option Mounted) → mounted_in s.mounted b ≡ o → Alike s.mounted (lends s a b o).mounted
-  lends_alike a b None is = same s.mounted
+  lends_alike a b None is = alike_same s.mounted
   lends_alike a b (Some y) is =
       let o = held_with s.pool y (lend by_plain y.device a) in
       let z = behind_outcome s b o in
@@ -134,7 +134,7 @@ module _ (s : Subsystem) where
 
   claims : IsDeedwise s Claim
   claims = record {
-    ended = λ end. same s.mounted;
+    ended = λ end. alike_same s.mounted;
     started = λ d x path fault. becomes_alike _ _;
     seconded = λ d x h is. asks_claim d (second by_plain d) (λ a. Some (ends.Second a)) (second_sized d);
     commanded = λ d x whole o running. asks_claim d (command by_plain d) (end_of ends.Stepped) (command_sized d);
@@ -144,8 +144,8 @@ module _ (s : Subsystem) where
     lost_store = swept_alike (λ d. lose by_plain d losses.Store) (λ d u. lose_sized d losses.Store u) s.mounted _;
     lost_side = λ d x side fault. asks_claim d (lose by_plain d (losses.Side side)) (λ a. Some (ends_done a)) (lose_sized d (losses.Side side));
     lost_power = swept_alike (power by_plain) (λ d u. power_sized d u) s.mounted _;
-    repaired_cache = same s.mounted;
-    repaired_store = same s.mounted;
+    repaired_cache = alike_same s.mounted;
+    repaired_store = alike_same s.mounted;
     lent = λ x y a b fault. lends_alike x.store.device y.store.device (mounted_in s.mounted y.store.device) refl;
     held = λ d x fault. becomes_alike _ _;
     resumed = λ d x fault. becomes_alike _ _;
@@ -156,7 +156,7 @@ module _ (s : Subsystem) where
   one_event n e one = one_so n (deed_is s Claim claims e) ∙ one
 
   look_alike : (k q : ℕ) (o : Option Mounted) → mounted_in s.mounted k ≡ o → Alike s.mounted (looked_at s k q o).behind.mounted
-  look_alike k q None is = same s.mounted
+  look_alike k q None is = alike_same s.mounted
   look_alike k q (Some y) is =
       put_alike s.mounted k (mounted_behind (held_with s.pool y (peek by_plain y.device q)))
       ((peek_sized y.device q (told_to s.pool y)).device ∙ mounted_number s.mounted k y is)

@@ -46,7 +46,7 @@ use Rattle.device_defs.specs.Losses.{without_frame, without_patch}
 use Rattle.device_defs.specs.Marks.{MarksDevice, MarksStore}
 use Rattle.device_defs.specs.Orders as O
 use Rattle.device_defs.specs.Orders.{replace, lend, lent_to, with_tracks, given_up}
-use Rattle.device_defs.specs.Owed.{begun, waiting_count}
+use Rattle.device_defs.specs.Owed.{noted_begin, waiting_count}
 use Rattle.device_defs.specs.Peek.{peek}
 use Rattle.device_defs.specs.Start as S
 use Rattle.device_defs.specs.Start.{start, next_ordinal}
@@ -93,7 +93,7 @@ use Rattle.keeper_laws.proofs.Silent.{Silent, silent_done, silent_then, silent_h
 some_is : {X : Type 0} {x y : X} → Some x ≡ Some y → x ≡ y
 some_is e = cc
 
-told_both : (n : ℕ) (ms ns : List (Message Image)) (v : List Track) → told_firm n (ms ++ ns) v ≡ told_firm n ns (told_firm n ms v)
+pub told_both : (n : ℕ) (ms ns : List (Message Image)) (v : List Track) → told_firm n (ms ++ ns) v ≡ told_firm n ns (told_firm n ms v)
 told_both n [] ns v = refl
 told_both n (BeforeEdit d t i ∷ ms) ns v = told_both n ms ns v
 told_both n (Firm d t i ∷ ms) ns v = told_both n ms ns (if d == n then set v t i.track else v)
@@ -130,8 +130,8 @@ module _ (k : ℕ) (p : Type 0) (v : List Track) where
   unfolding O.lend
   lend_rest d to x =
       ended_rest d.store.half d.store.plain d
-      (with_tracks (event_begun d) (lent_to (L.over (tracks_of d.store) (given_up by_plain) (begun d.store)) to))
-      (given_on d.store.half (half_track d.store.half) d.store.plain (tracks_of d.store) (begun d.store) x)
+      (with_tracks (event_begun d) (lent_to (L.over (tracks_of d.store) (given_up by_plain) (noted_begin d.store)) to))
+      (given_on d.store.half (half_track d.store.half) d.store.plain (tracks_of d.store) (noted_begin d.store) x)
 
 module _ (n : ℕ) (m : Mounted) where
   -- so is the device of that number

@@ -177,7 +177,7 @@ abbrev pub NotLoose : Option ℕ → List Bool → Type 0
 NotLoose None l = ⊤
 NotLoose (Some t) l = get_or l t false ≡ false
 
-still_firm : (o : Option ℕ) (l : List Bool) (q : ℕ) → NotLoose o l → NotLoose o (set l q false)
+pub still_firm : (o : Option ℕ) (l : List Bool) (q : ℕ) → NotLoose o l → NotLoose o (set l q false)
 still_firm None l q e = tt
 still_firm (Some t) l q e = put_keeps l q t e
 

@@ -1,6 +1,6 @@
 -- A command's write keeps the firm volume as it was told.
 use Rattle.std.proofs.Common.{◌≡◌, ℕ, Bool, true, List, Option, Some, None, refl, sym, ap, subst, set, ◌∙◌}
-use Rattle.std.specs.Prelude.{not, if◌then◌else◌}
+use Rattle.std.specs.Prelude.{not}
 use Rattle.std.proofs.lemmas.Bool.{cond_both}
 use Rattle.ckd_types.specs.declared.record.Edit.{Edit}
 use Rattle.ckd_types.specs.declared.record.Track.{Track}
@@ -8,25 +8,24 @@ use Rattle.ckd_types.specs.Edit.{apply_edit}
 use Rattle.ckd_types.specs.Parameters.{is_bypass}
 use Rattle.ckd_types.specs.Volume.{track_in}
 use Rattle.track_image.specs.Image.{Image, edited_image}
-use Rattle.device_outside.specs.Interaction.{Interaction, Done, and_then}
+use Rattle.device_outside.specs.Interaction.{Interaction, Done}
 use Rattle.device_defs.specs.declared.answers.Choice.{Choice}
 use Rattle.device_defs.specs.declared.answers.Choice.TheVariants.{Provisional, Fast, Through}
-use Rattle.device_defs.specs.declared.answers.Took.{Took}
-use Rattle.device_defs.specs.declared.answers.Took.TheVariants.{Whole, Opened, Unwritten}
+use Rattle.device_defs.specs.declared.answers.Took.TheVariants.{Whole}
 use Rattle.device_defs.specs.declared.usage.Usage.{Usage}
 use Rattle.device_defs.specs.Choosing.{provisionally_written, patch_with}
 use Rattle.device_defs.specs.Contents.{by_plain}
 use Rattle.device_defs.specs.Editing as E
-use Rattle.device_defs.specs.Editing.{whole, at_once, through, through_by, written, write_by, write_chosen, write, is_given, another_loose}
+use Rattle.device_defs.specs.Editing.{whole, through, written, write_by, write_chosen, write, is_given, another_loose}
 use Rattle.device_defs.specs.Effects as F
 use Rattle.device_defs.specs.Effects.{with_edit, with_loose_edit}
-use Rattle.device_defs.specs.Losses.{settled}
 use Rattle.device_defs.specs.Marks.{MarksStore}
-use Rattle.device_defs.specs.Store.{Origin, OfCommand, HalfWrite, has_level, patch_at, is_loose, with_frame, with_patch}
-use Rattle.device_defs.specs.Writing.{write_first, opened}
+use Rattle.device_defs.specs.Store.{Origin, HalfWrite, patch_at, is_loose, with_frame, with_patch}
+use Rattle.device_defs.specs.Writing.{write_opened}
 use Rattle.device_laws.proofs.PoolWalks.{choose_asks}
-use Rattle.keeper_laws.proofs.FirmParts.{at_none, done_goes, firm_first_goes, here_settled, write_first_goes, write_second_goes}
+use Rattle.keeper_laws.proofs.FirmParts.{at_none, said}
 use Rattle.keeper_laws.proofs.FirmStores.{NotLoose, half_track, On}
+use Rattle.keeper_laws.proofs.FirmWalk.{done_goes, through_goes}
 use Rattle.keeper_laws.proofs.Firms.{Firms, firms_done, firms_try, firms_ask, firms_named, firms_told, firms_then, firms_if, asks_firms}
 
 -- the firm volume of the device of number k is this one, no track is owed, and the track of a half write isn't loose
@@ -84,7 +83,7 @@ module _ (k : ℕ) (p : Type 0) where
   )
 
   pub opened_rests : {b v : List Track} (s : MarksStore) (q : ℕ) (i : Image) (origin : Origin) (was : Bool) → On k p None (Some q) b v s →
-      Rests v (opened by_plain s q i origin was)
+      Rests v (write_opened by_plain s q i origin was)
   opened_rests s q i origin was x =
       firms_if was
       (λ _. firms_ask (λ _. firms_done (x.0, λ here. let y = x.1 here in (y.0, y.1, refl, y.3, y.4, refl))))
@@ -98,32 +97,13 @@ module _ (k : ℕ) (p : Type 0) where
     whole_rests {v = v} s bypass x =
         firms_told x.0
         (firms_then (λ y _. Done y Whole)
-        (done_goes k p None (Some q) (with_edit s q e).plain (with_edit s q e) q i bypass (edited_on {h = None} {b = b} (Some q) s q e i image x))
+        (done_goes (said k p (with_edit s q e).plain) None (Some q) (with_edit s q e) q i bypass (edited_on {h = None} {b = b} (Some q) s q e i image x))
         (λ u y _ w. firms_done (rest_firm {b = (with_edit s q e).plain} q y w)))
 
-    at_once_rests : {v : List Track} (s : MarksStore) (bypass : Bool) → Here v s → Rests v (at_once by_plain s q i e bypass)
-    at_once_rests s bypass x =
-        firms_then (λ z _. if has_level z q then whole by_plain z q i e bypass else Done (settled by_plain z q) Unwritten)
-        (write_second_goes k p None b q s true x)
-        (λ u z _ y. firms_if (has_level z q) (λ _. whole_rests z bypass y)
-        (λ _. firms_done (rest_firm {b = b} q (settled by_plain z q) (here_settled k p None b q z y))))
-
-    took_rests : {v : List Track} (bypass opens was : Bool) (s : MarksStore) (took : Took) → Here v s →
-        Rests v (through_by by_plain q i e bypass opens was s took)
-    took_rests bypass opens was s Whole x = whole_rests s bypass x
-    took_rests bypass opens was s Opened x =
-        firms_if opens
-        (λ _. firms_then (λ z _. Done z Opened) (opened_rests {b = b} s q i (OfCommand bypass e) was x) (λ u z _ y. firms_done y))
-        (λ _. at_once_rests s bypass x)
-    took_rests bypass opens was s Unwritten x = firms_done (rest_firm {b = b} q s x)
-
     through_rests : {v : List Track} (s : MarksStore) (bypass opens : Bool) → On k p None None b v s → Rests v (through by_plain s q i e bypass opens)
-    unfolding E.through
     through_rests s bypass opens x =
-        firms_then (λ z was. and_then (write_first by_plain z q true) (λ y r. through_by by_plain q i e bypass opens was y r.took))
-        (firm_first_goes s q x)
-        (λ u z was y. firms_then (λ w r. through_by by_plain q i e bypass opens was w r.took) (write_first_goes k p None b q z true y)
-        (λ u2 w r g. took_rests bypass opens was w r.took g))
+        through_goes (said k p b) q e i (λ u z took. Rest k p u z) (λ u z through_it y. whole_rests z through_it y)
+        (λ u z origin was y. opened_rests {b = b} z q i origin was y) (λ u z y. rest_firm {b = b} q z y) s bypass opens x
 
     provisional_rest : {v : List Track} (s : MarksStore) → On k p None None b v s → Rest k p v (provisionally_written by_plain s q i e)
     provisional_rest {v = v} s x =
@@ -156,7 +136,7 @@ module _ (k : ℕ) (p : Type 0) where
     chosen_rests : {v : List Track} (w : Usage) (first : ℕ) (s : MarksStore) (choice : Choice) → On k p None None b v s →
         Rests v (write_chosen by_plain w first q old e s choice)
     chosen_rests w first s choice x =
-        firms_if (is_given by_plain s choice) (λ _. firms_named (written_rests w first s choice x)) (λ _. written_rests w first s choice x)
+        firms_if (is_given by_plain s choice) (λ _. firms_named tt (written_rests w first s choice x)) (λ _. written_rests w first s choice x)
 
     pub write_rests : {v : List Track} (w : Usage) (first : ℕ) (s : MarksStore) → On k p None None b v s → Rests v (write by_plain s w first q old e)
     unfolding E.write

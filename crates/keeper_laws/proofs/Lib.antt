@@ -3,6 +3,7 @@ pub mod Silent
 pub mod Names
 pub mod Firms
 pub mod FirmStores
+pub mod FirmWalk
 pub mod FirmParts
 pub mod FirmWrites
 pub mod FirmCommands

@@ -9,7 +9,7 @@ use Rattle.device_outside.specs.Interaction.{Interaction, Done, Try, Ask, Read, 
 use Rattle.device_outside.specs.Keeper.{Message, BeforeEdit, Firm}
 use Rattle.device_outside.specs.Pool.{Call, AnswerTo, answer, after}
 use Rattle.device_outside.specs.Told as T
-use Rattle.device_outside.specs.Told.{Told, hold, calls_of, read_fails, write_fails, read_counted, write_counted}
+use Rattle.device_outside.specs.Told.{Told, hold, calls_of, read_fails, write_fails, told_read, told_write}
 use Rattle.keeper_laws.specs.Messages.{first_named}
 use Rattle.keeper_laws.proofs.Silent.{Silent, silent_done, silent_try, silent_ask, silent_read, silent_write, silent_firm, by_read}
 
@@ -73,9 +73,9 @@ module _ {S X : Type 0} (q : S → X → Type 0) (n t : ℕ) (i : Image) where
   names_held (names_try x) w = names_held x w
   names_held (names_ask {call = call} x) w = names_held (x (answer w.pool call)) (record w { pool = after w.pool call (answer w.pool call) })
   names_held (names_read {side = side} {k = k} x y) w =
-      by_read (read_fails (calls_of w side)) (λ (j : Interaction Bool Image S X). IsSo j (read_counted w side)) k (names_held x (read_counted w side))
-      (names_held y (read_counted w side))
-  names_held (names_write {side = side} x) w = names_held (x (if write_fails (calls_of w side) then false else true)) (write_counted w side)
+      by_read (read_fails (calls_of w side)) (λ (j : Interaction Bool Image S X). IsSo j (told_read w side)) k (names_held x (told_read w side))
+      (names_held y (told_read w side))
+  names_held (names_write {side = side} x) w = names_held (x (if write_fails (calls_of w side) then false else true)) (told_write w side)
   names_held (names_firm x) w = names_held x w
   names_held (names_other {d = d} {u = u} {j = j} {k = k} e x) w =
       passed d u j (messages true (k true) w) (q (hold true (k true) w).state (hold true (k true) w).answer) e (names_held x w)

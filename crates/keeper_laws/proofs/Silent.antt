@@ -9,7 +9,7 @@ use Rattle.device_outside.specs.Interaction.{Interaction, Done, Try, Ask, Read, 
 use Rattle.device_outside.specs.Keeper.{Firm}
 use Rattle.device_outside.specs.Pool.{Call, AnswerTo, answer, after}
 use Rattle.device_outside.specs.Told as T
-use Rattle.device_outside.specs.Told.{Told, hold, calls_of, read_fails, write_fails, read_counted, write_counted}
+use Rattle.device_outside.specs.Told.{Told, hold, calls_of, read_fails, write_fails, told_read, told_write}
 use Rattle.device_laws.proofs.PoolWalks.{AsksPool, asks_done, asks_try, asks_ask}
 use Rattle.keeper_laws.specs.Messages.{first_named}
 
@@ -61,7 +61,7 @@ module _ {S X : Type 0} (q : S → X → Type 0) (n t : ℕ) where
   silent_held (silent_try x) w = silent_held x w
   silent_held (silent_ask {call = call} x) w = silent_held (x (answer w.pool call)) (record w { pool = after w.pool call (answer w.pool call) })
   silent_held (silent_read {side = side} {k = k} x y) w =
-      by_read (read_fails (calls_of w side)) (λ (j : Interaction Bool Image S X). IsSo j (read_counted w side)) k (silent_held x (read_counted w side))
-      (silent_held y (read_counted w side))
-  silent_held (silent_write {side = side} x) w = silent_held (x (if write_fails (calls_of w side) then false else true)) (write_counted w side)
+      by_read (read_fails (calls_of w side)) (λ (j : Interaction Bool Image S X). IsSo j (told_read w side)) k (silent_held x (told_read w side))
+      (silent_held y (told_read w side))
+  silent_held (silent_write {side = side} x) w = silent_held (x (if write_fails (calls_of w side) then false else true)) (told_write w side)
   silent_held (silent_firm x) w = silent_held x w

@@ -1,6 +1,5 @@
 -- A command's write of a track that is calm names its plain image first, and one of another track leaves it as it is.
 use Rattle.std.proofs.Common.{◌≡◌, ◌==◌, ◌&&◌, ◌||◌, not, ℕ, Bool, true, false, Some, refl, sym, ap, subst, ◌∙◌}
-use Rattle.std.specs.Prelude.{if◌then◌else◌}
 use Rattle.std.proofs.lemmas.Bool.{cond_both}
 use Rattle.ckd_types.specs.declared.record.Edit.{Edit}
 use Rattle.ckd_types.specs.Parameters.{is_bypass}
@@ -9,34 +8,25 @@ use Rattle.device_outside.specs.Interaction.{Interaction, Done, and_then}
 use Rattle.device_defs.specs.declared.answers.Choice.{Choice}
 use Rattle.device_defs.specs.declared.answers.Choice.TheVariants.{Provisional, Fast, Through}
 use Rattle.device_defs.specs.declared.answers.Took.{Took}
-use Rattle.device_defs.specs.declared.answers.Took.TheVariants.{Whole, Opened, Unwritten}
+use Rattle.device_defs.specs.declared.answers.Took.TheVariants.{Whole, Unwritten}
 use Rattle.device_defs.specs.declared.usage.Usage.{Usage}
 use Rattle.device_defs.specs.Choosing.{provisionally_written, patch_with}
 use Rattle.device_defs.specs.Contents.{by_plain}
 use Rattle.device_defs.specs.Editing as E
-use Rattle.device_defs.specs.Editing.{whole, at_once, through, through_by, written, write_by, write_chosen, write, is_given, another_loose}
+use Rattle.device_defs.specs.Editing.{whole, through, through_by, written, write_by, write_chosen, write, is_given, another_loose}
 use Rattle.device_defs.specs.Effects as F
 use Rattle.device_defs.specs.Effects.{with_edit, with_loose_edit}
-use Rattle.device_defs.specs.Losses.{settled}
 use Rattle.device_defs.specs.Marks.{MarksStore}
-use Rattle.device_defs.specs.Store.{OfCommand, has_level, takes_b, patch_at, is_loose, with_frame, with_patch}
+use Rattle.device_defs.specs.Store.{takes_b, patch_at, is_loose, with_frame, with_patch}
 use Rattle.device_defs.specs.Writing as W
-use Rattle.device_defs.specs.Writing.{firm_first, write_first, opened, wrote}
+use Rattle.device_defs.specs.Writing.{firm_first, write_first}
 use Rattle.device_laws.proofs.PlainStores.{core_of}
 use Rattle.device_laws.proofs.PoolWalks.{choose_asks}
 use Rattle.keeper_laws.proofs.Calm.{Watch, is_watched, watched_image, watched_so, edited_keeps, loosely_keeps, loosened_keeps, unwatched}
 use Rattle.keeper_laws.proofs.Names.{Names, names_try, names_other, names_it, names_then, names_if, silent_names}
-use Rattle.keeper_laws.proofs.Parts.{
-  On,
-  Stays,
-  frames_on,
-  settled_on,
-  firm_first_stays,
-  write_first_stays,
-  write_second_stays,
-  done_stays,
-  opened_stays,
-}
+use Rattle.keeper_laws.proofs.FirmWalk.{through_goes}
+use Rattle.keeper_laws.proofs.Firms.{silent_of, says_of}
+use Rattle.keeper_laws.proofs.Parts.{On, Stays, calm, frames_on, settled_on, done_stays, opened_stays}
 use Rattle.keeper_laws.proofs.Silent.{Silent, silent_done, silent_firm, silent_then, silent_if, asks_silent}
 
 neither : (x y : Bool) → (x || y) ≡ false → (x ≡ false) × (y ≡ false)
@@ -56,29 +46,10 @@ module _ (w : Watch) where
         silent_firm (silent_then (λ y _. Done y Whole) (done_stays w (with_edit s q e) q i bypass (edited_keeps w (core_of s) q k off e))
         (λ y _ x. silent_done x))
 
-    at_once_stays : (s : MarksStore) (i : Image) (bypass : Bool) → On w s → Stays w (at_once by_plain s q i e bypass)
-    at_once_stays s i bypass k =
-        silent_then (λ z _. if has_level z q then whole by_plain z q i e bypass else Done (settled by_plain z q) Unwritten)
-        (write_second_stays w q s true k)
-        (λ z _ x. silent_if (has_level z q) (λ _. whole_stays z i bypass x) (λ _. silent_done (settled_on w z q x)))
-
-    took_stays : (i : Image) (bypass opens was : Bool) (s : MarksStore) (took : Took) → On w s →
-        Stays w (through_by by_plain q i e bypass opens was s took)
-    took_stays i bypass opens was s Whole k = whole_stays s i bypass k
-    took_stays i bypass opens was s Opened k =
-        silent_if opens
-        (λ _. silent_then (λ z _. Done z Opened) (opened_stays w s q i (OfCommand bypass e) was k (λ here. unwatched w q (OfCommand bypass e) off here))
-        (λ z _ x. silent_done x))
-        (λ _. at_once_stays s i bypass k)
-    took_stays i bypass opens was s Unwritten k = silent_done k
-
     through_stays : (s : MarksStore) (i : Image) (bypass opens : Bool) → On w s → Stays w (through by_plain s q i e bypass opens)
-    unfolding E.through
     through_stays s i bypass opens k =
-        silent_then (λ z was. and_then (write_first by_plain z q true) (λ y r. through_by by_plain q i e bypass opens was y r.took))
-        (firm_first_stays w s q k)
-        (λ z was x. silent_then (λ y r. through_by by_plain q i e bypass opens was y r.took) (write_first_stays w q z true x)
-        (λ y r x. took_stays i bypass opens was y r.took x))
+        silent_of (through_goes (calm w) q e i (λ u z took. On w z) (λ u z through_it x. says_of (whole_stays z i through_it x) u)
+        (λ u z origin was x. says_of (opened_stays w z q i origin was x (λ here. unwatched w q origin off here)) u) (λ u z x. x) {v = tt} s bypass opens k)
 
     provisional_on : (s : MarksStore) (i : Image) → On w s → On w (provisionally_written by_plain s q i e)
     provisional_on s i k =

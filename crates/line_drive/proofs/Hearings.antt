@@ -4,6 +4,7 @@ use Rattle.std.specs.Prelude.{IfSome, not, ◌==◌, is_some, option_map, if◌t
 use Rattle.std.proofs.lemmas.Bool.{cond_both}
 use Rattle.loss_model.specs.declared.Loss.TheVariants as losses
 use Rattle.track_image.specs.Image.{Image}
+use Rattle.plain_defs.specs.History.{is_path_of}
 use Rattle.device_outside.specs.declared.volume.Volume.{Ghosts}
 use Rattle.device_outside.specs.Hears.{HeardAll, heard_none}
 use Rattle.device_outside.specs.Keeper.{Hearing, Message}
@@ -14,7 +15,7 @@ use Rattle.device_defs.specs.Cutting.{reset}
 use Rattle.device_defs.specs.Command.{command}
 use Rattle.device_defs.specs.Device as defined
 use Rattle.device_defs.specs.Events.{background, lose}
-use Rattle.device_defs.specs.Orders.{hold, resume}
+use Rattle.device_defs.specs.Orders.{hold_side, resume}
 use Rattle.device_defs.specs.Start.{start_fault}
 use Rattle.device_core.specs.declared.device.Device.{Device}
 use Rattle.device_core.specs.State.{DefinedDevice, device_of}
@@ -47,7 +48,6 @@ use Rattle.subsystem_defs.specs.Deeds.{
   ends_by,
   ends_done,
   may_end_by,
-  is_own,
   on_device,
   order,
   seconds,
@@ -155,7 +155,7 @@ one_start n d path None = tt
 
 one_starts : (n : ℕ) (d : DefinedDevice) (path : ℕ) → AtOne n (starts path d)
 one_starts n d path =
-    cond_both (is_own path d.history.running) (Ends answers.Running) (start_by d path (start_fault d path)) (AtOne n) (λ _. tt)
+    cond_both (is_path_of d.history.running path) (Ends answers.Running) (start_by d path (start_fault d path)) (AtOne n) (λ _. tt)
     (λ _. one_start n d path (start_fault d path))
 
 one_order : (n : ℕ) (d : OwnDeed) (o : Option OrderFault) → AtOne n d → AtOne n (order o d)
@@ -203,8 +203,8 @@ module _ {V : Type 0} {G : Ghosts V} where
       (λ y at. one_order d (Asks y (ends_by ends_done (lose contents y (losses.Side side)))) (fail_fault y side) at) x.device x.found
   one_deed xs pool (events.Suspend d) may =
       let x = has_one xs d may in
-      one_by d xs (λ y. order (suspend_fault y) (Becomes (hold y) answers.Done))
-      (λ y at. one_order d (Becomes (hold y) answers.Done) (suspend_fault y) tt) x.device x.found
+      one_by d xs (λ y. order (suspend_fault y) (Becomes (hold_side y) answers.Done))
+      (λ y at. one_order d (Becomes (hold_side y) answers.Done) (suspend_fault y) tt) x.device x.found
   one_deed xs pool (events.Resume d) may =
       let x = has_one xs d may in
       one_by d xs (λ y. order (resume_fault y) (Becomes (resume y) answers.Done))

@@ -6,6 +6,7 @@ ghost use Rattle.subsystem_core.specs.Devices.{numbers_of};
 ghost use Rattle.subsystem_core.specs.Ends.{answer_of};
 ghost use Rattle.subsystem_core.specs.Keepers.{TakesAll};
 ghost use Rattle.subsystem_core.specs.Places.{may_come};
+ghost use Rattle.subsystem_core.specs.Frames.{HasSameDevices};
 ghost use Rattle.subsystem_defs.specs.Happening.{happens};
 ghost use Rattle.subsystem_defs.specs.Lines.{is_settled};
 ghost use Rattle.subsystem_defs.specs.Subsystem as runs;
@@ -45,7 +46,7 @@ pub fn do_event_with<V: Volume, K: Keep<TrackImage>>(
 ) -> Result<EventEnd, NoMemory>
     requires may { may_come (numbers_of sub.old.devices.items) e ≡ true }
     requires takes { TakesAll K.takes keep.old sub.old.devices.items }
-    ensures numbers { numbers_of sub.new.devices.items ≡ numbers_of sub.old.devices.items }
+    ensures numbers { HasSameDevices sub.old sub.new }
     ensures takes { TakesAll K.takes keep.new sub.new.devices.items }
     ensures came { CameKept (Heard K.hears K.takes) e sub.old keep.old (answer_of result) sub.new keep.new }
     ensures own { AreOwn sub.old.devices.items → OnOk result (AreOwn sub.new.devices.items) }

@@ -1,8 +1,8 @@
 ghost use Rattle.std.specs.Prelude.{◌≡◌, ◌*◌, [], IfOk, OnOk, length, map, true};
 ghost use Rattle.device_outside.specs.Disk.{new_disk};
 ghost use Rattle.device_outside.specs.Lists.{is_in};
-ghost use Rattle.subsystem_core.specs.Devices.{numbers_of};
 ghost use Rattle.subsystem_core.specs.Places.{may_come};
+ghost use Rattle.subsystem_core.specs.Frames.{HasDevice};
 ghost use Rattle.subsystem_defs.specs.Happening.{happens};
 ghost use Rattle.subsystem_defs.specs.Lines.{asked_by, is_busy, is_settled, stops};
 ghost use Rattle.subsystem_defs.specs.Subsystem as runs;
@@ -29,7 +29,7 @@ const MOST_BACKS: u32 = 2946;
 
 /// Whether a program runs on a device, or a half write is open.
 fn is_busy(sub: &Subsystem<MemVolume>, d: DeviceNo) -> bool
-    requires { is_in d (numbers_of sub.now.devices.items) ≡ true }
+    requires { HasDevice sub.now d }
     ensures { (run : runs.Subsystem) → StandsAs sub.now run → result ≡ is_busy (runs.mounted_in run.mounted d) }
 {
     let device = sub.device(d);

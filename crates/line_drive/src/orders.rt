@@ -1,8 +1,8 @@
-ghost use Rattle.std.specs.Prelude.{◌≡◌, ◌*◌, IfErr, IfOk, IfSome, IsOk, OnErr, OnOk, Some, true};
-ghost use Rattle.device_outside.specs.Lists.{is_in};
+ghost use Rattle.std.specs.Prelude.{◌≡◌, ◌*◌, IfErr, IfOk, IfSome, IsOk, OnErr, OnOk, Some};
 ghost use Rattle.subsystem_core.specs.Comes.{AreStill, Replaced, Unpaired};
-ghost use Rattle.subsystem_core.specs.Devices.{device_at, numbers_of};
+ghost use Rattle.subsystem_core.specs.Devices.{device_at};
 ghost use Rattle.subsystem_core.specs.Ends.{Answers};
+ghost use Rattle.subsystem_core.specs.Frames.{HasDevice, HasSameDevices};
 ghost use Rattle.subsystem_defs.specs.Happening.{replaced, unpaired};
 ghost use Rattle.subsystem_defs.specs.Subsystem as runs;
 ghost use Rattle.subsystem_defs.specs.Subsystem.{unfailing};
@@ -23,9 +23,9 @@ pub fn do_replace<V: Volume>(
     side: Side,
     volume: V,
 ) -> Result<EventEnd, (NoMemory, V)>
-    requires here { is_in d (numbers_of sub.old.devices.items) ≡ true }
+    requires here { HasDevice sub.old d }
     requires size { IfSome (device_at sub.old.devices.items d) (λ x. (V.view volume).tracks ≡ x.store.cylinders * 15) }
-    ensures numbers { numbers_of sub.new.devices.items ≡ numbers_of sub.old.devices.items }
+    ensures numbers { HasSameDevices sub.old sub.new }
     ensures had { IsOk result }
     ensures replaced { IfOk result (λ end. Replaced d side volume (device_at sub.old.devices.items d) sub.old end sub.new) }
     ensures own { AreOwn sub.old.devices.items → OnOk result (AreOwn sub.new.devices.items) }
@@ -44,9 +44,9 @@ pub fn do_unpair<V: Volume>(
     a: DeviceNo,
     volume: V,
 ) -> Result<EventEnd, (NoMemory, V)>
-    requires here { is_in a (numbers_of sub.old.devices.items) ≡ true }
+    requires here { HasDevice sub.old a }
     requires size { IfSome (device_at sub.old.devices.items a) (λ x. (V.view volume).tracks ≡ x.store.cylinders * 15) }
-    ensures numbers { numbers_of sub.new.devices.items ≡ numbers_of sub.old.devices.items }
+    ensures numbers { HasSameDevices sub.old sub.new }
     ensures unpaired { IfOk result (λ end. Unpaired a volume (device_at sub.old.devices.items a) sub.old end sub.new) }
     ensures lacked { OnErr result ((sub.new.pool ≡ sub.old.pool) × AreStill sub.old.devices.items sub.new.devices.items) }
     ensures back { IfErr result (λ e. e.1 ≡ volume) }

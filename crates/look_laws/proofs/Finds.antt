@@ -14,7 +14,7 @@ use Rattle.device_defs.specs.Image.{
   Has,
   NoBytes,
   BadTrack,
-  first_fault,
+  first_faulty_side,
   read_counted,
   read_b,
   level_bytes,
@@ -27,7 +27,7 @@ use Rattle.device_defs.specs.Image.{
 }
 use Rattle.device_defs.specs.Marks.{MarksStore, MarksDevice}
 use Rattle.device_defs.specs.Memory.{had_by}
-use Rattle.device_defs.specs.Owed.{begun, is_modified, waiting_count}
+use Rattle.device_defs.specs.Owed.{noted_begin, is_modified, waiting_count}
 use Rattle.device_defs.specs.Peek as P
 use Rattle.device_defs.specs.Peek.{Peeked, Track, Lost, Fault, BadBytes, peek_usage, peeked, is_in_half, peek_image, peek_half, peek_track, peek}
 use Rattle.device_defs.specs.Second.{plainly_written, half_image_of}
@@ -79,7 +79,7 @@ module _ (s : MarksStore) (t : ℕ) (a b : Calls) where
   Before (Some A) = (level_at s.a t ≡ true) × (read_fails a ≡ true)
   Before (Some B) = ⊥
 
-  b_fails : (fault : Option Side) → Before fault → level_at s.b t ≡ true → read_fails b ≡ true → Failed (first_fault fault B)
+  b_fails : (fault : Option Side) → Before fault → level_at s.b t ≡ true → read_fails b ≡ true → Failed (first_faulty_side fault B)
   b_fails None before on fails = (on, (fails, inl before))
   b_fails (Some A) before on fails = (before.0, (before.1, inr fails))
   b_fails (Some B) before on fails = absurd before
@@ -98,7 +98,7 @@ module _ (s : MarksStore) (t : ℕ) (a b : Calls) where
       let level : level_at z.b t ≡ level_at s.b t = ap (λ (m : SideMarks). level_at m t) side in
       seen_if (level_at z.b t)
       (λ on. seen_b
-      (λ fails. seen_then (λ u _. Done u (got B None (Some (first_fault fault B)))) (failed_seen x (one_read y) (read_counted z false) B)
+      (λ fails. seen_then (λ u _. Done u (got B None (Some (first_faulty_side fault B)))) (failed_seen x (one_read y) (read_counted z false) B)
       (λ _ _ u _ f. seen_done (record {
         own = f.own ∙ counted_own z false ∙ own;
         is = b_fails fault before (sym level ∙ on) (sym (ap read_fails same) ∙ fails);
@@ -246,7 +246,7 @@ pub record Looks (d : MarksDevice) (t : ℕ) (a b : Calls) (e : MarksDevice) (o 
   pub chain : e.chain ≡ d.chain
   pub is : PeekIs d.store t a b o
 
-begun_is : (s : MarksStore) (t : ℕ) (a b : Calls) (o : Option Peeked) → PeekIs (begun s) t a b o → PeekIs s t a b o
+begun_is : (s : MarksStore) (t : ℕ) (a b : Calls) (o : Option Peeked) → PeekIs (noted_begin s) t a b o → PeekIs s t a b o
 begun_is s t a b None h = h
 begun_is s t a b (Some (Track i)) h = h
 begun_is s t a b (Some Lost) h = h
@@ -257,8 +257,8 @@ begun_is s t a b (Some (BadBytes side)) h = h
 pub peek_seen : (d : MarksDevice) (t : ℕ) (a b : Calls) → Seen (λ x y e o. Looks d t a b e o) a b (peek by_plain d t)
 unfolding P.peek
 peek_seen d t a b =
-    let body : Seen (λ x y e o. Looks d t a b e o) a b (and_then (peek_track by_plain (begun d.store) t) (λ s found. Done (with_store (event_begun d) s) found)) =
-    seen_then (λ s found. Done (with_store (event_begun d) s) found) (track_seen (begun d.store) t a b)
+    let body : Seen (λ x y e o. Looks d t a b e o) a b (and_then (peek_track by_plain (noted_begin d.store) t) (λ s found. Done (with_store (event_begun d) s) found)) =
+    seen_then (λ s found. Done (with_store (event_begun d) s) found) (track_seen (noted_begin d.store) t a b)
     (λ x y z o h. seen_done (record {
       own = h.own ∙ begun_own d.store;
       plans = refl;

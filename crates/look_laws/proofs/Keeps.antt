@@ -6,7 +6,7 @@ use Rattle.device_outside.specs.Keeper.{Hearing}
 use Rattle.device_outside.specs.Outside.{Outside, Ran}
 use Rattle.device_defs.specs.Contents.{contents}
 use Rattle.device_defs.specs.Device.{with_store, event_begun}
-use Rattle.device_defs.specs.Owed.{begun, waiting_count, ended}
+use Rattle.device_defs.specs.Owed.{noted_begin, waiting_count, noted_end}
 use Rattle.device_defs.specs.Peek as P
 use Rattle.device_defs.specs.Peek.{Peeked, peek_track, peek}
 use Rattle.device_laws.specs.Whole.{WholeDevice}
@@ -24,9 +24,9 @@ record Same (d e : WholeDevice) : Type 0 where
 peek_same : (d : WholeDevice) (t : ℕ) → Always (peek contents d t) (λ e (a : Option Peeked). Same d e)
 unfolding P.peek
 peek_same d t =
-    let body : Always (and_then (peek_track contents (begun d.store) t) (λ s found. Done (with_store (event_begun d) s) found)) (λ e (a : Option Peeked). Same d e) =
-    always_then (always_any (peek_track contents (begun d.store) t)) (λ s found _. always_done (record { plans = refl; paths = refl; chain = refl })) in
-    always_then body (λ e a h. always_then (always_any (ended contents (waiting_count contents d.store) e.store)) (λ z _ _. always_done (record {
+    let body : Always (and_then (peek_track contents (noted_begin d.store) t) (λ s found. Done (with_store (event_begun d) s) found)) (λ e (a : Option Peeked). Same d e) =
+    always_then (always_any (peek_track contents (noted_begin d.store) t)) (λ s found _. always_done (record { plans = refl; paths = refl; chain = refl })) in
+    always_then body (λ e a h. always_then (always_any (noted_end contents (waiting_count contents d.store) e.store)) (λ z _ _. always_done (record {
       plans = h.plans;
       paths = h.paths;
       chain = h.chain;

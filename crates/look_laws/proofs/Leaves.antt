@@ -3,7 +3,7 @@ use Rattle.std.proofs.Common.{◌≡◌, ◌==◌, ◌&&◌, ◌||◌, not, ℕ,
 use Rattle.std.specs.Prelude.{if◌then◌else◌}
 use Rattle.ckd_types.specs.declared.paths.Side.{Side}
 use Rattle.ckd_types.specs.declared.paths.Side.TheVariants.{A, B}
-use Rattle.device_outside.specs.Told.{Outcome}
+use Rattle.device_outside.specs.Told.{RunOutcome}
 use Rattle.device_defs.specs.Contents.{by_plain}
 use Rattle.device_defs.specs.Marks.{MarksDevice}
 use Rattle.device_defs.specs.Owed.{is_modified, is_clean}
@@ -32,7 +32,7 @@ put_found [] n m x at is = absurd (cc)
 put_found (k ∷ ms) n m x at is = put_by (number_of k == n) k m x ms n refl is (λ e. put_found ms n m x e is) at
 
 module _ (s : Subsystem) (n t : ℕ) (m : Mounted) (there : mounted_in s.mounted n ≡ Some m) where
-  abbrev o : Outcome MarksDevice (Option Peeked)
+  abbrev o : RunOutcome MarksDevice (Option Peeked)
   o = held_with s.pool m (peek by_plain m.device t)
 
   sees : Looks m.device t m.a m.b (held_with s.pool m (peek by_plain m.device t)).state (held_with s.pool m (peek by_plain m.device t)).answer

@@ -11,7 +11,7 @@ use Rattle.device_defs.specs.Image as I
 use Rattle.device_defs.specs.Image.{Got, got, Imaged, NoBytes, read_side, first_read, second_read, read_b, level_bytes, missed, image_by, image}
 use Rattle.device_defs.specs.Marks.{MarksStore, marks_of, frame_mark, half_mark}
 use Rattle.device_defs.specs.Memory.{had_by}
-use Rattle.device_defs.specs.Owed.{begun}
+use Rattle.device_defs.specs.Owed.{noted_begin}
 use Rattle.device_defs.specs.Peek as P
 use Rattle.device_defs.specs.Peek.{Peeked, Lost, Fault, peek_usage, peeked, peek_half, peek_track, peek}
 use Rattle.device_defs.specs.Sound.{DeviceStore}
@@ -44,11 +44,11 @@ module _ {F P H R : Type 0} (c : Contents F P H R) (s : Store F P H) (t : ℕ) w
       ∙ ap (peek_half c s t) whole
       ∙ ap (λ (i : Interaction R Image (Store F P H) (Option Imaged)). and_then i (had_by (λ z x. Done z (Some (peeked x))))) (no_image down_a down_b none)
 
-begun_slots : (s : DeviceStore) (kept : Bool) (q : ℕ) → slot_at (begun s) kept q ≡ slot_at s kept q
+begun_slots : (s : DeviceStore) (kept : Bool) (q : ℕ) → slot_at (noted_begin s) kept q ≡ slot_at s kept q
 begun_slots s true q = refl
 begun_slots s false q = refl
 
-begun_store : (v w : List Track) (s : DeviceStore) (h : Held) → IsLentStore v w s h → IsLentStore v w (begun s) h
+begun_store : (v w : List Track) (s : DeviceStore) (h : Held) → IsLentStore v w s h → IsLentStore v w (noted_begin s) h
 begun_store v w s h i = record {
   ground = record {
     sizes = record { are = i.ground.sizes.are };
@@ -58,7 +58,7 @@ begun_store v w s h i = record {
     apart = i.ground.apart;
     patches = i.ground.patches;
     long = i.ground.long;
-    slots = same_slots s (begun s) h.slots (begun_slots s) i.ground.slots;
+    slots = same_slots s (noted_begin s) h.slots (begun_slots s) i.ground.slots;
   };
   told = i.told;
   lent = i.lent;

@@ -31,7 +31,7 @@ use Rattle.device_defs.specs.Losses.{
 use Rattle.device_defs.specs.Marks.{MarksStore}
 use Rattle.device_defs.specs.Owed as O
 use Rattle.device_defs.specs.Owed.{
-  begun,
+  noted_begin,
   is_modified,
   modified_told,
   dropped_told,
@@ -41,7 +41,7 @@ use Rattle.device_defs.specs.Owed.{
   all_told,
   waiting_count,
   waiting_told,
-  ended,
+  noted_end,
   is_owed,
 }
 use Rattle.device_defs.specs.Store.{HalfWrite, tracks_of, has_level, frame_at, patch_at, is_lost, is_loose, half_is, owed_at, plain_at, with_frame, with_lost, with_owed, no_debt}
@@ -95,7 +95,7 @@ pub unframed_own : (s : MarksStore) (t : ℕ) → own_of (with_frame s t None) �
 unfolding own_of
 unframed_own s t = refl
 
-pub begun_own : (s : MarksStore) → own_of (begun s) ≡ own_of s
+pub begun_own : (s : MarksStore) → own_of (noted_begin s) ≡ own_of s
 unfolding own_of
 begun_own s = refl
 
@@ -245,7 +245,7 @@ module _ (u : MarksStore) where
       seen_then (λ z _. track_told by_plain n z) (all_told_seen n a b s e)
       (λ a b z _ e. seen_if (is_owed by_plain (owed_at z n)) (λ _. settles_seen n a b z e) (λ _. seen_done e))
 
-  pub ended_seen : (n : ℕ) (a b : Calls) (s : MarksStore) → own_of s ≡ own_of u → Seen Ends a b (ended by_plain n s)
+  pub ended_seen : (n : ℕ) (a b : Calls) (s : MarksStore) → own_of s ≡ own_of u → Seen Ends a b (noted_end by_plain n s)
   ended_seen n a b s e =
       seen_then (λ z _. waiting_told by_plain n z) (all_told_seen (tracks_of s) a b s e)
       (λ a b z _ e. seen_if (waiting_count by_plain z == n) (λ _. seen_done e) (λ _. seen_ask (λ _. seen_done e)))

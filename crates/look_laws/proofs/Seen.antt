@@ -7,7 +7,7 @@ use Rattle.device_outside.specs.Interaction.{Interaction, Done, Try, Ask, Read, 
 use Rattle.device_outside.specs.Keeper.{Message, ReplyTo, reply}
 use Rattle.device_outside.specs.Pool.{Call, AnswerTo, answer, after}
 use Rattle.device_outside.specs.Told as T
-use Rattle.device_outside.specs.Told.{Calls, Told, hold, read_fails, read_counted}
+use Rattle.device_outside.specs.Told.{Calls, Told, hold, read_fails, told_read}
 use Rattle.device_outside.specs.Volume.{counted}
 
 abbrev pub one_read : Calls → Calls
@@ -54,7 +54,7 @@ by_read true q f x y = x refl
 by_read false q f x y = y refl
 
 module _ {S X : Type 0} (q : Calls → Calls → S → X → Type 0) where
-  abbrev IsSo : T.Outcome S X → Type 0
+  abbrev IsSo : T.RunOutcome S X → Type 0
   IsSo o = q o.told.a o.told.b o.state o.answer
 
   seen_by : {a b : Calls} {i : Interaction Bool Image S X} → Seen q a b i → (w : Told) → w.a ≡ a → w.b ≡ b → IsSo (hold true i w)
@@ -64,13 +64,13 @@ module _ {S X : Type 0} (q : Calls → Calls → S → X → Type 0) where
   seen_by (seen_try x) w e f = seen_by x w e f
   seen_by (seen_ask {call = call} x) w e f = seen_by (x (answer w.pool call)) (record w { pool = after w.pool call (answer w.pool call) }) e f
   seen_by (seen_a {k = k} x y) w e f =
-      by_read (read_fails w.a) IsSo (λ (got : Option Bool). hold true (k got) (read_counted w A))
-      (λ fails. seen_by (x (sym (ap read_fails e) ∙ fails)) (read_counted w A) (ap one_read e) f)
-      (λ fails. seen_by (y (sym (ap read_fails e) ∙ fails)) (read_counted w A) (ap one_read e) f)
+      by_read (read_fails w.a) IsSo (λ (got : Option Bool). hold true (k got) (told_read w A))
+      (λ fails. seen_by (x (sym (ap read_fails e) ∙ fails)) (told_read w A) (ap one_read e) f)
+      (λ fails. seen_by (y (sym (ap read_fails e) ∙ fails)) (told_read w A) (ap one_read e) f)
   seen_by (seen_b {k = k} x y) w e f =
-      by_read (read_fails w.b) IsSo (λ (got : Option Bool). hold true (k got) (read_counted w B))
-      (λ fails. seen_by (x (sym (ap read_fails f) ∙ fails)) (read_counted w B) e (ap one_read f))
-      (λ fails. seen_by (y (sym (ap read_fails f) ∙ fails)) (read_counted w B) e (ap one_read f))
+      by_read (read_fails w.b) IsSo (λ (got : Option Bool). hold true (k got) (told_read w B))
+      (λ fails. seen_by (x (sym (ap read_fails f) ∙ fails)) (told_read w B) e (ap one_read f))
+      (λ fails. seen_by (y (sym (ap read_fails f) ∙ fails)) (told_read w B) e (ap one_read f))
   seen_by (seen_tell {m = m} x) w e f = seen_by x w e f
 
   pub seen_held : {i : Interaction Bool Image S X} (w : Told) → Seen q w.a w.b i → IsSo (hold true i w)

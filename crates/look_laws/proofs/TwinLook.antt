@@ -23,7 +23,7 @@ use Rattle.device_defs.specs.Image.{
   Has,
   NoBytes,
   BadTrack,
-  first_fault,
+  first_faulty_side,
   read_counted,
   second_read,
   read_b,
@@ -187,7 +187,7 @@ module _ (u : List Track) (y : DeviceStore) (t : ℕ) where
   b_failed : (v w : List Track) (s : DeviceStore) (h : Held) (fault : Option Side) → InOrder v w s h → v ≡ u → Stays y s →
       Twins Gives (second_read contents fault s None) (second_read by_plain fault (marks_of v w s) None) h
   b_failed v w s h fault i plain stays =
-      twin_then (λ z _. Done z (got B None (Some (first_fault fault B)))) (λ z _. Done z (got B None (Some (first_fault fault B))))
+      twin_then (λ z _. Done z (got B None (Some (first_faulty_side fault B)))) (λ z _. Done z (got B None (Some (first_faulty_side fault B))))
       (failed_twin None h v w s B i.sure i.told)
       (λ v' w' z _ _ k f. twin_done (record {
         order = record { sure = f.but; told = f.told };

@@ -11,7 +11,7 @@ use Rattle.device_defs.specs.Device.{with_store, event_begun}
 use Rattle.device_defs.specs.Image.{Imaged}
 use Rattle.device_defs.specs.Marks.{marks_of, half_mark}
 use Rattle.device_defs.specs.Memory.{had_by}
-use Rattle.device_defs.specs.Owed.{begun}
+use Rattle.device_defs.specs.Owed.{noted_begin}
 use Rattle.device_defs.specs.Peek as P
 use Rattle.device_defs.specs.Peek.{Peeked, Track as Found, peek_usage, peeked, peek_image, is_in_half, peek_half, peek_track, peek}
 use Rattle.device_defs.specs.Second.{plainly_written, half_image_of}
@@ -90,5 +90,5 @@ peek_whole v w d h t lt may i =
     quiet_twin v w d h (λ z. and_then (peek_track contents z.store t) (λ s found. Done (with_store z s) found))
     (λ z. and_then (peek_track by_plain z.store t) (λ s found. Done (with_store z s) found))
     (store_then (λ s found. Done (with_store (event_begun d) s) found) (λ s found. Done (with_store (event_begun (marks_device v w d)) s) found)
-    (track_twin v w (begun d.store) h t (begun_order v w d.store h i) lt may)
+    (track_twin v w (noted_begin d.store) h t (begun_order v w d.store h i) lt may)
     (λ v2 w2 y a b k f. whole_done v2 w2 (with_store (event_begun d) y) (record { order = f.order; same = f.same; is = f.plain })))

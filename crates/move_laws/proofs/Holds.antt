@@ -7,7 +7,7 @@ use Rattle.device_outside.specs.Interaction.{Interaction, Done, Try, Ask, Read, 
 use Rattle.device_outside.specs.Keeper.{reply}
 use Rattle.device_outside.specs.Pool.{answer, after}
 use Rattle.device_outside.specs.Told as T
-use Rattle.device_outside.specs.Told.{Told, Outcome, hold, calls_of, read_fails, write_fails, read_counted, write_counted}
+use Rattle.device_outside.specs.Told.{Told, RunOutcome, hold, calls_of, read_fails, write_fails, told_read, told_write}
 use Rattle.device_laws.proofs.Always as W
 use Rattle.device_laws.proofs.Always.{Behind}
 use Rattle.device_laws.proofs.QuietParts.{Quiet, quiet_done, quiet_try, quiet_ask, quiet_tell}
@@ -48,8 +48,8 @@ module _ {R I S A : Type 0} (v : R) where
   hold_then (Done s a) f w = refl
   hold_then (Try k) f w = hold_then (k true) f w
   hold_then (Ask call k) f w = hold_then (k (answer w.pool call)) f (record w { pool = after w.pool call (answer w.pool call) })
-  hold_then (Read side t k) f w = hold_then (k (if read_fails (calls_of w side) then None else Some v)) f (read_counted w side)
-  hold_then (Write side t x k) f w = hold_then (k (if write_fails (calls_of w side) then false else true)) f (write_counted w side)
+  hold_then (Read side t k) f w = hold_then (k (if read_fails (calls_of w side) then None else Some v)) f (told_read w side)
+  hold_then (Write side t x k) f w = hold_then (k (if write_fails (calls_of w side) then false else true)) f (told_write w side)
   hold_then (Tell m k) f w = hold_then (k (reply m)) f w
 
   pub hold_on : {T U B C : Type 0} (i : Interaction R I S A) (f : S → A → Interaction R I T B) (g : T → B → Interaction R I U C) (w : Told) →
@@ -58,8 +58,8 @@ module _ {R I S A : Type 0} (v : R) where
   hold_on (Done s a) f g w = refl
   hold_on (Try k) f g w = hold_on (k true) f g w
   hold_on (Ask call k) f g w = hold_on (k (answer w.pool call)) f g (record w { pool = after w.pool call (answer w.pool call) })
-  hold_on (Read side t k) f g w = hold_on (k (if read_fails (calls_of w side) then None else Some v)) f g (read_counted w side)
-  hold_on (Write side t x k) f g w = hold_on (k (if write_fails (calls_of w side) then false else true)) f g (write_counted w side)
+  hold_on (Read side t k) f g w = hold_on (k (if read_fails (calls_of w side) then None else Some v)) f g (told_read w side)
+  hold_on (Write side t x k) f g w = hold_on (k (if write_fails (calls_of w side) then false else true)) f g (told_write w side)
   hold_on (Tell m k) f g w = hold_on (k (reply m)) f g w
 
   -- What holds whatever is answered
@@ -71,9 +71,9 @@ module _ {R I S A : Type 0} (v : R) where
   held_behind (Ask call k) q w h =
       held_behind (k (answer w.pool call)) q (record w { pool = after w.pool call (answer w.pool call) }) (h (answer w.pool call))
   held_behind (Read side t k) q w h =
-      let got = if read_fails (calls_of w side) then None else Some v in held_behind (k got) q (read_counted w side) (h got)
+      let got = if read_fails (calls_of w side) then None else Some v in held_behind (k got) q (told_read w side) (h got)
   held_behind (Write side t x k) q w h =
-      let ok = if write_fails (calls_of w side) then false else true in held_behind (k ok) q (write_counted w side) (h ok)
+      let ok = if write_fails (calls_of w side) then false else true in held_behind (k ok) q (told_write w side) (h ok)
   held_behind (Tell m k) q w h = held_behind (k (reply m)) q w (h (reply m))
 
   -- one that calls no volume
@@ -89,17 +89,17 @@ module _ {R I S A : Type 0} (v : R) where
 
 -- What holds of the numbers, whatever is answered
 
-pub record Has {S A : Type 0} (w : Told) (q : ℕ → ℕ → S → A → Type 0) (o : Outcome S A) : Type 0 where
+pub record Has {S A : Type 0} (w : Told) (q : ℕ → ℕ → S → A → Type 0) (o : RunOutcome S A) : Type 0 where
   pub reads : ℕ
   pub writes : ℕ
   pub made : Made reads writes w o.told
   pub is : q reads writes o.state o.answer
 
-read_made : {r m : ℕ} {w y : Told} (side : Side) → Made r m w y → Made (r + 1) m w (read_counted y side)
+read_made : {r m : ℕ} {w y : Told} (side : Side) → Made r m w y → Made (r + 1) m w (told_read y side)
 read_made sides.A x = let a = x.reads in let b = x.writes in record { reads = omega (arith, a); writes = b }
 read_made sides.B x = let a = x.reads in let b = x.writes in record { reads = omega (arith, a); writes = b }
 
-write_made : {r m : ℕ} {w y : Told} (side : Side) → Made r m w y → Made r (m + 1) w (write_counted y side)
+write_made : {r m : ℕ} {w y : Told} (side : Side) → Made r m w y → Made r (m + 1) w (told_write y side)
 write_made sides.A x = let a = x.reads in let b = x.writes in record { reads = a; writes = omega (arith, b) }
 write_made sides.B x = let a = x.reads in let b = x.writes in record { reads = a; writes = omega (arith, b) }
 
@@ -111,9 +111,9 @@ module _ {R I S A : Type 0} {q : ℕ → ℕ → S → A → Type 0} (v : R) whe
   has_behind (counts_ask {call = call} x) w y h =
       let a = answer y.pool call in has_behind (x a) w (record y { pool = after y.pool call a }) (record { reads = h.reads; writes = h.writes })
   has_behind (counts_read {side = side} x) w y h =
-      has_behind (x (if read_fails (calls_of y side) then None else Some v)) w (read_counted y side) (read_made side h)
+      has_behind (x (if read_fails (calls_of y side) then None else Some v)) w (told_read y side) (read_made side h)
   has_behind (counts_write {side = side} x) w y h =
-      has_behind (x (if write_fails (calls_of y side) then false else true)) w (write_counted y side) (write_made side h)
+      has_behind (x (if write_fails (calls_of y side) then false else true)) w (told_write y side) (write_made side h)
   has_behind (counts_tell {m = m} x) w y h = has_behind (x (reply m)) w y h
 
   pub has : {i : Interaction R I S A} → Counts q 0 0 i → (w : Told) → Has w q (hold v i w)
@@ -132,5 +132,5 @@ made_still x y =
 pub made_past : {R I S A T B : Type 0} {r m : ℕ} (v : R) (i : Interaction R I S A) (f : S → A → Interaction R I T B) (w : Told) →
     Made r m w (hold v i w).told → ((s : S) (a : A) → Quiet (f s a)) → Made r m w (hold v (and_then i f) w).told
 made_past {T = T} {B = B} {r = r} {m = m} v i f w x q =
-    subst (λ (o : Outcome T B). Made r m w o.told) (sym (hold_then v i f w))
+    subst (λ (o : RunOutcome T B). Made r m w o.told) (sym (hold_then v i f w))
     (made_still x (quiet_made v (q (hold v i w).state (hold v i w).answer) (hold v i w).told))

@@ -1,10 +1,12 @@
 mod Holds
-mod SideB
 mod Looks
+mod FastWrites
 mod Writes
 mod Works
 mod Walks
 mod Commands
 mod Steps
 mod ExactRuns
+mod FastRuns
 mod MoveRows
+mod FastRows

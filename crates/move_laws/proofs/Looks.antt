@@ -10,7 +10,7 @@ use Rattle.device_outside.specs.Interaction.{Done, Ask, and_then}
 use Rattle.device_outside.specs.Pool as O
 use Rattle.device_outside.specs.Pool.{SetModified, Touch, after, is_listed}
 use Rattle.device_outside.specs.Told as T
-use Rattle.device_outside.specs.Told.{Told, Outcome, hold, read_fails}
+use Rattle.device_outside.specs.Told.{Told, RunOutcome, hold, read_fails}
 use Rattle.device_defs.specs.declared.usage.Usage.{Usage}
 use Rattle.device_defs.specs.Contents.{by_plain}
 use Rattle.device_defs.specs.Image as I
@@ -19,7 +19,7 @@ use Rattle.device_defs.specs.Image.{
   got,
   Imaged,
   Has,
-  first_fault,
+  first_faulty_side,
   read_counted,
   ahead,
   loads,
@@ -44,17 +44,17 @@ use Rattle.device_defs.specs.Losses.{call_failed}
 use Rattle.device_defs.specs.Marks.{MarksStore}
 use Rattle.device_defs.specs.Store.{SideMarks, level_at, frame_at, patch_at, with_frame}
 use Rattle.device_laws.proofs.QuietParts.{Quiet, quiet_done, quiet_try, quiet_ask, quiet_then, quiet_if, failed_quiet}
+use Rattle.seen_laws.proofs.SidesLeft.{failed_leaves}
 use Rattle.move_laws.specs.Exactly.{missed_reads, is_hit_by, look_reads}
 use Rattle.move_laws.proofs.Holds.{Made, made_none, made_on, hold_then, held_behind, quiet_made, made_past}
-use Rattle.move_laws.proofs.SideB.{failed_b}
 
 -- from one read on
-made_read : {r m : ℕ} {w z : Told} (side : Side) → Made r m (T.read_counted w side) z → Made (1 + r) m w z
+made_read : {r m : ℕ} {w z : Told} (side : Side) → Made r m (T.told_read w side) z → Made (1 + r) m w z
 made_read A x = let a = x.reads in let b = x.writes in record { reads = omega (arith, a); writes = b }
 made_read B x = let a = x.reads in let b = x.writes in record { reads = omega (arith, a); writes = b }
 
 module _ (t : ℕ) where
-  abbrev Level : ℕ → Told → Outcome MarksStore (Got Bool) → Type 0
+  abbrev Level : ℕ → Told → RunOutcome MarksStore (Got Bool) → Type 0
   Level r w o = Made r 0 w o.told
 
   -- Side B
@@ -62,14 +62,14 @@ module _ (t : ℕ) where
   second_quiet : (fault : Option Side) (s : MarksStore) (bytes : Option Bool) → Quiet (second_read by_plain fault s bytes)
   second_quiet fault s (Some r) = quiet_done
   second_quiet fault s None =
-      quiet_then (λ z _. Done z (got B None (Some (first_fault fault B)))) (failed_quiet by_plain s B None) (λ z _. quiet_done)
+      quiet_then (λ z _. Done z (got B None (Some (first_faulty_side fault B)))) (failed_quiet by_plain s B None) (λ z _. quiet_done)
 
   b_made : (s : MarksStore) (fault : Option Side) (w : Told) (l : Bool) →
       Level (if l then 1 else 0) w (hold true (if l then read_side by_plain s B t (second_read by_plain fault) else Done s (got B None fault)) w)
   unfolding T.hold
   b_made s fault w true =
       let bytes = if read_fails w.b then None else Some true in
-      made_read B (quiet_made true (second_quiet fault (read_counted s (is_some bytes)) bytes) (T.read_counted w B))
+      made_read B (quiet_made true (second_quiet fault (read_counted s (is_some bytes)) bytes) (T.told_read w B))
   b_made s fault w false = made_none w
 
   -- Side A first
@@ -79,9 +79,9 @@ module _ (t : ℕ) where
   a_failed s w =
       let y = read_counted s false in
       let o = hold true (call_failed by_plain y A None) w in
-      let same : s.b ≡ o.state.b = sym (held_behind true (call_failed by_plain y A None) (λ z _. z.b ≡ y.b) w (failed_b by_plain y).holds) in
+      let same : s.b ≡ o.state.b = sym (held_behind true (call_failed by_plain y A None) (λ z _. z.b ≡ y.b) w (failed_leaves by_plain y None).holds) in
       let level : level_at s.b t ≡ level_at o.state.b t = ap (λ (m : SideMarks). level_at m t) same in
-      subst (λ (x : Outcome MarksStore (Got Bool)). Level (if level_at s.b t then 1 else 0) w x)
+      subst (λ (x : RunOutcome MarksStore (Got Bool)). Level (if level_at s.b t then 1 else 0) w x)
       (sym (hold_then true (call_failed by_plain y A None) (λ z _. read_b by_plain z t (Some A)) w))
       (made_on (quiet_made true (failed_quiet by_plain y A None) w)
       (subst (λ (l : Bool). Level (if l then 1 else 0) o.told (hold true (read_b by_plain o.state t (Some A)) o.told)) (sym level)
@@ -93,12 +93,12 @@ module _ (t : ℕ) where
 
   a_made : (s : MarksStore) (w : Told) (fails : Bool) → Level (if fails && level_at s.b t then 2 else 1) w
       (hold true (first_read by_plain t (read_counted s (is_some (if fails then None else Some true))) (if fails then None else Some true))
-      (T.read_counted w A))
+      (T.told_read w A))
   unfolding T.hold
   a_made s w false = record { reads = refl; writes = omega arith }
   a_made s w true =
-      subst (λ (r : ℕ). Level r w (hold true (first_read by_plain t (read_counted s false) None) (T.read_counted w A))) (reads_of_both (level_at s.b t))
-      (made_read A (a_failed s (T.read_counted w A)))
+      subst (λ (r : ℕ). Level r w (hold true (first_read by_plain t (read_counted s false) None) (T.told_read w A))) (reads_of_both (level_at s.b t))
+      (made_read A (a_failed s (T.told_read w A)))
 
   sides_made : (s : MarksStore) (w : Told) (l : Bool) →
       Level (if l then (if read_fails w.a && level_at s.b t then 2 else 1) else if level_at s.b t then 1 else 0) w
@@ -114,7 +114,7 @@ module _ (t : ℕ) where
   -- A miss
 
   module _ (u : Usage) where
-    abbrev Looked : ℕ → Told → Outcome MarksStore (Option Imaged) → Type 0
+    abbrev Looked : ℕ → Told → RunOutcome MarksStore (Option Imaged) → Type 0
     Looked r w o = Made r 0 w o.told
 
     granted_quiet : (s : MarksStore) (i : Image) (given : Bool) → Quiet (granted by_plain s t i given)

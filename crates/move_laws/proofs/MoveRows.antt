@@ -28,7 +28,7 @@ use Rattle.subsystem_defs.specs.declared.event.Event.{Event}
 use Rattle.subsystem_defs.specs.declared.event.Event.TheVariants as events
 use Rattle.subsystem_defs.specs.Decks.{run_asked}
 use Rattle.subsystem_defs.specs.Deeds.{deed}
-use Rattle.subsystem_defs.specs.Happening.{Happened, sweep, happens, replaced, unpaired}
+use Rattle.subsystem_defs.specs.Happening.{EventHappened, sweep, happens, replaced, unpaired}
 use Rattle.subsystem_defs.specs.Lines.{Logged, steps, backs, line_logged, run_lines}
 use Rattle.subsystem_defs.specs.Refusals.{pair_fault, unpair_fault, suspend_fault, resume_fault, fail_fault, replace_fault}
 use Rattle.subsystem_defs.proofs.Runs.{
@@ -44,14 +44,14 @@ use Rattle.subsystem_defs.proofs.Runs.{
 }
 use Rattle.subsystem_defs.proofs.Stand.{Sample, deck, deck_with, device, first, go, line, settle, two}
 use Rattle.promise_laws.specs.Origins.{event_of}
-use Rattle.move_laws.specs.Exactly.{Transfers, walk_transfers, step_transfers, back_transfers}
+use Rattle.move_laws.specs.Exactly.{Transfers, walk_tracks, step_transfers, back_transfers}
 
 -- the reads and the writes of each step
 
 abbrev pair_of : Transfers → ℕ × ℕ
 pair_of x = (x.reads, x.writes)
 
-abbrev step_numbers : Option Event → Happened → List (ℕ × ℕ)
+abbrev step_numbers : Option Event → EventHappened → List (ℕ × ℕ)
 step_numbers (Some (events.Step n)) h = pair_of (step_transfers h.before n h.end) ∷ []
 step_numbers _ h = []
 
@@ -80,7 +80,7 @@ unfolding command_of least count_below is_in with_number less_one answer after c
     command reset power second background lose level_bytes image over settled side_lost cache_lost store_lost
     all_firm_told waits hear all_told lend second_part start_fault start write_first write_second write_done through
     write pair_fault unpair_fault suspend_fault resume_fault fail_fault replace_fault deed sweep happens replaced
-    unpaired steps backs line_logged run_lines run_asked part_of walk walk_transfers
+    unpaired steps backs line_logged run_lines run_asked part_of walk walk_tracks
 steps_make = refl
 
 -- a write through to a pair: side A's write, and then side B's
@@ -89,7 +89,7 @@ unfolding command_of least count_below is_in with_number less_one answer after c
     command reset power second background lose level_bytes image over settled side_lost cache_lost store_lost
     all_firm_told waits hear all_told lend second_part start_fault start write_first write_second write_done through
     write pair_fault unpair_fault suspend_fault resume_fault fail_fault replace_fault deed sweep happens replaced
-    unpaired steps backs line_logged run_lines run_asked part_of walk walk_transfers
+    unpaired steps backs line_logged run_lines run_asked part_of walk walk_tracks
 pair_makes = refl
 
 -- the sixteenth read of side A of a pair fails, behind the fifteen of the copy: the track is read from side B
@@ -103,7 +103,7 @@ unfolding command_of least count_below is_in with_number less_one answer after c
     command reset power second background lose level_bytes image over settled side_lost cache_lost store_lost
     all_firm_told waits hear all_told lend second_part start_fault start write_first write_second write_done through
     write pair_fault unpair_fault suspend_fault resume_fault fail_fault replace_fault deed sweep happens replaced
-    unpaired steps backs line_logged run_lines run_asked part_of walk walk_transfers
+    unpaired steps backs line_logged run_lines run_asked part_of walk walk_tracks
 failed_side_makes = refl
 
 -- a search that isn't met on its track goes on to the next one: a hit, and then a miss
@@ -120,12 +120,12 @@ unfolding command_of least count_below is_in with_number less_one answer after c
     command reset power second background lose level_bytes image over settled side_lost cache_lost store_lost
     all_firm_told waits hear all_told lend second_part start_fault start write_first write_second write_done through
     write pair_fault unpair_fault suspend_fault resume_fault fail_fault replace_fault deed sweep happens replaced
-    unpaired steps backs line_logged run_lines run_asked part_of walk walk_transfers
+    unpaired steps backs line_logged run_lines run_asked part_of walk walk_tracks
 search_makes = refl
 
 -- And by itself: a track is destaged, and then there is nothing to do; one is recovered that has no frame
 
-abbrev work_numbers : Option Event → Happened → List (ℕ × ℕ)
+abbrev work_numbers : Option Event → EventHappened → List (ℕ × ℕ)
 work_numbers (Some (events.Back n)) h = pair_of (back_transfers h.before n) ∷ []
 work_numbers _ h = []
 
@@ -141,5 +141,5 @@ unfolding command_of least count_below is_in with_number less_one answer after c
     command reset power second background lose level_bytes image over settled side_lost cache_lost store_lost
     all_firm_told waits hear all_told lend second_part start_fault start write_first write_second write_done through
     write pair_fault unpair_fault suspend_fault resume_fault fail_fault replace_fault deed sweep happens replaced
-    unpaired steps backs line_logged run_lines run_asked part_of walk walk_transfers
+    unpaired steps backs line_logged run_lines run_asked part_of walk walk_tracks
 works_make = refl

@@ -6,7 +6,7 @@ use Rattle.plain_defs.specs.History.{OpenEntry}
 use Rattle.track_image.specs.Image.{Image}
 use Rattle.device_outside.specs.Interaction.{Done}
 use Rattle.device_outside.specs.Told as T
-use Rattle.device_outside.specs.Told.{Told, Outcome, hold}
+use Rattle.device_outside.specs.Told.{Told, RunOutcome, hold}
 use Rattle.device_defs.specs.declared.answers.Stepped.{Stepped}
 use Rattle.device_defs.specs.Command.{command}
 use Rattle.device_defs.specs.Contents.{by_plain}
@@ -24,9 +24,10 @@ use Rattle.subsystem_defs.specs.declared.event.Event.TheVariants as events
 use Rattle.subsystem_defs.specs.Deeds as E
 use Rattle.subsystem_defs.specs.Deeds.{Ends, Asks, deed, device_in, on_device, seconds, step, back, ends_by, may_end_by, end_of}
 use Rattle.subsystem_defs.specs.Happening as H
-use Rattle.subsystem_defs.specs.Happening.{Happened, MarksDeed, Talk, told_to, told_end, with_outcome, held_with, asks, happens_by, happens, quietly}
+use Rattle.subsystem_defs.specs.Happening.{MarksDeed, Talk, told_to, told_end, with_outcome, held_with, asks, happens_by, happens, quietly}
 use Rattle.subsystem_defs.specs.Lines.{is_busy}
 use Rattle.subsystem_defs.specs.Subsystem.{Mounted, Subsystem, number_of, devices_of, mounted_in}
+use Rattle.subsystem_laws.specs.Causes.{checks_of}
 use Rattle.subsystem_laws.proofs.FoundDevices.{number_found}
 use Rattle.move_laws.specs.Exactly.{
   Transfers,
@@ -53,7 +54,7 @@ found_if : (b : Bool) (k m : Mounted) (o : Option MarksDevice) (p : Option Mount
 found_if true k m o p at more = let same : k ≡ m = cc in ap (λ (x : Mounted). Some x.device) same
 found_if false k m o p at more = more at
 
-found : (ms : List Mounted) (n : ℕ) (m : Mounted) → mounted_in ms n ≡ Some m → device_in (map (λ (x : Mounted). x.device) ms) n ≡ Some m.device
+pub found : (ms : List Mounted) (n : ℕ) (m : Mounted) → mounted_in ms n ≡ Some m → device_in (map (λ (x : Mounted). x.device) ms) n ≡ Some m.device
 found [] n m at = absurd (cc)
 found (k ∷ ms) n m at =
     found_if (number_of k == n) k m (device_in (map (λ (x : Mounted). x.device) ms) n) (mounted_in ms n) at (found ms n m)
@@ -84,13 +85,13 @@ module _ (s : Subsystem) (n : ℕ) (m : Mounted) where
   abbrev Command : EventEnd → Transfers
   Command end = command_transfers m.device (told_to s.pool m) (is_half_end end) m.device.history.running m.device.chain
 
-  abbrev Exact : Outcome MarksDevice (Option EventEnd) → Type 0
+  abbrev Exact : RunOutcome MarksDevice (Option EventEnd) → Type 0
   Exact o = Makes (Command (told_end o.answer)) (with_outcome s n o)
 
   from_none : (x : Transfers) (w z : Told) → w.reads ≡ 0 → w.writes ≡ 0 → Made x.reads x.writes w z → (z.reads ≡ x.reads) × (z.writes ≡ x.writes)
   from_none x w z a b k = let e = k.reads in let f = k.writes in (omega (arith, a, e), omega (arith, b, f))
 
-  done_exact : (o : Outcome MarksDevice (Option Stepped)) →
+  done_exact : (o : RunOutcome MarksDevice (Option Stepped)) →
       ((half : Bool) → stepped_half o.answer ≡ half →
       (o.told.reads ≡ (command_transfers m.device (told_to s.pool m) half m.device.history.running m.device.chain).reads)
       × (o.told.writes ≡ (command_transfers m.device (told_to s.pool m) half m.device.history.running m.device.chain).writes)) →
@@ -106,7 +107,8 @@ module _ (s : Subsystem) (n : ℕ) (m : Mounted) where
       let o = hold true talk w in
       subst Exact (sym (hold_then true talk (λ d a. Done d (end_of ends.Stepped a)) w))
       (done_exact o (λ half is.
-      from_none (command_transfers m.device w half m.device.history.running m.device.chain) w o.told refl refl (command_makes half m.device w is)))
+      from_none (command_transfers m.device w half m.device.history.running m.device.chain) w o.told refl refl
+      ((command_makes half (checks_of m.device) m.device w refl).made is)))
 
   -- The second part of a write
 

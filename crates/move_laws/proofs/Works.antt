@@ -8,7 +8,7 @@ use Rattle.device_outside.specs.Interaction.{Interaction, Done, Ask, Tell, and_t
 use Rattle.device_outside.specs.Keeper.{Firm}
 use Rattle.device_outside.specs.Pool.{WantFrame, answer, after}
 use Rattle.device_outside.specs.Told as T
-use Rattle.device_outside.specs.Told.{Told, Outcome, hold, calls_of, read_fails, write_fails}
+use Rattle.device_outside.specs.Told.{Told, RunOutcome, hold, calls_of, read_fails, write_fails}
 use Rattle.device_defs.specs.declared.answers.Did.{Did}
 use Rattle.device_defs.specs.declared.answers.Did.TheVariants.{Recovered, Staged, Skipped, Destaged, Half, Fault}
 use Rattle.device_defs.specs.declared.answers.Took.{Took}
@@ -33,7 +33,7 @@ use Rattle.device_defs.specs.Background.{
   unfilled,
   staged_image,
   staged_bytes,
-  granted,
+  staging_granted,
   stage,
   destage_first,
   stage_first,
@@ -65,7 +65,7 @@ use Rattle.device_defs.specs.Writing.{
   write_first,
   firm_first,
   write_done,
-  opened,
+  write_opened,
 }
 use Rattle.device_laws.proofs.QuietParts.{Quiet, quiet_done, quiet_try, quiet_ask, quiet_then, quiet_if, failed_quiet, done_quiet, hear_quiet, ended_quiet}
 use Rattle.move_laws.specs.Exactly.{
@@ -87,14 +87,14 @@ use Rattle.move_laws.specs.Exactly.{
 }
 use Rattle.move_laws.proofs.Holds.{Made, made_none, made_on, made_then, hold_then, quiet_made, made_past}
 use Rattle.move_laws.proofs.Looks.{level_made}
-use Rattle.move_laws.proofs.Writes.{opened_quiet}
+use Rattle.seen_laws.proofs.WriteCounts.{opened_quiet}
 
 -- from one write on
-made_write : {m : ℕ} {w z : Told} (side : Side) → Made 0 m (T.write_counted w side) z → Made 0 (1 + m) w z
+made_write : {m : ℕ} {w z : Told} (side : Side) → Made 0 m (T.told_write w side) z → Made 0 (1 + m) w z
 made_write A x = let a = x.reads in let b = x.writes in record { reads = a; writes = omega (arith, b) }
 made_write B x = let a = x.reads in let b = x.writes in record { reads = a; writes = omega (arith, b) }
 
-made_read : {r m : ℕ} {w z : Told} (side : Side) → Made r m (T.read_counted w side) z → Made (1 + r) m w z
+made_read : {r m : ℕ} {w z : Told} (side : Side) → Made r m (T.told_read w side) z → Made (1 + r) m w z
 made_read A x = let a = x.reads in let b = x.writes in record { reads = omega (arith, a); writes = b }
 made_read B x = let a = x.reads in let b = x.writes in record { reads = omega (arith, a); writes = b }
 
@@ -106,7 +106,7 @@ module _ (t : ℕ) (r : Bool) where
   alone_quiet fault first s false =
       quiet_then (λ z _. Done (unwritten by_plain z t) (wrote Unwritten (Some first))) (failed_quiet by_plain s B (Some t)) (λ z _. quiet_done)
 
-  abbrev First : ℕ → Told → Outcome MarksStore Wrote → Type 0
+  abbrev First : ℕ → Told → RunOutcome MarksStore Wrote → Type 0
   First m w o = Made 0 m w o.told
 
   b_made : (s : MarksStore) (w : Told) (fault : Option Side) (first : Side) (takes : Bool) (last : MarksStore → MarksStore) (x : Wrote) →
@@ -115,7 +115,7 @@ module _ (t : ℕ) (r : Bool) where
   unfolding T.hold
   b_made s w fault first true last x =
       let ok = if write_fails w.b then false else true in
-      made_write B (quiet_made true (alone_quiet fault first (write_counted s ok) ok) (T.write_counted w B))
+      made_write B (quiet_made true (alone_quiet fault first (write_counted s ok) ok) (T.told_write w B))
   b_made s w fault first false last x = made_none w
 
   a_failed : (s : MarksStore) (w : Told) (takes : Bool) → First (if takes then 1 else 0) w
@@ -132,12 +132,12 @@ module _ (t : ℕ) (r : Bool) where
   writes_of_both false = refl
 
   a_made : (s : MarksStore) (w : Told) (fails : Bool) → First (if fails && takes_b s then 2 else 1) w
-      (hold true (first_a by_plain t r (write_counted s (if fails then false else true)) (if fails then false else true)) (T.write_counted w A))
+      (hold true (first_a by_plain t r (write_counted s (if fails then false else true)) (if fails then false else true)) (T.told_write w A))
   unfolding T.hold
   a_made s w false = record { reads = omega arith; writes = refl }
   a_made s w true =
-      subst (λ (m : ℕ). First m w (hold true (first_a by_plain t r (write_counted s false) false) (T.write_counted w A))) (writes_of_both (takes_b s))
-      (made_write A (a_failed (write_counted s false) (T.write_counted w A) (takes_b s)))
+      subst (λ (m : ℕ). First m w (hold true (first_a by_plain t r (write_counted s false) false) (T.told_write w A))) (writes_of_both (takes_b s))
+      (made_write A (a_failed (write_counted s false) (T.told_write w A) (takes_b s)))
 
   sides_made : (s : MarksStore) (w : Told) (up : Bool) →
       First (if up then (if write_fails w.a && takes_b s then 2 else 1) else if takes_b s then 1 else 0) w
@@ -188,7 +188,7 @@ module _ (t : ℕ) (i : Image) (d : Did) (fault : Option Side) where
 
 -- What there is to do
 
-abbrev Does : Transfers → Told → Outcome MarksStore (Option Did) → Type 0
+abbrev Does : Transfers → Told → RunOutcome MarksStore (Option Did) → Type 0
 Does x w o = Made x.reads x.writes w o.told
 
 -- a recovery
@@ -226,13 +226,13 @@ read_does t side s w true =
     quiet_made true (quiet_then (λ z _. Done z (Some (Fault (other side)))) (failed_quiet by_plain s (other side) None) (λ z _. quiet_done)) w
 read_does t side s w false =
     let ok = if write_fails (calls_of w side) then false else true in
-    made_write side (quiet_made true (copied_quiet t side (write_counted s ok) ok) (T.write_counted w side))
+    made_write side (quiet_made true (copied_quiet t side (write_counted s ok) ok) (T.told_write w side))
 
 copy_does : (t : ℕ) (s : MarksStore) (w : Told) (o : Option Side) → Does (copy_transfers w o) w (hold true (copy_by by_plain s t o) w)
 unfolding T.hold
 copy_does t s w (Some side) =
     let fails = read_fails (calls_of w (other side)) in
-    made_read (other side) (read_does t side (read_counted s (is_some (if fails then None else Some true))) (T.read_counted w (other side)) fails)
+    made_read (other side) (read_does t side (read_counted s (is_some (if fails then None else Some true))) (T.told_read w (other side)) fails)
 copy_does t s w None = made_none w
 
 -- a track is staged
@@ -247,7 +247,7 @@ bytes_quiet t s g (Some r) = quiet_try (λ ok. quiet_if ok (staged_quiet t s g (
 bytes_quiet t s g None = quiet_ask (λ _. quiet_done)
 
 granted_does : (s : MarksStore) (w y : Told) (t : ℕ) → y.a ≡ w.a → Made 0 0 w y → (given : Bool) →
-    Does (if given then with_reads (missed_reads s t w) no_transfers else no_transfers) w (hold true (granted by_plain s t given) y)
+    Does (if given then with_reads (missed_reads s t w) no_transfers else no_transfers) w (hold true (staging_granted by_plain s t given) y)
 unfolding T.hold
 granted_does s w y t same x true =
     let z =
@@ -263,7 +263,7 @@ granted_does s w y t same x false = x
 stage_if : (s : MarksStore) (w : Told) (t : ℕ) (skips : Bool) →
     Does (if skips then no_transfers
     else if answer w.pool (WantFrame s.device t) then with_reads (missed_reads s t w) no_transfers else no_transfers) w
-    (hold true (if skips then Done s (Some (Skipped t)) else tried s (Ask (WantFrame s.device t) (granted by_plain s t))) w)
+    (hold true (if skips then Done s (Some (Skipped t)) else tried s (Ask (WantFrame s.device t) (staging_granted by_plain s t))) w)
 unfolding T.hold
 stage_if s w t true = made_none w
 stage_if s w t false =
@@ -301,7 +301,7 @@ over_quiet : (d z : MarksDevice) (a : Option Did) → Quiet (event_ended by_plai
 over_quiet d z a = quiet_then (λ s _. Done (record z { store = s }) a) (ended_quiet by_plain (waiting_count by_plain d.store) z.store) (λ s _. quiet_done)
 
 module _ (d : MarksDevice) (w : Told) where
-  abbrev Heard : Outcome MarksStore (Unit {0})
+  abbrev Heard : RunOutcome MarksStore (Unit {0})
   Heard = hold true (hear by_plain 960 (event_begun d).store) w
 
   abbrev Body : MarksStore → Unit {0} → Interaction Bool Image MarksDevice (Option Did)
@@ -309,7 +309,7 @@ module _ (d : MarksDevice) (w : Told) where
 
   body_does : Made (work_of Heard).reads (work_of Heard).writes w (hold true (and_then (hear by_plain 960 (event_begun d).store) Body) w).told
   body_does =
-      subst (λ (o : Outcome MarksDevice (Option Did)). Made (work_of Heard).reads (work_of Heard).writes w o.told)
+      subst (λ (o : RunOutcome MarksDevice (Option Did)). Made (work_of Heard).reads (work_of Heard).writes w o.told)
       (sym (hold_then true (hear by_plain 960 (event_begun d).store) Body w))
       (made_on (quiet_made true (hear_quiet by_plain 960 (event_begun d).store) w)
       (made_past true (work by_plain Heard.state) (λ z did. Done (with_store (record (event_begun d) { store = Heard.state }) z) did) Heard.told

@@ -9,7 +9,8 @@ use Rattle.ckd_chain.specs.State.{ChainState}
 use Rattle.ckd_chain.specs.Steps.{need_of, stepped}
 use Rattle.plain_defs.specs.History.{OpenEntry}
 use Rattle.device_outside.specs.Pool.{Pool, WantFrame, is_listed, answer}
-use Rattle.device_outside.specs.Told.{Told, Outcome, calls_of, read_fails, write_fails, hold}
+use Rattle.device_outside.specs.Told.{Told, RunOutcome, calls_of, read_fails, write_fails, hold}
+use Rattle.device_defs.specs.declared.answers.Choice.{Choice}
 use Rattle.device_defs.specs.declared.answers.Stepped.{Stepped}
 use Rattle.device_defs.specs.declared.answers.Stepped.TheVariants as steps
 use Rattle.device_defs.specs.declared.usage.Usage.{Usage}
@@ -26,7 +27,7 @@ use Rattle.device_defs.specs.Store.{tracks_of, level_at, takes_b, frame_at, is_l
 use Rattle.subsystem_defs.specs.declared.end.EventEnd.{EventEnd}
 use Rattle.subsystem_defs.specs.declared.end.EventEnd.TheVariants as ends
 use Rattle.subsystem_defs.specs.declared.event.Event.TheVariants as events
-use Rattle.subsystem_defs.specs.Happening.{Happened, told_to}
+use Rattle.subsystem_defs.specs.Happening.{EventHappened, told_to}
 use Rattle.subsystem_defs.specs.Lines.{Logged}
 use Rattle.subsystem_defs.specs.Subsystem.{Mounted, Subsystem, mounted_in}
 use Rattle.seen_laws.specs.Moved.{choice_writes, sides_writing, second_writing}
@@ -66,56 +67,86 @@ look_reads s u t w = if is_hit_by s u t w.pool (frame_at s t) then 0 else missed
 
 -- A write: none where it is chosen to be fast or provisional; one through makes one to each side that takes it, or one to side A alone where it is
 -- half done then
-abbrev pub write_writes : MarksStore → Usage → ℕ → Told → Bool → ℕ
-write_writes s u t w half = choice_writes (sides_writing s) (hold true (choose by_plain s u t) w).answer half
+
+-- a command writes this track, with the store, the pool and the calls as they are then
+pub record WritePoint : Type 0 where
+  pub usage : Usage
+  pub track : ℕ
+  pub store : MarksStore
+  pub told : Told
+
+abbrev pub chosen_at : WritePoint → Choice
+chosen_at p = (hold true (choose by_plain p.store p.usage p.track) p.told).answer
+
+abbrev pub write_writes : Bool → Option WritePoint → ℕ
+write_writes half (Some p) = choice_writes (sides_writing p.store) (chosen_at p) half
+write_writes half None = 0
 
 -- From track to track
 
+-- the reads of a command's looks, and its write
+pub record CommandWalk : Type 0 where
+  pub reads : ℕ
+  pub write : Option WritePoint
+
+abbrev pub no_walk : CommandWalk
+no_walk = record { reads = 0; write = None }
+
+abbrev pub write_alone : WritePoint → CommandWalk
+write_alone p = record { reads = 0; write = Some p }
+
+abbrev pub with_look : ℕ → CommandWalk → CommandWalk
+with_look n x = record { reads = n + x.reads; write = x.write }
+
 -- of a chain that asks for this track, with the store, the pool and the calls as they are then
 abbrev pub NextLook : Type 0
-NextLook = ChainState → ℕ → MarksStore → Told → Transfers
+NextLook = ChainState → ℕ → MarksStore → Told → CommandWalk
 
 -- behind a look that saw an image the chain asks for the next track, for a write of this one, or for nothing more
-abbrev pub went_transfers : NextLook → Usage → ℕ → Bool → MarksStore → Told → ChainState → Progress → Transfers
-went_transfers next u t half s w chain (progresses.Need q) = next chain q s w
-went_transfers next u t half s w chain (progresses.Write q e) = writes_alone (write_writes s u t w half)
-went_transfers next u t half s w chain (progresses.Ended e) = no_transfers
-went_transfers next u t half s w chain (progresses.Local act) = no_transfers
+abbrev pub went_walk : NextLook → Usage → ℕ → MarksStore → Told → ChainState → Progress → CommandWalk
+went_walk next u t s w chain (progresses.Need q) = next chain q s w
+went_walk next u t s w chain (progresses.Write q e) = write_alone (record { usage = u; track = t; store = s; told = w })
+went_walk next u t s w chain (progresses.Ended e) = no_walk
+went_walk next u t s w chain (progresses.Local act) = no_walk
 
 -- and one that saw none is the last
-abbrev pub seen_transfers : NextLook → ChainState → ℕ → Bool → MarksStore → Told → Option Imaged → Transfers
-seen_transfers next chain t half s w (Some (Has i)) =
-    went_transfers next (usage_of chain) t half s w (stepped chain (Some i)).chain (stepped chain (Some i)).progress
-seen_transfers next chain t half s w (Some (NoBytes fault)) = no_transfers
-seen_transfers next chain t half s w (Some (BadTrack side)) = no_transfers
-seen_transfers next chain t half s w None = no_transfers
+abbrev pub seen_walk : NextLook → ChainState → ℕ → MarksStore → Told → Option Imaged → CommandWalk
+seen_walk next chain t s w (Some (Has i)) =
+    went_walk next (usage_of chain) t s w (stepped chain (Some i)).chain (stepped chain (Some i)).progress
+seen_walk next chain t s w (Some (NoBytes fault)) = no_walk
+seen_walk next chain t s w (Some (BadTrack side)) = no_walk
+seen_walk next chain t s w None = no_walk
 
 -- what a look left
-abbrev pub behind_look : NextLook → ChainState → ℕ → Bool → Outcome MarksStore (Option Imaged) → Transfers
-behind_look next chain t half o = seen_transfers next chain t half o.state o.told o.answer
+abbrev pub behind_look : NextLook → ChainState → ℕ → RunOutcome MarksStore (Option Imaged) → CommandWalk
+behind_look next chain t o = seen_walk next chain t o.state o.told o.answer
 
 -- a lost track isn't read. At most as many tracks as there are
-unfoldable pub walk_transfers : ℕ → Bool → ChainState → ℕ → MarksStore → Told → Transfers
-walk_transfers zero half chain t s w = no_transfers
-walk_transfers (suc n) half chain t s w =
-    if is_lost s t then no_transfers
-    else with_reads (look_reads s (usage_of chain) t w)
-    (behind_look (walk_transfers n half) chain t half (hold true (image by_plain s (usage_of chain) t) w))
+unfoldable pub walk_tracks : ℕ → ChainState → ℕ → MarksStore → Told → CommandWalk
+walk_tracks zero chain t s w = no_walk
+walk_tracks (suc n) chain t s w =
+    if is_lost s t then no_walk
+    else with_look (look_reads s (usage_of chain) t w)
+    (behind_look (walk_tracks n) chain t (hold true (image by_plain s (usage_of chain) t) w))
 
 -- A command, once the notices of its event are taken
 
 -- one that looks at no track makes none
-abbrev pub looks_transfers : Bool → ChainState → Outcome MarksStore (Unit {0}) → Option ℕ → Transfers
-looks_transfers half chain o (Some t) = walk_transfers (tracks_of o.state) half chain t o.state o.told
-looks_transfers half chain o None = no_transfers
+abbrev pub looks_walk : ChainState → RunOutcome MarksStore (Unit {0}) → Option ℕ → CommandWalk
+looks_walk chain o (Some t) = walk_tracks (tracks_of o.state) chain t o.state o.told
+looks_walk chain o None = no_walk
 
 -- nor does one in whose program data of cache fast write were lost
+abbrev pub command_walk : MarksDevice → Told → Option OpenEntry → Option ChainState → CommandWalk
+command_walk d w (Some entry) (Some chain) =
+    if has_loss entry.acts then no_walk
+    else looks_walk chain (hold true (hear by_plain 960 (event_begun d).store) w) (need_of chain)
+command_walk d w (Some entry) None = no_walk
+command_walk d w None chain = no_walk
+
 abbrev pub command_transfers : MarksDevice → Told → Bool → Option OpenEntry → Option ChainState → Transfers
-command_transfers d w half (Some entry) (Some chain) =
-    if has_loss entry.acts then no_transfers
-    else looks_transfers half chain (hold true (hear by_plain 960 (event_begun d).store) w) (need_of chain)
-command_transfers d w half (Some entry) None = no_transfers
-command_transfers d w half None chain = no_transfers
+command_transfers d w half entry chain =
+    let x = command_walk d w entry chain in record { reads = x.reads; writes = write_writes half x.write }
 
 -- Work in the background, once the notices of its event are taken
 
@@ -130,7 +161,7 @@ abbrev pub saved_transfers : MarksStore → Told → Option Bool → Transfers
 saved_transfers s w (Some is_track) = if is_track then writes_alone (first_writes s w) else no_transfers
 saved_transfers s w None = no_transfers
 
-abbrev pub behind_read : Outcome MarksStore (Got Bool) → Transfers
+abbrev pub behind_read : RunOutcome MarksStore (Got Bool) → Transfers
 behind_read o = saved_transfers o.state o.told o.answer.bytes
 
 -- a track is recovered from its frame, or else is read first
@@ -166,7 +197,7 @@ abbrev pub work_transfers : MarksStore → Told → Option ℕ → Transfers
 work_transfers s w (Some t) = recovery_transfers s w t (frame_at s t)
 work_transfers s w None = copied_transfers s w (to_copy s)
 
-abbrev pub work_of : Outcome MarksStore (Unit {0}) → Transfers
+abbrev pub work_of : RunOutcome MarksStore (Unit {0}) → Transfers
 work_of o = work_transfers o.state o.told (to_recover by_plain o.state)
 
 -- an open half write goes first there, too
@@ -201,7 +232,7 @@ abbrev pub step_transfers : Subsystem → ℕ → EventEnd → Transfers
 step_transfers s n end = step_of s.pool end (mounted_in s.mounted n)
 
 -- these numbers are those of the report's IO lines
-pub record Makes (x : Transfers) (h : Happened) : Type 0 where
+pub record Makes (x : Transfers) (h : EventHappened) : Type 0 where
   pub reads : h.reads ≡ x.reads
   pub writes : h.writes ≡ x.writes
 

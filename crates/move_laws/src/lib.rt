@@ -1,9 +1,11 @@
-//! A law of the run of a deck: exactly which reads and writes of volumes each event makes. It has no code; its lemmas are over plain variables.
+//! Laws of the run of a deck: exactly which reads and writes of volumes each event makes, and that a write in the cache alone is never checked.
+//! It has no code; its lemmas are over plain variables.
 #![tactic(auto)]
 
 ghost use Rattle.std.specs.Prelude.{All};
 ghost use Rattle.deck_text.specs.DeckLines.{DeckLines};
 ghost use Rattle.subsystem_defs.specs.Decks.{run_of};
+ghost use Rattle.move_laws.specs.Chosen.{EndsFastWrites};
 ghost use Rattle.move_laws.specs.Exactly.{MovesExactly};
 
 /// In the run of every deck a command reads no volume for a lost track or for a hit; for a miss it makes one read, and one more where side A's
@@ -12,4 +14,10 @@ ghost use Rattle.move_laws.specs.Exactly.{MovesExactly};
 /// exactly those of what there is to do. All other events make the transfers of the table of events, which are none.
 pub fn run_moves_exactly()
     ensures { (deck : DeckLines) → All MovesExactly (run_of deck).events }
+{}
+
+/// In the run of every deck a command that chose its write to be fast or provisional doesn't end with equipment check, whichever sides are up. So a
+/// check that is explained by a write while no side is up is one of a write through, or of a command that came to no write.
+pub fn fast_writes_are_not_checked()
+    ensures { (deck : DeckLines) → All EndsFastWrites (run_of deck).events }
 {}

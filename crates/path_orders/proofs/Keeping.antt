@@ -6,7 +6,7 @@ use Rattle.device_outside.specs.Outside.{Outside, PortView, Ran, no_pool}
 use Rattle.device_outside.proofs.Runs.{ran_weaker}
 use Rattle.device_defs.specs.declared.counts.Losses.{Losses}
 use Rattle.device_defs.specs.Contents.{contents}
-use Rattle.device_defs.specs.Events.{lose, one_more}
+use Rattle.device_defs.specs.Events.{lose, one_loss_more}
 use Rattle.device_defs.specs.Pledge.{Pledge, seat_counts}
 use Rattle.loss_model.specs.declared.Loss.{Loss}
 use Rattle.device_laws.specs.Handed.{StaysInTurn, allowance_in}
@@ -77,7 +77,7 @@ module _ {V : Type 0} {G : Ghosts V} where
     kept = λ p is k.
         let ran = ran_weaker (λ ok h. tt) r in
         let checks = loss_checks contents (device_of d) loss ran in
-        let within = subst (λ (m : Losses). AreWithin (one_more d.store.counts.losses loss) m) (sym is) (within_all _ _ (may.1 home)) in
+        let within = subst (λ (m : Losses). AreWithin (one_loss_more d.store.counts.losses loss) m) (sym is) (within_all _ _ (may.1 home)) in
         to_keeps d e old new p _
         (loss_kept contents hears p (handed_of p.told d) (device_of d) (device_of e) (outside old d.store no_keep) (outside new e.store no_keep)
         (of_keeps d e old new p k) home (λ told. checks) loss tt within ran)

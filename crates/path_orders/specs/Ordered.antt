@@ -3,7 +3,7 @@ use Rattle.std.specs.Prelude.{◌≡◌, ◌*◌, ℕ, true, List, Some, None, i
 use Rattle.device_outside.specs.declared.volume.Volume.{Ghosts}
 use Rattle.device_outside.specs.Volume.{VolumeView}
 use Rattle.device_defs.specs.declared.counts.Losses.{Losses}
-use Rattle.device_defs.specs.Events.{one_more}
+use Rattle.device_defs.specs.Events.{one_loss_more}
 use Rattle.device_defs.specs.Pledge.{Pledge, seat_counts}
 use Rattle.loss_model.specs.declared.Loss.{Loss}
 use Rattle.loss_model.specs.declared.Loss.TheVariants as losses
@@ -37,7 +37,7 @@ module _ {V : Type 0} {G : Ghosts V} where
 
   -- and with one loss more of this kind a device that isn't lent has no more losses than it may have
   abbrev pub MayLose : Loss → Losses → Device V G → Type 0
-  MayLose loss most d = CanLose loss d × ((device_of d).store.lent ≡ None → IsWithin (one_more d.store.counts.losses loss) most)
+  MayLose loss most d = CanLose loss d × ((device_of d).store.lent ≡ None → IsWithin (one_loss_more d.store.counts.losses loss) most)
 
   -- a volume that comes to the device has as many tracks
   abbrev pub HasSize : DeviceOrder V → Device V G → Type 0

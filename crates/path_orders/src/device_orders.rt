@@ -1,6 +1,6 @@
 ghost use Rattle.std.specs.Prelude.{◌≡◌, ◌*◌, None, is_some, true};
 ghost use Rattle.device_outside.specs.Volume.{counted};
-ghost use Rattle.device_defs.specs.Events.{one_more};
+ghost use Rattle.device_defs.specs.Events.{one_loss_more};
 ghost use Rattle.device_core.specs.State.{device_of};
 ghost use Rattle.subsystem_defs.specs.Refusals.{fail_fault, replace_fault, suspend_fault};
 ghost use Rattle.path_turns.specs.Keeping.{IsWithin};
@@ -28,7 +28,7 @@ pub enum DeviceOrder<V> {
 
 /// The losses with one more.
 pub fn one_more(losses: Losses, loss: Loss) -> Losses
-    ensures is { result ≡ one_more losses loss }
+    ensures is { result ≡ one_loss_more losses loss }
     ensures more { IsWithin losses result }
 {
     let Losses {
@@ -99,7 +99,7 @@ fn can_lose<V: Volume>(device: &Device<V>, loss: Loss) -> bool
 }
 
 fn may_at_home<V: Volume>(device: &Device<V>, loss: Loss, most: Losses) -> bool
-    ensures { result ≡ true → (device_of device.now).store.lent ≡ None → IsWithin (one_more device.now.store.counts.losses loss) most }
+    ensures { result ≡ true → (device_of device.now).store.lent ≡ None → IsWithin (one_loss_more device.now.store.counts.losses loss) most }
 {
     if is_lent(device) {
         return true;

@@ -2,7 +2,7 @@
 use Rattle.std.specs.Prelude.{ℕ, ◌==◌, List, [], ◌∷◌, Option, Some, None, if◌then◌else◌}
 use Rattle.device_outside.specs.declared.volume.Volume.{Ghosts}
 use Rattle.device_defs.specs.declared.counts.Losses.{Losses}
-use Rattle.device_defs.specs.Events.{one_more}
+use Rattle.device_defs.specs.Events.{one_loss_more}
 use Rattle.loss_model.specs.declared.Loss.{Loss}
 use Rattle.loss_model.specs.declared.Loss.TheVariants.{Cache, Store, Side}
 use Rattle.subsystem_defs.specs.declared.event.Event as events
@@ -19,7 +19,7 @@ event_loss n (FailVolume d side) = if d == n then Some (Side side) else None
 event_loss n _ = None
 
 abbrev pub with_loss : Losses → Option Loss → Losses
-with_loss l (Some loss) = one_more l loss
+with_loss l (Some loss) = one_loss_more l loss
 with_loss l None = l
 
 module _ {M : Type 0} where

@@ -17,5 +17,6 @@ pub mod RunExcused
 pub mod RunTold
 pub mod Unfailing
 pub mod Complete
+pub mod Facts
 pub mod Few
 mod Rows

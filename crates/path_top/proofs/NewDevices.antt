@@ -13,7 +13,7 @@ use Rattle.device_outside.specs.Interaction.{Interaction, Done, Try, Ask, Read, 
 use Rattle.device_outside.specs.Keeper.{reply}
 use Rattle.device_outside.specs.Pool.{Pool, answer, after}
 use Rattle.device_outside.specs.Told as T
-use Rattle.device_outside.specs.Told.{Calls, Outcome, Told, read_counted, read_fails, write_counted, write_fails}
+use Rattle.device_outside.specs.Told.{Calls, RunOutcome, Told, told_read, read_fails, told_write, write_fails}
 use Rattle.device_defs.specs.Contents.{by_plain}
 use Rattle.device_defs.specs.Marks.{MarksDevice, no_counts}
 use Rattle.device_defs.specs.Orders as O
@@ -132,10 +132,10 @@ unfolding T.hold
 plans_stay (Done s a) t = refl
 plans_stay (Try k) t = plans_stay (k true) t
 plans_stay (Ask call k) t = plans_stay (k (answer t.pool call)) (record t { pool = after t.pool call (answer t.pool call) })
-plans_stay (Read sides.A q k) t = plans_stay (k (if read_fails t.a then None else Some true)) (read_counted t sides.A)
-plans_stay (Read sides.B q k) t = plans_stay (k (if read_fails t.b then None else Some true)) (read_counted t sides.B)
-plans_stay (Write sides.A q r k) t = plans_stay (k (if write_fails t.a then false else true)) (write_counted t sides.A)
-plans_stay (Write sides.B q r k) t = plans_stay (k (if write_fails t.b then false else true)) (write_counted t sides.B)
+plans_stay (Read sides.A q k) t = plans_stay (k (if read_fails t.a then None else Some true)) (told_read t sides.A)
+plans_stay (Read sides.B q k) t = plans_stay (k (if read_fails t.b then None else Some true)) (told_read t sides.B)
+plans_stay (Write sides.A q r k) t = plans_stay (k (if write_fails t.a then false else true)) (told_write t sides.A)
+plans_stay (Write sides.B q r k) t = plans_stay (k (if write_fails t.b then false else true)) (told_write t sides.B)
 plans_stay (Tell m k) t = plans_stay (k (reply m)) t
 
 -- A device that is lent
@@ -205,7 +205,7 @@ module _ (deck : DeckLines) (ls : List DeviceLine) where
       (joined_new deck f line k volume (subst (λ (i : ℕ). failing_in volume.plan ≤ f i) (sym (mounted_number s.mounted n k there) ∙ q.follows.number) few) q)))
 
   module _ (s : Subsystem) (a b : ℕ) (m : Mounted) (at : mounted_in s.mounted b ≡ Some m) (free : m.device.store.lent ≡ None) (p : AreNew deck ls s.mounted) where
-    abbrev o : Outcome MarksDevice (Unit {0})
+    abbrev o : RunOutcome MarksDevice (Unit {0})
     o = held_with s.pool m (lend by_plain m.device a)
 
     abbrev k : Mounted

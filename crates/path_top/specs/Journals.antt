@@ -12,7 +12,7 @@ use Rattle.plain_defs.specs.Loose.{next_number}
 use Rattle.report_text.specs.declared.line.ReportLine.{ReportLine}
 use Rattle.report_text.specs.declared.line.ReportLine.TheVariants as lines
 use Rattle.report_text.specs.Events.{ended_lines, loosed_line, program_over_lines}
-use Rattle.run_report.specs.Beside.{program_over}
+use Rattle.run_report.specs.Beside.{program_over_line}
 use Rattle.deck_run.specs.Loosening.{loosed_by}
 use Rattle.path_top.specs.declared.journal.LooseCount.{LooseCount}
 
@@ -50,7 +50,7 @@ end_lines d p k s acts (e ∷ ends) =
     act_lines d s here ++ (ended_lines p.path d p.ordinal e ++ end_lines d p (suc k) (loose_behind_all s here) later ends)
 
 abbrev pub program_lines : ℕ → LooseCount → ProgramEntry → List ReportLine
-program_lines d s p = end_lines d p 0 s p.acts p.ends ++ program_over_lines (Some (program_over d p))
+program_lines d s p = end_lines d p 0 s p.acts p.ends ++ program_over_lines (Some (program_over_line d p))
 
 -- Items: an empty volume has no loose track, and a loss of power takes the data of cache fast write, where there are some
 

@@ -6,3 +6,4 @@ pub mod Told
 pub mod Devices
 pub mod Histories
 pub mod Answers
+pub mod Facts

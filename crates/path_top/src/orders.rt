@@ -2,12 +2,12 @@
 
 ghost use Rattle.std.specs.Prelude.{◌≡◌, ◌++◌, All, IfOk, IfSome, OnOk, map, option_map, option_to_list, true};
 ghost use Rattle.deck_run.specs.Opening.{are_open_lines, is_open_line};
-ghost use Rattle.device_outside.specs.Lists.{is_in};
 ghost use Rattle.deck_plan.specs.declared.event.EventLine.TheVariants as lines;
 ghost use Rattle.path_threads.specs.Making.{makes_empty};
 ghost use Rattle.path_threads.specs.Places.{IsSpareAmong};
 ghost use Rattle.path_top.specs.Orders.{is_order, line_of, order_line, orders_in};
 ghost use Rattle.subsystem_core.specs.Devices.{numbers_of};
+ghost use Rattle.subsystem_core.specs.Frames.{HasDevice};
 
 use ckd_types::{DeviceNo, NoMemory, Side};
 use deck_plan::EventLine;
@@ -35,7 +35,7 @@ pub(crate) fn is_order(line: &EventLine) -> bool
 
 /// A new volume for a side of the device, of as many cylinders.
 fn replacement(sub: &Subsystem<MemVolume>, d: DeviceNo, side: Side) -> Order<EmptyVolume>
-    requires { is_in d (numbers_of sub.now.devices.items) ≡ true }
+    requires { HasDevice sub.now d }
     ensures line { line_of result ≡ lines.Replace d side }
     ensures spare { IsSpareAmong makes_empty sub.now.devices.items result }
 {

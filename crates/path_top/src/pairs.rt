@@ -5,6 +5,7 @@ ghost use Rattle.deck_run.specs.Opening.{are_open_lines, is_open_line};
 ghost use Rattle.deck_run.specs.Owning.{AreOwn};
 ghost use Rattle.deck_run.specs.Standing.{StandsAs};
 ghost use Rattle.subsystem_core.specs.Devices.{numbers_of};
+ghost use Rattle.subsystem_core.specs.Frames.{HasSameDevices};
 ghost use Rattle.subsystem_defs.specs.Subsystem as runs;
 ghost use Rattle.path_top.specs.Orders.{is_order};
 ghost use Rattle.path_top.specs.Pairs.{before_start, behind_line, behind_pairs, is_pair, is_start, unused_in};
@@ -81,7 +82,7 @@ pub(crate) fn unused_in(lines: &[EventLine]) -> usize
 fn pair_line<V: Volume>(sub: &mut Subsystem<V>, line: &EventLine) -> Result<(), NoMemory>
     requires here { is_open_line (numbers_of sub.old.devices.items) line.now ≡ true }
     requires own { AreOwn sub.old.devices.items }
-    ensures numbers { numbers_of sub.new.devices.items ≡ numbers_of sub.old.devices.items }
+    ensures numbers { HasSameDevices sub.old sub.new }
     ensures own { OnOk result (AreOwn sub.new.devices.items) }
     ensures stands { (run : runs.Subsystem) → StandsAs sub.old run → OnOk result (StandsAs sub.new (behind_line run line.now)) }
 {
@@ -95,7 +96,7 @@ fn pair_line<V: Volume>(sub: &mut Subsystem<V>, line: &EventLine) -> Result<(), 
 fn pair_lines<V: Volume>(sub: &mut Subsystem<V>, lines: &[EventLine]) -> Result<(), NoMemory>
     requires here { are_open_lines (numbers_of sub.old.devices.items) lines.now ≡ true }
     requires own { AreOwn sub.old.devices.items }
-    ensures numbers { numbers_of sub.new.devices.items ≡ numbers_of sub.old.devices.items }
+    ensures numbers { HasSameDevices sub.old sub.new }
     ensures own { OnOk result (AreOwn sub.new.devices.items) }
     ensures stands { (run : runs.Subsystem) → StandsAs sub.old run → OnOk result (StandsAs sub.new (fold behind_line run lines.now)) }
 {
@@ -112,7 +113,7 @@ pub(crate) fn pair_first<V: Volume>(
 ) -> Result<(), NoMemory>
     requires here { are_open_lines (numbers_of sub.old.devices.items) lines.now ≡ true }
     requires own { AreOwn sub.old.devices.items }
-    ensures numbers { numbers_of sub.new.devices.items ≡ numbers_of sub.old.devices.items }
+    ensures numbers { HasSameDevices sub.old sub.new }
     ensures own { OnOk result (AreOwn sub.new.devices.items) }
     ensures stands { (run : runs.Subsystem) → StandsAs sub.old run → OnOk result (StandsAs sub.new (behind_pairs run lines.now)) }
 {

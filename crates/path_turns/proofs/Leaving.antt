@@ -20,12 +20,12 @@ module _ {V : Type 0} {G : Ghosts V} where
       Entered (KeptBy (boxed KeepsPromise)) (counts_in counts_of) me after (Got before) →
       after.0.number ≡ seat → Moves seat before.value behind.value → MayLeave (KeptBy (boxed KeepsPromise)) (counts_in counts_of) after.0 behind
   may_leave seat me after before behind e number moves =
-      let loaded : after.0.loaded ≡ e.0 = ap (λ (m : View (Option (Promise V G)) × List (ℕ × Option (Box (Device V G) Global))). m.0.loaded) e.1 in
+      let loaded : after.0.loaded ≡ e.loaded = ap (λ (m : View (Option (Promise V G)) × List (ℕ × Option (Box (Device V G) Global))). m.0.loaded) e.out in
       let apart : Without seat after.0.loaded =
-      subst (λ (k : ℕ). Without k after.0.loaded) number (subst (λ (es : List (ℕ × ℕ)). Without after.0.number es) (sym loaded) e.3) in (
-        kept_through (boxed KeepsPromise) after.0.pledge before behind (λ p k. moves.stays (pledge_with p.made.value p.most) k) e.4.0,
+      subst (λ (k : ℕ). Without k after.0.loaded) number (subst (λ (es : List (ℕ × ℕ)). Without after.0.number es) (sym loaded) e.others) in (
+        kept_through (boxed KeepsPromise) after.0.pledge before behind (λ p k. moves.stays (pledge_with p.made.value p.most) k) e.kept.0,
         subst (λ (ws : List ℕ). Still ws after.0.loaded) (sym moves.counts)
-            (still_set (counts_of before.value) seat moves.count after.0.loaded apart e.4.1),
+            (still_set (counts_of before.value) seat moves.count after.0.loaded apart e.kept.1),
       )
 
   unboxed : (p : Option (Promise V G)) (b : Box (Device V G) Global) → KeptBy (boxed KeepsPromise) p b → KeptBy KeepsPromise p b.value
@@ -36,14 +36,14 @@ module _ {V : Type 0} {G : Ghosts V} where
   pub out_kept : (me after : View (Option (Promise V G)) × List (ℕ × Option (Box (Device V G) Global))) (before : Box (Device V G) Global) →
       Entered (KeptBy (boxed KeepsPromise)) (counts_in counts_of) me after (Got before) → KeptBy KeepsPromise me.0.pledge before.value
   out_kept me after before e =
-      let same : after.0.pledge ≡ me.0.pledge = ap (λ (m : View (Option (Promise V G)) × List (ℕ × Option (Box (Device V G) Global))). m.0.pledge) e.1 in
-      subst (λ (p : Option (Promise V G)). KeptBy KeepsPromise p before.value) same (unboxed after.0.pledge before e.4.0)
+      let same : after.0.pledge ≡ me.0.pledge = ap (λ (m : View (Option (Promise V G)) × List (ℕ × Option (Box (Device V G) Global))). m.0.pledge) e.out in
+      subst (λ (p : Option (Promise V G)). KeptBy KeepsPromise p before.value) same (unboxed after.0.pledge before e.kept.0)
 
   -- and so does what goes back
   pub back_kept : (seat : ℕ) (me after : View (Option (Promise V G)) × List (ℕ × Option (Box (Device V G) Global))) (before behind : Box (Device V G) Global) →
       Entered (KeptBy (boxed KeepsPromise)) (counts_in counts_of) me after (Got before) →
       after.0.number ≡ seat → Moves seat before.value behind.value → KeptBy KeepsPromise me.0.pledge behind.value
   back_kept seat me after before behind e number moves =
-      let same : after.0.pledge ≡ me.0.pledge = ap (λ (m : View (Option (Promise V G)) × List (ℕ × Option (Box (Device V G) Global))). m.0.pledge) e.1 in
+      let same : after.0.pledge ≡ me.0.pledge = ap (λ (m : View (Option (Promise V G)) × List (ℕ × Option (Box (Device V G) Global))). m.0.pledge) e.out in
       let kept = (may_leave seat me after before behind e number moves).0 in
       subst (λ (p : Option (Promise V G)). KeptBy KeepsPromise p behind.value) same (unboxed after.0.pledge behind kept)

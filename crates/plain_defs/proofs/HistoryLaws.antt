@@ -34,7 +34,7 @@ use Rattle.std.proofs.lemmas.List.{length-append}
 use Rattle.ckd_types.specs.declared.channel.Ccw.{Ccw}
 use Rattle.ckd_types.specs.declared.channel.CommandEnd.{CommandEnd}
 use Rattle.ckd_types.specs.Ccw.{ccw_at}
-use Rattle.ckd_rules.specs.Ends.{end_of, goes_to, is_over}
+use Rattle.ckd_rules.specs.Ends.{end_at_word, goes_to, is_over}
 use Rattle.ckd_rules.specs.Walk.{TrackEdit}
 use Rattle.ckd_rules.proofs.Goes.{over_stops, more_goes}
 use Rattle.plain_defs.specs.declared.journal.Act.{Act}
@@ -114,7 +114,7 @@ module _ (plans : Plans) (empty : PlainState) (h : History) (plain : IsPlain pla
           (open_part plans (replay plans empty h.items) o).state o.path
           (open_part plans (replay plans empty h.items) o).stance (ccw_at (program_of plans o.path o.ordinal) i)
 
-      module _ (e : CommandEnd) (end_is : e ≡ end_of i (ccw_at (program_of plans o.path o.ordinal) i) effect.outcome)
+      module _ (e : CommandEnd) (end_is : e ≡ end_at_word i (ccw_at (program_of plans o.path o.ordinal) i) effect.outcome)
           (may : MayEdit (open_part plans (replay plans empty h.items) o).state
           (open_part plans (replay plans empty h.items) o).stance effect.edit) where
         q : Part

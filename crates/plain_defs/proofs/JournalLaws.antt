@@ -5,7 +5,7 @@ use Rattle.plain_defs.specs.declared.journal.How.{How}
 use Rattle.plain_defs.specs.declared.journal.How.TheVariants.{Full, Cut, Checked}
 use Rattle.plain_defs.specs.declared.journal.Item.{Item}
 use Rattle.plain_defs.specs.declared.journal.Item.TheVariants.{Program, Reset, Fresh, Act, Power}
-use Rattle.plain_defs.specs.Acknowledged.{Told}
+use Rattle.plain_defs.specs.Acknowledged.{EditTold}
 use Rattle.plain_defs.specs.PlainState.{PlainState}
 use Rattle.plain_defs.specs.Journal.{Plans, replay, replay_item, item_told, journal_told}
 use Rattle.plain_defs.specs.Legal.{FollowsCut, IsUncut, IsLegalItem, IsLegalFrom}
@@ -20,7 +20,7 @@ pub told-append : (plans : Plans) (s : PlainState) (xs ys : List Item)
 told-append plans s [] ys = refl
 told-append plans s (x ∷ xs) ys =
     let behind = replay_item plans s x in
-    ap (λ (l : List Told). item_told plans s x ++ l) (told-append plans behind xs ys)
+    ap (λ (l : List EditTold). item_told plans s x ++ l) (told-append plans behind xs ys)
     ∙ sym (append_assoc (item_told plans s x) (journal_told plans behind xs)
     (journal_told plans (replay plans behind xs) ys))
 

@@ -7,7 +7,7 @@ use Rattle.ckd_rules.specs.Walk.{TrackEdit}
 use Rattle.plain_defs.specs.Legal.{MayEdit}
 use Rattle.plain_defs.specs.Loose.{is_loose_in}
 use Rattle.plain_defs.specs.PlainState.{LooseTrack, PlainState}
-use Rattle.plain_defs.specs.Program.{Part, first_part, stepped_at, stepped, part_of}
+use Rattle.plain_defs.specs.Program.{Part, first_part, stepped_at, command_run, part_of}
 use Rattle.plain_defs.proofs.PartLemmas.{acted_nothing}
 
 -- nothing is loose there, so everything may be edited
@@ -27,5 +27,5 @@ module _ (path : ℕ) (ccws : List Ccw) where
   part_loose state zero = ap (λ (p : Part). p.state.loose) (acted_nothing [] (first_part state path ccws) refl)
   part_loose state (suc k) =
       let p = part_of state path ccws [] k in
-      ap (λ (q : Part). q.state.loose) (acted_nothing [] (stepped path ccws p) refl) ∙ stepped_loose p p.next
+      ap (λ (q : Part). q.state.loose) (acted_nothing [] (command_run path ccws p) refl) ∙ stepped_loose p p.next
       ∙ part_loose state k

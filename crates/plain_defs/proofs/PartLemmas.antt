@@ -33,14 +33,14 @@ use Rattle.ckd_types.specs.declared.channel.Ccw.{Ccw}
 use Rattle.ckd_types.specs.declared.channel.CommandEnd.{CommandEnd}
 use Rattle.ckd_types.specs.Ccw.{ccw_at}
 use Rattle.ckd_rules.specs.Ending.{Outcome}
-use Rattle.ckd_rules.specs.Ends.{end_of, goes_to, is_over}
+use Rattle.ckd_rules.specs.Ends.{end_at_word, goes_to, is_over}
 use Rattle.ckd_rules.proofs.Goes.{over_where_none}
 use Rattle.plain_defs.specs.declared.journal.Act.{Act}
 use Rattle.plain_defs.specs.declared.journal.Acted.{Acted}
 use Rattle.plain_defs.specs.Effect.{effect_on}
 use Rattle.plain_defs.specs.Ends.{LastIsOver}
 use Rattle.plain_defs.specs.PlainState.{PlainState}
-use Rattle.plain_defs.specs.Program.{Part, first_part, acts_at, with_act, with_acts, acted_at, acted, stepped_at, stepped, one_more, part_of}
+use Rattle.plain_defs.specs.Program.{Part, first_part, acts_at, with_act, with_acts, acted_at, acts_made, stepped_at, command_run, one_more, part_of}
 
 -- the same place in the program, with the same ends
 pub record IsBeside (p q : Part) : Type 0 where
@@ -59,11 +59,11 @@ acted_at_beside acts p (Some i) = with_acts_beside (acts_at acts (length p.ends)
 acted_at_beside acts p None = record { fixed = refl; stance = refl; next = refl; ends = refl }
 
 -- acts change neither the place nor the ends
-pub acted_beside : (acts : List Acted) (p : Part) → IsBeside p (acted acts p)
+pub acted_beside : (acts : List Acted) (p : Part) → IsBeside p (acts_made acts p)
 acted_beside acts p = acted_at_beside acts p p.next
 
 -- no act stands there
-pub acted_nothing : (acts : List Acted) (p : Part) → acts_at acts (length p.ends) ≡ [] → acted acts p ≡ p
+pub acted_nothing : (acts : List Acted) (p : Part) → acts_at acts (length p.ends) ≡ [] → acts_made acts p ≡ p
 acted_nothing acts p none = by_next p.next where
   by_next : (next : Option ℕ) → acted_at acts p next ≡ p
   by_next (Some i) = ap (λ (l : List Act). with_acts l p) none
@@ -73,20 +73,20 @@ module _ (path : ℕ) (ccws : List Ccw) (acts : List Acted) where
   -- a chain that is over stays as it is
   pub over_stays : (p : Part) → p.next ≡ None → one_more path ccws acts p ≡ p
   over_stays p none =
-      let here : stepped path ccws p ≡ p = ap (λ (next : Option ℕ). stepped_at path ccws p next) none in
-      ap (λ (q : Part). acted acts q) here ∙ ap (λ (next : Option ℕ). acted_at acts p next) none
+      let here : command_run path ccws p ≡ p = ap (λ (next : Option ℕ). stepped_at path ccws p next) none in
+      ap (λ (q : Part). acts_made acts q) here ∙ ap (λ (next : Option ℕ). acted_at acts p next) none
 
   -- else there is one end more
   pub more_ends : (p : Part) (i : ℕ) → p.next ≡ Some i
-      → (one_more path ccws acts p).ends ≡ p.ends ++ end_of i (ccw_at ccws i)
+      → (one_more path ccws acts p).ends ≡ p.ends ++ end_at_word i (ccw_at ccws i)
       (effect_on p.fixed p.state path p.stance (ccw_at ccws i)).outcome ∷ []
-  more_ends p i is = (acted_beside acts (stepped path ccws p)).ends
+  more_ends p i is = (acted_beside acts (command_run path ccws p)).ends
       ∙ ap (λ (next : Option ℕ). (stepped_at path ccws p next).ends) is
 
   pub more_next : (p : Part) (i : ℕ) → p.next ≡ Some i
       → (one_more path ccws acts p).next ≡ goes_to ccws i
       (effect_on p.fixed p.state path p.stance (ccw_at ccws i)).outcome
-  more_next p i is = (acted_beside acts (stepped path ccws p)).next
+  more_next p i is = (acted_beside acts (command_run path ccws p)).next
       ∙ ap (λ (next : Option ℕ). (stepped_at path ccws p next).next) is
 
   module _ (state : PlainState) where
@@ -119,7 +119,7 @@ module _ (path : ℕ) (ccws : List Ccw) (acts : List Acted) where
               λ some. absurd (subst (λ (n : Option ℕ). IsSome n → ⊥) (sym is) (λ none. (cc)) some);
         })
     counts_more k p (Some i) is c =
-        let e = end_of i (ccw_at ccws i) (effect_on p.fixed p.state path p.stance (ccw_at ccws i)).outcome in
+        let e = end_at_word i (ccw_at ccws i) (effect_on p.fixed p.state path p.stance (ccw_at ccws i)).outcome in
         let many : length (one_more path ccws acts p).ends ≡ length p.ends + 1 =
         ap length (more_ends p i is) ∙ length-append p.ends (e ∷ []) in
         let before : length p.ends ≡ k = c.all (subst (λ (n : Option ℕ). IsSome n) (sym is) refl) in
@@ -137,7 +137,7 @@ module _ (path : ℕ) (ccws : List Ccw) (acts : List Acted) where
         (part_more n ∙ over_stays (part_of state path ccws acts n) is)
     front_more k n le (Some i) is =
         let p = part_of state path ccws acts n in
-        let e = end_of i (ccw_at ccws i) (effect_on p.fixed p.state path p.stance (ccw_at ccws i)).outcome in
+        let e = end_at_word i (ccw_at ccws i) (effect_on p.fixed p.state path p.stance (ccw_at ccws i)).outcome in
         let many : length p.ends ≡ n = (part_counts n).all (subst (λ (x : Option ℕ). IsSome x) (sym is) refl) in
         ap (λ (q : Part). take k q.ends) (part_more n) ∙ ap (λ (l : List CommandEnd). take k l) (more_ends p i is)
         ∙ take-append-le k p.ends (e ∷ []) (omega (arith, many, le))
@@ -185,7 +185,7 @@ module _ (path : ℕ) (ccws : List Ccw) (acts : List Acted) where
     over_more p None is earlier none = subst (λ (q : Part). LastIsOver q.ends) (sym (over_stays p is)) (earlier is)
     over_more p (Some i) is earlier none =
         let o = (effect_on p.fixed p.state path p.stance (ccw_at ccws i)).outcome in
-        subst LastIsOver (sym (more_ends p i is)) (last_behind p.ends (end_of i (ccw_at ccws i) o)
+        subst LastIsOver (sym (more_ends p i is)) (last_behind p.ends (end_at_word i (ccw_at ccws i) o)
         (none_over i o (sym (more_next p i is) ∙ none)))
 
     pub part_over : (k : ℕ) → (part_of state path ccws acts k).next ≡ None

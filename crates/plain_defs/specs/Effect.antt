@@ -36,8 +36,8 @@ kept_by paths path w = record {
 }
 
 -- a command that began at a stance looks at tracks, from the one of another stance on
-abbrev pub looked : Fixed → (ℕ → Track) → Stance → Ccw → Look → Stance → Walked
-looked device tracks start c look s = walk (device.cylinders * 15) device.geometry tracks start c look s
+abbrev pub walked_look : Fixed → (ℕ → Track) → Stance → Ccw → Look → Stance → Walked
+walked_look device tracks start c look s = walk (device.cylinders * 15) device.geometry tracks start c look s
 
 -- an act that the device refuses is reject message 4
 abbrev pub acted_by : Fixed → PathsState → ℕ → Stance → Ccw → LocalAct → Option GroupFault → Effect
@@ -51,15 +51,15 @@ acted_by device paths path s c act None = record {
       paths_after paths path act;
 }
 
-abbrev pub acted : Fixed → PathsState → ℕ → Stance → Ccw → LocalAct → Effect
-acted device paths path s c act = acted_by device paths path s c act (act_fault paths path act)
+abbrev pub effect_of_act : Fixed → PathsState → ℕ → Stance → Ccw → LocalAct → Effect
+effect_of_act device paths path s c act = acted_by device paths path s c act (act_fault paths path act)
 
 -- a command that has begun, with the stance that it has then
 abbrev pub effect_by : Fixed → PathsState → (ℕ → Track) → ℕ → Stance → Ccw → Stance → Opening → Effect
 effect_by device paths tracks path start c s (Over e) =
     kept_by paths path (untouched (record { stance = s; ending = e }))
-effect_by device paths tracks path start c s (Looks look) = kept_by paths path (looked device tracks start c look s)
-effect_by device paths tracks path start c s (Asks act) = acted device paths path start c act
+effect_by device paths tracks path start c s (Looks look) = kept_by paths path (walked_look device tracks start c look s)
+effect_by device paths tracks path start c s (Asks act) = effect_of_act device paths path start c act
 
 -- the whole effect of one command of a path, where each track is what it is
 abbrev pub command_effect : Fixed → PathsState → (ℕ → Track) → ℕ → Stance → Ccw → Effect

@@ -92,8 +92,8 @@ reset_in h path more None = if is_used path false h.items then record h { items 
     else h
 
 -- a path is reset. More: 1 where a half write of the running program's command is open, else 0
-abbrev pub reset : History → ℕ → ℕ → History
-reset h path more = reset_in h path more h.running
+abbrev pub reset_in_history : History → ℕ → ℕ → History
+reset_in_history h path more = reset_in h path more h.running
 
 abbrev pub acted_in : History → Act → Option OpenEntry → History
 acted_in h act (Some o) = record h {

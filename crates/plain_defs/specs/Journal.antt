@@ -9,8 +9,8 @@ use Rattle.plain_defs.specs.declared.journal.How.{How}
 use Rattle.plain_defs.specs.declared.journal.How.TheVariants.{Full, Cut, Checked}
 use Rattle.plain_defs.specs.declared.journal.Item.{Item}
 use Rattle.plain_defs.specs.declared.journal.Item.TheVariants.{Program, Reset, Fresh, Act, Power}
-use Rattle.plain_defs.specs.Acknowledged.{Told, told_by_act, acknowledged_of}
-use Rattle.plain_defs.specs.Acknowledged.Told.{Lost}
+use Rattle.plain_defs.specs.Acknowledged.{EditTold, told_by_act, acknowledged_of}
+use Rattle.plain_defs.specs.Acknowledged.EditTold.{Lost}
 use Rattle.plain_defs.specs.Entry.{ProgramEntry}
 use Rattle.plain_defs.specs.Loose.{act_done, power_off}
 use Rattle.plain_defs.specs.PlainState.{PathsState, PlainState, with_sense, reset_path}
@@ -74,14 +74,14 @@ abbrev pub replay : Plans → PlainState → List Item → PlainState
 replay plans state [] = state
 replay plans state (x ∷ xs) = replay plans (replay_item plans state x) xs
 
-abbrev pub item_told : Plans → PlainState → Item → List Told
+abbrev pub item_told : Plans → PlainState → Item → List EditTold
 item_told plans state (Program e) = (entry_part plans state e (told_of e.how e.ends)).told
 item_told plans state (Reset path) = []
 item_told plans state Fresh = Lost ∷ []
 item_told plans state (Act act) = told_by_act act
 item_told plans state Power = Lost ∷ []
 
-abbrev pub journal_told : Plans → PlainState → List Item → List Told
+abbrev pub journal_told : Plans → PlainState → List Item → List EditTold
 journal_told plans state [] = []
 journal_told plans state (x ∷ xs) = item_told plans state x ++ journal_told plans (replay_item plans state x) xs
 

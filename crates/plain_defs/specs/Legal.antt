@@ -47,9 +47,9 @@ use Rattle.plain_defs.specs.declared.journal.Item.TheVariants as items
 use Rattle.plain_defs.specs.Effect.{effect_on}
 use Rattle.plain_defs.specs.Entry.{ProgramEntry}
 use Rattle.plain_defs.specs.Journal.{Plans, planned, program_of, entry_part, effects_of, replay_item}
-use Rattle.plain_defs.specs.Loose.{is_loose, act_done}
+use Rattle.plain_defs.specs.Loose.{is_loose_there, act_done}
 use Rattle.plain_defs.specs.PlainState.{LooseTrack, PlainState, is_admitted}
-use Rattle.plain_defs.specs.Program.{Part, first_part, acts_at, stepped, part_of}
+use Rattle.plain_defs.specs.Program.{Part, first_part, acts_at, command_run, part_of}
 
 -- The acts of an entry
 
@@ -66,9 +66,9 @@ IsSomeLoose (l ∷ loose) = ⊤
 -- cache fast write are lost where there are some
 abbrev pub AreActs : PlainState → Option ℕ → List Act → Type 0
 AreActs state edited [] = ⊤
-AreActs state edited (Loosen t ∷ []) = (is_loose state t ≡ false) × (edited ≡ Some t)
+AreActs state edited (Loosen t ∷ []) = (is_loose_there state t ≡ false) × (edited ≡ Some t)
 AreActs state edited (Loosen t ∷ act ∷ acts) = ⊥
-AreActs state edited (Harden t ∷ acts) = (is_loose state t ≡ true) × AreActs (act_done state (Harden t)) edited acts
+AreActs state edited (Harden t ∷ acts) = (is_loose_there state t ≡ true) × AreActs (act_done state (Harden t)) edited acts
 AreActs state edited (CfwLost ∷ acts) = IsSomeLoose state.loose × AreActs (act_done state CfwLost) edited acts
 
 abbrev pub edit_at : ℕ → List Ccw → Part → Option ℕ → Option TrackEdit
@@ -85,13 +85,13 @@ track_of None = None
 
 -- a loose track is edited only as data of cache fast write
 abbrev pub MayEdit : PlainState → Stance → Option TrackEdit → Type 0
-MayEdit state s (Some e) = is_loose state e.track ≡ true → is_provisional s.extent ≡ true
+MayEdit state s (Some e) = is_loose_there state e.track ≡ true → is_provisional s.extent ≡ true
 MayEdit state s None = ⊤
 
 -- the part behind k commands, before the acts there
 abbrev pub bare_part : PlainState → ℕ → List Ccw → List Acted → ℕ → Part
 bare_part state path ccws acts zero = first_part state path ccws
-bare_part state path ccws acts (suc k) = stepped path ccws (part_of state path ccws acts k)
+bare_part state path ccws acts (suc k) = command_run path ccws (part_of state path ccws acts k)
 
 -- the acts behind k commands, of a program of which more commands took effect
 pub record IsPoint (state : PlainState) (path : ℕ) (ccws : List Ccw) (acts : List Acted) (k : ℕ) : Type 0 where

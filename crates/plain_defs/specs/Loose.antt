@@ -11,8 +11,8 @@ abbrev pub is_loose_in : List LooseTrack → ℕ → Bool
 is_loose_in [] t = false
 is_loose_in (l ∷ loose) t = if l.track == t then true else is_loose_in loose t
 
-abbrev pub is_loose : PlainState → ℕ → Bool
-is_loose state t = is_loose_in state.loose t
+abbrev pub is_loose_there : PlainState → ℕ → Bool
+is_loose_there state t = is_loose_in state.loose t
 
 abbrev pub firm_in : List LooseTrack → ℕ → Track → Track
 firm_in [] t plain = plain

@@ -14,7 +14,7 @@ use Rattle.ckd_rules.specs.declared.order.LocalAct.TheVariants as acts
 use Rattle.ckd_rules.specs.Ending.{Outcome}
 use Rattle.ckd_types.specs.Fixed.{Fixed}
 use Rattle.plain_defs.specs.Acts.{act_fault}
-use Rattle.plain_defs.specs.Effect.{Effect, acted_by, acted}
+use Rattle.plain_defs.specs.Effect.{Effect, acted_by, effect_of_act}
 use Rattle.plain_defs.specs.PlainState.{PathsState, PlainState, with_sense}
 use Rattle.plain_device.specs.Acted.{settled_with, settled_act, paths_with, paths_behind}
 use Rattle.plain_device.specs.declared.done.Done.{Done}
@@ -86,7 +86,7 @@ done_by e paths = record { end = e; edit = None; paths = paths }
 module _ (d : PlainState) (path : ℕ) where
   -- what the device's paths make of an act of a chain on it
   abbrev act_effect : ChainState → LocalAct → Effect
-  act_effect s act = acted (fixed_with d s.fixed.number) d.paths path (start_of s).stance (word_of s) act
+  act_effect s act = effect_of_act (fixed_with d s.fixed.number) d.paths path (start_of s).stance (word_of s) act
 
   star_answered : (b : ChainState) (act : LocalAct) (last : ChainState) (how : Settled) (middle : PathsState)
       (done : Done) (e : CommandEnd) → how ≡ settled_act d.geometry d.paths path act
@@ -99,7 +99,7 @@ module _ (d : PlainState) (path : ℕ) where
   star_answered b act last how middle done e how_is middle_is end_is last_is done_is counted =
       let f = fixed_with d b.fixed.number in
       let fault = act_fault d.paths path act in
-      let made = acted f d.paths path b.before.stance (word_of b) act in
+      let made = effect_of_act f d.paths path b.before.stance (word_of b) act in
       let out : settled_by (at_act b act) how ≡ made.outcome =
       ap (λ (x : Settled). settled_by (at_act b act) x) how_is ∙ outcome_by f d.paths path b act fault in
       let ends : e ≡ end_with (at_act b act) made.outcome =

@@ -4,7 +4,7 @@ use Rattle.ckd_types.specs.declared.channel.CommandEnd.{CommandEnd}
 use Rattle.ckd_types.specs.Sense.{equipment_sense}
 use Rattle.ckd_chain.specs.declared.mark.Mark.{Mark}
 use Rattle.ckd_chain.specs.State.{ChainState}
-use Rattle.ckd_chain.specs.Steps.{start_of, standing, behind, end_with, checked}
+use Rattle.ckd_chain.specs.Steps.{start_of, standing, behind, end_with, check_outcome}
 use Rattle.ckd_rules.specs.declared.stance.Stance.{Stance}
 use Rattle.ckd_rules.specs.Ending.{Outcome}
 use Rattle.ckd_rules.specs.Walk.{Walked, untouched, walk}
@@ -35,11 +35,11 @@ behind_standing s at z o =
     subst (λ (x : ChainState). behind (standing x z) o ≡ behind x o) (sym l.is) refl
 
 nothing_left : (d : PlainState) (s : ChainState) → IsAtLook s.stage
-    → walk_of d s 0 ≡ untouched (checked s equipment_sense)
+    → walk_of d s 0 ≡ untouched (check_outcome s equipment_sense)
 unfolding walk
 nothing_left d s at =
     let l : HasLook s = has_look s s.stage refl at in
-    subst (λ (x : ChainState). walk_of d x 0 ≡ untouched (checked x equipment_sense)) (sym l.is) refl
+    subst (λ (x : ChainState). walk_of d x 0 ≡ untouched (check_outcome x equipment_sense)) (sym l.is) refl
 
 module _ (d : PlainState) (s now : ChainState) (track k : ℕ) (f : IsFollowing d s now track k) (path : ℕ) where
   -- how what is left ends is how all of it ends
@@ -75,14 +75,14 @@ module _ (d : PlainState) (s now : ChainState) (track k : ℕ) (f : IsFollowing 
 
   -- no track is left to look at
   pub following_none : (last : ChainState) (end : CommandEnd) (done : Done) → IsAtLook s.stage
-      → (d.cylinders * 15) ≤ k → end ≡ end_with now (checked now equipment_sense)
-      → last ≡ behind now (checked now equipment_sense)
+      → (d.cylinders * 15) ≤ k → end ≡ end_with now (check_outcome now equipment_sense)
+      → last ≡ behind now (check_outcome now equipment_sense)
       → done ≡ without_edit d path end
       → last.at.stance.commands ≡ (start_of now).stance.commands + 1
       → ComesTo s last done (kept_by d.paths path (walk_of d s (d.cylinders * 15)))
   following_none last end done at past end_is last_is done_is counted =
       let none : (d.cylinders * 15) - k ≡ 0 = omega (arith, past) in
-      let w : walk_of d now ((d.cylinders * 15) - k) ≡ untouched (checked now equipment_sense) =
+      let w : walk_of d now ((d.cylinders * 15) - k) ≡ untouched (check_outcome now equipment_sense) =
       ap (λ (n : ℕ). walk_of d now n) none ∙ nothing_left d now f.looking.stage in
       ends_all last done at (record {
         end_is = ap (λ (x : Done). x.end) done_is ∙ end_is ∙ ap (λ (x : Walked). end_with now x.outcome) (sym w);

@@ -9,7 +9,7 @@ use Rattle.ckd_chain.specs.declared.progress.Progress.{Progress}
 use Rattle.ckd_chain.specs.declared.progress.Progress.TheVariants as progresses
 use Rattle.ckd_chain.specs.declared.progress.Settled.TheVariants.{Written}
 use Rattle.ckd_chain.specs.State.{ChainState}
-use Rattle.ckd_chain.specs.Steps.{word_of, start_of, standing, waiting, behind, end_with, Stepped, turned_by, turned_with, stepped, settled_by}
+use Rattle.ckd_chain.specs.Steps.{word_of, start_of, standing, waiting, behind, end_with, ChainStep, step_turned, turned_with, stepped, settled_by}
 use Rattle.ckd_rules.specs.declared.order.LocalAct.{LocalAct}
 use Rattle.ckd_rules.specs.declared.order.Look.{Look}
 use Rattle.ckd_rules.specs.declared.stance.Stance.{Stance}
@@ -60,7 +60,7 @@ module _ (d : PlainState) (b : ChainState) (look : Look) where
   came = look_on d.geometry (track_in d.volume b.at.stance.track) b.at.stance (word_of b) look
 
   step_is : (i : Image) → i ≡ image_for d b → stepped (at_look b look) (Some i)
-      ≡ turned_by (at_look b look) came.stance came.turned
+      ≡ step_turned (at_look b look) came.stance came.turned
   unfolding came
   step_is i is = ap (λ (x : Image). turned_with (at_look b look)
       (look_on x.geometry x.track b.at.stance (word_of b) look)) is
@@ -74,11 +74,11 @@ module _ (d : PlainState) (b : ChainState) (look : Look) where
   module _ (i : Image) (image_is : i ≡ image_for d b) (progress : Progress) (after : ChainState)
       (progress_is : progress ≡ (stepped (at_look b look) (Some i)).progress)
       (after_is : after ≡ (stepped (at_look b look) (Some i)).chain) where
-    turned_is : (p : Progress) → progress ≡ p → (turned_by (at_look b look) came.stance came.turned).progress ≡ p
-    turned_is p is = ap (λ (x : Stepped). x.progress) (sym (step_is i image_is)) ∙ sym progress_is ∙ is
+    turned_is : (p : Progress) → progress ≡ p → (step_turned (at_look b look) came.stance came.turned).progress ≡ p
+    turned_is p is = ap (λ (x : ChainStep). x.progress) (sym (step_is i image_is)) ∙ sym progress_is ∙ is
 
-    then_is : after ≡ (turned_by (at_look b look) came.stance came.turned).chain
-    then_is = after_is ∙ ap (λ (x : Stepped). x.chain) (step_is i image_is)
+    then_is : after ≡ (step_turned (at_look b look) came.stance came.turned).chain
+    then_is = after_is ∙ ap (λ (x : ChainStep). x.chain) (step_is i image_is)
 
     star_ended : (path : ℕ) (end : CommandEnd) (done : Done) → progress ≡ progresses.Ended end
         → done ≡ without_edit d path end

@@ -4,7 +4,7 @@ use Rattle.ckd_types.specs.Fixed.{Fixed}
 use Rattle.ckd_types.specs.Volume.{track_in}
 use Rattle.ckd_chain.specs.declared.mark.Stage.{Stage}
 use Rattle.ckd_chain.specs.State.{ChainState}
-use Rattle.ckd_chain.specs.Steps.{word_of, opened, begin_with, opening_at}
+use Rattle.ckd_chain.specs.Steps.{word_of, chain_opened, begin_with, opening_at}
 use Rattle.ckd_rules.specs.declared.opening.Opening.{Opening}
 use Rattle.ckd_rules.specs.declared.opening.Opening.TheVariants.{Over, Looks, Asks}
 use Rattle.ckd_rules.specs.declared.stance.Stance.{Stance}
@@ -54,12 +54,12 @@ module _ (d : PlainState) (path : ℕ) (b last : ChainState) (done : Done) where
 
 -- what it comes to once it has begun is what it comes to
 pub opened_ends : (d : PlainState) (path : ℕ) (s last : ChainState) (done : Done)
-    → IsBetween d s → ComesTo (opened s) last done (stage_effect d path (opened s) (opened s).stage)
+    → IsBetween d s → ComesTo (chain_opened s) last done (stage_effect d path (chain_opened s) (chain_opened s).stage)
     → ComesTo s last done (effect_of d path s)
 opened_ends d path s last done between ends =
     let here : s ≡ unbegun s = ap (λ (x : Option Stage). record s { stage = x }) between.stage in
     let o = opening_at s in
-    let begun : opened s ≡ begin_with (unbegun s) o = ap (λ (x : ChainState). opened x) here in
+    let begun : chain_opened s ≡ begin_with (unbegun s) o = ap (λ (x : ChainState). chain_opened x) here in
     let by : ComesTo (unbegun s) last done (effect_by (fixed_with d s.fixed.number) d.paths (track_in d.volume) path
     s.at.stance (word_of s) o.stance o.opening) =
     by_opening d path s last done o.stance o.opening

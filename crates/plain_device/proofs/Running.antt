@@ -14,14 +14,14 @@ use Rattle.ckd_chain.specs.State.{ChainState}
 use Rattle.ckd_chain.specs.Steps.{index_of, mark_by, start_of, begun_chain}
 use Rattle.ckd_rules.specs.declared.stance.Stance.{Stance}
 use Rattle.ckd_rules.specs.Facts.{HasRoom}
-use Rattle.plain_defs.specs.Acknowledged.{Told}
-use Rattle.ckd_rules.specs.Ends.{end_of, goes_to}
+use Rattle.plain_defs.specs.Acknowledged.{EditTold}
+use Rattle.ckd_rules.specs.Ends.{end_at_word, goes_to}
 use Rattle.plain_defs.specs.Effect.{Effect, effect_on, behind_effect}
 use Rattle.plain_defs.specs.Ends.{LastIsOver}
 use Rattle.plain_defs.specs.PlainState.{PlainState, fixed_of}
 use Rattle.plain_defs.specs.declared.journal.Act.{Act}
 use Rattle.plain_defs.specs.declared.journal.Acted.{Acted}
-use Rattle.plain_defs.specs.Program.{Part, first_part, begun, acts_at, acts_done, with_act, with_acts, acted_at, acted, stepped, one_more, part_of, whole_run}
+use Rattle.plain_defs.specs.Program.{Part, first_part, sense_begun, acts_at, acts_done, with_act, with_acts, acted_at, acts_made, command_run, one_more, part_of, whole_run}
 use Rattle.plain_defs.proofs.PartLemmas.{acted_beside, acted_nothing, over_stays, part_more, part_over, over_later}
 use Rattle.plain_device.specs.Between.{IsBetween, Ends, fixed_with}
 use Rattle.plain_device.specs.Parts.{IsAtPart}
@@ -48,12 +48,12 @@ between_of p ccws device chain ends at more = record {
 
 -- the chain of a program that has begun
 pub at_first : (start : PlainState) (path : ℕ) (ccws : List Ccw) (device : PlainState) (chain : ChainState)
-    → device ≡ record start { paths = begun start.paths path ccws } → chain ≡ begun_chain ccws (fixed_of start)
+    → device ≡ record start { paths = sense_begun start.paths path ccws } → chain ≡ begun_chain ccws (fixed_of start)
     → IsAtPart (first_part start path ccws) ccws device chain []
 at_first start path ccws device chain device_is chain_is =
     subst (λ (d : PlainState). IsAtPart (first_part start path ccws) ccws d chain []) (sym device_is)
     (subst (λ (s : ChainState). IsAtPart (first_part start path ccws) ccws
-    (record start { paths = begun start.paths path ccws }) s []) (sym chain_is)
+    (record start { paths = sense_begun start.paths path ccws }) s []) (sym chain_is)
     (record {
       device_is = refl;
       fixed_is = refl;
@@ -67,7 +67,7 @@ at_first start path ccws device chain device_is chain_is =
       counted = refl;
     }))
 
-abbrev part_with : PlainState → ChainState → ℕ → List CommandEnd → List Told → Part
+abbrev part_with : PlainState → ChainState → ℕ → List CommandEnd → List EditTold → Part
 part_with device chain i ends told = record {
   fixed = chain.fixed;
   state = device;
@@ -95,7 +95,7 @@ module _ (p : Part) (path : ℕ) (ccws : List Ccw) (device after : PlainState) (
 
   -- the end of the command of a word of some program
   pub record EndsAt (l : List Ccw) (n : Option ℕ) : Type 0 where
-    pub end_is : e ≡ end_of (index_of n) (ccw_at l (index_of n)) (effect_at l n).outcome
+    pub end_is : e ≡ end_at_word (index_of n) (ccw_at l (index_of n)) (effect_at l n).outcome
     pub device_is : after ≡ behind_effect device (effect_at l n)
     pub goes : then_chain.at.next ≡ goes_to l (index_of n) (effect_at l n).outcome
     pub stance : then_chain.at.stance ≡ (effect_at l n).outcome.stance
@@ -113,7 +113,7 @@ module _ (p : Part) (path : ℕ) (ccws : List Ccw) (device after : PlainState) (
       (subst (λ (l : List Ccw). EndsAt l chain.at.next) at.words ends_here)
 
   module _ (later : List CommandEnd) (later_is : later ≡ ends ++ e ∷ []) where
-    at_word : (i : ℕ) → chain.at.next ≡ Some i → IsAtPart (stepped path ccws (part_with device chain i ends p.told))
+    at_word : (i : ℕ) → chain.at.next ≡ Some i → IsAtPart (command_run path ccws (part_with device chain i ends p.told))
         ccws after then_chain later
     at_word i is =
         let here = ends_at i is in
@@ -139,11 +139,11 @@ module _ (p : Part) (path : ℕ) (ccws : List Ccw) (device after : PlainState) (
         }
 
     -- one command more
-    pub at_more : is_none chain.at.next ≡ false → IsAtPart (stepped path ccws p) ccws after then_chain later
+    pub at_more : is_none chain.at.next ≡ false → IsAtPart (command_run path ccws p) ccws after then_chain later
     at_more more = by_next chain.at.next refl more where
       by_next : (next : Option ℕ) → chain.at.next ≡ next → is_none next ≡ false
-          → IsAtPart (stepped path ccws p) ccws after then_chain later
-      by_next (Some i) is some = subst (λ (q : Part). IsAtPart (stepped path ccws q) ccws after then_chain later)
+          → IsAtPart (command_run path ccws p) ccws after then_chain later
+      by_next (Some i) is some = subst (λ (q : Part). IsAtPart (command_run path ccws q) ccws after then_chain later)
           (part_is i is) (at_word i is)
       by_next None is some = absurd (cc)
 
@@ -156,14 +156,14 @@ pub at_acted : (acts : List Acted) (p : Part) (ccws : List Ccw) (device after : 
     (ends : List CommandEnd) → IsAtPart p ccws device chain ends → is_none chain.at.next ≡ false
     → after ≡ acts_done device (acts_at acts (length ends))
     → (after.geometry ≡ device.geometry) × (after.cylinders ≡ device.cylinders)
-    → IsAtPart (acted acts p) ccws after chain ends
+    → IsAtPart (acts_made acts p) ccws after chain ends
 at_acted acts p ccws device after chain ends at more after_is same = by_next chain.at.next refl more where
   by_next : (next : Option ℕ) → chain.at.next ≡ next → is_none next ≡ false
-      → IsAtPart (acted acts p) ccws after chain ends
+      → IsAtPart (acts_made acts p) ccws after chain ends
   by_next None is some = absurd (cc)
   by_next (Some i) is some =
       let beside = acted_beside acts p in
-      let here : acted acts p ≡ with_acts (acts_at acts (length p.ends)) p =
+      let here : acts_made acts p ≡ with_acts (acts_at acts (length p.ends)) p =
       ap (λ (next : Option ℕ). acted_at acts p next) (sym at.next_is ∙ is) in record {
         device_is =
             after_is
@@ -190,7 +190,7 @@ at_acted acts p ccws device after chain ends at more after_is same = by_next cha
 -- a chain that is over has none
 pub at_over : (acts : List Acted) (p : Part) (ccws : List Ccw) (device : PlainState) (chain : ChainState)
     (ends : List CommandEnd) → IsAtPart p ccws device chain ends → is_none chain.at.next ≡ true
-    → IsAtPart (acted acts p) ccws device chain ends
+    → IsAtPart (acts_made acts p) ccws device chain ends
 at_over acts p ccws device chain ends at over =
     subst (λ (q : Part). IsAtPart q ccws device chain ends)
     (sym (ap (λ (next : Option ℕ). acted_at acts p next) (sym at.next_is ∙ none_of chain.at.next over))) at
@@ -209,15 +209,15 @@ IsRunningOn start path ccws device chain ends = IsAtPart (part_of start path ccw
 
 module _ (start : PlainState) (path : ℕ) (ccws : List Ccw) where
   pub running_first : (device : PlainState) (chain : ChainState)
-      → device ≡ record start { paths = begun start.paths path ccws } → chain ≡ begun_chain ccws (fixed_of start)
+      → device ≡ record start { paths = sense_begun start.paths path ccws } → chain ≡ begun_chain ccws (fixed_of start)
       → IsRunningOn start path ccws device chain []
   unfolding part_of
   running_first device chain device_is chain_is =
       subst (λ (p : Part). IsAtPart p ccws device chain []) (sym (acted_nothing [] (first_part start path ccws) refl))
       (at_first start path ccws device chain device_is chain_is)
 
-  stepped_is : (k : ℕ) → stepped path ccws (part_of start path ccws [] k) ≡ part_of start path ccws [] (suc k)
-  stepped_is k = sym (acted_nothing [] (stepped path ccws (part_of start path ccws [] k)) refl)
+  stepped_is : (k : ℕ) → command_run path ccws (part_of start path ccws [] k) ≡ part_of start path ccws [] (suc k)
+  stepped_is k = sym (acted_nothing [] (command_run path ccws (part_of start path ccws [] k)) refl)
       ∙ sym (part_more path ccws [] start k)
 
   module _ (device : PlainState) (chain : ChainState) (ends : List CommandEnd)
@@ -279,13 +279,13 @@ module _ (start : PlainState) (path : ℕ) (ccws : List Ccw) where
 
 module _ (start : PlainState) (path : ℕ) (ccws : List Ccw) (acts : List Acted) where
   pub part_first : (device after : PlainState) (chain : ChainState)
-      → device ≡ record start { paths = begun start.paths path ccws } → chain ≡ begun_chain ccws (fixed_of start)
+      → device ≡ record start { paths = sense_begun start.paths path ccws } → chain ≡ begun_chain ccws (fixed_of start)
       → after ≡ acts_done device (acts_at acts 0)
       → (after.geometry ≡ device.geometry) × (after.cylinders ≡ device.cylinders) → (ends : List CommandEnd) → ends ≡ []
       → IsAtPart (part_of start path ccws acts 0) ccws after chain ends
   unfolding part_of
   part_first device after chain device_is chain_is after_is same ends none =
-      subst (λ (l : List CommandEnd). IsAtPart (acted acts (first_part start path ccws)) ccws after chain l) (sym none)
+      subst (λ (l : List CommandEnd). IsAtPart (acts_made acts (first_part start path ccws)) ccws after chain l) (sym none)
       (at_acted acts (first_part start path ccws) ccws device after chain []
       (at_first start path ccws device chain device_is chain_is)
       (ap (λ (s : ChainState). is_none s.at.next) chain_is) after_is same)

@@ -69,7 +69,7 @@ use Rattle.ckd_types.specs.Sense.{zero_sense, reject_sense}
 use Rattle.plain_defs.specs.declared.journal.Act.{Act}
 use Rattle.plain_defs.specs.declared.journal.Act.TheVariants.{Loosen, Harden, CfwLost}
 use Rattle.plain_defs.specs.Acts.{act_fault, reserved, paths_after}
-use Rattle.plain_defs.specs.Effect.{looked, acted_by, effect_by, effect_on, edited_volume, behind_effect}
+use Rattle.plain_defs.specs.Effect.{walked_look, acted_by, effect_by, effect_on, edited_volume, behind_effect}
 use Rattle.plain_defs.specs.Loose.{restored, act_done, lost_by_power, power_off}
 use Rattle.plain_defs.specs.PlainState.{PathsState, LooseTrack, PlainState, empty_state, with_sense, reset_path}
 use Rattle.plain_device.specs.Volume.{IsActOn}
@@ -218,7 +218,7 @@ effect_four : (f : Fixed) (paths : PathsState) (tracks : ℕ → Track) (path : 
     (how : Opening) → AreFour paths → AreFour (effect_by f paths tracks path start c s how).paths
 effect_four f paths tracks path start c s (Over e) four = sense_four paths path e.sense four
 effect_four f paths tracks path start c s (Looks look) four =
-    sense_four paths path (looked f tracks start c look s).outcome.ending.sense four
+    sense_four paths path (walked_look f tracks start c look s).outcome.ending.sense four
 effect_four f paths tracks path start c s (Asks act) four =
     acted_four f paths path start c act (act_fault paths path act) four
 

@@ -5,10 +5,10 @@ use Rattle.ckd_types.specs.Volume.{track_in}
 use Rattle.ckd_chain.specs.declared.mark.Stage.{Stage}
 use Rattle.ckd_chain.specs.declared.mark.Stage.TheVariants.{Over, Looks, Asks}
 use Rattle.ckd_chain.specs.State.{ChainState}
-use Rattle.ckd_chain.specs.Steps.{word_of, start_of, standing, checked, held_outcome}
+use Rattle.ckd_chain.specs.Steps.{word_of, start_of, standing, check_outcome, held_outcome}
 use Rattle.ckd_rules.specs.declared.stance.Stance.{Stance}
 use Rattle.ckd_rules.specs.Walk.{Walked, untouched, walk}
-use Rattle.plain_defs.specs.Effect.{Effect, kept_by, acted}
+use Rattle.plain_defs.specs.Effect.{Effect, kept_by, effect_of_act}
 use Rattle.plain_defs.specs.PlainState.{PlainState}
 use Rattle.plain_device.specs.Between.{ComesTo, IsEditOn, fixed_with}
 use Rattle.plain_device.specs.declared.device.Went.{Went}
@@ -27,7 +27,7 @@ pub record IsLooking (device : PlainState) (chain : ChainState) : Type 0 where
 abbrev pub walk_by : PlainState → ChainState → ℕ → Option Stage → Stance → Walked
 walk_by device chain n (Some (Looks look)) s = walk n device.geometry (track_in device.volume) (start_of chain).stance
     (word_of chain) look s
-walk_by device chain n _ s = untouched (checked chain equipment_sense)
+walk_by device chain n _ s = untouched (check_outcome chain equipment_sense)
 
 -- what it comes to, with at most n looks
 abbrev pub walk_of : PlainState → ChainState → ℕ → Walked
@@ -36,7 +36,7 @@ walk_of device chain n = walk_by device chain n chain.stage chain.at.stance
 -- the effect of a command that has begun
 abbrev pub stage_effect : PlainState → ℕ → ChainState → Option Stage → Effect
 stage_effect device path chain (Some Over) = kept_by device.paths path (untouched (held_outcome chain chain.held))
-stage_effect device path chain (Some (Asks act)) = acted (fixed_with device chain.fixed.number) device.paths path
+stage_effect device path chain (Some (Asks act)) = effect_of_act (fixed_with device chain.fixed.number) device.paths path
     (start_of chain).stance (word_of chain) act
 stage_effect device path chain _ = kept_by device.paths path (walk_of device chain (device.cylinders * 15))
 

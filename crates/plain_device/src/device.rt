@@ -3,9 +3,9 @@ ghost use Rattle.ckd_types.specs.Volume.{empty_volume};
 ghost use Rattle.ckd_chain.specs.Steps.{need_of};
 ghost use Rattle.plain_defs.specs.declared.journal.Act.TheVariants.{Harden, Loosen};
 ghost use Rattle.plain_defs.specs.Effect.{kept_by};
-ghost use Rattle.plain_defs.specs.Loose.{act_done, cfw_lost, is_loose, power_off};
+ghost use Rattle.plain_defs.specs.Loose.{act_done, cfw_lost, is_loose_there, power_off};
 ghost use Rattle.plain_defs.specs.PlainState.{fixed_of, empty_state, reset_path, is_admitted, with_sense};
-ghost use Rattle.plain_defs.specs.Program.{begun, acts_at, acts_done};
+ghost use Rattle.plain_defs.specs.Program.{sense_begun, acts_at, acts_done};
 ghost use Rattle.plain_device.specs.Between.{IsBetween, ComesTo, IsEditOn, Ends, behind_edit, edit_of, effect_of, fixed_with};
 ghost use Rattle.plain_device.specs.Looking.{FitsWent, IsLooking, IsAtAnswer, IsWent, stage_effect, walk_of};
 ghost use Rattle.plain_device.specs.Volume.{IsActOn};
@@ -113,7 +113,7 @@ impl PlainDevice {
 
     /// A program begins: unless it begins with a command that sends the sense of its path, that is zero.
     pub fn begin(&mut self, path: PathNo, ccws: &[Ccw])
-        ensures { self.new ≡ record self.old { paths = begun self.old.paths path ccws.now } }
+        ensures { self.new ≡ record self.old { paths = sense_begun self.old.paths path ccws.now } }
     {
         self.paths.begin(path, ccws);
     }
@@ -127,7 +127,7 @@ impl PlainDevice {
 
     /// Whether a track is loose.
     pub fn is_loose(&self, t: TrackNo) -> bool
-        ensures { result ≡ is_loose self.now t }
+        ensures { result ≡ is_loose_there self.now t }
     {
         is_among(&self.loose, t)
     }

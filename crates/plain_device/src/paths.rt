@@ -7,7 +7,7 @@ ghost use Rattle.ckd_chain.specs.declared.progress.Settled.TheVariants.{Sent};
 ghost use Rattle.ckd_rules.specs.declared.order.LocalAct.TheVariants.{SetGroup};
 ghost use Rattle.plain_defs.specs.Acts.{sensed};
 ghost use Rattle.plain_defs.specs.PlainState.{fresh_paths, sense_for, with_sense, reset_path, asks_for_group, is_admitted};
-ghost use Rattle.plain_defs.specs.Program.{begun, starts_with_sense};
+ghost use Rattle.plain_defs.specs.Program.{sense_begun, starts_with_sense};
 ghost use Rattle.plain_device.specs.Acted.{settled_act, paths_behind};
 
 use ckd_chain::{LocalAct, Settled};
@@ -101,7 +101,7 @@ impl Paths {
 
     /// A program begins: unless it begins with a command that sends the sense of its path, that is zero.
     pub fn begin(&mut self, path: PathNo, ccws: &[Ccw])
-        ensures { self.new ≡ begun self.old path ccws.now }
+        ensures { self.new ≡ sense_begun self.old path ccws.now }
     {
         if !starts_with_sense(ccws) {
             self.keep_sense(path, Some(zero()));

@@ -8,7 +8,7 @@ use Rattle.device_defs.specs.Peek as peeks
 use Rattle.device_defs.specs.Peek.{Peeked}
 use Rattle.device_defs.specs.Store.{Store, tracks_of, is_loose, plain_at}
 use Rattle.subsystem_defs.specs.declared.event.Event.{Event}
-use Rattle.subsystem_defs.specs.Happening.{Happened, happens, replaced, unpaired}
+use Rattle.subsystem_defs.specs.Happening.{EventHappened, happens, replaced, unpaired}
 use Rattle.subsystem_defs.specs.Looks.{Looked, looked}
 use Rattle.subsystem_defs.specs.Subsystem.{Mounted, Subsystem, mounted_in, unfailing}
 use Rattle.keeper_laws.specs.Messages.{event_messages}
@@ -71,7 +71,7 @@ abbrev pub copy_event : CopyState → Event → CopyState
 copy_event c e = went_on c (event_messages c.run e) (happens c.run e).behind
 
 -- after an order for which a volume is handed in. No keeper is told of it
-abbrev pub copy_order : CopyState → Happened → CopyState
+abbrev pub copy_order : CopyState → EventHappened → CopyState
 copy_order c h = went_on c [] h.behind
 
 abbrev pub copy_did : CopyState → Occurred → CopyState

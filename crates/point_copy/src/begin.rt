@@ -1,9 +1,9 @@
-ghost use Rattle.std.specs.Prelude.{◌≡◌, ◌*◌, IfErr, IfOk, IfSome, Some, true};
-ghost use Rattle.device_outside.specs.Lists.{is_in};
+ghost use Rattle.std.specs.Prelude.{◌≡◌, IfErr, IfOk, IfSome, Some};
 ghost use Rattle.device_core.specs.State.{device_of};
 ghost use Rattle.device_defs.specs.Store.{is_loose};
 ghost use Rattle.track_table.specs.Tracks.{least};
-ghost use Rattle.subsystem_core.specs.Devices.{device_at, numbers_of};
+ghost use Rattle.subsystem_core.specs.Devices.{device_at};
+ghost use Rattle.subsystem_core.specs.Frames.{HasDevice};
 ghost use Rattle.subsystem_defs.specs.Subsystem as runs;
 ghost use Rattle.deck_run.specs.Owning.{AreOwn};
 ghost use Rattle.deck_run.specs.Standing.{StandsAs};
@@ -46,7 +46,7 @@ impl<V: Volume> Session<V> {
         sub: Subsystem<V>,
         d: DeviceNo,
     ) -> Result<Session<V>, (BeginFault, Subsystem<V>)>
-        requires { is_in d (numbers_of sub.devices.items) ≡ true }
+        requires { HasDevice sub d }
         ensures fault { IfSome (device_at sub.devices.items d) (λ x. Begins (begin_fault (device_of x).store) result) }
         ensures refused { (run : runs.Subsystem) (m : runs.Mounted) → StandsAs sub run → runs.mounted_in run.mounted d ≡ Some m
             → Begins (begin_fault m.device.store) result }

@@ -1,11 +1,11 @@
 ghost use Rattle.std.specs.Prelude.{◌≡◌, ◌*◌, IfErr, IfOk, IfSome, OnErr, OnOk, IsOk, true, ℕ};
 ghost use Rattle.track_image.specs.Image.{Image};
 ghost use Rattle.device_outside.specs.Keeper.{Heard};
-ghost use Rattle.device_outside.specs.Lists.{is_in};
 ghost use Rattle.subsystem_core.specs.Comes.{AreStill, CameKept, Replaced, Unpaired};
 ghost use Rattle.subsystem_core.specs.Devices.{device_at, numbers_of};
 ghost use Rattle.subsystem_core.specs.Ends.{answer_of};
 ghost use Rattle.subsystem_core.specs.Places.{may_come};
+ghost use Rattle.subsystem_core.specs.Frames.{HasDevice, HasSameDevices};
 ghost use Rattle.subsystem_defs.specs.Happening.{happens};
 ghost use Rattle.subsystem_defs.specs.Lines.{is_settled};
 ghost use Rattle.deck_run.specs.Seen.{settles};
@@ -38,7 +38,7 @@ impl<V: Volume> Session<V> {
     /// One event of the devices. Want of memory for an old track is the event's; then nothing is said of what is given from here on.
     pub fn event(&mut self, e: Event) -> Result<EventEnd, NoMemory>
         requires { may_come (numbers_of self.old.sub.devices.items) e ≡ true }
-        ensures numbers { numbers_of self.new.sub.devices.items ≡ numbers_of self.old.sub.devices.items }
+        ensures numbers { HasSameDevices self.old.sub self.new.sub }
         ensures came { CameKept (Heard hears_old takes_all) e self.old.sub self.old.kept (answer_of result) self.new.sub self.new.kept }
         ensures noted { Notes self.old self.new }
         ensures copies { (c : CopyState) (old : ℕ → Image) → IsCopy self.old c old → OnOk result (IsCopy self.new (copy_did c (Comes e)) old) }
@@ -53,9 +53,9 @@ impl<V: Volume> Session<V> {
 
     /// A new volume of empty tracks, 15 for each cylinder, in place of a failed side's.
     pub fn replace(&mut self, d: DeviceNo, side: Side, volume: V) -> Result<EventEnd, (NoMemory, V)>
-        requires here { is_in d (numbers_of self.old.sub.devices.items) ≡ true }
+        requires here { HasDevice self.old.sub d }
         requires size { IfSome (device_at self.old.sub.devices.items d) (λ x. (V.view volume).tracks ≡ x.store.cylinders * 15) }
-        ensures numbers { numbers_of self.new.sub.devices.items ≡ numbers_of self.old.sub.devices.items }
+        ensures numbers { HasSameDevices self.old.sub self.new.sub }
         ensures had { IsOk result }
         ensures replaced { IfOk result (λ end. Replaced d side volume (device_at self.old.sub.devices.items d) self.old.sub end self.new.sub) }
         ensures kept { self.new.kept ≡ self.old.kept }
@@ -70,9 +70,9 @@ impl<V: Volume> Session<V> {
 
     /// Side B leaves a device, and the one that had lent it gets a volume of empty tracks, 15 for each cylinder.
     pub fn unpair(&mut self, a: DeviceNo, volume: V) -> Result<EventEnd, (NoMemory, V)>
-        requires here { is_in a (numbers_of self.old.sub.devices.items) ≡ true }
+        requires here { HasDevice self.old.sub a }
         requires size { IfSome (device_at self.old.sub.devices.items a) (λ x. (V.view volume).tracks ≡ x.store.cylinders * 15) }
-        ensures numbers { numbers_of self.new.sub.devices.items ≡ numbers_of self.old.sub.devices.items }
+        ensures numbers { HasSameDevices self.old.sub self.new.sub }
         ensures unpaired { IfOk result (λ end. Unpaired a volume (device_at self.old.sub.devices.items a) self.old.sub end self.new.sub) }
         ensures lacked { OnErr result ((self.new.sub.pool ≡ self.old.sub.pool) × AreStill self.old.sub.devices.items self.new.sub.devices.items) }
         ensures back { IfErr result (λ e. e.1 ≡ volume) }

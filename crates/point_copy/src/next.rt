@@ -1,7 +1,8 @@
 ghost use Rattle.std.specs.Prelude.{◌≡◌, ◌<◌, ◌*◌, ℕ, nat_le, IfOk, IfSome, None};
 ghost use Rattle.track_image.specs.Image.{Image};
 ghost use Rattle.track_table.specs.Table.{entry_at};
-ghost use Rattle.subsystem_core.specs.Devices.{device_at, numbers_of};
+ghost use Rattle.subsystem_core.specs.Devices.{device_at};
+ghost use Rattle.subsystem_core.specs.Frames.{HasSameDevices};
 ghost use Rattle.subsystem_defs.specs.Looks.{looked};
 ghost use Rattle.point_copy.specs.Copying.{CopyState, look_given, next_given};
 ghost use Rattle.point_copy.specs.Sessions.{GivesAs, GivesLooked, IsCopy, NextBy};
@@ -18,7 +19,7 @@ impl<V: Volume> Session<V> {
         requires track { IfSome (device_at self.old.sub.devices.items self.old.device) (λ x. t < x.store.cylinders * 15) }
         requires home { self.old.gone ≡ None }
         requires none { entry_at self.old.kept.images t ≡ None }
-        ensures numbers { numbers_of self.new.sub.devices.items ≡ numbers_of self.old.sub.devices.items }
+        ensures numbers { HasSameDevices self.old.sub self.new.sub }
         ensures given { (c : CopyState) (old : ℕ → Image) → IsCopy self.old c old
             → IfOk result (λ g. GivesAs (look_given c (looked c.run c.kept.device c.kept.next)) c.kept old g self.new) }
         ensures done { GivesLooked self.old result self.new }
@@ -41,7 +42,7 @@ impl<V: Volume> Session<V> {
     /// The least track that isn't given yet: the old image that is kept of it, or by a look, which makes the reads of a command. Where
     /// memory is lacking the look may be done, and the track is still to be given.
     pub fn next(&mut self) -> Result<Given, NoMemory>
-        ensures numbers { numbers_of self.new.sub.devices.items ≡ numbers_of self.old.sub.devices.items }
+        ensures numbers { HasSameDevices self.old.sub self.new.sub }
         ensures given { (c : CopyState) (old : ℕ → Image) → IsCopy self.old c old
             → IfOk result (λ g. GivesAs (next_given c) c.kept old g self.new) }
         ensures done { IfSome (device_at self.old.sub.devices.items self.old.device) (λ x. NextBy (nat_le (x.store.cylinders * 15) self.old.kept.next)

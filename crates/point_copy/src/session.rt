@@ -1,6 +1,4 @@
-ghost use Rattle.std.specs.Prelude.{◌≡◌, true};
-ghost use Rattle.device_outside.specs.Lists.{is_in};
-ghost use Rattle.subsystem_core.specs.Devices.{numbers_of};
+ghost use Rattle.subsystem_core.specs.Frames.{HasDevice};
 
 use crate::OldTracks;
 use ckd_types::DeviceNo;
@@ -17,5 +15,5 @@ pub struct Session<V: Volume> {
     pub sub: Subsystem<V>,
     pub kept: OldTracks,
     pub gone: Option<DeviceNo>,
-    pub ghost here: { is_in device (numbers_of sub.devices.items) ≡ true },
+    pub ghost here: { HasDevice sub device },
 }

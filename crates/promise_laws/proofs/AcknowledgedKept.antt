@@ -33,55 +33,55 @@ use Rattle.std.proofs.lemmas.Bool.{cases_lt}
 use Rattle.std.proofs.lemmas.List.{append-nil, length-append}
 use Rattle.ckd_types.specs.declared.channel.Ccw.{Ccw}
 use Rattle.ckd_types.specs.Ccw.{ccw_at}
-use Rattle.ckd_rules.specs.Ends.{end_of}
+use Rattle.ckd_rules.specs.Ends.{end_at_word}
 use Rattle.ckd_rules.specs.Walk.{TrackEdit}
 use Rattle.plain_defs.specs.declared.journal.Acted.{Acted}
 use Rattle.plain_defs.specs.declared.journal.How.{How}
 use Rattle.plain_defs.specs.declared.journal.How.TheVariants.{Full, Cut, Checked}
 use Rattle.plain_defs.specs.declared.journal.Item.{Item}
 use Rattle.plain_defs.specs.declared.journal.Item.TheVariants as items
-use Rattle.plain_defs.specs.Acknowledged.{Told, told_by_edit, becomes_firm, acknowledged_of, acknowledged_if}
-use Rattle.plain_defs.specs.Acknowledged.Told.{Edited, Hardened, Lost}
+use Rattle.plain_defs.specs.Acknowledged.{EditTold, told_by_edit, becomes_firm, acknowledged_of, acknowledged_if}
+use Rattle.plain_defs.specs.Acknowledged.EditTold.{Edited, Hardened, Lost}
 use Rattle.plain_defs.specs.Effect.{effect_on}
 use Rattle.plain_defs.specs.Entry.{ProgramEntry}
 use Rattle.plain_defs.specs.History.{History, IsPlain}
 use Rattle.plain_defs.specs.Journal.{Plans, program_of, entry_part, effects_of, told_of, replay, replay_item, item_told}
 use Rattle.plain_defs.specs.Legal.{AreInOrder, acts_stop, EndsCut, HasEnds, IsLegalFrom}
 use Rattle.plain_defs.specs.PlainState.{PlainState}
-use Rattle.plain_defs.specs.Program.{Part, acts_at, ended_with, stepped_at, stepped, part_of}
+use Rattle.plain_defs.specs.Program.{Part, acts_at, ended_with, stepped_at, command_run, part_of}
 use Rattle.plain_defs.proofs.PartLemmas.{acted_nothing, part_more}
 use Rattle.device_laws.proofs.OpenProgram.{no_acts}
 use Rattle.promise_laws.specs.Kept.{item_done, told_since, running_told, history_told, Among, none, one, another}
 
 -- the others are these with some edits more
-data Adds : List Told → List Told → Type 0 where
+data Adds : List EditTold → List EditTold → Type 0 where
   adds_none : Adds [] []
-  adds_same : (x : Told) (xs ys : List Told) → Adds xs ys → Adds (x ∷ xs) (x ∷ ys)
-  adds_edit : (loose : Bool) (e : TrackEdit) (xs ys : List Told) → Adds xs ys → Adds xs (Edited loose e ∷ ys)
+  adds_same : (x : EditTold) (xs ys : List EditTold) → Adds xs ys → Adds (x ∷ xs) (x ∷ ys)
+  adds_edit : (loose : Bool) (e : TrackEdit) (xs ys : List EditTold) → Adds xs ys → Adds xs (Edited loose e ∷ ys)
 
-adds_own : (xs : List Told) → Adds xs xs
+adds_own : (xs : List EditTold) → Adds xs xs
 adds_own [] = adds_none
 adds_own (x ∷ xs) = adds_same x xs xs (adds_own xs)
 
-adds_on : (xs ys vs ws : List Told) → Adds xs ys → Adds vs ws → Adds (xs ++ vs) (ys ++ ws)
+adds_on : (xs ys vs ws : List EditTold) → Adds xs ys → Adds vs ws → Adds (xs ++ vs) (ys ++ ws)
 adds_on _ _ vs ws adds_none g = g
 adds_on _ _ vs ws (adds_same x xs ys f) g = adds_same x (xs ++ vs) (ys ++ ws) (adds_on xs ys vs ws f g)
 adds_on _ _ vs ws (adds_edit loose e xs ys f) g = adds_edit loose e (xs ++ vs) (ys ++ ws) (adds_on xs ys vs ws f g)
 
-adds_last : (xs : List Told) (state : PlainState) (e : Option TrackEdit) → Adds xs (xs ++ told_by_edit state e)
+adds_last : (xs : List EditTold) (state : PlainState) (e : Option TrackEdit) → Adds xs (xs ++ told_by_edit state e)
 adds_last xs state None = subst (Adds xs) (sym (append-nil xs)) (adds_own xs)
 adds_last xs state (Some e) =
-    subst (λ (l : List Told). Adds l (xs ++ told_by_edit state (Some e))) (append-nil xs)
+    subst (λ (l : List EditTold). Adds l (xs ++ told_by_edit state (Some e))) (append-nil xs)
     (adds_on xs xs [] (told_by_edit state (Some e)) (adds_own xs) (adds_edit _ e [] [] adds_none))
 
 -- An edit makes no track firm
 
-firm_by : (x : Told) (t : ℕ) (xs ys : List Told) → becomes_firm t xs ≡ becomes_firm t ys → becomes_firm t (x ∷ xs) ≡ becomes_firm t (x ∷ ys)
+firm_by : (x : EditTold) (t : ℕ) (xs ys : List EditTold) → becomes_firm t xs ≡ becomes_firm t ys → becomes_firm t (x ∷ xs) ≡ becomes_firm t (x ∷ ys)
 firm_by (Edited loose e) t xs ys same = same
 firm_by (Hardened u) t xs ys same = ap (λ (b : Bool). (u == t) || b) same
 firm_by Lost t xs ys same = refl
 
-firm_same : (t : ℕ) (xs ys : List Told) → Adds xs ys → becomes_firm t xs ≡ becomes_firm t ys
+firm_same : (t : ℕ) (xs ys : List EditTold) → Adds xs ys → becomes_firm t xs ≡ becomes_firm t ys
 firm_same t _ _ adds_none = refl
 firm_same t _ _ (adds_same x xs ys f) = firm_by x t xs ys (firm_same t xs ys f)
 firm_same t _ _ (adds_edit loose e xs ys f) = firm_same t xs ys f
@@ -94,7 +94,7 @@ among_more : (b : Bool) (e : TrackEdit) (es fs : List TrackEdit) → Among es fs
 among_more true e es fs f = another e es fs f
 among_more false e es fs f = f
 
-among_same : (x : Told) (xs ys : List Told) → Adds xs ys → Among (acknowledged_of xs) (acknowledged_of ys) →
+among_same : (x : EditTold) (xs ys : List EditTold) → Adds xs ys → Among (acknowledged_of xs) (acknowledged_of ys) →
     Among (acknowledged_of (x ∷ xs)) (acknowledged_of (x ∷ ys))
 among_same (Edited true e) xs ys f g =
     subst (λ (b : Bool). Among (acknowledged_if (becomes_firm e.track xs) e (acknowledged_of xs)) (acknowledged_if b e (acknowledged_of ys)))
@@ -103,12 +103,12 @@ among_same (Edited false e) xs ys f g = one e (acknowledged_of xs) (acknowledged
 among_same (Hardened t) xs ys f g = g
 among_same Lost xs ys f g = g
 
-among_edit : (loose : Bool) (e : TrackEdit) (xs ys : List Told) → Among (acknowledged_of xs) (acknowledged_of ys) →
+among_edit : (loose : Bool) (e : TrackEdit) (xs ys : List EditTold) → Among (acknowledged_of xs) (acknowledged_of ys) →
     Among (acknowledged_of xs) (acknowledged_of (Edited loose e ∷ ys))
 among_edit true e xs ys g = among_more (becomes_firm e.track ys) e (acknowledged_of xs) (acknowledged_of ys) g
 among_edit false e xs ys g = another e (acknowledged_of xs) (acknowledged_of ys) g
 
-among_of : (xs ys : List Told) → Adds xs ys → Among (acknowledged_of xs) (acknowledged_of ys)
+among_of : (xs ys : List EditTold) → Adds xs ys → Among (acknowledged_of xs) (acknowledged_of ys)
 among_of _ _ adds_none = none
 among_of _ _ (adds_same x xs ys f) = among_same x xs ys f (among_of xs ys f)
 among_of _ _ (adds_edit loose e xs ys f) = among_edit loose e xs ys (among_of xs ys f)
@@ -124,14 +124,14 @@ module _ (s : PlainState) (path : ℕ) (ccws : List Ccw) (acts : List Acted) whe
       let p = part_of s path ccws acts n in
       let e = effect_on p.fixed p.state path p.stance (ccw_at ccws i) in
       let q = ended_with ccws p i e in
-      let longer : length (p.ends ++ end_of i (ccw_at ccws i) e.outcome ∷ []) ≡ length p.ends + 1 =
-      length-append p.ends (end_of i (ccw_at ccws i) e.outcome ∷ []) in
-      let here : stepped path ccws p ≡ q = ap (λ (x : Option ℕ). stepped_at path ccws p x) is in
+      let longer : length (p.ends ++ end_at_word i (ccw_at ccws i) e.outcome ∷ []) ≡ length p.ends + 1 =
+      length-append p.ends (end_at_word i (ccw_at ccws i) e.outcome ∷ []) in
+      let here : command_run path ccws p ≡ q = ap (λ (x : Option ℕ). stepped_at path ccws p x) is in
       let bare = no_acts 0 (n + 1) (length q.ends) acts order (omega (arith, longer, many)) in
       let same : (part_of s path ccws acts (suc n)).told ≡ p.told ++ told_by_edit p.state e.edit =
       ap (λ (x : Part). x.told)
       (part_more path ccws acts s n
-      ∙ acted_nothing acts (stepped path ccws p) (subst (λ (x : Part). acts_at acts (length x.ends) ≡ []) (sym here) bare) ∙ here) in
+      ∙ acted_nothing acts (command_run path ccws p) (subst (λ (x : Part). acts_at acts (length x.ends) ≡ []) (sym here) bare) ∙ here) in
       subst (Adds p.told) (sym same) (adds_last p.told p.state e.edit)
 
 module _ (plans : Plans) where
@@ -139,7 +139,7 @@ module _ (plans : Plans) where
     cut_adds : (effect : ℕ) → EndsCut (entry_part plans s e (length e.ends)) effect e.ends → AreInOrder 0 (length e.ends + 1) e.acts →
         Adds (entry_part plans s e (length e.ends)).told (entry_part plans s e effect).told
     cut_adds effect ends order = by_count (cases_lt (length e.ends) effect) where
-      told_at : ℕ → List Told
+      told_at : ℕ → List EditTold
       told_at n = (entry_part plans s e n).told
 
       by_count : (length e.ends < effect) ⊎ (effect ≤ length e.ends) → Adds (told_at (length e.ends)) (told_at effect)
@@ -162,7 +162,7 @@ module _ (plans : Plans) where
 
   -- Journals
 
-  items_add : (xs : List Item) (s : PlainState) (earlier : List Item) (told done : List Told) → IsLegalFrom plans s earlier xs → Adds told done →
+  items_add : (xs : List Item) (s : PlainState) (earlier : List Item) (told done : List EditTold) → IsLegalFrom plans s earlier xs → Adds told done →
       Adds (told_since (item_told plans) plans s told xs) (told_since (item_done plans) plans s done xs)
   items_add [] s earlier told done legal f = f
   items_add (items.Fresh ∷ xs) s earlier told done legal f =

@@ -141,35 +141,43 @@ module _ {F P H R : Type 0} (c : Contents F P H R) where
     falls_reading = λ m n z side pair is f. down_so (read_counted z false) side f;
     falls_writing = λ m n z side pair is f. down_so (write_counted z false) side f;
     falls = λ n z side lost f. absurd (cc);
-    takes = λ n z t f. marked_so z t false z.b.up f;
+    takes = λ n z t is up f. marked_so z t false z.b.up f;
     levels = λ n z side t f. level_so z side t f;
-    spoils = λ n z t is alone f. f;
+    spoils = λ n z t is alone why f. f;
     stales = λ n z t other away f. marked_so z t true z.paired f;
-    firms = λ n z t is loose f. marked_so (hardened z t) t true z.paired (more_so takes_none z.acts (Harden t) f refl);
+    firms = λ n z t is loose why f. marked_so (hardened z t) t true z.paired (more_so takes_none z.acts (Harden t) f refl);
+    firms_taken = λ m n z t is loose up wrote f. let y = stale_everywhere (hardened z t) t in
+        marked_so (write_counted y true) t false y.b.up (marked_so (hardened z t) t true z.paired (more_so takes_none z.acts (Harden t) f refl));
     marks = λ n z t g bare is clean f. f;
     hardens = λ n z t bare loose f. more_so takes_none z.acts (Harden t) f refl;
     loses = λ n z t bare none half f. f;
     drops = λ n z t clean f. f;
-    fills = λ n z t i patched is f. f;
-    frames = λ n z t o f. f;
-    unframes = λ n z t f. f;
+    fills = λ n z t i patched is level f. f;
+    frames = λ n z t o bare why f. f;
+    renews = λ n z t i g bare is f. f;
+    unframes = λ n z t may f. f;
     patches = λ n z t f. f;
     unpatches = λ n z t slot f. f;
     queues = λ n z t room f. f;
-    dequeues = λ n z ts f. f;
+    dequeues = λ n z ts less f. f;
     edits = λ n z t e f. f;
-    goes_fast = λ n z t i e slot f. f;
+    goes_fast = λ n z t i e slot there f. f;
     goes_provisionally = λ n z t i e is f. provisional_so z t i e (is_loose z t) f;
-    goes_back = λ n z some f. f;
+    goes_back = λ n z may some f. f;
     loses_loose = λ n z lossy some f. absurd (cc);
-    closes = λ n z f. f;
+    closes = λ n z why f. f;
     cuts = λ n z h bypass e is f. f;
     notes = λ n z loss lossy f. absurd (cc);
     pays = λ n z t o f. f;
   }
 
-  half_ended : IsEnded {K = Unit {0}} c (λ n z. list_all takes_none z.acts ≡ true) (λ n z. list_all takes_none z.acts ≡ true)
-  half_ended = record { weaker = λ n z f. f; opens = λ n z t i origin may f. f; pays = λ n z t o f. f }
+  half_ended : IsEnded always Shut c (λ n z. list_all takes_none z.acts ≡ true) (λ n z. list_all takes_none z.acts ≡ true)
+  half_ended = record {
+    weaker = λ n z f. f;
+    opens = λ n z t i origin is may firm f. f;
+    opens_cleaned = λ n z t i origin is may firm f. f;
+    pays = λ n z t o f. f;
+  }
 
 pub follow_acts : (n first : ℕ) (chain : ChainState) (t : ℕ) (s : MarksStore) → list_all takes_none s.acts ≡ true →
     Had (follow by_plain n first chain t s) (λ z _. list_all takes_none z.acts ≡ true)

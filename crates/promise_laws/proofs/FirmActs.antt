@@ -41,7 +41,7 @@ use Rattle.device_defs.specs.Events.{with_loss, lost_by, losing}
 use Rattle.device_defs.specs.Losses.{slot_in}
 use Rattle.device_defs.specs.Marks.{MarksStore}
 use Rattle.device_defs.specs.Second as N
-use Rattle.device_defs.specs.Second.{second_part, second_by, cut_kept, left_by, closed}
+use Rattle.device_defs.specs.Second.{second_part, second_by, cut_kept, left_by, half_closed}
 use Rattle.device_defs.specs.Store.{Origin, OfCommand, OfCut, OfBackground, HalfWrite, tracks_of, has_level, frame_at, patch_at, with_frame}
 use Rattle.device_laws.proofs.Had.{Had, had_done, had_tell, had_if, had_then}
 use Rattle.device_laws.proofs.PlainStores.{Core, Open, core_of, loose_at, hardened_core, IsOf, of_hardened, Walks}
@@ -138,8 +138,8 @@ module _ (before : List Bool) where
   by_firmed : (s : MarksStore) (t : ℕ) (i : Image) (origin : Origin) → IsFirmed (core_of s) →
       Had (second_by by_plain t i origin s) (λ z (_ : Bool). IsFirmed (core_of z))
   by_firmed s t i origin f =
-      had_if (has_level s t) (λ _. done_firmed (closed s) t i origin f)
-      (λ _. had_done (settled_holds IsFirmed one_firmed (left_by by_plain (closed s) t i origin) t (left_firmed (closed s) t i origin f)))
+      had_if (has_level s t) (λ _. done_firmed (half_closed s) t i origin f)
+      (λ _. had_done (settled_holds IsFirmed one_firmed (left_by by_plain (half_closed s) t i origin) t (left_firmed (half_closed s) t i origin f)))
 
   pub second_firmed : (s : MarksStore) (h : HalfWrite (Unit {0})) → IsFirmed (core_of s) → Had (second_part by_plain s h) (λ z (_ : Bool). IsFirmed (core_of z))
   unfolding N.second_part

@@ -28,7 +28,7 @@ use Rattle.plain_defs.specs.History.{
   put,
   cut_by,
   lost_power,
-  reset as history_reset,
+  reset_in_history as history_reset,
   reset_in,
   ended as history_ended,
   checked,
@@ -57,7 +57,7 @@ use Rattle.device_defs.specs.Events as V
 use Rattle.device_defs.specs.Events.{losing, lose, background, second_turn, command_ended, second_ended, second_of, second}
 use Rattle.device_defs.specs.Marks.{MarksDevice, MarksStore}
 use Rattle.device_defs.specs.Outcomes.{Turn, settles, checks, ends_with, turned, turned_by, sense_kept, program_over, again}
-use Rattle.device_defs.specs.Owed.{begun, hear, ended, waiting_count}
+use Rattle.device_defs.specs.Owed.{noted_begin, hear, noted_end, waiting_count}
 use Rattle.device_defs.specs.Store.{Origin, OfCommand, OfCut, OfBackground, HalfWrite, tracks_of, has_loose}
 use Rattle.device_laws.proofs.Always.{Always, always_done, always_then}
 use Rattle.device_laws.proofs.Had.{Had, had_done, had_try, had_if, had_then, had_weaker}
@@ -129,23 +129,23 @@ hear_keeps n s =
 
 module _ (d : MarksDevice) (g : History → Type 0) where
   event_made : {A : Type 0} (body : MarksDevice → Interaction Bool Image MarksDevice A) →
-      ((s : MarksStore) → Heard (begun d.store) s → Had (body (record (event_begun d) { store = s })) (λ y _. g y.history)) →
+      ((s : MarksStore) → Heard (noted_begin d.store) s → Had (body (record (event_begun d) { store = s })) (λ y _. g y.history)) →
       Had (event by_plain d body) (λ y _. g y.history)
   event_made body f =
-      had_then (had_then (hear_keeps 960 (begun d.store)) (λ s _ e. f s e))
+      had_then (had_then (hear_keeps 960 (noted_begin d.store)) (λ s _ e. f s e))
       (λ y a x. had_then (ended_same (waiting_count by_plain d.store) y.store) (λ z _ e. had_done x))
 
-no_acts : (d : MarksDevice) (s : MarksStore) → Heard (begun d.store) s → s.acts ≡ []
+no_acts : (d : MarksDevice) (s : MarksStore) → Heard (noted_begin d.store) s → s.acts ≡ []
 no_acts d s e = ap (λ (c : Core). c.acts) e.core
 
 -- as the event begins
-firmed_first : (d : MarksDevice) (s : MarksStore) → Heard (begun d.store) s → IsFirmed d.store.loose (core_of s)
+firmed_first : (d : MarksDevice) (s : MarksStore) → Heard (noted_begin d.store) s → IsFirmed d.store.loose (core_of s)
 firmed_first d s e = record {
   are = ap (λ (acts : List Act). are_firmed d.store.loose acts) (no_acts d s e);
   left = ap (λ (c : Core). c.loose) e.core ∙ sym (ap (λ (acts : List Act). firmed_marks d.store.loose acts) (no_acts d s e));
 }
 
-none_first : (d : MarksDevice) (s : MarksStore) → Heard (begun d.store) s → list_all takes_none s.acts ≡ true
+none_first : (d : MarksDevice) (s : MarksStore) → Heard (noted_begin d.store) s → list_all takes_none s.acts ≡ true
 none_first d s e = ap (list_all takes_none) (no_acts d s e)
 
 module _ (d : MarksDevice) where
@@ -194,7 +194,7 @@ module _ (d : MarksDevice) where
       abbrev undone : Open
       undone = (None, (d.store.lent, d.store.device))
 
-      module _ (s : MarksStore) (e : Heard (begun d.store) s) (t : ℕ) (needs : need_of chain ≡ Some t) where
+      module _ (s : MarksStore) (e : Heard (noted_begin d.store) s) (t : ℕ) (needs : need_of chain ≡ Some t) where
         abbrev answers : LocalAct → Settled
         answers = settled_act chain.fixed.geometry d.paths o.path
 
@@ -234,11 +234,11 @@ module _ (d : MarksDevice) where
             (record { from = from_itself chain; needs = needs; above = omega arith }) (walking_first num empty d f o running chain is now whole s e.core)))
             (λ z a g. on_made s o.path chain z a (follow_noted z a g.1 g.0))
 
-      at_made : (s : MarksStore) → Heard (begun d.store) s → (k : Option ℕ) → need_of chain ≡ k → Had (command_at by_plain (here s) o.path chain k) Commanded
+      at_made : (s : MarksStore) → Heard (noted_begin d.store) s → (k : Option ℕ) → need_of chain ≡ k → Had (command_at by_plain (here s) o.path chain k) Commanded
       at_made s e (Some t) needs = tracks_made s e t needs
       at_made s e None needs = had_try (answered_made s o.path (stepped chain None).chain (stepped chain None).progress)
 
-      by_made : (s : MarksStore) → Heard (begun d.store) s → Had (command_by by_plain (here s) d.history.running d.chain) Commanded
+      by_made : (s : MarksStore) → Heard (noted_begin d.store) s → Had (command_by by_plain (here s) d.history.running d.chain) Commanded
       by_made s e =
           subst (λ (r : Option OpenEntry). Had (command_by by_plain (here s) r d.chain) Commanded) (sym running)
           (subst (λ (k : Option ChainState). Had (command_by by_plain (here s) (Some o) k) Commanded) (sym now)
@@ -307,14 +307,14 @@ module _ (d : MarksDevice) where
   LossOf acts = acts ≡ (if has_loose d.store then CfwLost ∷ [] else [])
 
   lost_made : (q : List Act → Type 0) (loss : Loss) →
-      ((s : MarksStore) → Heard (begun d.store) s → Had (losing by_plain s loss) (λ z (_ : Unit {0}). q z.acts)) →
+      ((s : MarksStore) → Heard (noted_begin d.store) s → Had (losing by_plain s loss) (λ z (_ : Unit {0}). q z.acts)) →
       Had (lose by_plain d loss) (λ y (_ : Unit {0}). ActedWith q d.history y.history)
   unfolding V.lose
   lost_made q loss f =
       event_made d (ActedWith q d.history) (λ z. and_then (losing by_plain z.store loss) (λ s _. Done (with_store z s) tt))
       (λ s e. had_then (f s e) (λ z _ g. had_done (record { acts = z.acts; are = g; is = refl })))
 
-  loose_is : (s : MarksStore) → Heard (begun d.store) s → has_loose s ≡ has_loose d.store
+  loose_is : (s : MarksStore) → Heard (noted_begin d.store) s → has_loose s ≡ has_loose d.store
   loose_is s e = ap (λ (c : Core). is_some (least (c.cylinders * 15) (λ t. get_or c.loose t false))) e.core
 
   pub cache_made : Had (lose by_plain d losses.Cache) (λ y (_ : Unit {0}). ActedWith LossOf d.history y.history)
@@ -324,7 +324,7 @@ module _ (d : MarksDevice) where
       (λ z _ g. g ∙ ap (λ (b : Bool). if b then s.acts ++ CfwLost ∷ [] else s.acts) (loose_is s e)
       ∙ ap (λ (acts : List Act). if has_loose d.store then acts ++ CfwLost ∷ [] else acts) (no_acts d s e)))
 
-  patched_firm : ArePatchedFirm d.store → (s : MarksStore) → Heard (begun d.store) s → ArePatchedFirm s
+  patched_firm : ArePatchedFirm d.store → (s : MarksStore) → Heard (noted_begin d.store) s → ArePatchedFirm s
   patched_firm firm s e = λ q patched.
       ap (λ (c : Core). get_or c.loose q false) e.core
       ∙ firm q (sym (ap (λ (l : List (Option (Unit {0}))). is_some (get_or l q None)) e.patches) ∙ patched)
@@ -385,4 +385,4 @@ module _ (d : MarksDevice) where
   power_made =
       always_then
       (always_then (always_any (half_cut by_plain (event_begun d).store (event_begun d).store.half)) (λ z _ _. always_done refl))
-      (λ y a g. always_then (always_any (ended by_plain (waiting_count by_plain d.store) y.store)) (λ z _ _. always_done g))
+      (λ y a g. always_then (always_any (noted_end by_plain (waiting_count by_plain d.store) y.store)) (λ z _ _. always_done g))

@@ -11,14 +11,14 @@ use Rattle.plain_defs.specs.declared.journal.Act.{Act}
 use Rattle.plain_defs.specs.declared.journal.Acted.{Acted}
 use Rattle.plain_defs.specs.declared.journal.Item.{Item}
 use Rattle.plain_defs.specs.declared.journal.Item.TheVariants as items
-use Rattle.plain_defs.specs.Acknowledged.{Told, told_by_edit, told_by_act, becomes_firm, acknowledged_of}
+use Rattle.plain_defs.specs.Acknowledged.{EditTold, told_by_edit, told_by_act, becomes_firm, acknowledged_of}
 use Rattle.plain_defs.specs.Effect.{Effect, effect_on, edited_volume, behind_effect}
 use Rattle.plain_defs.specs.Entry.{ProgramEntry}
 use Rattle.plain_defs.specs.History.{OpenEntry, History, plain_of, state_by}
 use Rattle.plain_defs.specs.Journal.{Plans, program_of, effects_of, replay, replay_item}
 use Rattle.plain_defs.specs.Loose.{firm, firm_in, act_done}
 use Rattle.plain_defs.specs.PlainState.{LooseTrack, PlainState}
-use Rattle.plain_defs.specs.Program.{Part, first_part, acts_at, with_act, with_acts, acted_at, ended_with, stepped_at, stepped, part_of}
+use Rattle.plain_defs.specs.Program.{Part, first_part, acts_at, with_act, with_acts, acted_at, ended_with, stepped_at, command_run, part_of}
 use Rattle.promise_laws.specs.Kept.{item_done, told_since, running_told, history_told, edited_by}
 use Rattle.promise_laws.proofs.KeptTracks.{Carries, carries_on, carries_none, act_carries, power_carries, effect_carries, edited_at, on_track, stood}
 
@@ -55,7 +55,7 @@ module _ (t : ℕ) (s : PlainState) where
         acted_so acts p p.next (carries_none t s p.state refl refl refl refl)
     part_so (suc k) =
         let p = part_of s path ccws acts k in
-        let q = stepped path ccws p in
+        let q = command_run path ccws p in
         acted_so acts q q.next (stepped_so p p.next (part_so k))
 
 -- Items
@@ -67,14 +67,14 @@ module _ (plans : Plans) (t : ℕ) where
       record { size = f.size; cylinders = f.cylinders; track = f.track }
 
   -- since the last new volume
-  pub record Since (many : ℕ) (told : List Told) (s : PlainState) : Type 0 where
+  pub record Since (many : ℕ) (told : List EditTold) (s : PlainState) : Type 0 where
     pub first : PlainState
     pub volume : first.volume ≡ empty_volume many
     pub loose : first.loose ≡ []
     pub tracks : first.cylinders ≡ many
     pub carried : Carries t first told s
 
-  since_on : (many : ℕ) (told more : List Told) (s z : PlainState) → Since many told s → Carries t s more z → Since many (told ++ more) z
+  since_on : (many : ℕ) (told more : List EditTold) (s z : PlainState) → Since many told s → Carries t s more z → Since many (told ++ more) z
   since_on many told more s z f g = record {
     first = f.first;
     volume = f.volume;
@@ -83,13 +83,13 @@ module _ (plans : Plans) (t : ℕ) where
     carried = carries_on t f.first s z told more f.carried g;
   }
 
-  since_fresh : (many : ℕ) (told : List Told) (s : PlainState) → Since many told s → Since many [] (replay_item plans s items.Fresh)
+  since_fresh : (many : ℕ) (told : List EditTold) (s : PlainState) → Since many told s → Since many [] (replay_item plans s items.Fresh)
   since_fresh many told s f =
       let z = replay_item plans s items.Fresh in
       let size : s.cylinders ≡ many = f.carried.cylinders ∙ f.tracks in
       record { first = z; volume = ap empty_volume size; loose = refl; tracks = size; carried = carries_none t z z refl refl refl refl }
 
-  pub items_so : (many : ℕ) (told : List Told) (s : PlainState) (xs : List Item) → Since many told s →
+  pub items_so : (many : ℕ) (told : List EditTold) (s : PlainState) (xs : List Item) → Since many told s →
       Since many (told_since (item_done plans) plans s told xs) (replay plans s xs)
   items_so many told s [] f = f
   items_so many told s (items.Fresh ∷ xs) f = items_so many [] (replay_item plans s items.Fresh) xs (since_fresh many told s f)
@@ -130,14 +130,14 @@ module _ (plans : Plans) (t : ℕ) where
   bare_any s none true = refl
   bare_any s none false = ap (λ (l : List LooseTrack). firm_in l t (track_in s.volume t)) none
 
-  pub track_so : (many : ℕ) (told : List Told) (s : PlainState) → Since many told s → t < length (empty_volume many) →
+  pub track_so : (many : ℕ) (told : List EditTold) (s : PlainState) → Since many told s → t < length (empty_volume many) →
       on_track t (acknowledged_of told) (track_in (empty_volume many) t) ≡ firm s t
   track_so many told s f lt =
       let x = f.first in
       let inside : t < length x.volume = subst (λ (v : List Track). t < length v) (sym f.volume) lt in
       ap (λ (v : List Track). on_track t (acknowledged_of told) (track_in v t)) (sym f.volume)
       ∙ ap (on_track t (acknowledged_of told)) (sym (bare_any x f.loose (becomes_firm t (told ++ []))))
-      ∙ ap (λ (l : List Told). on_track t (acknowledged_of l) (stood t x (becomes_firm t (told ++ [])))) (sym (append-nil told))
+      ∙ ap (λ (l : List EditTold). on_track t (acknowledged_of l) (stood t x (becomes_firm t (told ++ [])))) (sym (append-nil told))
       ∙ f.carried.track inside []
 
 -- A volume with edits, one behind the other

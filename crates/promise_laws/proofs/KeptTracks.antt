@@ -34,8 +34,8 @@ use Rattle.ckd_types.specs.Volume.{track_in}
 use Rattle.ckd_rules.specs.Walk.{TrackEdit}
 use Rattle.plain_defs.specs.declared.journal.Act.{Act}
 use Rattle.plain_defs.specs.declared.journal.Act.TheVariants.{Loosen, Harden, CfwLost}
-use Rattle.plain_defs.specs.Acknowledged.{Told, told_by_edit, told_by_act, becomes_firm, acknowledged_of, acknowledged_if}
-use Rattle.plain_defs.specs.Acknowledged.Told.{Edited, Hardened, Lost}
+use Rattle.plain_defs.specs.Acknowledged.{EditTold, told_by_edit, told_by_act, becomes_firm, acknowledged_of, acknowledged_if}
+use Rattle.plain_defs.specs.Acknowledged.EditTold.{Edited, Hardened, Lost}
 use Rattle.plain_defs.specs.Effect.{Effect, edited_volume, behind_effect}
 use Rattle.plain_defs.specs.Loose.{is_loose_in, firm_in, without, restored, cfw_lost, act_done, lost_by_power, power_off}
 use Rattle.plain_defs.specs.PlainState.{LooseTrack, PathsState, PlainState}
@@ -52,19 +52,19 @@ stood t s true = track_in s.volume t
 stood t s false = firm_in s.loose t (track_in s.volume t)
 
 -- from one device to another this was told: whatever is told later, what is acknowledged makes the same of the track
-pub record Carries (t : ℕ) (s : PlainState) (told : List Told) (z : PlainState) : Type 0 where
+pub record Carries (t : ℕ) (s : PlainState) (told : List EditTold) (z : PlainState) : Type 0 where
   pub size : length z.volume ≡ length s.volume
   pub cylinders : z.cylinders ≡ s.cylinders
-  pub track : t < length s.volume → (later : List Told) →
+  pub track : t < length s.volume → (later : List EditTold) →
       on_track t (acknowledged_of (told ++ later)) (stood t s (becomes_firm t (told ++ later)))
       ≡ on_track t (acknowledged_of later) (stood t z (becomes_firm t later))
 
-pub carries_on : (t : ℕ) (s y z : PlainState) (told more : List Told) → Carries t s told y → Carries t y more z → Carries t s (told ++ more) z
+pub carries_on : (t : ℕ) (s y z : PlainState) (told more : List EditTold) → Carries t s told y → Carries t y more z → Carries t s (told ++ more) z
 carries_on t s y z told more f g = record {
   size = g.size ∙ f.size;
   cylinders = g.cylinders ∙ f.cylinders;
   track = λ lt later.
-      ap (λ (l : List Told). on_track t (acknowledged_of l) (stood t s (becomes_firm t l))) (append_assoc told more later)
+      ap (λ (l : List EditTold). on_track t (acknowledged_of l) (stood t s (becomes_firm t l))) (append_assoc told more later)
       ∙ f.track lt (more ++ later)
       ∙ g.track (subst (λ (n : ℕ). t < n) (sym f.size) lt) later;
 }
@@ -154,7 +154,7 @@ module _ (t : ℕ) (s : PlainState) where
   plain_any z plain firm true = sym plain
   plain_any z plain firm false = sym plain ∙ sym firm
 
-  hardened_by : (u : ℕ) (later : List Told) (b : Bool) → (u == t) ≡ b →
+  hardened_by : (u : ℕ) (later : List EditTold) (b : Bool) → (u == t) ≡ b →
       on_track t (acknowledged_of later) (stood t s (b || becomes_firm t later))
       ≡ on_track t (acknowledged_of later) (stood t (act_done s (Harden u)) (becomes_firm t later))
   hardened_by u later true is =
@@ -247,7 +247,7 @@ module _ (t : ℕ) (s : PlainState) (e : TrackEdit) (paths : PathsState) where
     apart_same other true = sym (edited_at false other lt)
     apart_same other false = ap (firm_in s.loose t) (sym (edited_at false other lt))
 
-    edited_loose : (later : List Told) → is_loose_in s.loose e.track ≡ true → (q : Bool) → (e.track == t) ≡ q →
+    edited_loose : (later : List EditTold) → is_loose_in s.loose e.track ≡ true → (q : Bool) → (e.track == t) ≡ q →
         on_track t (acknowledged_if (becomes_firm e.track later) e (acknowledged_of later)) (stood t s (becomes_firm t later))
         ≡ on_track t (acknowledged_of later) (stood t behind (becomes_firm t later))
     edited_loose later loose true same =
@@ -258,7 +258,7 @@ module _ (t : ℕ) (s : PlainState) (e : TrackEdit) (paths : PathsState) where
         skipped (acknowledged_of later) (stood t s (becomes_firm t later)) other (becomes_firm e.track later)
         ∙ ap (on_track t (acknowledged_of later)) (apart_same other (becomes_firm t later))
 
-    edited_by_loose : (later : List Told) (k : Bool) → is_loose_in s.loose e.track ≡ k →
+    edited_by_loose : (later : List EditTold) (k : Bool) → is_loose_in s.loose e.track ≡ k →
         on_track t (acknowledged_of (Edited k e ∷ later)) (stood t s (becomes_firm t later))
         ≡ on_track t (acknowledged_of later) (stood t behind (becomes_firm t later))
     edited_by_loose later true is = edited_loose later is (e.track == t) refl

@@ -1,13 +1,11 @@
 -- In the run of a deck each event brings into the journal of each device what an event of its kind may bring.
 use Rattle.std.proofs.Common.{◌≡◌, ◌==◌, ℕ, Bool, true, false, List, [], ◌∷◌, map, Option, Some, None, is_some, refl, sym, ap, subst, ◌∙◌, ◌⊎◌, inl, inr}
 use Rattle.std.specs.Prelude.{All, ⊤, IfSome, not, if◌then◌else◌}
-use Rattle.std.proofs.lemmas.List.Elements.{All-nil, All-cons, All-head, All-tail}
 use Rattle.ckd_types.specs.declared.paths.Side.{Side}
 use Rattle.ckd_types.specs.declared.paths.Side.TheVariants as sides
-use Rattle.deck_plan.specs.declared.event.EventLine.{EventLine}
 use Rattle.deck_text.specs.DeckLines.{DeckLines}
 use Rattle.loss_model.specs.declared.Loss.TheVariants as losses
-use Rattle.plain_defs.specs.History.{OpenEntry, emptied}
+use Rattle.plain_defs.specs.History.{OpenEntry, emptied, is_path_of}
 use Rattle.device_outside.specs.Interaction.{Interaction, Done, Try, Ask, Read, Write, Tell, and_then}
 use Rattle.device_outside.specs.Keeper.{reply}
 use Rattle.device_outside.specs.Pool.{Pool, all_waiting}
@@ -21,7 +19,7 @@ use Rattle.device_defs.specs.Contents.{by_plain}
 use Rattle.device_defs.specs.Cutting.{reset}
 use Rattle.device_defs.specs.Events.{second, lose, background}
 use Rattle.device_defs.specs.Marks.{MarksDevice}
-use Rattle.device_defs.specs.Orders.{lend, join, split, restore, replace, hold, resume}
+use Rattle.device_defs.specs.Orders.{lend, join, split, restore, replace, hold_side, resume}
 use Rattle.device_defs.specs.Start.{start_fault, start, next_ordinal}
 use Rattle.device_defs.specs.Store.{HalfWrite}
 use Rattle.device_laws.proofs.HistoryTold.{lend_told}
@@ -33,106 +31,30 @@ use Rattle.subsystem_defs.specs.declared.event.Event.TheVariants as events
 use Rattle.subsystem_defs.specs.Decks as D
 use Rattle.subsystem_defs.specs.Decks.{opened, run_of}
 use Rattle.subsystem_defs.specs.Deeds as E
-use Rattle.subsystem_defs.specs.Deeds.{
-  back,
-  order,
-  Ends,
-  Becomes,
-  Asks,
-  Each,
-  Repairs,
-  Lends,
-  deed,
-  device_in,
-  on_device,
-  starts,
-  start_by,
-  is_own,
-  step,
-  seconds,
-  ends_by,
-  may_end_by,
-  ends_done,
-  end_of,
-}
+use Rattle.subsystem_defs.specs.Deeds.{back, order, Ends, Becomes, Asks, Each, Repairs, Lends, deed, device_in, on_device, starts, start_by, step, seconds, ends_by, may_end_by, ends_done, end_of}
 use Rattle.subsystem_defs.specs.Happening as H
-use Rattle.subsystem_defs.specs.Happening.{
-  Happened,
-  MarksDeed,
-  Talk,
-  held_with,
-  told_to,
-  told_end,
-  mounted_behind,
-  behind_outcome,
-  joined,
-  lends,
-  is_lent_to,
-  restored_in,
-  asks,
-  becomes,
-  happens_by,
-  happens,
-  sweep,
-  replaced_by,
-  replaced_at,
-  replaced,
-  unpaired_by,
-  unpaired_at,
-  unpaired,
-}
+use Rattle.subsystem_defs.specs.Happening.{EventHappened, MarksDeed, Talk, held_with, told_to, told_end, mounted_behind, behind_outcome, joined, lends, is_lent_to, restored_in, asks, becomes, happens_by, happens, sweep, replaced_by, replaced_at, replaced, unpaired_by, unpaired_at, unpaired}
 use Rattle.subsystem_defs.specs.Lines.{Asked, Once, Replace, Unpair, Run, Settle, logged, asked_by, run_lines}
 use Rattle.subsystem_defs.specs.Refusals.{pair_fault, suspend_fault, resume_fault, fail_fault, replace_fault, unpair_fault}
-use Rattle.subsystem_defs.specs.Subsystem.{Mounted, Subsystem, number_of, devices_of, mounted_in, put_in, with_calls, unfailing}
+use Rattle.subsystem_defs.specs.Subsystem.{Mounted, Subsystem, devices_of, mounted_in, put_in, with_calls, unfailing}
 use Rattle.subsystem_laws.specs.Came as C
 use Rattle.subsystem_laws.specs.Came.{Came, CameTo, delivered}
 use Rattle.subsystem_laws.specs.Causes.{EachPair}
-use Rattle.subsystem_laws.specs.Served.{IsServedEvent, IsServed, IsServedDeck}
+use Rattle.subsystem_laws.specs.Served.{IsServedEvent, IsServedDeck}
 use Rattle.subsystem_laws.proofs.Came.{at, answered, told_came}
 use Rattle.subsystem_laws.proofs.DeedWalk.{IsSeat, Stands, seat_of}
 use Rattle.subsystem_laws.proofs.FoundDevices.{number_found}
-use Rattle.subsystem_laws.proofs.Pairing.{started_number}
-use Rattle.subsystem_laws.proofs.PlainRuns.{Plainly, plain_kept, event_plain, opened_plain}
-use Rattle.subsystem_laws.proofs.RunLines.{AnyEvent, MayAsk, logs_all, Goes, lines_go}
+use Rattle.subsystem_laws.proofs.Pairing.{Pairs, pairs_same, pairs_put, pairs_on, pairs_weaker, some_is, started_number}
+use Rattle.subsystem_laws.proofs.PlainRuns.{Plainly, all_may, plain_kept, event_plain, opened_plain}
+use Rattle.subsystem_laws.proofs.RunLines.{AnyEvent, logs_all, Goes, lines_go}
 use Rattle.subsystem_laws.proofs.TracksKept.{Fair, fair_kept, opened_fair}
 use Rattle.subsystem_laws.proofs.Walks.{AreSo, device_so, mounted_so, event_so, replaced_so, unpaired_so}
 use Rattle.promise_laws.specs.Origins.{IsBy, event_of, is_refused, Brings, nothing, new_volume, HaveOrigins}
-use Rattle.promise_laws.proofs.Bringing.{
-  same_brings,
-  start_brings,
-  command_brings,
-  step_second_brings,
-  back_second_brings,
-  background_brings,
-  side_brings,
-  reset_brings,
-  power_brings,
-  cache_brings,
-  store_brings,
-}
+use Rattle.promise_laws.proofs.Bringing.{same_brings, start_brings, command_brings, step_second_brings, back_second_brings, background_brings, side_brings, reset_brings, power_brings, cache_brings, store_brings}
 
 -- Devices before and behind, pair by pair
 
-abbrev Pairs : (MarksDevice → MarksDevice → Type 0) → List Mounted → List Mounted → Type 0
-Pairs r ms ks = EachPair r (map (λ (m : Mounted). m.device) ms) (map (λ (m : Mounted). m.device) ks)
-
 module _ (r : MarksDevice → MarksDevice → Type 0) (own : (d : MarksDevice) → r d d) where
-  pairs_same : (ms : List Mounted) → Pairs r ms ms
-  pairs_same [] = tt
-  pairs_same (m ∷ ms) = (own m.device, pairs_same ms)
-
-  put_if : (n : ℕ) (y m : Mounted) (ms : List Mounted) (b : Bool) →
-      ((k : Mounted) → (if b then Some m else mounted_in ms n) ≡ Some k → r k.device y.device) →
-      (((k : Mounted) → mounted_in ms n ≡ Some k → r k.device y.device) → Pairs r ms (put_in ms n y)) →
-      Pairs r (m ∷ ms) (if b then y ∷ ms else m ∷ put_in ms n y)
-  put_if n y m ms true h more = (h m refl, pairs_same ms)
-  put_if n y m ms false h more = (own m.device, more h)
-
-  -- another one in the place of a device
-  pairs_put : (n : ℕ) (y : Mounted) (ms : List Mounted) → ((k : Mounted) → mounted_in ms n ≡ Some k → r k.device y.device) → Pairs r ms (put_in ms n y)
-  pairs_put n y [] h = tt
-  pairs_put n y (m ∷ ms) h = put_if n y m ms (number_of m == n) h (pairs_put n y ms)
-
   pairs_swept : (f : MarksDevice → Talk (Unit {0})) → ((d : MarksDevice) → Fair d → (t : CameTo (f d)) → r d t.state) → (ms : List Mounted) →
       AreSo Fair ms → (pool : Pool) → Pairs r ms (sweep f ms pool).mounted
   unfolding H.sweep
@@ -141,25 +63,6 @@ module _ (r : MarksDevice → MarksDevice → Type 0) (own : (d : MarksDevice) �
     h m.device p.0 (told_came (f m.device) (told_to pool m)),
     pairs_swept f h ms p.1 (held_with pool m (f m.device)).told.pool,
   )
-
-pairs_on : (r q g : MarksDevice → MarksDevice → Type 0) → ((x y z : MarksDevice) → r x y → q y z → g x z) → (xs ys zs : List MarksDevice) →
-    EachPair r xs ys → EachPair q ys zs → EachPair g xs zs
-pairs_on r q g on [] [] [] p f = tt
-pairs_on r q g on [] [] (z ∷ zs) p f = absurd f
-pairs_on r q g on [] (y ∷ ys) zs p f = absurd p
-pairs_on r q g on (x ∷ xs) [] zs p f = absurd p
-pairs_on r q g on (x ∷ xs) (y ∷ ys) [] p f = absurd f
-pairs_on r q g on (x ∷ xs) (y ∷ ys) (z ∷ zs) p f = (on x y z p.0 f.0, pairs_on r q g on xs ys zs p.1 f.1)
-
-pairs_weaker : (r q : MarksDevice → MarksDevice → Type 0) → ((x y : MarksDevice) → r x y → q x y) → (xs ys : List MarksDevice) → EachPair r xs ys →
-    EachPair q xs ys
-pairs_weaker r q so [] [] p = tt
-pairs_weaker r q so [] (y ∷ ys) p = absurd p
-pairs_weaker r q so (x ∷ xs) [] p = absurd p
-pairs_weaker r q so (x ∷ xs) (y ∷ ys) p = (so x y p.0, pairs_weaker r q so xs ys p.1)
-
-some_is : (x y : Mounted) → Some x ≡ Some y → x ≡ y
-some_is x y e = cc
 
 -- an answer is the end that was made of one
 answer_of : {I S X Y : Type 0} (i : Interaction Bool I S X) (f : X → Y) (y : S) (b : Y) → Came (and_then i (λ s a. Done s (f a))) y b → (a : X) × (b ≡ f a)
@@ -187,7 +90,7 @@ module _ (asked : Asked) where
   Keeps s (Repairs pool) = ⊤
   Keeps s (Lends a b) = IsSeat s b × ((t : CameTo (lend by_plain b a.store.device)) → Still b t.state)
 
-  abbrev Shows : Happened → Type 0
+  abbrev Shows : EventHappened → Type 0
   Shows h = EachPair (Origin h.end) (devices_of h.before) (devices_of h.behind)
 
   -- What happens where a deed keeps so
@@ -347,7 +250,7 @@ module _ (asked : Asked) where
     unfolding E.deed
     deed_by (events.Start path n) is =
         at_device n (starts path)
-        (λ d x. deed_if (is_own path d.history.running) (none ends.Running) (starts_by path n is d x (start_fault d path)))
+        (λ d x. deed_if (is_path_of d.history.running path) (none ends.Running) (starts_by path n is d x (start_fault d path)))
     deed_by (events.Step n) is = at_device n (step by_plain) (λ d x. step_by n is d x d.store.half refl)
     deed_by (events.Back n) is = at_device n (back by_plain) (λ d x. back_by n is d x d.store.half refl)
     deed_by (events.Reset path n) is =
@@ -371,8 +274,8 @@ module _ (asked : Asked) where
         (λ z at_z. ordered (pair_fault y z)
         (λ fault. record { is = (seat_of s z at_z.stands, λ t. at (lend_told by_plain z y.store.device) t) })))
     deed_by (events.Suspend n) is =
-        at_device n (λ d. order (suspend_fault d) (Becomes (hold d) ends.Done))
-        (λ d x. ordered (suspend_fault d) (λ fault. becomes_same d x.stands (hold d) refl refl ends.Done))
+        at_device n (λ d. order (suspend_fault d) (Becomes (hold_side d) ends.Done))
+        (λ d x. ordered (suspend_fault d) (λ fault. becomes_same d x.stands (hold_side d) refl refl ends.Done))
     deed_by (events.Resume n) is =
         at_device n (λ d. order (resume_fault d) (Becomes (resume d) ends.Done))
         (λ d x. ordered (resume_fault d) (λ fault. becomes_same d x.stands (resume d) refl refl ends.Done))
@@ -478,20 +381,6 @@ origins_go = record {
   replaces = λ s d side q. replace_goes s d side q;
   unpairs = λ s a q. unpair_goes s a q;
 }
-
-may_ask : (x : Asked) → IsServed x → MayAsk IsServedEvent x
-may_ask (Once e) h = h
-may_ask (Replace d side) h = tt
-may_ask (Unpair a) h = tt
-may_ask (Run d) h = tt
-may_ask (Settle d) h = tt
-
-all_may : (lines : List EventLine) → All (λ (line : EventLine). IsServed (asked_by line)) lines → All (MayAsk IsServedEvent) (map asked_by lines)
-all_may [] h = All-nil (MayAsk IsServedEvent)
-all_may (line ∷ lines) h =
-    All-cons (MayAsk IsServedEvent) (asked_by line) (map asked_by lines)
-    (may_ask (asked_by line) (All-head (λ (l : EventLine). IsServed (asked_by l)) line lines h))
-    (all_may lines (All-tail (λ (l : EventLine). IsServed (asked_by l)) line lines h))
 
 pub run_has_origins : (deck : DeckLines) → IsServedDeck deck → All HaveOrigins (run_of deck).events
 unfolding D.run_asked

@@ -5,7 +5,7 @@ use Rattle.ckd_types.specs.Volume.{track_in, empty_volume}
 use Rattle.ckd_rules.specs.Walk.{TrackEdit}
 use Rattle.plain_defs.specs.declared.journal.Item.{Item}
 use Rattle.plain_defs.specs.declared.journal.Item.TheVariants as items
-use Rattle.plain_defs.specs.Acknowledged.{Told, acknowledged_of}
+use Rattle.plain_defs.specs.Acknowledged.{EditTold, acknowledged_of}
 use Rattle.plain_defs.specs.Effect.{edited_volume}
 use Rattle.plain_defs.specs.History.{OpenEntry, History, open_part}
 use Rattle.plain_defs.specs.Journal.{Plans, entry_part, effects_of, replay, replay_item, item_told}
@@ -20,22 +20,22 @@ use Rattle.subsystem_defs.specs.Subsystem.{devices_of}
 
 -- what is told of an item's edits; of a program that was cut, of all that took effect: beside those that were told as done the one of which
 -- a half write was open
-abbrev pub item_done : Plans → PlainState → Item → List Told
+abbrev pub item_done : Plans → PlainState → Item → List EditTold
 item_done plans state (items.Program e) = (entry_part plans state e (effects_of e.how e.ends)).told
 item_done plans state x = item_told plans state x
 
 -- what items tell of edits, behind what was told before; a new volume begins anew
-abbrev pub told_since : (PlainState → Item → List Told) → Plans → PlainState → List Told → List Item → List Told
+abbrev pub told_since : (PlainState → Item → List EditTold) → Plans → PlainState → List EditTold → List Item → List EditTold
 told_since tells plans state told [] = told
 told_since tells plans state told (items.Fresh ∷ xs) = told_since tells plans (replay_item plans state items.Fresh) [] xs
 told_since tells plans state told (x ∷ xs) = told_since tells plans (replay_item plans state x) (told ++ tells state x) xs
 
 -- the commands of the running program that ended
-abbrev pub running_told : Plans → PlainState → Option OpenEntry → List Told
+abbrev pub running_told : Plans → PlainState → Option OpenEntry → List EditTold
 running_told plans state (Some o) = (open_part plans state o).told
 running_told plans state None = []
 
-abbrev pub history_told : (PlainState → Item → List Told) → Plans → PlainState → History → List Told
+abbrev pub history_told : (PlainState → Item → List EditTold) → Plans → PlainState → History → List EditTold
 history_told tells plans empty h = told_since tells plans empty [] h.items ++ running_told plans (replay plans empty h.items) h.running
 
 -- the edits since the last new volume that were acknowledged, in the journal's order

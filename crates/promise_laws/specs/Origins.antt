@@ -3,7 +3,7 @@ use Rattle.std.specs.Prelude.{◌≡◌, ℕ, ◌==◌, ◌&&◌, not, Bool, tru
 use Rattle.ckd_types.specs.declared.channel.CommandEnd.{CommandEnd}
 use Rattle.plain_defs.specs.declared.journal.Act.{Act}
 use Rattle.plain_defs.specs.declared.journal.Act.TheVariants.{Loosen, Harden, CfwLost}
-use Rattle.plain_defs.specs.History.{History, started, ended, checked, reset, lost_power, emptied}
+use Rattle.plain_defs.specs.History.{History, started, ended, checked, reset_in_history, lost_power, emptied}
 use Rattle.device_defs.specs.Cutting.{counts_one_by}
 use Rattle.device_defs.specs.Device.{all_acted}
 use Rattle.device_defs.specs.Marks.{MarksDevice}
@@ -90,7 +90,7 @@ pub data Brings (asked : Asked) (end : EventEnd) (d : MarksDevice) : History →
       Brings asked end d (checked (all_acted d.history acts) c)
   -- a RESET of a path at this device: its program is cut and the reset follows, or waits for another path's; an open half write counts
   reset_of_path : (path : ℕ) → IsBy asked end (events.Reset path d.store.device) →
-      Brings asked end d (reset d.history path (counts_one_by d.store.half))
+      Brings asked end d (reset_in_history d.history path (counts_one_by d.store.half))
   -- POWER: the running program is cut, and the loss of power follows
   loss_of_power : IsBy asked end events.Power → Brings asked end d (lost_power d.history (counts_one_by d.store.half))
   -- UNPAIR of the device that this one is lent to: its volume is empty

@@ -21,7 +21,7 @@ use Rattle.device_defs.specs.Device.{event_begun, with_store}
 use Rattle.device_defs.specs.Image as images
 use Rattle.device_defs.specs.Image.{Got, Has, Imaged, ahead, delivered, hit, image, image_by, image_of, level_bytes, miss, missed}
 use Rattle.device_defs.specs.Memory.{had_by, tried}
-use Rattle.device_defs.specs.Owed.{begun, ended, waiting_count}
+use Rattle.device_defs.specs.Owed.{noted_begin, noted_end, waiting_count}
 use Rattle.device_defs.specs.Peek as peeks
 use Rattle.device_defs.specs.Peek.{Peeked, peek, peek_half, peek_image, peek_track, peek_usage, peeked}
 use Rattle.device_defs.specs.Store.{HalfWrite, frame_at, has_level, is_lost, patch_at, with_frame}
@@ -168,9 +168,9 @@ module _ (g : Geometry) (t : ℕ) where
       Always (peek contents d t) (λ e a. FitsFound a)
   unfolding peeks.peek
   found_so d is frames half =
-      let body : Always (and_then (peek_track contents (begun d.store) t) (λ s found. Done (with_store (event_begun d) s) found)) (λ e a. FitsFound a) =
-      always_then (track_finds (begun d.store) is frames half) (λ s found fits. always_done fits) in
-      always_then body (λ e a fits. always_then (always_any (ended contents (waiting_count contents d.store) e.store)) (λ z _ _. always_done fits))
+      let body : Always (and_then (peek_track contents (noted_begin d.store) t) (λ s found. Done (with_store (event_begun d) s) found)) (λ e a. FitsFound a) =
+      always_then (track_finds (noted_begin d.store) is frames half) (λ s found fits. always_done fits) in
+      always_then body (λ e a fits. always_then (always_any (noted_end contents (waiting_count contents d.store) e.store)) (λ z _ _. always_done fits))
 
   -- behind any run of it
   pub ran_finds : {K : Type 0} {had : Bool → Type 0} {hears : Hearing Image K} (d e : WholeDevice) {u z : Outside (List ℕ) K} (found : Peeked) →

@@ -21,7 +21,8 @@ use Rattle.subsystem_defs.specs.Deeds.{Ends, Becomes, Asks, Each, Repairs, Lends
 use Rattle.remote_copy.specs.declared.state.MirrorState.{MirrorState}
 use Rattle.remote_copy.specs.declared.state.MirrorState.TheVariants.{Level, Suspended, Copying}
 use Rattle.remote_copy.specs.Following.{Follows, is_within}
-use Rattle.remote_copy.specs.Sending.{FirmWrite, SenderView, hears_sent, is_suspended, takes_sent}
+use Rattle.firm_laws.specs.FirmWrites.{FirmWrite}
+use Rattle.remote_copy.specs.Sending.{SenderView, hears_sent, is_suspended, takes_sent}
 use Rattle.remote_copy.proofs.Puttings.{SendsAll, sends_none, sends_more, heard_send, stays}
 use Rattle.remote_copy.proofs.Sent.{rises, suspended_same, copying_state, level, PutsAll, StopsAt}
 

@@ -33,7 +33,8 @@ use Rattle.remote_copy.specs.declared.state.MirrorState.TheVariants.{Copying, Le
 use Rattle.remote_copy.specs.Following.{IsFarFor}
 use Rattle.remote_copy.specs.Linking.{LinkView, PutCalls}
 use Rattle.remote_copy.specs.Mirroring.{HasCopied, IsFar, MirrorRun, MirrorsAs, mirror_begun, mirror_did, with_told}
-use Rattle.remote_copy.specs.Sending.{FirmWrite, IsLevelled, IsReached, SenderView, firms_in, hears_sent, is_suspended, put_all, takes_sent}
+use Rattle.firm_laws.specs.FirmWrites.{FirmWrite, firms_in}
+use Rattle.remote_copy.specs.Sending.{IsLevelled, IsReached, SenderView, hears_sent, is_suspended, put_all, takes_sent}
 use Rattle.remote_copy.proofs.Fitting.{far_for}
 use Rattle.remote_copy.proofs.Mounts.{home_so, mounted_firmly, one_mounted}
 use Rattle.remote_copy.proofs.Puttings.{SendsAll, far_size, heard_sends, put_all_more, stays, told_is_put}

@@ -10,7 +10,8 @@ use Rattle.device_outside.specs.Hears.{HeardAll, heard_none, heard_next}
 use Rattle.device_outside.specs.Keeper.{Message, BeforeEdit, Firm, Heard, ReplyTo, reply}
 use Rattle.keeper_laws.specs.Firmness.{told_firm}
 use Rattle.remote_copy.specs.Linking.{IsPut, with_put}
-use Rattle.remote_copy.specs.Sending.{FirmWrite, IsSent, SenderView, Sends, SendsIf, firms_in, hears_sent, is_put, put_all, takes_sent}
+use Rattle.firm_laws.specs.FirmWrites.{FirmWrite, firms_in}
+use Rattle.remote_copy.specs.Sending.{IsSent, SenderView, Sends, SendsIf, hears_sent, is_put, put_all, takes_sent}
 
 -- it is told of one
 abbrev pub GoesOn : SenderView → FirmWrite → SenderView → Type 0
@@ -150,14 +151,3 @@ put_all_more (w ∷ ws) us v = put_all_more ws us (slice_set v w.0 w.1)
 pub length_put_all : (ws : List FirmWrite) (v : List Track) → length (put_all ws v) ≡ length v
 length_put_all [] v = refl
 length_put_all (w ∷ ws) v = length_put_all ws (slice_set v w.0 w.1) ∙ length-set v w.0 w.1
-
-if_more : (w : FirmWrite) (mine : Bool) (xs ys zs : List FirmWrite) → xs ≡ ys ++ zs →
-    (if mine then w ∷ xs else xs) ≡ (if mine then w ∷ ys else ys) ++ zs
-if_more w true xs ys zs e = ap (λ (l : List FirmWrite). w ∷ l) e
-if_more w false xs ys zs e = e
-
-pub firms_in_more : (n : ℕ) (ms ks : List (Message Image)) → firms_in n (ms ++ ks) ≡ firms_in n ms ++ firms_in n ks
-firms_in_more n [] ks = refl
-firms_in_more n (BeforeEdit d t i ∷ ms) ks = firms_in_more n ms ks
-firms_in_more n (Firm d t i ∷ ms) ks =
-    if_more (t, i.track) (d == n) (firms_in n (ms ++ ks)) (firms_in n ms) (firms_in n ks) (firms_in_more n ms ks)

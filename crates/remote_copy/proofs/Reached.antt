@@ -48,23 +48,8 @@ use Rattle.device_outside.specs.Volume.{counted}
 use Rattle.remote_copy.specs.declared.state.MirrorState.{MirrorState}
 use Rattle.remote_copy.specs.declared.state.MirrorState.TheVariants.{Level, Suspended}
 use Rattle.remote_copy.specs.Linking.{GoesByPlan, IsByPlan, PutCalls, next_fails, one_put, with_put}
-use Rattle.remote_copy.specs.Sending.{
-  FirmWrite,
-  IsReached,
-  IsSent,
-  IsStill,
-  SenderView,
-  Sends,
-  SendsIf,
-  all_put,
-  are_reached,
-  capped,
-  counted_at,
-  is_put,
-  is_suspended,
-  put_all,
-  reached,
-}
+use Rattle.firm_laws.specs.FirmWrites.{FirmWrite}
+use Rattle.remote_copy.specs.Sending.{IsReached, IsSent, IsStill, SenderView, Sends, SendsIf, all_put, are_reached, capped, counted_at, is_put, is_suspended, put_all, reached}
 use Rattle.remote_copy.proofs.Puttings.{SendsAll, sends_none, sends_next, put_all_more}
 use Rattle.remote_copy.proofs.Sent.{capped_more, plus_one, suspended_same}
 

@@ -11,7 +11,8 @@ use Rattle.device_outside.specs.Volume.{counted}
 use Rattle.remote_copy.specs.declared.state.MirrorState.TheVariants.{Level, Suspended, Copying}
 use Rattle.remote_copy.specs.FarVolume.{FarVolume, new_far, put_on}
 use Rattle.remote_copy.specs.Linking.{PutCalls}
-use Rattle.remote_copy.specs.Sending.{FirmWrite, IsFront, IsLevelled, all_put, are_reached, firms_in, is_put, put_all, reached}
+use Rattle.firm_laws.specs.FirmWrites.{FirmWrite, firms_in}
+use Rattle.remote_copy.specs.Sending.{IsFront, IsLevelled, all_put, are_reached, is_put, put_all, reached}
 
 -- tracks without records
 bare : ℕ → Track

@@ -5,11 +5,10 @@ use Rattle.std.specs.Prelude.{if◌then◌else◌, not}
 use Rattle.std.proofs.lemmas.Bool.{cond_both, eq-eqb, eqb-true}
 use Rattle.ckd_types.specs.declared.paths.Side.{Side}
 use Rattle.ckd_types.specs.declared.paths.Side.TheVariants.{A, B}
-use Rattle.ckd_types.specs.Fixed.{Fixed}
-use Rattle.ckd_chain.specs.State.{ChainState}
 use Rattle.loss_model.specs.declared.Loss.{Loss}
 use Rattle.loss_model.specs.declared.Loss.TheVariants as losses
 use Rattle.track_image.specs.Image.{Image}
+use Rattle.plain_defs.specs.History.{is_path_of}
 use Rattle.device_outside.specs.declared.volume.Volume.{Ghosts}
 use Rattle.device_outside.specs.Interaction.{Done, and_then}
 use Rattle.device_outside.specs.Keeper.{Hearing}
@@ -20,22 +19,15 @@ use Rattle.device_defs.specs.declared.answers.StartFault.{StartFault}
 use Rattle.device_defs.specs.Command.{command}
 use Rattle.device_defs.specs.Contents.{contents}
 use Rattle.device_defs.specs.Cutting.{power, reset}
+use Rattle.device_defs.specs.Device.{event_begun}
 use Rattle.device_defs.specs.Events.{background, lose, second}
 use Rattle.device_defs.specs.Peek.{Peeked, peek}
-use Rattle.device_defs.specs.Orders.{hold, join, lend, replace, restore, resume, split}
+use Rattle.device_defs.specs.Orders.{hold_side, join, replace, restore, resume, split}
 use Rattle.device_defs.specs.Start as starting
 use Rattle.device_defs.specs.Start.{next_ordinal, start, start_fault}
+use Rattle.device_defs.specs.Store.{tracks_of}
 use Rattle.device_laws.proofs.Based.{Any, Base, Based, based_done, based_then, kept}
-use Rattle.device_laws.proofs.BasedEvents.{
-  base_in,
-  background_based,
-  command_based,
-  lose_based,
-  power_based,
-  reset_body,
-  second_based,
-  with_one_loss,
-}
+use Rattle.device_laws.proofs.BasedEvents.{base_in, background_based, command_based, lose_based, power_based, reset_body, second_based, with_one_loss}
 use Rattle.device_laws.proofs.Based.{based_any}
 use Rattle.device_laws.proofs.KeepLaws.{ran_same}
 use Rattle.device_core.specs.declared.device.Device.{Device}
@@ -48,6 +40,8 @@ use Rattle.subsystem_core.specs.Devices.{device_at, devices_of, numbers_of, put_
 use Rattle.subsystem_core.specs.Places.{may_come}
 use Rattle.subsystem_core.proofs.Found.{at_other, found_in, number_found}
 use Rattle.subsystem_core.proofs.Numbers.{both}
+use Rattle.subsystem_core.proofs.Seating.{lend_based}
+use Rattle.subsystem_laws.proofs.LendBase.{given_base}
 use Rattle.subsystem_defs.specs.declared.end.EventEnd.{EventEnd}
 use Rattle.subsystem_defs.specs.declared.end.EventEnd.TheVariants as answers
 use Rattle.subsystem_defs.specs.declared.end.OrderFault.{OrderFault}
@@ -55,33 +49,10 @@ use Rattle.subsystem_defs.specs.declared.end.OrderFault.TheVariants.{Down, Up}
 use Rattle.subsystem_defs.specs.declared.event.Event.{Event}
 use Rattle.subsystem_defs.specs.declared.event.Event.TheVariants as events
 use Rattle.subsystem_defs.specs.Deeds as D
-use Rattle.subsystem_defs.specs.Deeds.{
-  Asks,
-  Becomes,
-  Each,
-  Ends,
-  Lends,
-  Repairs,
-  back,
-  deed,
-  device_in,
-  end_of,
-  ends_by,
-  ends_done,
-  is_own,
-  may_end_by,
-  on_device,
-  order,
-  seconds,
-  start_by,
-  starts,
-  step,
-}
+use Rattle.subsystem_defs.specs.Deeds.{Asks, Becomes, Each, Ends, Lends, Repairs, back, deed, device_in, end_of, ends_by, ends_done, may_end_by, on_device, order, seconds, start_by, starts, step}
 use Rattle.subsystem_defs.specs.Refusals.{fail_fault, pair_fault, replace_fault, resume_fault, suspend_fault, unpair_fault}
 use Rattle.look_laws.proofs.Keeps.{peek_keeps_own}
 use Rattle.deck_run.proofs.Events.{has_one}
-use Rattle.deck_run.proofs.Stays.{HasOf, lend_stays}
-use Rattle.deck_run.proofs.Surely.{Surely, ran_so, surely_so}
 use Rattle.remote_copy.specs.Mirroring.{is_lending}
 
 some_same : {X : Type 0} {x y : X} → Some x ≡ Some y → x ≡ y
@@ -156,18 +127,6 @@ module _ (d : DefinedDevice) where
   started_seat : (path : ℕ) → IsSeat (kept d.store) (kept (start d path).store)
   unfolding starting.start
   started_seat path = same_base (kept d.store)
-
-  -- one that lends its volume keeps its number
-  lends_number : (to : ℕ) (o : Option ChainState) → d.chain ≡ o → Surely (lend contents d to) (λ y _. y.store.device ≡ d.store.device)
-  lends_number to None at =
-      let fixed : Fixed = record { geometry = d.store.geometry; cylinders = d.store.cylinders; number = 0 } in
-      surely_so (λ y a l. ap (λ (p : Option ℕ × ℕ). p.1) l.is.1.1)
-      (lend_stays contents d.store.geometry d.store.cylinders (d.store.lent, d.store.device) [] fixed d.plans d.history d to (refl, (refl, refl)) refl
-      (subst (HasOf [] fixed) (sym at) tt) refl)
-  lends_number to (Some chain) at =
-      surely_so (λ y a l. ap (λ (p : Option ℕ × ℕ). p.1) l.is.1.1)
-      (lend_stays contents d.store.geometry d.store.cylinders (d.store.lent, d.store.device) chain.ccws chain.fixed d.plans d.history d to
-      (refl, (refl, refl)) refl (subst (HasOf chain.ccws chain.fixed) (sym at) (refl, refl)) refl)
 
 module _ {V : Type 0} {G : Ghosts V} where
   abbrev pub SameSeat : Device V G → Device V G → Type 0
@@ -311,7 +270,7 @@ module _ {V : Type 0} {G : Ghosts V} where
 
     starts_seated : (path m : ℕ) (x : Device V G) → device_at xs m ≡ Some x → Seated (starts path (device_of x))
     starts_seated path m x at =
-        cond_both (is_own path (device_of x).history.running) (Ends answers.Running) (start_by (device_of x) path (start_fault (device_of x) path)) Seated
+        cond_both (is_path_of (device_of x).history.running path) (Ends answers.Running) (start_by (device_of x) path (start_fault (device_of x) path)) Seated
         (λ _. tt) (λ _. start_seated path m x (start_fault (device_of x) path) at)
 
     second_seated : (m : ℕ) (x : Device V G) → device_at xs m ≡ Some x → Seated (seconds contents (device_of x))
@@ -366,9 +325,9 @@ module _ {V : Type 0} {G : Ghosts V} where
         (λ z at_z. order_seated (pair_fault (device_of x) (device_of z)) (Lends (device_of x) (device_of z))
         (ap (λ (k : ℕ). k == n) (number_found xs b z at_z) ∙ off)))
     deed_seated pool (events.Suspend m) may off =
-        at_device m (λ y. order (suspend_fault y) (Becomes (hold y) answers.Done)) may
-        (λ x at. order_seated (suspend_fault (device_of x)) (Becomes (hold (device_of x)) answers.Done)
-        (becomes_seated m x (hold (device_of x)) answers.Done at (same_seat x)))
+        at_device m (λ y. order (suspend_fault y) (Becomes (hold_side y) answers.Done)) may
+        (λ x at. order_seated (suspend_fault (device_of x)) (Becomes (hold_side (device_of x)) answers.Done)
+        (becomes_seated m x (hold_side (device_of x)) answers.Done at (same_seat x)))
     deed_seated pool (events.Resume m) may off =
         at_device m (λ y. order (resume_fault y) (Becomes (resume y) answers.Done)) may
         (λ x at. order_seated (resume_fault (device_of x)) (Becomes (resume (device_of x)) answers.Done)
@@ -398,7 +357,8 @@ module _ {V : Type 0} {G : Ghosts V} where
     joined_sits : (a b : DefinedDevice) → (b.store.device == n) ≡ false → JoinsKept hears a.store.device b.store.device b old new → Sits n new.devices.items x
     joined_sits a b off j =
         let number : j.behind.store.number ≡ b.store.device =
-        ran_so (λ y _. y.store.device ≡ b.store.device) (j.asked k) (lends_number b a.store.device b.chain refl) in
+        (ran_same (lend_based b a.store.device) (j.asked k)).device
+        ∙ ap (λ (x : Base). x.device) (given_base contents (tracks_of b.store) (event_begun b).store) in
         subst (λ (ys : List (Device V G)). Sits n ys x) (sym j.stands)
         (put_sits n a.store.device (put_at old.devices.items b.store.device j.behind) j.first j.second x j.other
         (seat_as j.first j.second (join (device_of j.first)) j.joined (same_seat j.first))

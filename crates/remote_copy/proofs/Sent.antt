@@ -56,20 +56,8 @@ use Rattle.device_outside.specs.Volume.{counted}
 use Rattle.remote_copy.specs.declared.state.MirrorState.{MirrorState}
 use Rattle.remote_copy.specs.declared.state.MirrorState.TheVariants.{Level, Suspended, Copying}
 use Rattle.remote_copy.specs.Linking.{with_put}
-use Rattle.remote_copy.specs.Sending.{
-  FirmWrite,
-  IsFront,
-  IsLevelled,
-  IsSent,
-  SenderView,
-  Sends,
-  SendsIf,
-  capped,
-  counted_at,
-  is_put,
-  is_suspended,
-  put_all,
-}
+use Rattle.firm_laws.specs.FirmWrites.{FirmWrite}
+use Rattle.remote_copy.specs.Sending.{IsFront, IsLevelled, IsSent, SenderView, Sends, SendsIf, capped, counted_at, is_put, is_suspended, put_all}
 use Rattle.remote_copy.proofs.Puttings.{SendsAll, sends_none, sends_next, far_size, put_all_more, stays}
 
 -- Suspended

@@ -23,7 +23,8 @@ use Rattle.remote_copy.specs.declared.mirror.Mirror.{Mirror}
 use Rattle.remote_copy.specs.declared.state.MirrorState.{MirrorState}
 use Rattle.remote_copy.specs.declared.state.MirrorState.TheVariants.{Level, Suspended, Copying}
 use Rattle.remote_copy.specs.Linking.{LinkView, PutCalls}
-use Rattle.remote_copy.specs.Sending.{FirmWrite, IsLevelled, IsReached, SenderView, firms_in, put_all}
+use Rattle.firm_laws.specs.FirmWrites.{FirmWrite, firms_in}
+use Rattle.remote_copy.specs.Sending.{IsLevelled, IsReached, SenderView, put_all}
 
 -- Over a run
 

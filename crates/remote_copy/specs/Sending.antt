@@ -1,36 +1,11 @@
 -- How the firm tracks of a device are put on a far volume, one after another.
-use Rattle.std.specs.Prelude.{
-  ◌≡◌,
-  ◌<◌,
-  ◌⊎◌,
-  ◌==◌,
-  ◌&&◌,
-  ◌+◌,
-  ◌-◌,
-  ◌^◌,
-  ℕ,
-  min,
-  Bool,
-  true,
-  false,
-  List,
-  [],
-  ◌∷◌,
-  length,
-  take,
-  Some,
-  Result,
-  Ok,
-  Err,
-  if◌then◌else◌,
-  nat_lt,
-  slice_set,
-}
+use Rattle.std.specs.Prelude.{◌≡◌, ◌<◌, ◌⊎◌, ◌==◌, ◌&&◌, ◌+◌, ◌-◌, ◌^◌, ℕ, min, Bool, true, false, List, [], ◌∷◌, length, take, Some, Result, Ok, Err, if◌then◌else◌, nat_lt, slice_set}
 use Rattle.ckd_types.specs.declared.record.Track.{Track}
 use Rattle.ckd_outside.specs.declared.faults.Failed.{Failed}
 use Rattle.track_image.specs.Image.{Image}
-use Rattle.device_outside.specs.Keeper.{Message, BeforeEdit, Firm, Hearing}
+use Rattle.device_outside.specs.Keeper.{BeforeEdit, Firm, Hearing}
 use Rattle.device_outside.specs.Volume.{counted}
+use Rattle.firm_laws.specs.FirmWrites.{FirmWrite}
 use Rattle.remote_copy.specs.declared.state.MirrorState.{MirrorState}
 use Rattle.remote_copy.specs.declared.state.MirrorState.TheVariants.{Level, Suspended, Copying}
 use Rattle.remote_copy.specs.Linking.{IsFarImage, LinkView, PutCalls, Puts, next_fails, one_put}
@@ -99,16 +74,6 @@ abbrev pub takes_sent : SenderView → ℕ → ℕ → Image → Type 0
 takes_sent s d t i = d ≡ s.device → IsFarImage s.link t i
 
 -- The firm writes of a device
-
--- the number of a track, and the track
-abbrev pub FirmWrite : Type 0
-FirmWrite = ℕ × Track
-
--- those that a keeper is told, in order
-abbrev pub firms_in : ℕ → List (Message Image) → List FirmWrite
-firms_in n [] = []
-firms_in n (BeforeEdit d t i ∷ ms) = firms_in n ms
-firms_in n (Firm d t i ∷ ms) = if d == n then (t, i.track) ∷ firms_in n ms else firms_in n ms
 
 -- the volume with each of them put in, one after another
 abbrev pub put_all : List FirmWrite → List Track → List Track

@@ -4,7 +4,8 @@ ghost use Rattle.device_core.specs.State.{device_of};
 ghost use Rattle.device_store.specs.Looks.{IsPeeked, peeked_by};
 ghost use Rattle.device_store.specs.State.{state_of};
 ghost use Rattle.look_laws.specs.Looking.{is_written_at};
-ghost use Rattle.subsystem_core.specs.Devices.{device_at, numbers_of};
+ghost use Rattle.subsystem_core.specs.Devices.{device_at};
+ghost use Rattle.subsystem_core.specs.Frames.{HasSameDevices};
 ghost use Rattle.remote_copy.specs.declared.remote.Remote.TheVariants.{LinkFault};
 ghost use Rattle.remote_copy.specs.Copies.{AnswersAs, AnswersBy, CopiedBy, IsImageFound, LooksAt, LooksToCopy, MayPut, PutsCopy, gets_suspended};
 ghost use Rattle.remote_copy.specs.Following.{Follows, IsFarFor};
@@ -117,7 +118,7 @@ impl<V: Volume, L: Link> Mirror<V, L> {
     /// A look at a track of the device, with the sender as keeper.
     fn look(&mut self, t: TrackNo) -> Result<Peeked, NoMemory>
         requires track { IfSome (device_at self.old.sub.devices.items self.old.sender.device) (λ x. t < x.store.cylinders * 15) }
-        ensures numbers { numbers_of self.new.sub.devices.items ≡ numbers_of self.old.sub.devices.items }
+        ensures numbers { HasSameDevices self.old.sub self.new.sub }
         ensures follows { Follows self.old.sender self.new.sender }
         ensures found { IfSome (device_at self.old.sub.devices.items self.old.sender.device) (λ x. IfSome (device_at self.new.sub.devices.items
             self.new.sender.device) (LooksAt t self.old.sub self.old.sender x result self.new.sub self.new.sender)) }
@@ -147,7 +148,7 @@ impl<V: Volume, L: Link> Mirror<V, L> {
     /// A track that doesn't wait.
     fn copy_track(&mut self, t: TrackNo) -> Result<Remote, NoMemory>
         requires track { IfSome (device_at self.old.sub.devices.items self.old.sender.device) (λ x. t < x.store.cylinders * 15) }
-        ensures numbers { numbers_of self.new.sub.devices.items ≡ numbers_of self.old.sub.devices.items }
+        ensures numbers { HasSameDevices self.old.sub self.new.sub }
         ensures looks { IfSome (device_at self.old.sub.devices.items self.old.sender.device) (λ x. LooksToCopy (x.store.cylinders * 15) t
             self.old.sub self.old.sender result self.new.sub self.new.sender) }
     {
@@ -165,7 +166,7 @@ impl<V: Volume, L: Link> Mirror<V, L> {
 
     /// The next track, where there is one and it doesn't wait.
     fn copy_next(&mut self) -> Result<Remote, NoMemory>
-        ensures numbers { numbers_of self.new.sub.devices.items ≡ numbers_of self.old.sub.devices.items }
+        ensures numbers { HasSameDevices self.old.sub self.new.sub }
         ensures copied { IfSome (device_at self.old.sub.devices.items self.old.sender.device) (λ x. CopiedBy (x.store.cylinders * 15)
             (next_track self.old.sender.state) (is_waiting (device_of x).store) self.old.sub self.old.sender result self.new.sub self.new.sender) }
     {
@@ -183,7 +184,7 @@ impl<V: Volume, L: Link> Mirror<V, L> {
     /// copied. The look makes the reads of a command; a track below that it makes firm is put first. After the last track the far
     /// volume is level. At want of memory the puts stay done, and the state that they led to.
     pub fn copy_one(&mut self) -> Result<Remote, NoMemory>
-        ensures numbers { numbers_of self.new.sub.devices.items ≡ numbers_of self.old.sub.devices.items }
+        ensures numbers { HasSameDevices self.old.sub self.new.sub }
         ensures copied { IfSome (device_at self.old.sub.devices.items self.old.sender.device) (λ x. CopiedBy (x.store.cylinders * 15)
             (next_track self.old.sender.state) (is_waiting (device_of x).store) self.old.sub self.old.sender result self.new.sub self.new.sender) }
         ensures follows { Follows self.old.sender self.new.sender }

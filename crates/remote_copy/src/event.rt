@@ -1,11 +1,11 @@
 ghost use Rattle.std.specs.Prelude.{◌≡◌, ◌*◌, [], IfErr, IfOk, IfSome, IsOk, None, OnErr, OnOk, Some, false, true};
 ghost use Rattle.ckd_types.specs.Volume.{empty_volume};
 ghost use Rattle.device_outside.specs.Keeper.{Heard};
-ghost use Rattle.device_outside.specs.Lists.{is_in};
 ghost use Rattle.subsystem_core.specs.Comes.{AreStill, CameKept, Replaced, Unpaired};
 ghost use Rattle.subsystem_core.specs.Devices.{device_at, numbers_of};
 ghost use Rattle.subsystem_core.specs.Ends.{answer_of};
 ghost use Rattle.subsystem_core.specs.Places.{may_come};
+ghost use Rattle.subsystem_core.specs.Frames.{HasDevice, HasSameDevices};
 ghost use Rattle.subsystem_defs.specs.Happening.{happens};
 ghost use Rattle.subsystem_defs.specs.Lines.{is_settled};
 ghost use Rattle.subsystem_defs.specs.Subsystem as runs;
@@ -29,7 +29,7 @@ use subsystem_defs::Event;
 impl<V: Volume, L: Link> Mirror<V, L> {
     /// From here on the firm tracks of device `d`, of which nothing has happened yet, are put on the link. Takes no memory.
     pub fn new(sub: Subsystem<V>, d: DeviceNo, link: L) -> Mirror<V, L>
-        requires here { is_in d (numbers_of sub.devices.items) ≡ true }
+        requires here { HasDevice sub d }
         requires home { IfSome (device_at sub.devices.items d) (λ x. x.store.pair.lent ≡ None) }
         requires unused { IfSome (device_at sub.devices.items d) (λ x. (x.past.items.items ≡ []) × (x.past.running ≡ None)) }
         requires fits { IfSome (device_at sub.devices.items d) (IsFarFor (L.view link)) }
@@ -51,7 +51,7 @@ impl<V: Volume, L: Link> Mirror<V, L> {
     pub fn event(&mut self, e: Event) -> Result<EventEnd, NoMemory>
         requires come { may_come (numbers_of self.old.sub.devices.items) e ≡ true }
         requires home { is_lending e self.old.sender.device ≡ false }
-        ensures numbers { numbers_of self.new.sub.devices.items ≡ numbers_of self.old.sub.devices.items }
+        ensures numbers { HasSameDevices self.old.sub self.new.sub }
         ensures came { CameKept (Heard hears_sent takes_sent) e self.old.sub self.old.sender (answer_of result) self.new.sub self.new.sender }
         ensures follows { Follows self.old.sender self.new.sender }
         ensures mirrors { (c : MirrorRun) → IsMirror self.old c → OnOk result (IsMirror self.new (mirror_did c (Comes e))) }
@@ -63,9 +63,9 @@ impl<V: Volume, L: Link> Mirror<V, L> {
 
     /// A new volume of empty tracks, 15 for each cylinder, in place of a failed side's. Nothing is put.
     pub fn replace(&mut self, d: DeviceNo, side: Side, volume: V) -> Result<EventEnd, (NoMemory, V)>
-        requires here { is_in d (numbers_of self.old.sub.devices.items) ≡ true }
+        requires here { HasDevice self.old.sub d }
         requires size { IfSome (device_at self.old.sub.devices.items d) (λ x. (V.view volume).tracks ≡ x.store.cylinders * 15) }
-        ensures numbers { numbers_of self.new.sub.devices.items ≡ numbers_of self.old.sub.devices.items }
+        ensures numbers { HasSameDevices self.old.sub self.new.sub }
         ensures had { IsOk result }
         ensures replaced { IfOk result (λ end. Replaced d side volume (device_at self.old.sub.devices.items d) self.old.sub end self.new.sub) }
         ensures sender { self.new.sender ≡ self.old.sender }
@@ -77,9 +77,9 @@ impl<V: Volume, L: Link> Mirror<V, L> {
 
     /// Side B leaves a device, and the one that had lent it gets a volume of empty tracks, 15 for each cylinder. Nothing is put.
     pub fn unpair(&mut self, a: DeviceNo, volume: V) -> Result<EventEnd, (NoMemory, V)>
-        requires here { is_in a (numbers_of self.old.sub.devices.items) ≡ true }
+        requires here { HasDevice self.old.sub a }
         requires size { IfSome (device_at self.old.sub.devices.items a) (λ x. (V.view volume).tracks ≡ x.store.cylinders * 15) }
-        ensures numbers { numbers_of self.new.sub.devices.items ≡ numbers_of self.old.sub.devices.items }
+        ensures numbers { HasSameDevices self.old.sub self.new.sub }
         ensures unpaired { IfOk result (λ end. Unpaired a volume (device_at self.old.sub.devices.items a) self.old.sub end self.new.sub) }
         ensures lacked { OnErr result ((self.new.sub.pool ≡ self.old.sub.pool) × AreStill self.old.sub.devices.items self.new.sub.devices.items) }
         ensures back { IfErr result (λ e. e.1 ≡ volume) }

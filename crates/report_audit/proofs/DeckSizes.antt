@@ -7,7 +7,7 @@ use Rattle.deck_text.specs.declared.line.DeviceLine.{DeviceLine}
 use Rattle.deck_text.specs.DeckLines.{DeckLines}
 use Rattle.deck_text.specs.Numbers.{number_in, geometry_of}
 use Rattle.deck_text.specs.Words.{three_words}
-use Rattle.deck_text.specs.Forms.{needed, and_then, rises, rising, device_line}
+use Rattle.deck_text.specs.Forms.{needed, then_read, rises, rising, device_line}
 use Rattle.deck_text.specs.Parse.{parsed}
 use Rattle.deck_text.proofs.FormsAgain.{went, needed_is, if_ok, number_range}
 use Rattle.deck_text.proofs.DeckAgain.{AllDevices, device_words}
@@ -18,15 +18,15 @@ line_sized : (devices : List DeviceLine) (words : List (List ℕ)) (d : DeviceLi
 line_sized devices words d h =
     let go0 =
     λ (w : List ℕ × List ℕ
-    × List ℕ). and_then (needed Number (number_in 0 15 w.0))
-    (λ n. and_then (needed Number (geometry_of w.1))
-    (λ g. and_then (needed Number (number_in 1 64 w.2)) (λ c. rising devices (record { number = n; geometry = g; cylinders = c })))) in
+    × List ℕ). then_read (needed Number (number_in 0 15 w.0))
+    (λ n. then_read (needed Number (geometry_of w.1))
+    (λ g. then_read (needed Number (number_in 1 64 w.2)) (λ c. rising devices (record { number = n; geometry = g; cylinders = c })))) in
     let a = went (needed Words (three_words words)) go0 d h in
     let b = went (needed Number (number_in 0 15 a.value.0))
-    (λ n. and_then (needed Number (geometry_of a.value.1))
-    (λ g. and_then (needed Number (number_in 1 64 a.value.2)) (λ c. rising devices (record { number = n; geometry = g; cylinders = c })))) d a.second in
+    (λ n. then_read (needed Number (geometry_of a.value.1))
+    (λ g. then_read (needed Number (number_in 1 64 a.value.2)) (λ c. rising devices (record { number = n; geometry = g; cylinders = c })))) d a.second in
     let e = went (needed Number (geometry_of a.value.1))
-    (λ g. and_then (needed Number (number_in 1 64 a.value.2)) (λ c. rising devices (record { number = b.value; geometry = g; cylinders = c }))) d b.second
+    (λ g. then_read (needed Number (number_in 1 64 a.value.2)) (λ c. rising devices (record { number = b.value; geometry = g; cylinders = c }))) d b.second
     in
     let f = went (needed Number (number_in 1 64 a.value.2)) (λ c. rising devices (record { number = b.value; geometry = e.value; cylinders = c })) d e.second in
     let same = if_ok (rises devices b.value) (record { number = b.value; geometry = e.value; cylinders = f.value }) d Number f.second in

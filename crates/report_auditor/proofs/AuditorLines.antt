@@ -9,7 +9,7 @@ use Rattle.std.proofs.lemmas.Bool.Decides.{nat_tests}
 use Rattle.ckd_types.specs.declared.channel.CommandEnd.{CommandEnd}
 use Rattle.ckd_types.specs.Sense.{equipment_sense, data_check_sense}
 use Rattle.deck_plan.specs.declared.event.EventLine.{EventLine}
-use Rattle.deck_plan.specs.Plans.{Plans}
+use Rattle.deck_plan.specs.Plans.{PlansByPath}
 use Rattle.deck_text.specs.DeckLines.{DeckLines}
 use Rattle.deck_text.specs.Plans.{plans_of}
 use Rattle.report_text.specs.declared.answers.LooseAnswer.TheVariants as loose
@@ -66,7 +66,7 @@ behind_plain : (e : CommandEnd) (sent : List ℕ) → Plain true (behind_end e s
 behind_plain e [] = record { quiet = inr refl; told = λ n. tt; powered = λ devices. tt }
 behind_plain e (b ∷ bytes) = record { quiet = inr refl; told = λ n. tt; powered = λ devices. tt }
 
-module _ (plans : Plans) (r : ReplayedState) (line : ReportLine) (e : CommandEnd) where
+module _ (plans : PlansByPath) (r : ReplayedState) (line : ReportLine) (e : CommandEnd) where
   end_by : (o : Running) (b c : Bool)
       → IsWait (λ due. Plain true due) (wait_if (cond b (Some (SenseOf e)) (cond c (Some (behind_end e e.sent)) None)))
   end_by o true c = record { quiet = inr refl; told = λ n. tt; powered = λ devices. tt }
@@ -89,7 +89,7 @@ module _ (plans : Plans) (r : ReplayedState) (line : ReportLine) (e : CommandEnd
   sense_wait (Some o) = sense_by o (has_sense line e.sense) (says (lines.Sense equipment_sense) line) (says (lines.Sense data_check_sense) line)
   sense_wait None = tt
 
-work_end : (plans : Plans) (k : Kept) (line : ReportLine) (end : Option CommandEnd)
+work_end : (plans : PlansByPath) (k : Kept) (line : ReportLine) (end : Option CommandEnd)
     → IsWait (λ due. Plain true due) (end_then_by plans k line end)
 work_end plans k line (Some e) =
     end_wait plans (with_half (ended_next k.device) Closed) line e (with_half (ended_next k.device) Closed).running
@@ -108,7 +108,7 @@ cut_wait : (P : Due → Type 0) (k : Kept) (n : ℕ) (due : Due) (running : Opti
 cut_wait P k n due (Some o) is = wait_when P _ (Wait due) is
 cut_wait P k n due None is = tt
 
-work_wait : (plans : Plans) (k : Kept) (line : ReportLine) → IsWait (λ due. Plain true due) (work_then plans k line)
+work_wait : (plans : PlansByPath) (k : Kept) (line : ReportLine) → IsWait (λ due. Plain true due) (work_then plans k line)
 work_wait plans k (lines.End e) = work_end plans k (lines.End e) _
 work_wait plans k (lines.Half path d t) = record { quiet = inr refl; told = λ n. tt; powered = λ devices. tt }
 work_wait plans k (lines.Back d answer) = record { quiet = inr refl; told = λ n. tt; powered = λ devices. tt }
@@ -155,7 +155,7 @@ module _ (s : AuditState) (d : ℕ) (devices : List AuditedDevice) where
   quiet_due : (due : Due) → is_quiet due ≡ true → IsDueOf (length devices) due → ArePowered due devices → IsDueBehind s d devices due
   quiet_due due quiet told powered = record { quiet = inl quiet; told = told; powered = powered }
 
-  module _ (plans : Plans) (k : Kept) (i : ℕ) (line : ReportLine) (place : place_of s.devices d ≡ i) (short : suc i ≤ length devices)
+  module _ (plans : PlansByPath) (k : Kept) (i : ℕ) (line : ReportLine) (place : place_of s.devices d ≡ i) (short : suc i ≤ length devices)
       (cuts : NoneRuns (place_of s.devices d) s.devices → NoneRuns (place_of s.devices d) devices) where
     task_wait : (task : Task) → Fits s d task → (task ≡ tasks.PowerLoss → devices ≡ s.devices)
         → IsWait (λ due. IsDueBehind s d devices due) (task_then plans k i line task)
@@ -285,7 +285,7 @@ module _ (z : Auditor) (s : AuditState) (d : ℕ) (task : Task) (f : IsFor z s) 
         (ready_by task fits here.found.k here.found.a here.found.fits.due_so here.found.device_is)
 
     same_next : next ≡ task_then here.found.a.plans here.found.k i line task
-    same_next = j.next_is ∙ ap (λ (p : Plans). task_then p j.before i line task) same_plans
+    same_next = j.next_is ∙ ap (λ (p : PlansByPath). task_then p j.before i line task) same_plans
         ∙ ap (λ (k : Kept). task_then here.found.a.plans k i line task) same_before
 
     judged_so : Judges s here.found.a (task_made s line task here.found.a) next (task_kept here.found.a.plans here.found.k line task)
@@ -306,7 +306,7 @@ module _ (z : Auditor) (s : AuditState) (d : ℕ) (task : Task) (f : IsFor z s) 
       new_here : new ≡ slice_set z.devices.items here.j kept
       new_here = j.new_is
           ∙ ap (λ (k : Kept). slice_set z.devices.items i k) (j.after_is x next_is
-          ∙ ap (λ (p : Plans). task_kept p j.before line task) same_plans
+          ∙ ap (λ (p : PlansByPath). task_kept p j.before line task) same_plans
           ∙ ap (λ (k : Kept). task_kept here.found.a.plans k line task) same_before)
           ∙ ap (λ (n : ℕ). slice_set z.devices.items n kept) (sym same_place)
 

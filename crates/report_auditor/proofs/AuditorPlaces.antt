@@ -6,7 +6,7 @@ use Rattle.std.proofs.Common.{rules}
 use Rattle.std.proofs.lemmas.Bool.Decides.{nat_tests}
 use Rattle.std.proofs.lemmas.List.{length-drop}
 use Rattle.deck_plan.specs.declared.event.EventLine.TheVariants as events
-use Rattle.plain_defs.specs.History.{OpenEntry, reset}
+use Rattle.plain_defs.specs.History.{OpenEntry, reset_in_history}
 use Rattle.report_text.specs.declared.answers.DeviceTotals.{DeviceTotals}
 use Rattle.report_text.specs.declared.answers.HowOver.TheVariants as how
 use Rattle.report_text.specs.declared.answers.LooseAnswer.{LooseAnswer}
@@ -57,7 +57,7 @@ count_of_cut None = 0
 
 pub reset_whole : (s : AuditState) (line : ReportLine) (path d : ℕ) → cut_at line ≡ None
     → then_of (device_in s.devices d) (reset_made s line path)
-    ≡ then_of (device_in s.devices d) (λ a. Some (passed (changed s (record a { history = reset a.history path 0 }))))
+    ≡ then_of (device_in s.devices d) (λ a. Some (passed (changed s (record a { history = reset_in_history a.history path 0 }))))
 reset_whole s (lines.Over p e m (how.Cut k)) path d is = absurd (cc)
 reset_whole s line path d is = refl
 

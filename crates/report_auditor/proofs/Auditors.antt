@@ -5,7 +5,7 @@ use Rattle.std.specs.Prelude.{◌==◌, Ok, slice_get, slice_index_or, slice_set
 use Rattle.std.proofs.Common.{rules}
 use Rattle.std.proofs.lemmas.Bool.Decides.{nat_tests}
 use Rattle.std.proofs.lemmas.Option.{slice_get-get_or}
-use Rattle.deck_plan.specs.Plans.{Plans}
+use Rattle.deck_plan.specs.Plans.{PlansByPath}
 use Rattle.report_text.specs.declared.line.ReportLine.{ReportLine}
 use Rattle.deck_audit.specs.declared.task.Task.{Task}
 use Rattle.deck_audit.specs.Task.{IsInRange, task_kept, task_then}
@@ -241,7 +241,7 @@ good_kept E P (Some y) x is h = h
 good_kept E P None x is h = absurd (cc)
 
 pub judged_by : (E : Type 0) (programs : List PlannedProgram) (old : List Kept) (i d : ℕ) (line : ReportLine) (task : Task)
-    (next : Option Then) (plans : Plans) (after : Kept) (default : Kept) → i < length old → plans ≡ plans_of programs d
+    (next : Option Then) (plans : PlansByPath) (after : Kept) (default : Kept) → i < length old → plans ≡ plans_of programs d
     → next ≡ task_then plans (slice_index_or old i default) i line task
     → OnGood {E = E} (Ok next) (after ≡ task_kept plans (slice_index_or old i default) line task) → IsInRange task
     → IsJudgedAt programs old (slice_set old i after) i d line task next
@@ -250,9 +250,9 @@ judged_by E programs old i d line task next plans after default short plans_are 
   before_is = slice_get-get_or old i default short;
   after = after;
   new_is = refl;
-  next_is = next_is ∙ ap (λ (p : Plans). task_then p (slice_index_or old i default) i line task) plans_are;
+  next_is = next_is ∙ ap (λ (p : PlansByPath). task_then p (slice_index_or old i default) i line task) plans_are;
   after_is = λ x is. good_kept E (after ≡ task_kept plans (slice_index_or old i default) line task) next x is kept
-      ∙ ap (λ (p : Plans). task_kept p (slice_index_or old i default) line task) plans_are;
+      ∙ ap (λ (p : PlansByPath). task_kept p (slice_index_or old i default) line task) plans_are;
   range = range;
 }
 

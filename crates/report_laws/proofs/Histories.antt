@@ -46,7 +46,7 @@ use Rattle.plain_defs.specs.History.{
   entry_of,
   resets_of,
   with_end,
-  reset as history_reset,
+  reset_in_history as history_reset,
   reset_in,
   lost_power,
   lost_power_in,

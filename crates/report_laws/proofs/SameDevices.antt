@@ -21,7 +21,7 @@ use Rattle.device_defs.specs.Losses as L
 use Rattle.device_defs.specs.Losses.{over, slot_in, gives_up, without_frame}
 use Rattle.device_defs.specs.Marks.{MarksDevice, MarksStore}
 use Rattle.device_defs.specs.Orders as Q
-use Rattle.device_defs.specs.Orders.{hold, resume, replace, restore, join, split, lend, lent_to, given_up}
+use Rattle.device_defs.specs.Orders.{hold_side, resume, replace, restore, join, split, lend, lent_to, given_up}
 use Rattle.device_defs.specs.Owed as O
 use Rattle.device_defs.specs.Start as S
 use Rattle.device_defs.specs.Start.{start, next_ordinal}
@@ -194,7 +194,7 @@ one_deeds s = record {
   repaired_cache = tt;
   repaired_store = tt;
   lent = λ x y z w fault. (seat_of s y w, lend_one y x.store.device);
-  held = λ d x fault. becomes_so IsOne IsOne s d x (hold d) refl (record { number = refl; geometry = refl; cylinders = refl; plans = refl }) ends.Done;
+  held = λ d x fault. becomes_so IsOne IsOne s d x (hold_side d) refl (record { number = refl; geometry = refl; cylinders = refl; plans = refl }) ends.Done;
   resumed = λ d x fault. becomes_so IsOne IsOne s d x (resume d) refl (record { number = refl; geometry = refl; cylinders = refl; plans = refl }) ends.Done;
 }
 

@@ -5,7 +5,7 @@ use Rattle.loss_model.specs.declared.Loss.{Loss}
 use Rattle.ckd_types.specs.declared.channel.CommandEnd.{CommandEnd}
 use Rattle.plain_defs.specs.declared.journal.Item.{Item}
 use Rattle.run_report.specs.Beside.{over_of}
-use Rattle.plain_defs.specs.History.{OpenEntry, History, started}
+use Rattle.plain_defs.specs.History.{OpenEntry, History, started, is_path_of}
 use Rattle.device_outside.specs.Pool.{Pool}
 use Rattle.device_defs.specs.declared.answers.Did.{Did}
 use Rattle.device_defs.specs.declared.answers.SecondEnd.{SecondEnd}
@@ -67,7 +67,6 @@ use Rattle.subsystem_defs.specs.Deeds.{
   device_in,
   ends_done,
   end_of,
-  is_own,
   starts,
   start_by,
   step,
@@ -204,7 +203,7 @@ module _ (n : ℕ) (s : Subsystem) (plain : ArePlain s.mounted) where
         )
 
     pub start_shown : (path : ℕ) → ShowsDeed n s (λ end. did.Started path k (start_answer end)) (starts {R = Bool} path x)
-    start_shown path = by_own (is_own path x.history.running) where
+    start_shown path = by_own (is_path_of x.history.running path) where
       by_own : (b : Bool) → ShowsDeed n s (λ end. did.Started path k (start_answer end)) (if b then Ends ends.Running
           else start_by {R = Bool} x path (start_fault x path))
       by_own true = λ own. not_shown (k == n) false (lines.Start path k answers.Running) refl

@@ -36,7 +36,7 @@ use Rattle.deck_plan.specs.declared.event.EventLine.{EventLine}
 use Rattle.deck_text.specs.declared.line.DeviceLine.{DeviceLine}
 use Rattle.deck_text.specs.declared.line.DeckWhy.TheVariants.{Words, Number}
 use Rattle.deck_text.specs.DeckLines.{DeckLines}
-use Rattle.deck_text.specs.Forms.{needed, and_then, device_line, rising, rises}
+use Rattle.deck_text.specs.Forms.{needed, then_read, device_line, rising, rises}
 use Rattle.deck_text.specs.Numbers.{number_in, geometry_of}
 use Rattle.deck_text.specs.Parse.{parsed}
 use Rattle.deck_text.specs.Words.{three_words}
@@ -51,7 +51,7 @@ use Rattle.device_defs.specs.Contents.{by_plain}
 use Rattle.device_defs.specs.Cutting.{reset}
 use Rattle.device_defs.specs.Events.{lose}
 use Rattle.device_defs.specs.Marks.{MarksDevice}
-use Rattle.device_defs.specs.Orders.{hold, resume, replace, split}
+use Rattle.device_defs.specs.Orders.{hold_side, resume, replace, split}
 use Rattle.report_text.specs.declared.answers.BackAnswer.TheVariants as back_answers
 use Rattle.report_text.specs.declared.event.Happened as report
 use Rattle.report_text.specs.declared.event.Happened.TheVariants as did
@@ -103,7 +103,7 @@ use Rattle.subsystem_defs.specs.Deeds as E
 use Rattle.subsystem_defs.specs.Deeds.{Ends, Becomes, Asks, Repairs, Lends, on_device, order, repair, deed, device_in, ends_done, starts, step, back, ends_by}
 use Rattle.subsystem_defs.specs.Happening as H
 use Rattle.subsystem_defs.specs.Happening.{
-  Happened,
+  EventHappened,
   MarksDeed,
   happens,
   quietly,
@@ -243,9 +243,9 @@ module _ (n : ℕ) where
         (λ x at. lends_on a b x (device_in (devices_of s) b) refl)
     deed_shown (events.Suspend a) =
         let t = λ (end : EventEnd). did.Ordered (orders.Suspend a) (order_answer end) in
-        on_found t a (device_in (devices_of s) a) (λ x. order (suspend_fault x) (Becomes (hold x) ends.Done)) refl (λ own. refl)
-        (λ x at. ordered t (order_silent (orders.Suspend a)) (suspend_fault x) (Becomes (hold x) ends.Done)
-        (λ _. quiet_becomes n s plain a x at t (order_silent (orders.Suspend a)) (hold x) refl refl))
+        on_found t a (device_in (devices_of s) a) (λ x. order (suspend_fault x) (Becomes (hold_side x) ends.Done)) refl (λ own. refl)
+        (λ x at. ordered t (order_silent (orders.Suspend a)) (suspend_fault x) (Becomes (hold_side x) ends.Done)
+        (λ _. quiet_becomes n s plain a x at t (order_silent (orders.Suspend a)) (hold_side x) refl refl))
     deed_shown (events.Resume a) =
         let t = λ (end : EventEnd). did.Ordered (orders.Resume a) (order_answer end) in
         on_found t a (device_in (devices_of s) a) (λ x. order (resume_fault x) (Becomes (resume x) ends.Done)) refl (λ own. refl)
@@ -256,7 +256,7 @@ module _ (n : ℕ) where
 
   -- What happened in an event, by the place of the device
 
-  shows_event : (s : Subsystem) (asked : Asked) (h : Happened) → h.before ≡ s →
+  shows_event : (s : Subsystem) (asked : Asked) (h : EventHappened) → h.before ≡ s →
       (event_lines asked h.end h.reads h.writes (devices_of s) (devices_of h.behind)
       ≡ work_lines (told (devices_of s) h.end asked) h.reads h.writes (devices_of s) (devices_of h.behind)) →
       At n (Shows n (told (devices_of s) h.end asked)) (devices s.mounted) (devices h.behind.mounted) → ShowsEvent n s (logged asked h)
@@ -267,7 +267,7 @@ module _ (n : ℕ) where
       ∙ ap (shown_from n own) is ∙ work_shows n (told (devices_of s) h.end asked) h.reads h.writes (devices_of s) (devices_of h.behind) own))
 
   -- the event of a loss of power
-  shows_power : (s : Subsystem) (h : Happened) → h.before ≡ s →
+  shows_power : (s : Subsystem) (h : EventHappened) → h.before ≡ s →
       At n (Shows n (told (devices_of s) h.end (Once events.Power))) (devices s.mounted) (devices h.behind.mounted) →
       ShowsEvent n s (logged (Once events.Power) h)
   shows_power s h before at own =
@@ -342,7 +342,7 @@ module _ (n : ℕ) where
 
     -- The two orders for which a volume is handed in
 
-    order_seen : (asked : Asked) (o : Order) (h : Happened) → h.before ≡ s →
+    order_seen : (asked : Asked) (o : Order) (h : EventHappened) → h.before ≡ s →
         (event_lines asked h.end h.reads h.writes (devices_of s) (devices_of h.behind)
         ≡ work_lines (did.Ordered o (order_answer h.end)) h.reads h.writes (devices_of s) (devices_of h.behind)) →
         (told (devices_of s) h.end asked ≡ did.Ordered o (order_answer h.end)) →
@@ -639,14 +639,14 @@ test_is false x d w e = absurd (cc)
 line_rises : (before : List DeviceLine) (words : List (List ℕ)) (d : DeviceLine) → device_line before words ≡ Ok d → rises before d.number ≡ true
 line_rises before words d h =
     let a = went (needed Words (three_words words))
-    (λ w. and_then (needed Number (number_in 0 15 w.0))
-    (λ n. and_then (needed Number (geometry_of w.1))
-    (λ g. and_then (needed Number (number_in 1 64 w.2)) (λ c. rising before (record { number = n; geometry = g; cylinders = c }))))) d h in
+    (λ w. then_read (needed Number (number_in 0 15 w.0))
+    (λ n. then_read (needed Number (geometry_of w.1))
+    (λ g. then_read (needed Number (number_in 1 64 w.2)) (λ c. rising before (record { number = n; geometry = g; cylinders = c }))))) d h in
     let b = went (needed Number (number_in 0 15 a.value.0))
-    (λ n. and_then (needed Number (geometry_of a.value.1))
-    (λ g. and_then (needed Number (number_in 1 64 a.value.2)) (λ c. rising before (record { number = n; geometry = g; cylinders = c })))) d a.second in
+    (λ n. then_read (needed Number (geometry_of a.value.1))
+    (λ g. then_read (needed Number (number_in 1 64 a.value.2)) (λ c. rising before (record { number = n; geometry = g; cylinders = c })))) d a.second in
     let e = went (needed Number (geometry_of a.value.1))
-    (λ g. and_then (needed Number (number_in 1 64 a.value.2)) (λ c. rising before (record { number = b.value; geometry = g; cylinders = c }))) d b.second
+    (λ g. then_read (needed Number (number_in 1 64 a.value.2)) (λ c. rising before (record { number = b.value; geometry = g; cylinders = c }))) d b.second
     in
     let f = went (needed Number (number_in 1 64 a.value.2)) (λ c. rising before (record { number = b.value; geometry = e.value; cylinders = c })) d e.second in
     let line : DeviceLine = record { number = b.value; geometry = e.value; cylinders = f.value } in

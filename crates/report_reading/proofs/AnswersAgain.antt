@@ -16,8 +16,8 @@ use Rattle.report_text.specs.declared.answers.LooseAnswer.{LooseAnswer}
 use Rattle.report_text.specs.declared.answers.LooseAnswer.TheVariants as loose
 use Rattle.report_text.specs.declared.answers.OrderAnswer.{OrderAnswer}
 use Rattle.report_text.specs.declared.answers.OrderAnswer.TheVariants as order_answers
-use Rattle.report_text.specs.declared.answers.OrderFault.{OrderFault}
-use Rattle.report_text.specs.declared.answers.OrderFault.TheVariants as faults
+use Rattle.report_text.specs.declared.answers.OrderRefusal.{OrderRefusal}
+use Rattle.report_text.specs.declared.answers.OrderRefusal.TheVariants as faults
 use Rattle.report_text.specs.declared.answers.StartAnswer.{StartAnswer}
 use Rattle.report_text.specs.declared.answers.StartAnswer.TheVariants as start
 use Rattle.report_reading.specs.Answers.{answer_at, back_at, fault_at, loose_at, over_at, owner_at, start_at, totals_at}
@@ -127,7 +127,7 @@ over_solid how.Full h = refl
 over_solid how.Checked h = refl
 over_solid (how.Cut n) h = rw (short_solid n h) refl
 
-pub fault_read : (x : OrderFault) → IsFault x → fault_at (fault_words x) 0 ≡ Ok x
+pub fault_read : (x : OrderRefusal) → IsFault x → fault_at (fault_words x) 0 ≡ Ok x
 unfolding is_key
 fault_read faults.Same h = refl
 fault_read (faults.Lent n) h = rw (device_read n h) refl
@@ -143,7 +143,7 @@ fault_read faults.Half h = refl
 fault_read faults.Held h = refl
 fault_read faults.NotHeld h = refl
 
-pub fault_solid : (x : OrderFault) → IsFault x → are_solid (fault_words x) ≡ true
+pub fault_solid : (x : OrderRefusal) → IsFault x → are_solid (fault_words x) ≡ true
 fault_solid faults.Same h = refl
 fault_solid (faults.Lent n) h = rw (device_solid n h) refl
 fault_solid faults.Paired h = refl

@@ -13,7 +13,7 @@ use Rattle.report_text.specs.declared.line.ReportLine.TheVariants as lines
 use Rattle.report_text.specs.declared.order.Order.{Order}
 use Rattle.report_text.specs.declared.order.Order.TheVariants as orders
 use Rattle.report_text.specs.Keywords.{keyword_text}
-use Rattle.report_text.specs.Lines.{key_of, text_of, words_of}
+use Rattle.report_text.specs.Lines.{key_of, text_of, words_in_line}
 use Rattle.report_reading.specs.Places.{◌>>=◌, cut_words, is_key, mark_of}
 use Rattle.report_reading.specs.Ranges.{IsAnswer, IsLine, IsOrder, IsLong, form_fault, has_form}
 use Rattle.report_reading.specs.Reading.{if_text, line_by, line_of}
@@ -38,12 +38,12 @@ unless_none true fault line = refl
 unless_none false fault line = refl
 
 abbrev Again : ReportLine → Type 0
-Again line = line_by (keyword_text (key_of line) ∷ words_of line) ≡ said line
+Again line = line_by (keyword_text (key_of line) ∷ words_in_line line) ≡ said line
 
 -- neither its keyword nor another word has a space
 record Solid (line : ReportLine) : Type 0 where
   pub first : is_solid (keyword_text (key_of line)) ≡ true
-  pub others : are_solid (words_of line) ≡ true
+  pub others : are_solid (words_in_line line) ≡ true
 
 mark_read : (modified : Bool) → mark_of (keyword_text (mark_key modified)) ≡ Some modified
 unfolding is_key
@@ -186,10 +186,10 @@ its_text : (line : ReportLine) (formed : Bool) (fault : LineFault) → said_if f
 its_text line true fault = rw (same (text_of line)) refl
 its_text line false fault = refl
 
-cut_again : (line : ReportLine) → IsLine line → cut_words (text_of line) ≡ keyword_text (key_of line) ∷ words_of line
+cut_again : (line : ReportLine) → IsLine line → cut_words (text_of line) ≡ keyword_text (key_of line) ∷ words_in_line line
 unfolding text_of cut_words
 cut_again line h =
-    let s = solid line h in words_cut (keyword_text (key_of line)) (words_of line) s.first s.others
+    let s = solid line h in words_cut (keyword_text (key_of line)) (words_in_line line) s.first s.others
 
 pub line_again : (line : ReportLine) → IsLine line → line_of (text_of line) ≡ said line
 unfolding line_of

@@ -12,8 +12,8 @@ use Rattle.report_text.specs.declared.answers.LooseAnswer.{LooseAnswer}
 use Rattle.report_text.specs.declared.answers.LooseAnswer.TheVariants as loose
 use Rattle.report_text.specs.declared.answers.OrderAnswer.{OrderAnswer}
 use Rattle.report_text.specs.declared.answers.OrderAnswer.TheVariants as order_answers
-use Rattle.report_text.specs.declared.answers.OrderFault.{OrderFault}
-use Rattle.report_text.specs.declared.answers.OrderFault.TheVariants as faults
+use Rattle.report_text.specs.declared.answers.OrderRefusal.{OrderRefusal}
+use Rattle.report_text.specs.declared.answers.OrderRefusal.TheVariants as faults
 use Rattle.report_text.specs.declared.answers.StartAnswer.{StartAnswer}
 use Rattle.report_text.specs.declared.answers.StartAnswer.TheVariants as start
 use Rattle.report_reading.specs.declared.fault.LineFault.{LineFault}
@@ -76,7 +76,7 @@ over_at ws i =
     else if is_key w words.Cut then short_at ws (i + 1) >>= (λ commands. Ok (how.Cut commands))
     else Err Word)
 
-abbrev pub fault_at : List (List ℕ) → ℕ → Result OrderFault LineFault
+abbrev pub fault_at : List (List ℕ) → ℕ → Result OrderRefusal LineFault
 fault_at ws i =
     word_at ws i >>= (λ w.
     if is_key w words.Same then Ok faults.Same

@@ -13,8 +13,8 @@ use Rattle.report_text.specs.declared.answers.LooseAnswer.{LooseAnswer}
 use Rattle.report_text.specs.declared.answers.LooseAnswer.TheVariants as loose
 use Rattle.report_text.specs.declared.answers.OrderAnswer.{OrderAnswer}
 use Rattle.report_text.specs.declared.answers.OrderAnswer.TheVariants as order_answers
-use Rattle.report_text.specs.declared.answers.OrderFault.{OrderFault}
-use Rattle.report_text.specs.declared.answers.OrderFault.TheVariants as faults
+use Rattle.report_text.specs.declared.answers.OrderRefusal.{OrderRefusal}
+use Rattle.report_text.specs.declared.answers.OrderRefusal.TheVariants as faults
 use Rattle.report_text.specs.declared.answers.StartAnswer.{StartAnswer}
 use Rattle.report_text.specs.declared.answers.StartAnswer.TheVariants as start
 use Rattle.report_text.specs.declared.line.EndLine.{EndLine}
@@ -86,7 +86,7 @@ IsOver how.Full = Unit {0}
 IsOver how.Checked = Unit {0}
 IsOver (how.Cut commands) = IsShort commands
 
-abbrev pub IsFault : OrderFault → Type 0
+abbrev pub IsFault : OrderRefusal → Type 0
 IsFault (faults.Lent device) = IsDevice device
 IsFault (faults.Active path) = IsPath path
 IsFault (faults.NotLevel tracks) = IsShort tracks

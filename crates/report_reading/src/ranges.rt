@@ -5,7 +5,7 @@ ghost use Rattle.report_reading.specs.Ranges.{IsOrder, IsOver, IsOwner, IsPath, 
 
 use ckd_types::{DeviceNo, GroupId, Owner, PathNo, Sense, TrackNo};
 use report_text::{
-    BackAnswer, DeviceTotals, EndLine, HowOver, LooseAnswer, Order, OrderAnswer, OrderFault,
+    BackAnswer, DeviceTotals, EndLine, HowOver, LooseAnswer, Order, OrderAnswer, OrderRefusal,
     ReportLine, StartAnswer,
 };
 
@@ -135,23 +135,23 @@ fn over_range(how: &HowOver)
     }
 }
 
-fn fault_range(fault: &OrderFault)
+fn fault_range(fault: &OrderRefusal)
     ensures { IsFault fault.now }
 {
     match fault {
-        OrderFault::Lent(device) => device_range(device),
-        OrderFault::Active(path) => path_range(path),
-        OrderFault::NotLevel(tracks) => short_range(tracks),
-        OrderFault::Same
-        | OrderFault::Paired
-        | OrderFault::Unpaired
-        | OrderFault::Geometry
-        | OrderFault::NoSide
-        | OrderFault::Down
-        | OrderFault::Up
-        | OrderFault::Half
-        | OrderFault::Held
-        | OrderFault::NotHeld => (),
+        OrderRefusal::Lent(device) => device_range(device),
+        OrderRefusal::Active(path) => path_range(path),
+        OrderRefusal::NotLevel(tracks) => short_range(tracks),
+        OrderRefusal::Same
+        | OrderRefusal::Paired
+        | OrderRefusal::Unpaired
+        | OrderRefusal::Geometry
+        | OrderRefusal::NoSide
+        | OrderRefusal::Down
+        | OrderRefusal::Up
+        | OrderRefusal::Half
+        | OrderRefusal::Held
+        | OrderRefusal::NotHeld => (),
     }
 }
 

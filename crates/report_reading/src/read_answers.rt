@@ -9,7 +9,7 @@ use crate::places::{
 };
 use ckd_types::{GroupId, Owner};
 use report_text::{
-    BackAnswer, DeviceTotals, HowOver, Keyword, LooseAnswer, OrderAnswer, OrderFault, StartAnswer,
+    BackAnswer, DeviceTotals, HowOver, Keyword, LooseAnswer, OrderAnswer, OrderRefusal, StartAnswer,
 };
 
 fn owner_at(words: &LineWords, i: usize) -> Result<Owner, LineFault>
@@ -129,37 +129,37 @@ pub fn over_at(words: &LineWords, i: usize) -> Result<HowOver, LineFault>
     }
 }
 
-fn fault_at(words: &LineWords, i: usize) -> Result<OrderFault, LineFault>
+fn fault_at(words: &LineWords, i: usize) -> Result<OrderRefusal, LineFault>
     requires near { i < 100 }
     ensures { result ≡ fault_at words.now i }
 {
     let word = word_at(words, i)?;
     if is_key(word, Keyword::Same) {
-        Ok(OrderFault::Same)
+        Ok(OrderRefusal::Same)
     } else if is_key(word, Keyword::Lent) {
-        Ok(OrderFault::Lent(device_at(words, i + 1)?))
+        Ok(OrderRefusal::Lent(device_at(words, i + 1)?))
     } else if is_key(word, Keyword::Paired) {
-        Ok(OrderFault::Paired)
+        Ok(OrderRefusal::Paired)
     } else if is_key(word, Keyword::Unpaired) {
-        Ok(OrderFault::Unpaired)
+        Ok(OrderRefusal::Unpaired)
     } else if is_key(word, Keyword::Active) {
-        Ok(OrderFault::Active(path_at(words, i + 1)?))
+        Ok(OrderRefusal::Active(path_at(words, i + 1)?))
     } else if is_key(word, Keyword::Geometry) {
-        Ok(OrderFault::Geometry)
+        Ok(OrderRefusal::Geometry)
     } else if is_key(word, Keyword::NoSide) {
-        Ok(OrderFault::NoSide)
+        Ok(OrderRefusal::NoSide)
     } else if is_key(word, Keyword::Down) {
-        Ok(OrderFault::Down)
+        Ok(OrderRefusal::Down)
     } else if is_key(word, Keyword::Up) {
-        Ok(OrderFault::Up)
+        Ok(OrderRefusal::Up)
     } else if is_key(word, Keyword::NotLevel) {
-        Ok(OrderFault::NotLevel(short_at(words, i + 1)?))
+        Ok(OrderRefusal::NotLevel(short_at(words, i + 1)?))
     } else if is_key(word, Keyword::Half) {
-        Ok(OrderFault::Half)
+        Ok(OrderRefusal::Half)
     } else if is_key(word, Keyword::Held) {
-        Ok(OrderFault::Held)
+        Ok(OrderRefusal::Held)
     } else if is_key(word, Keyword::NotHeld) {
-        Ok(OrderFault::NotHeld)
+        Ok(OrderRefusal::NotHeld)
     } else {
         Err(LineFault::Word)
     }

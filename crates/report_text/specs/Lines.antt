@@ -62,32 +62,32 @@ end_words e =
     decimal e.path ∷ decimal e.device ∷ decimal e.ordinal ∷ decimal e.index ∷ encode_upper (e.status.0 ∷ []) ∷ decimal e.residual
     ∷ keyword_text (note_key e.note) ∷ []
 
-abbrev pub words_of : ReportLine → List (List ℕ)
-words_of (lines.Start path device answer) = decimal path ∷ decimal device ∷ start_words answer
-words_of (lines.End end) = end_words end
-words_of (lines.Data bytes) = encode_upper bytes ∷ []
-words_of (lines.Sense sense) = encode_upper sense.bytes ∷ []
-words_of (lines.Half path device track) = decimal path ∷ decimal device ∷ decimal track ∷ []
-words_of (lines.Back device answer) = decimal device ∷ back_words answer
-words_of (lines.StepIdle device) = decimal device ∷ keyword_text words.Idle ∷ []
-words_of (lines.RunIdle device) = decimal device ∷ keyword_text words.Idle ∷ []
-words_of (lines.Loose device answer) = decimal device ∷ loose_words answer
-words_of (lines.Io reads writes) = decimal reads ∷ decimal writes ∷ []
-words_of (lines.Over path device ordinal how) = decimal path ∷ decimal device ∷ decimal ordinal ∷ over_words how
-words_of (lines.Reset path device) = decimal path ∷ decimal device ∷ []
-words_of (lines.Order order answer) = order_words order ++ answer_words answer
-words_of (lines.Device device totals) = decimal device ∷ totals_words totals
-words_of (lines.Lost device track) = decimal device ∷ decimal track ∷ []
-words_of (lines.Frame device track modified) = decimal device ∷ decimal track ∷ keyword_text (mark_key modified) ∷ []
-words_of (lines.Fresh device) = decimal device ∷ []
-words_of (lines.Left path device programs) = decimal path ∷ decimal device ∷ decimal programs ∷ []
-words_of (lines.Unused events) = decimal events ∷ []
-words_of lines.Finish = []
-words_of (lines.Sum of n) = decimal n ∷ []
+abbrev pub words_in_line : ReportLine → List (List ℕ)
+words_in_line (lines.Start path device answer) = decimal path ∷ decimal device ∷ start_words answer
+words_in_line (lines.End end) = end_words end
+words_in_line (lines.Data bytes) = encode_upper bytes ∷ []
+words_in_line (lines.Sense sense) = encode_upper sense.bytes ∷ []
+words_in_line (lines.Half path device track) = decimal path ∷ decimal device ∷ decimal track ∷ []
+words_in_line (lines.Back device answer) = decimal device ∷ back_words answer
+words_in_line (lines.StepIdle device) = decimal device ∷ keyword_text words.Idle ∷ []
+words_in_line (lines.RunIdle device) = decimal device ∷ keyword_text words.Idle ∷ []
+words_in_line (lines.Loose device answer) = decimal device ∷ loose_words answer
+words_in_line (lines.Io reads writes) = decimal reads ∷ decimal writes ∷ []
+words_in_line (lines.Over path device ordinal how) = decimal path ∷ decimal device ∷ decimal ordinal ∷ over_words how
+words_in_line (lines.Reset path device) = decimal path ∷ decimal device ∷ []
+words_in_line (lines.Order order answer) = order_words order ++ answer_words answer
+words_in_line (lines.Device device totals) = decimal device ∷ totals_words totals
+words_in_line (lines.Lost device track) = decimal device ∷ decimal track ∷ []
+words_in_line (lines.Frame device track modified) = decimal device ∷ decimal track ∷ keyword_text (mark_key modified) ∷ []
+words_in_line (lines.Fresh device) = decimal device ∷ []
+words_in_line (lines.Left path device programs) = decimal path ∷ decimal device ∷ decimal programs ∷ []
+words_in_line (lines.Unused events) = decimal events ∷ []
+words_in_line lines.Finish = []
+words_in_line (lines.Sum of n) = decimal n ∷ []
 
 -- a line without its line feed
 unfoldable pub text_of : ReportLine → List ℕ
-text_of line = keyword_text (key_of line) ++ all_spaced (words_of line)
+text_of line = keyword_text (key_of line) ++ all_spaced (words_in_line line)
 
 -- a line with it
 abbrev pub line_text : ReportLine → List ℕ

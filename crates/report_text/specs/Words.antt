@@ -18,8 +18,8 @@ use Rattle.report_text.specs.declared.answers.LooseAnswer.{LooseAnswer}
 use Rattle.report_text.specs.declared.answers.LooseAnswer.TheVariants as loose
 use Rattle.report_text.specs.declared.answers.OrderAnswer.{OrderAnswer}
 use Rattle.report_text.specs.declared.answers.OrderAnswer.TheVariants as order_answers
-use Rattle.report_text.specs.declared.answers.OrderFault.{OrderFault}
-use Rattle.report_text.specs.declared.answers.OrderFault.TheVariants as faults
+use Rattle.report_text.specs.declared.answers.OrderRefusal.{OrderRefusal}
+use Rattle.report_text.specs.declared.answers.OrderRefusal.TheVariants as faults
 use Rattle.report_text.specs.declared.answers.StartAnswer.{StartAnswer}
 use Rattle.report_text.specs.declared.answers.StartAnswer.TheVariants as start
 use Rattle.report_text.specs.declared.order.Order.{Order}
@@ -80,7 +80,7 @@ over_words how.Full = keyword_text words.Full ∷ []
 over_words how.Checked = keyword_text words.Checked ∷ []
 over_words (how.Cut commands) = keyword_text words.Cut ∷ decimal commands ∷ []
 
-abbrev pub fault_words : OrderFault → List (List ℕ)
+abbrev pub fault_words : OrderRefusal → List (List ℕ)
 fault_words faults.Same = keyword_text words.Same ∷ []
 fault_words (faults.Lent device) = keyword_text words.Lent ∷ decimal device ∷ []
 fault_words faults.Paired = keyword_text words.Paired ∷ []

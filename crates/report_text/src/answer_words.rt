@@ -12,7 +12,7 @@ use crate::words::{
     HexWord, KeyWord, Words, put_behind, put_count, put_key, put_key_and, put_numbers,
 };
 use crate::{
-    BackAnswer, DeviceTotals, HowOver, Keyword, LooseAnswer, Order, OrderAnswer, OrderFault,
+    BackAnswer, DeviceTotals, HowOver, Keyword, LooseAnswer, Order, OrderAnswer, OrderRefusal,
     StartAnswer,
 };
 use ckd_outside::{Failed, LineBuffer, Sink};
@@ -141,30 +141,30 @@ impl Words for HowOver {
     }
 }
 
-impl Words for OrderFault {
+impl Words for OrderRefusal {
     ghost words = { fault_words };
 
     fn put<K: Sink>(&self, sink: &mut K, buffer: &mut LineBuffer) -> Result<(), Failed> {
         match self {
-            OrderFault::Same => put_key(sink, buffer, Keyword::Same),
-            OrderFault::Lent(device) => {
+            OrderRefusal::Same => put_key(sink, buffer, Keyword::Same),
+            OrderRefusal::Lent(device) => {
                 put_count(sink, buffer, Keyword::Lent, u64::from(device.get()))
             }
-            OrderFault::Paired => put_key(sink, buffer, Keyword::Paired),
-            OrderFault::Unpaired => put_key(sink, buffer, Keyword::Unpaired),
-            OrderFault::Active(path) => {
+            OrderRefusal::Paired => put_key(sink, buffer, Keyword::Paired),
+            OrderRefusal::Unpaired => put_key(sink, buffer, Keyword::Unpaired),
+            OrderRefusal::Active(path) => {
                 put_count(sink, buffer, Keyword::Active, u64::from(path.get()))
             }
-            OrderFault::Geometry => put_key(sink, buffer, Keyword::Geometry),
-            OrderFault::NoSide => put_key(sink, buffer, Keyword::NoSide),
-            OrderFault::Down => put_key(sink, buffer, Keyword::Down),
-            OrderFault::Up => put_key(sink, buffer, Keyword::Up),
-            OrderFault::NotLevel(tracks) => {
+            OrderRefusal::Geometry => put_key(sink, buffer, Keyword::Geometry),
+            OrderRefusal::NoSide => put_key(sink, buffer, Keyword::NoSide),
+            OrderRefusal::Down => put_key(sink, buffer, Keyword::Down),
+            OrderRefusal::Up => put_key(sink, buffer, Keyword::Up),
+            OrderRefusal::NotLevel(tracks) => {
                 put_count(sink, buffer, Keyword::NotLevel, u64::from(*tracks))
             }
-            OrderFault::Half => put_key(sink, buffer, Keyword::Half),
-            OrderFault::Held => put_key(sink, buffer, Keyword::Held),
-            OrderFault::NotHeld => put_key(sink, buffer, Keyword::NotHeld),
+            OrderRefusal::Half => put_key(sink, buffer, Keyword::Half),
+            OrderRefusal::Held => put_key(sink, buffer, Keyword::Held),
+            OrderRefusal::NotHeld => put_key(sink, buffer, Keyword::NotHeld),
         }
     }
 }

@@ -58,7 +58,7 @@ pub enum HowOver {
 
 /// Why an order was refused.
 #[derive(Clone, Copy, Debug, PartialEq, Eq)]
-pub enum OrderFault {
+pub enum OrderRefusal {
     Same,
     Lent(DeviceNo),
     Paired,
@@ -80,7 +80,7 @@ pub enum OrderFault {
 pub enum OrderAnswer {
     Done,
     Pending(u32),
-    Refused(OrderFault),
+    Refused(OrderRefusal),
 }
 
 /// What is said of a device at the end: its volume calls and how many tracks are lost, the latter alone, or to

@@ -17,7 +17,7 @@ mod summary;
 mod words;
 
 pub use answers::{
-    BackAnswer, DeviceTotals, HowOver, LooseAnswer, OrderAnswer, OrderFault, StartAnswer, SumOf,
+    BackAnswer, DeviceTotals, HowOver, LooseAnswer, OrderAnswer, OrderRefusal, StartAnswer, SumOf,
 };
 pub use event::{Happened, Loosed, ProgramOver, RunEvent};
 pub use keyword::{Keyword, keyword_text};

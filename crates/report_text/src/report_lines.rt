@@ -4,7 +4,7 @@ ghost use Rattle.ckd_outside.specs.Texts.{Puts, buffer_size};
 ghost use Rattle.report_text.specs.declared.line.ReportLine.TheVariants.{Data as data_line};
 ghost use Rattle.report_text.specs.Keywords.{keyword_text};
 ghost use Rattle.report_text.specs.Words.{all_spaced, answer_words, note_key, order_words, spaced};
-ghost use Rattle.report_text.specs.Lines.{end_words, line_text, words_of};
+ghost use Rattle.report_text.specs.Lines.{end_words, line_text, words_in_line};
 
 use crate::answer_words::mark_key;
 use crate::line::key_of;
@@ -81,7 +81,7 @@ fn put_order<K: Sink>(
 }
 
 impl Words for ReportLine {
-    ghost words = { words_of };
+    ghost words = { words_in_line };
 
     fn put<K: Sink>(&self, sink: &mut K, buffer: &mut LineBuffer) -> Result<(), Failed> {
         match self {

@@ -11,9 +11,9 @@ use Rattle.deck_plan.specs.declared.event.EventLine.{EventLine}
 use Rattle.deck_plan.specs.declared.event.EventLine.TheVariants as events
 use Rattle.plain_defs.specs.declared.journal.Act.{Act}
 use Rattle.plain_defs.specs.declared.journal.Act.TheVariants.{CfwLost, Harden, Loosen}
-use Rattle.plain_defs.specs.History.{OpenEntry, acted, reset}
+use Rattle.plain_defs.specs.History.{OpenEntry, acted, reset_in_history}
 use Rattle.plain_defs.specs.Journal.{replay}
-use Rattle.plain_defs.specs.Loose.{is_loose}
+use Rattle.plain_defs.specs.Loose.{is_loose_there}
 use Rattle.plain_defs.specs.PlainState.{PlainState}
 use Rattle.report_text.specs.declared.answers.BackAnswer.{BackAnswer}
 use Rattle.report_text.specs.declared.answers.BackAnswer.TheVariants as back
@@ -333,15 +333,15 @@ module _ (s u : AuditState) (all : AlikeStates s u) (line : ReportLine) where
 
       -- a program that is cut
       cuts : (more : ℕ) → IsFew more → AlikeStates
-          (record (changed s (record a { history = reset a.history o.path more; half = cut_half a.half })) { due = ResetOf })
-          (record (changed u (record b { history = reset b.history p.path more; half = cut_half b.half })) { due = ResetOf })
+          (record (changed s (record a { history = reset_in_history a.history o.path more; half = cut_half a.half })) { due = ResetOf })
+          (record (changed u (record b { history = reset_in_history b.history p.path more; half = cut_half b.half })) { due = ResetOf })
       cuts more few =
           let path_is : o.path ≡ p.path = ap (λ (g : Going). g.path) going in
           subst (λ (path : ℕ). AlikeStates
-          (record (changed s (record a { history = reset a.history o.path more; half = cut_half a.half })) { due = ResetOf })
-          (record (changed u (record b { history = reset b.history path more; half = cut_half b.half })) { due = ResetOf })) path_is
+          (record (changed s (record a { history = reset_in_history a.history o.path more; half = cut_half a.half })) { due = ResetOf })
+          (record (changed u (record b { history = reset_in_history b.history path more; half = cut_half b.half })) { due = ResetOf })) path_is
           (due_alike _ _ (changed_alike s u all _ _
-          (with_alike a b is (λ h. reset h o.path more) _ (reset_is_read o.path more few) (cut_half a.half) (cut_half b.half) (ap cut_half (half_same a b is))))
+          (with_alike a b is (λ h. reset_in_history h o.path more) _ (reset_is_read o.path more few) (cut_half a.half) (cut_half b.half) (ap cut_half (half_same a b is))))
           ResetOf ResetOf refl)
 
       cut_alike : (k : ℕ) → AlikeMade (cut_by s a o k) (cut_by u b p k)
@@ -389,7 +389,7 @@ module _ (s u : AuditState) (all : AlikeStates s u) (line : ReportLine) where
 
     harden_alike : (t : ℕ) (due : Due) → AlikeMade (harden_made s a t due) (harden_made u b t due)
     harden_alike t due =
-        if_alike (is_loose (state_of a) t) (is_loose (state_of b) t) (ap (λ (x : PlainState). is_loose x t) (state_same a b is)) _ _ _ _ (act_alike (Harden t) due) tt
+        if_alike (is_loose_there (state_of a) t) (is_loose_there (state_of b) t) (ap (λ (x : PlainState). is_loose_there x t) (state_same a b is)) _ _ _ _ (act_alike (Harden t) due) tt
 
     loosen_alike : (t : ℕ) (did : Did) → AlikeMade (loosen_made s a t did) (loosen_made u b t did)
     loosen_alike t (Ended e) =
@@ -415,11 +415,11 @@ module _ (s u : AuditState) (all : AlikeStates s u) (line : ReportLine) where
     lend_alike of =
         passed_alike _ _ (changed_alike s u all (record a { lent = Some of }) (record b { lent = Some of }) (lent_alike a b is (Some of)))
 
-    reset_alike : (path : ℕ) → AlikeMade (Some (passed (changed s (record a { history = reset a.history path 0 }))))
-        (Some (passed (changed u (record b { history = reset b.history path 0 }))))
+    reset_alike : (path : ℕ) → AlikeMade (Some (passed (changed s (record a { history = reset_in_history a.history path 0 }))))
+        (Some (passed (changed u (record b { history = reset_in_history b.history path 0 }))))
     reset_alike path =
-        passed_alike _ _ (changed_alike s u all (record a { history = reset a.history path 0 }) (record b { history = reset b.history path 0 })
-        (history_alike a b is (λ h. reset h path 0) _ (reset_is_read path 0 tt)))
+        passed_alike _ _ (changed_alike s u all (record a { history = reset_in_history a.history path 0 }) (record b { history = reset_in_history b.history path 0 })
+        (history_alike a b is (λ h. reset_in_history h path 0) _ (reset_is_read path 0 tt)))
 
     half_made_alike : (h k : HalfWrite) → h ≡ k → (due : Due) → AlikeMade (Some (record (changed s (record a { half = h })) { due = due }))
         (Some (record (changed u (record b { half = k })) { due = due }))

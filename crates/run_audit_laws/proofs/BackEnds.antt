@@ -17,7 +17,7 @@ use Rattle.subsystem_defs.specs.declared.event.Event.TheVariants as events
 use Rattle.subsystem_defs.specs.Deeds as E
 use Rattle.subsystem_defs.specs.Deeds.{Asks, back, device_in, end_of, may_end_by, on_device, seconds}
 use Rattle.subsystem_defs.specs.Happening as H
-use Rattle.subsystem_defs.specs.Happening.{Happened, Talk, asks, happens, happens_by, held_with, mounted_behind, told_end, told_to}
+use Rattle.subsystem_defs.specs.Happening.{EventHappened, Talk, asks, happens, happens_by, held_with, mounted_behind, told_end, told_to}
 use Rattle.subsystem_defs.specs.Lines as L
 use Rattle.subsystem_defs.specs.Lines.{Logged, Settle, backs, is_settled, line_logged, logged, most_backs}
 use Rattle.subsystem_defs.specs.Subsystem.{Mounted, Subsystem, devices_of, mounted_in}
@@ -47,7 +47,7 @@ module _ (s : Subsystem) (good : AreSo Good s.mounted) (d : ℕ) (x : MarksDevic
   good_x = subst (λ (o : Option MarksDevice). IfSome o Good) there (device_so Good s.mounted d good)
 
   -- where the device is then, and that less is left to do unless it stops
-  record OneLess (h : Happened) : Type 0 where
+  record OneLess (h : EventHappened) : Type 0 where
     behind : Mounted
     found : mounted_in h.behind.mounted d ≡ Some behind
     less : is_settled h.end ≡ false → Lower x.store behind.device.store

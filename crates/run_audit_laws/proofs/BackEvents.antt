@@ -9,14 +9,14 @@ use Rattle.device_defs.specs.Device.{event_begun, with_store}
 use Rattle.device_defs.specs.Events as V
 use Rattle.device_defs.specs.Events.{background, command_ended, second, second_ended, second_of}
 use Rattle.device_defs.specs.Marks.{MarksDevice, MarksStore}
-use Rattle.device_defs.specs.Owed.{begun, ended, hear, is_clean, waiting_count}
+use Rattle.device_defs.specs.Owed.{noted_begin, noted_end, hear, is_clean, waiting_count}
 use Rattle.device_defs.specs.Store as store
 use Rattle.device_defs.specs.Store.{Origin, OfBackground, OfCommand, OfCut, frame_at, half_is, has_level, is_lost, is_loose, patch_at, tracks_of, with_frame}
 use Rattle.plain_defs.specs.History.{OpenEntry}
 use Rattle.ckd_chain.specs.State.{ChainState}
 use Rattle.device_laws.proofs.Changes as C
 use Rattle.device_laws.proofs.FailedCall.{IsWell}
-use Rattle.device_laws.proofs.FramesKept.{none_at}
+use Rattle.device_laws.proofs.HeldPlaces.{none_at}
 use Rattle.device_laws.proofs.Had.{Had, had_done, had_then, had_weaker}
 use Rattle.device_laws.proofs.PoolWalks.{asks_had, ended_asks, hear_asks}
 use Rattle.device_laws.proofs.TrackMarks as M
@@ -65,9 +65,9 @@ heard_drops s z t clean h = record {
       (subst (λ (o : Option Bool). HeardAt (spot_at s t) (record (spot_at z t) { frame = o })) (sym (none_at z.frames t))
       (dropped_at (spot_at s t) (spot_at z t) (is_clean_frame (frame_at z t) clean) (h.spots t)))
 
-heard_so : (s : MarksStore) → Had (hear by_plain 960 (begun s)) (λ z (_ : Unit {0}). Heard s z)
+heard_so : (s : MarksStore) → Had (hear by_plain 960 (noted_begin s)) (λ z (_ : Unit {0}). Heard s z)
 heard_so s =
-    asks_had (hear_asks by_plain (Heard s) (heard_drops s) 960 (begun s)
+    asks_had (hear_asks by_plain (Heard s) (heard_drops s) 960 (noted_begin s)
     (record { cylinders = refl; queue = refl; half = refl; paired = refl; spots = λ q. inl refl }))
 
 -- a clean frame is of a track that waits no more without it
@@ -141,7 +141,7 @@ good_clean x g q lt =
 
 -- The end of an event
 
-ended_so : (before : ℕ) (s : MarksStore) → Had (ended by_plain before s) (λ z (_ : Unit {0}). Same s z)
+ended_so : (before : ℕ) (s : MarksStore) → Had (noted_end by_plain before s) (λ z (_ : Unit {0}). Same s z)
 ended_so before s =
     asks_had (ended_asks by_plain (Same s) (λ z t e. record { cylinders = e.cylinders; queue = e.queue; half = e.half; spots = e.spots }) before s (same_self s))
 

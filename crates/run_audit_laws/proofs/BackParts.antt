@@ -14,28 +14,7 @@ use Rattle.device_defs.specs.declared.answers.Did.TheVariants as dids
 use Rattle.device_defs.specs.declared.answers.Took.{Took}
 use Rattle.device_defs.specs.declared.answers.Took.TheVariants.{Opened, Unwritten, Whole}
 use Rattle.device_defs.specs.Background as G
-use Rattle.device_defs.specs.Background.{
-  copied,
-  copies_to,
-  copy_by,
-  copy_first,
-  copy_read,
-  destage_first,
-  did,
-  other,
-  recover,
-  recover_first,
-  recovered_bytes,
-  saved,
-  saved_by,
-  stage,
-  stage_first,
-  staged_bytes,
-  to_copy,
-  to_destage,
-  to_recover,
-  work,
-}
+use Rattle.device_defs.specs.Background.{copied, copies_to, copy_by, copy_first, copy_read, destage_first, did, other, recover, recover_first, recovered_bytes, saved, saved_by, stage, stage_first, staged_bytes, to_copy, to_destage, to_recover, work}
 use Rattle.device_defs.specs.Contents.{by_plain}
 use Rattle.device_defs.specs.Effects.{hardened}
 use Rattle.device_defs.specs.Image as I
@@ -46,39 +25,30 @@ use Rattle.device_defs.specs.Device.{event_begun, with_store}
 use Rattle.device_defs.specs.Events as V
 use Rattle.device_defs.specs.Events.{background}
 use Rattle.device_defs.specs.Marks.{MarksDevice, MarksStore}
-use Rattle.device_defs.specs.Owed.{begun, hear, waiting_count}
+use Rattle.device_defs.specs.Owed.{noted_begin, hear, waiting_count}
 use Rattle.device_defs.specs.Store as store
 use Rattle.device_defs.specs.Store.{OfBackground, frame_at, is_lost, is_loose, level_at, owed_at, patch_at, plain_at, takes_b, tracks_of, with_frame, with_stale}
 use Rattle.device_defs.specs.Writing as W
 use Rattle.device_defs.specs.Writing.{firm_first, write_first}
 use Rattle.device_laws.proofs.Had.{Had, had_ask, had_done, had_if, had_read, had_tell, had_then, had_try, had_weaker, had_write}
 use Rattle.device_laws.proofs.PlainEvents.{had_both, had_always}
-use Rattle.device_laws.proofs.PlainLosses.{Worked, walks_first, work_on}
+use Rattle.device_laws.proofs.Based.{kept}
+use Rattle.device_laws.proofs.BasedEvents.{base_in, background_based}
+use Rattle.device_laws.proofs.PlainLosses.{walks_first}
 use Rattle.device_laws.proofs.PlainTurns.{Follows}
 use Rattle.device_laws.proofs.PoolWalks.{asks_had, hear_asks}
 use Rattle.device_laws.proofs.PlainStores.{Core, Open, Walks, core_of, walks_on}
-use Rattle.device_laws.proofs.PlainWalks.{
-  FirstTook,
-  bytes_on,
-  done_same,
-  ended_same,
-  failed_on,
-  firm_first_on,
-  first_on,
-  framed_same,
-  opened_core,
-  opened_half,
-  stale_same,
-}
+use Rattle.device_laws.proofs.PlainWalks.{FirstTook, bytes_on, done_same, ended_same, failed_on, firm_first_on, first_on, framed_same, opened_core, opened_half, stale_same}
 use Rattle.device_laws.proofs.invariants.LedSides.{lost_side_is_down}
 use Rattle.deck_audit.specs.History.{back_half}
 use Rattle.run_report.specs.Answers.{back_answer}
 use Rattle.plain_defs.specs.History.{plain_of}
 use Rattle.run_audit_laws.specs.Standing.{audited, half_by}
 use Rattle.run_audit_laws.proofs.ResetDevices.{HasParts}
-use Rattle.run_audit_laws.proofs.StepParts.{ended_parts}
+use Rattle.run_audit_laws.proofs.StepParts.{begins, parts_by, stays_by}
 use Rattle.run_audit_laws.proofs.Lighter.{any_had}
-use Rattle.device_laws.proofs.KeptEvents.{always_any}
+use Rattle.device_laws.proofs.KeptEvents.{always_any, background_goes}
+use Rattle.subsystem_laws.proofs.LendBase.{IsStill}
 
 -- Side A falls with its call, in a pair
 
@@ -314,44 +284,46 @@ said_half x none (dids.BadBytes side) h is = ap half_by (is ∙ sym none)
 module _ (num : ℕ) (empty : PlainState) (x : MarksDevice) (f : Follows num empty x) (none : x.store.half ≡ None)
     (alone : x.store.paired ≡ false → x.store.b.up ≡ false) where
   record Front (s : MarksStore) : Type 0 where
-    same : core_of s ≡ core_of (begun x.store)
+    same : core_of s ≡ core_of (noted_begin x.store)
     single : s.paired ≡ false → s.b.up ≡ false
 
-  fronted : Had (hear by_plain 960 (begun x.store)) (λ s (_ : Unit {0}). Front s)
+  fronted : Had (hear by_plain 960 (noted_begin x.store)) (λ s (_ : Unit {0}). Front s)
   fronted =
-      asks_had (hear_asks by_plain Front (λ z t clean e. record { same = framed_same z t None ∙ e.same; single = e.single }) 960 (begun x.store)
+      asks_had (hear_asks by_plain Front (λ z t clean e. record { same = framed_same z t None ∙ e.same; single = e.single }) 960 (noted_begin x.store)
       (record { same = refl; single = alone }))
 
-  walks : (s : MarksStore) → core_of s ≡ core_of (begun x.store) →
+  walks : (s : MarksStore) → core_of s ≡ core_of (noted_begin x.store) →
       Walks (plain_of x.plans empty x.history) x.store.plain x.store.geometry x.store.cylinders (None, (x.store.lent, x.store.device)) (core_of s)
   walks s e =
       subst (λ (h : Option (store.HalfWrite (Unit {0}))). Walks (plain_of x.plans empty x.history) x.store.plain x.store.geometry x.store.cylinders
       (h, (x.store.lent, x.store.device)) (core_of s)) none (walks_first num empty x f s e)
 
-  left_by : (y : MarksDevice) (a : Option Did) → y.plans ≡ x.plans →
-      Worked (plain_of x.plans empty x.history) x.store.plain x.store.geometry x.store.cylinders (x.store.lent, x.store.device) y.store →
-      WorkIs y.store a → BackLeft x y a
-  left_by y (Some d) plans w said =
-      let k = w.walks in record {
-        number = ap (λ (o : Open). o.1.1) k.rest;
-        geometry = k.geometry;
-        cylinders = k.cylinders;
-        plans = plans;
-        lent = ap (λ (o : Open). o.1.0) k.rest;
-        half_is = said_half x none d y.store.half said;
-      }
-  left_by y None plans w said = said
+  abbrev HalfSaid : MarksDevice → Option Did → Type 0
+  HalfSaid y (Some d) = half_by y.store.half ≡ back_half (audited x) (back_answer d)
+  HalfSaid y None = ⊥
 
-  stays_left : (y : MarksDevice) (a : Option Did) (z : MarksStore) → core_of z ≡ core_of y.store → BackLeft x y a → BackLeft x (record y { store = z }) a
-  stays_left y (Some d) z e p = ended_parts x y (back_half (audited x) (back_answer d)) z e p
-  stays_left y None z e p = p
+  said_by : (y : MarksDevice) (a : Option Did) → WorkIs y.store a → HalfSaid y a
+  said_by y (Some d) said = said_half x none d y.store.half said
+  said_by y None said = said
+
+  stays_said : (y : MarksDevice) (a : Option Did) (z : MarksStore) → core_of z ≡ core_of y.store → HalfSaid y a → HalfSaid (record y { store = z }) a
+  stays_said y (Some d) z e p = ap (λ (c : Core). half_by c.half) e ∙ p
+  stays_said y None z e p = p
+
+  half_left : Had (background by_plain x) HalfSaid
+  unfolding V.background
+  half_left =
+      had_then {p = HalfSaid}
+      (had_then fronted (λ s _ e. had_then
+      (work_said (plain_of x.plans empty x.history) x.store.plain x.store.geometry x.store.cylinders (x.store.lent, x.store.device) s (walks s e.same) e.single)
+      (λ z a g. had_done (said_by (with_store (record (event_begun x) { store = s }) z) a g))))
+      (λ y a g. had_then (ended_same (waiting_count by_plain x.store) y.store) (λ z _ e. had_done (stays_said y a z e g)))
+
+  left_by : (y : MarksDevice) (a : Option Did) → IsStill (kept x.store) (base_in y) × (y.plans ≡ x.plans) → HalfSaid y a → BackLeft x y a
+  left_by y (Some d) k said = parts_by x y (back_half (audited x) (back_answer d)) k said
+  left_by y None k said = said
 
   pub back_left : Had (background by_plain x) (BackLeft x)
-  unfolding V.background
   back_left =
-      had_then {p = BackLeft x}
-      (had_then fronted (λ s _ e. had_then
-      (had_both (work_on (plain_of x.plans empty x.history) x.store.plain x.store.geometry x.store.cylinders (x.store.lent, x.store.device) s (walks s e.same))
-      (work_said (plain_of x.plans empty x.history) x.store.plain x.store.geometry x.store.cylinders (x.store.lent, x.store.device) s (walks s e.same) e.single))
-      (λ z a g. had_done (left_by (with_store (record (event_begun x) { store = s }) z) a refl g.0 g.1))))
-      (λ y a g. had_then (ended_same (waiting_count by_plain x.store) y.store) (λ z _ e. had_done (stays_left y a z e g)))
+      had_weaker (had_both half_left (stays_by x (background_based by_plain x) (background_goes by_plain x.plans x.history x (begins x))))
+      (λ y a k. left_by y a k.1 k.0)

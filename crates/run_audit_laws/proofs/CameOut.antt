@@ -16,7 +16,7 @@ use Rattle.ckd_types.specs.Parameters.{is_provisional}
 use Rattle.ckd_types.specs.Sense.{data_check_sense, equipment_sense}
 use Rattle.ckd_rules.specs.declared.stance.Stance.{Stance}
 use Rattle.ckd_rules.specs.Ending.{check}
-use Rattle.ckd_rules.specs.Ends.{end_of}
+use Rattle.ckd_rules.specs.Ends.{end_at_word}
 use Rattle.ckd_rules.specs.Walk.{TrackEdit}
 use Rattle.plain_defs.specs.declared.journal.Act.{Act}
 use Rattle.plain_defs.specs.declared.journal.Act.TheVariants.{Loosen, Harden, CfwLost}
@@ -40,7 +40,7 @@ use Rattle.plain_defs.specs.Legal.{
   next_edit,
   track_of,
 }
-use Rattle.plain_defs.specs.Loose.{act_done, is_loose, is_loose_in}
+use Rattle.plain_defs.specs.Loose.{act_done, is_loose_there, is_loose_in}
 use Rattle.plain_defs.specs.PlainState.{LooseTrack, PathsState, PlainState}
 use Rattle.plain_defs.specs.Program as P
 use Rattle.plain_defs.specs.Program.{Part, acts_at, acts_done, part_of}
@@ -115,7 +115,7 @@ done_both s (x ∷ xs) ys = done_both (act_done s x) xs ys
 -- tracks that become firm, and at the end one that becomes loose
 pub data Parted (s : PlainState) (edited : Option ℕ) : List Act → Type 0 where
   firm : (acts : List Act) → AreActs s None acts → Parted s edited acts
-  loosens : (acts : List Act) (t : ℕ) → AreActs s None acts → is_loose (acts_done s acts) t ≡ false → edited ≡ Some t →
+  loosens : (acts : List Act) (t : ℕ) → AreActs s None acts → is_loose_there (acts_done s acts) t ≡ false → edited ≡ Some t →
       Parted s edited (acts ++ Loosen t ∷ [])
 
 more_parted : (s : PlainState) (edited : Option ℕ) (act : Act) (acts : List Act) →
@@ -174,7 +174,7 @@ module _ (s : PlainState) (path : ℕ) (ccws : List Ccw) (xs : List Acted) (n : 
 
   beside_behind : IsBeside bare behind
   beside_behind =
-      subst (λ (p : Part). IsBeside bare p) (sym (part_is_acted path ccws s more n ∙ ap (λ (p : Part). P.acted more p)
+      subst (λ (p : Part). IsBeside bare p) (sym (part_is_acted path ccws s more n ∙ ap (λ (p : Part). P.acts_made more p)
       (same_bare s path ccws n acts xs))) (acted_beside more bare)
 
   same_next : behind.next ≡ before.next
@@ -225,7 +225,7 @@ module _ (s : PlainState) (path : ℕ) (ccws : List Ccw) (xs : List Acted) (n : 
     same_edit = ap (λ (k : Option ℕ). edit_at path ccws behind k) same_next ∙ same_edit_at before.next
 
     same_plain_end : (next : Option ℕ) → plain_end_at path ccws behind next ≡ plain_end_at path ccws before next
-    same_plain_end (Some i) = ap (λ (e : Effect). Some (end_of i (ccw_at ccws i) e.outcome)) (same_effect (ccw_at ccws i))
+    same_plain_end (Some i) = ap (λ (e : Effect). Some (end_at_word i (ccw_at ccws i) e.outcome)) (same_effect (ccw_at ccws i))
     same_plain_end None = refl
 
   one_end : (e f : CommandEnd) (l : List CommandEnd) → l ++ e ∷ [] ≡ l ++ f ∷ [] → e ≡ f
@@ -239,7 +239,7 @@ module _ (s : PlainState) (path : ℕ) (ccws : List Ccw) (xs : List Acted) (n : 
     none_some None is_none some_is = cc
     none_some (Some i) is_none some_is = cc
   end_is_plain ends e are longer (Some i) is some =
-      let f = end_of i (ccw_at ccws i) (effect_on behind.fixed behind.state path behind.stance (ccw_at ccws i)).outcome in
+      let f = end_at_word i (ccw_at ccws i) (effect_on behind.fixed behind.state path behind.stance (ccw_at ccws i)).outcome in
       ap (λ (x : CommandEnd). Some x) (one_end f e before.ends (sym (ap (λ (l : List CommandEnd). l ++ e ∷ []) (sym are) ∙ longer
       ∙ ap (λ (p : Part). p.ends) (part_more path ccws more s n)
       ∙ more_ends path ccws more behind i is
@@ -474,24 +474,24 @@ one_loose (x ∷ l) t track = by_test (x.track == t) (one_loose l t track) where
   by_test true rest = refl
   by_test false rest = rest
 
-loosens_by : (p : Part) (edit : Option TrackEdit) (t : ℕ) → track_of edit ≡ Some t → is_provisional p.stance.extent ≡ true → is_loose p.state t ≡ false →
+loosens_by : (p : Part) (edit : Option TrackEdit) (t : ℕ) → track_of edit ≡ Some t → is_provisional p.stance.extent ≡ true → is_loose_there p.state t ≡ false →
     A.loosens p edit t ≡ true
 loosens_by p (Some e) t is provisional not_loose =
     let same : e.track ≡ t = cc in
-    and_from ((e.track == t) && is_provisional p.stance.extent) (not (is_loose p.state t))
+    and_from ((e.track == t) && is_provisional p.stance.extent) (not (is_loose_there p.state t))
     (and_from (e.track == t) (is_provisional p.stance.extent) (ap (λ (k : ℕ). e.track == k) (sym same) ∙ same_number e.track) provisional)
     (ap not not_loose)
 loosens_by p None t is provisional not_loose = absurd (cc)
 
-provisional_by : (z : PlainState) (s : Stance) (edit : Option TrackEdit) (t : ℕ) → track_of edit ≡ Some t → is_loose z t ≡ true → MayEdit z s edit →
+provisional_by : (z : PlainState) (s : Stance) (edit : Option TrackEdit) (t : ℕ) → track_of edit ≡ Some t → is_loose_there z t ≡ true → MayEdit z s edit →
     is_provisional s.extent ≡ true
 provisional_by z s (Some e) t is loose may =
-    let same : e.track ≡ t = cc in may (ap (is_loose z) same ∙ loose)
+    let same : e.track ≡ t = cc in may (ap (is_loose_there z) same ∙ loose)
 provisional_by z s None t is loose may = absurd (cc)
 
 module _ (a : AuditedDevice) (plainly : IsPlain a.plans a.empty a.history) (o : OpenEntry) (running : a.history.running ≡ Some o) where
   loosely_so : (bs : List Act) (t : ℕ) (e : CommandEnd) → NoLoss (bs ++ Loosen t ∷ []) → AreActs (state_of a) None bs →
-      is_loose (acts_done (state_of a) bs) t ≡ false →
+      is_loose_there (acts_done (state_of a) bs) t ≡ false →
       track_of (next_edit o.path (words_of_open a o) (part_of_open a o)) ≡ Some t → HasOneMore a plainly (bs ++ Loosen t ∷ []) o running e →
       EndsSo a o e (bs ++ Loosen t ∷ [])
   loosely_so bs t e none are not_loose edits has =
@@ -506,16 +506,16 @@ module _ (a : AuditedDevice) (plainly : IsPlain a.plans a.empty a.history) (o : 
       let q = part_of s o.path ccws (o.acts ++ map (behind_ends n) all) n in
       let z = part_of s o.path ccws (o.acts ++ map (behind_ends n) bs) n in
       let state = state_is a plainly bs o running in
-      let loose : is_loose q.state t ≡ true =
-      ap (λ (y : PlainState). is_loose y t) (state_behind s o.path ccws o.acts n many runs all ∙ done_both p.state bs (Loosen t ∷ []))
+      let loose : is_loose_there q.state t ≡ true =
+      ap (λ (y : PlainState). is_loose_there y t) (state_behind s o.path ccws o.acts n many runs all ∙ done_both p.state bs (Loosen t ∷ []))
       ∙ one_loose (acts_done p.state bs).loose t _ in
       let edits_q : track_of (next_edit o.path ccws q) ≡ Some t = ap track_of (same_edit s o.path ccws o.acts n many runs all none) ∙ edits in
       let edits_z : track_of (next_edit o.path ccws z) ≡ Some t = ap track_of (same_edit s o.path ccws o.acts n many runs bs front) ∙ edits in
       let provisional : is_provisional z.stance.extent ≡ true =
       ap (λ (y : Stance). is_provisional y.extent) (same_stance s o.path ccws o.acts n many runs bs ∙ sym (same_stance s o.path ccws o.acts n many runs all))
       ∙ provisional_by q.state q.stance (next_edit o.path ccws q) t edits_q loose has.point.edit_is in
-      let firm_z : is_loose z.state t ≡ false =
-      ap (λ (y : PlainState). is_loose y t) (state_behind s o.path ccws o.acts n many runs bs ∙ ap (λ (y : PlainState). acts_done y bs) (sym state))
+      let firm_z : is_loose_there z.state t ≡ false =
+      ap (λ (y : PlainState). is_loose_there y t) (state_behind s o.path ccws o.acts n many runs bs ∙ ap (λ (y : PlainState). acts_done y bs) (sym state))
       ∙ not_loose in
       loosely bs t (end_plain a plainly all o running none e has) front are
       (ap (λ (h : History). may_loosen (record a { history = h }) h.running t) (acts_run bs a.history o running)

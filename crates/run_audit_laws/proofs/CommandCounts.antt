@@ -24,8 +24,8 @@ use Rattle.ckd_rules.specs.declared.opening.Opening.{Opening}
 use Rattle.ckd_rules.specs.declared.opening.Opening.TheVariants as openings
 use Rattle.ckd_rules.specs.declared.order.Look.{Look}
 use Rattle.ckd_rules.specs.declared.order.Look.TheVariants as looks
-use Rattle.ckd_rules.specs.declared.order.Order.{Order}
-use Rattle.ckd_rules.specs.declared.order.Order.TheVariants as orders
+use Rattle.ckd_rules.specs.declared.order.CommandOrder.{CommandOrder}
+use Rattle.ckd_rules.specs.declared.order.CommandOrder.TheVariants as orders
 use Rattle.ckd_rules.specs.declared.stance.After.{After}
 use Rattle.ckd_rules.specs.declared.stance.After.TheVariants as afters
 use Rattle.ckd_rules.specs.declared.stance.Place.{Place}
@@ -39,7 +39,7 @@ use Rattle.ckd_rules.specs.Formats.{key_given, body_given, has_room_behind, is_z
 use Rattle.ckd_rules.specs.Control.{located, unseen_place}
 use Rattle.ckd_rules.specs.Look.{look_on}
 use Rattle.ckd_rules.specs.Looked.{Looked}
-use Rattle.ckd_rules.specs.Opening.{moved, read_from, look_from, locating, begun, opened_by, opening_of}
+use Rattle.ckd_rules.specs.Opening.{moved, read_from, look_from, locating, begun, opening_with, opening_of}
 use Rattle.ckd_rules.specs.Reads.{record_at, read_place, read_passes, read_after, read_sought}
 use Rattle.ckd_rules.specs.Searches.{search_sought}
 use Rattle.ckd_rules.specs.Stance.{one_less}
@@ -191,7 +191,7 @@ module _ (s : Stance) where
   locates c d (Some place) = refl
   locates c d None = refl
 
-  begins : (c : Ccw) (order : Order) → OpensBy s.commands (begun s c order).stance (begun s c order).opening
+  begins : (c : Ccw) (order : CommandOrder) → OpensBy s.commands (begun s c order).stance (begun s c order).opening
   begins c orders.Nothing = refl
   begins c (orders.Seeks t) = refl
   begins c orders.Recalibrates = refl
@@ -202,7 +202,7 @@ module _ (s : Stance) where
   begins c (orders.Looks look) = looks_on c look
   begins c (orders.Asks act) = tt
 
-  opens_by : (c : Ccw) (r : Result Order Sense) → OpensBy s.commands (opened_by s c r).stance (opened_by s c r).opening
+  opens_by : (c : Ccw) (r : Result CommandOrder Sense) → OpensBy s.commands (opening_with s c r).stance (opening_with s c r).opening
   opens_by c (Ok order) = begins c order
   opens_by c (Err sense) = refl
 

@@ -34,7 +34,7 @@ use Rattle.plain_defs.specs.declared.journal.Act.{Act}
 use Rattle.plain_defs.specs.declared.journal.Act.TheVariants.{Loosen}
 use Rattle.plain_defs.specs.History.{History, IsPlain, OpenEntry, acted, acted_in}
 use Rattle.plain_defs.specs.Legal.{AreActs}
-use Rattle.ckd_rules.specs.Ends.{end_of as end_of_command}
+use Rattle.ckd_rules.specs.Ends.{end_at_word as end_of_command}
 use Rattle.plain_defs.specs.Effect.{effect_on}
 use Rattle.device_defs.specs.Device.{all_acted}
 use Rattle.report_text.specs.declared.answers.HowOver.{HowOver}

@@ -4,15 +4,15 @@ use Rattle.std.specs.Prelude.{◌||◌, IsSome, Result, if◌then◌else◌}
 use Rattle.ckd_types.specs.declared.paths.Side.{Side}
 use Rattle.deck_plan.specs.declared.event.EventLine.{EventLine}
 use Rattle.deck_plan.specs.declared.event.EventLine.TheVariants as events
-use Rattle.deck_text.specs.declared.keyword.Part.{Part}
-use Rattle.deck_text.specs.declared.keyword.Part.TheVariants as parts
+use Rattle.deck_text.specs.declared.keyword.EventPart.{EventPart}
+use Rattle.deck_text.specs.declared.keyword.EventPart.TheVariants as parts
 use Rattle.deck_text.specs.declared.line.DeckWhy.{DeckWhy}
 use Rattle.deck_text.specs.declared.line.DeckWhy.TheVariants.{Number, Words}
 use Rattle.deck_text.specs.declared.line.DeviceLine.{DeviceLine}
 use Rattle.deck_text.specs.DeckLines.{DeckLines}
 use Rattle.deck_text.specs.Events.{device_words, failed_part, fail_by, pair_words, part_words, side_words}
 use Rattle.deck_text.specs.Events as V
-use Rattle.deck_text.specs.Forms.{and_then, declared, device_of, is_declared, needed, path_and_device, path_of}
+use Rattle.deck_text.specs.Forms.{then_read, declared, device_of, is_declared, needed, path_and_device, path_of}
 use Rattle.deck_text.specs.Forms as F
 use Rattle.deck_text.specs.Numbers.{number_in}
 use Rattle.deck_text.specs.Parse.{parsed}
@@ -60,15 +60,15 @@ module _ (devices : List DeviceLine) where
 
   of_path : (words : List (List ℕ)) (at : ℕ × ℕ) → path_and_device devices words ≡ Ok at → is_declared devices at.1 ≡ true
   of_path words at h =
-      let a = went (needed Words (two_words words)) (λ w. and_then (path_of w.0) (λ p. and_then (device_of devices w.1) (λ d. Ok (p, d)))) at h in
-      let b = went (path_of a.value.0) (λ p. and_then (device_of devices a.value.1) (λ d. Ok (p, d))) at a.second in
+      let a = went (needed Words (two_words words)) (λ w. then_read (path_of w.0) (λ p. then_read (device_of devices w.1) (λ d. Ok (p, d)))) at h in
+      let b = went (path_of a.value.0) (λ p. then_read (device_of devices a.value.1) (λ d. Ok (p, d))) at a.second in
       let c = went (device_of devices a.value.1) (λ d. Ok (b.value, d)) at b.second in
       subst (λ (n : ℕ). is_declared devices n ≡ true) (same_pair b.value c.value at c.second).1 (of_word a.value.1 c.value c.first)
 
   of_pair : (words : List (List ℕ)) (at : ℕ × ℕ) → pair_words devices words ≡ Ok at → (is_declared devices at.0 ≡ true) × (is_declared devices at.1 ≡ true)
   of_pair words at h =
-      let a = went (needed Words (two_words words)) (λ w. and_then (device_of devices w.0) (λ x. and_then (device_of devices w.1) (λ y. Ok (x, y)))) at h in
-      let b = went (device_of devices a.value.0) (λ x. and_then (device_of devices a.value.1) (λ y. Ok (x, y))) at a.second in
+      let a = went (needed Words (two_words words)) (λ w. then_read (device_of devices w.0) (λ x. then_read (device_of devices w.1) (λ y. Ok (x, y)))) at h in
+      let b = went (device_of devices a.value.0) (λ x. then_read (device_of devices a.value.1) (λ y. Ok (x, y))) at a.second in
       let c = went (device_of devices a.value.1) (λ y. Ok (b.value, y)) at b.second in
       let same = same_pair b.value c.value at c.second in (
         subst (λ (n : ℕ). is_declared devices n ≡ true) same.0 (of_word a.value.0 b.value b.first),
@@ -80,25 +80,25 @@ module _ (devices : List DeviceLine) where
 
   of_side : (device side : List ℕ) (at : ℕ × Side) → side_words devices device side ≡ Ok at → is_declared devices at.0 ≡ true
   of_side device side at h =
-      let a = went (needed Words (F.side_of side)) (λ s. and_then (device_of devices device) (λ d. Ok (d, s))) at h in
+      let a = went (needed Words (F.side_by_word side)) (λ s. then_read (device_of devices device) (λ d. Ok (d, s))) at h in
       let b = went (device_of devices device) (λ d. Ok (d, a.value)) at a.second in
       subst (λ (n : ℕ). is_declared devices n ≡ true) (same_side b.value a.value at b.second) (of_word device b.value b.first)
 
   -- an event of one device
   of_device : (f : ℕ → EventLine) → ((x y : ℕ) → ◌≡◌ {A = Result EventLine DeckWhy} (Ok (f x)) (Ok (f y)) → x ≡ y) → (words : List (List ℕ)) (d : ℕ) →
-      and_then (device_words devices words) (λ x. Ok (f x)) ≡ Ok (f d) → is_declared devices d ≡ true
+      then_read (device_words devices words) (λ x. Ok (f x)) ≡ Ok (f d) → is_declared devices d ≡ true
   of_device f same words d h =
       let a = went (device_words devices words) (λ x. Ok (f x)) (f d) h in
       subst (λ (n : ℕ). is_declared devices n ≡ true) (same a.value d a.second) (of_one words a.value a.first)
 
   -- or of a path and a device
   of_both : (f : ℕ → ℕ → EventLine) → ((p q x y : ℕ) → ◌≡◌ {A = Result EventLine DeckWhy} (Ok (f p x)) (Ok (f q y)) → x ≡ y) → (words : List (List ℕ))
-      (p d : ℕ) → and_then (path_and_device devices words) (λ at. Ok (f at.0 at.1)) ≡ Ok (f p d) → is_declared devices d ≡ true
+      (p d : ℕ) → then_read (path_and_device devices words) (λ at. Ok (f at.0 at.1)) ≡ Ok (f p d) → is_declared devices d ≡ true
   of_both f same words p d h =
       let a = went (path_and_device devices words) (λ at. Ok (f at.0 at.1)) (f p d) h in
       subst (λ (n : ℕ). is_declared devices n ≡ true) (same a.value.0 p a.value.1 d a.second) (of_path words a.value a.first)
 
-  no_part : (part : Part) (d : ℕ) (side : Side) → ◌≡◌ {A = Result EventLine DeckWhy} (Ok (failed_part part)) (Ok (events.FailVolume d side)) → ⊥
+  no_part : (part : EventPart) (d : ℕ) (side : Side) → ◌≡◌ {A = Result EventLine DeckWhy} (Ok (failed_part part)) (Ok (events.FailVolume d side)) → ⊥
   no_part parts.Cache d side h = cc
   no_part parts.Store d side h = cc
 
@@ -116,7 +116,7 @@ module _ (devices : List DeviceLine) where
   of_volume None words d side h =
       let a = went (part_words words) (λ part. Ok (failed_part part)) (events.FailVolume d side) h in absurd (no_part a.value d side a.second)
   of_volume (Some w) words d side h = by_test (V.is_volume w.0) h where
-    by_test : (b : Bool) → (if b then and_then (side_words devices w.1 w.2) (λ at. Ok (events.FailVolume at.0 at.1)) else Err Words)
+    by_test : (b : Bool) → (if b then then_read (side_words devices w.1 w.2) (λ at. Ok (events.FailVolume at.0 at.1)) else Err Words)
         ≡ Ok (events.FailVolume d side) → is_declared devices d ≡ true
     by_test true is =
         let a = went (side_words devices w.1 w.2) (λ at. Ok (events.FailVolume at.0 at.1)) (events.FailVolume d side) is in
@@ -138,7 +138,7 @@ module _ (devices : List DeviceLine) where
   of_event events.RepairStore ok = tt
   of_event (events.Replace d side) ok =
       let words = behind_of (events.Replace d side) in
-      let a = went (needed Words (two_words words)) (λ w. and_then (side_words devices w.0 w.1) (λ at. Ok (events.Replace at.0 at.1)))
+      let a = went (needed Words (two_words words)) (λ w. then_read (side_words devices w.0 w.1) (λ at. Ok (events.Replace at.0 at.1)))
       (events.Replace d side) ok.again in
       let b = went (side_words devices a.value.0 a.value.1) (λ at. Ok (events.Replace at.0 at.1)) (events.Replace d side) a.second in
       subst (λ (n : ℕ). is_declared devices n ≡ true) (replace_is b.value.0 d b.value.1 side b.second) (of_side a.value.0 a.value.1 b.value b.first)

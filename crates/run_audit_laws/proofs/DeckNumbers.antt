@@ -6,7 +6,7 @@ use Rattle.std.proofs.lemmas.List.Folds.{list_all-append}
 use Rattle.deck_text.specs.declared.line.DeckWhy.TheVariants.{Words, Number}
 use Rattle.deck_text.specs.declared.line.DeviceLine.{DeviceLine}
 use Rattle.deck_text.specs.DeckLines.{DeckLines}
-use Rattle.deck_text.specs.Forms.{and_then, device_line, needed, rises, rising}
+use Rattle.deck_text.specs.Forms.{then_read, device_line, needed, rises, rising}
 use Rattle.deck_text.specs.Numbers.{geometry_of, number_in}
 use Rattle.deck_text.specs.Parse.{parsed}
 use Rattle.deck_text.specs.Words.{three_words}
@@ -27,14 +27,14 @@ if_so false x y h = absurd (cc)
 rises_of : (before : List DeviceLine) (words : List (List ℕ)) (d : DeviceLine) → device_line before words ≡ Ok d → rises before d.number ≡ true
 rises_of before words d h =
     let a = went (needed Words (three_words words))
-    (λ w. and_then (needed Number (number_in 0 15 w.0))
-    (λ n. and_then (needed Number (geometry_of w.1))
-    (λ g. and_then (needed Number (number_in 1 64 w.2)) (λ c. rising before (record { number = n; geometry = g; cylinders = c }))))) d h in
+    (λ w. then_read (needed Number (number_in 0 15 w.0))
+    (λ n. then_read (needed Number (geometry_of w.1))
+    (λ g. then_read (needed Number (number_in 1 64 w.2)) (λ c. rising before (record { number = n; geometry = g; cylinders = c }))))) d h in
     let b = went (needed Number (number_in 0 15 a.value.0))
-    (λ n. and_then (needed Number (geometry_of a.value.1))
-    (λ g. and_then (needed Number (number_in 1 64 a.value.2)) (λ c. rising before (record { number = n; geometry = g; cylinders = c })))) d a.second in
+    (λ n. then_read (needed Number (geometry_of a.value.1))
+    (λ g. then_read (needed Number (number_in 1 64 a.value.2)) (λ c. rising before (record { number = n; geometry = g; cylinders = c })))) d a.second in
     let e = went (needed Number (geometry_of a.value.1))
-    (λ g. and_then (needed Number (number_in 1 64 a.value.2)) (λ c. rising before (record { number = b.value; geometry = g; cylinders = c }))) d b.second
+    (λ g. then_read (needed Number (number_in 1 64 a.value.2)) (λ c. rising before (record { number = b.value; geometry = g; cylinders = c }))) d b.second
     in
     let f = went (needed Number (number_in 1 64 a.value.2)) (λ c. rising before (record { number = b.value; geometry = e.value; cylinders = c })) d e.second in
     let same = if_so (rises before b.value) (record { number = b.value; geometry = e.value; cylinders = f.value }) d f.second in

@@ -11,18 +11,18 @@ use Rattle.deck_text.specs.declared.line.DeckWhy.TheVariants.{Word}
 use Rattle.deck_text.specs.declared.line.Which.TheVariants.{Size}
 use Rattle.deck_text.specs.DeckLines.{DeckLines}
 use Rattle.deck_text.specs.Keywords as K
-use Rattle.deck_text.specs.Lines.{is_passed_over, lines_of, onto_first}
-use Rattle.deck_text.specs.Parse.{or_stop, parsed, read_lines, start}
+use Rattle.deck_text.specs.Lines.{is_passed_over, text_lines, onto_first}
+use Rattle.deck_text.specs.Parse.{or_stop, parsed, read_lines, reading_begun}
 use Rattle.deck_text.specs.Reading.{State, take_line}
 use Rattle.report_auditor.specs.Verdict.{ended_line, report_from}
 use Rattle.run_audit_laws.proofs.Feeds.{AreWhole, is_whole}
 
 -- a line of a reading ends at the same line feed
 abbrev BeginsLine : List ℕ → List ℕ → Type 0
-BeginsLine bytes rest = (y : List ℕ) × (lines_of bytes ≡ y ∷ lines_of rest)
+BeginsLine bytes rest = (y : List ℕ) × (text_lines bytes ≡ y ∷ text_lines rest)
 
 begins_by : (b : ℕ) (passed : Bool) (bytes rest : List ℕ) → BeginsLine bytes rest →
-    (y : List ℕ) × ((if passed then lines_of bytes else onto_first b (lines_of bytes)) ≡ y ∷ lines_of rest)
+    (y : List ℕ) × ((if passed then text_lines bytes else onto_first b (text_lines bytes)) ≡ y ∷ text_lines rest)
 begins_by b true bytes rest g = g
 begins_by b false bytes rest g = (b ∷ g.0, ap (onto_first b) g.1)
 
@@ -32,8 +32,8 @@ begins (b ∷ x) rest h =
     let p = and_parts (not (b == 10)) (is_whole x) h in
     let g = begins_by b (is_passed_over b (x ++ 10 ∷ rest)) (x ++ 10 ∷ rest) rest (begins x rest p.1) in (
       g.0,
-      ap (λ (c : Bool). if c then [] ∷ lines_of (x ++ 10 ∷ rest)
-          else if is_passed_over b (x ++ 10 ∷ rest) then lines_of (x ++ 10 ∷ rest) else onto_first b (lines_of (x ++ 10 ∷ rest))) (not-true (b == 10) p.0)
+      ap (λ (c : Bool). if c then [] ∷ text_lines (x ++ 10 ∷ rest)
+          else if is_passed_over b (x ++ 10 ∷ rest) then text_lines (x ++ 10 ∷ rest) else onto_first b (text_lines (x ++ 10 ∷ rest))) (not-true (b == 10) p.0)
           ∙ g.1,
     )
 
@@ -42,15 +42,15 @@ refused : (n : ℕ) (s : State) → take_line n (codes "REPORT") s ≡ Err (Refu
 unfolding K.head_of K.event_word_of
 refused n s = refl
 
-report_ends : (m : ℕ) (s : State) (rest : List ℕ) → read_lines m s (lines_of (codes "REPORT" ++ 10 ∷ rest)) ≡ Err (Refused m Word)
-report_ends m s rest = ap (λ (r : Result State DeckFault). or_stop r (λ t. read_lines (m + 1) t (lines_of rest))) (refused m s)
+report_ends : (m : ℕ) (s : State) (rest : List ℕ) → read_lines m s (text_lines (codes "REPORT" ++ 10 ∷ rest)) ≡ Err (Refused m Word)
+report_ends m s rest = ap (λ (r : Result State DeckFault). or_stop r (λ t. read_lines (m + 1) t (text_lines rest))) (refused m s)
 
 -- what is read goes on behind a line
 module _ (deck : DeckLines) where
   abbrev Reads : ℕ → List ℕ → Type 0
-  Reads m bytes = (s : State) × (read_lines m s (lines_of bytes) ≡ Ok deck)
+  Reads m bytes = (s : State) × (read_lines m s (text_lines bytes) ≡ Ok deck)
 
-  goes_on : (m : ℕ) (rest : List ℕ) (r : Result State DeckFault) → or_stop r (λ t. read_lines (m + 1) t (lines_of rest)) ≡ Ok deck → Reads (m + 1) rest
+  goes_on : (m : ℕ) (rest : List ℕ) (r : Result State DeckFault) → or_stop r (λ t. read_lines (m + 1) t (text_lines rest)) ≡ Ok deck → Reads (m + 1) rest
   goes_on m rest (Ok t) h = (t, h)
   goes_on m rest (Err fault) h = absurd (cc)
 
@@ -63,7 +63,7 @@ module _ (deck : DeckLines) where
       report_from (n + 1) xs ≡ None → (if b then Some n else report_from (n + 1) xs) ≡ None
   none_by n m x rest xs false is g none = none
   none_by n m x rest xs true is g none =
-      let same = ap (λ (l : List ℕ). read_lines m g.0 (lines_of (l ++ 10 ∷ rest))) ((bytes_eq-Decides x (codes "REPORT")).0 is) in
+      let same = ap (λ (l : List ℕ). read_lines m g.0 (text_lines (l ++ 10 ∷ rest))) ((bytes_eq-Decides x (codes "REPORT")).0 is) in
       let both : Err (Refused m Word) ≡ Ok deck = sym (report_ends m g.0 rest) ∙ sym same ∙ g.1 in
       absurd (cc)
 
@@ -74,10 +74,10 @@ module _ (deck : DeckLines) where
       let h = subst (Reads m) (append_assoc x (codes "\n") rest) g in
       none_by n m x rest xs (bytes_eq x (codes "REPORT")) refl h (none_reports (n + 1) (m + 1) xs w.1 (read_behind m x rest w.0 h))
 
-sized : (text : List ℕ) (deck : DeckLines) (b : Bool) → (if b then Err (Limit Size) else read_lines 1 start (lines_of text)) ≡ Ok deck → read_lines 1 start (lines_of text) ≡ Ok deck
+sized : (text : List ℕ) (deck : DeckLines) (b : Bool) → (if b then Err (Limit Size) else read_lines 1 reading_begun (text_lines text)) ≡ Ok deck → read_lines 1 reading_begun (text_lines text) ≡ Ok deck
 sized text deck true h = absurd (cc)
 sized text deck false h = h
 
 pub read_has_none : (text : List ℕ) (deck : DeckLines) (xs : List (List ℕ)) → AreWhole xs → flat_map ended_line xs ≡ text → parsed text ≡ Ok deck → report_from 0 xs ≡ None
 read_has_none text deck xs w is read =
-    none_reports deck 0 1 xs w (start, ap (λ (t : List ℕ). read_lines 1 start (lines_of t)) is ∙ sized text deck (nat_lt 16777216 (length text)) read)
+    none_reports deck 0 1 xs w (reading_begun, ap (λ (t : List ℕ). read_lines 1 reading_begun (text_lines t)) is ∙ sized text deck (nat_lt 16777216 (length text)) read)

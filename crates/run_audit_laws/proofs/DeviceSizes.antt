@@ -19,7 +19,7 @@ use Rattle.device_defs.specs.Contents.{by_plain}
 use Rattle.device_defs.specs.Cutting.{power, reset}
 use Rattle.device_defs.specs.Events.{background, lose, second}
 use Rattle.device_defs.specs.Marks.{MarksDevice}
-use Rattle.device_defs.specs.Orders.{hold, join, replace, resume, split}
+use Rattle.device_defs.specs.Orders.{hold_side, join, replace, resume, split}
 use Rattle.device_defs.specs.Start as S
 use Rattle.device_defs.specs.Start.{start}
 use Rattle.device_laws.proofs.Based.{Any, Base, Based, based_any, kept}
@@ -96,7 +96,7 @@ sized_kept = record {
       (λ t. (at (lose_goes by_plain d.plans d.history d (losses.Side side) (its_own d)) t).plans) s;
   lost_power = λ d s. stays d (power by_plain d) (with_one_loss losses.Cache (kept d.store)) refl refl refl (power_based by_plain d)
       (λ t. (power_shape d t).1) s;
-  held = λ d fault s. sized_as d (hold d) refl refl refl refl s;
+  held = λ d fault s. sized_as d (hold_side d) refl refl refl refl s;
   resumed = λ d fault s. sized_as d (resume d) refl refl refl refl s;
   replaced = λ d side fault s. replace_sized d side s;
   lent = λ x y fault r s t.

@@ -31,7 +31,7 @@ use Rattle.plain_defs.specs.Acts.{act_fault, act_outcome}
 use Rattle.plain_defs.specs.Effect.{acted_by, effect_by, effect_on}
 use Rattle.plain_defs.specs.PlainState.{PathsState, PlainState}
 use Rattle.plain_defs.specs.Program as P
-use Rattle.plain_defs.specs.Program.{Part, part_of, stepped, stepped_at}
+use Rattle.plain_defs.specs.Program.{Part, part_of, command_run, stepped_at}
 use Rattle.plain_defs.proofs.PartLemmas.{acted_beside}
 use Rattle.deck_audit.specs.Device.{plain_end_at}
 use Rattle.device_laws.proofs.ChainTracks.{FurtherBy, look_further, whole_cylinders}
@@ -116,7 +116,7 @@ unfolding P.part_of
 part_fixed path ccws xs state zero = ap (λ (f : Fixed). f.cylinders) (acted_beside xs (P.first_part state path ccws)).fixed
 part_fixed path ccws xs state (suc k) =
     let p = part_of state path ccws xs k in
-    ap (λ (f : Fixed). f.cylinders) (acted_beside xs (stepped path ccws p)).fixed ∙ stepped_fixed p p.next ∙ part_fixed path ccws xs state k where
+    ap (λ (f : Fixed). f.cylinders) (acted_beside xs (command_run path ccws p)).fixed ∙ stepped_fixed p p.next ∙ part_fixed path ccws xs state k where
       stepped_fixed : (p : Part) (next : Option ℕ) → (stepped_at path ccws p next).fixed.cylinders ≡ p.fixed.cylinders
       stepped_fixed p (Some i) = refl
       stepped_fixed p None = refl
@@ -126,7 +126,7 @@ module _ (path : ℕ) (ccws : List Ccw) (xs : List Acted) (state : PlainState) (
     fixed : p.fixed.cylinders ≡ state.cylinders
     on : On (state.cylinders * 15) p.stance
 
-  acted_stands : (p : Part) → StandsOn p → StandsOn (P.acted xs p)
+  acted_stands : (p : Part) → StandsOn p → StandsOn (P.acts_made xs p)
   acted_stands p h =
       let b = acted_beside xs p in
       record {
@@ -153,7 +153,7 @@ module _ (path : ℕ) (ccws : List Ccw) (xs : List Acted) (state : PlainState) (
   part_stands zero =
       acted_stands (P.first_part state path ccws) (record { fixed = refl; on = record { track = omega (arith, some); extent = tt } })
   part_stands (suc k) =
-      let p = part_of state path ccws xs k in acted_stands (stepped path ccws p) (stepped_stands p p.next (part_stands k))
+      let p = part_of state path ccws xs k in acted_stands (command_run path ccws p) (stepped_stands p p.next (part_stands k))
 
   end_at : (p : Part) → StandsOn p → (next : Option ℕ) (e : CommandEnd) → plain_end_at path ccws p next ≡ Some e → IsOther e.sense
   end_at p h (Some i) e is =

@@ -8,7 +8,7 @@ use Rattle.deck_plan.specs.declared.event.EventLine.{EventLine}
 use Rattle.deck_plan.specs.declared.event.EventLine.TheVariants as events
 use Rattle.plain_defs.specs.declared.journal.Act.TheVariants.{Harden}
 use Rattle.plain_defs.specs.History.{IsPlain, acted}
-use Rattle.plain_defs.specs.Loose.{is_loose}
+use Rattle.plain_defs.specs.Loose.{is_loose_there}
 use Rattle.plain_defs.specs.PlainState.{PlainState}
 use Rattle.device_defs.specs.Marks.{MarksDevice}
 use Rattle.report_text.specs.declared.answers.LooseAnswer.TheVariants as loose
@@ -114,22 +114,22 @@ module _ (xs : List AuditedDevice) (w : EventLine) (d : ℕ) (side : Side) (late
       record Firmer (u : AuditState) : Type 0 where
         zs : List AuditedDevice
         stands : u ≡ before zs
-        is : is_loose (state_of a) track ≡ true
+        is : is_loose_there (state_of a) track ≡ true
         done : IsDone (firmer track a) zs
 
-      by_test : (b : AuditedDevice) → Alike (worked a did) b → (u : AuditState) (c : Bool) → is_loose (state_of b) track ≡ c →
+      by_test : (b : AuditedDevice) → Alike (worked a did) b → (u : AuditState) (c : Bool) → is_loose_there (state_of b) track ≡ c →
           or_history (if c then Some (act_made (before ys) b (Harden track) Next) else None) ≡ Ok u → Firmer u
       by_test b is u true so made = record {
         zs = with_device ys (firmer track b);
         stands = cc;
-        is = sym (loose_behind a track did k.tidy k.quiet track) ∙ ap (λ (s : PlainState). is_loose s track) (state_same (worked a did) b is) ∙ so;
+        is = sym (loose_behind a track did k.tidy k.quiet track) ∙ ap (λ (s : PlainState). is_loose_there s track) (state_same (worked a did) b is) ∙ so;
         done = still_done b is;
       }
       by_test b is u false so made = absurd (cc)
 
       by_device : (x : Option AuditedDevice) → AlikeFound (Some (worked a did)) x → (u : AuditState) →
           or_history (then_of x (λ b. harden_made (before ys) b track Next)) ≡ Ok u → Firmer u
-      by_device (Some b) is u made = by_test b is u (is_loose (state_of b) track) refl made
+      by_device (Some b) is u made = by_test b is u (is_loose_there (state_of b) track) refl made
       by_device None is u made = absurd is
 
       firm_too : (u : AuditState) → judged (before ys) (lines.Loose n (loose.Harden track)) ≡ Ok u → Firmer u

@@ -22,8 +22,8 @@ use Rattle.report_text.specs.declared.answers.LooseAnswer.{LooseAnswer}
 use Rattle.report_text.specs.declared.answers.LooseAnswer.TheVariants as loose
 use Rattle.report_text.specs.declared.answers.OrderAnswer.{OrderAnswer}
 use Rattle.report_text.specs.declared.answers.OrderAnswer.TheVariants as order_answers
-use Rattle.report_text.specs.declared.answers.OrderFault.{OrderFault}
-use Rattle.report_text.specs.declared.answers.OrderFault.TheVariants as faults
+use Rattle.report_text.specs.declared.answers.OrderRefusal.{OrderRefusal}
+use Rattle.report_text.specs.declared.answers.OrderRefusal.TheVariants as faults
 use Rattle.report_text.specs.declared.answers.StartAnswer.{StartAnswer}
 use Rattle.report_text.specs.declared.answers.StartAnswer.TheVariants as start
 use Rattle.report_text.specs.declared.answers.SumOf.{SumOf}
@@ -33,7 +33,7 @@ use Rattle.report_text.specs.declared.line.ReportLine.TheVariants as lines
 use Rattle.report_text.specs.declared.order.Order.{Order}
 use Rattle.report_text.specs.declared.order.Order.TheVariants as orders
 use Rattle.report_text.specs.Keywords.{keyword_text}
-use Rattle.report_text.specs.Lines.{key_of, text_of, words_of}
+use Rattle.report_text.specs.Lines.{key_of, text_of, words_in_line}
 use Rattle.report_text.specs.Numbers.{are_digits, is_digit, value_after}
 use Rattle.report_text.specs.Words.{
   all_spaced,
@@ -182,7 +182,7 @@ over_whole how.Full h = refl
 over_whole how.Checked h = refl
 over_whole (how.Cut n) h = rw (short_whole n h) refl
 
-fault_whole : (x : OrderFault) → IsFault x → are_whole (fault_words x) ≡ true
+fault_whole : (x : OrderRefusal) → IsFault x → are_whole (fault_words x) ≡ true
 fault_whole faults.Same h = refl
 fault_whole (faults.Lent n) h = rw (device_whole n h) refl
 fault_whole faults.Paired h = refl
@@ -213,7 +213,7 @@ mark_whole false = refl
 
 record Whole (line : ReportLine) : Type 0 where
   first : is_whole (keyword_text (key_of line)) ≡ true
-  others : are_whole (words_of line) ≡ true
+  others : are_whole (words_in_line line) ≡ true
 
 order_whole : (order : Order) (a : OrderAnswer) → IsOrder order → IsAnswer a → Whole (lines.Order order a)
 order_whole orders.FailCache a h g = record { first = refl; others = rw (answer_whole a g) refl }
@@ -275,7 +275,7 @@ whole (lines.Sum of n) h = sum_whole of n h
 pub text_whole : (line : ReportLine) → IsLine line → is_whole (text_of line) ≡ true
 unfolding text_of
 text_whole line h =
-    let w = whole line h in both_whole (keyword_text (key_of line)) (all_spaced (words_of line)) w.first (spaced_whole (words_of line) w.others)
+    let w = whole line h in both_whole (keyword_text (key_of line)) (all_spaced (words_in_line line)) w.first (spaced_whole (words_in_line line) w.others)
 
 abbrev pub AreWhole : List (List ℕ) → Type 0
 AreWhole [] = Unit {0}

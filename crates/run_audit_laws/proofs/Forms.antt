@@ -34,12 +34,12 @@ use Rattle.subsystem_defs.specs.declared.end.EventEnd.TheVariants as ends
 use Rattle.subsystem_defs.specs.declared.event.Event.{Event}
 use Rattle.subsystem_defs.specs.declared.event.Event.TheVariants as events
 use Rattle.subsystem_defs.specs.Beside.{loose_told, new_items}
-use Rattle.subsystem_defs.specs.Closing.{Counted, DeviceEnd, Ending, LentTo, ending}
+use Rattle.subsystem_defs.specs.Closing.{Counted, DeviceEnd, RunEnding, LentTo, ending}
 use Rattle.subsystem_defs.specs.Decks as D
 use Rattle.subsystem_defs.specs.Decks.{opened, run_of}
 use Rattle.subsystem_defs.specs.Deeds as E
 use Rattle.subsystem_defs.specs.Happening as H
-use Rattle.subsystem_defs.specs.Happening.{Happened, happens, quietly, replaced, unpaired}
+use Rattle.subsystem_defs.specs.Happening.{EventHappened, happens, quietly, replaced, unpaired}
 use Rattle.subsystem_defs.specs.Lines.{Logged, Once, Replace, Run, Settle, Unpair, asked_by, logged, run_lines}
 use Rattle.subsystem_defs.specs.Subsystem.{Subsystem, devices_of, unfailing}
 use Rattle.subsystem_laws.proofs.RunLines.{AnyEvent, Goes, run_shows}
@@ -252,7 +252,7 @@ frames_formed : (fs : List Frame) → All Formed (map frame_line fs)
 frames_formed [] = All-nil Formed
 frames_formed (f ∷ fs) = All-cons Formed (frame_line f) (map frame_line fs) refl (frames_formed fs)
 
-ending_formed : (e : Ending) → All Formed (ending_lines e)
+ending_formed : (e : RunEnding) → All Formed (ending_lines e)
 ending_formed e =
     All-append Formed (flat_map device_lines e.devices) (map frame_line e.frames ++ lines.Finish ∷ []) (devices_formed e.devices)
     (All-append Formed (map frame_line e.frames) (lines.Finish ∷ []) (frames_formed e.frames) (one lines.Finish refl))

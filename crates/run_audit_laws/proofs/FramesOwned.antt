@@ -1,5 +1,5 @@
 -- In a run each frame of the pool is of a device of the deck, and of a track that the devices come to.
-use Rattle.std.proofs.Common.{◌≡◌, ◌==◌, ◌⊎◌, ℕ, Bool, true, false, List, [], ◌∷◌, map, Option, Some, None, cond, refl, sym, ap, subst, ◌∙◌, inl, inr, ◌≤◌, ◌+◌, length, arith}
+use Rattle.std.proofs.Common.{◌≡◌, ◌==◌, ◌⊎◌, ℕ, Bool, true, false, List, [], ◌∷◌, map, Option, Some, None, cond, refl, sym, ap, subst, ◌∙◌, inl, inr}
 use Rattle.std.specs.Prelude.{All, IfSome, if◌then◌else◌}
 use Rattle.std.specs.Map.{lookup_entry, remove_entry, set_value}
 use Rattle.std.specs.Option.{option_map_or}
@@ -13,9 +13,9 @@ use Rattle.track_image.specs.Image.{Image}
 use Rattle.device_outside.specs.Interaction.{Interaction, Done, and_then, Try, Ask, Read, Write, Tell}
 use Rattle.device_outside.specs.Keeper.{reply}
 use Rattle.device_outside.specs.Pool as O
-use Rattle.device_outside.specs.Pool.{AnswerTo, Call, DropFrame, Frame, FreeSlot, NextNotice, Pool, SetClean, SetModified, TellWaiting, Touch, WantFrame, WantSlot, after, all_waiting, answer, evicted, frames_wanted, grants, in_front, is_listed, is_of, less_frame, without}
+use Rattle.device_outside.specs.Pool.{AnswerTo, Call, DropFrame, Frame, FreeSlot, NextNotice, Pool, SetClean, SetModified, TellWaiting, Touch, WantFrame, WantSlot, after, all_waiting, answer, evicted, frames_wanted, grants, in_front, is_listed, is_of, less_frame, frame_removed}
 use Rattle.device_outside.specs.Told as Heard
-use Rattle.device_outside.specs.Told.{Calls, Told, calls_of, hold, read_counted, read_fails, write_counted, write_fails}
+use Rattle.device_outside.specs.Told.{Calls, Told, calls_of, hold, told_read, read_fails, told_write, write_fails}
 use Rattle.device_defs.specs.Command.{command}
 use Rattle.device_defs.specs.Contents.{by_plain}
 use Rattle.device_defs.specs.Cutting.{reset}
@@ -35,26 +35,7 @@ use Rattle.subsystem_defs.specs.Decks as D
 use Rattle.subsystem_defs.specs.Decks.{opened, run_of}
 use Rattle.subsystem_defs.specs.Deeds.{Asks, Becomes, Each, Ends, Lends, Repairs, deed, end_of, ends_done}
 use Rattle.subsystem_defs.specs.Happening as H
-use Rattle.subsystem_defs.specs.Happening.{
-  MarksDeed,
-  Talk,
-  asks,
-  becomes,
-  behind_outcome,
-  happens,
-  happens_by,
-  held_with,
-  joined,
-  lends,
-  replaced,
-  replaced_at,
-  replaced_by,
-  sweep,
-  told_to,
-  unpaired,
-  unpaired_at,
-  unpaired_by,
-}
+use Rattle.subsystem_defs.specs.Happening.{MarksDeed, Talk, asks, becomes, behind_outcome, happens, happens_by, held_with, joined, lends, replaced, replaced_at, replaced_by, sweep, told_to, unpaired, unpaired_at, unpaired_by}
 use Rattle.subsystem_defs.specs.Lines.{Logged, asked_by, run_lines}
 use Rattle.subsystem_defs.specs.Refusals.{replace_fault, unpair_fault}
 use Rattle.subsystem_defs.specs.Subsystem.{Mounted, Subsystem, devices_of, mounted_in, number_of, unfailing}
@@ -108,7 +89,7 @@ module _ (P T : ℕ → Type 0) where
 
   front_of : (fs : List Frame) (d t : ℕ) → AllOf fs → AllOf (in_front fs d t)
   front_of fs d t a =
-      front_by (lookup_entry (is_of d t) fs) fs (without fs d t) (looked_of (is_of d t) fs a) a (removed_of (is_of d t) fs a)
+      front_by (lookup_entry (is_of d t) fs) fs (frame_removed fs d t) (looked_of (is_of d t) fs a) a (removed_of (is_of d t) fs a)
 
   less_of : (fs : List Frame) (o : Option (ℕ × ℕ)) → AllOf fs → AllOf (less_frame fs o)
   less_of fs None a = a
@@ -134,11 +115,11 @@ module _ (P T : ℕ → Type 0) where
     after_of p (FreeSlot k) a own all = all
     after_of p (TellWaiting d k) a own all = all
 
-    read_of : (w : Told) (side : Side) → AllOf w.pool.frames → AllOf (read_counted w side).pool.frames
+    read_of : (w : Told) (side : Side) → AllOf w.pool.frames → AllOf (told_read w side).pool.frames
     read_of w sides.A all = all
     read_of w sides.B all = all
 
-    write_of : (w : Told) (side : Side) → AllOf w.pool.frames → AllOf (write_counted w side).pool.frames
+    write_of : (w : Told) (side : Side) → AllOf w.pool.frames → AllOf (told_write w side).pool.frames
     write_of w sides.A all = all
     write_of w sides.B all = all
 
@@ -152,9 +133,9 @@ module _ (P T : ℕ → Type 0) where
         let a = answer w.pool call in wants_of (k a) q (x.1 a) (record w { pool = after w.pool call a }) (after_of w.pool call a x.0 all)
     wants_of (Read side t k) q x w all =
         let got = if read_fails (calls_of w side) then None else Some true in
-        wants_of (k got) q (x got) (read_counted w side) (read_of w side all)
+        wants_of (k got) q (x got) (told_read w side) (read_of w side all)
     wants_of (Write side t r k) q x w all =
-        let ok = if write_fails (calls_of w side) then false else true in wants_of (k ok) q (x ok) (write_counted w side) (write_of w side all)
+        let ok = if write_fails (calls_of w side) then false else true in wants_of (k ok) q (x ok) (told_write w side) (write_of w side all)
     wants_of (Tell m k) q x w all = wants_of (k (reply m)) q (x (reply m)) w all
 
     held_of : {S A : Type 0} {i : Interaction Bool Image S A} {q : S → A → Type 0} → Own T n i q → (w : Told) → AllOf w.pool.frames →
@@ -164,18 +145,8 @@ module _ (P T : ℕ → Type 0) where
 -- Deeds
 
 module _ (P T : ℕ → Type 0) where
-  -- its queue may be as long as it is
-  abbrev most : MarksDevice → ℕ
-  most d = length d.store.queue + 64
-
-  room : (d : MarksDevice) → 64 ≤ most d
-  room d = omega arith
-
-  itself : (d : MarksDevice) → Is d.store.device (most d) d.store
-  itself d = (refl, omega arith)
-
   abbrev OwnTalk : {A : Type 0} → MarksDevice → Talk A → Type 0
-  OwnTalk d talk = Own T d.store.device talk (λ (z : MarksDevice) _. Is d.store.device (most d) z.store)
+  OwnTalk d talk = Own T d.store.device talk (λ (z : MarksDevice) _. Is d.store.device z.store)
 
   abbrev KeepsFrames : Subsystem → MarksDeed → Type 0
   KeepsFrames s (Ends end) = Unit {0}
@@ -230,7 +201,7 @@ module _ (P T : ℕ → Type 0) where
       let z = behind_outcome s b o in
       let found = some_at s.mounted b m there has in
       subst (λ (p : Pool). AllOf P T p.frames) (sym (joined_of z a o.told.a (mounted_in z.mounted a)))
-      (held_of P T (number_of m) (subst P (sym found.1) found.0) (lend_own T (number_of m) (most m.device) (room m.device) by_plain m.device a refl) (told_to s.pool m) all)
+      (held_of P T (number_of m) (subst P (sym found.1) found.0) (lend_own T (number_of m) by_plain m.device a refl) (told_to s.pool m) all)
   lends_of s a b has all None there = all
 
   happens_of : (s : Subsystem) (x : MarksDeed) → KeepsFrames s x → AreSome s.mounted → AllOf P T s.pool.frames →
@@ -261,17 +232,17 @@ module _ (P T : ℕ → Type 0) where
     frames_keep s so = record {
       ended = λ end. tt;
       started = λ d x path fault. tt;
-      seconded = λ d x h is. answered d (second by_plain d) (λ a. Some (ends.Second a)) (second_own T d.store.device (most d) (room d) by_plain d (itself d));
+      seconded = λ d x h is. answered d (second by_plain d) (λ a. Some (ends.Second a)) (second_own T d.store.device by_plain d refl);
       commanded = λ d x whole o running.
-          answered d (command by_plain d) (end_of ends.Stepped) (command_own T d.store.device (most d) (room d) by_plain In comes d (near d (of_one s so d x)).0 (itself d));
+          answered d (command by_plain d) (end_of ends.Stepped) (command_own T d.store.device by_plain In comes d (near d (of_one s so d x)).0 refl);
       worked = λ d x whole.
-          answered d (background by_plain d) (end_of ends.Back) (background_own T d.store.device (most d) (room d) by_plain d (near d (of_one s so d x)).1 (itself d));
-      cut = λ d x path. answered d (reset by_plain d path) (λ a. Some (ends_done a)) (reset_own T d.store.device (most d) (room d) by_plain d path (itself d));
-      lost_cache = ((λ all. tt), λ d. lose_own T d.store.device (most d) (room d) by_plain d losses.Cache (itself d));
-      lost_store = ((λ all. all), λ d. lose_own T d.store.device (most d) (room d) by_plain d losses.Store (itself d));
+          answered d (background by_plain d) (end_of ends.Back) (background_own T d.store.device by_plain d (near d (of_one s so d x)).1 refl);
+      cut = λ d x path. answered d (reset by_plain d path) (λ a. Some (ends_done a)) (reset_own T d.store.device by_plain d path refl);
+      lost_cache = ((λ all. tt), λ d. lose_own T d.store.device by_plain d losses.Cache refl);
+      lost_store = ((λ all. all), λ d. lose_own T d.store.device by_plain d losses.Store refl);
       lost_side = λ d x side fault.
-          answered d (lose by_plain d (losses.Side side)) (λ a. Some (ends_done a)) (lose_own T d.store.device (most d) (room d) by_plain d (losses.Side side) (itself d));
-      lost_power = ((λ all. tt), λ d. power_own T d.store.device (most d) (room d) by_plain d (itself d));
+          answered d (lose by_plain d (losses.Side side)) (λ a. Some (ends_done a)) (lose_own T d.store.device by_plain d (losses.Side side) refl);
+      lost_power = ((λ all. tt), λ d. power_own T d.store.device by_plain d refl);
       repaired_cache = λ all. repaired_of s.pool (record s.pool { cache_up = true }) (all_waiting s.pool == 0) refl all;
       repaired_store = λ all. repaired_of s.pool (record s.pool { store_up = true }) (all_waiting s.pool == 0) refl all;
       lent = λ x y z w fault. tt;

@@ -9,10 +9,10 @@ use Rattle.ckd_rules.specs.declared.stance.Stance.{Stance}
 use Rattle.ckd_rules.specs.Walk.{TrackEdit}
 use Rattle.plain_defs.specs.declared.journal.Act.TheVariants.{Harden}
 use Rattle.plain_defs.specs.declared.journal.How.TheVariants.{Full}
-use Rattle.plain_defs.specs.Acknowledged.{Told}
+use Rattle.plain_defs.specs.Acknowledged.{EditTold}
 use Rattle.plain_defs.specs.History.{IsOpen, IsPlain, OpenEntry, acted, acted_in}
 use Rattle.plain_defs.specs.Journal.{Plans, replay}
-use Rattle.plain_defs.specs.Loose.{is_loose, is_loose_in}
+use Rattle.plain_defs.specs.Loose.{is_loose_there, is_loose_in}
 use Rattle.plain_defs.specs.PlainState.{LooseTrack, PlainState}
 use Rattle.plain_defs.specs.Program.{Part}
 use Rattle.report_text.specs.declared.answers.HowOver.TheVariants as how
@@ -54,21 +54,21 @@ firmed k None = None
 
 -- A command that may edit its track may do so where fewer are loose
 
-legal_fewer : (p q : Part) (e : Option TrackEdit) → q.stance ≡ p.stance → ((t : ℕ) → is_loose p.state t ≡ false → is_loose q.state t ≡ false) →
+legal_fewer : (p q : Part) (e : Option TrackEdit) → q.stance ≡ p.stance → ((t : ℕ) → is_loose_there p.state t ≡ false → is_loose_there q.state t ≡ false) →
     is_edit_legal p e ≡ true → is_edit_legal q e ≡ true
 legal_fewer p q None same fewer legal = refl
-legal_fewer p q (Some e) same fewer legal = by_track (is_loose p.state e.track) refl where
-  by_track : (b : Bool) → is_loose p.state e.track ≡ b → (not (is_loose q.state e.track) || is_provisional q.stance.extent) ≡ true
+legal_fewer p q (Some e) same fewer legal = by_track (is_loose_there p.state e.track) refl where
+  by_track : (b : Bool) → is_loose_there p.state e.track ≡ b → (not (is_loose_there q.state e.track) || is_provisional q.stance.extent) ≡ true
   by_track false is = ap (λ (c : Bool). not c || is_provisional q.stance.extent) (fewer e.track is)
   by_track true is =
       let own : is_provisional p.stance.extent ≡ true = sym (ap (λ (c : Bool). not c || is_provisional p.stance.extent) is) ∙ legal in
-      ap (λ (z : Stance). not (is_loose q.state e.track) || is_provisional z.extent) same
-      ∙ ap (λ (c : Bool). not (is_loose q.state e.track) || c) own ∙ or_right (not (is_loose q.state e.track)) true refl
+      ap (λ (z : Stance). not (is_loose_there q.state e.track) || is_provisional z.extent) same
+      ∙ ap (λ (c : Bool). not (is_loose_there q.state e.track) || c) own ∙ or_right (not (is_loose_there q.state e.track)) true refl
 
 -- Where the program then is
 
 module _ (plans : Plans) (k path ordinal : ℕ) (ends : List CommandEnd) (fixed : Fixed) (state : PlainState) (stance : Stance) (before : List CommandEnd)
-    (told : List Told) where
+    (told : List EditTold) where
   abbrev at : Option ℕ → Going
   at next = record {
     path = path;
@@ -269,13 +269,13 @@ module _ (a : AuditedDevice) where
           ∙ still_legal a.plans k did (seen a).past.running (sym (legal_seen a did) ∙ legal)
 
       -- which tracks are loose
-      pub loose_behind : (t : ℕ) → is_loose (state_of (worked a did)) t ≡ is_loose (state_of a) t
+      pub loose_behind : (t : ℕ) → is_loose_there (state_of (worked a did)) t ≡ is_loose_there (state_of a) t
       loose_behind t =
           let b = worked a did in
-          ap (λ (s : PlainState). is_loose s t) (state_is b.plans (replay b.plans b.empty b.history.items) b.history.running)
-          ∙ ap (λ (x : Seen). is_loose (state_in x.past.state x.past.running) t) (seen_done a did tidy)
+          ap (λ (s : PlainState). is_loose_there s t) (state_is b.plans (replay b.plans b.empty b.history.items) b.history.running)
+          ∙ ap (λ (x : Seen). is_loose_there (state_in x.past.state x.past.running) t) (seen_done a did tidy)
           ∙ ap (λ (l : List LooseTrack). is_loose_in l t) (loose_done a.plans k did (seen a).past (seen a).past.running quiet)
-          ∙ sym (ap (λ (s : PlainState). is_loose s t) (state_is a.plans (replay a.plans a.empty a.history.items) a.history.running))
+          ∙ sym (ap (λ (s : PlainState). is_loose_there s t) (state_is a.plans (replay a.plans a.empty a.history.items) a.history.running))
 
       -- before the end as behind it
       pub firm_either : GoesOn (seen (worked a did)).past.running → Alike (worked (firmer k a) did) (firmer k (worked a did))

@@ -40,9 +40,9 @@ use Rattle.plain_defs.specs.Legal.{EndsChecked, HasEnds, IsLegalFrom, IsLegalIte
 use Rattle.plain_defs.specs.Loose.{act_done, lost_by_power, power_off, restored}
 use Rattle.plain_defs.specs.PlainState.{LooseTrack, PathsState, PlainState, empty_state, fresh_paths, with_sense}
 use Rattle.plain_defs.specs.Program as R
-use Rattle.plain_defs.specs.Program.{Part, acted_at, acts_at, first_part, part_of, starts_with_sense, stepped, stepped_at, with_acts}
+use Rattle.plain_defs.specs.Program.{Part, acted_at, acts_at, first_part, part_of, starts_with_sense, command_run, stepped_at, with_acts}
 use Rattle.plain_defs.specs.Whole.{GivesBytes}
-use Rattle.device_laws.proofs.HistoryEnds.{last_sense_is}
+use Rattle.device_laws.proofs.KeptHistories.{last_is}
 use Rattle.report_reading.specs.Ranges.{IsPath}
 use Rattle.run_audit_laws.proofs.AnsweredBytes.{PathsKeep, act_sends, sensed_keeps}
 use Rattle.run_audit_laws.proofs.EditedBytes.{walk_holds}
@@ -181,7 +181,7 @@ module _ (path : ℕ) (is : IsPath path) (ccws : List Ccw) (gives : (i : ℕ) �
       (record { paths = begun_if (starts_with_sense ccws) state.paths k.paths; volume = k.volume; loose = k.loose })
   part_keeps state acts (suc n) k =
       let p = part_of state path ccws acts n in
-      at_acts acts (stepped path ccws p) (stepped path ccws p).next (stepped_keeps p p.next (part_keeps state acts n k))
+      at_acts acts (command_run path ccws p) (command_run path ccws p).next (stepped_keeps p p.next (part_keeps state acts n k))
 
 -- Journals
 
@@ -192,7 +192,7 @@ module _ (plans : Plans) (gives : (path ordinal i : ℕ) → GivesBytes (ccw_at 
 
   last_in : (p : Part) (ccws : List Ccw) (ends : List CommandEnd) → EndsChecked p ccws ends → IfSome (last_sense ends) SenseIn
   last_in p ccws ends h =
-      subst (λ (x : Option Sense). IfSome x SenseIn) (sym (ap last_sense h.ends_are ∙ last_sense_is p.ends h.last))
+      subst (λ (x : Option Sense). IfSome x SenseIn) (sym (ap last_sense h.ends_are ∙ last_is p.ends h.last))
       (check_in h.last.sense h.checked.sense)
 
   checked_keeps : (state : PlainState) (p : PathsState) (e : ProgramEntry) (how : How) → HasEnds plans state e how → PathsKeep p →

@@ -16,7 +16,7 @@ use Rattle.ckd_rules.specs.declared.order.LocalAct.TheVariants as acts
 use Rattle.ckd_rules.specs.declared.stance.Stance.{Stance}
 use Rattle.ckd_rules.specs.Ending.{Outcome}
 use Rattle.plain_defs.specs.Acts.{act_fault, paths_after, reserved}
-use Rattle.plain_defs.specs.Effect.{acted_by, effect_by, looked}
+use Rattle.plain_defs.specs.Effect.{acted_by, effect_by, walked_look}
 use Rattle.plain_defs.specs.PlainState.{PathsState, with_sense}
 use Rattle.report_reading.specs.Ranges.{AreBytes}
 use Rattle.run_audit_laws.specs.Steps.{IsCheckSense}
@@ -73,5 +73,5 @@ module _ (p : PathsState) (path : ℕ) (all : All SenseIn p.senses) where
     pub effect_senses : (o : Opening) → IfSome (effect_by f p tracks path start c s o).outcome.ending.sense SenseIn →
         All SenseIn (effect_by f p tracks path start c s o).paths.senses
     effect_senses (openings.Over e) h = sense_kept p path e.sense all h
-    effect_senses (openings.Looks look) h = sense_kept p path (looked f tracks start c look s).outcome.ending.sense all h
+    effect_senses (openings.Looks look) h = sense_kept p path (walked_look f tracks start c look s).outcome.ending.sense all h
     effect_senses (openings.Asks act) h = acted_senses act (act_fault p path act) h

@@ -20,7 +20,7 @@ use Rattle.report_auditor.specs.Verdict.{judged, or_history}
 use Rattle.run_report.specs.Beside.{loose_lines, over_lines, of_each}
 use Rattle.run_report.specs.Events.{event_lines, work_lines}
 use Rattle.run_report.proofs.OneDevice.{quiet_loose, quiet_over, of_same}
-use Rattle.subsystem_defs.specs.Happening.{Happened as Happening}
+use Rattle.subsystem_defs.specs.Happening.{EventHappened as Happening}
 use Rattle.subsystem_defs.specs.Lines.{Asked}
 use Rattle.subsystem_defs.specs.Subsystem.{Subsystem, devices_of}
 use Rattle.run_audit_laws.specs.Standing.{LeadsBy, stand}

@@ -8,7 +8,7 @@ use Rattle.device_defs.specs.Losses.{gives_up, over, slot_in, without_frame}
 use Rattle.device_defs.specs.Marks.{MarksDevice, MarksStore}
 use Rattle.device_defs.specs.Orders as O
 use Rattle.device_defs.specs.Orders.{given_up, lend, lent_to, with_tracks}
-use Rattle.device_defs.specs.Owed.{ended, waiting_count}
+use Rattle.device_defs.specs.Owed.{noted_end, waiting_count}
 use Rattle.device_defs.specs.Store.{frame_at, owed_at, patch_at, tracks_of, with_frame}
 use Rattle.device_laws.proofs.Had.{Had, had_done, had_then}
 use Rattle.device_laws.proofs.PlainStores.{Core, core_of}
@@ -55,7 +55,7 @@ over_kept (suc k) s =
     kept_on s (over k (given_up by_plain) s) (given_up by_plain k (over k (given_up by_plain) s)) (over_kept k s)
     (given_kept k (over k (given_up by_plain) s))
 
-ended_kept : (before : ℕ) (s : MarksStore) → Had (ended by_plain before s) (λ y (_ : Unit {0}). Kept s y)
+ended_kept : (before : ℕ) (s : MarksStore) → Had (noted_end by_plain before s) (λ y (_ : Unit {0}). Kept s y)
 ended_kept before s =
     asks_had (ended_asks by_plain (Kept s) (λ z t e. record { core = e.core; paired = e.paired }) before s (record { core = refl; paired = refl }))
 

@@ -21,8 +21,8 @@ use Rattle.device_defs.specs.Marks.{MarksStore}
 use Rattle.device_defs.specs.Store as store
 use Rattle.device_defs.specs.Store.{OfBackground, frame_at, half_is, is_lost, is_loose, level_at, patch_at, stale_at, takes_b, tracks_of, with_frame, with_patch, with_stale}
 use Rattle.device_defs.specs.Writing as W
-use Rattle.device_defs.specs.Writing.{alone_b, cleaned, firm_first, first_a, opened, slot_freed, taken_a, taken_b, write_done, write_first}
-use Rattle.device_laws.proofs.FramesKept.{none_at}
+use Rattle.device_defs.specs.Writing.{alone_b, cleaned, firm_first, first_a, write_opened, slot_freed, taken_a, taken_b, write_done, write_first}
+use Rattle.device_laws.proofs.HeldPlaces.{none_at}
 use Rattle.device_laws.proofs.Had.{Had, had_ask, had_done, had_if, had_read, had_tell, had_then, had_try, had_weaker, had_write}
 use Rattle.device_laws.proofs.KeptEvents.{always_any}
 use Rattle.device_laws.proofs.PlainEvents.{had_always}
@@ -376,7 +376,7 @@ opened_spot : (s : MarksStore) (t q : ℕ) → s.half ≡ None → q ≢ t → r
 opened_spot s t q whole ne =
     ap (λ (x : Bool). record (spot_at s q) { half = x }) (not_own t q ne ∙ sym (ap (λ (h : Option (store.HalfWrite (Unit {0}))). half_is h q) whole))
 
-opened_so : (s : MarksStore) (t : ℕ) (i : Image) (was : Bool) → s.half ≡ None → Had (opened by_plain s t i OfBackground was) (λ z (_ : Unit {0}). OpenSo s z t)
+opened_so : (s : MarksStore) (t : ℕ) (i : Image) (was : Bool) → s.half ≡ None → Had (write_opened by_plain s t i OfBackground was) (λ z (_ : Unit {0}). OpenSo s z t)
 opened_so s t i true whole =
     let y = with_frame s t (cleaned by_plain (frame_at s t)) in
     had_ask (λ _. had_done (record {
@@ -488,7 +488,7 @@ module _ (s : MarksStore) (whole : s.half ≡ None) (t : ℕ) (lt : t < tracks_o
   late_by : (i : Image) (d : Did) (side : Side) (was : Bool) (failed : Option Side) (y : MarksStore) (took : Took) →
       Had (saved_by by_plain t i d (Some side) was failed y took) (λ z e. stops e ≡ false → Lower s z)
   late_by i d side was failed y Whole = had_then (had_always (always_any (write_done by_plain y t i false))) (λ z _ _. had_done (fault_stops s z side (did failed d)))
-  late_by i d side was failed y Opened = had_then (had_always (always_any (opened by_plain y t i OfBackground was))) (λ z _ _. had_done (fault_stops s z side (dids.Half t)))
+  late_by i d side was failed y Opened = had_then (had_always (always_any (write_opened by_plain y t i OfBackground was))) (λ z _ _. had_done (fault_stops s z side (dids.Half t)))
   late_by i d side was failed y Unwritten = had_done (fault_stops s y side (did failed dids.Nothing))
 
   by_took : (i : Image) (d : Did) (x : MarksStore) (was : Bool) → FirmSo s t x → (failed : Option Side) (y : MarksStore) (took : Took) → TookSo x t y took failed →

@@ -13,7 +13,7 @@ use Rattle.plain_defs.specs.Journal.{Plans, effects_of, program_of, replay, repl
 use Rattle.plain_defs.specs.Loose.{act_done, lost_by_power, next_number}
 use Rattle.plain_defs.specs.PlainState.{LooseTrack, PlainState}
 use Rattle.plain_defs.specs.Program as G
-use Rattle.plain_defs.specs.Program.{Part, acted_at, acts_at, first_part, part_of, stepped, stepped_at, with_act, with_acts}
+use Rattle.plain_defs.specs.Program.{Part, acted_at, acts_at, first_part, part_of, command_run, stepped_at, with_act, with_acts}
 use Rattle.device_defs.specs.Marks.{MarksDevice}
 use Rattle.report_reading.specs.Ranges.{IsShort}
 use Rattle.subsystem_defs.specs.Beside.{loose_count}
@@ -55,7 +55,7 @@ unfolding G.part_of
 part_small s path ccws acts zero h = acted_small acts (first_part s path ccws) (first_part s path ccws).next h
 part_small s path ccws acts (suc k) h =
     let p = part_of s path ccws acts k in
-    let q = stepped path ccws p in
+    let q = command_run path ccws p in
     acted_small acts q q.next (stepped_small path ccws p p.next (part_small s path ccws acts k h))
 
 power_small : (s : PlainState) (l : List LooseTrack) → Small s → Small (lost_by_power s l)

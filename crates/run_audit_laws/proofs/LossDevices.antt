@@ -50,7 +50,7 @@ use Rattle.track_table.proofs.Places.{empty_places}
 use Rattle.device_outside.specs.Interaction.{Interaction, Done, and_then}
 use Rattle.device_defs.specs.Contents.{by_plain}
 use Rattle.device_defs.specs.Device.{all_acted, event, event_begun, with_store}
-use Rattle.device_defs.specs.Effects.{acted, gone_back, loose_lost}
+use Rattle.device_defs.specs.Effects.{act_noted, gone_back, loose_lost}
 use Rattle.device_defs.specs.Events as V
 use Rattle.device_defs.specs.Events.{lose, losing, with_loss}
 use Rattle.device_defs.specs.Losses as L
@@ -74,7 +74,7 @@ use Rattle.device_defs.specs.Losses.{
   without_patch,
 }
 use Rattle.device_defs.specs.Marks.{MarksDevice, MarksStore}
-use Rattle.device_defs.specs.Owed.{begun, hear, waiting_count}
+use Rattle.device_defs.specs.Owed.{noted_begin, hear, waiting_count}
 use Rattle.device_defs.specs.Store.{
   frame_at,
   half_is,
@@ -126,11 +126,11 @@ told_core (suc k) s =
 -- an event that takes its notes first
 module _ (d : MarksDevice) (body : MarksDevice → Interaction Bool Image MarksDevice (Unit {0})) (q : MarksDevice → Type 0) where
   event_makes : ((y : MarksDevice) (z : MarksStore) → core_of z ≡ core_of y.store → q y → q (record y { store = z })) →
-      ((s : MarksStore) → core_of s ≡ core_of (begun d.store) → ((t : ℕ) → is_some (patch_at s t) ≡ is_some (patch_at d.store t)) →
+      ((s : MarksStore) → core_of s ≡ core_of (noted_begin d.store) → ((t : ℕ) → is_some (patch_at s t) ≡ is_some (patch_at d.store t)) →
       Had (body (record (event_begun d) { store = s })) (λ y (_ : Unit {0}). q y)) → Had (event by_plain d body) (λ y (_ : Unit {0}). q y)
   event_makes same h =
       had_then {p = λ y _. q y}
-      (had_then (hear_keeps 960 (begun d.store)) (λ s _ e. h s e.0 e.1))
+      (had_then (hear_keeps 960 (noted_begin d.store)) (λ s _ e. h s e.0 e.1))
       (λ y a g. had_then (ended_same (waiting_count by_plain d.store) y.store) (λ z _ e. had_done (same y z e g)))
 
 module _ (num : ℕ) (empty : PlainState) (d : MarksDevice) (f : Follows num empty d) where
@@ -167,7 +167,7 @@ module _ (num : ℕ) (empty : PlainState) (d : MarksDevice) (f : Follows num emp
     are = w.walks.are;
   }
 
-  first_walked : (s : MarksStore) → core_of s ≡ core_of (begun d.store) →
+  first_walked : (s : MarksStore) → core_of s ≡ core_of (noted_begin d.store) →
       Walked (plain_of d.plans empty d.history) d.store.geometry d.store.cylinders (core_of d.store) (core_of s)
   first_walked s e = record {
     plain = d.store.plain;
@@ -177,7 +177,7 @@ module _ (num : ℕ) (empty : PlainState) (d : MarksDevice) (f : Follows num emp
 
   -- with what else a loss leaves of the store
   lose_makes : (loss : Loss) (r : MarksStore → Type 0) → ((s z : MarksStore) → core_of z ≡ core_of s → r s → r z) →
-      ((s : MarksStore) → core_of s ≡ core_of (begun d.store) → ((t : ℕ) → is_some (patch_at s t) ≡ is_some (patch_at d.store t)) →
+      ((s : MarksStore) → core_of s ≡ core_of (noted_begin d.store) → ((t : ℕ) → is_some (patch_at s t) ≡ is_some (patch_at d.store t)) →
       Had (losing by_plain s loss) (λ z (_ : Unit {0}). r z)) → Had (lose by_plain d loss) (λ y (_ : Unit {0}). IsLoss empty d y × r y.store)
   unfolding V.lose
   lose_makes loss r same h =
@@ -226,7 +226,7 @@ module _ (s : MarksStore) (many : length s.loose ≡ tracks_of s) where
     by_place (inr le) = get_or_past s.loose q false (omega (arith, le, many))
 
   gone_by : s.acts ≡ [] → (o : Option ℕ) → least (tracks_of s) (is_loose s) ≡ o →
-      NoneLoose (lost_acts (is_some o)) (number_behind (is_some o) s.number) (core_of (record (if is_some o then acted (gone_back s) CfwLost else s) { queue = [] }))
+      NoneLoose (lost_acts (is_some o)) (number_behind (is_some o) s.number) (core_of (record (if is_some o then act_noted (gone_back s) CfwLost else s) { queue = [] }))
   gone_by none (Some t) is = (λ q. empty_places (tracks_of s) q false, (ap (λ (l : List Act). l ++ CfwLost ∷ []) none, refl))
   gone_by none None is = (none_at None is refl, (none, refl))
 
@@ -348,7 +348,7 @@ store_makes s a = all_patches (tracks_of s) s a
 -- The events
 
 module _ (num : ℕ) (empty : PlainState) (d : MarksDevice) (f : Follows num empty d) where
-  loose_many : (s : MarksStore) → core_of s ≡ core_of (begun d.store) → length s.loose ≡ tracks_of s
+  loose_many : (s : MarksStore) → core_of s ≡ core_of (noted_begin d.store) → length s.loose ≡ tracks_of s
   loose_many s e =
       ap (λ (c : Core). length c.loose) e ∙ f.of.looses ∙ f.of.tracks ∙ sym (ap (λ (c : Core). c.cylinders * 15) e)
 

@@ -9,7 +9,7 @@ use Rattle.plain_defs.specs.declared.journal.Act.{Act}
 use Rattle.plain_defs.specs.declared.journal.Act.TheVariants.{Loosen, Harden, CfwLost}
 use Rattle.plain_defs.specs.History.{IsPlain, acted, plain_of}
 use Rattle.plain_defs.specs.Legal.{AreActs}
-use Rattle.plain_defs.specs.Loose.{is_loose}
+use Rattle.plain_defs.specs.Loose.{is_loose_there}
 use Rattle.plain_defs.specs.PlainState.{PlainState}
 use Rattle.device_outside.specs.Interaction.{Done}
 use Rattle.device_outside.specs.Pool.{Pool, store_failed}
@@ -45,7 +45,7 @@ use Rattle.subsystem_defs.specs.declared.event.Event.TheVariants as events
 use Rattle.subsystem_defs.specs.Deeds as E
 use Rattle.subsystem_defs.specs.Deeds.{Asks, Each, device_in, ends_by, ends_done, on_device, order}
 use Rattle.subsystem_defs.specs.Happening as H
-use Rattle.subsystem_defs.specs.Happening.{Happened, asks, happens, happens_by, held_with, mounted_behind, quietly, sweep, swept, told_end, told_to}
+use Rattle.subsystem_defs.specs.Happening.{EventHappened, asks, happens, happens_by, held_with, mounted_behind, quietly, sweep, swept, told_end, told_to}
 use Rattle.subsystem_defs.specs.Lines.{Once}
 use Rattle.subsystem_defs.specs.Refusals.{fail_fault}
 use Rattle.subsystem_defs.specs.Subsystem.{Mounted, Subsystem, devices_of, mounted_in, with_mounted}
@@ -128,7 +128,7 @@ module _ (xs : List AuditedDevice) (n : ℕ) (side : Side) (later : List EventLi
   abbrev at : AuditedDevice → AuditState
   at a = record { devices = with_device xs a; events = wanted.FailVolume n side ∷ later; due = Next }
 
-  harden_judged : (a : AuditedDevice) → a.number ≡ n → (t : ℕ) → is_loose (state_of a) t ≡ true →
+  harden_judged : (a : AuditedDevice) → a.number ≡ n → (t : ℕ) → is_loose_there (state_of a) t ≡ true →
       judged (at a) (lines.Loose n (loose.Harden t)) ≡ Ok (at (record a { history = acted a.history (Harden t) }))
   harden_judged a same t is =
       let s = at a in
@@ -215,7 +215,7 @@ module _ (s : Subsystem) (plain : ArePlain s.mounted) (n : ℕ) (x : MarksDevice
       (ap (λ (c : Bool). if c then or_history (Some (passed behind)) else Err Place) (same_order (orders.FailVolume n side))
       ∙ ap (λ (u : AuditState). Ok u) ends_so)))
 
-  abbrev its_lines : Happened → List ReportLine
+  abbrev its_lines : EventHappened → List ReportLine
   its_lines h = event_lines (Once (events.FailVolume n side)) h.end h.reads h.writes (devices_of s) (devices_of h.behind)
 
   asked_leads : (k : ℕ) → k ≡ n → EventLeads s (wanted.FailVolume n side) (Once (events.FailVolume n side))

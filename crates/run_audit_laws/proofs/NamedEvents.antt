@@ -9,7 +9,7 @@ use Rattle.deck_text.specs.declared.line.DeckWhy.{DeckWhy}
 use Rattle.deck_text.specs.declared.line.DeckWhy.TheVariants.{Number, Words}
 use Rattle.deck_text.specs.declared.line.DeviceLine.{DeviceLine}
 use Rattle.deck_text.specs.DeckLines.{DeckLines}
-use Rattle.deck_text.specs.Forms.{and_then, device_of, is_declared, needed, path_and_device, path_of}
+use Rattle.deck_text.specs.Forms.{then_read, device_of, is_declared, needed, path_and_device, path_of}
 use Rattle.deck_text.specs.Numbers.{number_in}
 use Rattle.deck_text.specs.Parse.{parsed}
 use Rattle.deck_text.specs.Words.{two_words}
@@ -103,8 +103,8 @@ declared_small seen (d ∷ ds) are n is = by_test (d.number == n) refl is (decla
 
 path_range : (devices : List DeviceLine) (words : List (List ℕ)) (at : ℕ × ℕ) → path_and_device devices words ≡ Ok at → IsPath at.0
 path_range devices words at h =
-    let a = went (needed Words (two_words words)) (λ w. and_then (path_of w.0) (λ p. and_then (device_of devices w.1) (λ d. Ok (p, d)))) at h in
-    let b = went (path_of a.value.0) (λ p. and_then (device_of devices a.value.1) (λ d. Ok (p, d))) at a.second in
+    let a = went (needed Words (two_words words)) (λ w. then_read (path_of w.0) (λ p. then_read (device_of devices w.1) (λ d. Ok (p, d)))) at h in
+    let b = went (path_of a.value.0) (λ p. then_read (device_of devices a.value.1) (λ d. Ok (p, d))) at a.second in
     let c = went (device_of devices a.value.1) (λ d. Ok (b.value, d)) at b.second in
     let same : (b.value, c.value) ≡ at = if_ok true (b.value, c.value) at Number c.second in
     let r = number_range 1 4 a.value.0 b.value (needed_is Number (number_in 1 4 a.value.0) b.value b.first) in
@@ -112,7 +112,7 @@ path_range devices words at h =
 
 module _ (f : ℕ → ℕ → EventLine) (same : (p q x y : ℕ) → ◌≡◌ {A = Result EventLine DeckWhy} (Ok (f p x)) (Ok (f q y)) → p ≡ q) where
   path_is : (devices : List DeviceLine) (words : List (List ℕ)) (path d : ℕ) →
-      and_then (path_and_device devices words) (λ at. Ok (f at.0 at.1)) ≡ Ok (f path d) → IsPath path
+      then_read (path_and_device devices words) (λ at. Ok (f at.0 at.1)) ≡ Ok (f path d) → IsPath path
   path_is devices words path d h =
       let a = went (path_and_device devices words) (λ at. Ok (f at.0 at.1)) (f path d) h in
       subst (λ (p : ℕ). IsPath p) (same a.value.0 path a.value.1 d a.second) (path_range devices words a.value a.first)

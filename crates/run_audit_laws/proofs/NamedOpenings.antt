@@ -19,7 +19,7 @@ use Rattle.ckd_types.specs.Fixed.{Fixed}
 use Rattle.ckd_types.specs.declared.parameters.ParamFault.{ParamFault}
 use Rattle.ckd_types.specs.Parameters.{given}
 use Rattle.ckd_rules.specs.declared.order.Look.{Look}
-use Rattle.ckd_rules.specs.declared.order.Order.{Order}
+use Rattle.ckd_rules.specs.declared.order.CommandOrder.{CommandOrder}
 use Rattle.ckd_rules.specs.declared.stance.Place.{Place}
 use Rattle.ckd_rules.specs.declared.stance.Stance.{Stance}
 use Rattle.ckd_rules.specs.Control.{unseen_place}
@@ -29,11 +29,11 @@ use Rattle.ckd_types.specs.declared.command.Control.TheVariants as controls
 use Rattle.ckd_types.specs.declared.command.ReadArea.TheVariants as reads
 use Rattle.ckd_types.specs.declared.command.Write.TheVariants as writes
 use Rattle.ckd_rules.specs.declared.order.Look.TheVariants as looks
-use Rattle.ckd_rules.specs.declared.order.Order.TheVariants as orders
+use Rattle.ckd_rules.specs.declared.order.CommandOrder.TheVariants as orders
 use Rattle.ckd_rules.specs.declared.stance.Place.TheVariants as places
 use Rattle.ckd_rules.specs.Checks as C
 use Rattle.ckd_rules.specs.Checks.{device_act}
-use Rattle.ckd_rules.specs.Opening.{begun, locating, look_from, moved, opened_by, opening_of, read_from}
+use Rattle.ckd_rules.specs.Opening.{begun, locating, look_from, moved, opening_with, opening_of, read_from}
 use Rattle.plain_defs.specs.Whole.{GivesBytes}
 use Rattle.report_reading.specs.Ranges.{AreBytes}
 use Rattle.run_audit_laws.proofs.GivenBytes.{IsByte, as_bytes, padded_are, padded_length}
@@ -58,11 +58,11 @@ device_named c gives devices.UnconditionalReserve = tt
 device_named c gives devices.SetPathGroup = named_bytes c gives
 device_named c gives devices.SensePathGroup = tt
 
-abbrev OrderIn : Order → Type 0
+abbrev OrderIn : CommandOrder → Type 0
 OrderIn (orders.Asks act) = ActNamed act
 OrderIn _ = Unit {0}
 
-abbrev ResultIn : Result Order Sense → Type 0
+abbrev ResultIn : Result CommandOrder Sense → Type 0
 ResultIn (Ok order) = OrderIn order
 ResultIn (Err sense) = Unit {0}
 
@@ -70,7 +70,7 @@ seeks_in : (o : Option ℕ) → IfSome (C.seeks o) OrderIn
 seeks_in (Some t) = tt
 seeks_in None = tt
 
-some_if : (b : Bool) (order : Order) → OrderIn order → IfSome (if b then Some order else None) OrderIn
+some_if : (b : Bool) (order : CommandOrder) → OrderIn order → IfSome (if b then Some order else None) OrderIn
 some_if true order h = h
 some_if false order h = tt
 
@@ -82,7 +82,7 @@ locates_in : (r : Result Domain ParamFault) → IfSome (C.locates r) OrderIn
 locates_in (Ok d) = tt
 locates_in (Err fault) = tt
 
-either_in : (b : Bool) (x y : Result Order Sense) → ResultIn x → ResultIn y → ResultIn (if b then x else y)
+either_in : (b : Bool) (x y : Result CommandOrder Sense) → ResultIn x → ResultIn y → ResultIn (if b then x else y)
 either_in true x y h k = h
 either_in false x y h k = k
 
@@ -121,7 +121,7 @@ module _ (s : Stance) (c : Ccw) where
   locating_in d (Some place) = refl
   locating_in d None = tt
 
-  begun_in : (order : Order) → OrderIn order → OpeningIn (begun s c order).opening
+  begun_in : (order : CommandOrder) → OrderIn order → OpeningIn (begun s c order).opening
   begun_in orders.Nothing h = refl
   begun_in (orders.Seeks t) h = refl
   begun_in orders.Recalibrates h = refl
@@ -132,7 +132,7 @@ module _ (s : Stance) (c : Ccw) where
   begun_in (orders.Looks look) h = look_in look
   begun_in (orders.Asks act) h = h
 
-  opened_in : (r : Result Order Sense) → ResultIn r → OpeningIn (opened_by s c r).opening
+  opened_in : (r : Result CommandOrder Sense) → ResultIn r → OpeningIn (opening_with s c r).opening
   opened_in (Ok order) h = begun_in order h
   opened_in (Err sense) h = refl
 
@@ -148,18 +148,18 @@ module _ (f : Fixed) (s : Stance) (c : Ccw) (gives : GivesBytes c) where
   control_in controls.DefineExtent = defines_in f.number _
   control_in controls.LocateRecord = locates_in _
 
-  decoded_in : (k : Command) → IfSome (C.decoded f s c k) OrderIn
+  decoded_in : (k : Command) → IfSome (C.decoded_order f s c k) OrderIn
   decoded_in (commands.Control k) = control_in k
   decoded_in (commands.Search x) = tt
   decoded_in (commands.Read r) = tt
   decoded_in (commands.Write w) = tt
   decoded_in (commands.Device d) = device_named c gives d
 
-  masked_in : (order : Order) → OrderIn order → (o : Option Sense) → ResultIn (C.masked_order s order o)
+  masked_in : (order : CommandOrder) → OrderIn order → (o : Option Sense) → ResultIn (C.masked_order s order o)
   masked_in order k (Some sense) = tt
   masked_in order k None = either_in (C.is_within s.extent (C.first_track s order)) (Ok order) (Err _) k tt
 
-  permitted_in : (k : Command) (o : Option Order) → IfSome o OrderIn → ResultIn (C.permitted_order s k o)
+  permitted_in : (k : Command) (o : Option CommandOrder) → IfSome o OrderIn → ResultIn (C.permitted_order s k o)
   permitted_in k None h = tt
   permitted_in k (Some order) h = masked_in order h (C.mask_fault s.mask k)
 
@@ -167,7 +167,7 @@ module _ (f : Fixed) (s : Stance) (c : Ccw) (gives : GivesBytes c) where
   order_in None = tt
   order_in (Some k) =
       either_in (not (C.is_in_sequence s s.domain k)) (Err _) _ tt
-      (either_in (nat_lt c.count (required_count k)) (Err _) _ tt (permitted_in k (C.decoded f s c k) (decoded_in k)))
+      (either_in (nat_lt c.count (required_count k)) (Err _) _ tt (permitted_in k (C.decoded_order f s c k) (decoded_in k)))
 
   pub opening_named : OpeningIn (opening_of f s c).opening
   opening_named = opened_in s c (C.order_of f s c) (order_in (command_of c.command))

@@ -7,10 +7,10 @@ use Rattle.deck_plan.specs.declared.event.EventLine.TheVariants as wanted
 use Rattle.device_outside.specs.Pool.{Pool, all_waiting, cache_repaired, store_repaired}
 use Rattle.device_outside.specs.Told.{Calls}
 use Rattle.device_defs.specs.Marks.{MarksDevice}
-use Rattle.device_defs.specs.Orders.{hold, replace, resume}
+use Rattle.device_defs.specs.Orders.{hold_side, replace, resume}
 use Rattle.report_text.specs.declared.answers.OrderAnswer.{OrderAnswer}
 use Rattle.report_text.specs.declared.answers.OrderAnswer.TheVariants as answers
-use Rattle.report_text.specs.declared.answers.OrderFault as told
+use Rattle.report_text.specs.declared.answers.OrderRefusal as told
 use Rattle.report_text.specs.declared.event.Happened.TheVariants as did
 use Rattle.report_text.specs.declared.line.ReportLine.{ReportLine}
 use Rattle.report_text.specs.declared.line.ReportLine.TheVariants as lines
@@ -49,7 +49,7 @@ use Rattle.run_audit_laws.proofs.Saying.{same_order}
 
 pub record IsOrder (e : EventLine) (o : Order) (asked : Asked) : Type 0 where
   pub stands : (outs : List Outline) (answer : OrderAnswer) → in_event outs (lines.Order o answer) e ≡ true
-  pub refused : (z : AuditState) (fault : told.OrderFault) → event_made z (lines.Order o (answers.Refused fault)) e ≡ Some (passed z)
+  pub refused : (z : AuditState) (fault : told.OrderRefusal) → event_made z (lines.Order o (answers.Refused fault)) e ≡ Some (passed z)
   pub pending : (z : AuditState) (n : ℕ) → event_made z (lines.Order o (answers.Pending n)) e ≡ Some (passed z)
   pub lines_are : (end : EventEnd) (reads writes : ℕ) (ds ks : List MarksDevice) →
       event_lines asked end reads writes ds ks ≡ work_lines (did.Ordered o (order_answer end)) reads writes ds ks
@@ -190,7 +190,7 @@ module _ (s : Subsystem) where
     pub suspend_leads : EventLeads s (wanted.Suspend n) (Once (events.Suspend n)) (happens s (events.Suspend n))
     unfolding H.happens E.deed
     suspend_leads =
-        turned s (wanted.Suspend n) (orders.Suspend n) (Once (events.Suspend n)) (suspends n) (λ z. refl) n x at suspend_fault hold refl refl refl
+        turned s (wanted.Suspend n) (orders.Suspend n) (Once (events.Suspend n)) (suspends n) (λ z. refl) n x at suspend_fault hold_side refl refl refl
 
     pub resume_leads : EventLeads s (wanted.Resume n) (Once (events.Resume n)) (happens s (events.Resume n))
     unfolding H.happens E.deed

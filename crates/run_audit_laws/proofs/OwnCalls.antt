@@ -1,6 +1,6 @@
 -- Each frame that a device wants is one of its own tracks, and of those that it comes to: what this says of an interaction, and the calls of how an
 -- event begins and ends, of the choice of a write, of what a write that is done leaves and of what a miss does with its bytes.
-use Rattle.std.proofs.Common.{◌≡◌, ◌≤◌, ℕ, zero, suc, Bool, true, false, Option, Some, None, is_some}
+use Rattle.std.proofs.Common.{◌≡◌, ℕ, zero, suc, Bool, true, false, Option, Some, None, is_some}
 use Rattle.std.specs.Prelude.{◌==◌, ◌&&◌, if◌then◌else◌}
 use Rattle.ckd_types.specs.declared.parameters.Mode.{Mode}
 use Rattle.ckd_types.specs.declared.paths.Side.{Side}
@@ -19,7 +19,7 @@ use Rattle.device_defs.specs.Image.{Got, ahead, delivered, filled, loaded, loads
 use Rattle.device_defs.specs.Losses.{slot_in}
 use Rattle.device_defs.specs.Memory.{and_had, had_by, tried}
 use Rattle.device_defs.specs.Owed as O
-use Rattle.device_defs.specs.Owed.{is_clean, is_modified, heard, hear, freed_told, settles_debt, is_owed, all_told, waiting_count, ended}
+use Rattle.device_defs.specs.Owed.{is_clean, is_modified, heard, hear, freed_told, settles_debt, is_owed, all_told, waiting_count, noted_end}
 use Rattle.device_defs.specs.Store.{Store, tracks_of, frame_at, patch_at, is_loose, owed_at, with_frame}
 use Rattle.device_defs.specs.Writing as V
 use Rattle.device_defs.specs.Writing.{slot_freed, write_done}
@@ -115,9 +115,9 @@ own_had {S = S} {A = X} {T = T} {n = n} {f = f} {p = p} {q = q} x w without = ow
   by_answer s (Some a) k = w s a k
   by_answer s None k = own_done (without s k)
 
-module _ {F P H R : Type 0} (T : ℕ → Type 0) (n most : ℕ) (c : Contents F P H R) where
+module _ {F P H R : Type 0} (T : ℕ → Type 0) (n : ℕ) (c : Contents F P H R) where
   abbrev pub Owns : {A : Type 0} → Interaction R Image (Store F P H) A → Type 0
-  Owns i = Own T n i (λ z _. Is n most z)
+  Owns i = Own T n i (λ z _. Is n z)
 
   -- the notices: a clean frame is dropped
   module _ (Q : Store F P H → Type 0) (drops : (s : Store F P H) (t : ℕ) → Q s → Q (with_frame s t None)) where
@@ -135,55 +135,55 @@ module _ {F P H R : Type 0} (T : ℕ → Type 0) (n most : ℕ) (c : Contents F 
     hear_own (suc l) s k = own_ask tt (λ note. heard_own l s note k (hear_own l))
 
   -- what is told at the end: a debt is settled
-  freed_own : (s : Store F P H) (o : Option ℕ) → Is n most s → Owns (freed_told c s o)
+  freed_own : (s : Store F P H) (o : Option ℕ) → Is n s → Owns (freed_told c s o)
   freed_own s None k = own_done k
   freed_own s (Some slot) k = own_ask tt (λ _. own_done k)
 
-  debt_own : (t : ℕ) (s : Store F P H) → Is n most s → Owns (settles_debt c t s)
+  debt_own : (t : ℕ) (s : Store F P H) → Is n s → Owns (settles_debt c t s)
   debt_own t s k =
       own_then (own_if ((owed_at s t).modified && is_modified c (frame_at s t)) (own_ask tt (λ _. own_done k)) (own_done k))
-      (λ z _ g. own_then {p = λ (y : Store F P H) _. Is n most y} (own_if (owed_at z t).dropped (own_ask tt (λ _. own_done g)) (own_done g))
+      (λ z _ g. own_then {p = λ (y : Store F P H) _. Is n y} (own_if (owed_at z t).dropped (own_ask tt (λ _. own_done g)) (own_done g))
       (λ y _ h. own_then (freed_own y (owed_at y t).freed h) (λ x _ l. own_done l)))
 
-  told_own : (l : ℕ) (s : Store F P H) → Is n most s → Owns (all_told c l s)
+  told_own : (l : ℕ) (s : Store F P H) → Is n s → Owns (all_told c l s)
   unfolding O.all_told
   told_own zero s k = own_done k
   told_own (suc l) s k = own_then (told_own l s k) (λ z _ g. own_if (is_owed c (owed_at z l)) (debt_own l z g) (own_done g))
 
-  pub ended_own : (before : ℕ) (s : Store F P H) → Is n most s → Owns (ended c before s)
+  pub ended_own : (before : ℕ) (s : Store F P H) → Is n s → Owns (noted_end c before s)
   ended_own before s k =
       own_then (told_own (tracks_of s) s k) (λ z _ g. own_if (waiting_count c z == before) (own_done g) (own_ask tt (λ _. own_done g)))
 
   -- where a write goes
-  slot_own : (s : Store F P H) (t : ℕ) (g : SlotGrant) → Is n most s → Owns (slot_by c s t g)
+  slot_own : (s : Store F P H) (t : ℕ) (g : SlotGrant) → Is n s → Owns (slot_by c s t g)
   slot_own s t (grants.Given slot) k = own_ask tt (λ listed. own_if listed (own_done k) (own_ask tt (λ _. own_done k)))
   slot_own s t grants.Denied k = own_done k
   slot_own s t grants.Down k = own_done k
 
-  fast_own : (s : Store F P H) (t : ℕ) (patched : Bool) → Is n most s → Owns (fast_by c s t patched)
+  fast_own : (s : Store F P H) (t : ℕ) (patched : Bool) → Is n s → Owns (fast_by c s t patched)
   fast_own s t patched k = own_if patched (own_ask tt (λ listed. own_done k)) (own_ask tt (λ g. slot_own s t g k))
 
-  fast_or_own : (s : Store F P H) (u : Usage) (t : ℕ) → Is n most s → Owns (fast_or_through c s u t)
+  fast_or_own : (s : Store F P H) (u : Usage) (t : ℕ) → Is n s → Owns (fast_or_through c s u t)
   fast_or_own s u t k = own_if (may_be_fast c s u t) (fast_own s t (is_some (patch_at s t)) k) (own_done k)
 
-  loose_own : (s : Store F P H) (u : Usage) (t : ℕ) → Is n most s → Owns (choose_loose c s u t)
+  loose_own : (s : Store F P H) (u : Usage) (t : ℕ) → Is n s → Owns (choose_loose c s u t)
   loose_own s u t k = own_if u.provisional (own_ask tt (λ listed. own_done k)) (own_done k)
 
-  firm_own : (s : Store F P H) (u : Usage) (t : ℕ) → Is n most s → Owns (choose_firm c s u t)
+  firm_own : (s : Store F P H) (u : Usage) (t : ℕ) → Is n s → Owns (choose_firm c s u t)
   firm_own s u t k =
       own_if (u.provisional && is_clean c (frame_at s t)) (own_ask tt (λ listed. own_if listed (own_done k) (fast_or_own s u t k)))
       (fast_or_own s u t k)
 
-  pub choose_own : (s : Store F P H) (u : Usage) (t : ℕ) → Is n most s → Owns (choose c s u t)
+  pub choose_own : (s : Store F P H) (u : Usage) (t : ℕ) → Is n s → Owns (choose c s u t)
   unfolding G.choose
   choose_own s u t k = own_if (is_loose s t) (loose_own s u t k) (firm_own s u t k)
 
   -- a write is done: its frame is clean or gone, and so is its patch
-  unpatched_own : (s : Store F P H) (t : ℕ) (o : Option ℕ) → Is n most s → Owns (slot_freed c s t o)
+  unpatched_own : (s : Store F P H) (t : ℕ) (o : Option ℕ) → Is n s → Owns (slot_freed c s t o)
   unpatched_own s t None k = own_done k
   unpatched_own s t (Some slot) k = own_ask tt (λ _. own_done k)
 
-  pub done_own : (s : Store F P H) (t : ℕ) (i : Image) (bypass : Bool) → Is n most s → Owns (write_done c s t i bypass)
+  pub done_own : (s : Store F P H) (t : ℕ) (i : Image) (bypass : Bool) → Is n s → Owns (write_done c s t i bypass)
   unfolding V.write_done
   done_own s t i bypass k =
       own_if (is_some (frame_at s t))
@@ -192,20 +192,19 @@ module _ {F P H R : Type 0} (T : ℕ → Type 0) (n most : ℕ) (c : Contents F 
       (unpatched_own s t (slot_in c (patch_at s t)) k)
 
   -- an image becomes a frame
-  pub filled_own : (s : Store F P H) (t : ℕ) (i : Image) → Is n most s → Owns (filled c s t i)
+  pub filled_own : (s : Store F P H) (t : ℕ) (i : Image) → Is n s → Owns (filled c s t i)
   filled_own s t i k = own_if (is_some (patch_at s t)) (own_ask tt (λ _. own_done k)) (own_done k)
 
-  granted_own : (s : Store F P H) (t : ℕ) (i : Image) (given : Bool) → Is n most s → Owns (I.granted c s t i given)
+  granted_own : (s : Store F P H) (t : ℕ) (i : Image) (given : Bool) → Is n s → Owns (I.granted c s t i given)
   granted_own s t i given k = own_if given (own_then (filled_own s t i k) (λ z _ g. own_done g)) (own_done k)
 
-  loaded_own : (s : Store F P H) (t : ℕ) (i : Image) (mode : Mode) → T t → Is n most s → Owns (loaded c s t i mode)
-  loaded_own s t i mode on k = own_if (loads mode) (own_tried s _ k (own_ask (k.0, on) (λ given. granted_own s t i given k))) (own_done k)
+  loaded_own : (s : Store F P H) (t : ℕ) (i : Image) (mode : Mode) → T t → Is n s → Owns (loaded c s t i mode)
+  loaded_own s t i mode on k = own_if (loads mode) (own_tried s _ k (own_ask (k, on) (λ given. granted_own s t i given k))) (own_done k)
 
-  module _ (room : 64 ≤ most) where
-    delivered_own : (u : Usage) (t : ℕ) (side : Side) (s : Store F P H) (o : Option Image) → T t → Is n most s → Owns (delivered c u t side s o)
-    delivered_own u t side s None on k = own_done k
-    delivered_own u t side s (Some i) on k = loaded_own (ahead u s t) t i u.mode on (ahead_is n most room u s t k)
+  delivered_own : (u : Usage) (t : ℕ) (side : Side) (s : Store F P H) (o : Option Image) → T t → Is n s → Owns (delivered c u t side s o)
+  delivered_own u t side s None on k = own_done k
+  delivered_own u t side s (Some i) on k = loaded_own (ahead u s t) t i u.mode on (ahead_is n u s t k)
 
-    pub missed_own : (u : Usage) (t : ℕ) (s : Store F P H) (g : Got R) (o : Option R) → T t → Is n most s → Owns (missed c u t s g o)
-    missed_own u t s g None on k = own_done k
-    missed_own u t s g (Some r) on k = own_tried s _ k (delivered_own u t g.side s (I.image_of c s t r) on k)
+  pub missed_own : (u : Usage) (t : ℕ) (s : Store F P H) (g : Got R) (o : Option R) → T t → Is n s → Owns (missed c u t s g o)
+  missed_own u t s g None on k = own_done k
+  missed_own u t s g (Some r) on k = own_tried s _ k (delivered_own u t g.side s (I.image_of c s t r) on k)

@@ -1,5 +1,5 @@
 -- Each event of a device wants frames of its own tracks alone, and of those that its commands and its queue come to, and leaves its queue short.
-use Rattle.std.proofs.Common.{◌≤◌, List, ◌∷◌, ◌≡◌, zero, suc, ℕ, Bool, [], Option, Some, None, refl, sym, ap, subst, ◌∙◌, ◌==◌, arith}
+use Rattle.std.proofs.Common.{List, ◌∷◌, ◌≡◌, zero, suc, ℕ, Bool, [], Option, Some, None, refl, sym, ap, subst, ◌∙◌, ◌==◌}
 use Rattle.std.specs.Prelude.{IfSome}
 use Rattle.ckd_chain.specs.declared.progress.Progress.{Progress}
 use Rattle.ckd_chain.specs.declared.progress.Progress.TheVariants as progresses
@@ -21,17 +21,7 @@ use Rattle.device_defs.specs.Cutting as U
 use Rattle.device_defs.specs.Cutting.{half_cut, power, powered_off, reset, reset_by}
 use Rattle.device_defs.specs.Device.{Device, with_store, event_begun, quiet_event, event}
 use Rattle.device_defs.specs.Events as E
-use Rattle.device_defs.specs.Events.{
-  background,
-  command_ended,
-  lose,
-  losing,
-  second,
-  second_ended,
-  second_of,
-  second_turn,
-  with_loss,
-}
+use Rattle.device_defs.specs.Events.{background, command_ended, lose, losing, second, second_ended, second_of, second_turn, with_loss}
 use Rattle.device_defs.specs.Image.{Imaged, Has, NoBytes, BadTrack}
 use Rattle.device_defs.specs.Losses.{over}
 use Rattle.device_defs.specs.Orders as O
@@ -41,10 +31,12 @@ use Rattle.device_defs.specs.Owed.{hear, waiting_count}
 use Rattle.device_defs.specs.Store.{Origin, OfCommand, OfCut, OfBackground, HalfWrite, Store, is_lost, tracks_of}
 use Rattle.deck_text.proofs.DeckAgain.{Each}
 use Rattle.device_defs.specs.Memory.{had_by}
+use Rattle.device_laws.proofs.Based.{Base}
 use Rattle.device_laws.proofs.WholeEvents.{turned_same}
+use Rattle.subsystem_laws.proofs.LendBase.{given_base}
 use Rattle.run_audit_laws.proofs.OwnCalls.{Own, ended_own, hear_own, own_done, own_had, own_if, own_then, own_tried, own_try}
 use Rattle.run_audit_laws.proofs.OwnParts.{cut_own, image_own, losing_own, part_own, work_own, write_own}
-use Rattle.run_audit_laws.proofs.Seats.{Is, emptied, given_up_seat, powerless_seat}
+use Rattle.run_audit_laws.proofs.Seats.{Is, powerless_is}
 
 -- a command comes to tracks of a set alone where each track that its chain needs, and goes on to, is one of these
 pub record Comes (T : ℕ → Type 0) (In : ChainState → Type 0) : Type 0 where
@@ -52,9 +44,9 @@ pub record Comes (T : ℕ → Type 0) (In : ChainState → Type 0) : Type 0 wher
   pub goes : (chain : ChainState) (i : Image) (q : ℕ) → In chain → (stepped chain (Some i)).progress ≡ progresses.Need q →
       In (stepped chain (Some i)).chain × T q
 
-module _ {F P H R : Type 0} (T : ℕ → Type 0) (n most : ℕ) (room : 64 ≤ most) (c : Contents F P H R) where
+module _ {F P H R : Type 0} (T : ℕ → Type 0) (n : ℕ) (c : Contents F P H R) where
   abbrev At : Store F P H → Type 0
-  At s = Is n most s
+  At s = Is n s
 
   -- A command from track to track
 
@@ -70,7 +62,7 @@ module _ {F P H R : Type 0} (T : ℕ → Type 0) (n most : ℕ) (room : 64 ≤ m
     went_own u first t s i chain (progresses.Ended e) k needs = own_done k
     went_own u first t s i chain (progresses.Need q) k needs = own_done (k, needs q refl)
     went_own u first t s i chain (progresses.Write q e) k needs =
-        own_had {p = At} (write_own T n most room c s u first t i e k) (λ z took g. own_done g) (λ z g. g)
+        own_had {p = At} (write_own T n c s u first t i e k) (λ z took g. own_done g) (λ z g. g)
     went_own u first t s i chain (progresses.Local act) k needs = own_done k
 
     looked_own : (chain : ChainState) (first t : ℕ) (s : Store F P H) (i : Imaged) → At s → In chain → Own T n (looked c chain first t s i) Next
@@ -84,7 +76,7 @@ module _ {F P H R : Type 0} (T : ℕ → Type 0) (n most : ℕ) (room : 64 ≤ m
     unfolding N.look
     look_own chain first t s k is on =
         own_if (is_lost s t) (own_done k)
-        (own_had {p = At} (image_own T n most room c s (usage_of chain) t on k) (λ z i g. looked_own chain first t z i g is) (λ z g. g))
+        (own_had {p = At} (image_own T n c s (usage_of chain) t on k) (λ z i g. looked_own chain first t z i g is) (λ z g. g))
 
     further : (next : ChainState → ℕ → Store F P H → Interaction R Image (Store F P H) (Option Turn)) →
         ((chain : ChainState) (t : ℕ) (s : Store F P H) → At s → In chain → T t → Own T n (next chain t s) (λ z _. At z)) → (s : Store F P H)
@@ -148,14 +140,14 @@ module _ {F P H R : Type 0} (T : ℕ → Type 0) (n most : ℕ) (room : 64 ≤ m
 
   second_of_own : (d : Device F P H) (o : Option (HalfWrite H)) → At d.store → OwnEvent (second_of c d o)
   second_of_own d (Some h) k =
-      own_then (part_own T n most room c d.store h k) (λ s done g. second_ended_own (with_store d s) h.track h.origin done g)
+      own_then (part_own T n c d.store h k) (λ s done g. second_ended_own (with_store d s) h.track h.origin done g)
   second_of_own d None k = own_done k
 
   module _ {A : Type 0} where
     quiet_own : (d : Device F P H) (body : Device F P H → Interaction R Image (Device F P H) A) → OwnEvent (body (event_begun d)) →
         OwnEvent (quiet_event c d body)
     quiet_own d body x =
-        own_then x (λ y a g. own_then (ended_own T n most c (waiting_count c d.store) y.store g) (λ z _ h. own_done h))
+        own_then x (λ y a g. own_then (ended_own T n c (waiting_count c d.store) y.store g) (λ z _ h. own_done h))
 
     -- the notices leave the queue as it is
     event_own : (d : Device F P H) (body : Device F P H → Interaction R Image (Device F P H) A) → At d.store →
@@ -163,7 +155,7 @@ module _ {F P H R : Type 0} (T : ℕ → Type 0) (n most : ℕ) (room : 64 ≤ m
         OwnEvent (event c d body)
     event_own d body k x =
         quiet_own d (λ z. and_then (hear c 960 z.store) (λ s _. body (record z { store = s })))
-        (own_then (hear_own T n most c (λ z. At z × (z.queue ≡ d.store.queue)) (λ s t g. g) 960 (event_begun d).store (k, refl)) (λ s _ g. x s g))
+        (own_then (hear_own T n c (λ z. At z × (z.queue ≡ d.store.queue)) (λ s t g. g) 960 (event_begun d).store (k, refl)) (λ s _ g. x s g))
 
   pub command_own : (In : ChainState → Type 0) → Comes T In → (d : Device F P H) → IfSome d.chain In → At d.store → OwnEvent (command c d)
   unfolding N.command
@@ -180,13 +172,13 @@ module _ {F P H R : Type 0} (T : ℕ → Type 0) (n most : ℕ) (room : 64 ≤ m
   unfolding E.background
   background_own d on k =
       event_own d (λ z. and_then (work c z.store) (λ s did. Done (with_store z s) did)) k
-      (λ s g. own_then (work_own T n most room c s (subst (Each T) (sym g.1) on) g.0) (λ z did h. own_done h))
+      (λ s g. own_then (work_own T n c s (subst (Each T) (sym g.1) on) g.0) (λ z did h. own_done h))
 
   pub lose_own : (d : Device F P H) (loss : Loss) → At d.store → OwnEvent (lose c d loss)
   unfolding E.lose
   lose_own d loss k =
       event_own d (λ z. and_then (losing c z.store loss) (λ s _. Done (with_store z s) tt)) k
-      (λ s g. own_then (losing_own T n most room c s loss g.0) (λ z _ h. own_done h))
+      (λ s g. own_then (losing_own T n c s loss g.0) (λ z _ h. own_done h))
 
   -- Cuts
 
@@ -195,15 +187,15 @@ module _ {F P H R : Type 0} (T : ℕ → Type 0) (n most : ℕ) (room : 64 ≤ m
   reset_own d path k = by_running d.history.running where
     by_running : (o : Option OpenEntry) → OwnEvent (reset_by c d path o)
     by_running (Some o) =
-        own_if (o.path == path) (own_then (cut_own T n most room c d.store d.store.half k) (λ s _ g. own_done g)) (own_done k)
+        own_if (o.path == path) (own_then (cut_own T n c d.store d.store.half k) (λ s _ g. own_done g)) (own_done k)
     by_running None = own_if (has_used d.history path) (own_done k) (own_done k)
 
   pub power_own : (d : Device F P H) → At d.store → OwnEvent (power c d)
   unfolding U.power
   power_own d k =
       quiet_own d (λ z. and_then (half_cut c z.store z.store.half) (λ s _. Done (powered_off c z s) tt))
-      (own_then (cut_own T n most room c (event_begun d).store (event_begun d).store.half k)
-      (λ s _ g. own_done (emptied n most (powerless_seat c (with_loss s losses.Cache)) g.0)))
+      (own_then (cut_own T n c (event_begun d).store (event_begun d).store.half k)
+      (λ s _ g. own_done (powerless_is n c (with_loss s losses.Cache) g)))
 
   -- A device that is lent
 
@@ -211,7 +203,7 @@ module _ {F P H R : Type 0} (T : ℕ → Type 0) (n most : ℕ) (room : 64 ≤ m
   unfolding O.lend
   lend_own d to is =
       quiet_own d (λ z. Done (with_tracks z (lent_to (over (tracks_of z.store) (given_up c) z.store) to)) tt)
-      (own_done (ap (λ (k : ℕ × List ℕ). k.0) (given_up_seat c (tracks_of d.store) (event_begun d).store) ∙ is, omega arith))
+      (own_done (ap (λ (b : Base). b.device) (given_base c (tracks_of d.store) (event_begun d).store) ∙ is))
 
 -- Any tracks
 

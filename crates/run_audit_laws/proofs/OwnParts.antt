@@ -1,5 +1,5 @@
 -- The parts of an event on a device's tracks want frames of its own tracks alone, and leave its queue short.
-use Rattle.std.proofs.Common.{◌≤◌, length, arith, zero, suc, ℕ, Bool, true, false, List, [], ◌∷◌, Option, Some, None, is_some, ◌∙◌}
+use Rattle.std.proofs.Common.{zero, suc, ℕ, Bool, true, false, List, [], ◌∷◌, Option, Some, None, is_some}
 use Rattle.std.specs.Prelude.{◌||◌}
 use Rattle.ckd_types.specs.declared.paths.Side.{Side}
 use Rattle.ckd_types.specs.declared.paths.Side.TheVariants.{A, B}
@@ -28,17 +28,17 @@ use Rattle.device_defs.specs.Image.{Got, second_read, read_b, first_read, level_
 use Rattle.device_defs.specs.Losses as L
 use Rattle.device_defs.specs.Losses.{all_firm_told, side_lost, call_failed}
 use Rattle.device_defs.specs.Second as D
-use Rattle.device_defs.specs.Second.{half_image_of, closed, finished, second_done, left_by, second_part}
+use Rattle.device_defs.specs.Second.{half_image_of, half_closed, finished, second_done, left_by, second_part}
 use Rattle.device_defs.specs.Store.{Origin, OfCommand, OfCut, OfBackground, HalfWrite, Store, tracks_of, level_at, has_level, owed_at, takes_b, frame_at, is_lost, is_loose, with_frame}
 use Rattle.device_defs.specs.Writing as V
-use Rattle.device_defs.specs.Writing.{write_counted, firm_first, alone_b, first_a, write_first, tried_b, write_second, opened}
+use Rattle.device_defs.specs.Writing.{write_counted, firm_first, alone_b, first_a, write_first, tried_b, write_second, write_opened}
 use Rattle.deck_text.proofs.DeckAgain.{Each}
 use Rattle.run_audit_laws.proofs.OwnCalls.{Own, choose_own, done_own, filled_own, missed_own, own_ask, own_done, own_if, own_read, own_tell, own_then, own_tried, own_try, own_write}
-use Rattle.run_audit_laws.proofs.Seats.{Is, keep, left_seat, level_seat, lost_is, provisional_seat, settled_seat, side_seat, stale_seat, taken_seat, unwritten_seat}
+use Rattle.run_audit_laws.proofs.Seats.{Is, left_is, level_is, lost_is, provisional_is, settled_is, side_is, stale_is, taken_is, unwritten_is}
 
-module _ {F P H R : Type 0} (T : ℕ → Type 0) (n most : ℕ) (room : 64 ≤ most) (c : Contents F P H R) where
+module _ {F P H R : Type 0} (T : ℕ → Type 0) (n : ℕ) (c : Contents F P H R) where
   abbrev At : Store F P H → Type 0
-  At s = Is n most s
+  At s = Is n s
 
   abbrev Owns : {A : Type 0} → Interaction R Image (Store F P H) A → Type 0
   Owns i = Own T n i (λ z _. At z)
@@ -53,7 +53,7 @@ module _ {F P H R : Type 0} (T : ℕ → Type 0) (n most : ℕ) (room : 64 ≤ m
 
   failed_own : (s : Store F P H) (side : Side) (w : Option ℕ) → At s → Owns (call_failed c s side w)
   failed_own s side w k =
-      own_if s.paired (told_own (tracks_of s) (side_lost c s side w) (keep n most (side_seat c s side w) k))
+      own_if s.paired (told_own (tracks_of s) (side_lost c s side w) (side_is n c s side w k))
       (own_done k)
 
   -- Reads
@@ -74,7 +74,7 @@ module _ {F P H R : Type 0} (T : ℕ → Type 0) (n most : ℕ) (room : 64 ≤ m
   level_own s t k = own_if (level_at s.a t) (own_read (λ o. first_own t (I.read_counted s (is_some o)) o k)) (b_own s t None k)
 
   miss_own : (s : Store F P H) (u : Usage) (t : ℕ) → T t → At s → Owns (miss c s u t)
-  miss_own s u t on k = own_then (level_own s t k) (λ z g h. missed_own T n most c room u t z g g.bytes on h)
+  miss_own s u t on k = own_then (level_own s t k) (λ z g h. missed_own T n c u t z g g.bytes on h)
 
   image_by_own : (s : Store F P H) (u : Usage) (t : ℕ) (o : Option F) → T t → At s → Owns (image_by c s u t o)
   image_by_own s u t None on k = miss_own s u t on k
@@ -92,25 +92,25 @@ module _ {F P H R : Type 0} (T : ℕ → Type 0) (n most : ℕ) (room : 64 ≤ m
   firm_own : (s : Store F P H) (t : ℕ) → At s → Owns (firm_first c s t)
   firm_own s t k =
       own_if (is_loose s t)
-      (own_tell (λ _. own_done (keep n most (stale_seat (hardened s t) t) k)))
+      (own_tell (λ _. own_done (stale_is n (hardened s t) t k)))
       (own_done k)
 
   alone_own : (t : ℕ) (fault : Option Side) (first : Side) (s : Store F P H) (ok : Bool) → At s → Owns (alone_b c t fault first s ok)
   alone_own t fault first s true k = own_done k
-  alone_own t fault first s false k = own_then (failed_own s B (Some t) k) (λ z _ g. own_done (keep n most (unwritten_seat c z t) g))
+  alone_own t fault first s false k = own_then (failed_own s B (Some t) k) (λ z _ g. own_done (unwritten_is n c z t g))
 
   first_a_own : (t : ℕ) (r : R) (s : Store F P H) (ok : Bool) → At s → Owns (first_a c t r s ok)
-  first_a_own t r s true k = own_done (keep n most (taken_seat s t) k)
+  first_a_own t r s true k = own_done (taken_is n s t k)
   first_a_own t r s false k =
       own_then (failed_own s A (Some t) k)
-      (λ z _ g. own_if (takes_b s) (own_write (λ ok. alone_own t (Some A) A (V.write_counted z ok) ok g)) (own_done (keep n most (unwritten_seat c z t) g)))
+      (λ z _ g. own_if (takes_b s) (own_write (λ ok. alone_own t (Some A) A (V.write_counted z ok) ok g)) (own_done (unwritten_is n c z t g)))
 
   first_write_own : (s : Store F P H) (t : ℕ) (r : R) → At s → Owns (write_first c s t r)
   unfolding V.write_first
   first_write_own s t r k =
       own_if s.a.up (own_write (λ ok. first_a_own t r (V.write_counted s ok) ok k))
       (own_if (takes_b s) (own_write (λ ok. alone_own t None B (V.write_counted s ok) ok k))
-      (own_done (keep n most (settled_seat c s t) k)))
+      (own_done (settled_is n c s t k)))
 
   tried_own : (t : ℕ) (s : Store F P H) (ok : Bool) → At s → Owns (tried_b c t s ok)
   tried_own t s true k = own_done k
@@ -120,18 +120,18 @@ module _ {F P H R : Type 0} (T : ℕ → Type 0) (n most : ℕ) (room : 64 ≤ m
   unfolding V.write_second
   second_write_own s t r k = own_if (takes_b s) (own_write (λ ok. tried_own t (V.write_counted s ok) ok k)) (own_done k)
 
-  opened_own : (s : Store F P H) (t : ℕ) (i : Image) (origin : Origin) (was : Bool) → At s → Owns (opened c s t i origin was)
+  opened_own : (s : Store F P H) (t : ℕ) (i : Image) (origin : Origin) (was : Bool) → At s → Owns (write_opened c s t i origin was)
   opened_own s t i origin was k = own_if was (own_ask tt (λ _. own_done k)) (own_done k)
 
   -- A command's write
 
   whole_own : (s : Store F P H) (t : ℕ) (i : Image) (e : Edit) (bypass : Bool) → At s → Owns (whole c s t i e bypass)
-  whole_own s t i e bypass k = own_tell (λ _. own_then (done_own T n most c _ t i bypass k) (λ z _ g. own_done g))
+  whole_own s t i e bypass k = own_tell (λ _. own_then (done_own T n c _ t i bypass k) (λ z _ g. own_done g))
 
   at_once_own : (s : Store F P H) (t : ℕ) (i : Image) (e : Edit) (bypass : Bool) → At s → Owns (at_once c s t i e bypass)
   at_once_own s t i e bypass k =
       own_then (second_write_own s t (c.bytes i) k)
-      (λ z _ g. own_if (has_level z t) (whole_own z t i e bypass g) (own_done (keep n most (settled_seat c z t) g)))
+      (λ z _ g. own_if (has_level z t) (whole_own z t i e bypass g) (own_done (settled_is n c z t g)))
 
   through_by_own : (t : ℕ) (i : Image) (e : Edit) (bypass opens was : Bool) (s : Store F P H) (took : Took) → At s → Owns (through_by c t i e bypass opens was s took)
   through_by_own t i e bypass opens was s Whole k = whole_own s t i e bypass k
@@ -146,7 +146,7 @@ module _ {F P H R : Type 0} (T : ℕ → Type 0) (n most : ℕ) (room : 64 ≤ m
       (λ z was g. own_then (first_write_own z t (c.bytes i) g) (λ y w k. through_by_own t i e bypass opens was y w.took k))
 
   write_by_own : (u : Usage) (first t : ℕ) (i : Image) (e : Edit) (s : Store F P H) (choice : Choice) → At s → Owns (write_by c u first t i e s choice)
-  write_by_own u first t i e s Provisional k = own_done (keep n most (provisional_seat c s t i e) k)
+  write_by_own u first t i e s Provisional k = own_done (provisional_is n c s t i e k)
   write_by_own u first t i e s (Fast slot) k = own_tell (λ _. own_done k)
   write_by_own u first t i e s Through k = through_own s t i e (is_bypass u.mode) _ k
 
@@ -172,13 +172,13 @@ module _ {F P H R : Type 0} (T : ℕ → Type 0) (n most : ℕ) (room : 64 ≤ m
   unfolding E.write
   write_own s u first t old e k =
       own_try (λ ok. own_if ok
-      (own_then (choose_own T n most c s u t k) (λ z choice g. chosen_own u first t old e z choice g)) (own_done k))
+      (own_then (choose_own T n c s u t k) (λ z choice g. chosen_own u first t old e z choice g)) (own_done k))
 
   -- By itself
 
   saved_by_own : (t : ℕ) (i : Image) (d : Did) (fault : Option Side) (was : Bool) (failed : Option Side) (s : Store F P H) (took : Took) → At s →
       Owns (saved_by c t i d fault was failed s took)
-  saved_by_own t i d fault was failed s Whole k = own_then (done_own T n most c s t i false k) (λ z _ g. own_done g)
+  saved_by_own t i d fault was failed s Whole k = own_then (done_own T n c s t i false k) (λ z _ g. own_done g)
   saved_by_own t i d fault was failed s Opened k = own_then (opened_own s t i OfBackground was k) (λ z _ g. own_done g)
   saved_by_own t i d fault was failed s Unwritten k = own_done k
 
@@ -203,7 +203,7 @@ module _ {F P H R : Type 0} (T : ℕ → Type 0) (n most : ℕ) (room : 64 ≤ m
   recover_own s t None k = own_then (level_own s t k) (λ z g h. recovered_bytes_own t z g g.bytes h)
 
   copied_own : (t : ℕ) (side : Side) (s : Store F P H) (ok : Bool) → At s → Owns (copied c t side s ok)
-  copied_own t side s true k = own_done (keep n most (level_seat s side t) k)
+  copied_own t side s true k = own_done (level_is n s side t k)
   copied_own t side s false k = own_then (failed_own s side None k) (λ z _ g. own_done g)
 
   read_own : (t : ℕ) (side : Side) (s : Store F P H) (o : Option R) → At s → Owns (copy_read c t side s o)
@@ -219,30 +219,30 @@ module _ {F P H R : Type 0} (T : ℕ → Type 0) (n most : ℕ) (room : 64 ≤ m
 
   staged_own : (t : ℕ) (s : Store F P H) (g : Got R) (o : Option Image) → At s → Owns (staged_image c t s g o)
   staged_own t s g None k = unfilled_own s t _ k
-  staged_own t s g (Some i) k = own_then (filled_own T n most c s t i k) (λ z _ h. own_done h)
+  staged_own t s g (Some i) k = own_then (filled_own T n c s t i k) (λ z _ h. own_done h)
 
   staged_bytes_own : (t : ℕ) (s : Store F P H) (g : Got R) (o : Option R) → At s → Owns (staged_bytes c t s g o)
   staged_bytes_own t s g None k = unfilled_own s t _ k
   staged_bytes_own t s g (Some r) k = own_try (λ ok. own_if ok (staged_own t s g (image_of c s t r) k) (unfilled_own s t None k))
 
-  granted_own : (s : Store F P H) (t : ℕ) (given : Bool) → At s → Owns (B.granted c s t given)
+  granted_own : (s : Store F P H) (t : ℕ) (given : Bool) → At s → Owns (B.staging_granted c s t given)
   granted_own s t given k = own_if given (own_then (level_own s t k) (λ z g h. staged_bytes_own t z g g.bytes h)) (own_done k)
 
   stage_own : (s : Store F P H) (t : ℕ) → T t → At s → Owns (stage c s t)
   stage_own s t on k =
       own_if (is_some (frame_at s t) || is_lost s t) (own_done k)
-      (own_tried s _ k (own_ask (k.0, on) (λ given. granted_own s t given k)))
+      (own_tried s _ k (own_ask (k, on) (λ given. granted_own s t given k)))
 
   destage_own : (s : Store F P H) (o : Option ℕ) → At s → Owns (destage_first c s o)
   destage_own s None k = own_done k
   destage_own s (Some t) k = saved_own s t _ _ None k
 
-  stages_own : (s : Store F P H) (l : List ℕ) → length l ≤ most → Each T l → At s → Owns (stage_first c s l)
-  stages_own s [] few on k = destage_own s (to_destage c s) k
-  stages_own s (t ∷ ts) few on k = stage_own (record s { queue = ts }) t on.0 (k.0, omega (arith, few))
+  stages_own : (s : Store F P H) (l : List ℕ) → Each T l → At s → Owns (stage_first c s l)
+  stages_own s [] on k = destage_own s (to_destage c s) k
+  stages_own s (t ∷ ts) on k = stage_own (record s { queue = ts }) t on.0 k
 
   copies_own : (s : Store F P H) (o : Option ℕ) → Each T s.queue → At s → Owns (copy_first c s o)
-  copies_own s None on k = stages_own s s.queue k.1 on k
+  copies_own s None on k = stages_own s s.queue on k
   copies_own s (Some t) on k = copy_own s t (copies_to s t) k
 
   recovers_own : (s : Store F P H) (o : Option ℕ) → Each T s.queue → At s → Owns (recover_first c s o)
@@ -256,7 +256,7 @@ module _ {F P H R : Type 0} (T : ℕ → Type 0) (n most : ℕ) (room : 64 ≤ m
   -- The second part of a write
 
   finished_own : (s : Store F P H) (t : ℕ) (i : Image) (bypass : Bool) → At s → Owns (finished c s t i bypass)
-  finished_own s t i bypass k = own_then (done_own T n most c s t i bypass k) (λ z _ g. own_done g)
+  finished_own s t i bypass k = own_then (done_own T n c s t i bypass k) (λ z _ g. own_done g)
 
   second_done_own : (s : Store F P H) (t : ℕ) (i : Image) (origin : Origin) → At s → Owns (second_done c s t i origin)
   second_done_own s t i (OfCommand bypass e) k = own_tell (λ _. finished_own _ t i bypass k)
@@ -268,13 +268,13 @@ module _ {F P H R : Type 0} (T : ℕ → Type 0) (n most : ℕ) (room : 64 ≤ m
   part_own s h k =
       let i = half_image_of c s h in
       own_then (second_write_own s h.track (c.bytes i) k)
-      (λ z _ g. own_if (has_level z h.track) (second_done_own (closed z) h.track i h.origin g)
-      (own_done (keep n most (settled_seat c (left_by c (closed z) h.track i h.origin) h.track ∙ left_seat c (closed z) h.track i h.origin) g)))
+      (λ z _ g. own_if (has_level z h.track) (second_done_own (half_closed z) h.track i h.origin g)
+      (own_done (settled_is n c (left_by c (half_closed z) h.track i h.origin) h.track (left_is n c (half_closed z) h.track i h.origin g))))
 
   -- Losses and cuts
 
   pub losing_own : (s : Store F P H) (loss : Loss) → At s → Owns (losing c s loss)
-  losing_own s loss k = told_own (tracks_of s) (lost_by c (with_loss s loss) loss) (lost_is n most c s loss k)
+  losing_own s loss k = told_own (tracks_of s) (lost_by c (with_loss s loss) loss) (lost_is n c s loss k)
 
   cut_by : (s : Store F P H) (h : HalfWrite H) (origin : Origin) → At s → Owns (origin_cut c s h origin)
   cut_by s h (OfCommand bypass e) k = own_tell (λ _. own_done k)

@@ -10,12 +10,12 @@ use Rattle.plain_defs.specs.declared.journal.How.{How}
 use Rattle.plain_defs.specs.declared.journal.How.TheVariants.{Full, Cut, Checked}
 use Rattle.plain_defs.specs.declared.journal.Item.{Item}
 use Rattle.plain_defs.specs.declared.journal.Item.TheVariants as items
-use Rattle.plain_defs.specs.History.{History, OpenEntry, acted, checked, closed, cut_by, emptied, ended, entry_of, lost_power, open_part, put, reset, resets_of, started, with_end}
+use Rattle.plain_defs.specs.History.{History, OpenEntry, acted, checked, closed, cut_by, emptied, ended, entry_of, lost_power, open_part, put, reset_in_history, resets_of, started, with_end}
 use Rattle.plain_defs.specs.Journal.{Plans, last_sense, program_of, replay, replay_item}
 use Rattle.plain_defs.specs.Legal.{AreInOrder, is_started, is_used, started_by, used_by}
 use Rattle.plain_defs.specs.Loose.{act_done, power_off}
 use Rattle.plain_defs.specs.PlainState.{PlainState, reset_path, with_sense}
-use Rattle.plain_defs.specs.Program.{Part, acted as acted_part, acted_at, part_of, stepped, stepped_at, with_act, with_acts}
+use Rattle.plain_defs.specs.Program.{Part, acts_made as acted_part, acted_at, part_of, command_run, stepped_at, with_act, with_acts}
 use Rattle.plain_defs.proofs.JournalLaws.{replay-append}
 use Rattle.plain_defs.proofs.PartLemmas.{acted_beside, first_next, part_counts, part_more}
 use Rattle.device_laws.proofs.HistoryEnds.{one_longer}
@@ -92,11 +92,11 @@ module _ (path : ℕ) (ccws : List Ccw) (state : PlainState) (acts : List Acted)
   over_still act zero none = absurd (let never : Some 0 ≡ None = sym (first_next path ccws acts state) ∙ none in cc)
   over_still act (suc k) none =
       let a : Acted = record { after = suc k; act = act } in
-      let q = stepped path ccws (at k) in
+      let q = command_run path ccws (at k) in
       let over : q.next ≡ None =
       sym (acted_beside acts q).next ∙ ap (λ (p : Part). p.next) (sym (part_more path ccws acts state k)) ∙ none in
       part_more path ccws (acts ++ a ∷ []) state k
-      ∙ ap (λ (p : Part). acted_part (acts ++ a ∷ []) (stepped path ccws p)) (part_before path ccws state acts a k (omega arith))
+      ∙ ap (λ (p : Part). acted_part (acts ++ a ∷ []) (command_run path ccws p)) (part_before path ccws state acts a k (omega arith))
       ∙ over_at (acts ++ a ∷ []) q over ∙ sym (over_at acts q over) ∙ sym (part_more path ccws acts state k)
 
   act_untold : (act : Act) (p : Part) (next : Option ℕ) → untold (act_by act p next) ≡ untold (act_by act (untold p) next)
@@ -127,9 +127,9 @@ module _ (path : ℕ) (ccws : List Ccw) (state : PlainState) (acts : List Acted)
         ap (λ (l : List Act). with_acts l q) (no_acts 0 (n + 1) (length q.ends) acts order (omega (arith, so)))
 
   pub step_more : (n : ℕ) → AreInOrder 0 (n + 1) acts → untold (part_of state path ccws acts (suc n))
-      ≡ untold (stepped path ccws (untold (part_of state path ccws acts n)))
+      ≡ untold (command_run path ccws (untold (part_of state path ccws acts n)))
   step_more n order =
-      let q = stepped path ccws (at n) in
+      let q = command_run path ccws (at n) in
       let beside = acted_beside acts q in
       ap untold (part_more path ccws acts state n
       ∙ none_there n order q (λ some. ap length (sym beside.ends) ∙ ap (λ (p : Part). length p.ends) (sym (part_more path ccws acts state n))
@@ -138,7 +138,7 @@ module _ (path : ℕ) (ccws : List Ccw) (state : PlainState) (acts : List Acted)
 
 -- the state behind the next command
 abbrev pub next_part : Plans → Going → Part
-next_part plans g = untold (stepped g.path (program_of plans g.path g.ordinal) g.part)
+next_part plans g = untold (command_run g.path (program_of plans g.path g.ordinal) g.part)
 
 -- one command more than ended, or none
 abbrev pub IsFew : ℕ → Type 0
@@ -453,12 +453,12 @@ module _ (path more : ℕ) (few : IsFew more) (l : List Item) (w : List ℕ) whe
   idle_past plans empty false = refl
 
 module _ (path more : ℕ) (few : IsFew more) (l : List Item) where
-  reset_tidy : (r : Option OpenEntry) (w : List ℕ) → IsTidy (with_parts l r w) → IsTidy (reset (with_parts l r w) path more)
+  reset_tidy : (r : Option OpenEntry) (w : List ℕ) → IsTidy (with_parts l r w) → IsTidy (reset_in_history (with_parts l r w) path more)
   reset_tidy None w tidy = idle_tidy path more few l w (is_used path false l)
   reset_tidy (Some o) w tidy = resets_tidy path more few l w o tidy (o.path == path) (is_used path false l)
 
   reset_is : (plans : Plans) (empty : PlainState) (r : Option OpenEntry) (w : List ℕ) → IsTidy (with_parts l r w) →
-      past_of plans empty (reset (with_parts l r w) path more) ≡ reset_past path more plans (past_of plans empty (with_parts l r w))
+      past_of plans empty (reset_in_history (with_parts l r w) path more) ≡ reset_past path more plans (past_of plans empty (with_parts l r w))
   reset_is plans empty None w tidy =
       idle_past path more few l w plans empty (is_used path false l)
       ∙ ap (λ (used : Bool). if used then record {
@@ -473,7 +473,7 @@ module _ (path more : ℕ) (few : IsFew more) (l : List Item) where
       ∙ ap (λ (used : Bool). if o.path == path then cut_past more plans before (going_of plans (replay plans empty l) o)
       else if used then record before { waiting = put path w } else before) (used_bare path l false)
 
-pub reset_is_read : (path more : ℕ) → IsFew more → IsRead (λ h. reset h path more) (reset_past path more)
+pub reset_is_read : (path more : ℕ) → IsFew more → IsRead (λ h. reset_in_history h path more) (reset_past path more)
 reset_is_read path more few = record {
   tidy = λ h tidy. reset_tidy path more few h.items h.running h.waiting tidy;
   past = λ plans empty h tidy. reset_is path more few h.items plans empty h.running h.waiting tidy;

@@ -5,7 +5,7 @@ use Rattle.std.proofs.lemmas.Bool.{eq-eqb}
 use Rattle.deck_plan.specs.declared.event.EventLine.{EventLine}
 use Rattle.deck_plan.specs.declared.event.EventLine.TheVariants as wanted
 use Rattle.plain_defs.specs.History.{OpenEntry}
-use Rattle.device_outside.specs.Told.{Outcome}
+use Rattle.device_outside.specs.Told.{RunOutcome}
 use Rattle.device_defs.specs.Command.{command}
 use Rattle.device_defs.specs.Events.{background, second}
 use Rattle.device_defs.specs.Contents.{by_plain}
@@ -37,7 +37,7 @@ use Rattle.subsystem_defs.specs.declared.event.Event.TheVariants as events
 use Rattle.subsystem_defs.specs.Deeds as E
 use Rattle.subsystem_defs.specs.Deeds.{Asks, Ends, back as back_deed, device_in, may_end_by, on_device, seconds, step}
 use Rattle.subsystem_defs.specs.Happening as H
-use Rattle.subsystem_defs.specs.Happening.{Happened as Happening, Talk, asks, happens, happens_by, held_with, mounted_behind, quietly, told_end, told_to}
+use Rattle.subsystem_defs.specs.Happening.{EventHappened as Happening, Talk, asks, happens, happens_by, held_with, mounted_behind, quietly, told_end, told_to}
 use Rattle.subsystem_defs.specs.Lines.{Asked, Once, Run, Settle, is_busy, is_settled}
 use Rattle.subsystem_defs.specs.Subsystem.{Mounted, Subsystem, devices_of, mounted_in, number_of, put_in, with_mounted}
 use Rattle.subsystem_laws.proofs.GoodMarks.{Good, by_lent}
@@ -143,7 +143,7 @@ module _ (s : Subsystem) (x : MarksDevice) (at : device_in (devices_of s) x.stor
                 ∙ ap (λ (k : Option Mounted). lines_at (work_told n (option_map running_program x.history.running) idle end) reads writes k z.device) there
                 ∙ ap (λ (d : MarksDevice). device_lines (work_told n (option_map running_program x.history.running) idle end) reads writes d z.device) is
 
-            leads : (later : List EventLine) (o : Outcome MarksDevice (Option EventEnd)) (z : Mounted) →
+            leads : (later : List EventLine) (o : RunOutcome MarksDevice (Option EventEnd)) (z : Mounted) →
                 ComesTo x z.device o.answer w idle →
                 LeadsTowards (stand s (w ∷ later)) (event_lines asked (told_end o.answer) o.told.reads o.told.writes (devices_of s)
                 (devices_of (with_mounted s x.store.device z)))

@@ -13,7 +13,7 @@ use Rattle.ckd_rules.specs.Ends.{goes_to, is_over}
 use Rattle.deck_plan.specs.Plans.{no_plans, plan_of, with_program}
 use Rattle.deck_text.specs.declared.line.DeviceLine.{DeviceLine}
 use Rattle.deck_text.specs.declared.line.PlannedProgram.{PlannedProgram}
-use Rattle.deck_text.specs.Plans.{planned, planned_all, plans_of}
+use Rattle.deck_text.specs.Plans.{plan_added, planned_all, plans_of}
 use Rattle.deck_text.proofs.CcwAgain.{CcwFacts}
 use Rattle.deck_text.proofs.DeckAgain.{Each, ProgramOk}
 use Rattle.plain_defs.specs.declared.journal.Acted.{Acted}
@@ -88,7 +88,7 @@ good_all devices d plans (p ∷ ps) h ok =
       counts = each_count p.program ok.0.ccws;
       gives = each_gives p.program ok.0.ccws;
     } in
-    good_all devices d (planned d plans p) ps
+    good_all devices d (plan_added d plans p) ps
     (good_if (p.device == d) plans (with_program plans p.path p.program) h
     (λ j. good_set plans (p.path - 1) j (plan_of plans p.path ++ p.program ∷ []) (good_more (plan_of plans p.path) p.program (h (p.path - 1)) one) (h j)))
     ok.1

@@ -12,7 +12,7 @@ use Rattle.device_defs.specs.Effects.{gone_back}
 use Rattle.device_defs.specs.Events.{with_loss}
 use Rattle.device_defs.specs.Losses.{settled, slot_in, without_frame}
 use Rattle.device_defs.specs.Marks.{MarksDevice, MarksStore}
-use Rattle.device_defs.specs.Owed.{begun, waiting_count}
+use Rattle.device_defs.specs.Owed.{noted_begin, waiting_count}
 use Rattle.device_defs.specs.Store.{Origin, OfCommand, OfCut, OfBackground, has_loose, patch_at, tracks_of}
 use Rattle.device_defs.specs.Store as store
 use Rattle.device_laws.proofs.Had.{Had, had_done, had_tell, had_then}
@@ -126,7 +126,7 @@ module _ (num : ℕ) (empty : PlainState) (x : MarksDevice) (f : Follows num emp
     cut_number = g.cut_number;
   }
 
-  off_first : (s : MarksStore) → CutSo num empty x f x.history.running (counts_one_by x.store.half) (begun x.store) s → Spares (begun x.store) s →
+  off_first : (s : MarksStore) → CutSo num empty x f x.history.running (counts_one_by x.store.half) (noted_begin x.store) s → Spares (noted_begin x.store) s →
       IsOff num empty x f (powered_off by_plain (event_begun x) s)
   off_first s cut k =
       let counted = with_loss s losses.Cache in
@@ -154,7 +154,7 @@ module _ (num : ℕ) (empty : PlainState) (x : MarksDevice) (f : Follows num emp
   power_makes =
       had_then {S = MarksDevice} {A = Unit {0}} {f = event_ended by_plain x} {p = λ y _. IsOff num empty x f y}
       (had_then
-      (had_both (half_so num empty x f (begun x.store) refl x.history.running refl x.store.half refl refl)
-      (half_spares (begun x.store) x.store.half))
+      (had_both (half_so num empty x f (noted_begin x.store) refl x.history.running refl x.store.half refl refl)
+      (half_spares (noted_begin x.store) x.store.half))
       (λ s _ g. had_done (off_first s g.0 g.1)))
       (λ y a g. had_then (ended_same (waiting_count by_plain x.store) y.store) (λ z _ e. had_done (off_same y z e g)))

@@ -37,7 +37,7 @@ use Rattle.plain_defs.specs.Legal.{AreActs, AreInOrder, HasActs, HasEnds, IsLega
 use Rattle.plain_defs.specs.Loose.{act_done, is_loose_in, lost_by_power, without}
 use Rattle.plain_defs.specs.PlainState.{LooseTrack, PathsState, PlainState}
 use Rattle.plain_defs.specs.Program as G
-use Rattle.plain_defs.specs.Program.{Part, acted, acted_at, acts_at, acts_done, first_part, part_of, stepped, stepped_at}
+use Rattle.plain_defs.specs.Program.{Part, acts_made, acted_at, acts_at, acts_done, first_part, part_of, command_run, stepped_at}
 use Rattle.plain_defs.proofs.PartLemmas.{acted_beside, part_counts}
 use Rattle.device_laws.proofs.ChainTracks.{whole_cylinders}
 use Rattle.device_laws.proofs.OpenProgram.{part_is_acted, with_acts_state}
@@ -164,7 +164,7 @@ module _ (k : ℕ) (some : 0 < k) where
     at : On n p.stance
 
   module _ (state : PlainState) (on : StateOn state) (path : ℕ) (ccws : List Ccw) (acts : List Acted) where
-    beside_place : (p : Part) → PlaceOn p → PlaceOn (acted acts p)
+    beside_place : (p : Part) → PlaceOn p → PlaceOn (acts_made acts p)
     beside_place p f =
         let b = acted_beside acts p in
         record {
@@ -183,7 +183,7 @@ module _ (k : ℕ) (some : 0 < k) where
         beside_place (first_part state path ccws) (record { fixed = on.cylinders; at = record { track = omega (arith, some); extent = tt } })
     part_place (suc j) =
         let p = part_of state path ccws acts j in
-        beside_place (stepped path ccws p) (stepped_place p p.next (part_place j))
+        beside_place (command_run path ccws p) (stepped_place p p.next (part_place j))
 
     edit_on : (p : Part) (next : Option ℕ) → PlaceOn p → IfSome (edit_at path ccws p next) (λ e. e.track < n)
     edit_on p (Some i) f = (effect_edits p.fixed f.fixed p.state path p.stance (ccw_at ccws i) f.at).edited

@@ -11,7 +11,7 @@ use Rattle.ckd_types.specs.Fixed.{Fixed}
 use Rattle.ckd_rules.specs.declared.ending.Ending.{Ending}
 use Rattle.ckd_rules.specs.declared.stance.Stance.{Stance}
 use Rattle.ckd_rules.specs.Ending.{Outcome, check}
-use Rattle.ckd_rules.specs.Ends.{end_of}
+use Rattle.ckd_rules.specs.Ends.{end_at_word}
 use Rattle.plain_defs.specs.Effect.{effect_on}
 use Rattle.plain_defs.specs.History.{History, IsPlain, OpenEntry, state_by}
 use Rattle.plain_defs.specs.Journal.{program_of, replay}
@@ -81,10 +81,10 @@ fits_residual c e (Some sense) few h = subst (λ (n : ℕ). n < 65536) (sym h.1)
 fits_residual c e None few h = let less = h.1 in omega (arith, less, few)
 
 rule_in : (i : ℕ) (f : Fixed) (state : PlainState) (path : ℕ) (s : Stance) (c : Ccw) → i < 65536 → c.count < 65536 → GivesBytes c → KeepsBytes state →
-    EndIn (end_of i c (effect_on f state path s c).outcome)
+    EndIn (end_at_word i c (effect_on f state path s c).outcome)
 rule_in i f state path s c index few gives keeps =
     by_fits (effect_on f state path s c).outcome (command_sends f state path s c gives keeps) (outcome_fits f state path s c) where
-      by_fits : (o : Outcome) → IsBytes o.ending.sent → WalkFits c o → EndIn (end_of i c o)
+      by_fits : (o : Outcome) → IsBytes o.ending.sent → WalkFits c o → EndIn (end_at_word i c o)
       by_fits o sent (inl h) = record {
         index = index;
         residual = fits_residual c o.ending o.ending.sense few h;
@@ -103,7 +103,7 @@ rule_in i f state path s c index few gives keeps =
 plain_in : (path : ℕ) (ccws : List Ccw) (p : Part) (next : Option ℕ) (e : CommandEnd) → GoodWords ccws → KeepsBytes p.state →
     ((j : ℕ) → next ≡ Some j → j < 65536) → plain_end_at path ccws p next ≡ Some e → EndIn e
 plain_in path ccws p (Some i) e good keeps index is =
-    let same : end_of i (ccw_at ccws i) (effect_on p.fixed p.state path p.stance (ccw_at ccws i)).outcome ≡ e = cc in
+    let same : end_at_word i (ccw_at ccws i) (effect_on p.fixed p.state path p.stance (ccw_at ccws i)).outcome ≡ e = cc in
     subst EndIn same (rule_in i p.fixed p.state path p.stance (ccw_at ccws i) (index i refl) (good.counts i) (good.gives i) keeps)
 plain_in path ccws p None e good keeps index is = absurd (cc)
 

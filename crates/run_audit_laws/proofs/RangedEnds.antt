@@ -6,14 +6,14 @@ use Rattle.std.proofs.lemmas.List.Elements.{All-head, All-tail}
 use Rattle.ckd_types.specs.declared.paths.Owner.{Owner}
 use Rattle.ckd_types.specs.declared.paths.Side.{Side}
 use Rattle.loss_model.specs.declared.Loss.TheVariants as losses
-use Rattle.plain_defs.specs.History.{IsOpen, OpenEntry}
+use Rattle.plain_defs.specs.History.{IsOpen, OpenEntry, is_path_of}
 use Rattle.plain_defs.specs.Journal.{planned, replay}
 use Rattle.track_table.proofs.Counts.{few_marked}
 use Rattle.device_outside.specs.Interaction.{Ask, Done, Read, Tell, Try, Write, and_then}
 use Rattle.device_outside.specs.Keeper.{reply}
 use Rattle.device_outside.specs.Pool.{Pool, after, answer, cache_failed, store_failed}
 use Rattle.device_outside.specs.Told as T
-use Rattle.device_outside.specs.Told.{Told, calls_of, read_counted, read_fails, write_counted, write_fails}
+use Rattle.device_outside.specs.Told.{Told, calls_of, told_read, read_fails, told_write, write_fails}
 use Rattle.device_defs.specs.declared.answers.StartFault.{StartFault}
 use Rattle.device_defs.specs.declared.answers.StartFault.TheVariants as refusals
 use Rattle.device_defs.specs.Contents.{by_plain}
@@ -21,7 +21,7 @@ use Rattle.device_defs.specs.declared.answers.Did.{Did as BackDid}
 use Rattle.device_defs.specs.Command.{command}
 use Rattle.device_defs.specs.Events.{background, lose, second}
 use Rattle.device_defs.specs.Marks.{MarksDevice}
-use Rattle.device_defs.specs.Orders.{hold, resume}
+use Rattle.device_defs.specs.Orders.{hold_side, resume}
 use Rattle.device_defs.specs.Start as S
 use Rattle.device_defs.specs.Start.{fault_by, idle_fault, is_shut, keeps_out, left, next_ordinal, reserved_fault, running_fault, start, start_fault, started_count}
 use Rattle.device_defs.specs.Store.{HalfWrite, side_of, stale_at, tracks_of}
@@ -37,7 +37,7 @@ use Rattle.subsystem_defs.specs.declared.end.OrderFault.TheVariants as faults
 use Rattle.subsystem_defs.specs.declared.event.Event.{Event}
 use Rattle.subsystem_defs.specs.declared.event.Event.TheVariants as events
 use Rattle.subsystem_defs.specs.Deeds as E
-use Rattle.subsystem_defs.specs.Deeds.{Asks, Becomes, Each as Sweeps, Ends, Lends, Repairs, device_in, ends_done, is_own, on_device, order, start_by, starts}
+use Rattle.subsystem_defs.specs.Deeds.{Asks, Becomes, Each as Sweeps, Ends, Lends, Repairs, device_in, ends_done, on_device, order, start_by, starts}
 use Rattle.subsystem_defs.specs.Happening as H
 use Rattle.subsystem_defs.specs.Happening.{MarksDeed, Talk, asks, happens, happens_by, replaced, replaced_at, replaced_by, unpaired, unpaired_at, unpaired_by}
 use Rattle.subsystem_defs.specs.Happening.{told_end}
@@ -86,8 +86,8 @@ unfolding T.hold
 handed_on (Done s a) f t = refl
 handed_on (Try k) f t = handed_on (k true) f t
 handed_on (Ask call k) f t = handed_on (k (answer t.pool call)) f (record t { pool = after t.pool call (answer t.pool call) })
-handed_on (Read side q k) f t = handed_on (k (if read_fails (calls_of t side) then None else Some true)) f (read_counted t side)
-handed_on (Write side q r k) f t = handed_on (k (if write_fails (calls_of t side) then false else true)) f (write_counted t side)
+handed_on (Read side q k) f t = handed_on (k (if read_fails (calls_of t side) then None else Some true)) f (told_read t side)
+handed_on (Write side q r k) f t = handed_on (k (if write_fails (calls_of t side) then false else true)) f (told_write t side)
 handed_on (Tell m k) f t = handed_on (k (reply m)) f t
 
 -- Orders
@@ -254,7 +254,7 @@ module _ (d : MarksDevice) (k : Ranged d) (path : ℕ) where
   start_by_in None is h = few_programs (next_ordinal d path) (length (planned d.plans path)) (planned_next is) (k.sized.plans path)
 
   starts_in : FineStart (starts path d)
-  starts_in = by_own (is_own path d.history.running) where
+  starts_in = by_own (is_path_of d.history.running path) where
     by_own : (b : Bool) → FineStart (if b then Ends ends.Running else start_by d path (start_fault d path))
     by_own true = tt
     by_own false = start_by_in (start_fault d path) refl fault_in
@@ -360,9 +360,9 @@ module _ (s : Subsystem) (all : All Ranged (devices_of s)) where
       (on_fine OrderIn tt tt (device_in (devices_of s) a) f (there a) (λ x k. on_fine OrderIn tt tt (device_in (devices_of s) b) (g x) (there b)
       (λ y l. ordered (pair_fault x y) (Lends x y) (pair_in x y k l) tt)))
   once_answers (events.Suspend a) =
-      let f = λ (x : MarksDevice). order (suspend_fault x) (Becomes (hold x) ends.Done) in
+      let f = λ (x : MarksDevice). order (suspend_fault x) (Becomes (hold_side x) ends.Done) in
       fine_end OrderIn tt tt s (on_device (device_in (devices_of s) a) f)
-      (on_fine OrderIn tt tt (device_in (devices_of s) a) f (there a) (λ x k. ordered (suspend_fault x) (Becomes (hold x) ends.Done) (suspend_in x) tt))
+      (on_fine OrderIn tt tt (device_in (devices_of s) a) f (there a) (λ x k. ordered (suspend_fault x) (Becomes (hold_side x) ends.Done) (suspend_in x) tt))
   once_answers (events.Resume a) =
       let f = λ (x : MarksDevice). order (resume_fault x) (Becomes (resume x) ends.Done) in
       fine_end OrderIn tt tt s (on_device (device_in (devices_of s) a) f)

@@ -35,10 +35,10 @@ use Rattle.deck_plan.specs.declared.event.EventLine.TheVariants as wanted
 use Rattle.plain_defs.specs.declared.journal.How.TheVariants.{Cut}
 use Rattle.plain_defs.specs.declared.journal.Item.{Item}
 use Rattle.plain_defs.specs.declared.journal.Item.TheVariants as items
-use Rattle.plain_defs.specs.History.{History, OpenEntry, cut_by, entry_of, open_part, put, reset as history_reset, reset_in, resets_of}
+use Rattle.plain_defs.specs.History.{History, OpenEntry, cut_by, entry_of, open_part, put, reset_in_history as history_reset, reset_in, resets_of}
 use Rattle.plain_defs.specs.Journal.{program_of, replay}
 use Rattle.plain_defs.specs.Legal.{MayEdit, is_used, next_edit}
-use Rattle.plain_defs.specs.Loose.{is_loose}
+use Rattle.plain_defs.specs.Loose.{is_loose_there}
 use Rattle.plain_defs.specs.PlainState.{PlainState}
 use Rattle.plain_defs.specs.Program.{Part}
 use Rattle.ckd_rules.specs.Walk.{TrackEdit}
@@ -80,7 +80,7 @@ use Rattle.subsystem_defs.specs.Beside.{acts_in, acts_running, has_power, new_it
 use Rattle.subsystem_defs.specs.Deeds as E
 use Rattle.subsystem_defs.specs.Deeds.{Asks, device_in, ends_by, ends_done, on_device}
 use Rattle.subsystem_defs.specs.Happening as H
-use Rattle.subsystem_defs.specs.Happening.{Happened, asks, happens, happens_by, held_with, mounted_behind, told_to}
+use Rattle.subsystem_defs.specs.Happening.{EventHappened, asks, happens, happens_by, held_with, mounted_behind, told_to}
 use Rattle.subsystem_defs.specs.Lines.{Once}
 use Rattle.subsystem_defs.specs.Subsystem.{Mounted, Subsystem, devices_of, mounted_in, with_mounted}
 use Rattle.subsystem_laws.proofs.FoundDevices.{number_found}
@@ -100,7 +100,7 @@ by_loose true p h = h refl
 by_loose false p h = refl
 
 pub legal_by : (p : Part) (edit : Option TrackEdit) → MayEdit p.state p.stance edit → is_edit_legal p edit ≡ true
-legal_by p (Some e) h = by_loose (is_loose p.state e.track) (is_provisional p.stance.extent) h
+legal_by p (Some e) h = by_loose (is_loose_there p.state e.track) (is_provisional p.stance.extent) h
 legal_by p None h = refl
 
 -- where the cut of a half write counts one command more, that command may be so
@@ -356,7 +356,7 @@ module _ (s : Subsystem) (plain : ArePlain s.mounted) (path n : ℕ) (x : MarksD
         other_leads s plain path n x at later (λ k is. let same_open : Some o ≡ Some k = sym running ∙ is in
         let same : o ≡ k = cc in ap (λ (y : OpenEntry). y.path == path) (sym same) ∙ other)
 
-  abbrev its_lines : Happened → List ReportLine
+  abbrev its_lines : EventHappened → List ReportLine
   its_lines h = event_lines (Once (events.Reset path n)) h.end h.reads h.writes (devices_of s) (devices_of h.behind)
 
   asked_leads : (k : ℕ) → k ≡ n → EventLeads s (wanted.Reset path n) (Once (events.Reset path n))

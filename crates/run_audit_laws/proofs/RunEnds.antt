@@ -16,7 +16,7 @@ use Rattle.plain_defs.specs.History as Y
 use Rattle.plain_defs.specs.History.{History, OpenEntry, acted_in, checked, closed, with_end}
 use Rattle.plain_defs.specs.Journal.{program_of, replay}
 use Rattle.plain_defs.specs.PlainState.{PlainState}
-use Rattle.plain_defs.specs.Program.{Part, first_part, one_more, part_of, stepped, stepped_at}
+use Rattle.plain_defs.specs.Program.{Part, first_part, one_more, part_of, command_run, stepped_at}
 use Rattle.plain_defs.proofs.PartLemmas.{acted_beside, over_stays}
 use Rattle.device_outside.specs.Interaction.{Done, and_then}
 use Rattle.device_outside.specs.Told as T
@@ -90,7 +90,7 @@ module _ (path : ℕ) (ccws : List Ccw) (acts : List Acted) (state : PlainState)
   more_few k (Some i) is before some =
       let p = part_of state path ccws acts k in
       let e = effect_on p.fixed p.state path p.stance (ccw_at ccws i) in
-      let beside = acted_beside acts (stepped path ccws p) in
+      let beside = acted_beside acts (command_run path ccws p) in
       let earlier = before (subst (λ (o : Option ℕ). IsSome o) (sym is) refl) in
       let next_is : (one_more path ccws acts p).next ≡ goes_to ccws i e.outcome =
       beside.next ∙ ap (λ (o : Option ℕ). (stepped_at path ccws p o).next) is in

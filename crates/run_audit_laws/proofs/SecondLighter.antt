@@ -8,7 +8,7 @@ use Rattle.device_defs.specs.Losses as L
 use Rattle.device_defs.specs.Losses.{by_frame, gives_up, hardened_by_loss, kept_by_frame, lost_now, settled, slot_in}
 use Rattle.device_defs.specs.Marks.{MarksStore}
 use Rattle.device_defs.specs.Store.{frame_at, half_is, has_level, is_lost, is_loose, patch_at, with_lost}
-use Rattle.device_laws.proofs.FramesKept.{none_at}
+use Rattle.device_laws.proofs.HeldPlaces.{none_at}
 use Rattle.run_audit_laws.proofs.Weights.{Spot, modified_by, one, spot_at, weight, whole_weight, works}
 use Rattle.run_audit_laws.proofs.Lighter.{Near, half_off, half_on, near_firm, near_frame, near_self, some_at, near_by}
 use Rattle.run_audit_laws.proofs.InOrder.{works_by}

@@ -10,7 +10,7 @@ use Rattle.device_defs.specs.Losses as L
 use Rattle.device_defs.specs.Losses.{all_firm_told, down, over, settled, settled_but, side_lost, slot_in}
 use Rattle.device_defs.specs.Marks.{MarksStore}
 use Rattle.device_defs.specs.Second as D
-use Rattle.device_defs.specs.Second.{closed, cut_kept, finished, left_by, second_by, second_part}
+use Rattle.device_defs.specs.Second.{half_closed, cut_kept, finished, left_by, second_by, second_part}
 use Rattle.device_defs.specs.Store as store
 use Rattle.device_defs.specs.Store.{Origin, OfBackground, OfCommand, OfCut, frame_at, half_is, has_level, is_lost, is_loose, owed_at, patch_at, stale_at, takes_b, tracks_of, with_frame, with_stale}
 use Rattle.device_defs.specs.Writing as W
@@ -301,7 +301,7 @@ module _ (s : MarksStore) (h : store.HalfWrite (Unit {0})) (is : s.half ≡ Some
   others_off : (q : ℕ) → q ≢ h.track → half_is s.half q ≡ false
   others_off q ne = ap (λ (o : Option (store.HalfWrite (Unit {0}))). half_is o q) is ∙ not_own h.track q ne
 
-  closing_lower : (y v : MarksStore) → Second s y h.track → Written (closed y) v h.track →
+  closing_lower : (y v : MarksStore) → Second s y h.track → Written (half_closed y) v h.track →
       weight_at v h.track ≤ one (y.a.up && stale_at y.a h.track) → Lower s v
   closing_lower y v k g less =
       lower_all s v (g.near.cylinders ∙ k.cylinders) (λ q lt. by_place q lt (cases_eq q h.track))
@@ -317,50 +317,50 @@ module _ (s : MarksStore) (h : store.HalfWrite (Unit {0})) (is : s.half ≡ Some
           subst (λ (i : ℕ). weight_at v i ≤ weight_at s i) (sym here) (omega (arith, less, before, same))
       by_place q lt (inr ne) =
           let off = ap (λ (o : Option (store.HalfWrite (Unit {0}))). half_is o q) k.half ∙ others_off q ne in
-          let closed_is : spot_at (closed y) q ≡ spot_at y q = ap (λ (b : Bool). record (spot_at y q) { half = b }) (sym off) in
+          let closed_is : spot_at (half_closed y) q ≡ spot_at y q = ap (λ (b : Bool). record (spot_at y q) { half = b }) (sym off) in
           let same = ap weight (g.near.others q ne ∙ closed_is) in
           let below = k.others q lt ne in
           omega (arith, same, below)
 
-  done_lower : (y v : MarksStore) → Second s y h.track → Written (closed y) v h.track → works (spot_at v h.track) ≡ false → Lower s v
+  done_lower : (y v : MarksStore) → Second s y h.track → Written (half_closed y) v h.track → works (spot_at v h.track) ≡ false → Lower s v
   done_lower y v k g off =
       let t = h.track in
       let w = whole_at v t g.near.half in
       let n = half_off (works (spot_at v t)) (sides (spot_at v t)) 0 off in
-      let same = ap one (only_copies (closed y) v t g.a g.b g.near.held) in
+      let same = ap one (only_copies (half_closed y) v t g.a g.b g.near.held) in
       let least = done_copies y.a.up (stale_at y.a t) (y.b.up && not (stale_at y.b t)) (takes_b y) (stale_at y.b t) (y.a.up && not (stale_at y.a t)) k.shut in
       closing_lower y v k g (omega (arith, w, n, same, least))
 
-  absent_lower : (y v : MarksStore) → Second s y h.track → Written (closed y) v h.track → has_level y h.track ≡ false → Lower s v
+  absent_lower : (y v : MarksStore) → Second s y h.track → Written (half_closed y) v h.track → has_level y h.track ≡ false → Lower s v
   absent_lower y v k g off =
       let t = h.track in
       let w = whole_at v t g.near.half in
       let n = if_least (works (spot_at v t)) (sides (spot_at v t)) in
-      let same = copies_same (closed y) v t g.a g.b g.near.held in
+      let same = copies_same (half_closed y) v t g.a g.b g.near.held in
       let least = absent_sides y.a.up (stale_at y.a t) y.b.up y.held (stale_at y.b t) k.shut off in
       closing_lower y v k g (omega (arith, w, n, same, least))
 
-  finished_so : (y x : MarksStore) (i : Image) (bypass : Bool) → Second s y h.track → Written (closed y) x h.track → is_loose x h.track ≡ false →
+  finished_so : (y x : MarksStore) (i : Image) (bypass : Bool) → Second s y h.track → Written (half_closed y) x h.track → is_loose x h.track ≡ false →
       Had (finished by_plain x h.track i bypass) (λ v (_ : Bool). Lower s v)
   finished_so y x i bypass k g firm =
       had_then (write_is_done x h.track i bypass firm)
-      (λ v _ d. had_done (done_lower y v k (written_on (closed y) x v h.track g d.0) d.1))
+      (λ v _ d. had_done (done_lower y v k (written_on (half_closed y) x v h.track g d.0) d.1))
 
   done_so : (y : MarksStore) (i : Image) (origin : Origin) → Second s y h.track → is_loose y h.track ≡ false →
-      Had (D.second_done by_plain (closed y) h.track i origin) (λ v (_ : Bool). Lower s v)
+      Had (D.second_done by_plain (half_closed y) h.track i origin) (λ v (_ : Bool). Lower s v)
   done_so y i (OfCommand bypass e) k firm =
       had_tell (finished_so y _ i bypass k
       (record { near = near_by refl (λ q ne. refl); a = refl; b = refl }) firm)
-  done_so y i (OfCut bypass) k firm = finished_so y (closed y) i bypass k (record { near = near_self (closed y) h.track; a = refl; b = refl }) firm
-  done_so y i OfBackground k firm = finished_so y (closed y) i false k (record { near = near_self (closed y) h.track; a = refl; b = refl }) firm
+  done_so y i (OfCut bypass) k firm = finished_so y (half_closed y) i bypass k (record { near = near_self (half_closed y) h.track; a = refl; b = refl }) firm
+  done_so y i OfBackground k firm = finished_so y (half_closed y) i false k (record { near = near_self (half_closed y) h.track; a = refl; b = refl }) firm
 
   by_level : (y : MarksStore) (i : Image) (origin : Origin) → Second s y h.track → is_loose y h.track ≡ false →
       Had (second_by by_plain h.track i origin y) (λ v (_ : Bool). Lower s v)
   by_level y i origin k firm =
       had_if (has_level y h.track) (λ _. done_so y i origin k firm)
-      (λ off. had_done (absent_lower y (settled by_plain (left_by by_plain (closed y) h.track i origin) h.track) k
-      (written_on (closed y) (left_by by_plain (closed y) h.track i origin) _ h.track (left_written (closed y) h.track i origin)
-      (settled_written (left_by by_plain (closed y) h.track i origin) h.track)) off))
+      (λ off. had_done (absent_lower y (settled by_plain (left_by by_plain (half_closed y) h.track i origin) h.track) k
+      (written_on (half_closed y) (left_by by_plain (half_closed y) h.track i origin) _ h.track (left_written (half_closed y) h.track i origin)
+      (settled_written (left_by by_plain (half_closed y) h.track i origin) h.track)) off))
 
   pub part_so : s.paired ≡ true → ((q : ℕ) → q < tracks_of s → q ≢ h.track → IsSafe (spot_at s q)) → is_loose s h.track ≡ false →
       Had (second_part by_plain s h) (λ v (_ : Bool). Lower s v)

@@ -90,7 +90,7 @@ use Rattle.run_report.proofs.Quiet.{start_tells}
 use Rattle.subsystem_defs.specs.declared.end.EventEnd.TheVariants as ends
 use Rattle.subsystem_defs.specs.declared.event.Event.TheVariants as events
 use Rattle.subsystem_defs.specs.Deeds as E
-use Rattle.subsystem_defs.specs.Deeds.{Ends, device_in, is_own, on_device, starts, start_by}
+use Rattle.subsystem_defs.specs.Deeds.{Ends, device_in, on_device, starts, start_by}
 use Rattle.subsystem_defs.specs.Happening as H
 use Rattle.subsystem_defs.specs.Happening.{becomes, happens_by, happens, quietly}
 use Rattle.subsystem_defs.specs.Lines.{Once}
@@ -134,7 +134,7 @@ abbrev answer_by : Option StartFault → ℕ → StartAnswer
 answer_by (Some fault) n = start_refused fault
 answer_by None n = answers.Accepted n
 
-own_same : (r : Option OpenEntry) (path : ℕ) → own_runs r path ≡ is_own path r
+own_same : (r : Option OpenEntry) (path : ℕ) → own_runs r path ≡ is_path_of r path
 own_same (Some o) path = refl
 own_same None path = refl
 
@@ -282,12 +282,12 @@ module _ (s : Subsystem) (plain : ArePlain s.mounted) (path n : ℕ) (x : MarksD
       (start_judged later answer is s (ap (with_device (map audited (devices_of s))) same ∙ back_there))))
 
   -- the path runs already
-  own_leads : is_own path x.history.running ≡ true → EventLeads s (wanted.Start path n) (Once (events.Start path n)) (quietly s s ends.Running)
+  own_leads : is_path_of x.history.running path ≡ true → EventLeads s (wanted.Start path n) (Once (events.Start path n)) (quietly s s ends.Running)
   own_leads own =
       ends_lead ends.Running answers.Running refl
       (ap (λ (b : Bool). if b then answers.Running else lent_answer (audited x) path x.store.lent) (own_same x.history.running path ∙ own)) refl
 
-  module _ (other : is_own path x.history.running ≡ false) where
+  module _ (other : is_path_of x.history.running path ≡ false) where
     its_answer : (o : Option StartFault) → start_fault x path ≡ o → start_answer (audited x) path ≡ answer_by o (S.next_ordinal x path)
     its_answer o is =
         ap (λ (b : Bool). if b then answers.Running else lent_answer (audited x) path x.store.lent) (own_same x.history.running path ∙ other)
@@ -342,7 +342,7 @@ module _ (s : Subsystem) (plain : ArePlain s.mounted) (path n : ℕ) (x : MarksD
 -- The event
 
 module _ (s : Subsystem) (plain : ArePlain s.mounted) (path n : ℕ) where
-  becomes_lead : (x : MarksDevice) → device_in (devices_of s) n ≡ Some x → is_own path x.history.running ≡ false → start_fault x path ≡ None →
+  becomes_lead : (x : MarksDevice) → device_in (devices_of s) n ≡ Some x → is_path_of x.history.running path ≡ false → start_fault x path ≡ None →
       (k : ℕ) → k ≡ n →
       EventLeads s (wanted.Start path n) (Once (events.Start path n))
       (quietly s (becomes s k (mounted_in s.mounted k) (start x path)) (ends.Started (S.next_ordinal x path)))
@@ -354,13 +354,13 @@ module _ (s : Subsystem) (plain : ArePlain s.mounted) (path n : ℕ) where
       (quietly s (becomes s n o (start x path)) (ends.Started (S.next_ordinal x path)))) (sym m.1)
       (starts_lead s plain path n x at other free m.0 m.1 m.2))
 
-  by_fault : (x : MarksDevice) → device_in (devices_of s) n ≡ Some x → is_own path x.history.running ≡ false → (o : Option StartFault) →
+  by_fault : (x : MarksDevice) → device_in (devices_of s) n ≡ Some x → is_path_of x.history.running path ≡ false → (o : Option StartFault) →
       start_fault x path ≡ o → EventLeads s (wanted.Start path n) (Once (events.Start path n)) (happens_by s (start_by x path o))
   by_fault x at other (Some fault) is = fault_leads s plain path n x at other fault is
   by_fault x at other None is =
       becomes_lead x at other is (start x path).store.device (start_number s plain path n x at other)
 
-  by_own : (x : MarksDevice) → device_in (devices_of s) n ≡ Some x → (b : Bool) → is_own path x.history.running ≡ b →
+  by_own : (x : MarksDevice) → device_in (devices_of s) n ≡ Some x → (b : Bool) → is_path_of x.history.running path ≡ b →
       EventLeads s (wanted.Start path n) (Once (events.Start path n))
       (happens_by s (if b then Ends ends.Running else start_by x path (start_fault x path)))
   by_own x at true own = own_leads s plain path n x at own
@@ -371,4 +371,4 @@ module _ (s : Subsystem) (plain : ArePlain s.mounted) (path n : ℕ) where
   unfolding H.happens E.deed
   start_leads x at =
       subst (λ (o : Option MarksDevice). EventLeads s (wanted.Start path n) (Once (events.Start path n)) (happens_by s (on_device o (starts path)))) (sym at)
-      (by_own x at (is_own path x.history.running) refl)
+      (by_own x at (is_path_of x.history.running path) refl)

@@ -8,7 +8,7 @@ use Rattle.ckd_chain.specs.State.{ChainState}
 use Rattle.ckd_chain.specs.Steps.{need_of, stepped}
 use Rattle.ckd_rules.specs.Walk.{TrackEdit}
 use Rattle.ckd_types.specs.declared.record.Track.{Track}
-use Rattle.plain_defs.specs.History.{History, OpenEntry, ended, plain_of}
+use Rattle.plain_defs.specs.History.{OpenEntry, plain_of}
 use Rattle.plain_defs.specs.Journal.{replay}
 use Rattle.plain_defs.specs.Legal.{AreActs}
 use Rattle.plain_defs.specs.PlainState.{PlainState}
@@ -28,17 +28,26 @@ use Rattle.device_defs.specs.Device.{all_acted, event, event_begun, with_store}
 use Rattle.device_defs.specs.Events as V
 use Rattle.device_defs.specs.Events.{command_ended, second, second_ended, second_of, second_turn}
 use Rattle.device_defs.specs.Marks.{MarksDevice, MarksStore}
-use Rattle.device_defs.specs.Outcomes.{Turn, checks, program_over, sense_kept, settles, told_step, turned, turned_by}
-use Rattle.device_defs.specs.Owed.{begun, waiting_count}
+use Rattle.device_defs.specs.Outcomes.{Turn, checks, settles, told_step, turned, turned_by}
+use Rattle.device_defs.specs.Owed.{noted_begin, waiting_count}
 use Rattle.device_defs.specs.Store as store
 use Rattle.device_defs.specs.Store.{Origin, OfBackground, OfCommand, OfCut, tracks_of}
-use Rattle.device_laws.proofs.Had.{Had, had_done, had_if, had_then, had_try}
+use Rattle.device_laws.proofs.Always.{Always}
+use Rattle.device_laws.proofs.Based.{Any, Based, kept}
+use Rattle.device_laws.proofs.BasedEvents.{base_in, command_based, second_based}
+use Rattle.device_laws.proofs.Had.{Had, had_done, had_if, had_then, had_try, had_weaker}
+use Rattle.device_laws.proofs.KeptEvents.{Continues, command_goes, second_goes}
+use Rattle.device_laws.proofs.KeptHistories.{extends_itself}
 use Rattle.device_laws.proofs.PlainCommand.{on, runs_on, walking_first}
+use Rattle.device_laws.proofs.PlainEvents.{had_always, had_both}
 use Rattle.device_laws.proofs.PlainLooks.{EditSo, FollowSo, TurnIs, data_check, ended_so, equipment, follow_so, from_itself, half_open}
 use Rattle.device_laws.proofs.PlainSeconds.{SecondSo, holds_first, part_so}
-use Rattle.device_laws.proofs.PlainStores.{Core, Open, Walks, core_of, open_of}
+use Rattle.device_laws.proofs.PlainStores.{Core, Open, Walks, core_of}
 use Rattle.device_laws.proofs.PlainTurns.{Follows, Halfway, IsMid, IsMidOf, RunsAt, none_mid, some_none}
 use Rattle.device_laws.proofs.PlainWalks.{IsEdited, ended_same, firmly, hear_same, loosely, loosened}
+use Rattle.device_laws.proofs.WholeEvents.{turned_same}
+use Rattle.subsystem_defs.specs.Happening.{Talk}
+use Rattle.subsystem_laws.proofs.LendBase.{IsStill, stays_still}
 use Rattle.report_places.specs.declared.state.HalfWrite.{HalfWrite}
 use Rattle.report_places.specs.declared.state.HalfWrite.TheVariants as half
 use Rattle.run_audit_laws.specs.Standing.{half_by}
@@ -56,82 +65,40 @@ IsLeft x y (Some (steps.Ended e)) = HasParts x y half.Closed
 IsLeft x y (Some (steps.Half t)) = HasParts x y half.OfCommand
 IsLeft x y None = ⊥
 
-same_store : (x w z : MarksDevice) (h : HalfWrite) → z.store ≡ w.store → z.plans ≡ w.plans → HasParts x w h → HasParts x z h
-same_store x w z h is plans p = record {
-  number = ap (λ (s : MarksStore). s.device) is ∙ p.number;
-  geometry = ap (λ (s : MarksStore). s.geometry) is ∙ p.geometry;
-  cylinders = ap (λ (s : MarksStore). s.cylinders) is ∙ p.cylinders;
-  plans = plans ∙ p.plans;
-  lent = ap (λ (s : MarksStore). s.lent) is ∙ p.lent;
-  half_is = ap (λ (s : MarksStore). half_by s.half) is ∙ p.half_is;
-}
+-- the half write that it has
+abbrev HasHalf : MarksDevice → HalfWrite → Type 0
+HasHalf y h = half_by y.store.half ≡ h
 
-over_parts : (x w : MarksDevice) (k : History) (chain : ChainState) (h : HalfWrite) (b : Bool) → HasParts x w h →
-    HasParts x (if b then program_over w k else record w { chain = Some chain; history = k }) h
-over_parts x w k chain h true p = same_store x w (program_over w k) h refl refl p
-over_parts x w k chain h false p = same_store x w (record w { chain = Some chain; history = k }) h refl refl p
+abbrev HalfLeft : MarksDevice → Option Stepped → Type 0
+HalfLeft y (Some (steps.Ended e)) = HasHalf y half.Closed
+HalfLeft y (Some (steps.Half t)) = HasHalf y half.OfCommand
+HalfLeft y None = ⊥
 
-turned_left : (x w : MarksDevice) (path : ℕ) (chain : ChainState) (c : Came) → HasParts x w (half_after c) →
-    IsLeft x (turned_by w path chain c) (Some (told_step c))
-turned_left x w path chain (came.Ends e) p =
-    over_parts x (sense_kept w path e) (ended w.history e) chain half.Closed e.over (same_store x w (sense_kept w path e) half.Closed refl refl p)
-turned_left x w path chain (came.Checks e) p = same_store x w (turned_by w path chain (came.Checks e)) half.Closed refl refl p
-turned_left x w path chain (came.HalfOpen t) p = same_store x w (turned_by w path chain (came.HalfOpen t)) half.OfCommand refl refl p
-
--- A store by what is kept of it
+turned_left : (w : MarksDevice) (path : ℕ) (chain : ChainState) (c : Came) → HasHalf w (half_after c) →
+    HalfLeft (turned_by w path chain c) (Some (told_step c))
+turned_left w path chain (came.Ends e) p = ap (λ (s : MarksStore). half_by s.half) (turned_same w path chain (came.Ends e)) ∙ p
+turned_left w path chain (came.Checks e) p = p
+turned_left w path chain (came.HalfOpen t) p = p
 
 module _ (x : MarksDevice) where
-  pub record IsStored (h : HalfWrite) (c : Core) : Type 0 where
-    pub number : c.device ≡ x.store.device
-    pub geometry : c.geometry ≡ x.store.geometry
-    pub cylinders : c.cylinders ≡ x.store.cylinders
-    pub lent : c.lent ≡ x.store.lent
-    pub half_is : half_by c.half ≡ h
-
-  pub stored_parts : (w : MarksDevice) (h : HalfWrite) → w.plans ≡ x.plans → IsStored h (core_of w.store) → HasParts x w h
-  stored_parts w h plans s = record {
-    number = s.number;
-    geometry = s.geometry;
-    cylinders = s.cylinders;
-    plans = plans;
-    lent = s.lent;
-    half_is = s.half_is;
-  }
-
-  parts_stored : (w : MarksDevice) (h : HalfWrite) → HasParts x w h → IsStored h (core_of w.store)
-  parts_stored w h p = record {
-    number = p.number;
-    geometry = p.geometry;
-    cylinders = p.cylinders;
-    lent = p.lent;
-    half_is = p.half_is;
-  }
-
-  -- an end changes nothing of it
-  pub ended_parts : (w : MarksDevice) (h : HalfWrite) (z : MarksStore) → core_of z ≡ core_of w.store → HasParts x w h → HasParts x (record w { store = z }) h
-  ended_parts w h z e p = stored_parts (record w { store = z }) h p.plans (subst (IsStored h) (sym e) (parts_stored w h p))
-
   abbrev pub On : PlainState → Core → Type 0
   On p c = Walks p x.store.plain x.store.geometry x.store.cylinders (None, (x.store.lent, x.store.device)) c
 
-  walked_stored : (p : PlainState) (c : Core) → On p c → IsStored half.Closed c
-  walked_stored p c w = record {
-    number = ap (λ (k : Open). k.1.1) w.rest;
-    geometry = w.geometry;
-    cylinders = w.cylinders;
-    lent = ap (λ (k : Open). k.1.0) w.rest;
-    half_is = ap (λ (k : Open). half_by k.0) w.rest;
-  }
+  walked_half : (p : PlainState) (c : Core) → On p c → half_by c.half ≡ half.Closed
+  walked_half p c w = ap (λ (k : Open). half_by k.0) w.rest
 
-  -- one of the same, but for tracks and acts
-  alike_stored : (h : HalfWrite) (c e : Core) → open_of e ≡ open_of c → e.geometry ≡ c.geometry → e.cylinders ≡ c.cylinders → IsStored h c → IsStored h e
-  alike_stored h c e more g n s = record {
-    number = ap (λ (k : Open). k.1.1) more ∙ s.number;
-    geometry = g ∙ s.geometry;
-    cylinders = n ∙ s.cylinders;
-    lent = ap (λ (k : Open). k.1.0) more ∙ s.lent;
-    half_is = ap (λ (k : Open). half_by k.0) more ∙ s.half_is;
-  }
+  -- all else of it stays
+  abbrev pub Stays : {A : Type 0} → Talk A → Type 0
+  Stays talk = Had talk (λ y _. IsStill (kept x.store) (base_in y) × (y.plans ≡ x.plans))
+
+  pub stays_by : {A : Type 0} {talk : Talk A} → Based base_in Any (kept x.store) talk → Always talk (λ y _. Continues x.plans x.history y) → Stays talk
+  stays_by based goes = had_weaker (had_both (had_always (stays_still based)) (had_always goes)) (λ y a k. (k.0, k.1.plans))
+
+  pub begins : Continues x.plans x.history x
+  begins = record { plans = refl; history = extends_itself x.history }
+
+  pub parts_by : (y : MarksDevice) (h : HalfWrite) → IsStill (kept x.store) (base_in y) × (y.plans ≡ x.plans) → half_by y.store.half ≡ h → HasParts x y h
+  parts_by y h k is = record { number = k.0.0; geometry = k.0.4; cylinders = k.0.1; plans = k.1; lent = k.0.2; half_is = is }
 
 -- A command
 
@@ -140,74 +107,59 @@ module _ (num : ℕ) (empty : PlainState) (x : MarksDevice) (f : Follows num emp
   abbrev p : PlainState
   p = plain_of x.plans empty x.history
 
-  edited_stored : (provisional : Bool) (t : ℕ) (e : _) (c : Core) →
+  edited_half : (provisional : Bool) (t : ℕ) (e : _) (c : Core) →
       IsEdited (plain_of x.plans empty x.history) x.store.plain x.store.geometry x.store.cylinders (None, (x.store.lent, x.store.device)) provisional t e c →
-      IsStored x half.Closed c
-  edited_stored provisional t e c (firmly b d w firm how) =
-      alike_stored x half.Closed b d (ap open_of how) (ap (λ (k : Core). k.geometry) how) (ap (λ (k : Core). k.cylinders) how) (walked_stored x p b w)
-  edited_stored provisional t e c (loosely b d w loose so how) =
-      alike_stored x half.Closed b d (ap open_of how) (ap (λ (k : Core). k.geometry) how) (ap (λ (k : Core). k.cylinders) how) (walked_stored x p b w)
-  edited_stored provisional t e c (loosened b d w firm inside so how) =
-      alike_stored x half.Closed b d (ap open_of how) (ap (λ (k : Core). k.geometry) how) (ap (λ (k : Core). k.cylinders) how) (walked_stored x p b w)
+      half_by c.half ≡ half.Closed
+  edited_half provisional t e c (firmly b d w firm how) = ap (λ (k : Core). half_by k.half) how ∙ walked_half x p b w
+  edited_half provisional t e c (loosely b d w loose so how) = ap (λ (k : Core). half_by k.half) how ∙ walked_half x p b w
+  edited_half provisional t e c (loosened b d w firm inside so how) = ap (λ (k : Core). half_by k.half) how ∙ walked_half x p b w
 
-  module _ (now : x.chain ≡ Some chain) (whole : x.store.half ≡ None) (s : MarksStore) (e : core_of s ≡ core_of (begun x.store)) where
+  module _ (now : x.chain ≡ Some chain) (whole : x.store.half ≡ None) (s : MarksStore) (e : core_of s ≡ core_of (noted_begin x.store)) where
     abbrev started : MarksDevice
     started = record (event_begun x) { store = s }
 
-    first_stored : IsStored x half.Closed (core_of s)
-    first_stored = walked_stored x p (core_of s) (walking_first num empty x f o running chain is now whole s e)
+    first_half : half_by s.half ≡ half.Closed
+    first_half = walked_half x p (core_of s) (walking_first num empty x f o running chain is now whole s e)
 
     -- it looked at tracks
     module _ (first : ℕ) where
-      edit_stored : (edit : Option TrackEdit) (c : Core) →
+      edit_half : (edit : Option TrackEdit) (c : Core) →
           EditSo (plain_of x.plans empty x.history) x.store.plain x.store.geometry x.store.cylinders (None, (x.store.lent, x.store.device))
-          (settled_act chain.fixed.geometry x.paths o.path) chain (on num empty x f o running chain is).0 first edit c → IsStored x half.Closed c
-      edit_stored None c w = walked_stored x p c w
-      edit_stored (Some k) c w = edited_stored _ k.track k.edit c w
+          (settled_act chain.fixed.geometry x.paths o.path) chain (on num empty x f o running chain is).0 first edit c → half_by c.half ≡ half.Closed
+      edit_half None c w = walked_half x p c w
+      edit_half (Some k) c w = edited_half _ k.track k.edit c w
 
-      turn_stored : (k : List Track → Fed) (turn : Turn) (c : Core) →
+      turn_half : (k : List Track → Fed) (turn : Turn) (c : Core) →
           TurnIs (plain_of x.plans empty x.history) x.store.plain x.store.geometry x.store.cylinders (None, (x.store.lent, x.store.device))
           (settled_act chain.fixed.geometry x.paths o.path) chain (on num empty x f o running chain is).0 first k first turn c →
-          IsStored x (half_after turn.came) c
-      turn_stored k turn c (ended_so end after d end_is chain_is edit) = edit_stored (k x.store.plain).edit d edit
-      turn_stored k turn c (half_open t edit next d word below does half_is) =
-          alike_half half_is.bypass half_is.before d half_is.is half_is.on where
-            alike_half : (bypass : Bool) (b d : Core) → d ≡ record b { half = Some (record { track = t; origin = OfCommand bypass edit; image = tt }) } →
-                On x p b → IsStored x half.OfCommand d
-            alike_half bypass b d how w =
-                let s = walked_stored x p b w in record {
-                  number = ap (λ (k : Core). k.device) how ∙ s.number;
-                  geometry = ap (λ (k : Core). k.geometry) how ∙ s.geometry;
-                  cylinders = ap (λ (k : Core). k.cylinders) how ∙ s.cylinders;
-                  lent = ap (λ (k : Core). k.lent) how ∙ s.lent;
-                  half_is = ap (λ (k : Core). half_by k.half) how;
-                }
-      turn_stored k turn c (equipment last d word w) = walked_stored x p d w
-      turn_stored k turn c (data_check last d word w) = walked_stored x p d w
+          half_by c.half ≡ half_after turn.came
+      turn_half k turn c (ended_so end after d end_is chain_is edit) = edit_half (k x.store.plain).edit d edit
+      turn_half k turn c (half_open t edit next d word below does half_is) = ap (λ (k : Core). half_by k.half) half_is.is
+      turn_half k turn c (equipment last d word w) = walked_half x p d w
+      turn_half k turn c (data_check last d word w) = walked_half x p d w
 
     by_turn : (t : ℕ) (y : MarksStore) (a : Option Turn) →
         FollowSo (plain_of x.plans empty x.history) x.store.plain x.store.geometry x.store.cylinders (None, (x.store.lent, x.store.device))
         (settled_act chain.fixed.geometry x.paths o.path) chain (on num empty x f o running chain is).0 t (tracks_of s) chain t y a →
-        Had (on_tracks by_plain (record (event_begun x) { store = s }) o.path chain y a) (λ z b. IsLeft x z b)
+        Had (on_tracks by_plain (record (event_begun x) { store = s }) o.path chain y a) (λ z b. HalfLeft z b)
     by_turn t y None w = absurd w
     by_turn t y (Some turn) w =
-        had_done (turned_left x (with_store started y) o.path turn.chain turn.came
-        (stored_parts x (with_store started y) (half_after turn.came) refl (turn_stored t _ turn (core_of y) w)))
+        had_done (turned_left (with_store started y) o.path turn.chain turn.came (turn_half t _ turn (core_of y) w))
 
     -- or at none
-    answered_left : (c : ChainState) (k : Progress) → Had (answered_by by_plain (record (event_begun x) { store = s }) o.path c k) (λ z b. IsLeft x z b)
+    answered_left : (c : ChainState) (k : Progress) → Had (answered_by by_plain (record (event_begun x) { store = s }) o.path c k) (λ z b. HalfLeft z b)
     answered_left c (progresses.Ended end) =
-        had_done (turned_left x started o.path c (came.Ends end) (stored_parts x started half.Closed refl first_stored))
+        had_done (turned_left started o.path c (came.Ends end) first_half)
     answered_left c (progresses.Local act) =
         let w : MarksDevice = record (record (event_begun x) { store = s }) { paths = paths_behind x.paths o.path act } in
         let turn = settles c (settled_act s.geometry x.paths o.path act) in
-        had_done (turned_left x w o.path turn.chain turn.came (stored_parts x w half.Closed refl first_stored))
+        had_done (turned_left w o.path turn.chain turn.came first_half)
     answered_left c (progresses.Need t) =
-        let turn = checks c Equipment in had_done (turned_left x started o.path turn.chain turn.came (stored_parts x started half.Closed refl first_stored))
+        let turn = checks c Equipment in had_done (turned_left started o.path turn.chain turn.came first_half)
     answered_left c (progresses.Write t edit) =
-        let turn = checks c Equipment in had_done (turned_left x started o.path turn.chain turn.came (stored_parts x started half.Closed refl first_stored))
+        let turn = checks c Equipment in had_done (turned_left started o.path turn.chain turn.came first_half)
 
-    by_need : (k : Option ℕ) → need_of chain ≡ k → Had (command_at by_plain (record (event_begun x) { store = s }) o.path chain k) (λ z b. IsLeft x z b)
+    by_need : (k : Option ℕ) → need_of chain ≡ k → Had (command_at by_plain (record (event_begun x) { store = s }) o.path chain k) (λ z b. HalfLeft z b)
     by_need (Some t) needs =
         had_then (follow_so (plain_of x.plans empty x.history) x.store.plain x.store.geometry x.store.cylinders (None, (x.store.lent, x.store.device))
         (settled_act chain.fixed.geometry x.paths o.path) chain (on num empty x f o running chain is).0 t (tracks_of s) chain t s (record {
@@ -218,50 +170,57 @@ module _ (num : ℕ) (empty : PlainState) (x : MarksDevice) (f : Follows num emp
         (walking_first num empty x f o running chain is now whole s e)) (λ y a w. by_turn t y a w)
     by_need None needs = had_try (answered_left (stepped chain None).chain (stepped chain None).progress)
 
-    begun_left : Had (command_by by_plain (record (event_begun x) { store = s }) (Some o) (Some chain)) (λ z b. IsLeft x z b)
+    begun_left : Had (command_by by_plain (record (event_begun x) { store = s }) (Some o) (Some chain)) (λ z b. HalfLeft z b)
     begun_left =
         let turn = checks chain Equipment in
         had_if (has_loss o.acts)
-        (λ _. had_done (turned_left x started o.path turn.chain turn.came (stored_parts x started half.Closed refl first_stored)))
+        (λ _. had_done (turned_left started o.path turn.chain turn.came first_half))
         (λ _. by_need (need_of chain) refl)
 
-    command_by_left : Had (command_by by_plain (record (event_begun x) { store = s }) x.history.running x.chain) (λ z b. IsLeft x z b)
+    command_by_left : Had (command_by by_plain (record (event_begun x) { store = s }) x.history.running x.chain) (λ z b. HalfLeft z b)
     command_by_left =
-        subst (λ (r : Option OpenEntry). Had (command_by by_plain (record (event_begun x) { store = s }) r x.chain) (λ z b. IsLeft x z b)) (sym running)
-        (subst (λ (k : Option ChainState). Had (command_by by_plain (record (event_begun x) { store = s }) (Some o) k) (λ z b. IsLeft x z b)) (sym now)
+        subst (λ (r : Option OpenEntry). Had (command_by by_plain (record (event_begun x) { store = s }) r x.chain) (λ z b. HalfLeft z b)) (sym running)
+        (subst (λ (k : Option ChainState). Had (command_by by_plain (record (event_begun x) { store = s }) (Some o) k) (λ z b. HalfLeft z b)) (sym now)
         begun_left)
 
 -- An event: its notes, its work, its end
 
 module _ (x : MarksDevice) where
-  left_ended : (y : MarksDevice) (a : Option Stepped) (z : MarksStore) → core_of z ≡ core_of y.store → IsLeft x y a → IsLeft x (record y { store = z }) a
-  left_ended y (Some (steps.Ended e)) z is p = ended_parts x y half.Closed z is p
-  left_ended y (Some (steps.Half t)) z is p = ended_parts x y half.OfCommand z is p
-  left_ended y None z is p = p
+  half_ended : (y : MarksDevice) (a : Option Stepped) (z : MarksStore) → core_of z ≡ core_of y.store → HalfLeft y a → HalfLeft (record y { store = z }) a
+  half_ended y (Some (steps.Ended e)) z is p = ap (λ (c : Core). half_by c.half) is ∙ p
+  half_ended y (Some (steps.Half t)) z is p = ap (λ (c : Core). half_by c.half) is ∙ p
+  half_ended y None z is p = p
+
+  left_parts : (y : MarksDevice) (a : Option Stepped) → IsStill (kept x.store) (base_in y) × (y.plans ≡ x.plans) → HalfLeft y a → IsLeft x y a
+  left_parts y (Some (steps.Ended e)) k p = parts_by x y half.Closed k p
+  left_parts y (Some (steps.Half t)) k p = parts_by x y half.OfCommand k p
+  left_parts y None k p = p
 
   event_leaves : {A : Type 0} (q : MarksDevice → A → Type 0) →
       ((y : MarksDevice) (a : A) (z : MarksStore) → core_of z ≡ core_of y.store → q y a → q (record y { store = z }) a) →
       (body : MarksDevice → Interaction Bool Image MarksDevice A) →
-      ((s : MarksStore) → core_of s ≡ core_of (begun x.store) → Had (body (record (event_begun x) { store = s })) q) → Had (event by_plain x body) q
+      ((s : MarksStore) → core_of s ≡ core_of (noted_begin x.store) → Had (body (record (event_begun x) { store = s })) q) → Had (event by_plain x body) q
   event_leaves q stays body h =
-      had_then {p = q} (had_then (hear_same 960 (begun x.store)) (λ s _ e. h s e))
+      had_then {p = q} (had_then (hear_same 960 (noted_begin x.store)) (λ s _ e. h s e))
       (λ y a g. had_then (ended_same (waiting_count by_plain x.store) y.store) (λ z _ e. had_done (stays y a z e g)))
 
 module _ (num : ℕ) (empty : PlainState) (x : MarksDevice) (f : Follows num empty x) where
   by_chain : (o : OpenEntry) → x.history.running ≡ Some o → x.store.half ≡ None → (k : Option ChainState) → f.before ≡ k →
-      Had (command by_plain x) (λ y a. IsLeft x y a)
+      Had (command by_plain x) (λ y a. HalfLeft y a)
   unfolding N.command
   by_chain o running whole None is = absurd
       (subst (λ (k : Option ChainState). RunsAt x.plans (replay x.plans empty x.history.items) (Some o) k) is
       (subst (λ (r : Option OpenEntry). RunsAt x.plans (replay x.plans empty x.history.items) r f.before) running f.runs))
   by_chain o running whole (Some chain) is =
       let now = none_mid (core_of x.store) x.store.half x.history.running f.before x.chain whole f.mid ∙ is in
-      had_try (event_leaves x (IsLeft x) (left_ended x) (λ z. command_by by_plain z z.history.running z.chain)
+      had_try (event_leaves x HalfLeft (half_ended x) (λ z. command_by by_plain z z.history.running z.chain)
       (λ s e. command_by_left num empty x f o running chain is now whole s e))
 
   -- a command of the running program
   pub command_left : (o : OpenEntry) → x.history.running ≡ Some o → x.store.half ≡ None → Had (command by_plain x) (λ y a. IsLeft x y a)
-  command_left o running whole = by_chain o running whole f.before refl
+  command_left o running whole =
+      had_weaker (had_both (by_chain o running whole f.before refl) (stays_by x (command_based by_plain x) (command_goes by_plain x.plans x.history x (begins x))))
+      (λ y a k. left_parts x y a k.1 k.0)
 
 -- The second part of a write
 
@@ -281,19 +240,20 @@ pub record IsSecond (x y : MarksDevice) (origin : Origin) (a : SecondEnd) : Type
   pub parts : HasParts x y half.Closed
   pub told : IsToldBy origin a
 
+abbrev HalfSecond : MarksDevice → Origin → SecondEnd → Type 0
+HalfSecond y origin a = HasHalf y half.Closed × IsToldBy origin a
+
 module _ (num : ℕ) (empty : PlainState) (x : MarksDevice) (f : Follows num empty x) where
   abbrev at : PlainState
   at = plain_of x.plans empty x.history
 
-  second_stored : (t : ℕ) (origin : Origin) (z : MarksStore) (done : Bool) →
+  second_half : (t : ℕ) (origin : Origin) (z : MarksStore) (done : Bool) →
       SecondSo (plain_of x.plans empty x.history) x.store.plain x.store.geometry x.store.cylinders (x.store.lent, x.store.device) t origin z done →
-      IsStored x half.Closed (core_of z)
-  second_stored t (OfCommand bypass e) z true k =
-      alike_stored x half.Closed k.before (core_of z) (ap open_of k.is) (ap (λ (c : Core). c.geometry) k.is) (ap (λ (c : Core). c.cylinders) k.is)
-      (walked_stored x at k.before k.on)
-  second_stored t (OfCommand bypass e) z false w = walked_stored x at (core_of z) w
-  second_stored t (OfCut bypass) z done w = walked_stored x at (core_of z) w
-  second_stored t OfBackground z done w = walked_stored x at (core_of z) w
+      half_by z.half ≡ half.Closed
+  second_half t (OfCommand bypass e) z true k = ap (λ (c : Core). half_by c.half) k.is ∙ walked_half x at k.before k.on
+  second_half t (OfCommand bypass e) z false w = walked_half x at (core_of z) w
+  second_half t (OfCut bypass) z done w = walked_half x at (core_of z) w
+  second_half t OfBackground z done w = walked_half x at (core_of z) w
 
   second_acts : (t : ℕ) (origin : Origin) (z : MarksStore) (done : Bool) →
       SecondSo (plain_of x.plans empty x.history) x.store.plain x.store.geometry x.store.cylinders (x.store.lent, x.store.device) t origin z done →
@@ -304,67 +264,62 @@ module _ (num : ℕ) (empty : PlainState) (x : MarksDevice) (f : Follows num emp
   second_acts t (OfCut bypass) z done w = w.are
   second_acts t OfBackground z done w = w.are
 
-  started_parts : (s z : MarksStore) → IsStored x half.Closed (core_of z) → HasParts x (with_store (record (event_begun x) { store = s }) z) half.Closed
-  started_parts s z stored = stored_parts x (with_store (record (event_begun x) { store = s }) z) half.Closed refl stored
-
-  ended_second : (s z : MarksStore) (t : ℕ) (path : ℕ) (chain : ChainState) (bypass : Bool) (e : _) (done : Bool) → IsStored x half.Closed (core_of z) →
-      IsSecond x (turned (with_store (record (event_begun x) { store = s }) z) path (second_turn by_plain chain done)) (OfCommand bypass e)
+  ended_second : (s z : MarksStore) (t : ℕ) (path : ℕ) (chain : ChainState) (bypass : Bool) (e : _) (done : Bool) → half_by z.half ≡ half.Closed →
+      HalfSecond (turned (with_store (record (event_begun x) { store = s }) z) path (second_turn by_plain chain done)) (OfCommand bypass e)
       (V.second_told by_plain t (second_turn by_plain chain done).came)
-  ended_second s z t path chain bypass e true stored =
-      let turn = second_turn by_plain chain true in record {
-        parts = turned_left x (with_store (record (event_begun x) { store = s }) z) path turn.chain turn.came (started_parts s z stored);
-        told = tt;
-      }
-  ended_second s z t path chain bypass e false stored =
-      let turn = second_turn by_plain chain false in record {
-        parts = turned_left x (with_store (record (event_begun x) { store = s }) z) path turn.chain turn.came (started_parts s z stored);
-        told = tt;
-      }
+  ended_second s z t path chain bypass e true is =
+      let turn = second_turn by_plain chain true in
+      (turned_left (with_store (record (event_begun x) { store = s }) z) path turn.chain turn.came is, tt)
+  ended_second s z t path chain bypass e false is =
+      let turn = second_turn by_plain chain false in
+      (turned_left (with_store (record (event_begun x) { store = s }) z) path turn.chain turn.came is, tt)
 
   of_command : (s z : MarksStore) (t : ℕ) (bypass : Bool) (edit : _) (done : Bool) → Halfway (core_of x.store) t edit x.history.running f.before x.chain →
-      IsStored x half.Closed (core_of z) → AreActs (plain_of x.plans empty x.history) None z.acts → (o : OpenEntry) → x.history.running ≡ Some o →
+      half_by z.half ≡ half.Closed → AreActs (plain_of x.plans empty x.history) None z.acts → (o : OpenEntry) → x.history.running ≡ Some o →
       Had (command_ended by_plain (with_store (record (event_begun x) { store = s }) z) t (all_acted x.history z.acts).running x.chain done)
-      (λ y a. IsSecond x y (OfCommand bypass edit) a)
+      (λ y a. HalfSecond y (OfCommand bypass edit) a)
   of_command s z t bypass edit done mid stored are o running =
       let r = runs_on num empty x f o running mid.origin mid.begins z.acts are in
       subst (λ (k : Option OpenEntry). Had (command_ended by_plain (with_store (record (event_begun x) { store = s }) z) t k x.chain done)
-      (λ y a. IsSecond x y (OfCommand bypass edit) a)) (sym r.running)
+      (λ y a. HalfSecond y (OfCommand bypass edit) a)) (sym r.running)
       (subst (λ (k : Option ChainState). Had (command_ended by_plain (with_store (record (event_begun x) { store = s }) z) t (Some r.entry) k done)
-      (λ y a. IsSecond x y (OfCommand bypass edit) a)) (sym mid.is)
+      (λ y a. HalfSecond y (OfCommand bypass edit) a)) (sym mid.is)
       (had_done (ended_second s z t r.entry.path mid.chain bypass edit done stored)))
 
   by_program : (s z : MarksStore) (t : ℕ) (bypass : Bool) (edit : _) (done : Bool) → Halfway (core_of x.store) t edit x.history.running f.before x.chain →
-      IsStored x half.Closed (core_of z) → AreActs (plain_of x.plans empty x.history) None z.acts → (r : Option OpenEntry) → x.history.running ≡ r →
+      half_by z.half ≡ half.Closed → AreActs (plain_of x.plans empty x.history) None z.acts → (r : Option OpenEntry) → x.history.running ≡ r →
       Had (command_ended by_plain (with_store (record (event_begun x) { store = s }) z) t (all_acted x.history z.acts).running x.chain done)
-      (λ y a. IsSecond x y (OfCommand bypass edit) a)
+      (λ y a. HalfSecond y (OfCommand bypass edit) a)
   by_program s z t bypass edit done mid stored are (Some o) running = of_command s z t bypass edit done mid stored are o running
   by_program s z t bypass edit done mid stored are None none = absurd (some_none x.history.running mid.runs none)
 
   unwritten_or : (s z : MarksStore) (t : ℕ) (origin : Origin) (done : Bool) → IsToldBy origin (seconds.Finished t) → IsToldBy origin (seconds.Unwritten t) →
-      IsStored x half.Closed (core_of z) →
-      IsSecond x (with_store (record (event_begun x) { store = s }) z) origin (if done then seconds.Finished t else seconds.Unwritten t)
-  unwritten_or s z t origin true said other stored = record { parts = started_parts s z stored; told = said }
-  unwritten_or s z t origin false said other stored = record { parts = started_parts s z stored; told = other }
+      half_by z.half ≡ half.Closed →
+      HalfSecond (with_store (record (event_begun x) { store = s }) z) origin (if done then seconds.Finished t else seconds.Unwritten t)
+  unwritten_or s z t origin true said other stored = (stored, said)
+  unwritten_or s z t origin false said other stored = (stored, other)
 
   by_origin : (s z : MarksStore) (t : ℕ) (origin : Origin) (done : Bool) → IsMidOf (core_of x.store) t origin x.history.running f.before x.chain →
-      IsStored x half.Closed (core_of z) → AreActs (plain_of x.plans empty x.history) None z.acts →
-      Had (second_ended by_plain (with_store (record (event_begun x) { store = s }) z) t origin done) (λ y a. IsSecond x y origin a)
+      half_by z.half ≡ half.Closed → AreActs (plain_of x.plans empty x.history) None z.acts →
+      Had (second_ended by_plain (with_store (record (event_begun x) { store = s }) z) t origin done) (λ y a. HalfSecond y origin a)
   by_origin s z t (OfCommand bypass e) done mid stored are = by_program s z t bypass e done mid stored are x.history.running refl
   by_origin s z t (OfCut bypass) done mid stored are = had_done (unwritten_or s z t (OfCut bypass) done tt tt stored)
   by_origin s z t OfBackground done mid stored are = had_done (unwritten_or s z t OfBackground done tt tt stored)
 
-  second_stays : (origin : Origin) (y : MarksDevice) (a : SecondEnd) (z : MarksStore) → core_of z ≡ core_of y.store → IsSecond x y origin a →
-      IsSecond x (record y { store = z }) origin a
-  second_stays origin y a z is q = record { parts = ended_parts x y half.Closed z is q.parts; told = q.told }
-
-  pub second_left : (h : store.HalfWrite (Unit {0})) → x.store.half ≡ Some h → Had (second by_plain x) (λ y a. IsSecond x y h.origin a)
+  halves_second : (h : store.HalfWrite (Unit {0})) → x.store.half ≡ Some h → Had (second by_plain x) (λ y a. HalfSecond y h.origin a)
   unfolding V.second
-  second_left h there =
+  halves_second h there =
       let mid = subst (λ (k : Option (store.HalfWrite (Unit {0}))). IsMid (core_of x.store) k x.history.running f.before x.chain) there f.mid in
-      event_leaves x (λ y a. IsSecond x y h.origin a) (second_stays h.origin) (λ z. second_of by_plain z z.store.half)
+      event_leaves x (λ y a. HalfSecond y h.origin a) (λ y a z is q. (ap (λ (c : Core). half_by c.half) is ∙ q.0, q.1))
+      (λ z. second_of by_plain z z.store.half)
       (λ s e. subst (λ (k : Option (store.HalfWrite (Unit {0}))). Had (second_of by_plain (record (event_begun x) { store = s }) k)
-      (λ y a. IsSecond x y h.origin a))
+      (λ y a. HalfSecond y h.origin a))
       (sym (ap (λ (c : Core). c.half) e ∙ there))
       (had_then (part_so (plain_of x.plans empty x.history) x.store.plain x.store.geometry x.store.cylinders (x.store.lent, x.store.device) s h x.store.half
       (holds_first num empty x f h.track h.origin mid s e))
-      (λ z done k. by_origin s z h.track h.origin done mid (second_stored h.track h.origin z done k) (second_acts h.track h.origin z done k))))
+      (λ z done k. by_origin s z h.track h.origin done mid (second_half h.track h.origin z done k) (second_acts h.track h.origin z done k))))
+
+  pub second_left : (h : store.HalfWrite (Unit {0})) → x.store.half ≡ Some h → Had (second by_plain x) (λ y a. IsSecond x y h.origin a)
+  second_left h there =
+      had_weaker (had_both (halves_second h there) (stays_by x (second_based by_plain x) (second_goes by_plain x.plans x.history x (begins x))))
+      (λ y a k. record { parts = parts_by x y half.Closed k.1 k.0.0; told = k.0.1 })

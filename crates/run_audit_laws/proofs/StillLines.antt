@@ -16,7 +16,7 @@ use Rattle.subsystem_defs.specs.declared.end.OrderFault.{OrderFault}
 use Rattle.subsystem_defs.specs.Decks.{run_of}
 use Rattle.subsystem_defs.specs.Deeds.{device_in}
 use Rattle.subsystem_defs.specs.Happening as H
-use Rattle.subsystem_defs.specs.Happening.{Happened, happens, replaced, replaced_at, replaced_by}
+use Rattle.subsystem_defs.specs.Happening.{EventHappened, happens, replaced, replaced_at, replaced_by}
 use Rattle.subsystem_defs.specs.Lines as L
 use Rattle.subsystem_defs.specs.Lines.{Asked, Logged, Once, Replace, asked_by, last_behind, line_logged, logged}
 use Rattle.subsystem_defs.specs.Refusals.{replace_fault}
@@ -42,7 +42,7 @@ replaced_before s d side = by_mounted (mounted_in s.mounted d) where
   by_mounted None = refl
 
 -- of one event
-module _ (s : Subsystem) (e : EventLine) (asked : Asked) (h : Happened) where
+module _ (s : Subsystem) (e : EventLine) (asked : Asked) (h : EventHappened) where
   pub one_line : asked_by e ≡ asked → line_logged s asked ≡ logged asked h ∷ [] → h.before ≡ s → EventLeads s e asked h → LineLeads s e
   one_line asks_so is before leads later =
       subst (λ (ts : List Logged). LeadsBy (stand s (e ∷ later)) (flat_map lines_of ts) (stand (last_behind s ts) later))

@@ -40,8 +40,8 @@ use Rattle.ckd_rules.specs.declared.order.LocalAct.{LocalAct}
 use Rattle.ckd_rules.specs.declared.order.LocalAct.TheVariants as acts
 use Rattle.ckd_rules.specs.declared.order.Look.{Look}
 use Rattle.ckd_rules.specs.declared.order.Look.TheVariants.{Finds, Searches, Reads, Writes}
-use Rattle.ckd_rules.specs.declared.order.Order.{Order}
-use Rattle.ckd_rules.specs.declared.order.Order.TheVariants.{Nothing, Seeks, Recalibrates, SetsSector, SetsMask, Defines, Locates, Looks, Asks}
+use Rattle.ckd_rules.specs.declared.order.CommandOrder.{CommandOrder}
+use Rattle.ckd_rules.specs.declared.order.CommandOrder.TheVariants.{Nothing, Seeks, Recalibrates, SetsSector, SetsMask, Defines, Locates, Looks, Asks}
 use Rattle.ckd_rules.specs.declared.ending.Ending.{Ending}
 use Rattle.ckd_rules.specs.declared.grouping.GroupFault.{GroupFault}
 use Rattle.ckd_types.specs.Fixed.{Fixed}
@@ -55,15 +55,15 @@ use Rattle.ckd_rules.specs.declared.stance.Place.TheVariants.{Index, Home, Count
 use Rattle.ckd_rules.specs.declared.stance.Stance.{Stance}
 use Rattle.ckd_rules.specs.declared.turned.Turned.{Turned}
 use Rattle.ckd_rules.specs.declared.turned.Turned.TheVariants as turns
-use Rattle.ckd_rules.specs.Checks.{mask_fault, masked_order, order_by, order_of, permitted_order, placed_order, is_within, first_track, is_in_sequence, decoded}
+use Rattle.ckd_rules.specs.Checks.{mask_fault, masked_order, order_by, order_of, permitted_order, placed_order, is_within, first_track, is_in_sequence, decoded_order}
 use Rattle.ckd_rules.specs.Control.{located, unseen_place}
 use Rattle.ckd_rules.specs.Ending.{Outcome, check, exception, normal, refused}
-use Rattle.ckd_rules.specs.Ends.{at_limit, end_of, is_plain, note_of}
-use Rattle.ckd_rules.specs.Finding.{find_from, from_index, missed, moves_on, next_track, track_after}
+use Rattle.ckd_rules.specs.Ends.{at_limit, end_at_word, is_plain, note_of}
+use Rattle.ckd_rules.specs.Finding.{find_from, from_index, search_missed, moves_on, next_track, track_after}
 use Rattle.ckd_rules.specs.Formats.{format_behind, format_ended, record_given, has_room_behind, is_zero_given, key_given, body_given, zero_on}
 use Rattle.ckd_rules.specs.Look.{look_on}
 use Rattle.ckd_rules.specs.Looked.{Looked, edits, ends}
-use Rattle.ckd_rules.specs.Opening.{begun, locating, look_from, moved, opened_by, opening_of, read_from}
+use Rattle.ckd_rules.specs.Opening.{begun, locating, look_from, moved, opening_with, opening_of, read_from}
 use Rattle.ckd_rules.specs.Reads.{read_sought, record_at, read_status, status_of}
 use Rattle.ckd_rules.specs.Searches.{search_sought, search_status}
 use Rattle.ckd_types.specs.declared.record.Edit.TheVariants.{Format, Update, Zero as ZeroEdit}
@@ -195,7 +195,7 @@ index_fits : (passes : ℕ) (o : Option ℕ) → SoughtFits (from_index passes o
 index_fits passes (Some i) = tt
 index_fits passes None = no_record_rule
 
-missed_fits : (b : Bool) (s : Stance) (again : Option ℕ) → SoughtFits (missed b s again)
+missed_fits : (b : Bool) (s : Stance) (again : Option ℕ) → SoughtFits (search_missed b s again)
 missed_fits true s again = moves_fits (next_track s) (next_fits s)
 missed_fits false s again = by_test (nat_le 1 s.passes) where
   by_test : (b : Bool) → SoughtFits (if b then Nowhere no_record_sense else from_index (s.passes + 1) again)
@@ -292,11 +292,11 @@ walk_fits (suc n) g tracks start c look s =
 
 -- How a command begins
 
-abbrev OrderFits : Result Order Sense → Type 0
+abbrev OrderFits : Result CommandOrder Sense → Type 0
 OrderFits (Ok order) = ⊤
 OrderFits (Err sense) = IsRule sense
 
-placed_fits : (s : Stance) (order : Order) → OrderFits (placed_order s order)
+placed_fits : (s : Stance) (order : CommandOrder) → OrderFits (placed_order s order)
 placed_fits s order = cond_both (is_within s.extent (first_track s order)) (Ok order) (Err file_protected_sense) OrderFits (λ _. tt) (λ _. protected_rule)
 
 abbrev FaultFits : Option Sense → Type 0
@@ -310,11 +310,11 @@ mask_fits mask (commands.Search x) = tt
 mask_fits mask (commands.Read r) = tt
 mask_fits mask (commands.Device d) = tt
 
-masked_fits : (s : Stance) (order : Order) (o : Option Sense) → FaultFits o → OrderFits (masked_order s order o)
+masked_fits : (s : Stance) (order : CommandOrder) (o : Option Sense) → FaultFits o → OrderFits (masked_order s order o)
 masked_fits s order (Some sense) h = h
 masked_fits s order None h = placed_fits s order
 
-permitted_fits : (s : Stance) (command : Command) (o : Option Order) → OrderFits (permitted_order s command o)
+permitted_fits : (s : Stance) (command : Command) (o : Option CommandOrder) → OrderFits (permitted_order s command o)
 permitted_fits s command None = rejects 4 (omega arith)
 permitted_fits s command (Some order) = masked_fits s order (mask_fault s.mask command) (mask_fits s.mask command)
 
@@ -322,10 +322,10 @@ order_fits : (f : Fixed) (s : Stance) (c : Ccw) (o : Option Command) → OrderFi
 order_fits f s c None = rejects 1 (omega arith)
 order_fits f s c (Some command) =
     cond_both (not (is_in_sequence s s.domain command)) (Err (reject_sense 2))
-    (if nat_lt c.count (required_count command) then Err (reject_sense 3) else permitted_order s command (decoded f s c command)) OrderFits
+    (if nat_lt c.count (required_count command) then Err (reject_sense 3) else permitted_order s command (decoded_order f s c command)) OrderFits
     (λ _. rejects 2 (omega arith))
-    (λ _. cond_both (nat_lt c.count (required_count command)) (Err (reject_sense 3)) (permitted_order s command (decoded f s c command)) OrderFits
-    (λ _. rejects 3 (omega arith)) (λ _. permitted_fits s command (decoded f s c command)))
+    (λ _. cond_both (nat_lt c.count (required_count command)) (Err (reject_sense 3)) (permitted_order s command (decoded_order f s c command)) OrderFits
+    (λ _. rejects 3 (omega arith)) (λ _. permitted_fits s command (decoded_order f s c command)))
 
 abbrev pub OpeningFits : Ccw → Opening → Type 0
 OpeningFits c (openings.Over e) = Fits c e
@@ -372,7 +372,7 @@ locating_fits : (s : Stance) (c : Ccw) (d : Domain) (o : Option Place) → Openi
 locating_fits s c d (Some place) = ended_fits c _ _ good
 locating_fits s c d None = tt
 
-begun_fits : (s : Stance) (c : Ccw) (order : Order) → OpeningFits c (begun s c order).opening
+begun_fits : (s : Stance) (c : Ccw) (order : CommandOrder) → OpeningFits c (begun s c order).opening
 begun_fits s c Nothing = immediate_fits c
 begun_fits s c (Seeks t) = ended_fits c _ _ good
 begun_fits s c Recalibrates = immediate_fits c
@@ -383,7 +383,7 @@ begun_fits s c (Locates d) = locating_fits s c d (unseen_place d.orientation)
 begun_fits s c (Looks look) = look_from_fits s c look
 begun_fits s c (Asks act) = tt
 
-opened_fits : (s : Stance) (c : Ccw) (r : Result Order Sense) → OrderFits r → OpeningFits c (opened_by s c r).opening
+opened_fits : (s : Stance) (c : Ccw) (r : Result CommandOrder Sense) → OrderFits r → OpeningFits c (opening_with s c r).opening
 opened_fits s c (Ok order) h = begun_fits s c order
 opened_fits s c (Err sense) h = refused_fits s c sense h
 
@@ -429,16 +429,16 @@ note_is i c o is =
     (ap (λ (s : UnitStatus). is_chained c && not (has_unit_check s) && not (has_unit_exception s) && is_plain o.ending.note) is
     ∙ no_more (is_chained c) (not (has_unit_exception check)) (is_plain o.ending.note))
 
-tidy_by : (i : ℕ) (c : Ccw) (o : Outcome) (s : Option Sense) → FitsBy c o.ending s → TidyBy c (end_of i c o) s
+tidy_by : (i : ℕ) (c : Ccw) (o : Outcome) (s : Option Sense) → FitsBy c o.ending s → TidyBy c (end_at_word i c o) s
 tidy_by i c o (Some sense) h = (h.0, h.1, note_is i c o h.0 ∙ h.2, h.3, h.4.0, h.4.1)
 tidy_by i c o None h = h.0.0
 
 -- an end of the plain device, of a command that ends before it has looked at more tracks than there are
 pub end_is_tidy : (i : ℕ) (f : Fixed) (state : PlainState) (path : ℕ) (s : Stance) (c : Ccw) →
-    ((end_of i c (effect_on f state path s c).outcome).sense ≡ Some equipment_sense → ⊥) →
-    TidyBy c (end_of i c (effect_on f state path s c).outcome) (end_of i c (effect_on f state path s c).outcome).sense
+    ((end_at_word i c (effect_on f state path s c).outcome).sense ≡ Some equipment_sense → ⊥) →
+    TidyBy c (end_at_word i c (effect_on f state path s c).outcome) (end_at_word i c (effect_on f state path s c).outcome).sense
 end_is_tidy i f state path s c few = by_fits (outcome_fits f state path s c) where
   by_fits : WalkFits c (effect_on f state path s c).outcome →
-      TidyBy c (end_of i c (effect_on f state path s c).outcome) (end_of i c (effect_on f state path s c).outcome).sense
+      TidyBy c (end_at_word i c (effect_on f state path s c).outcome) (end_at_word i c (effect_on f state path s c).outcome).sense
   by_fits (inl h) = tidy_by i c (effect_on f state path s c).outcome (effect_on f state path s c).outcome.ending.sense h
   by_fits (inr many) = absurd (few many.0)

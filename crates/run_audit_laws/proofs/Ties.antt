@@ -40,7 +40,7 @@ use Rattle.device_defs.specs.Contents.{by_plain}
 use Rattle.device_defs.specs.Cutting.{power, reset}
 use Rattle.device_defs.specs.Events.{background, lose, second}
 use Rattle.device_defs.specs.Marks.{MarksDevice}
-use Rattle.device_defs.specs.Orders.{hold, join, lend, replace, restore, resume, split}
+use Rattle.device_defs.specs.Orders.{hold_side, join, lend, replace, restore, resume, split}
 use Rattle.device_defs.specs.Start as S
 use Rattle.device_defs.specs.Start.{start}
 use Rattle.device_laws.proofs.Always.{Always}
@@ -362,6 +362,8 @@ pair_bears b = record {
   loses = λ x t is. is;
   fails = λ x is. is;
   falls = λ x side pair is. fallen_pair b (failed_more x) side is;
+  queues = λ x room is. is;
+  dequeues = λ x n less is. is;
 }
 
 kept_tie : {X : Type 0} (d : MarksDevice) (talk : Interaction Bool Image MarksDevice X) (b : Base) → b.device ≡ d.store.device →
@@ -599,7 +601,7 @@ ties_keep s = record {
   repaired_cache = tt;
   repaired_store = tt;
   lent = λ x y z w fault. (fault, z, w);
-  held = λ d x fault. becomes_so s d (hold d) x refl;
+  held = λ d x fault. becomes_so s d (hold_side d) x refl;
   resumed = λ d x fault. becomes_so s d (resume d) x refl;
 }
 

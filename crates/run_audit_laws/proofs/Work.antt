@@ -30,7 +30,7 @@ use Rattle.plain_defs.specs.declared.journal.Act.{Act}
 use Rattle.plain_defs.specs.declared.journal.Act.TheVariants.{Loosen, Harden, CfwLost}
 use Rattle.plain_defs.specs.History.{History, IsPlain, acted}
 use Rattle.plain_defs.specs.Legal.{AreActs}
-use Rattle.plain_defs.specs.Loose.{is_loose}
+use Rattle.plain_defs.specs.Loose.{is_loose_there}
 use Rattle.plain_defs.specs.PlainState.{PlainState}
 use Rattle.device_defs.specs.Device.{all_acted}
 use Rattle.device_laws.proofs.HistoryActs.{acted_plain, acted_state, acts_first, acts_rest}
@@ -161,7 +161,7 @@ module _ (xs : List AuditedDevice) (w : EventLine) (later : List EventLine) (n :
         ∙ ap (λ (l : Bool). or_history (if not l then None else Some (settled s did))) legal
 
   -- a loose track becomes firm
-  pub harden_judged : (a : AuditedDevice) → a.number ≡ n → (did : Did) (t : ℕ) → is_loose (state_of a) t ≡ true →
+  pub harden_judged : (a : AuditedDevice) → a.number ≡ n → (did : Did) (t : ℕ) → is_loose_there (state_of a) t ≡ true →
       judged (at_work a (Behind true did)) (lines.Loose n (loose.Harden t)) ≡ Ok (at_work (record a { history = acted a.history (Harden t) }) (Behind true did))
   harden_judged a same did t is =
       let s = at_work a (Behind true did) in

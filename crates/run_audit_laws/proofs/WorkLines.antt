@@ -19,7 +19,7 @@ use Rattle.subsystem_defs.specs.declared.end.EventEnd.TheVariants as ends
 use Rattle.subsystem_defs.specs.declared.event.Event.TheVariants as events
 use Rattle.subsystem_defs.specs.Decks.{run_of}
 use Rattle.subsystem_defs.specs.Deeds.{device_in}
-use Rattle.subsystem_defs.specs.Happening.{Happened, happens, quietly}
+use Rattle.subsystem_defs.specs.Happening.{EventHappened, happens, quietly}
 use Rattle.subsystem_defs.specs.Lines as L
 use Rattle.subsystem_defs.specs.Lines.{
   Asked,
@@ -65,11 +65,11 @@ use Rattle.subsystem_laws.proofs.WholeUnpairs.{not_some}
 
 -- The lines of one event
 
-told_from : (s : Subsystem) (asked : Asked) (h : Happened) → h.before ≡ s →
+told_from : (s : Subsystem) (asked : Asked) (h : EventHappened) → h.before ≡ s →
     event_lines asked h.end h.reads h.writes (devices_of s) (devices_of h.behind) ≡ lines_of (logged asked h)
 told_from s asked h before = sym (ap (λ (z : Subsystem). event_lines asked h.end h.reads h.writes (devices_of z) (devices_of h.behind)) before)
 
-pub one_goes : (s : Subsystem) (w : EventLine) (h : Happened) → line_logged s (asked_by w) ≡ logged (asked_by w) h ∷ [] → h.before ≡ s →
+pub one_goes : (s : Subsystem) (w : EventLine) (h : EventHappened) → line_logged s (asked_by w) ≡ logged (asked_by w) h ∷ [] → h.before ≡ s →
     ((later : List EventLine) →
     LeadsTowards (stand s (w ∷ later)) (event_lines (asked_by w) h.end h.reads h.writes (devices_of s) (devices_of h.behind)) (stand h.behind later)) →
     LineGoes s w
@@ -266,7 +266,7 @@ module _ (d : ℕ) (later : List EventLine) where
   settled_to s ts = stand (last_behind s ts) (left_settle ts d later)
 
   -- the pieces behind the first one
-  more_backs : (s : Subsystem) (h : Happened) (k : ℕ) (ls : List ReportLine) (b : Bool) → is_settled h.end ≡ b →
+  more_backs : (s : Subsystem) (h : EventHappened) (k : ℕ) (ls : List ReportLine) (b : Bool) → is_settled h.end ≡ b →
       LeadsTowards (stand s (wanted.Settle d ∷ later)) ls (stand h.behind (if b then later else wanted.Settle d ∷ later)) →
       (b ≡ false → LeadsTowards (stand h.behind (wanted.Settle d ∷ later)) (flat_map lines_of (backs k d h.behind))
       (settled_to h.behind (backs k d h.behind))) →

@@ -10,7 +10,7 @@ use Rattle.report_text.specs.Lines.{line_text, text_of}
 use Rattle.report_text.specs.Report.{device_text, frame_text, lost_text, report_text}
 use Rattle.report_text.proofs.Spaced.{flat_both}
 use Rattle.run_report.specs.Closing.{TellsEnding, device_lines, end_lines, ending_lines, frame_end_line, frame_line}
-use Rattle.subsystem_defs.specs.Closing.{Ending}
+use Rattle.subsystem_defs.specs.Closing.{RunEnding}
 
 both : (xs ys : List ReportLine) → lines_text (xs ++ ys) ≡ lines_text xs ++ lines_text ys
 both xs ys = flat_both line_text xs ys
@@ -45,7 +45,7 @@ closing es fs =
     ∙ ap (λ (l : List ℕ). l ++ lines_text (map frame_end_line fs ++ lines.Finish ∷ [])) (devices es)
     ∙ sym (both (flat_map end_lines es) (map frame_end_line fs ++ lines.Finish ∷ []))
 
-pub report_is : (events : List ReportLine) (e : Ending) (es : List DeviceEnd) (fs : List FrameEnd) → TellsEnding e es fs
+pub report_is : (events : List ReportLine) (e : RunEnding) (es : List DeviceEnd) (fs : List FrameEnd) → TellsEnding e es fs
     → report_text events es fs ≡ lines_text (events ++ ending_lines e)
 report_is events e es fs h =
     ap (λ (l : List ℕ). lines_text events ++ l) (closing es fs)

@@ -10,7 +10,7 @@ use Rattle.run_report.specs.Events.{lines_of}
 use Rattle.run_report.specs.Report.{report_lines}
 use Rattle.run_report.specs.Shown.{owns, shown_from, shown_of, shows}
 use Rattle.run_report.specs.Showing.{AreShown, lines_in}
-use Rattle.subsystem_defs.specs.Closing.{DeviceEnd, Counted, LentTo, Ending, ending}
+use Rattle.subsystem_defs.specs.Closing.{DeviceEnd, Counted, LentTo, RunEnding, ending}
 use Rattle.subsystem_defs.specs.Decks.{run_from}
 use Rattle.subsystem_defs.specs.Lines.{Logged, last_behind}
 use Rattle.subsystem_defs.specs.Subsystem.{Subsystem}
@@ -56,7 +56,7 @@ module _ (d : ℕ) where
       ∙ ap (λ (l : List ReportLine). l ++ shown_from d (owned d own (device_lines e)) (flat_map device_lines es ++ ls)) (one_shows own e)
       ∙ devices_show (owned d own (device_lines e)) es ls none
 
-  ending_shows : (own : Bool) (e : Ending) → shown_from d own (ending_lines e) ≡ []
+  ending_shows : (own : Bool) (e : RunEnding) → shown_from d own (ending_lines e) ≡ []
   ending_shows own e = devices_show own e.devices (map frame_line e.frames ++ lines.Finish ∷ []) (λ o. frames_show o e.frames)
 
   -- from one event to the next

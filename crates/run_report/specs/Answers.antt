@@ -7,8 +7,8 @@ use Rattle.report_text.specs.declared.answers.BackAnswer.{BackAnswer}
 use Rattle.report_text.specs.declared.answers.BackAnswer.TheVariants as back
 use Rattle.report_text.specs.declared.answers.OrderAnswer.{OrderAnswer}
 use Rattle.report_text.specs.declared.answers.OrderAnswer.TheVariants as orders
-use Rattle.report_text.specs.declared.answers.OrderFault.{OrderFault}
-use Rattle.report_text.specs.declared.answers.OrderFault.TheVariants as told
+use Rattle.report_text.specs.declared.answers.OrderRefusal.{OrderRefusal}
+use Rattle.report_text.specs.declared.answers.OrderRefusal.TheVariants as told
 use Rattle.report_text.specs.declared.answers.StartAnswer.{StartAnswer}
 use Rattle.report_text.specs.declared.answers.StartAnswer.TheVariants as start
 use Rattle.subsystem_defs.specs.declared.end.EventEnd.{EventEnd}
@@ -43,7 +43,7 @@ back_answer (dids.Fault side) = back.Fault side
 back_answer (dids.BadBytes side) = back.BadBytes side
 
 -- why an order was refused
-abbrev pub refused_as : subsystem.OrderFault → OrderFault
+abbrev pub refused_as : subsystem.OrderFault → OrderRefusal
 refused_as faults.Same = told.Same
 refused_as (faults.Lent of) = told.Lent of
 refused_as faults.Paired = told.Paired

@@ -33,12 +33,12 @@ how_over hows.Full = over.Full
 how_over hows.Checked = over.Checked
 how_over (hows.Cut effect) = over.Cut effect
 
-abbrev pub program_over : ℕ → ProgramEntry → ProgramOver
-program_over d e = record { path = e.path; device = d; ordinal = e.ordinal; how = how_over e.how }
+abbrev pub program_over_line : ℕ → ProgramEntry → ProgramOver
+program_over_line d e = record { path = e.path; device = d; ordinal = e.ordinal; how = how_over e.how }
 
 -- a program that is over is the first item that came to the journal. A reset that comes with it, or that waited for it, is no line
 abbrev pub over_of : ℕ → List Item → Option ProgramOver
-over_of d (items.Program e ∷ xs) = Some (program_over d e)
+over_of d (items.Program e ∷ xs) = Some (program_over_line d e)
 over_of d _ = None
 
 module _ {F P H : Type 0} where

@@ -7,7 +7,7 @@ use Rattle.report_text.specs.declared.line.ReportLine.{ReportLine}
 use Rattle.report_text.specs.declared.line.ReportLine.TheVariants as lines
 use Rattle.report_text.specs.declared.report.DeviceEnd as report
 use Rattle.report_text.specs.declared.report.FrameEnd.{FrameEnd}
-use Rattle.subsystem_defs.specs.Closing.{DeviceEnd, Counted, LentTo, Ending}
+use Rattle.subsystem_defs.specs.Closing.{DeviceEnd, Counted, LentTo, RunEnding}
 
 -- a device's calls and lost tracks, or to whom it is lent
 abbrev pub device_lines : DeviceEnd → List ReportLine
@@ -17,7 +17,7 @@ device_lines (LentTo d to) = lines.Device d (totals.Lent to) ∷ []
 abbrev pub frame_line : Frame → ReportLine
 frame_line f = lines.Frame f.0.0 f.0.1 f.1
 
-abbrev pub ending_lines : Ending → List ReportLine
+abbrev pub ending_lines : RunEnding → List ReportLine
 ending_lines e = flat_map device_lines e.devices ++ (map frame_line e.frames ++ lines.Finish ∷ [])
 
 -- What is handed to the writer of a report says the same
@@ -28,6 +28,6 @@ end_lines e = lines.Device e.device e.totals ∷ map (lines.Lost e.device) e.los
 abbrev pub frame_end_line : FrameEnd → ReportLine
 frame_end_line f = lines.Frame f.device f.track f.modified
 
-pub record TellsEnding (e : Ending) (devices : List report.DeviceEnd) (frames : List FrameEnd) : Type 0 where
+pub record TellsEnding (e : RunEnding) (devices : List report.DeviceEnd) (frames : List FrameEnd) : Type 0 where
   pub devices_are : flat_map end_lines devices ≡ flat_map device_lines e.devices
   pub frames_are : map frame_end_line frames ≡ map frame_line e.frames

@@ -22,7 +22,7 @@ use Rattle.subsystem_defs.specs.declared.end.EventEnd.TheVariants as ends
 use Rattle.subsystem_defs.specs.declared.event.Event.{Event}
 use Rattle.subsystem_defs.specs.declared.event.Event.TheVariants as events
 use Rattle.subsystem_defs.specs.Deeds.{device_in}
-use Rattle.subsystem_defs.specs.Happening.{Happened}
+use Rattle.subsystem_defs.specs.Happening.{EventHappened}
 use Rattle.subsystem_defs.specs.Lines.{Asked, Once, Replace, Unpair, Run, Settle, Logged}
 use Rattle.subsystem_defs.specs.Subsystem.{devices_of}
 
@@ -42,15 +42,15 @@ step_told d running (stepped.Ended e) = end_told d running e
 step_told d running (stepped.Half t) = half_told d running t
 
 -- the second part of a write that no command waits for is told as work of the background, whoever asked for it
-abbrev pub second_told : ℕ → Option RunningProgram → SecondEnd → report.Happened
-second_told d running (seconds.Ended e) = end_told d running e
-second_told d running (seconds.Finished t) = did.Back d (back.Finished t)
-second_told d running (seconds.Unwritten t) = did.Back d (back.Unwritten t)
+abbrev pub second_reported : ℕ → Option RunningProgram → SecondEnd → report.Happened
+second_reported d running (seconds.Ended e) = end_told d running e
+second_reported d running (seconds.Finished t) = did.Back d (back.Finished t)
+second_reported d running (seconds.Unwritten t) = did.Back d (back.Unwritten t)
 
 -- of a device whose program runs, and what is told where there was nothing to do
 abbrev pub work_told : ℕ → Option RunningProgram → report.Happened → EventEnd → report.Happened
 work_told d running idle (ends.Stepped s) = step_told d running s
-work_told d running idle (ends.Second s) = second_told d running s
+work_told d running idle (ends.Second s) = second_reported d running s
 work_told d running idle (ends.Back x) = did.Back d (back_answer x)
 work_told d running idle _ = idle
 

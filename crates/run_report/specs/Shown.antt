@@ -12,7 +12,7 @@ use Rattle.report_text.specs.declared.line.ReportLine.{ReportLine}
 use Rattle.report_text.specs.declared.line.ReportLine.TheVariants as lines
 use Rattle.report_text.specs.Counting.{is_accepted}
 use Rattle.report_text.specs.Events.{ended_lines, program_over_lines}
-use Rattle.run_report.specs.Beside.{program_over}
+use Rattle.run_report.specs.Beside.{program_over_line}
 use Rattle.run_report.specs.Report.{report_lines}
 use Rattle.subsystem_defs.specs.Decks.{DeckRun, run_of}
 use Rattle.subsystem_defs.specs.Promised.{IsPlainBehind}
@@ -47,7 +47,7 @@ abbrev pub program_lines : ℕ → ℕ → ℕ → List CommandEnd → List Repo
 program_lines d path ordinal ends = lines.Start path d (start.Accepted ordinal) ∷ flat_map (ended_lines path d ordinal) ends
 
 abbrev pub item_lines : ℕ → Item → List ReportLine
-item_lines d (items.Program e) = program_lines d e.path e.ordinal e.ends ++ program_over_lines (Some (program_over d e))
+item_lines d (items.Program e) = program_lines d e.path e.ordinal e.ends ++ program_over_lines (Some (program_over_line d e))
 item_lines d _ = []
 
 abbrev pub running_lines : ℕ → Option OpenEntry → List ReportLine

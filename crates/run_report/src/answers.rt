@@ -47,23 +47,23 @@ pub fn back_answer(did: Did) -> BackAnswer
     }
 }
 
-fn refused_as(fault: OrderFault) -> report_text::OrderFault
+fn refused_as(fault: OrderFault) -> report_text::OrderRefusal
     ensures { result ≡ refused_as fault }
 {
     match fault {
-        OrderFault::Same => report_text::OrderFault::Same,
-        OrderFault::Lent { of } => report_text::OrderFault::Lent(of),
-        OrderFault::Paired => report_text::OrderFault::Paired,
-        OrderFault::Unpaired => report_text::OrderFault::Unpaired,
-        OrderFault::Active { path } => report_text::OrderFault::Active(path),
-        OrderFault::Geometry => report_text::OrderFault::Geometry,
-        OrderFault::NoSide => report_text::OrderFault::NoSide,
-        OrderFault::Down => report_text::OrderFault::Down,
-        OrderFault::Up => report_text::OrderFault::Up,
-        OrderFault::NotLevel { n } => report_text::OrderFault::NotLevel(n),
-        OrderFault::Half => report_text::OrderFault::Half,
-        OrderFault::Held => report_text::OrderFault::Held,
-        OrderFault::NotHeld => report_text::OrderFault::NotHeld,
+        OrderFault::Same => report_text::OrderRefusal::Same,
+        OrderFault::Lent { of } => report_text::OrderRefusal::Lent(of),
+        OrderFault::Paired => report_text::OrderRefusal::Paired,
+        OrderFault::Unpaired => report_text::OrderRefusal::Unpaired,
+        OrderFault::Active { path } => report_text::OrderRefusal::Active(path),
+        OrderFault::Geometry => report_text::OrderRefusal::Geometry,
+        OrderFault::NoSide => report_text::OrderRefusal::NoSide,
+        OrderFault::Down => report_text::OrderRefusal::Down,
+        OrderFault::Up => report_text::OrderRefusal::Up,
+        OrderFault::NotLevel { n } => report_text::OrderRefusal::NotLevel(n),
+        OrderFault::Half => report_text::OrderRefusal::Half,
+        OrderFault::Held => report_text::OrderRefusal::Held,
+        OrderFault::NotHeld => report_text::OrderRefusal::NotHeld,
     }
 }
 

@@ -3,7 +3,7 @@ ghost use Rattle.report_text.specs.declared.line.ReportLine.TheVariants as lines
 ghost use Rattle.report_text.specs.Ends.{data_lines, sense_lines};
 ghost use Rattle.report_text.specs.Events.{ended_lines, first_lines, io_lines, loosed_line, program_over_lines};
 ghost use Rattle.run_report.specs.Answers.{order_answer};
-ghost use Rattle.run_report.specs.Beside.{over_of, program_over};
+ghost use Rattle.run_report.specs.Beside.{over_of, program_over_line};
 ghost use Rattle.run_report.specs.Events.{end_told};
 ghost use Rattle.run_report.specs.OneDevice.{lines_by, power_lines_by};
 
@@ -15,7 +15,7 @@ use report_text::{EndLine, Happened, Loosed, Order, ProgramOver, ReportLine, Run
 use subsystem_defs::EventEnd;
 
 fn program_over(device: DeviceNo, entry: &Entry) -> ProgramOver
-    ensures { result ≡ program_over device entry.now }
+    ensures { result ≡ program_over_line device entry.now }
 {
     ProgramOver {
         path: entry.path,

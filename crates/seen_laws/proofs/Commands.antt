@@ -27,7 +27,7 @@ use Rattle.device_defs.specs.Command.{has_loss, follow, came_out, on_tracks, ans
 use Rattle.device_defs.specs.Contents.{contents}
 use Rattle.device_defs.specs.Device.{all_acted, with_store, event_begun, event_ended, event}
 use Rattle.device_defs.specs.Outcomes.{Turn, ends_with, settles, checks, sense_kept, program_over, turned_by, again}
-use Rattle.device_defs.specs.Owed.{hear, waiting_count, ended}
+use Rattle.device_defs.specs.Owed.{hear, waiting_count, noted_end}
 use Rattle.device_defs.specs.Sound.{DeviceStore}
 use Rattle.device_defs.specs.Store.{tracks_of}
 use Rattle.device_laws.specs.Standing.{RunsOn, LooksAt}
@@ -123,7 +123,7 @@ module _ {K : Type 0} (had : Bool → Type 0) (hears : Hearing Image K) where
   event_over : (old y : WholeDevice) (o : Option Stepped) {w z : Calls} {e : WholeDevice} {a : Option Stepped} →
       Ran had hears (event_ended contents old y o) w e a z → Ended y o w e a z
   event_over old y o r =
-      let x = split (ended contents (waiting_count contents old.store) y.store) (λ s _. Done (record y { store = s }) o) r in
+      let x = split (noted_end contents (waiting_count contents old.store) y.store) (λ s _. Done (record y { store = s }) o) r in
       last (quiet_ran (ended_quiet contents (waiting_count contents old.store) y.store) x.first) x.rest
     where
       last : {s : DeviceStore} {w v z : Calls} {e : WholeDevice} {a : Option Stepped} → NotCalled w v →

@@ -9,7 +9,7 @@ use Rattle.device_outside.specs.Keeper.{Message, ReplyTo, Hearing, reply}
 use Rattle.device_outside.specs.Outside.{Outside, Ran, done, tried, asked, read, wrote, told}
 use Rattle.device_outside.specs.Pool.{Call, AnswerTo, answer, after}
 use Rattle.device_outside.specs.Told as T
-use Rattle.device_outside.specs.Told.{Told, hold, calls_of, read_fails, write_fails, read_counted, write_counted}
+use Rattle.device_outside.specs.Told.{Told, hold, calls_of, read_fails, write_fails, told_read, told_write}
 use Rattle.device_defs.specs.Transfers as M
 use Rattle.device_defs.specs.Transfers.{Moves}
 use Rattle.device_laws.proofs.Always as W
@@ -202,11 +202,11 @@ module _ {R K S A : Type 0} {had : Bool → Type 0} {hears : Hearing Image K} {b
 
 -- Behind a run whose outside is told
 
-read_writes : (t : Told) (side : Side) → (read_counted t side).writes ≡ t.writes
+read_writes : (t : Told) (side : Side) → (told_read t side).writes ≡ t.writes
 read_writes t sides.A = refl
 read_writes t sides.B = refl
 
-write_reads : (t : Told) (side : Side) → (write_counted t side).reads ≡ t.reads
+write_reads : (t : Told) (side : Side) → (told_write t side).reads ≡ t.reads
 write_reads t sides.A = refl
 write_reads t sides.B = refl
 
@@ -218,9 +218,9 @@ module _ {R I S A : Type 0} {q : ℕ → ℕ → S → A → Type 0} (v : R) whe
   held_counts (counts_try x) t e f = held_counts (x true) t e f
   held_counts (counts_ask {call = call} x) t e f = held_counts (x (answer t.pool call)) (record t { pool = after t.pool call (answer t.pool call) }) e f
   held_counts (counts_read {side = side} x) t e f =
-      held_counts (x (if read_fails (calls_of t side) then None else Some v)) (read_counted t side) (ap (λ (n : ℕ). n + 1) e) (read_writes t side ∙ f)
+      held_counts (x (if read_fails (calls_of t side) then None else Some v)) (told_read t side) (ap (λ (n : ℕ). n + 1) e) (read_writes t side ∙ f)
   held_counts (counts_write {side = side} x) t e f =
-      held_counts (x (if write_fails (calls_of t side) then false else true)) (write_counted t side) (write_reads t side ∙ e) (ap (λ (n : ℕ). n + 1) f)
+      held_counts (x (if write_fails (calls_of t side) then false else true)) (told_write t side) (write_reads t side ∙ e) (ap (λ (n : ℕ). n + 1) f)
   held_counts (counts_tell {m = m} x) t e f = held_counts (x (reply m)) t e f
 
   -- from where no call was made yet

@@ -16,7 +16,7 @@ use Rattle.device_defs.specs.Contents.{Contents}
 use Rattle.device_defs.specs.Editing as E
 use Rattle.device_defs.specs.Editing.{whole, at_once, through_by, through, write_by, written, is_given, clean_again, unchosen, write_chosen, another_loose}
 use Rattle.device_defs.specs.Image as I
-use Rattle.device_defs.specs.Image.{Got, got, first_fault, read_counted, read_side, second_read, read_b, first_read, level_bytes}
+use Rattle.device_defs.specs.Image.{Got, got, first_faulty_side, read_counted, read_side, second_read, read_b, first_read, level_bytes}
 use Rattle.device_defs.specs.Losses.{settled}
 use Rattle.device_defs.specs.Owed.{is_clean}
 use Rattle.device_defs.specs.Store.{OfCommand, SideMarks, Store, level_at, has_level, takes_b, frame_at}
@@ -35,7 +35,7 @@ use Rattle.device_defs.specs.Writing.{
   write_first,
   tried_b,
   write_second,
-  opened,
+  write_opened,
 }
 use Rattle.device_laws.proofs.QuietParts.{failed_quiet, done_quiet}
 use Rattle.seen_laws.specs.Moved.{sides_writing, miss_reads, choice_writes}
@@ -77,7 +77,7 @@ module _ {F P H R : Type 0} (c : Contents F P H R) where
         Counts Level 2 0 (second_read c (Some A) (read_counted z (is_some bytes)) bytes)
     second_at z level other (Some x) = counts_done (refl, refl, after_a level other)
     second_at z level other None =
-        counts_past (λ x _. Done x (got B None (Some (first_fault (Some A) B)))) (failed_quiet c (read_counted z false) B None)
+        counts_past (λ x _. Done x (got B None (Some (first_faulty_side (Some A) B)))) (failed_quiet c (read_counted z false) B None)
         (λ x _. counts_done (refl, both_failed level other))
 
     behind_a : (z : Store F P H) → level_at s.a t ≡ true → (l : Bool) → level_at s.b t ≡ l →
@@ -96,7 +96,7 @@ module _ {F P H R : Type 0} (c : Contents F P H R) where
         Counts Level 1 0 (second_read c None (read_counted s (is_some bytes)) bytes)
     only_at stale level (Some r) = counts_done (refl, refl, from_b stale level)
     only_at stale level None =
-        counts_past (λ z _. Done z (got B None (Some (first_fault None B)))) (failed_quiet c (read_counted s false) B None)
+        counts_past (λ z _. Done z (got B None (Some (first_faulty_side None B)))) (failed_quiet c (read_counted s false) B None)
         (λ z _. counts_done (refl, b_failed stale level))
 
     by_b : level_at s.a t ≡ false → (l : Bool) → level_at s.b t ≡ l →
@@ -227,7 +227,7 @@ module _ {F P H R : Type 0} (c : Contents F P H R) where
   -- A write that was chosen
 
   module _ (u : Usage) (first t : ℕ) (old : Image) (e : Edit) (s : Store F P H) where
-    written_by : (i : Image) (choice : Choice) →
+    pub written_by : (i : Image) (choice : Choice) →
         Counts (λ r w z took. ByAnswer (sides_writing s) choice r w (Some took)) 0 0 (write_by c u first t i e s choice)
     written_by i Provisional = counts_done (refl, refl)
     written_by i (Fast slot) = counts_tell (λ _. counts_done (refl, refl))

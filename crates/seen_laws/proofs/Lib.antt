@@ -7,10 +7,10 @@ mod Seconds
 pub mod Others
 pub mod Counting
 mod RanCounts
-mod SidesLeft
+pub mod SidesLeft
 mod ReadCounts
-mod WriteCounts
-mod Exact
+pub mod WriteCounts
+pub mod Exact
 mod WorkCounts
 mod CommandCounts
 pub mod EventCounts

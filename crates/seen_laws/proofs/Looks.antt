@@ -22,7 +22,7 @@ use Rattle.device_defs.specs.Image.{
   Has,
   NoBytes,
   BadTrack,
-  first_fault,
+  first_faulty_side,
   read_counted,
   ahead,
   loads,
@@ -91,7 +91,7 @@ module _ {K : Type 0} (had : Bool → Type 0) (hears : Hearing Image K) where
       Ran had hears (if b then read_side contents s B t (second_read contents fault) else Done s (got B None fault)) u e g z → Delivered g z
   from_b t fault s true {u = w} (read {got = Some r} {v = v} {u = u} is of done) = some_bytes B r fault (with_view w B u) (read_last w B t v u r of)
   from_b t fault s true (read {got = None} is of r) =
-      let x = split (call_failed contents (read_counted s false) B None) (λ z _. Done z (got B None (Some (first_fault fault B)))) r in
+      let x = split (call_failed contents (read_counted s false) B None) (λ z _. Done z (got B None (Some (first_faulty_side fault B)))) r in
       none_behind x.rest
   from_b t fault s false {z = z} done = no_bytes B fault z
 

@@ -11,7 +11,7 @@ use Rattle.device_defs.specs.Contents.{contents}
 use Rattle.device_defs.specs.Device.{with_store, event_begun, event_ended, quiet_event, event}
 use Rattle.device_defs.specs.Events as V
 use Rattle.device_defs.specs.Events.{background, losing, lose}
-use Rattle.device_defs.specs.Owed.{hear, waiting_count, ended}
+use Rattle.device_defs.specs.Owed.{hear, waiting_count, noted_end}
 use Rattle.device_defs.specs.Peek as P
 use Rattle.device_defs.specs.Peek.{Peeked, peek_track, peek}
 use Rattle.device_defs.specs.Sound.{DeviceStore}
@@ -50,7 +50,7 @@ module _ {K : Type 0} (had : Bool → Type 0) (hears : Hearing Image K) (d : Who
       behind : {A : Type 0} (y : WholeDevice) (b : A) → KeepsPaths d y → {w z : Outside (List ℕ) K} {e : WholeDevice} {a : A} →
           Ran had hears (event_ended contents d y b) w e a z → KeepsPaths d e
       behind y b k r =
-          last k (split (ended contents (waiting_count contents d.store) y.store) (λ s _. Done (record y { store = s }) b) r).rest
+          last k (split (noted_end contents (waiting_count contents d.store) y.store) (λ s _. Done (record y { store = s }) b) r).rest
 
   event_keeps : {A : Type 0} (body : WholeDevice → Talk A) →
       ((s : DeviceStore) → Keeping (body (record (event_begun d) { store = s }))) → Keeping (event contents d body)

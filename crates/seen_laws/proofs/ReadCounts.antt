@@ -16,7 +16,7 @@ use Rattle.device_defs.specs.Image.{
   got,
   Imaged,
   Has,
-  first_fault,
+  first_faulty_side,
   read_counted,
   ahead,
   loads,
@@ -105,7 +105,7 @@ module _ {F P H R : Type 0} (c : Contents F P H R) where
     second_failed z few r le (Some x) = counts_done (level_failed le (read_again s z true few))
     second_failed z few r le None =
         let y = read_counted z false in
-        counts_first (λ x _. Done x (got B None (Some (first_fault (Some A) B)))) (failed_quiet c y B None) (failed_fewer c y B None).holds
+        counts_first (λ x _. Done x (got B None (Some (first_faulty_side (Some A) B)))) (failed_quiet c y B None) (failed_fewer c y B None).holds
         (λ x _ e. counts_done (level_failed le (fewer_then s z x few (none_up z x e))))
 
     after_a : (z : Store F P H) → Fewer s z → (l : Bool) →
@@ -124,7 +124,7 @@ module _ {F P H R : Type 0} (c : Contents F P H R) where
     only_b (Some r) = counts_done level_gave
     only_b None =
         let y = read_counted s false in
-        counts_first (λ z _. Done z (got B None (Some (first_fault None B)))) (failed_quiet c y B None) (failed_fewer c y B None).holds
+        counts_first (λ z _. Done z (got B None (Some (first_faulty_side None B)))) (failed_quiet c y B None) (failed_fewer c y B None).holds
         (λ z _ e. counts_done (level_failed (omega arith) (none_up s z e)))
 
     by_b : (l : Bool) → Counts So 0 0 (if l then read_side c s B t (second_read c None) else Done s (got B None None))

@@ -16,7 +16,7 @@ use Rattle.device_defs.specs.Events as V
 use Rattle.device_defs.specs.Events.{second_told, second_turn, command_ended, second_ended, second_of, second}
 use Rattle.device_defs.specs.Outcomes.{turned}
 use Rattle.device_defs.specs.Owed as O
-use Rattle.device_defs.specs.Owed.{is_clean, heard, hear, waiting_count, ended}
+use Rattle.device_defs.specs.Owed.{is_clean, heard, hear, waiting_count, noted_end}
 use Rattle.device_defs.specs.Second.{second_part}
 use Rattle.device_defs.specs.Sound.{DeviceStore}
 use Rattle.device_defs.specs.Store.{OfCommand, HalfWrite, frame_at, with_frame}
@@ -100,7 +100,7 @@ module _ {K : Type 0} (had : Bool → Type 0) (hears : Hearing Image K) (d : Who
   last_kept : (y : WholeDevice) (t : ℕ) (b : SecondEnd) → SecondCame d o chain t b y → {w z : Calls} {e : WholeDevice} {a : SecondEnd} →
       Ran had hears (event_ended contents d y b) w e a z → SecondCame d o chain t a e
   last_kept y t b k r =
-      let x = split (ended contents (waiting_count contents d.store) y.store) (λ s _. Done (record y { store = s }) b) r in last x.rest
+      let x = split (noted_end contents (waiting_count contents d.store) y.store) (λ s _. Done (record y { store = s }) b) r in last x.rest
     where
       last : {s : DeviceStore} {v z : Calls} {e : WholeDevice} {a : SecondEnd} → Ran had hears (Done (record y { store = s }) b) v e a z →
           SecondCame d o chain t a e

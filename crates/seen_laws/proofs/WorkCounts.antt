@@ -24,7 +24,7 @@ use Rattle.device_defs.specs.Background.{
   unfilled,
   staged_image,
   staged_bytes,
-  granted,
+  staging_granted,
   stage,
   destage_first,
   stage_first,
@@ -232,7 +232,7 @@ module _ {F P H R : Type 0} (c : Contents F P H R) where
     skipped : (t : ℕ) → WorkTransfers up n (Some (Skipped t)) 0 0
     skipped t = record { most_reads = omega arith; most_writes = omega arith; by_answer = (refl, refl) }
 
-    granted_so : (s : Store F P H) → sides_up s ≡ up → (t : ℕ) (given : Bool) → Counts Ends 0 0 (granted c s t given)
+    granted_so : (s : Store F P H) → sides_up s ≡ up → (t : ℕ) (given : Bool) → Counts Ends 0 0 (staging_granted c s t given)
     granted_so s few t true =
         counts_then (λ z g. staged_bytes c t z g g.bytes) (level_reads c s t)
         (λ r w z g h. staged_so s t (let le = h.most in omega (arith, le, few)) h.so)

@@ -57,7 +57,7 @@ use Rattle.device_defs.specs.Writing.{
   write_second,
   firm_first,
   write_done,
-  opened,
+  write_opened,
 }
 use Rattle.device_laws.proofs.Always.{Always, always_done, always_tell}
 use Rattle.device_laws.proofs.QuietParts.{Quiet, quiet_done, quiet_ask, quiet_tell, quiet_then, quiet_if, failed_quiet, done_quiet, first_moves}
@@ -192,7 +192,7 @@ module _ {F P H R : Type 0} (c : Contents F P H R) where
   pub firm_quiet : (s : Store F P H) (t : ℕ) → Quiet (firm_first c s t)
   firm_quiet s t = quiet_if (is_loose s t) (quiet_tell (λ _. quiet_done)) quiet_done
 
-  pub opened_quiet : (s : Store F P H) (t : ℕ) (i : Image) (origin : Origin) (was_loose : Bool) → Quiet (opened c s t i origin was_loose)
+  pub opened_quiet : (s : Store F P H) (t : ℕ) (i : Image) (origin : Origin) (was_loose : Bool) → Quiet (write_opened c s t i origin was_loose)
   opened_quiet s t i origin true = quiet_ask (λ _. quiet_done)
   opened_quiet s t i origin false = quiet_done
 
@@ -207,7 +207,7 @@ module _ {F P H R : Type 0} (c : Contents F P H R) where
     whole_past fault w z x h = counts_past (λ y _. Done y x) (done_quiet c z t i false) (λ y _. counts_done h)
 
     half_past : (fault : Option Side) (w : ℕ) (was_loose : Bool) (z : Store F P H) (x : Did) → Saved n d fault 0 w (Some x) →
-        Counts (Ends fault) 0 w (and_then (opened c z t i OfBackground was_loose) (λ y _. Done y x))
+        Counts (Ends fault) 0 w (and_then (write_opened c z t i OfBackground was_loose) (λ y _. Done y x))
     half_past fault w was_loose z x h = counts_past (λ y _. Done y x) (opened_quiet z t i OfBackground was_loose) (λ y _. counts_done h)
 
     part_so : (fault : Option Side) (was_loose : Bool) (s : Store F P H) → sides_writing s ≡ n → {m w : ℕ} {z : Store F P H} {x : Wrote} → w ≤ n →

@@ -35,7 +35,7 @@ use Rattle.subsystem_defs.specs.declared.event.Event.{Event}
 use Rattle.subsystem_defs.specs.declared.end.OrderFault.{OrderFault}
 use Rattle.subsystem_defs.specs.declared.end.OrderFault.TheVariants.{NoSide}
 use Rattle.subsystem_defs.specs.Refusals.{first_cause, lent_by, where_so, replace_fault}
-use Rattle.subsystem_defs.specs.Deeds.{Ends, Becomes, Asks, Each, Repairs, Lends, ends_by, may_end_by, ends_done, end_of, is_own, deed}
+use Rattle.subsystem_defs.specs.Deeds.{Ends, Becomes, Asks, Each, Repairs, Lends, ends_by, may_end_by, ends_done, end_of, deed}
 use Rattle.subsystem_core.specs.declared.end.EventEnd.{EventEnd}
 use Rattle.subsystem_core.specs.declared.end.EventEnd.TheVariants as ends
 use Rattle.subsystem_core.specs.declared.subsystem.Subsystem.{Subsystem}
@@ -93,11 +93,6 @@ no_cause (Some f) rest is = absurd (cc)
 has_side_by : (b : Bool) (rest : List (Option OrderFault)) → first_cause (where_so (not b) NoSide ∷ rest) ≡ None → b ≡ true
 has_side_by true rest is = refl
 has_side_by false rest is = absurd (cc)
-
--- a path's own program runs
-pub own_runs : (path : ℕ) (o : Option OpenEntry) → is_own path o ≡ is_path_of o path
-own_runs path None = refl
-own_runs path (Some o) = refl
 
 module _ {V : Type 0} {G : Ghosts V} {K : Type 0} {hears : Hearing Image K} {k l : K} where
   -- What a device ran, as the event's end

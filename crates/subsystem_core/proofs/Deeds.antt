@@ -1,8 +1,9 @@
 -- What an event does, case by case.
-use Rattle.std.proofs.Common.{◌≡◌, ℕ, true, false, List, Some, None, refl}
-use Rattle.std.specs.Prelude.{◌==◌, is_some}
+use Rattle.std.proofs.Common.{◌≡◌, ℕ, Bool, true, false, List, Some, None, refl}
+use Rattle.std.specs.Prelude.{◌==◌, is_some, if◌then◌else◌}
 use Rattle.ckd_types.specs.declared.paths.Side.{Side}
 use Rattle.loss_model.specs.declared.Loss.TheVariants as losses
+use Rattle.plain_defs.specs.History.{is_path_of}
 use Rattle.device_outside.specs.Pool.{Pool, cache_failed, store_failed, power_lost, all_waiting}
 use Rattle.device_defs.specs.declared.answers.StartFault.{StartFault}
 use Rattle.device_defs.specs.Command.{command}
@@ -10,32 +11,38 @@ use Rattle.device_defs.specs.Contents.{Contents}
 use Rattle.device_defs.specs.Cutting.{reset, power}
 use Rattle.device_defs.specs.Device.{Device}
 use Rattle.device_defs.specs.Events.{second, background, lose}
-use Rattle.device_defs.specs.Orders.{hold, resume}
+use Rattle.device_defs.specs.Orders.{hold_side, resume}
 use Rattle.device_defs.specs.Start.{start_fault, start, next_ordinal}
 use Rattle.subsystem_defs.specs.declared.end.EventEnd.TheVariants as ends
 use Rattle.subsystem_defs.specs.declared.end.OrderFault.{OrderFault}
 use Rattle.subsystem_defs.specs.declared.end.OrderFault.TheVariants.{Down, Up}
 use Rattle.subsystem_defs.specs.declared.event.Event.TheVariants as events
-use Rattle.subsystem_defs.specs.Deeds.{Ends, Becomes, Asks, Each, Repairs, Lends, ends_done, is_own, device_in, ends_by, may_end_by, deed}
+use Rattle.subsystem_defs.specs.Deeds.{Ends, Becomes, Asks, Each, Repairs, Lends, ends_done, device_in, ends_by, may_end_by, start_by, deed}
 use Rattle.subsystem_defs.specs.Refusals.{pair_fault, suspend_fault, resume_fault, fail_fault}
 
 module _ {F P H R : Type 0} (c : Contents F P H R) (pool : Pool) (ds : List (Device F P H)) where
   -- One device
 
   module _ (n : ℕ) (d : Device F P H) (is : device_in ds n ≡ Some d) where
-    pub own_runs : (path : ℕ) → is_own path d.history.running ≡ true → deed c pool ds (events.Start path n) ≡ Ends ends.Running
+    pub own_runs : (path : ℕ) → is_path_of d.history.running path ≡ true → deed c pool ds (events.Start path n) ≡ Ends ends.Running
     unfolding deed
     own_runs path own = rw (is, own) refl
 
-    pub start_refused : (path : ℕ) (f : StartFault) → is_own path d.history.running ≡ false → start_fault d path ≡ Some f →
+    pub start_refused : (path : ℕ) (f : StartFault) → is_path_of d.history.running path ≡ false → start_fault d path ≡ Some f →
         deed c pool ds (events.Start path n) ≡ Ends (ends.NotStarted f)
     unfolding deed
     start_refused path f own fault = rw (is, own, fault) refl
 
-    pub started : (path : ℕ) → is_own path d.history.running ≡ false → start_fault d path ≡ None →
+    started_by : (path : ℕ) (own : Bool) → own ≡ false → start_fault d path ≡ None →
+        (if own then Ends ends.Running else start_by {R = R} d path (start_fault d path))
+        ≡ Becomes (start d path) (ends.Started (next_ordinal d path))
+    started_by path false e fault = rw fault refl
+    started_by path true e fault = absurd (cc)
+
+    pub started : (path : ℕ) → is_path_of d.history.running path ≡ false → start_fault d path ≡ None →
         deed c pool ds (events.Start path n) ≡ Becomes (start d path) (ends.Started (next_ordinal d path))
     unfolding deed
-    started path own fault = rw (is, own, fault) refl
+    started path own fault = rw is (started_by path (is_path_of d.history.running path) own fault)
 
     pub second_first : is_some d.store.half ≡ true → deed c pool ds (events.Step n) ≡ Asks d (ends_by ends.Second (second c d))
     unfolding deed
@@ -75,7 +82,7 @@ module _ {F P H R : Type 0} (c : Contents F P H R) (pool : Pool) (ds : List (Dev
     unfolding deed
     suspend_refused f fault = rw (is, fault) refl
 
-    pub suspended : suspend_fault d ≡ None → deed c pool ds (events.Suspend n) ≡ Becomes (hold d) ends.Done
+    pub suspended : suspend_fault d ≡ None → deed c pool ds (events.Suspend n) ≡ Becomes (hold_side d) ends.Done
     unfolding deed
     suspended fault = rw (is, fault) refl
 

@@ -6,3 +6,4 @@ pub mod Keepers
 pub mod Comes
 pub mod Pairs
 pub mod Runs
+pub mod Frames

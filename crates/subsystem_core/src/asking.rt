@@ -1,6 +1,5 @@
-ghost use Rattle.std.specs.Prelude.{◌≡◌, ◌<◌, ◌*◌, IfOk, IfSome, IsSome, None, OnErr, Some, false, is_some, true};
+ghost use Rattle.std.specs.Prelude.{◌≡◌, ◌<◌, ◌*◌, IfOk, IfSome, IsSome, None, OnErr, Some, false, is_some};
 ghost use Rattle.device_outside.specs.Keeper.{Heard};
-ghost use Rattle.device_outside.specs.Lists.{is_in};
 ghost use Rattle.device_outside.specs.Outside.{where_ok};
 ghost use Rattle.plain_defs.specs.History.{is_path_of};
 ghost use Rattle.device_defs.specs.declared.answers.SecondEnd.{SecondEnd};
@@ -8,15 +7,13 @@ ghost use Rattle.device_defs.specs.Command.{command};
 ghost use Rattle.device_defs.specs.Contents.{contents};
 ghost use Rattle.device_defs.specs.Cutting.{reset};
 ghost use Rattle.device_defs.specs.Events.{background, lose, second};
-ghost use Rattle.device_defs.specs.Peek.{peek};
 ghost use Rattle.device_defs.specs.Start.{start_fault};
-ghost use Rattle.device_store.specs.Looks.{peeked_by, IsPeeked};
-ghost use Rattle.device_store.specs.State.{had, state_of, surely, Takes};
+ghost use Rattle.device_store.specs.State.{had, surely, Takes};
 ghost use Rattle.device_core.specs.Starting.{fault_told};
 ghost use Rattle.device_core.specs.State.{device_of, second_seen, step_had};
 ghost use Rattle.subsystem_core.specs.Comes.{AskedKept, Changes, StartsBy};
-ghost use Rattle.subsystem_core.specs.Devices.{device_at, numbers_of};
-ghost use Rattle.subsystem_core.specs.Keepers.{spans_of};
+ghost use Rattle.subsystem_core.specs.Devices.{device_at};
+ghost use Rattle.subsystem_core.specs.Frames.{HasDevice, HasSameSpans, LooksAt};
 
 use crate::Subsystem;
 use ckd_types::{DeviceNo, NoMemory, PathNo, TrackNo};
@@ -43,10 +40,10 @@ fn not_refused(outcome: Result<u16, NotStarted>) -> Result<u16, NoMemory>
 /// One device and the pool. All other devices stay as they are.
 impl<V: Volume> Subsystem<V> {
     pub(crate) fn start_at(&mut self, path: PathNo, d: DeviceNo) -> Result<u16, NoMemory>
-        requires here { is_in d (numbers_of self.old.devices.items) ≡ true }
+        requires here { HasDevice self.old d }
         requires idle { IfSome (device_at self.old.devices.items d) (λ x. is_path_of (device_of x).history.running path ≡ false) }
         requires free { IfSome (device_at self.old.devices.items d) (λ x. start_fault (device_of x) path ≡ None) }
-        ensures spans { spans_of self.new.devices.items ≡ spans_of self.old.devices.items }
+        ensures spans { HasSameSpans self.old self.new }
         ensures pool { self.new.pool ≡ self.old.pool }
         ensures done { Changes d (StartsBy path result) self.old.devices.items self.new.devices.items }
     {
@@ -60,11 +57,11 @@ impl<V: Volume> Subsystem<V> {
         d: DeviceNo,
         keep: &mut K,
     ) -> Result<Stepped, NoMemory>
-        requires here { is_in d (numbers_of self.old.devices.items) ≡ true }
+        requires here { HasDevice self.old d }
         requires running { IfSome (device_at self.old.devices.items d) (λ x. IsSome x.past.running) }
         requires whole { IfSome (device_at self.old.devices.items d) (λ x. is_some (device_of x).store.half ≡ false) }
         requires takes { IfSome (device_at self.old.devices.items d) (λ x. Takes K.takes keep.old x.store.number x.store.geometry (x.store.cylinders * 15)) }
-        ensures spans { spans_of self.new.devices.items ≡ spans_of self.old.devices.items }
+        ensures spans { HasSameSpans self.old self.new }
         ensures asked { Changes d (λ x y. AskedKept (Heard K.hears K.takes) (where_ok result) (command contents (device_of x)) (step_had y.past result)
             self.old.pool keep.old x y self.new.pool keep.new) self.old.devices.items self.new.devices.items }
     {
@@ -73,9 +70,9 @@ impl<V: Volume> Subsystem<V> {
     }
 
     pub(crate) fn second_at<K: Keep<TrackImage>>(&mut self, d: DeviceNo, keep: &mut K) -> SecondStep
-        requires here { is_in d (numbers_of self.old.devices.items) ≡ true }
+        requires here { HasDevice self.old d }
         requires takes { IfSome (device_at self.old.devices.items d) (λ x. Takes K.takes keep.old x.store.number x.store.geometry (x.store.cylinders * 15)) }
-        ensures spans { spans_of self.new.devices.items ≡ spans_of self.old.devices.items }
+        ensures spans { HasSameSpans self.old self.new }
         ensures asked { Changes d (λ x y. IsSome (second_seen y.past result)
             × ((e : SecondEnd) → second_seen y.past result ≡ Some e
             → AskedKept (Heard K.hears K.takes) surely (second contents (device_of x)) e self.old.pool keep.old x y self.new.pool keep.new))
@@ -91,9 +88,9 @@ impl<V: Volume> Subsystem<V> {
         keep: &mut K,
     ) -> Result<Did, NoMemory>
         requires whole { IfSome (device_at self.old.devices.items d) (λ x. is_some (device_of x).store.half ≡ false) }
-        requires here { is_in d (numbers_of self.old.devices.items) ≡ true }
+        requires here { HasDevice self.old d }
         requires takes { IfSome (device_at self.old.devices.items d) (λ x. Takes K.takes keep.old x.store.number x.store.geometry (x.store.cylinders * 15)) }
-        ensures spans { spans_of self.new.devices.items ≡ spans_of self.old.devices.items }
+        ensures spans { HasSameSpans self.old self.new }
         ensures asked { Changes d (λ x y. AskedKept (Heard K.hears K.takes) (where_ok result) (background contents (device_of x)) (had (λ did. did) result)
             self.old.pool keep.old x y self.new.pool keep.new) self.old.devices.items self.new.devices.items }
     {
@@ -102,9 +99,9 @@ impl<V: Volume> Subsystem<V> {
     }
 
     pub(crate) fn reset_at<K: Keep<TrackImage>>(&mut self, path: PathNo, d: DeviceNo, keep: &mut K)
-        requires here { is_in d (numbers_of self.old.devices.items) ≡ true }
+        requires here { HasDevice self.old d }
         requires takes { IfSome (device_at self.old.devices.items d) (λ x. Takes K.takes keep.old x.store.number x.store.geometry (x.store.cylinders * 15)) }
-        ensures spans { spans_of self.new.devices.items ≡ spans_of self.old.devices.items }
+        ensures spans { HasSameSpans self.old self.new }
         ensures asked { Changes d (λ x y. AskedKept (Heard K.hears K.takes) surely (reset contents (device_of x) path) tt self.old.pool keep.old x y
             self.new.pool keep.new) self.old.devices.items self.new.devices.items }
     {
@@ -113,9 +110,9 @@ impl<V: Volume> Subsystem<V> {
     }
 
     pub(crate) fn lose_at<K: Keep<TrackImage>>(&mut self, d: DeviceNo, loss: Loss, keep: &mut K)
-        requires here { is_in d (numbers_of self.old.devices.items) ≡ true }
+        requires here { HasDevice self.old d }
         requires takes { IfSome (device_at self.old.devices.items d) (λ x. Takes K.takes keep.old x.store.number x.store.geometry (x.store.cylinders * 15)) }
-        ensures spans { spans_of self.new.devices.items ≡ spans_of self.old.devices.items }
+        ensures spans { HasSameSpans self.old self.new }
         ensures asked { Changes d (λ x y. AskedKept (Heard K.hears K.takes) surely (lose contents (device_of x) loss) tt self.old.pool keep.old x y
             self.new.pool keep.new) self.old.devices.items self.new.devices.items }
     {
@@ -129,13 +126,11 @@ impl<V: Volume> Subsystem<V> {
         t: TrackNo,
         keep: &mut K,
     ) -> Result<Peeked, NoMemory>
-        requires here { is_in d (numbers_of self.old.devices.items) ≡ true }
+        requires here { HasDevice self.old d }
         requires track { IfSome (device_at self.old.devices.items d) (λ x. t < x.store.cylinders * 15) }
         requires takes { IfSome (device_at self.old.devices.items d) (λ x. Takes K.takes keep.old x.store.number x.store.geometry (x.store.cylinders * 15)) }
-        ensures spans { spans_of self.new.devices.items ≡ spans_of self.old.devices.items }
-        ensures asked { Changes d (λ x y. IfOk result (IsPeeked (state_of y.store) t) × AskedKept (Heard K.hears K.takes) (where_ok result)
-            (peek contents (device_of x) t) (had (peeked_by (state_of y.store) t) result) self.old.pool keep.old x y self.new.pool keep.new)
-            self.old.devices.items self.new.devices.items }
+        ensures spans { HasSameSpans self.old self.new }
+        ensures asked { LooksAt (Heard K.hears K.takes) d t result self.old keep.old self.new keep.new }
     {
         let at = self.place(d);
         self.devices[at].peek_with(t, &mut self.pool, keep)

@@ -6,6 +6,7 @@ ghost use Rattle.device_defs.specs.Events.{lose};
 ghost use Rattle.subsystem_core.specs.Comes.{SweptKept};
 ghost use Rattle.subsystem_core.specs.Keepers.{spans_of, TakesAll};
 ghost use Rattle.subsystem_core.specs.Seats.{seats_of};
+ghost use Rattle.subsystem_core.specs.Frames.{HasSameSpans};
 
 use crate::Subsystem;
 use device_core::Device;
@@ -50,7 +51,7 @@ fn power_each<V: Volume, K: Keep<TrackImage>>(
 impl<V: Volume> Subsystem<V> {
     pub(crate) fn lose_all<K: Keep<TrackImage>>(&mut self, loss: Loss, keep: &mut K)
         requires takes { TakesAll K.takes keep.old self.old.devices.items }
-        ensures spans { spans_of self.new.devices.items ≡ spans_of self.old.devices.items }
+        ensures spans { HasSameSpans self.old self.new }
         ensures each { SweptKept (Heard K.hears K.takes) (λ x. lose contents x loss) self.old.pool keep.old self.old.devices.items self.new.devices.items
             self.new.pool keep.new }
     {
@@ -59,7 +60,7 @@ impl<V: Volume> Subsystem<V> {
 
     pub(crate) fn power_all<K: Keep<TrackImage>>(&mut self, keep: &mut K)
         requires takes { TakesAll K.takes keep.old self.old.devices.items }
-        ensures spans { spans_of self.new.devices.items ≡ spans_of self.old.devices.items }
+        ensures spans { HasSameSpans self.old self.new }
         ensures each { SweptKept (Heard K.hears K.takes) (power contents) self.old.pool keep.old self.old.devices.items self.new.devices.items self.new.pool
             keep.new }
     {

@@ -1,13 +1,13 @@
-ghost use Rattle.std.specs.Prelude.{◌≡◌, ◌*◌, IfSome, Some, true};
+ghost use Rattle.std.specs.Prelude.{◌≡◌, ◌*◌, IfSome, Some};
+ghost use Rattle.plain_defs.specs.History.{is_path_of};
 ghost use Rattle.device_outside.specs.Keeper.{Heard};
-ghost use Rattle.device_outside.specs.Lists.{is_in};
 ghost use Rattle.device_store.specs.State.{Takes};
 ghost use Rattle.device_core.specs.State.{device_of};
-ghost use Rattle.subsystem_defs.specs.Deeds.{is_own};
 ghost use Rattle.subsystem_core.specs.Comes.{CameKept};
-ghost use Rattle.subsystem_core.specs.Devices.{device_at, numbers_of};
+ghost use Rattle.subsystem_core.specs.Devices.{device_at};
 ghost use Rattle.subsystem_core.specs.Ends.{answer_of};
-ghost use Rattle.subsystem_core.specs.Keepers.{spans_of, TakesAll};
+ghost use Rattle.subsystem_core.specs.Keepers.{TakesAll};
+ghost use Rattle.subsystem_core.specs.Frames.{HasDevice, HasSameSpans};
 
 use crate::refusal::{fail_fault, resume_fault, suspend_fault};
 use crate::{EventEnd, Subsystem};
@@ -20,7 +20,7 @@ use track_image::TrackImage;
 
 /// Whether the program that runs is the path's own.
 fn is_own<V: Volume>(path: PathNo, device: &Device<V>) -> bool
-    ensures { result ≡ is_own path (device_of device.now).history.running }
+    ensures { result ≡ is_path_of (device_of device.now).history.running path }
 {
     match device.active() {
         Some(active) => active == path,
@@ -36,8 +36,8 @@ impl<V: Volume> Subsystem<V> {
         path: PathNo,
         d: DeviceNo,
     ) -> Result<EventEnd, NoMemory>
-        requires { is_in d (numbers_of self.old.devices.items) ≡ true }
-        ensures spans { spans_of self.new.devices.items ≡ spans_of self.old.devices.items }
+        requires { HasDevice self.old d }
+        ensures spans { HasSameSpans self.old self.new }
         ensures came { (k : K) → CameKept (Heard K.hears K.takes) (Event.Start path d) self.old k (answer_of result) self.new k }
     {
         let device = self.device(d);
@@ -59,9 +59,9 @@ impl<V: Volume> Subsystem<V> {
         d: DeviceNo,
         keep: &mut K,
     ) -> Result<EventEnd, NoMemory>
-        requires here { is_in d (numbers_of self.old.devices.items) ≡ true }
+        requires here { HasDevice self.old d }
         requires takes { IfSome (device_at self.old.devices.items d) (λ x. Takes K.takes keep.old x.store.number x.store.geometry (x.store.cylinders * 15)) }
-        ensures spans { spans_of self.new.devices.items ≡ spans_of self.old.devices.items }
+        ensures spans { HasSameSpans self.old self.new }
         ensures came { CameKept (Heard K.hears K.takes) (Event.Step d) self.old keep.old (answer_of result) self.new keep.new }
     {
         let device = self.device(d);
@@ -84,9 +84,9 @@ impl<V: Volume> Subsystem<V> {
         d: DeviceNo,
         keep: &mut K,
     ) -> Result<EventEnd, NoMemory>
-        requires here { is_in d (numbers_of self.old.devices.items) ≡ true }
+        requires here { HasDevice self.old d }
         requires takes { IfSome (device_at self.old.devices.items d) (λ x. Takes K.takes keep.old x.store.number x.store.geometry (x.store.cylinders * 15)) }
-        ensures spans { spans_of self.new.devices.items ≡ spans_of self.old.devices.items }
+        ensures spans { HasSameSpans self.old self.new }
         ensures came { CameKept (Heard K.hears K.takes) (Event.Back d) self.old keep.old (answer_of result) self.new keep.new }
     {
         if self.device(d).half_open() {
@@ -105,9 +105,9 @@ impl<V: Volume> Subsystem<V> {
         d: DeviceNo,
         keep: &mut K,
     ) -> EventEnd
-        requires here { is_in d (numbers_of self.old.devices.items) ≡ true }
+        requires here { HasDevice self.old d }
         requires takes { IfSome (device_at self.old.devices.items d) (λ x. Takes K.takes keep.old x.store.number x.store.geometry (x.store.cylinders * 15)) }
-        ensures spans { spans_of self.new.devices.items ≡ spans_of self.old.devices.items }
+        ensures spans { HasSameSpans self.old self.new }
         ensures came { CameKept (Heard K.hears K.takes) (Event.Reset path d) self.old keep.old (Some result) self.new keep.new }
     {
         self.reset_at(path, d, keep);
@@ -121,9 +121,9 @@ impl<V: Volume> Subsystem<V> {
         side: Side,
         keep: &mut K,
     ) -> EventEnd
-        requires here { is_in d (numbers_of self.old.devices.items) ≡ true }
+        requires here { HasDevice self.old d }
         requires takes { IfSome (device_at self.old.devices.items d) (λ x. Takes K.takes keep.old x.store.number x.store.geometry (x.store.cylinders * 15)) }
-        ensures spans { spans_of self.new.devices.items ≡ spans_of self.old.devices.items }
+        ensures spans { HasSameSpans self.old self.new }
         ensures came { CameKept (Heard K.hears K.takes) (Event.FailVolume d side) self.old keep.old (Some result) self.new keep.new }
     {
         if let Some(fault) = fail_fault(self.device(d), side) {
@@ -135,8 +135,8 @@ impl<V: Volume> Subsystem<V> {
 
     /// Side B is held.
     pub(crate) fn suspend<K: Keep<TrackImage>>(&mut self, d: DeviceNo) -> EventEnd
-        requires { is_in d (numbers_of self.old.devices.items) ≡ true }
-        ensures spans { spans_of self.new.devices.items ≡ spans_of self.old.devices.items }
+        requires { HasDevice self.old d }
+        ensures spans { HasSameSpans self.old self.new }
         ensures came { (k : K) → CameKept (Heard K.hears K.takes) (Event.Suspend d) self.old k (Some result) self.new k }
     {
         if let Some(fault) = suspend_fault(self.device(d)) {
@@ -148,8 +148,8 @@ impl<V: Volume> Subsystem<V> {
 
     /// Side B isn't held any more.
     pub(crate) fn resume<K: Keep<TrackImage>>(&mut self, d: DeviceNo) -> EventEnd
-        requires { is_in d (numbers_of self.old.devices.items) ≡ true }
-        ensures spans { spans_of self.new.devices.items ≡ spans_of self.old.devices.items }
+        requires { HasDevice self.old d }
+        ensures spans { HasSameSpans self.old self.new }
         ensures came { (k : K) → CameKept (Heard K.hears K.takes) (Event.Resume d) self.old k (Some result) self.new k }
     {
         if let Some(fault) = resume_fault(self.device(d)) {
@@ -165,7 +165,7 @@ impl<V: Volume> Subsystem<V> {
     /// The loss of the cache.
     pub(crate) fn fail_cache<K: Keep<TrackImage>>(&mut self, keep: &mut K) -> EventEnd
         requires takes { TakesAll K.takes keep.old self.old.devices.items }
-        ensures spans { spans_of self.new.devices.items ≡ spans_of self.old.devices.items }
+        ensures spans { HasSameSpans self.old self.new }
         ensures came { CameKept (Heard K.hears K.takes) Event.FailCache self.old keep.old (Some result) self.new keep.new }
     {
         if !self.pool.cache_up() {
@@ -179,7 +179,7 @@ impl<V: Volume> Subsystem<V> {
     /// The loss of the store.
     pub(crate) fn fail_store<K: Keep<TrackImage>>(&mut self, keep: &mut K) -> EventEnd
         requires takes { TakesAll K.takes keep.old self.old.devices.items }
-        ensures spans { spans_of self.new.devices.items ≡ spans_of self.old.devices.items }
+        ensures spans { HasSameSpans self.old self.new }
         ensures came { CameKept (Heard K.hears K.takes) Event.FailStore self.old keep.old (Some result) self.new keep.new }
     {
         if !self.pool.store_up() {
@@ -193,7 +193,7 @@ impl<V: Volume> Subsystem<V> {
     /// A loss of power.
     pub(crate) fn power<K: Keep<TrackImage>>(&mut self, keep: &mut K) -> EventEnd
         requires takes { TakesAll K.takes keep.old self.old.devices.items }
-        ensures spans { spans_of self.new.devices.items ≡ spans_of self.old.devices.items }
+        ensures spans { HasSameSpans self.old self.new }
         ensures came { CameKept (Heard K.hears K.takes) Event.Power self.old keep.old (Some result) self.new keep.new }
     {
         self.pool.power();
@@ -203,7 +203,7 @@ impl<V: Volume> Subsystem<V> {
 
     /// The cache is up again, unless a track waits for its recovery.
     pub(crate) fn repair_cache<K: Keep<TrackImage>>(&mut self) -> EventEnd
-        ensures spans { spans_of self.new.devices.items ≡ spans_of self.old.devices.items }
+        ensures spans { HasSameSpans self.old self.new }
         ensures came { (k : K) → CameKept (Heard K.hears K.takes) Event.RepairCache self.old k (Some result) self.new k }
     {
         if self.pool.cache_up() {
@@ -217,7 +217,7 @@ impl<V: Volume> Subsystem<V> {
 
     /// The store is up again, unless a track waits for its recovery.
     pub(crate) fn repair_store<K: Keep<TrackImage>>(&mut self) -> EventEnd
-        ensures spans { spans_of self.new.devices.items ≡ spans_of self.old.devices.items }
+        ensures spans { HasSameSpans self.old self.new }
         ensures came { (k : K) → CameKept (Heard K.hears K.takes) Event.RepairStore self.old k (Some result) self.new k }
     {
         if self.pool.store_up() {

@@ -1,11 +1,10 @@
-ghost use Rattle.std.specs.Prelude.{◌≡◌, ◌*◌, IfOk, IfSome, IsOk, None, false, true};
-ghost use Rattle.device_outside.specs.Lists.{is_in};
-ghost use Rattle.device_defs.specs.Orders.{hold, resume};
+ghost use Rattle.std.specs.Prelude.{◌≡◌, ◌*◌, IfOk, IfSome, IsOk, None};
+ghost use Rattle.device_defs.specs.Orders.{hold_side, resume};
 ghost use Rattle.device_core.specs.State.{device_of};
 ghost use Rattle.subsystem_defs.specs.Refusals.{replace_fault};
 ghost use Rattle.subsystem_core.specs.Comes.{Changes, IsNow, IsReplaced, Replaced};
-ghost use Rattle.subsystem_core.specs.Devices.{device_at, numbers_of};
-ghost use Rattle.subsystem_core.specs.Keepers.{spans_of};
+ghost use Rattle.subsystem_core.specs.Devices.{device_at};
+ghost use Rattle.subsystem_core.specs.Frames.{HasDevice, HasSameDevices, HasSameSpans};
 
 use crate::refusal::replace_fault;
 use crate::{EventEnd, Subsystem};
@@ -15,10 +14,10 @@ use device_outside::Volume;
 impl<V: Volume> Subsystem<V> {
     /// A side gets another volume. The old one is dropped.
     fn replace_at(&mut self, d: DeviceNo, side: Side, volume: V)
-        requires here { is_in d (numbers_of self.old.devices.items) ≡ true }
+        requires here { HasDevice self.old d }
         requires fine { IfSome (device_at self.old.devices.items d) (λ x. replace_fault (device_of x) side ≡ None) }
         requires size { IfSome (device_at self.old.devices.items d) (λ x. (V.view volume).tracks ≡ x.store.cylinders * 15) }
-        ensures numbers { numbers_of self.new.devices.items ≡ numbers_of self.old.devices.items }
+        ensures numbers { HasSameDevices self.old self.new }
         ensures pool { self.new.pool ≡ self.old.pool }
         ensures replaced { Changes d (IsReplaced side volume) self.old.devices.items self.new.devices.items }
     {
@@ -28,10 +27,10 @@ impl<V: Volume> Subsystem<V> {
 
     /// Side B of a device is held.
     pub(crate) fn hold_at(&mut self, d: DeviceNo)
-        requires { is_in d (numbers_of self.old.devices.items) ≡ true }
-        ensures spans { spans_of self.new.devices.items ≡ spans_of self.old.devices.items }
+        requires { HasDevice self.old d }
+        ensures spans { HasSameSpans self.old self.new }
         ensures pool { self.new.pool ≡ self.old.pool }
-        ensures held { Changes d (λ x y. IsNow (hold (device_of x)) x y) self.old.devices.items self.new.devices.items }
+        ensures held { Changes d (λ x y. IsNow (hold_side (device_of x)) x y) self.old.devices.items self.new.devices.items }
     {
         let at = self.place(d);
         self.devices[at].hold();
@@ -39,8 +38,8 @@ impl<V: Volume> Subsystem<V> {
 
     /// Side B of a device isn't held any more.
     pub(crate) fn resume_at(&mut self, d: DeviceNo)
-        requires { is_in d (numbers_of self.old.devices.items) ≡ true }
-        ensures spans { spans_of self.new.devices.items ≡ spans_of self.old.devices.items }
+        requires { HasDevice self.old d }
+        ensures spans { HasSameSpans self.old self.new }
         ensures pool { self.new.pool ≡ self.old.pool }
         ensures resumed { Changes d (λ x y. IsNow (resume (device_of x)) x y) self.old.devices.items self.new.devices.items }
     {
@@ -50,9 +49,9 @@ impl<V: Volume> Subsystem<V> {
 
     /// A new volume of empty tracks, 15 for each cylinder, in place of a failed side's. Takes no memory, so that it is always had.
     pub fn replace(&mut self, d: DeviceNo, side: Side, volume: V) -> Result<EventEnd, (NoMemory, V)>
-        requires here { is_in d (numbers_of self.old.devices.items) ≡ true }
+        requires here { HasDevice self.old d }
         requires size { IfSome (device_at self.old.devices.items d) (λ x. (V.view volume).tracks ≡ x.store.cylinders * 15) }
-        ensures numbers { numbers_of self.new.devices.items ≡ numbers_of self.old.devices.items }
+        ensures numbers { HasSameDevices self.old self.new }
         ensures had { IsOk result }
         ensures replaced { IfOk result (λ end. Replaced d side volume (device_at self.old.devices.items d) self.old end self.new) }
     {

@@ -1,12 +1,11 @@
-ghost use Rattle.std.specs.Prelude.{◌≡◌, ◌*◌, IfErr, IfOk, IfSome, None, OnErr, OnOk, Some, false, is_some, true};
+ghost use Rattle.std.specs.Prelude.{◌≡◌, ◌*◌, IfErr, IfOk, IfSome, None, OnErr, OnOk, Some, false, is_some};
 ghost use Rattle.device_outside.specs.Keeper.{Heard};
-ghost use Rattle.device_outside.specs.Lists.{is_in};
 ghost use Rattle.device_core.specs.State.{device_of};
 ghost use Rattle.subsystem_defs.specs.Happening.{is_lent_to};
 ghost use Rattle.subsystem_core.specs.Comes.{AreStill, CameKept, Changes, IsSplit, JoinsKept, Restored, Unpaired};
-ghost use Rattle.subsystem_core.specs.Devices.{device_at, numbers_of};
-ghost use Rattle.subsystem_core.specs.Keepers.{spans_of};
+ghost use Rattle.subsystem_core.specs.Devices.{device_at};
 ghost use Rattle.subsystem_core.specs.Pairs.{HasPairFault, IsFirstLent, IsJoined, IsLent, IsOfSize};
+ghost use Rattle.subsystem_core.specs.Frames.{HasDevice, HasSameDevices, HasSameSpans};
 
 use crate::refusal::{pair_fault, unpair_fault};
 use crate::{EventEnd, Subsystem};
@@ -41,8 +40,8 @@ fn lent_place<V: Volume>(devices: &[Device<V>], a: DeviceNo) -> Option<usize>
 /// Two devices become a pair.
 impl<V: Volume> Subsystem<V> {
     fn pair_fault(&self, a: DeviceNo, b: DeviceNo) -> Option<OrderFault>
-        requires a { is_in a (numbers_of self.now.devices.items) ≡ true }
-        requires b { is_in b (numbers_of self.now.devices.items) ≡ true }
+        requires a { HasDevice self.now a }
+        requires b { HasDevice self.now b }
         ensures { HasPairFault (device_at self.now.devices.items a) (device_at self.now.devices.items b) result }
     {
         let first = self.device(a);
@@ -52,9 +51,9 @@ impl<V: Volume> Subsystem<V> {
 
     /// A device lends its volume. No keeper hears of it.
     fn lend_at<K: Keep<TrackImage>>(&mut self, d: DeviceNo, to: DeviceNo, _keep: &K) -> Option<V>
-        requires here { is_in d (numbers_of self.old.devices.items) ≡ true }
+        requires here { HasDevice self.old d }
         requires fine { HasPairFault (device_at self.old.devices.items to) (device_at self.old.devices.items d) None }
-        ensures spans { spans_of self.new.devices.items ≡ spans_of self.old.devices.items }
+        ensures spans { HasSameSpans self.old self.new }
         ensures lent { Changes d (IsLent (Heard K.hears K.takes) to result self.old.pool self.new.pool) self.old.devices.items self.new.devices.items }
     {
         let at = self.place(d);
@@ -63,10 +62,10 @@ impl<V: Volume> Subsystem<V> {
 
     /// A volume becomes side B of a device.
     fn join_at(&mut self, d: DeviceNo, volume: V)
-        requires here { is_in d (numbers_of self.old.devices.items) ≡ true }
+        requires here { HasDevice self.old d }
         requires free { IfSome (device_at self.old.devices.items d) (λ x. is_some (device_of x).store.lent ≡ false) }
         requires size { IfSome (device_at self.old.devices.items d) (λ x. (V.view volume).tracks ≡ x.store.cylinders * 15) }
-        ensures spans { spans_of self.new.devices.items ≡ spans_of self.old.devices.items }
+        ensures spans { HasSameSpans self.old self.new }
         ensures pool { self.new.pool ≡ self.old.pool }
         ensures joined { Changes d (IsJoined volume) self.old.devices.items self.new.devices.items }
     {
@@ -76,10 +75,10 @@ impl<V: Volume> Subsystem<V> {
 
     /// The second one's volume becomes side B of the first.
     fn join_lent<K: Keep<TrackImage>>(&mut self, a: DeviceNo, b: DeviceNo, keep: &K)
-        requires a { is_in a (numbers_of self.old.devices.items) ≡ true }
-        requires b { is_in b (numbers_of self.old.devices.items) ≡ true }
+        requires a { HasDevice self.old a }
+        requires b { HasDevice self.old b }
         requires fine { HasPairFault (device_at self.old.devices.items a) (device_at self.old.devices.items b) None }
-        ensures spans { spans_of self.new.devices.items ≡ spans_of self.old.devices.items }
+        ensures spans { HasSameSpans self.old self.new }
         ensures joined { IfSome (device_at self.old.devices.items b) (λ y. JoinsKept (Heard K.hears K.takes) a b (device_of y) self.old self.new) }
     {
         let volume = match self.lend_at(b, a, keep) {
@@ -96,9 +95,9 @@ impl<V: Volume> Subsystem<V> {
         b: DeviceNo,
         keep: &K,
     ) -> EventEnd
-        requires a { is_in a (numbers_of self.old.devices.items) ≡ true }
-        requires b { is_in b (numbers_of self.old.devices.items) ≡ true }
-        ensures spans { spans_of self.new.devices.items ≡ spans_of self.old.devices.items }
+        requires a { HasDevice self.old a }
+        requires b { HasDevice self.old b }
+        ensures spans { HasSameSpans self.old self.new }
         ensures came { CameKept (Heard K.hears K.takes) (Event.Pair a b) self.old keep.now (Some result) self.new keep.now }
     {
         if let Some(fault) = self.pair_fault(a, b) {
@@ -113,8 +112,8 @@ impl<V: Volume> Subsystem<V> {
 impl<V: Volume> Subsystem<V> {
     /// Side B leaves a device. Its volume is dropped.
     fn split_at(&mut self, d: DeviceNo)
-        requires { is_in d (numbers_of self.old.devices.items) ≡ true }
-        ensures numbers { numbers_of self.new.devices.items ≡ numbers_of self.old.devices.items }
+        requires { HasDevice self.old d }
+        ensures numbers { HasSameDevices self.old self.new }
         ensures pool { self.new.pool ≡ self.old.pool }
         ensures split { Changes d IsSplit self.old.devices.items self.new.devices.items }
     {
@@ -126,7 +125,7 @@ impl<V: Volume> Subsystem<V> {
     fn restore_at(&mut self, at: usize, a: DeviceNo, volume: V) -> Result<(), (NoMemory, V)>
         requires lent { IsFirstLent a self.old.devices.items (Some at) }
         requires size { IsOfSize volume (device_at self.old.devices.items a) }
-        ensures numbers { numbers_of self.new.devices.items ≡ numbers_of self.old.devices.items }
+        ensures numbers { HasSameDevices self.old self.new }
         ensures pool { self.new.pool ≡ self.old.pool }
         ensures restored { OnOk result (Restored a volume self.old.devices.items self.new.devices.items) }
         ensures still { OnErr result (AreStill self.old.devices.items self.new.devices.items) }
@@ -138,7 +137,7 @@ impl<V: Volume> Subsystem<V> {
     /// The device that is lent to this one gets a volume again.
     fn restore_lent(&mut self, a: DeviceNo, volume: V) -> Result<(), (NoMemory, V)>
         requires { IsOfSize volume (device_at self.old.devices.items a) }
-        ensures numbers { numbers_of self.new.devices.items ≡ numbers_of self.old.devices.items }
+        ensures numbers { HasSameDevices self.old self.new }
         ensures pool { self.new.pool ≡ self.old.pool }
         ensures restored { OnOk result (Restored a volume self.old.devices.items self.new.devices.items) }
         ensures still { OnErr result (AreStill self.old.devices.items self.new.devices.items) }
@@ -153,9 +152,9 @@ impl<V: Volume> Subsystem<V> {
     /// Side B leaves a device, and its volume is dropped. The device that had lent it gets a volume of empty tracks, 15 for each
     /// cylinder, and is empty. Refused, it drops the volume; where memory is lacking, nothing is changed and the volume comes back.
     pub fn unpair(&mut self, a: DeviceNo, volume: V) -> Result<EventEnd, (NoMemory, V)>
-        requires here { is_in a (numbers_of self.old.devices.items) ≡ true }
+        requires here { HasDevice self.old a }
         requires size { IfSome (device_at self.old.devices.items a) (λ x. (V.view volume).tracks ≡ x.store.cylinders * 15) }
-        ensures numbers { numbers_of self.new.devices.items ≡ numbers_of self.old.devices.items }
+        ensures numbers { HasSameDevices self.old self.new }
         ensures unpaired { IfOk result (λ end. Unpaired a volume (device_at self.old.devices.items a) self.old end self.new) }
         ensures lacked { OnErr result ((self.new.pool ≡ self.old.pool) × AreStill self.old.devices.items self.new.devices.items) }
         ensures back { IfErr result (λ e. e.1 ≡ volume) }

@@ -3,6 +3,7 @@ ghost use Rattle.device_outside.specs.Lists.{is_in};
 ghost use Rattle.subsystem_core.specs.Devices.{device_at, numbers_of};
 ghost use Rattle.subsystem_core.specs.Places.{are_rising, may_all_come, may_come, IsTable};
 ghost use Rattle.subsystem_core.specs.Seats.{seats_of, AreAlike};
+ghost use Rattle.subsystem_core.specs.Frames.{HasDevice};
 
 use crate::Subsystem;
 use ckd_types::{DeviceNo, NoMemory};
@@ -44,7 +45,7 @@ impl<V: Volume> Subsystem<V> {
 
     /// Where the device of this number is.
     pub(crate) fn place(&self, d: DeviceNo) -> usize
-        requires { is_in d (numbers_of self.now.devices.items) ≡ true }
+        requires { HasDevice self.now d }
         ensures range { result < length self.now.devices.items }
         ensures found { slice_get (numbers_of self.now.devices.items) result ≡ Some d }
     {
@@ -63,7 +64,7 @@ impl<V: Volume> Subsystem<V> {
 
     /// The device of this number, by a table.
     pub fn device(&self, d: DeviceNo) -> &Device<V>
-        requires { is_in d (numbers_of self.now.devices.items) ≡ true }
+        requires { HasDevice self.now d }
         ensures { device_at self.now.devices.items d ≡ Some result.now }
     {
         &self.devices[self.place(d)]

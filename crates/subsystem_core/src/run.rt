@@ -3,9 +3,10 @@ ghost use Rattle.device_outside.specs.Keeper.{Heard};
 ghost use Rattle.subsystem_core.specs.Comes.{Came, CameKept};
 ghost use Rattle.subsystem_core.specs.Devices.{numbers_of};
 ghost use Rattle.subsystem_core.specs.Ends.{answer_of};
-ghost use Rattle.subsystem_core.specs.Keepers.{spans_of, TakesAll};
+ghost use Rattle.subsystem_core.specs.Keepers.{TakesAll};
 ghost use Rattle.subsystem_core.specs.Places.{may_all_come, may_come};
 ghost use Rattle.subsystem_core.specs.Runs.{Runs, Stops};
+ghost use Rattle.subsystem_core.specs.Frames.{HasSameDevices, HasSameSpans};
 
 use crate::{EventEnd, EventEnds, Subsystem};
 use ckd_types::NoMemory;
@@ -19,7 +20,7 @@ impl<V: Volume> Subsystem<V> {
     fn happen<K: Keep<TrackImage>>(&mut self, e: Event, keep: &mut K) -> Result<EventEnd, NoMemory>
         requires may { may_come (numbers_of self.old.devices.items) e ≡ true }
         requires takes { TakesAll K.takes keep.old self.old.devices.items }
-        ensures spans { spans_of self.new.devices.items ≡ spans_of self.old.devices.items }
+        ensures spans { HasSameSpans self.old self.new }
         ensures came { CameKept (Heard K.hears K.takes) e self.old keep.old (answer_of result) self.new keep.new }
     {
         match e {
@@ -48,7 +49,7 @@ impl<V: Volume> Subsystem<V> {
     ) -> Result<EventEnd, NoMemory>
         requires may { may_come (numbers_of self.old.devices.items) e ≡ true }
         requires takes { TakesAll K.takes keep.old self.old.devices.items }
-        ensures numbers { numbers_of self.new.devices.items ≡ numbers_of self.old.devices.items }
+        ensures numbers { HasSameDevices self.old self.new }
         ensures takes { TakesAll K.takes keep.new self.new.devices.items }
         ensures came { CameKept (Heard K.hears K.takes) e self.old keep.old (answer_of result) self.new keep.new }
     {
@@ -58,7 +59,7 @@ impl<V: Volume> Subsystem<V> {
     /// The same, with a keeper that keeps nothing.
     pub fn event(&mut self, e: Event) -> Result<EventEnd, NoMemory>
         requires { may_come (numbers_of self.old.devices.items) e ≡ true }
-        ensures numbers { numbers_of self.new.devices.items ≡ numbers_of self.old.devices.items }
+        ensures numbers { HasSameDevices self.old self.new }
         ensures came { Came e self.old (answer_of result) self.new }
     {
         let mut keep = NoKeep;
@@ -68,7 +69,7 @@ impl<V: Volume> Subsystem<V> {
     /// Events one after another. Room for their ends is made first.
     pub fn run(&mut self, alloc: Global, events: &[Event]) -> Result<EventEnds, NoMemory>
         requires { may_all_come (numbers_of self.old.devices.items) events.now ≡ true }
-        ensures numbers { numbers_of self.new.devices.items ≡ numbers_of self.old.devices.items }
+        ensures numbers { HasSameDevices self.old self.new }
         ensures ran { IfOk result (λ ends. Runs events.now self.old ends.items self.new) }
         ensures stopped { OnErr result (Stops events.now self.old self.new) }
     {

@@ -37,7 +37,7 @@ use Rattle.subsystem_defs.specs.Beside.{Beside, LooseTold, beside}
 use Rattle.subsystem_defs.specs.Calm.{is_calm, is_whole}
 use Rattle.subsystem_defs.specs.Promised.{are_explained, miss_nothing}
 use Rattle.subsystem_defs.specs.Subsystem.{Mounted, devices_of}
-use Rattle.subsystem_defs.specs.Closing.{DeviceEnd, Ending, HandedOut, ending, handed_out}
+use Rattle.subsystem_defs.specs.Closing.{DeviceEnd, RunEnding, HandedOut, ending, handed_out}
 use Rattle.subsystem_defs.specs.declared.event.Event.{Event}
 use Rattle.subsystem_defs.specs.Decks.{DeckRun, run_asked}
 use Rattle.subsystem_defs.specs.Lines.{Asked, Once, Logged, asked_by}
@@ -190,7 +190,7 @@ pub record Sample : Type 0 where
 
 pub record Report : Type 0 where
   pub shows : List Shown
-  pub ending : Ending
+  pub ending : RunEnding
 
 abbrev pub report_of : DeckRun → Report
 report_of r = record { shows = shows_of r; ending = ending r.behind }
@@ -220,7 +220,7 @@ settled_goes n = run_asked (two (goes n)) (line (lines.Pair 0 1) ++ settle ++ go
 -- how many events there were, and the ending
 pub record Counts : Type 0 where
   pub events : ℕ
-  pub ending : Ending
+  pub ending : RunEnding
 
 abbrev pub ending_of : DeckRun → Counts
 ending_of r = record { events = length r.events; ending = ending r.behind }

@@ -30,7 +30,7 @@ use Rattle.plain_defs.specs.History.{OpenEntry, History}
 use Rattle.device_defs.specs.Device.{Device}
 use Rattle.device_defs.specs.Marks.{MarksDevice}
 use Rattle.device_defs.specs.Store.{Store}
-use Rattle.subsystem_defs.specs.Happening.{Happened}
+use Rattle.subsystem_defs.specs.Happening.{EventHappened}
 use Rattle.subsystem_defs.specs.Subsystem.{devices_of}
 
 abbrev pub behind_first : {X : Type 0} → ℕ → List X → List X
@@ -118,5 +118,5 @@ abbrev pub beside_all : List MarksDevice → List MarksDevice → List Beside
 beside_all (before ∷ befores) (behind ∷ behinds) = beside_one before behind ∷ beside_all befores behinds
 beside_all _ _ = []
 
-abbrev pub beside : Happened → List Beside
+abbrev pub beside : EventHappened → List Beside
 beside h = beside_all (devices_of h.before) (devices_of h.behind)

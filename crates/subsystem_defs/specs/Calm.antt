@@ -64,15 +64,15 @@ abbrev pub is_done : EventEnd → Bool
 is_done ends.Done = true
 is_done _ = false
 
-abbrev pub is_loss : Event → Bool
-is_loss events.FailCache = true
-is_loss events.FailStore = true
-is_loss (events.FailVolume d side) = true
-is_loss events.Power = true
-is_loss _ = false
+abbrev pub is_loss_event : Event → Bool
+is_loss_event events.FailCache = true
+is_loss_event events.FailStore = true
+is_loss_event (events.FailVolume d side) = true
+is_loss_event events.Power = true
+is_loss_event _ = false
 
 abbrev pub asks_loss : Asked → Bool
-asks_loss (Once e) = is_loss e
+asks_loss (Once e) = is_loss_event e
 asks_loss _ = false
 
 -- an order for a loss that wasn't refused

@@ -20,7 +20,7 @@ pub data DeviceEnd : Type 0 where
   LentTo : ℕ → ℕ → DeviceEnd
 
 -- then the pool's frames, the most recent first
-pub record Ending : Type 0 where
+pub record RunEnding : Type 0 where
   pub devices : List DeviceEnd
   pub frames : List Frame
 
@@ -38,7 +38,7 @@ device_end_by s None = Counted s.device s.counts.reads s.counts.writes (lost_tra
 abbrev pub device_end : Mounted → DeviceEnd
 device_end m = device_end_by m.device.store m.device.store.lent
 
-abbrev pub ending : Subsystem → Ending
+abbrev pub ending : Subsystem → RunEnding
 ending s = record { devices = map device_end s.mounted; frames = s.pool.frames }
 
 -- What is handed out: the volumes that stand in devices, by rising number, side A before side B

@@ -2,7 +2,7 @@
 use Rattle.std.specs.Prelude.{ℕ, ◌==◌, not, Bool, false, List, [], ◌∷◌, Option, Some, None, is_some, if◌then◌else◌}
 use Rattle.track_image.specs.Image.{Image}
 use Rattle.loss_model.specs.declared.Loss.TheVariants as losses
-use Rattle.plain_defs.specs.History.{OpenEntry}
+use Rattle.plain_defs.specs.History.{OpenEntry, is_path_of}
 use Rattle.device_outside.specs.Interaction.{Interaction, Done, and_then}
 use Rattle.device_outside.specs.Pool.{Pool, cache_failed, store_failed, power_lost, all_waiting, cache_repaired, store_repaired}
 use Rattle.device_defs.specs.declared.answers.StartFault.{StartFault}
@@ -11,7 +11,7 @@ use Rattle.device_defs.specs.Contents.{Contents}
 use Rattle.device_defs.specs.Cutting.{reset, power}
 use Rattle.device_defs.specs.Device.{Device}
 use Rattle.device_defs.specs.Events.{second, background, lose}
-use Rattle.device_defs.specs.Orders.{hold, resume}
+use Rattle.device_defs.specs.Orders.{hold_side, resume}
 use Rattle.device_defs.specs.Start.{start_fault, start, next_ordinal}
 use Rattle.subsystem_defs.specs.declared.end.EventEnd.{EventEnd}
 use Rattle.subsystem_defs.specs.declared.end.EventEnd.TheVariants as ends
@@ -36,10 +36,6 @@ end_of f None = None
 
 abbrev pub ends_done : Unit {0} → EventEnd
 ends_done u = ends.Done
-
-abbrev pub is_own : ℕ → Option OpenEntry → Bool
-is_own path (Some o) = o.path == path
-is_own path None = false
 
 module _ {F P H : Type 0} where
   -- the device of this number; that there is one is the caller's condition
@@ -76,7 +72,7 @@ module _ {F P H R : Type 0} where
   start_by d path None = Becomes (start d path) (ends.Started (next_ordinal d path))
 
   abbrev pub starts : ℕ → Device F P H → Deed F P H R
-  starts path d = if is_own path d.history.running then Ends ends.Running else start_by d path (start_fault d path)
+  starts path d = if is_path_of d.history.running path then Ends ends.Running else start_by d path (start_fault d path)
 
   -- A repair waits while a track waits
 
@@ -115,6 +111,6 @@ module _ {F P H R : Type 0} (c : Contents F P H R) where
   deed pool ds events.RepairStore = repair pool.store_up pool (store_repaired pool)
   deed pool ds (events.Pair a b) =
       on_device (device_in ds a) (λ x. on_device (device_in ds b) (λ y. order (pair_fault x y) (Lends x y)))
-  deed pool ds (events.Suspend a) = on_device (device_in ds a) (λ x. order (suspend_fault x) (Becomes (hold x) ends.Done))
+  deed pool ds (events.Suspend a) = on_device (device_in ds a) (λ x. order (suspend_fault x) (Becomes (hold_side x) ends.Done))
   deed pool ds (events.Resume a) = on_device (device_in ds a) (λ x. order (resume_fault x) (Becomes (resume x) ends.Done))
   deed pool ds events.Power = Each (power_lost pool) (power c)

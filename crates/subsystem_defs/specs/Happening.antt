@@ -4,7 +4,7 @@ use Rattle.ckd_types.specs.declared.paths.Side.{Side}
 use Rattle.track_image.specs.Image.{Image}
 use Rattle.device_outside.specs.Interaction.{Interaction}
 use Rattle.device_outside.specs.Pool.{Pool}
-use Rattle.device_outside.specs.Told.{Calls, Told, Outcome, hold}
+use Rattle.device_outside.specs.Told.{Calls, Told, RunOutcome, hold}
 use Rattle.device_defs.specs.Contents.{by_plain}
 use Rattle.device_defs.specs.Marks.{MarksDevice}
 use Rattle.device_defs.specs.Orders.{join, split, restore, replace, lend}
@@ -17,7 +17,7 @@ use Rattle.subsystem_defs.specs.Refusals.{unpair_fault, replace_fault}
 use Rattle.subsystem_defs.specs.Subsystem.{Mounted, Subsystem, devices_of, mounted_in, with_mounted, with_calls}
 
 -- how an event ended, its volume calls, and the subsystem before and behind it
-pub record Happened : Type 0 where
+pub record EventHappened : Type 0 where
   pub end : EventEnd
   pub reads : ℕ
   pub writes : ℕ
@@ -25,7 +25,7 @@ pub record Happened : Type 0 where
   pub behind : Subsystem
 
 -- without a volume call
-abbrev pub quietly : Subsystem → Subsystem → EventEnd → Happened
+abbrev pub quietly : Subsystem → Subsystem → EventEnd → EventHappened
 quietly before behind end = record { end = end; reads = 0; writes = 0; before = before; behind = behind }
 
 abbrev pub MarksDeed : Type 0
@@ -40,13 +40,13 @@ abbrev pub told_to : Pool → Mounted → Told
 told_to pool m = record { pool = pool; a = m.a; b = m.b; reads = 0; writes = 0 }
 
 -- with its volumes, and with the pool
-abbrev pub held_with : {A : Type 0} → Pool → Mounted → Talk A → Outcome MarksDevice A
+abbrev pub held_with : {A : Type 0} → Pool → Mounted → Talk A → RunOutcome MarksDevice A
 held_with pool m talk = hold true talk (told_to pool m)
 
-abbrev pub mounted_behind : {A : Type 0} → Outcome MarksDevice A → Mounted
+abbrev pub mounted_behind : {A : Type 0} → RunOutcome MarksDevice A → Mounted
 mounted_behind o = record { device = o.state; a = o.told.a; b = o.told.b }
 
-abbrev pub behind_outcome : {A : Type 0} → Subsystem → ℕ → Outcome MarksDevice A → Subsystem
+abbrev pub behind_outcome : {A : Type 0} → Subsystem → ℕ → RunOutcome MarksDevice A → Subsystem
 behind_outcome s n o = record (with_mounted s n (mounted_behind o)) { pool = o.told.pool }
 
 -- memory is had, so the other end never comes
@@ -54,7 +54,7 @@ abbrev pub told_end : Option EventEnd → EventEnd
 told_end (Some end) = end
 told_end None = ends.Idle
 
-abbrev pub with_outcome : Subsystem → ℕ → Outcome MarksDevice (Option EventEnd) → Happened
+abbrev pub with_outcome : Subsystem → ℕ → RunOutcome MarksDevice (Option EventEnd) → EventHappened
 with_outcome s n o = record {
   end = told_end o.answer;
   reads = o.told.reads;
@@ -63,7 +63,7 @@ with_outcome s n o = record {
   behind = behind_outcome s n o;
 }
 
-abbrev pub asks : Subsystem → ℕ → Option Mounted → Talk (Option EventEnd) → Happened
+abbrev pub asks : Subsystem → ℕ → Option Mounted → Talk (Option EventEnd) → EventHappened
 asks s n (Some m) talk = with_outcome s n (held_with s.pool m talk)
 asks s n None talk = quietly s s ends.Idle
 
@@ -77,7 +77,7 @@ pub record Swept : Type 0 where
   pub pool : Pool
   pub mounted : List Mounted
 
-abbrev pub swept_on : (Pool → Swept) → Outcome MarksDevice (Unit {0}) → Swept
+abbrev pub swept_on : (Pool → Swept) → RunOutcome MarksDevice (Unit {0}) → Swept
 swept_on rest o = record { pool = (rest o.told.pool).pool; mounted = mounted_behind o ∷ (rest o.told.pool).mounted }
 
 unfoldable pub sweep : (MarksDevice → Talk (Unit {0})) → List Mounted → Pool → Swept
@@ -93,7 +93,7 @@ abbrev pub joined : Subsystem → ℕ → Calls → Option Mounted → Subsystem
 joined s n volume (Some m) = with_mounted s n (record m { device = join m.device; b = volume })
 joined s n volume None = s
 
-abbrev pub lent_behind : Subsystem → ℕ → ℕ → Outcome MarksDevice (Unit {0}) → Subsystem
+abbrev pub lent_behind : Subsystem → ℕ → ℕ → RunOutcome MarksDevice (Unit {0}) → Subsystem
 lent_behind s a b o = let z = behind_outcome s b o in joined z a o.told.a (mounted_in z.mounted a)
 
 abbrev pub lends : Subsystem → ℕ → ℕ → Option Mounted → Subsystem
@@ -102,7 +102,7 @@ lends s a b None = s
 
 -- The whole
 
-abbrev pub happens_by : Subsystem → MarksDeed → Happened
+abbrev pub happens_by : Subsystem → MarksDeed → EventHappened
 happens_by s (Ends end) = quietly s s end
 happens_by s (Becomes d end) = quietly s (becomes s d.store.device (mounted_in s.mounted d.store.device) d) end
 happens_by s (Asks d talk) = asks s d.store.device (mounted_in s.mounted d.store.device) talk
@@ -110,22 +110,22 @@ happens_by s (Each pool f) = quietly s (swept (sweep f s.mounted pool)) ends.Don
 happens_by s (Repairs pool) = quietly s (record s { pool = pool }) ends.Done
 happens_by s (Lends a b) = quietly s (lends s a.store.device b.store.device (mounted_in s.mounted b.store.device)) ends.Done
 
-unfoldable pub happens : Subsystem → Event → Happened
+unfoldable pub happens : Subsystem → Event → EventHappened
 happens s e = happens_by s (deed by_plain s.pool (devices_of s) e)
 
 -- The two orders for which a volume is handed in. Refused, they drop it
 
-abbrev pub replaced_by : Subsystem → ℕ → Side → Calls → Mounted → Option OrderFault → Happened
+abbrev pub replaced_by : Subsystem → ℕ → Side → Calls → Mounted → Option OrderFault → EventHappened
 replaced_by s d side volume m (Some f) = quietly s s (ends.Refused f)
 replaced_by s d side volume m None =
     quietly s (with_mounted s d (with_calls (record m { device = replace m.device side }) side volume)) ends.Done
 
-abbrev pub replaced_at : Subsystem → ℕ → Side → Calls → Option Mounted → Happened
+abbrev pub replaced_at : Subsystem → ℕ → Side → Calls → Option Mounted → EventHappened
 replaced_at s d side volume (Some m) = replaced_by s d side volume m (replace_fault m.device side)
 replaced_at s d side volume None = quietly s s ends.Done
 
 -- in place of a failed side's volume
-unfoldable pub replaced : Subsystem → ℕ → Side → Calls → Happened
+unfoldable pub replaced : Subsystem → ℕ → Side → Calls → EventHappened
 replaced s d side volume = replaced_at s d side volume (mounted_in s.mounted d)
 
 abbrev pub is_lent_to : Option ℕ → ℕ → Bool
@@ -143,14 +143,14 @@ abbrev pub unpaired_behind : Subsystem → ℕ → Calls → Mounted → Subsyst
 unpaired_behind s a volume m =
     let z = with_mounted s a (record m { device = split m.device }) in record z { mounted = restored_in z.mounted a volume }
 
-abbrev pub unpaired_by : Subsystem → ℕ → Calls → Mounted → Option OrderFault → Happened
+abbrev pub unpaired_by : Subsystem → ℕ → Calls → Mounted → Option OrderFault → EventHappened
 unpaired_by s a volume m (Some f) = quietly s s (ends.Refused f)
 unpaired_by s a volume m None = quietly s (unpaired_behind s a volume m) ends.Done
 
-abbrev pub unpaired_at : Subsystem → ℕ → Calls → Option Mounted → Happened
+abbrev pub unpaired_at : Subsystem → ℕ → Calls → Option Mounted → EventHappened
 unpaired_at s a volume (Some m) = unpaired_by s a volume m (unpair_fault m.device)
 unpaired_at s a volume None = quietly s s ends.Done
 
 -- side B leaves the subsystem
-unfoldable pub unpaired : Subsystem → ℕ → Calls → Happened
+unfoldable pub unpaired : Subsystem → ℕ → Calls → EventHappened
 unpaired s a volume = unpaired_at s a volume (mounted_in s.mounted a)

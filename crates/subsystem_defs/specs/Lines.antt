@@ -9,7 +9,7 @@ use Rattle.subsystem_defs.specs.declared.end.EventEnd.{EventEnd}
 use Rattle.subsystem_defs.specs.declared.end.EventEnd.TheVariants as ends
 use Rattle.subsystem_defs.specs.declared.event.Event.{Event}
 use Rattle.subsystem_defs.specs.declared.event.Event.TheVariants as events
-use Rattle.subsystem_defs.specs.Happening.{Happened, quietly, happens, replaced, unpaired}
+use Rattle.subsystem_defs.specs.Happening.{EventHappened, quietly, happens, replaced, unpaired}
 use Rattle.subsystem_defs.specs.Subsystem.{Mounted, Subsystem, mounted_in, unfailing}
 
 -- what a line asks for: one event; one with a new empty volume, of which no call fails; or as many as it takes
@@ -42,13 +42,13 @@ asked_by lines.Power = Once events.Power
 -- an event of a run, and what asked for it
 pub record Logged : Type 0 where
   pub asked : Asked
-  pub happened : Happened
+  pub happened : EventHappened
 
-abbrev pub logged : Asked → Happened → Logged
+abbrev pub logged : Asked → EventHappened → Logged
 logged asked h = record { asked = asked; happened = h }
 
 -- the rest goes on behind it
-abbrev pub and_so_on : Asked → Happened → (Subsystem → List Logged) → List Logged
+abbrev pub and_so_on : Asked → EventHappened → (Subsystem → List Logged) → List Logged
 and_so_on asked h rest = logged asked h ∷ rest h.behind
 
 -- A program to its end
@@ -90,7 +90,7 @@ is_settled _ = false
 abbrev pub most_backs : ℕ
 most_backs = 2946
 
-abbrev pub back_logged : Happened → ℕ → (Subsystem → List Logged) → List Logged
+abbrev pub back_logged : EventHappened → ℕ → (Subsystem → List Logged) → List Logged
 back_logged h d rest = logged (Settle d) h ∷ (if is_settled h.end then [] else rest h.behind)
 
 unfoldable pub backs : ℕ → ℕ → Subsystem → List Logged

@@ -1,6 +1,6 @@
 -- What a look at a track gives in a run, past the channel.
 use Rattle.std.specs.Prelude.{ℕ, Option, Some, None}
-use Rattle.device_outside.specs.Told.{Outcome}
+use Rattle.device_outside.specs.Told.{RunOutcome}
 use Rattle.device_defs.specs.Contents.{by_plain}
 use Rattle.device_defs.specs.Marks.{MarksDevice}
 use Rattle.device_defs.specs.Peek.{Peeked, Lost, peek}
@@ -18,7 +18,7 @@ abbrev pub told_found : Option Peeked → Peeked
 told_found (Some found) = found
 told_found None = Lost
 
-abbrev pub with_look : Subsystem → ℕ → Outcome MarksDevice (Option Peeked) → Looked
+abbrev pub with_look : Subsystem → ℕ → RunOutcome MarksDevice (Option Peeked) → Looked
 with_look s n o = record { found = told_found o.answer; reads = o.told.reads; behind = behind_outcome s n o }
 
 -- nothing is found of a device that isn't there

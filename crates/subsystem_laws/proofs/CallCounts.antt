@@ -48,10 +48,10 @@ use Rattle.device_defs.specs.Command.{command}
 use Rattle.device_defs.specs.Contents.{by_plain}
 use Rattle.device_defs.specs.Cutting.{reset, power}
 use Rattle.device_defs.specs.Device.{event_ended}
-use Rattle.device_defs.specs.Events.{second, lose, background, one_more}
+use Rattle.device_defs.specs.Events.{second, lose, background, one_loss_more}
 use Rattle.device_defs.specs.Marks.{MarksDevice, no_counts}
 use Rattle.device_defs.specs.Orders as O
-use Rattle.device_defs.specs.Orders.{hold, resume, replace, lend}
+use Rattle.device_defs.specs.Orders.{hold_side, resume, replace, lend}
 use Rattle.device_defs.specs.Owed.{waiting_count}
 use Rattle.device_defs.specs.Start as S
 use Rattle.device_defs.specs.Start.{start, next_ordinal}
@@ -250,14 +250,14 @@ module _ (count : K.Counts → ℕ) (c : IsCallCount count) where
 
     lose_few : (loss : Loss) (t : CameTo (lose by_plain d loss)) → RisesFew d t.state
     lose_few loss t =
-        rises_by (most_calls d) d (with_one_loss loss (kept d.store)) (c.no_loss d.store.counts (one_more d.store.counts.losses loss))
+        rises_by (most_calls d) d (with_one_loss loss (kept d.store)) (c.no_loss d.store.counts (one_loss_more d.store.counts.losses loss))
         (lose_based by_plain d loss)
         (quiet_few (most_calls d) (lose_counts by_plain d loss)) t refl
 
     power_few : (t : CameTo (power by_plain d)) → RisesFew d t.state
     power_few t =
         rises_by (most_calls d) d (with_one_loss losses.Cache (kept d.store))
-        (c.no_loss d.store.counts (one_more d.store.counts.losses losses.Cache)) (power_based by_plain d)
+        (c.no_loss d.store.counts (one_loss_more d.store.counts.losses losses.Cache)) (power_based by_plain d)
         (quiet_few (most_calls d) (power_counts by_plain d)) t refl
 
     reset_few : (path : ℕ) (t : CameTo (reset by_plain d path)) → RisesFew d t.state
@@ -307,7 +307,7 @@ module _ (count : K.Counts → ℕ) (c : IsCallCount count) where
     repaired_cache = tt;
     repaired_store = tt;
     lent = λ x y z w fault. (seat_of s y w, lend_none y x.store.device);
-    held = λ d x fault. becomes_so RisesNone RisesFew s d x (hold d) refl (refl, as_before (count d.store.counts)) ends.Done;
+    held = λ d x fault. becomes_so RisesNone RisesFew s d x (hold_side d) refl (refl, as_before (count d.store.counts)) ends.Done;
     resumed = λ d x fault. becomes_so RisesNone RisesFew s d x (resume d) refl (refl, as_before (count d.store.counts)) ends.Done;
   }
 

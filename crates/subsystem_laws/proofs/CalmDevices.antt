@@ -51,15 +51,16 @@ use Rattle.device_defs.specs.Device.{event_begun}
 use Rattle.device_defs.specs.Excused.{is_checked, is_equipment_check}
 use Rattle.device_defs.specs.Marks.{MarksDevice, MarksStore}
 use Rattle.device_defs.specs.Owed as O
-use Rattle.device_defs.specs.Owed.{hear, is_clean, waits_by, waits, waiting_count, ended}
+use Rattle.device_defs.specs.Owed.{hear, is_clean, waits_by, waits, waiting_count, noted_end}
 use Rattle.device_defs.specs.Store.{HalfWrite, tracks_of, stale_at, has_level, frame_at, patch_at, is_lost, is_loose, half_is}
 use Rattle.device_laws.specs.Unharmed.{IsWholeOnA, ends_with_equipment_check}
+use Rattle.device_laws.proofs.Bools.{up_level}
 use Rattle.device_laws.proofs.Always.{Always, always_done, always_try, always_then}
 use Rattle.device_laws.proofs.CacheLost.{none_below}
 use Rattle.device_laws.proofs.FailedCall.{IsWell}
 use Rattle.device_laws.proofs.KeptEvents.{Continues, always_any, always_if}
 use Rattle.device_laws.proofs.KeptHistories.{AreNot, count_more, same_came, extends_itself}
-use Rattle.device_laws.proofs.OneFailed.{sides_of, fallen_a, OnBoth, OnSideA, IsSomewhere, up_level}
+use Rattle.device_laws.proofs.OneFailed.{sides_of, fallen_a, OnBoth, OnSideA, IsSomewhere}
 use Rattle.device_laws.proofs.TrackMarks as M
 use Rattle.device_laws.proofs.TrackMarks.{marks, is_good, frame_mark}
 use Rattle.device_laws.proofs.UncheckedEvents.{equipment_checks}
@@ -140,7 +141,7 @@ module _ (d : MarksDevice) (o : OpenEntry) (running : d.history.running ≡ Some
       always_try (λ ok. always_if ok
       (always_then {p = λ (y : MarksDevice) (a : Option Stepped). unserved y.history ≡ 0}
       (always_then (always_any (hear by_plain 960 (event_begun d).store)) (λ s _ _. by_served s d.history.running running d.chain))
-      (λ y a g. always_then (always_any (ended by_plain (waiting_count by_plain d.store) y.store)) (λ z _ _. always_done g)))
+      (λ y a g. always_then (always_any (noted_end by_plain (waiting_count by_plain d.store) y.store)) (λ z _ _. always_done g)))
       (always_done none))
 
 -- Where everything is repaired

@@ -48,33 +48,34 @@ use Rattle.device_defs.specs.Device.{all_reset, with_store, event_begun, event_e
 use Rattle.device_defs.specs.Events as E
 use Rattle.device_defs.specs.Events.{second_ended, second_of, second, lose, background}
 use Rattle.device_defs.specs.Marks.{MarksDevice, MarksStore}
-use Rattle.device_defs.specs.Orders.{join, split, restore, hold, resume, replace, lend}
+use Rattle.device_defs.specs.Orders.{join, split, restore, hold_side, resume, replace, lend}
 use Rattle.device_defs.specs.Second as D
-use Rattle.device_defs.specs.Second.{half_image_of, closed, finished, second_done, second_absent, second_by, second_part}
+use Rattle.device_defs.specs.Second.{half_image_of, half_closed, finished, second_done, second_absent, second_by, second_part}
 use Rattle.device_defs.specs.Start as S
 use Rattle.device_defs.specs.Start.{start}
 use Rattle.device_defs.specs.Store.{Origin, OfCommand, OfCut, OfBackground, HalfWrite, tracks_of, has_level, level_at, stale_at, takes_b, side_of}
 use Rattle.plain_defs.specs.PlainState.{reset_path}
 use Rattle.device_laws.specs.Unharmed.{RunsUnharmed}
+use Rattle.device_laws.proofs.Bools.{up_level}
 use Rattle.device_laws.proofs.Always.{Always}
 use Rattle.device_laws.proofs.Based.{Any, Based, kept}
 use Rattle.device_laws.proofs.BasedEvents.{base_in, command_based, second_based, background_based, lose_based, power_based, reset_body}
 use Rattle.device_laws.proofs.Based as B
-use Rattle.device_laws.proofs.FramesEvents.{steady_tried}
 use Rattle.device_laws.proofs.Harmless.{cache_goes, power_goes, reset_goes}
 use Rattle.device_laws.proofs.KeptEvents as K
 use Rattle.device_laws.proofs.KeptHistories.{count_more}
 use Rattle.device_laws.proofs.Lucky.{top, failed_in, Lucky, lucky_weaker, lucky_if, never_falls, where_none_failed}
 use Rattle.device_laws.proofs.Once.{Once, once_then, once_quiet, where_one_failed}
-use Rattle.device_laws.proofs.OneFailed.{sides_of, OnSideA, steady_b, second_once, still_level, up_level, never}
+use Rattle.device_laws.proofs.OneFailed.{sides_of, OnSideA, steady_b, second_once, still_level}
+use Rattle.device_laws.proofs.HeldPlaces.{never}
 use Rattle.device_laws.proofs.OneFailedEvents.{hear_same, end_quiet, end_steady, command_comes, background_comes}
 use Rattle.device_laws.proofs.QuietParts.{Quiet, quiet_done, quiet_tell, quiet_if, quiet_then, cut_quiet, done_quiet}
 use Rattle.device_laws.proofs.TrackMarks.{marks_are_faithful}
 use Rattle.device_laws.proofs.Unchecked.{lucky_both}
 use Rattle.device_laws.proofs.UncheckedEvents.{equipment_checks, acts_same, command_unchecked_within}
-use Rattle.device_laws.proofs.Unlost.{core_of, fine, Steady, steady_on, closed_fine, fine_on}
-use Rattle.device_laws.proofs.UnlostEvents.{command_goes_within, background_goes, second_event_goes, second_ended_goes}
-use Rattle.device_laws.proofs.UnlostParts.{second_done_goes}
+use Rattle.device_laws.proofs.Unlost.{core_of, fine, Steady, steady_on, closed_fine, fine_on, steady_tried}
+use Rattle.device_laws.proofs.invariants.NoTrackIsLost.{command_goes, background_goes, second_event_goes}
+use Rattle.device_laws.proofs.UnlostParts.{second_done_goes, second_ended_goes}
 use Rattle.device_laws.proofs.WholeLosses.{where_quiet, lose_quiet, lose_store_steady, lose_a_steady, lose_b_steady}
 use Rattle.subsystem_defs.specs.Calm.{is_whole_device}
 use Rattle.subsystem_defs.specs.declared.end.OrderFault.TheVariants.{Unpaired, Half, Down}
@@ -139,10 +140,10 @@ quiet_finish s t i bypass = quiet_then (λ z _. Done z true) (done_quiet by_plai
 
 quiet_second : (s : MarksStore) (t : ℕ) (i : Image) (origin : Origin) → Quiet (second_by by_plain t i origin s)
 quiet_second s t i origin = quiet_if (has_level s t) (by_origin origin) quiet_done where
-  by_origin : (origin : Origin) → Quiet (second_done by_plain (closed s) t i origin)
+  by_origin : (origin : Origin) → Quiet (second_done by_plain (half_closed s) t i origin)
   by_origin (OfCommand bypass e) = quiet_tell (λ _. quiet_finish _ t i bypass)
-  by_origin (OfCut bypass) = quiet_finish (closed s) t i bypass
-  by_origin OfBackground = quiet_finish (closed s) t i false
+  by_origin (OfCut bypass) = quiet_finish (half_closed s) t i bypass
+  by_origin OfBackground = quiet_finish (half_closed s) t i false
 
 part_once : (s : MarksStore) (h : HalfWrite (Unit {0})) → OnSideA (sides_of s) →
     Once (λ z a. Unit {0}) (λ z done. (done ≡ true) × Steady (core_of z)) (second_part by_plain s h)
@@ -152,10 +153,10 @@ part_once s h o =
     once_then (λ z _. second_by by_plain h.track i h.origin z) (second_once by_plain s h.track (by_plain.bytes i) o)
     (λ z _ _. once_quiet (quiet_second z h.track i h.origin))
     (λ z _ e. lucky_if (has_level z h.track)
-    (λ _. lucky_weaker (lucky_both (done_by (closed z) h.track i h.origin) (second_done_goes by_plain marks_are_faithful (closed z) h.track i h.origin))
+    (λ _. lucky_weaker (lucky_both (done_by (half_closed z) h.track i h.origin) (second_done_goes by_plain marks_are_faithful (half_closed z) h.track i h.origin))
     (λ y a g. (
       g.0,
-      steady_on (core_of z) (core_of y) (fine_on (core_of z) (core_of (closed z)) (core_of y) (closed_fine z) g.1)
+      steady_on (core_of z) (core_of y) (fine_on (core_of z) (core_of (half_closed z)) (core_of y) (closed_fine z) g.1)
           (steady_b (sides_of s) z o e),
     )))
     (λ none. never (has_level z h.track) (still_level by_plain s z h.track o e) none))
@@ -268,7 +269,7 @@ module _ (d : MarksDevice) (f : Fair d) where
       command_steady (inl same) =
           steady_on (core_of d.store) (core_of commanded.store)
           (unfailed (command by_plain d) (command_based by_plain d) t same
-          (command_goes_within by_plain marks_are_faithful d (within d f.good) (f.good.well home) whole)) (x.steady home)
+          (command_goes by_plain marks_are_faithful d (f.good.well home))) (x.steady home)
       command_steady (inr one) =
           (failed_once (command by_plain d) (command_based by_plain d) t one.2
           (command_comes by_plain marks_are_faithful checks d (within d f.good) (f.good.well home) whole
@@ -470,7 +471,7 @@ module _ (d : MarksDevice) where
     };
   }
 
-  pub hold_still : suspend_fault d ≡ None → StillCalm d (hold d)
+  pub hold_still : suspend_fault d ≡ None → StillCalm d (hold_side d)
   unfolding R.suspend_fault
   hold_still e =
       let a = first_none (R.where_so (not d.store.paired) Unpaired) _ e in

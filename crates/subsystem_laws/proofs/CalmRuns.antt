@@ -47,14 +47,14 @@ use Rattle.device_outside.specs.Interaction.{Interaction, Done, Try, Ask, Read, 
 use Rattle.device_outside.specs.Keeper.{reply}
 use Rattle.device_outside.specs.Pool.{answer, after}
 use Rattle.device_outside.specs.Told as T
-use Rattle.device_outside.specs.Told.{Told, calls_of, read_fails, write_fails, read_counted, write_counted}
+use Rattle.device_outside.specs.Told.{Told, calls_of, read_fails, write_fails, told_read, told_write}
 use Rattle.device_defs.specs.Command.{has_loss, command}
 use Rattle.device_defs.specs.Contents.{by_plain}
 use Rattle.device_defs.specs.Cutting.{reset, power}
 use Rattle.device_defs.specs.Events.{second, lose, background}
 use Rattle.device_defs.specs.Excused.{count_lost, is_checked, is_data_check, is_equipment_check}
 use Rattle.device_defs.specs.Marks.{MarksDevice}
-use Rattle.device_defs.specs.Orders.{hold, resume}
+use Rattle.device_defs.specs.Orders.{hold_side, resume}
 use Rattle.device_defs.specs.Pledge.{ends_with_data_check}
 use Rattle.device_defs.specs.Start.{start, next_ordinal}
 use Rattle.device_defs.specs.Store.{HalfWrite}
@@ -70,7 +70,7 @@ use Rattle.subsystem_defs.specs.Calm.{
   is_whole,
   is_whole_device,
   is_done,
-  is_loss,
+  is_loss_event,
   asks_loss,
   ordered,
   failed_calls,
@@ -93,7 +93,7 @@ use Rattle.subsystem_defs.specs.declared.event.Event.TheVariants as events
 use Rattle.subsystem_defs.specs.Deeds as E
 use Rattle.subsystem_defs.specs.Deeds.{Ends, Asks, Each, deed, device_in, on_device, order, ends_by, ends_done, end_of}
 use Rattle.subsystem_defs.specs.Happening as H
-use Rattle.subsystem_defs.specs.Happening.{Happened, MarksDeed, asks, happens_by, happens, told_end, held_with}
+use Rattle.subsystem_defs.specs.Happening.{EventHappened, MarksDeed, asks, happens_by, happens, told_end, held_with}
 use Rattle.subsystem_defs.specs.Lines.{Asked, Once, Replace, Unpair, Run, Settle, Logged, asked_by}
 use Rattle.subsystem_defs.specs.Promised as P
 use Rattle.subsystem_defs.specs.Promised.{is_served, are_served, misses_nothing, all_miss_nothing, miss_nothing}
@@ -202,8 +202,8 @@ calm_deeds s p = record {
       becomes_so StillCalm StillCalm s d x (start d path) (started_number d path) (start_still d path) (ends.Started (next_ordinal d path));
   seconded = λ e calm d x h is. (
     seat_of s d x,
-    ends_made StillCalm (MadeCalm (is_loss e) (fails_alone_by s e)) d (second by_plain d) (λ a. Some (ends.Second a))
-        (second_made d (is_loss e) (fails_alone_by s e) calm h is),
+    ends_made StillCalm (MadeCalm (is_loss_event e) (fails_alone_by s e)) d (second by_plain d) (λ a. Some (ends.Second a))
+        (second_made d (is_loss_event e) (fails_alone_by s e) calm h is),
   );
   commanded = λ n d x whole o running. (
     seat_of s d x,
@@ -228,7 +228,7 @@ calm_deeds s p = record {
   repaired_cache = tt;
   repaired_store = tt;
   lent = λ a b x y z w fault. (seat_of s y w, lend_still x y fault (fair_of s p x z) (fair_of s p y w));
-  held = λ n d x fault. becomes_so StillCalm StillCalm s d x (hold d) refl (hold_still d fault) ends.Done;
+  held = λ n d x fault. becomes_so StillCalm StillCalm s d x (hold_side d) refl (hold_still d fault) ends.Done;
   resumed = λ n d x fault. becomes_so StillCalm StillCalm s d x (resume d) refl (resume_still d) ends.Done;
 }
 
@@ -255,8 +255,8 @@ unfolding T.hold
 answer_done (Done s a) f h t = h a
 answer_done (Try k) f h t = answer_done (k true) f h t
 answer_done (Ask call k) f h t = answer_done (k (answer t.pool call)) f h (record t { pool = after t.pool call (answer t.pool call) })
-answer_done (Read side q k) f h t = answer_done (k (if read_fails (calls_of t side) then None else Some true)) f h (read_counted t side)
-answer_done (Write side q r k) f h t = answer_done (k (if write_fails (calls_of t side) then false else true)) f h (write_counted t side)
+answer_done (Read side q k) f h t = answer_done (k (if read_fails (calls_of t side) then None else Some true)) f h (told_read t side)
+answer_done (Write side q r k) f h t = answer_done (k (if write_fails (calls_of t side) then false else true)) f h (told_write t side)
 answer_done (Tell m k) f h t = answer_done (k (reply m)) f h t
 
 both_ways : {X : Type 0} (b : Bool) → b ≡ true → b ≡ false → X
@@ -287,7 +287,7 @@ module _ (s : Subsystem) where
   volume_same side None = λ e. refl
   volume_same side (Some d) = order_same d side (fail_fault d side)
 
-  refused_same : (e : Event) → is_loss e ≡ true → is_done (happens s e).end ≡ false → (happens s e).behind ≡ s
+  refused_same : (e : Event) → is_loss_event e ≡ true → is_done (happens s e).end ≡ false → (happens s e).behind ≡ s
   unfolding H.happens E.deed
   refused_same events.FailCache is done = same_if (not s.pool.cache_up) _ _ refl done
   refused_same events.FailStore is done = same_if (not s.pool.store_up) _ _ refl done

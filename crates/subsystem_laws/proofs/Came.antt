@@ -6,7 +6,7 @@ use Rattle.device_outside.specs.Interaction.{Interaction, Done, Try, Ask, Read, 
 use Rattle.device_outside.specs.Keeper.{reply}
 use Rattle.device_outside.specs.Pool.{Call, answer, after}
 use Rattle.device_outside.specs.Told as T
-use Rattle.device_outside.specs.Told.{Told, hold, calls_of, read_fails, write_fails, read_counted, write_counted}
+use Rattle.device_outside.specs.Told.{Told, hold, calls_of, read_fails, write_fails, told_read, told_write}
 use Rattle.device_laws.proofs.Always.{Always}
 use Rattle.device_laws.proofs.Based.{Base, Based, based_done, based_try, based_ask, based_read, based_write, based_tell}
 use Rattle.device_laws.proofs.CleanParts.{
@@ -65,16 +65,16 @@ told_by (Done s a) w = (refl, refl)
 told_by (Try k) w = told_by (k true) w
 told_by (Ask call k) w = (answer w.pool call, told_by (k (answer w.pool call)) (record w { pool = after w.pool call (answer w.pool call) }))
 told_by (Read side t k) w =
-    let v = read_counted w side in by_plan (read_fails (calls_of w side)) (told_by (k None) v) (told_by (k (Some true)) v)
+    let v = told_read w side in by_plan (read_fails (calls_of w side)) (told_by (k None) v) (told_by (k (Some true)) v)
   where
-    by_plan : (fails : Bool) → Came (k None) (hold true (k None) (read_counted w side)).state (hold true (k None) (read_counted w side)).answer →
-        Came (k (Some true)) (hold true (k (Some true)) (read_counted w side)).state (hold true (k (Some true)) (read_counted w side)).answer →
-        (ok : Bool) × Came (k (delivered ok)) (hold true (k (if fails then None else Some true)) (read_counted w side)).state
-        (hold true (k (if fails then None else Some true)) (read_counted w side)).answer
+    by_plan : (fails : Bool) → Came (k None) (hold true (k None) (told_read w side)).state (hold true (k None) (told_read w side)).answer →
+        Came (k (Some true)) (hold true (k (Some true)) (told_read w side)).state (hold true (k (Some true)) (told_read w side)).answer →
+        (ok : Bool) × Came (k (delivered ok)) (hold true (k (if fails then None else Some true)) (told_read w side)).state
+        (hold true (k (if fails then None else Some true)) (told_read w side)).answer
     by_plan true none some = (false, none)
     by_plan false none some = (true, some)
 told_by (Write side t r k) w =
-    let ok = if write_fails (calls_of w side) then false else true in (ok, told_by (k ok) (write_counted w side))
+    let ok = if write_fails (calls_of w side) then false else true in (ok, told_by (k ok) (told_write w side))
 told_by (Tell m k) w = told_by (k (reply m)) w
 
 abbrev pub told_came : {I S A : Type 0} (i : Interaction Bool I S A) → Told → CameTo i

@@ -8,7 +8,7 @@ use Rattle.device_defs.specs.Contents.{by_plain}
 use Rattle.device_defs.specs.Cutting.{reset}
 use Rattle.device_defs.specs.Events.{second, lose, background}
 use Rattle.device_defs.specs.Marks.{MarksDevice}
-use Rattle.device_defs.specs.Orders.{hold, resume}
+use Rattle.device_defs.specs.Orders.{hold_side, resume}
 use Rattle.device_defs.specs.Start.{start, next_ordinal}
 use Rattle.subsystem_defs.specs.declared.end.EventEnd.TheVariants as ends
 use Rattle.subsystem_defs.specs.Decks.{run_of}
@@ -62,7 +62,7 @@ deeds_show s p = record {
   repaired_cache = tt;
   repaired_store = tt;
   lent = λ x y z w fault. (seat_of s y w, lend_same y x.store.device);
-  held = λ d x fault. becomes_so AddsNone ChecksForCause s d x (hold d) refl refl ends.Done;
+  held = λ d x fault. becomes_so AddsNone ChecksForCause s d x (hold_side d) refl refl ends.Done;
   resumed = λ d x fault. becomes_so AddsNone ChecksForCause s d x (resume d) refl refl ends.Done;
 }
 

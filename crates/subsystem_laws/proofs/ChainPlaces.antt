@@ -22,17 +22,17 @@ use Rattle.ckd_chain.specs.Steps.{
   opening_at,
   stage_for,
   opened_by,
-  opened,
+  chain_opened,
   stage_by,
   stage_of,
-  needed,
+  track_needed,
   mark_by,
   start_of,
   behind,
   held_outcome,
   stepped_by,
   stepped,
-  turned_by,
+  step_turned,
   settled_by,
   written_by,
   again_from,
@@ -79,11 +79,11 @@ module _ (k : ℕ) (some : 0 < k) where
       record { cylinders_are = on.cylinders_are; at = f.0; before = on.at; stage = f.1 }
   opened_by_on chain (Some stage) is on = on
 
-  pub opened_on : (chain : ChainState) → ChainIsOn k chain → ChainIsOn k (opened chain)
+  pub opened_on : (chain : ChainState) → ChainIsOn k chain → ChainIsOn k (chain_opened chain)
   opened_on chain on = opened_by_on chain chain.stage refl on
 
   -- the track that is needed
-  needed_below : (u : ChainState) (stage : Stage) (t : ℕ) → u.at.stance.track < n → needed u stage ≡ Some t → t < n
+  needed_below : (u : ChainState) (stage : Stage) (t : ℕ) → u.at.stance.track < n → track_needed u stage ≡ Some t → t < n
   needed_below u (stages.Looks look) t below is = let same : u.at.stance.track ≡ t = cc in omega (arith, same, below)
   needed_below u stages.Over t below is = absurd (cc)
   needed_below u (stages.Asks act) t below is = absurd (cc)
@@ -92,7 +92,7 @@ module _ (k : ℕ) (some : 0 < k) where
   on_is_within chain on =
       let u = opened_on chain on in
       record {
-        needs = λ t e. needed_below (opened chain) (stage_of chain) t u.at.track e;
+        needs = λ t e. needed_below (chain_opened chain) (stage_of chain) t u.at.track e;
         used = on.at.extent;
         extent = u.at.extent;
       }
@@ -138,7 +138,7 @@ module _ (k : ℕ) (some : 0 < k) where
   settled_on chain how on = behind_on chain (settled_by chain how) on (settled_place chain how on)
 
   -- a step
-  turned_on : (u : ChainState) (z : Stance) (t : Turned) → ChainIsOn k u → On n z → ChainIsOn k (turned_by u z t).chain
+  turned_on : (u : ChainState) (z : Stance) (t : Turned) → ChainIsOn k u → On n z → ChainIsOn k (step_turned u z t).chain
   turned_on u z (turns.Ended e) on f = behind_on u (record { stance = z; ending = e }) on f
   turned_on u z turns.Onward on f = record { cylinders_are = on.cylinders_are; at = f; before = on.before; stage = on.stage }
   turned_on u z (turns.Edits edit e) on f = record { cylinders_are = on.cylinders_are; at = f; before = on.before; stage = tt }
@@ -158,7 +158,7 @@ module _ (k : ℕ) (some : 0 < k) where
   step_on u image (stages.Asks act) is on = on
 
   pub stepped_on : (chain : ChainState) (image : Option Image) → ChainIsOn k chain → ChainIsOn k (stepped chain image).chain
-  stepped_on chain image on = step_on (opened chain) image (stage_of chain) (begun_is chain chain.stage refl) (opened_on chain on)
+  stepped_on chain image on = step_on (chain_opened chain) image (stage_of chain) (begun_is chain chain.stage refl) (opened_on chain on)
 
-  pub again_on : (chain : ChainState) → ChainIsOn k chain → ChainIsOn k (again_from (opened chain))
+  pub again_on : (chain : ChainState) → ChainIsOn k chain → ChainIsOn k (again_from (chain_opened chain))
   again_on chain on = let u = opened_on chain on in record { cylinders_are = u.cylinders_are; at = u.before; before = u.before; stage = tt }

@@ -50,7 +50,7 @@ use Rattle.device_defs.specs.Memory.{had_by}
 use Rattle.device_defs.specs.Orders as O
 use Rattle.device_defs.specs.Orders.{with_tracks, lent_to, given_up, lend}
 use Rattle.device_defs.specs.Outcomes.{Turn, ends_with, settles, checks, wrote_turn, usage_of, sense_kept, program_over, turned_by}
-use Rattle.device_defs.specs.Owed.{hear, waiting_count, ended}
+use Rattle.device_defs.specs.Owed.{hear, waiting_count, noted_end}
 use Rattle.device_defs.specs.Second.{second_part}
 use Rattle.device_defs.specs.Store.{Origin, OfCommand, OfCut, OfBackground, HalfWrite, Store, tracks_of, is_lost}
 use Rattle.device_laws.proofs.Always.{Always, always_done, always_try, always_then}
@@ -167,7 +167,7 @@ module _ {F P H R : Type 0} (c : Contents F P H R) (k : ℕ) (some : 0 < k) wher
   quiet_on : {A : Type 0} (d : Device F P H) (body : Device F P H → Interaction R Image (Device F P H) A) → Leaves (body (event_begun d)) →
       Leaves (quiet_event c d body)
   quiet_on d body does =
-      always_then does (λ y a g. always_then (always_any (ended c (waiting_count c d.store) y.store)) (λ z _ _. always_done g))
+      always_then does (λ y a g. always_then (always_any (noted_end c (waiting_count c d.store) y.store)) (λ z _ _. always_done g))
 
   event_on : {A : Type 0} (d : Device F P H) (body : Device F P H → Interaction R Image (Device F P H) A) →
       ((s : Store F P H) → Leaves (body (record (event_begun d) { store = s }))) → Leaves (event c d body)

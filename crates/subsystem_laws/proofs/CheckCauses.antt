@@ -45,7 +45,7 @@ use Rattle.device_defs.specs.Events as E
 use Rattle.device_defs.specs.Events.{second_ended, second_of, second, lose, background, losing}
 use Rattle.device_defs.specs.Marks.{MarksDevice, MarksStore}
 use Rattle.device_defs.specs.Orders.{restore, replace, lend}
-use Rattle.device_defs.specs.Owed.{hear, waiting_count, ended}
+use Rattle.device_defs.specs.Owed.{hear, waiting_count, noted_end}
 use Rattle.device_defs.specs.Start as S
 use Rattle.device_defs.specs.Start.{start}
 use Rattle.device_defs.specs.Store.{HalfWrite, takes_b, has_level, stale_at, level_at}
@@ -57,12 +57,11 @@ use Rattle.device_laws.proofs.FailedCall.{IsWell, goes_same}
 use Rattle.device_laws.proofs.KeptEvents.{always_any}
 use Rattle.device_laws.proofs.KeptHistories.{count_more}
 use Rattle.device_laws.proofs.LossEvents.{begun_same}
-use Rattle.device_laws.proofs.LossLaws.{has_a}
 use Rattle.device_laws.proofs.Lucky.{top, Lucky, lucky_done, lucky_then, with_always, never_falls, where_none_failed}
 use Rattle.device_laws.proofs.Notices.{hearing_keeps_good}
 use Rattle.device_laws.proofs.TrackMarks.{marks_are_faithful}
 use Rattle.device_laws.proofs.Unchecked.{lucky_any}
-use Rattle.device_laws.proofs.Unlost.{Fine, core_of}
+use Rattle.device_laws.proofs.Unlost.{Fine, core_of, has_a}
 use Rattle.device_laws.proofs.UncheckedEvents.{equipment_checks, acts_same, command_unchecked_within}
 use Rattle.device_laws.proofs.UnlostParts.{hear_goes}
 use Rattle.subsystem_laws.specs.Causes.{call_failed, not_counted, none_takes, half_untried, track_lost, data_gone, checks_of, ChecksForCause}
@@ -126,7 +125,7 @@ module _ (n : ℕ) (d : MarksDevice) (w : IsWell by_plain d.store) (h : HalfWrit
       (lucky_then (λ s _. second_of by_plain (record (event_begun d) { store = s }) s.half)
       (with_always (hearing_keeps_good by_plain 960 (event_begun d).store front.well) (hear_goes by_plain 960 (event_begun d).store))
       (λ s _ g. half_checks s g.1 s.half (g.0.half ∙ is)))
-      (λ y a k. lucky_then (λ z _. Done (record y { store = z }) a) (lucky_any (ended by_plain (waiting_count by_plain d.store) y.store))
+      (λ y a k. lucky_then (λ z _. Done (record y { store = z }) a) (lucky_any (noted_end by_plain (waiting_count by_plain d.store) y.store))
       (λ z _ _. lucky_done k))
 
 -- Events in which calls may fail
@@ -203,7 +202,7 @@ module _ (d : MarksDevice) where
       always_then {p = λ (y : MarksDevice) _. equipment_checks y.history ≡ equipment_checks d.history}
       (always_then (always_any (hear by_plain 960 (event_begun d).store))
       (λ s _ _. always_then (always_any (losing by_plain s loss)) (λ z _ _. always_done (acts_same d.history z.acts))))
-      (λ y a g. always_then (always_any (ended by_plain (waiting_count by_plain d.store) y.store)) (λ z _ _. always_done g))
+      (λ y a g. always_then (always_any (noted_end by_plain (waiting_count by_plain d.store) y.store)) (λ z _ _. always_done g))
 
   pub loss_same : (loss : Loss) (t : CameTo (lose by_plain d loss)) → checks_of t.state ≡ checks_of d
   loss_same loss t = at (loss_unchecked loss) t

@@ -3,7 +3,7 @@ use Rattle.std.proofs.Common.{◌≡◌, ◌==◌, ℕ, Bool, true, false, not, 
 use Rattle.std.specs.Prelude.{if◌then◌else◌}
 use Rattle.ckd_types.specs.declared.paths.Side.{Side}
 use Rattle.loss_model.specs.declared.Loss.TheVariants as losses
-use Rattle.plain_defs.specs.History.{OpenEntry}
+use Rattle.plain_defs.specs.History.{OpenEntry, is_path_of}
 use Rattle.device_outside.specs.Pool.{cache_failed, store_failed, power_lost, all_waiting, cache_repaired, store_repaired}
 use Rattle.device_defs.specs.declared.answers.StartFault.{StartFault}
 use Rattle.device_defs.specs.Command.{command}
@@ -11,7 +11,7 @@ use Rattle.device_defs.specs.Contents.{by_plain}
 use Rattle.device_defs.specs.Cutting.{reset, power}
 use Rattle.device_defs.specs.Events.{lose, background}
 use Rattle.device_defs.specs.Marks.{MarksDevice}
-use Rattle.device_defs.specs.Orders.{hold, resume}
+use Rattle.device_defs.specs.Orders.{hold_side, resume}
 use Rattle.device_defs.specs.Start.{start_fault, start, next_ordinal}
 use Rattle.device_defs.specs.Store.{HalfWrite}
 use Rattle.subsystem_defs.specs.declared.end.EventEnd.{EventEnd}
@@ -19,7 +19,7 @@ use Rattle.subsystem_defs.specs.declared.end.EventEnd.TheVariants as ends
 use Rattle.subsystem_defs.specs.declared.end.OrderFault.{OrderFault}
 use Rattle.subsystem_defs.specs.declared.event.Event.{Event}
 use Rattle.subsystem_defs.specs.declared.event.Event.TheVariants as events
-use Rattle.subsystem_defs.specs.Calm.{is_loss}
+use Rattle.subsystem_defs.specs.Calm.{is_loss_event}
 use Rattle.subsystem_defs.specs.Deeds as E
 use Rattle.subsystem_defs.specs.Deeds.{
   back,
@@ -35,7 +35,6 @@ use Rattle.subsystem_defs.specs.Deeds.{
   on_device,
   starts,
   start_by,
-  is_own,
   step,
   seconds,
   ends_by,
@@ -67,7 +66,7 @@ module _ (s : Subsystem) (Kept : Event → MarksDeed → Type 0) where
     pub ended : (e : Event) (end : EventEnd) → Kept e (Ends end)
     pub started : (path n : ℕ) (d : MarksDevice) → Stands s d → start_fault d path ≡ None →
         Kept (events.Start path n) (Becomes (start d path) (ends.Started (next_ordinal d path)))
-    pub seconded : (e : Event) → is_loss e ≡ false → (d : MarksDevice) → Stands s d → (h : HalfWrite (Unit {0})) → d.store.half ≡ Some h →
+    pub seconded : (e : Event) → is_loss_event e ≡ false → (d : MarksDevice) → Stands s d → (h : HalfWrite (Unit {0})) → d.store.half ≡ Some h →
         Kept e (seconds by_plain d)
     pub commanded : (n : ℕ) (d : MarksDevice) → Stands s d → d.store.half ≡ None → (o : OpenEntry) → d.history.running ≡ Some o →
         Kept (events.Step n) (Asks d (may_end_by ends.Stepped (command by_plain d)))
@@ -81,7 +80,7 @@ module _ (s : Subsystem) (Kept : Event → MarksDeed → Type 0) where
     pub repaired_cache : Kept events.RepairCache (Repairs (cache_repaired s.pool))
     pub repaired_store : Kept events.RepairStore (Repairs (store_repaired s.pool))
     pub lent : (a b : ℕ) (x y : MarksDevice) → Stands s x → Stands s y → pair_fault x y ≡ None → Kept (events.Pair a b) (Lends x y)
-    pub held : (n : ℕ) (d : MarksDevice) → Stands s d → suspend_fault d ≡ None → Kept (events.Suspend n) (Becomes (hold d) ends.Done)
+    pub held : (n : ℕ) (d : MarksDevice) → Stands s d → suspend_fault d ≡ None → Kept (events.Suspend n) (Becomes (hold_side d) ends.Done)
     pub resumed : (n : ℕ) (d : MarksDevice) → Stands s d → resume_fault d ≡ None → Kept (events.Resume n) (Becomes (resume d) ends.Done)
 
   -- a record round it, so that event and deed can be inferred
@@ -134,7 +133,7 @@ module _ (s : Subsystem) (Kept : Event → MarksDeed → Type 0) where
     unfolding E.deed
     deed_by (events.Start path n) =
         at_device (events.Start path n) n (starts path)
-        (λ d here. deed_if (is_own path d.history.running) (record { is = k.ended (events.Start path n) ends.Running })
+        (λ d here. deed_if (is_path_of d.history.running path) (record { is = k.ended (events.Start path n) ends.Running })
         (starts_by path n d (stood n d here) (start_fault d path) refl))
     deed_by (events.Step n) = at_device (events.Step n) n (step by_plain) (λ d here. step_by n d (stood n d here) d.store.half refl)
     deed_by (events.Back n) = at_device (events.Back n) n (back by_plain) (λ d here. back_by n d (stood n d here) d.store.half refl)
@@ -156,7 +155,7 @@ module _ (s : Subsystem) (Kept : Event → MarksDeed → Type 0) where
         (λ y at_y. at_device (events.Pair a b) b (λ z. order (pair_fault y z) (Lends y z))
         (λ z at_z. ordered (events.Pair a b) (pair_fault y z) (λ fault. record { is = k.lent a b y z (stood a y at_y) (stood b z at_z) fault })))
     deed_by (events.Suspend n) =
-        at_device (events.Suspend n) n (λ d. order (suspend_fault d) (Becomes (hold d) ends.Done))
+        at_device (events.Suspend n) n (λ d. order (suspend_fault d) (Becomes (hold_side d) ends.Done))
         (λ d here. ordered (events.Suspend n) (suspend_fault d) (λ fault. record { is = k.held n d (stood n d here) fault }))
     deed_by (events.Resume n) =
         at_device (events.Resume n) n (λ d. order (resume_fault d) (Becomes (resume d) ends.Done))
@@ -184,7 +183,7 @@ module _ (s : Subsystem) (Kept : MarksDeed → Type 0) where
     pub repaired_cache : Kept (Repairs (cache_repaired s.pool))
     pub repaired_store : Kept (Repairs (store_repaired s.pool))
     pub lent : (x y : MarksDevice) → Stands s x → Stands s y → pair_fault x y ≡ None → Kept (Lends x y)
-    pub held : (d : MarksDevice) → Stands s d → suspend_fault d ≡ None → Kept (Becomes (hold d) ends.Done)
+    pub held : (d : MarksDevice) → Stands s d → suspend_fault d ≡ None → Kept (Becomes (hold_side d) ends.Done)
     pub resumed : (d : MarksDevice) → Stands s d → resume_fault d ≡ None → Kept (Becomes (resume d) ends.Done)
 
   eventwise : IsDeedwise → IsEventwise s (λ e. Kept)

@@ -8,7 +8,7 @@ use Rattle.device_defs.specs.Contents.{by_plain}
 use Rattle.device_defs.specs.Events.{lose}
 use Rattle.device_defs.specs.Excused.{IsExcused}
 use Rattle.device_defs.specs.Marks.{MarksDevice, new_device}
-use Rattle.device_defs.specs.Orders.{hold, join, replace, restore, resume, split}
+use Rattle.device_defs.specs.Orders.{hold_side, join, replace, restore, resume, split}
 use Rattle.device_defs.specs.Start.{start}
 use Rattle.device_laws.specs.Unharmed.{LossesAreCounted}
 use Rattle.device_laws.proofs.LossLaws.{counted_excuse}
@@ -151,8 +151,8 @@ about_excusable (about.lost_power {d = d} b t) =
     next d t.state x (all_kept.lost_power d x.kept t) (L.power_counts d t) (X.power_made d t) (λ p s lt. power_explained d t)
 about_excusable (about.held {d = d} b fault) =
     let x = about_excusable b in
-    ordered d (hold d) x (all_kept.held d fault x.kept) (L.kept_still d (hold d) refl refl)
-    (λ never. X.same_but d (hold d) refl refl refl refl refl refl) (E.same_grows d (hold d) refl)
+    ordered d (hold_side d) x (all_kept.held d fault x.kept) (L.kept_still d (hold_side d) refl refl)
+    (λ never. X.same_but d (hold_side d) refl refl refl refl refl refl) (E.same_grows d (hold_side d) refl)
 about_excusable (about.resumed {d = d} b pair) =
     let x = about_excusable b in
     ordered d (resume d) x (all_kept.resumed d pair x.kept) (L.kept_still d (resume d) refl refl)

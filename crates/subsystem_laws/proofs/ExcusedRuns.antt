@@ -48,7 +48,7 @@ use Rattle.device_defs.specs.Cutting.{reset, power}
 use Rattle.device_defs.specs.Events.{second, lose, background}
 use Rattle.device_defs.specs.Excused.{unexplained_item, unexplained}
 use Rattle.device_defs.specs.Marks.{MarksDevice}
-use Rattle.device_defs.specs.Orders.{hold, resume, replace, restore, join, split, lend}
+use Rattle.device_defs.specs.Orders.{hold_side, resume, replace, restore, join, split, lend}
 use Rattle.device_defs.specs.Start as S
 use Rattle.device_defs.specs.Start.{start, next_ordinal}
 use Rattle.device_laws.proofs.Always as A
@@ -116,6 +116,8 @@ lost_bears l = record {
   loses = λ x t h q e. still_lost x.lost t q (h q e);
   fails = λ x h. h;
   falls = λ x side pair h. by_side x side h;
+  queues = λ x room h. h;
+  dequeues = λ x n less h. h;
 }
   where
     by_side : (x : Facts) (side : Side) → LostSince l x → LostSince l (fallen side (failed_more x))
@@ -346,7 +348,7 @@ made_deeds s = record {
   repaired_cache = tt;
   repaired_store = tt;
   lent = λ x y z w fault. (seat_of s y w, lend_still y x.store.device);
-  held = λ d x fault. becomes_so Still Made s d x (hold d) refl (λ n. same_but d (hold d) refl refl refl refl refl refl) ends.Done;
+  held = λ d x fault. becomes_so Still Made s d x (hold_side d) refl (λ n. same_but d (hold_side d) refl refl refl refl refl refl) ends.Done;
   resumed = λ d x fault. becomes_so Still Made s d x (resume d) refl (λ n. same_but d (resume d) refl refl refl refl refl refl) ends.Done;
 }
 

@@ -59,7 +59,7 @@ use Rattle.device_defs.specs.Events.{second_ended, second_of, second, lose, back
 use Rattle.device_defs.specs.Second.{second_part}
 use Rattle.device_defs.specs.Excused.{LastCommand, is_write, is_checked, is_equipment_check, has_lost, last_command}
 use Rattle.device_defs.specs.Marks.{MarksDevice}
-use Rattle.device_defs.specs.Owed.{begun, waiting_count, ended}
+use Rattle.device_defs.specs.Owed.{noted_begin, waiting_count, noted_end}
 use Rattle.device_defs.specs.Store.{Origin, OfCommand, OfCut, OfBackground, HalfWrite, stale_at, level_at, takes_b, some_up}
 use Rattle.device_laws.specs.Unharmed.{ends_with_equipment_check}
 use Rattle.device_laws.proofs.Always.{Always, always_done, always_then}
@@ -78,7 +78,7 @@ use Rattle.device_laws.proofs.TouchedTracks.{command_touched}
 use Rattle.device_laws.proofs.TrackMarks.{marks_are_faithful}
 use Rattle.device_laws.proofs.UncheckedEvents.{equipment_checks, acts_same}
 use Rattle.device_laws.proofs.Unlost.{Fine, core_of}
-use Rattle.device_laws.proofs.UnlostEvents.{command_goes_within}
+use Rattle.device_laws.proofs.invariants.NoTrackIsLost as N
 use Rattle.device_laws.proofs.WriteLooks.{edited_is_write}
 use Rattle.subsystem_defs.specs.Beside.{behind_first, new_items}
 use Rattle.subsystem_defs.specs.Promised.{empty_of, explains, explained_first, explained_on}
@@ -94,7 +94,7 @@ use Rattle.std.proofs.Common.{◌≡◌, ◌∙◌}
 use Rattle.std.specs.Prelude.{All}
 use Rattle.deck_text.specs.DeckLines.{DeckLines}
 use Rattle.loss_model.specs.declared.Loss.TheVariants as losses
-use Rattle.device_defs.specs.Orders.{hold, resume, replace, lend, join, split}
+use Rattle.device_defs.specs.Orders.{hold_side, resume, replace, lend, join, split}
 use Rattle.device_defs.specs.Start.{start, next_ordinal}
 use Rattle.subsystem_defs.specs.declared.end.EventEnd.TheVariants as ends
 use Rattle.subsystem_defs.specs.Decks.{run_of}
@@ -294,7 +294,7 @@ module _ (d : MarksDevice) (f : Fair d) (p : Plainly d) (s : Steered d) (lt : d.
             has_lost y.store.lost (last_command d.plans (replay d.plans (empty_of d) d.history.items) e).touched ≡ true
         lost_behind y same t at_y e tells lost =
             let fine = at (where_none_failed (λ z _. Fine (core_of d.store) (core_of z.store)) (command_based by_plain d) lt
-            (command_goes_within by_plain marks_are_faithful d (within d f.good) (f.good.well (runs_home d f.good o running)) whole)) t
+            (N.command_goes by_plain marks_are_faithful d (f.good.well (runs_home d f.good o running)))) t
             (ap (λ (z : MarksDevice). z.store.counts.failed) at_y ∙ same) in
             ap (λ (l : List ℕ). has_lost y.store.lost l) tells.touched
             ∙ ap (λ (l : List Bool). has_lost l (its_effect p.number (empty_of d) d (plainly_of d p) o running chain is).touched)
@@ -361,13 +361,13 @@ module _ (d : MarksDevice) (f : Fair d) (p : Plainly d) (s : Steered d) (lt : d.
     unfolding E.second
     other_same other =
         had_then
-        (had_then (hear_same 960 (begun d.store))
+        (had_then (hear_same 960 (noted_begin d.store))
         (λ z _ e. subst (λ (x : Option (HalfWrite (Unit {0}))). Had (second_of by_plain (record (event_begun d) { store = z }) x)
         (λ y (_ : SecondEnd). equipment_checks y.history ≡ equipment_checks d.history))
         (sym (ap (λ (c : Core). c.half) e ∙ there))
         (had_then (had_always (always_any (second_part by_plain z h)))
         (λ y done _. other_ends (with_store (record (event_begun d) { store = z }) y) done h.origin other (acts_same d.history y.acts)))))
-        (λ y a g. had_then (had_always (always_any (ended by_plain (waiting_count by_plain d.store) y.store))) (λ z _ _. had_done g))
+        (λ y a g. had_then (had_always (always_any (noted_end by_plain (waiting_count by_plain d.store) y.store))) (λ z _ _. had_done g))
 
     by_origin : (origin : Origin) → h.origin ≡ origin → not (some_up d.store) ≡ true → (t : CameTo (second by_plain d)) →
         Grows d.history t.state.history → explained_on d t.state ≡ true
@@ -442,7 +442,7 @@ module _ (d : MarksDevice) where
       always_then
       (always_then (always_any (half_cut by_plain (event_begun d).store (event_begun d).store.half))
       (λ z _ _. always_done (power_grows d.history (counts_one_by d.store.half) d.history.running)))
-      (λ y a g. always_then (always_any (ended by_plain (waiting_count by_plain d.store) y.store)) (λ z _ _. always_done g))
+      (λ y a g. always_then (always_any (noted_end by_plain (waiting_count by_plain d.store) y.store)) (λ z _ _. always_done g))
 
   pub power_explained : (t : CameTo (power by_plain d)) → explained_on d t.state ≡ true
   power_explained t = explained_same d t.state (at power_growing t) (power_same d t)
@@ -526,7 +526,7 @@ deeds_explain s q = record {
   repaired_cache = tt;
   repaired_store = tt;
   lent = λ x y z w fault. (seat_of s y w, lend_adds y x.store.device);
-  held = λ d x fault. becomes_so AddsNone Explains s d x (hold d) refl (same_grows d (hold d) refl) ends.Done;
+  held = λ d x fault. becomes_so AddsNone Explains s d x (hold_side d) refl (same_grows d (hold_side d) refl) ends.Done;
   resumed = λ d x fault. becomes_so AddsNone Explains s d x (resume d) refl (same_grows d (resume d) refl) ends.Done;
 }
 

@@ -25,13 +25,11 @@ use Rattle.device_defs.specs.Store.{patch_at, side_of}
 use Rattle.device_laws.specs.Unharmed.{CacheKept, IsFramed, IsUncached}
 use Rattle.device_laws.proofs.Based.{Base, Any, Based, kept, based_any}
 use Rattle.device_laws.proofs.BasedEvents.{base_in, with_one_loss, command_based, second_based, background_based, lose_based, power_based, reset_body}
-use Rattle.device_laws.proofs.FramesEvents.{steady_tried, command_frames, second_event_frames, background_frames}
 use Rattle.device_laws.proofs.FramesKept.{plates_of, HasFrames}
 use Rattle.device_laws.proofs.FramesLaws.{
   framed_frames,
   framed_steady,
   framed_behind,
-  reset_framed,
   lose_store_framed,
   started_uncached,
   held_uncached,
@@ -40,12 +38,13 @@ use Rattle.device_laws.proofs.FramesLaws.{
   excused_tracks,
 }
 use Rattle.device_laws.proofs.Harmless.{reset_goes}
+use Rattle.device_laws.proofs.invariants.PatchesHaveFrames.{command_frames, second_event_frames, background_frames, reset_frames}
 use Rattle.device_laws.proofs.LossLaws.{some_counted, kept_counts}
 use Rattle.device_laws.proofs.Lucky.{Lucky, top, failed_in, never_falls, where_none_failed}
 use Rattle.device_laws.proofs.TrackMarks.{marks_are_faithful}
 use Rattle.device_laws.proofs.Unchecked.{lucky_both}
-use Rattle.device_laws.proofs.Unlost.{core_of, Fine}
-use Rattle.device_laws.proofs.UnlostEvents.{command_goes_within, background_goes, second_event_goes}
+use Rattle.device_laws.proofs.Unlost.{core_of, Fine, steady_tried}
+use Rattle.device_laws.proofs.invariants.NoTrackIsLost.{command_goes, background_goes, second_event_goes}
 use Rattle.subsystem_defs.specs.Decks as D
 use Rattle.subsystem_defs.specs.Decks.{opened_device, opened, run_of}
 use Rattle.subsystem_defs.specs.Lines.{asked_by}
@@ -107,8 +106,8 @@ module _ (d : MarksDevice) (f : Framed d) where
             let was = home_before d y (at (stays_still x) t).2 false home in
             let well = f.fair.good.well was in
             uncached_at (command by_plain d) x was
-            (λ w g. lucky_both (command_goes_within by_plain marks_are_faithful d (within d f.fair.good) well none)
-            (command_frames by_plain marks_are_faithful d (within d f.fair.good) well none g)) t;
+            (λ w g. lucky_both (command_goes by_plain marks_are_faithful d well)
+            (command_frames by_plain marks_are_faithful d none g)) t;
       }
 
   second_framed : LeavesSo Fair (second by_plain d) → LeavesSo Framed (second by_plain d)
@@ -123,7 +122,7 @@ module _ (d : MarksDevice) (f : Framed d) where
             uncached_at (second by_plain d) x was
             (λ w g. let steady = framed_steady by_plain d.store w in
             lucky_both (second_event_goes by_plain marks_are_faithful d well (steady_tried d.store steady))
-            (second_event_frames by_plain marks_are_faithful d well steady g)) t;
+            (second_event_frames by_plain marks_are_faithful d (steady_tried d.store steady) g)) t;
       }
 
   background_framed : LeavesSo Fair (background by_plain d) → d.store.half ≡ None → LeavesSo Framed (background by_plain d)
@@ -136,7 +135,7 @@ module _ (d : MarksDevice) (f : Framed d) where
             let was = home_before d y (at (stays_still x) t).2 false home in
             let well = f.fair.good.well was in
             uncached_at (background by_plain d) x was
-            (λ w g. lucky_both (background_goes by_plain marks_are_faithful d well) (background_frames by_plain marks_are_faithful d well none g)) t;
+            (λ w g. lucky_both (background_goes by_plain marks_are_faithful d well) (background_frames by_plain marks_are_faithful d none g)) t;
       }
 
   cut_framed : (path : ℕ) → LeavesSo Fair (reset by_plain d path) → LeavesSo Framed (reset by_plain d path)
@@ -147,7 +146,8 @@ module _ (d : MarksDevice) (f : Framed d) where
         fair = fair t;
         un = λ home.
             uncached_at (reset by_plain d path) x (home_before d y (at (stays_still x) t).2 false home)
-            (λ w g. lucky_both (reset_goes by_plain marks_are_faithful d path) (reset_framed by_plain d path g)) t;
+            (λ w g. lucky_both (reset_goes by_plain marks_are_faithful d path)
+            (reset_frames by_plain marks_are_faithful d path (steady_tried d.store (framed_steady by_plain d.store w)) g)) t;
       }
 
   power_framed : LeavesSo Fair (power by_plain d) → LeavesSo Framed (power by_plain d)

@@ -20,10 +20,10 @@ use Rattle.device_defs.specs.Contents.{by_plain}
 use Rattle.device_defs.specs.Cutting.{reset, power}
 use Rattle.device_defs.specs.Events.{second, lose, background}
 use Rattle.device_defs.specs.Marks.{MarksDevice, MarksStore, new_store, new_device}
-use Rattle.device_defs.specs.Orders.{join, split, restore, hold, resume, replace, lend}
+use Rattle.device_defs.specs.Orders.{join, split, restore, hold_side, resume, replace, lend}
 use Rattle.device_defs.specs.Start as S
 use Rattle.device_defs.specs.Start.{fault_by, start_fault, start, next_program}
-use Rattle.device_defs.specs.Store.{HalfWrite, tracks_of, stale_at, is_lost, half_is, side_of, fixed_of}
+use Rattle.device_defs.specs.Store.{HalfWrite, tracks_of, stale_at, is_lost, half_is, side_of, store_fixed}
 use Rattle.device_laws.specs.Standing.{IsWithin}
 use Rattle.device_laws.specs.Unharmed.{MarksAreGood}
 use Rattle.device_laws.proofs.BasedEvents.{command_based, second_based, background_based, lose_based, power_based, reset_body}
@@ -167,7 +167,7 @@ module _ (d : MarksDevice) (g : Good d) where
   unfolding S.start S.start_fault
   start_good path e = record {
     some = g.some;
-    chain = begins_on d.store.cylinders g.some (next_program d path) (fixed_of d.store) refl;
+    chain = begins_on d.store.cylinders g.some (next_program d path) (store_fixed d.store) refl;
     well = g.well;
     gone = λ away. not_both (is_some d.store.lent) away (start_home d path d.store.lent e);
   }
@@ -200,7 +200,7 @@ module _ (d : MarksDevice) (g : Good d) where
   not_single : {X : Type 0} → d.store.paired ≡ true → is_some d.store.lent ≡ true → X
   not_single paired away = not_both d.store.paired paired (g.gone away).store.single
 
-  hold_good : suspend_fault d ≡ None → Good (hold d)
+  hold_good : suspend_fault d ≡ None → Good (hold_side d)
   unfolding R.suspend_fault
   hold_good e = record {
     some = g.some;

@@ -3,6 +3,7 @@ pub mod RunLines
 pub mod DeedWalk
 pub mod Came
 pub mod LendBase
+pub mod HadAnswers
 pub mod Walks
 pub mod PlainRuns
 pub mod ReadDecks

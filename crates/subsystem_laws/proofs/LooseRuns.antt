@@ -17,7 +17,7 @@ use Rattle.device_defs.specs.Contents.{by_plain}
 use Rattle.device_defs.specs.Cutting.{reset, power}
 use Rattle.device_defs.specs.Events.{second, lose, background}
 use Rattle.device_defs.specs.Marks.{MarksDevice}
-use Rattle.device_defs.specs.Orders.{join, split, restore, hold, resume, replace, lend}
+use Rattle.device_defs.specs.Orders.{join, split, restore, hold_side, resume, replace, lend}
 use Rattle.device_defs.specs.Start as S
 use Rattle.device_defs.specs.Start.{start, next_ordinal}
 use Rattle.device_laws.specs.Unharmed.{all_losses, running_losses, LossesAreCounted}
@@ -196,7 +196,7 @@ counted_deeds s = record {
   repaired_cache = tt;
   repaired_store = tt;
   lent = λ x y z w fault. (seat_of s y w, lend_still y x.store.device);
-  held = λ d x fault. becomes_so Still Counted s d x (hold d) refl (kept_still d (hold d) refl refl) ends.Done;
+  held = λ d x fault. becomes_so Still Counted s d x (hold_side d) refl (kept_still d (hold_side d) refl refl) ends.Done;
   resumed = λ d x fault. becomes_so Still Counted s d x (resume d) refl (kept_still d (resume d) refl refl) ends.Done;
 }
 

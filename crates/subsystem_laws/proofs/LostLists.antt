@@ -18,7 +18,7 @@ use Rattle.device_defs.specs.Contents.{by_plain}
 use Rattle.device_defs.specs.Cutting.{reset, power}
 use Rattle.device_defs.specs.Events.{second, lose, background}
 use Rattle.device_defs.specs.Marks.{MarksDevice}
-use Rattle.device_defs.specs.Orders.{lend, replace, hold, resume}
+use Rattle.device_defs.specs.Orders.{lend, replace, hold_side, resume}
 use Rattle.device_defs.specs.Start as S
 use Rattle.device_defs.specs.Start.{start, next_ordinal}
 use Rattle.device_defs.specs.Store.{HalfWrite, takes_b, has_level}
@@ -29,7 +29,8 @@ use Rattle.device_laws.proofs.Harmless.{reset_goes}
 use Rattle.device_laws.proofs.Lucky.{where_none_failed}
 use Rattle.device_laws.proofs.TrackMarks.{marks_are_faithful}
 use Rattle.device_laws.proofs.Unlost.{Fine, core_of}
-use Rattle.device_laws.proofs.UnlostEvents.{DeviceGoes, command_goes_within, background_goes, second_event_goes}
+use Rattle.device_laws.proofs.UnlostParts.{DeviceGoes}
+use Rattle.device_laws.proofs.invariants.NoTrackIsLost.{command_goes, background_goes, second_event_goes}
 use Rattle.subsystem_laws.specs.Came.{CameTo}
 use Rattle.subsystem_laws.proofs.Came.{at}
 use Rattle.subsystem_laws.proofs.GoodMarks.{good_kept, by_lent, runs_home, half_home, within}
@@ -59,7 +60,7 @@ module _ (d : MarksDevice) (f : Fair d) where
   command_loses : (o : OpenEntry) → d.history.running ≡ Some o → d.store.half ≡ None → (t : CameTo (command by_plain d)) → LosesForCause d t.state
   command_loses o running whole t =
       where_kept (command by_plain d) (command_based by_plain d)
-      (command_goes_within by_plain marks_are_faithful d (within d f.good) (f.good.well (runs_home d f.good o running)) whole) t
+      (command_goes by_plain marks_are_faithful d (f.good.well (runs_home d f.good o running))) t
 
   second_loses : (h : HalfWrite (Unit {0})) → d.store.half ≡ Some h → (t : CameTo (second by_plain d)) → LosesForCause d t.state
   second_loses h is t =
@@ -132,7 +133,7 @@ deeds_lose s p = record {
   repaired_cache = tt;
   repaired_store = tt;
   lent = λ x y z w fault. (seat_of s y w, lend_loses x y fault (fair_of s p x z) (fair_of s p y w));
-  held = λ d x fault. becomes_so LosesNone LosesForCause s d x (hold d) refl (λ q lost. lost) ends.Done;
+  held = λ d x fault. becomes_so LosesNone LosesForCause s d x (hold_side d) refl (λ q lost. lost) ends.Done;
   resumed = λ d x fault. becomes_so LosesNone LosesForCause s d x (resume d) refl (λ q lost. lost) ends.Done;
 }
 

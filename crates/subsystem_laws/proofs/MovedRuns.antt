@@ -5,6 +5,7 @@ use Rattle.ckd_types.specs.declared.paths.Side.{Side}
 use Rattle.deck_text.specs.DeckLines.{DeckLines}
 use Rattle.loss_model.specs.declared.Loss.TheVariants as losses
 use Rattle.track_image.specs.Image.{Image}
+use Rattle.plain_defs.specs.History.{is_path_of}
 use Rattle.device_outside.specs.Interaction.{Done}
 use Rattle.device_outside.specs.Pool.{all_waiting}
 use Rattle.device_defs.specs.declared.answers.Did.{Did}
@@ -33,7 +34,6 @@ use Rattle.subsystem_defs.specs.Deeds.{
   order,
   starts,
   start_by,
-  is_own,
   step,
   back,
   ends_by,
@@ -43,7 +43,7 @@ use Rattle.subsystem_defs.specs.Deeds.{
 }
 use Rattle.subsystem_defs.specs.Happening as H
 use Rattle.subsystem_defs.specs.Happening.{
-  Happened,
+  EventHappened,
   MarksDeed,
   Talk,
   told_to,
@@ -202,7 +202,7 @@ module _ (s : Subsystem) where
   event_moves : (e : Event) → EventTransfers e s (happens s e).end (happens s e).reads (happens s e).writes
   unfolding H.happens E.deed
   event_moves (events.Start path d) =
-      (still_at d (starts path) (λ x at. still_if (is_own path x.history.running) (quiet _ (refl, refl)) (still_start x path (start_fault x path)))).is
+      (still_at d (starts path) (λ x at. still_if (is_path_of x.history.running path) (quiet _ (refl, refl)) (still_start x path (start_fault x path)))).is
   event_moves (events.Step d) = step_happens d
   event_moves (events.Back d) = back_happens d
   event_moves (events.Reset path d) =

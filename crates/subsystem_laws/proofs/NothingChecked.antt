@@ -23,7 +23,7 @@ use Rattle.device_defs.specs.declared.counts.Counts.{Counts}
 use Rattle.device_defs.specs.Excused.{losses_of, loose_losses}
 use Rattle.device_defs.specs.Orders as O
 use Rattle.device_defs.specs.Orders.{restore, replace, with_tracks, lent_to, given_up, lend}
-use Rattle.device_defs.specs.Owed.{waiting_count, ended}
+use Rattle.device_defs.specs.Owed.{waiting_count, noted_end}
 use Rattle.device_defs.specs.Store.{HalfWrite, tracks_of, takes_b}
 use Rattle.device_defs.specs.Device.{event_begun, quiet_event}
 use Rattle.device_defs.specs.Losses.{over}
@@ -76,7 +76,7 @@ one_more_item (x ∷ xs) = ap (λ (n : ℕ). losses_of x + n) (one_more_item xs)
 quiet_past : {A : Type 0} (d : MarksDevice) (body : MarksDevice → Interaction Bool Image MarksDevice A) →
     Always (body (event_begun d)) (λ y _. y.history ≡ d.history) → Always (quiet_event by_plain d body) (λ y _. y.history ≡ d.history)
 quiet_past d body does =
-    always_then does (λ y a g. always_then (always_any (ended by_plain (waiting_count by_plain d.store) y.store)) (λ z _ _. always_done g))
+    always_then does (λ y a g. always_then (always_any (noted_end by_plain (waiting_count by_plain d.store) y.store)) (λ z _ _. always_done g))
 
 pub lend_past : (d : MarksDevice) (to : ℕ) → Always (lend by_plain d to) (λ y _. y.history ≡ d.history)
 unfolding O.lend

@@ -147,6 +147,8 @@ paid_bears = record {
     alone = p.alone;
   };
   falls = side_falls;
+  queues = λ x room p. record { pair = p.pair; alone = p.alone };
+  dequeues = λ x n less p. record { pair = p.pair; alone = p.alone };
 }
 
 -- A device that was never lent

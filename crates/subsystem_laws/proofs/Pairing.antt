@@ -12,41 +12,17 @@ use Rattle.device_defs.specs.Contents.{by_plain}
 use Rattle.device_defs.specs.Marks.{MarksDevice}
 use Rattle.device_defs.specs.Orders.{lend, join, split, restore, replace}
 use Rattle.device_defs.specs.Start as S
-use Rattle.device_defs.specs.Start.{start_fault, start, next_ordinal}
+use Rattle.device_defs.specs.Start.{start}
 use Rattle.subsystem_defs.specs.declared.end.EventEnd.{EventEnd}
 use Rattle.subsystem_defs.specs.declared.end.OrderFault.{OrderFault}
 use Rattle.subsystem_defs.specs.declared.event.Event.{Event}
 use Rattle.subsystem_defs.specs.declared.event.Event.TheVariants as events
-use Rattle.subsystem_defs.specs.Calm.{is_loss, asks_loss, fails_alone_by, fails_alone_of}
+use Rattle.subsystem_defs.specs.Calm.{is_loss_event, asks_loss, fails_alone_by, fails_alone_of}
 use Rattle.subsystem_defs.specs.Decks as D
-use Rattle.subsystem_defs.specs.Decks.{opened_device, opened, run_of}
+use Rattle.subsystem_defs.specs.Decks.{opened, run_of}
 use Rattle.subsystem_defs.specs.Deeds.{Ends, Becomes, Asks, Each, Repairs, Lends, deed}
 use Rattle.subsystem_defs.specs.Happening as H
-use Rattle.subsystem_defs.specs.Happening.{
-  Happened,
-  MarksDeed,
-  Talk,
-  held_with,
-  told_to,
-  mounted_behind,
-  behind_outcome,
-  joined,
-  lends,
-  is_lent_to,
-  restored_in,
-  asks,
-  becomes,
-  happens_by,
-  happens,
-  quietly,
-  sweep,
-  replaced_by,
-  replaced_at,
-  replaced,
-  unpaired_by,
-  unpaired_at,
-  unpaired,
-}
+use Rattle.subsystem_defs.specs.Happening.{EventHappened, MarksDeed, Talk, held_with, told_to, mounted_behind, behind_outcome, joined, lends, is_lent_to, restored_in, asks, becomes, happens_by, happens, sweep, replaced_by, replaced_at, replaced, unpaired_by, unpaired_at, unpaired}
 use Rattle.subsystem_defs.specs.Lines.{Logged, Replace, Unpair, logged, asked_by}
 use Rattle.subsystem_defs.specs.Refusals.{replace_fault, unpair_fault}
 use Rattle.subsystem_defs.specs.Subsystem.{Mounted, Subsystem, number_of, devices_of, mounted_in, put_in, with_calls, unfailing}
@@ -62,11 +38,11 @@ use Rattle.subsystem_laws.proofs.Walks.{AreSo, device_so, mounted_so, event_so, 
 
 -- Devices before and behind, pair by pair
 
-abbrev Pairs : (MarksDevice → MarksDevice → Type 0) → List Mounted → List Mounted → Type 0
+abbrev pub Pairs : (MarksDevice → MarksDevice → Type 0) → List Mounted → List Mounted → Type 0
 Pairs r ms ks = EachPair r (map (λ (m : Mounted). m.device) ms) (map (λ (m : Mounted). m.device) ks)
 
 module _ (r : MarksDevice → MarksDevice → Type 0) (own : (d : MarksDevice) → r d d) where
-  pairs_same : (ms : List Mounted) → Pairs r ms ms
+  pub pairs_same : (ms : List Mounted) → Pairs r ms ms
   pairs_same [] = tt
   pairs_same (m ∷ ms) = (own m.device, pairs_same ms)
 
@@ -78,7 +54,7 @@ module _ (r : MarksDevice → MarksDevice → Type 0) (own : (d : MarksDevice) �
   put_if n y m ms false h more = (own m.device, more h)
 
   -- another one in the place of a device
-  pairs_put : (n : ℕ) (y : Mounted) (ms : List Mounted) → ((k : Mounted) → mounted_in ms n ≡ Some k → r k.device y.device) → Pairs r ms (put_in ms n y)
+  pub pairs_put : (n : ℕ) (y : Mounted) (ms : List Mounted) → ((k : Mounted) → mounted_in ms n ≡ Some k → r k.device y.device) → Pairs r ms (put_in ms n y)
   pairs_put n y [] h = tt
   pairs_put n y (m ∷ ms) h = put_if n y m ms (number_of m == n) h (pairs_put n y ms)
 
@@ -88,23 +64,23 @@ module _ (r : MarksDevice → MarksDevice → Type 0) (own : (d : MarksDevice) �
   pairs_swept f h [] pool = tt
   pairs_swept f h (m ∷ ms) pool = (h m.device (told_came (f m.device) (told_to pool m)), pairs_swept f h ms (held_with pool m (f m.device)).told.pool)
 
-pairs_on : (r : MarksDevice → MarksDevice → Type 0) → ((x y z : MarksDevice) → r x y → r y z → r x z) → (xs ys zs : List MarksDevice) →
-    EachPair r xs ys → EachPair r ys zs → EachPair r xs zs
-pairs_on r on [] [] [] p q = tt
-pairs_on r on [] [] (z ∷ zs) p q = absurd q
-pairs_on r on [] (y ∷ ys) zs p q = absurd p
-pairs_on r on (x ∷ xs) [] zs p q = absurd p
-pairs_on r on (x ∷ xs) (y ∷ ys) [] p q = absurd q
-pairs_on r on (x ∷ xs) (y ∷ ys) (z ∷ zs) p q = (on x y z p.0 q.0, pairs_on r on xs ys zs p.1 q.1)
+pub pairs_on : (r q g : MarksDevice → MarksDevice → Type 0) → ((x y z : MarksDevice) → r x y → q y z → g x z) → (xs ys zs : List MarksDevice) →
+    EachPair r xs ys → EachPair q ys zs → EachPair g xs zs
+pairs_on r q g on [] [] [] p f = tt
+pairs_on r q g on [] [] (z ∷ zs) p f = absurd f
+pairs_on r q g on [] (y ∷ ys) zs p f = absurd p
+pairs_on r q g on (x ∷ xs) [] zs p f = absurd p
+pairs_on r q g on (x ∷ xs) (y ∷ ys) [] p f = absurd f
+pairs_on r q g on (x ∷ xs) (y ∷ ys) (z ∷ zs) p f = (on x y z p.0 f.0, pairs_on r q g on xs ys zs p.1 f.1)
 
-pairs_weaker : (r q : MarksDevice → MarksDevice → Type 0) → ((x y : MarksDevice) → r x y → q x y) → (xs ys : List MarksDevice) → EachPair r xs ys →
+pub pairs_weaker : (r q : MarksDevice → MarksDevice → Type 0) → ((x y : MarksDevice) → r x y → q x y) → (xs ys : List MarksDevice) → EachPair r xs ys →
     EachPair q xs ys
 pairs_weaker r q so [] [] p = tt
 pairs_weaker r q so [] (y ∷ ys) p = absurd p
 pairs_weaker r q so (x ∷ xs) [] p = absurd p
 pairs_weaker r q so (x ∷ xs) (y ∷ ys) p = (so x y p.0, pairs_weaker r q so xs ys p.1)
 
-some_is : (x y : Mounted) → Some x ≡ Some y → x ≡ y
+pub some_is : (x y : Mounted) → Some x ≡ Some y → x ≡ y
 some_is x y e = cc
 
 -- What orders and what a device's own event make of it
@@ -112,7 +88,7 @@ some_is x y e = cc
 -- an event is a loss, or one of a volume that is alone
 module _ (Still : MarksDevice → MarksDevice → Type 0) (Made : Bool → Bool → MarksDevice → MarksDevice → Type 0) where
   abbrev pub MadeBy : Subsystem → Event → MarksDevice → MarksDevice → Type 0
-  MadeBy s e = Made (is_loss e) (fails_alone_by s e)
+  MadeBy s e = Made (is_loss_event e) (fails_alone_by s e)
 
   abbrev pub KeepsEvent : Subsystem → Event → MarksDeed → Type 0
   KeepsEvent s e (Ends end) = ⊤
@@ -136,7 +112,7 @@ module _ (Still : MarksDevice → MarksDevice → Type 0) (Made : Bool → Bool 
     made_own : (lossy alone : Bool) (d : MarksDevice) → Made lossy alone d d
     made_own lossy alone d = k.made lossy alone d d (k.own d)
 
-    abbrev Shows : Bool → Bool → Happened → Type 0
+    abbrev Shows : Bool → Bool → EventHappened → Type 0
     Shows lossy alone h = EachPair (Made lossy alone) (devices_of h.before) (devices_of h.behind)
 
     still_shows : (lossy alone : Bool) (s : Subsystem) (ms : List Mounted) → Pairs Still s.mounted ms → Pairs (Made lossy alone) s.mounted ms
@@ -172,25 +148,25 @@ module _ (Still : MarksDevice → MarksDevice → Type 0) (Made : Bool → Bool 
     lends_shown s a d seat h (Some m) there =
         let o = held_with s.pool m (lend by_plain m.device a) in
         let z = behind_outcome s d.store.device o in
-        pairs_on Still k.on (devices_of s) (devices_of z) (devices_of (joined z a o.told.a (mounted_in z.mounted a)))
+        pairs_on Still Still Still k.on (devices_of s) (devices_of z) (devices_of (joined z a o.told.a (mounted_in z.mounted a)))
         (put_same s d.store.device m (mounted_behind o) there
         (subst (λ (x : MarksDevice). Still x (T.hold true (lend by_plain x a) (told_to s.pool m)).state) (sym (seat m there))
         (h (told_came (lend by_plain d a) (told_to s.pool m)))))
         (joined_shown z a o.told.a (mounted_in z.mounted a) refl)
 
-    happens_shown : (s : Subsystem) (e : Event) (x : MarksDeed) → KeepsEvent s e x → Shows (is_loss e) (fails_alone_by s e) (happens_by s x)
-    happens_shown s e (Ends end) h = pairs_same (MadeBy s e) (made_own (is_loss e) (fails_alone_by s e)) s.mounted
+    happens_shown : (s : Subsystem) (e : Event) (x : MarksDeed) → KeepsEvent s e x → Shows (is_loss_event e) (fails_alone_by s e) (happens_by s x)
+    happens_shown s e (Ends end) h = pairs_same (MadeBy s e) (made_own (is_loss_event e) (fails_alone_by s e)) s.mounted
     happens_shown s e (Becomes d end) h =
-        still_shows (is_loss e) (fails_alone_by s e) s (becomes s d.store.device (mounted_in s.mounted d.store.device) d).mounted
+        still_shows (is_loss_event e) (fails_alone_by s e) s (becomes s d.store.device (mounted_in s.mounted d.store.device) d).mounted
         (becomes_shown s d h (mounted_in s.mounted d.store.device))
-    happens_shown s e (Asks d talk) h = asks_shown (is_loss e) (fails_alone_by s e) s d h.0 talk h.1 (mounted_in s.mounted d.store.device)
-    happens_shown s e (Each pool f) h = pairs_swept (MadeBy s e) (made_own (is_loss e) (fails_alone_by s e)) f h s.mounted pool
-    happens_shown s e (Repairs pool) h = pairs_same (MadeBy s e) (made_own (is_loss e) (fails_alone_by s e)) s.mounted
+    happens_shown s e (Asks d talk) h = asks_shown (is_loss_event e) (fails_alone_by s e) s d h.0 talk h.1 (mounted_in s.mounted d.store.device)
+    happens_shown s e (Each pool f) h = pairs_swept (MadeBy s e) (made_own (is_loss_event e) (fails_alone_by s e)) f h s.mounted pool
+    happens_shown s e (Repairs pool) h = pairs_same (MadeBy s e) (made_own (is_loss_event e) (fails_alone_by s e)) s.mounted
     happens_shown s e (Lends a b) h =
-        still_shows (is_loss e) (fails_alone_by s e) s (lends s a.store.device b.store.device (mounted_in s.mounted b.store.device)).mounted
+        still_shows (is_loss_event e) (fails_alone_by s e) s (lends s a.store.device b.store.device (mounted_in s.mounted b.store.device)).mounted
         (lends_shown s a.store.device b h.0 h.1 (mounted_in s.mounted b.store.device) refl)
 
-    event_shown : (s : Subsystem) → AreSo Fair s.mounted → (e : Event) → Shows (is_loss e) (fails_alone_by s e) (happens s e)
+    event_shown : (s : Subsystem) → AreSo Fair s.mounted → (e : Event) → Shows (is_loss_event e) (fails_alone_by s e) (happens s e)
     unfolding H.happens
     event_shown s p e = happens_shown s e (deed by_plain s.pool (devices_of s) e) (event_deed_is s (KeepsEvent s) (k.deeds s p) e)
 
@@ -200,7 +176,7 @@ module _ (Still : MarksDevice → MarksDevice → Type 0) (Made : Bool → Bool 
     with_still d m sides.A calls is = is
     with_still d m sides.B calls is = is
 
-    abbrev Orders : Happened → Type 0
+    abbrev Orders : EventHappened → Type 0
     Orders h = Shows false false h
 
     unordered : (s : Subsystem) → Pairs (Made false false) s.mounted s.mounted
@@ -235,7 +211,7 @@ module _ (Still : MarksDevice → MarksDevice → Type 0) (Made : Bool → Bool 
           let ms = put_in s.mounted n x in
           let ks = restored_in ms n calls in
           still_shows false false s ks
-          (pairs_on Still k.on (devices_of s) (map (λ (z : Mounted). z.device) ms) (map (λ (z : Mounted). z.device) ks)
+          (pairs_on Still Still Still k.on (devices_of s) (map (λ (z : Mounted). z.device) ms) (map (λ (z : Mounted). z.device) ks)
           (put_same s n m x there (k.splits m.device is)) (restored_shown ms n calls))
 
     -- All lines
@@ -265,7 +241,7 @@ module _ (Still : MarksDevice → MarksDevice → Type 0) (Made : Bool → Bool 
     pairs_go = record {
       once = λ s e may q. (
         event_so Fair AnyEvent fair_kept s q e tt,
-        subst (λ (z : Subsystem). Shows (is_loss e) (fails_alone_by z e) (happens s e)) (sym (event_from s e)) (event_shown s q e),
+        subst (λ (z : Subsystem). Shows (is_loss_event e) (fails_alone_by z e) (happens s e)) (sym (event_from s e)) (event_shown s q e),
       );
       stepped = λ s d q. (event_so Fair AnyEvent fair_kept s q (events.Step d) tt, event_shown s q (events.Step d));
       idle = λ s d q. (q, unordered s);

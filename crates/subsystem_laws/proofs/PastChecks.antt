@@ -18,7 +18,7 @@ use Rattle.device_outside.specs.Interaction.{Interaction, Done, and_then}
 use Rattle.device_defs.specs.Marks.{MarksDevice}
 use Rattle.device_defs.specs.Orders as O
 use Rattle.device_defs.specs.Orders.{with_tracks, lent_to, given_up, lend}
-use Rattle.device_defs.specs.Owed.{waiting_count, ended}
+use Rattle.device_defs.specs.Owed.{waiting_count, noted_end}
 use Rattle.device_laws.proofs.Always.{Always, always_done, always_then}
 use Rattle.device_laws.proofs.KeptEvents.{always_any, always_if}
 use Rattle.device_laws.proofs.KeptHistories.{AreNot, count_more}
@@ -72,7 +72,7 @@ module _ (p : Item → Bool) (cut_not : (o : OpenEntry) (k : ℕ) → p (entry_o
     quiet_counts : {A : Type 0} (d : MarksDevice) (body : MarksDevice → Interaction Bool Image MarksDevice A) →
         Always (body (event_begun d)) (λ y _. counts y.history ≡ n) → Always (quiet_event by_plain d body) (λ y _. counts y.history ≡ n)
     quiet_counts d body does =
-        always_then does (λ y a g. always_then (always_any (ended by_plain (waiting_count by_plain d.store) y.store)) (λ z _ _. always_done g))
+        always_then does (λ y a g. always_then (always_any (noted_end by_plain (waiting_count by_plain d.store) y.store)) (λ z _ _. always_done g))
 
     pub power_counts : (d : MarksDevice) → counts d.history ≡ n → Always (power by_plain d) (λ y _. counts y.history ≡ n)
     unfolding U.power

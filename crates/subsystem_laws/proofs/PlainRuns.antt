@@ -14,7 +14,7 @@ use Rattle.ckd_types.specs.declared.paths.Side.TheVariants.{A, B}
 use Rattle.loss_model.specs.declared.Loss.TheVariants as losses
 use Rattle.track_image.specs.Image.{Image}
 use Rattle.device_outside.specs.Interaction.{Interaction}
-use Rattle.device_defs.specs.Orders.{join, split, restore, hold, resume, replace}
+use Rattle.device_defs.specs.Orders.{join, split, restore, hold_side, resume, replace}
 use Rattle.device_defs.specs.Marks.{MarksDevice, MarksStore, new_device}
 use Rattle.device_laws.proofs.Had.{Had}
 use Rattle.device_laws.proofs.PlainCommand.{command_follows, follows_store}
@@ -112,7 +112,7 @@ plain_kept = record {
   lost_store = λ d p. leaves d p (loss_follows p.number p.empty d p.follows losses.Store);
   lost_side = λ d side home p. leaves d p (loss_follows p.number p.empty d p.follows (losses.Side side));
   lost_power = λ d p. leaves d p (power_follows p.number p.empty d p.follows);
-  held = λ d fault p. stored d (hold d).store refl p;
+  held = λ d fault p. stored d (hold_side d).store refl p;
   resumed = λ d pair p. stored d (resume d).store refl p;
   replaced = λ d side fault p. replaced_side d side p;
   lent = λ x y fault p q. leaves y q (lend_follows q.number q.empty y q.follows (lent_is_idle x y fault) x.store.device);
@@ -133,7 +133,7 @@ may_ask (Unpair a) h = tt
 may_ask (Run d) h = tt
 may_ask (Settle d) h = tt
 
-all_may : (lines : List EventLine) → All (λ (line : EventLine). IsServed (asked_by line)) lines → All (MayAsk IsServedEvent) (map asked_by lines)
+pub all_may : (lines : List EventLine) → All (λ (line : EventLine). IsServed (asked_by line)) lines → All (MayAsk IsServedEvent) (map asked_by lines)
 all_may [] h = All-nil (MayAsk IsServedEvent)
 all_may (line ∷ lines) h =
     All-cons (MayAsk IsServedEvent) (asked_by line) (map asked_by lines)

@@ -12,7 +12,7 @@ use Rattle.deck_text.specs.declared.line.DeckWhy.{DeckWhy}
 use Rattle.deck_text.specs.declared.line.DeckWhy.TheVariants.{Words, Number}
 use Rattle.deck_text.specs.declared.line.DeviceLine.{DeviceLine}
 use Rattle.deck_text.specs.DeckLines.{DeckLines}
-use Rattle.deck_text.specs.Forms.{needed, and_then, device_line, rising, rises, path_and_device, path_of, device_of}
+use Rattle.deck_text.specs.Forms.{needed, then_read, device_line, rising, rises, path_and_device, path_of, device_of}
 use Rattle.deck_text.specs.Numbers.{number_in, geometry_of}
 use Rattle.deck_text.specs.Parse.{parsed}
 use Rattle.deck_text.specs.Words.{two_words, three_words}
@@ -37,14 +37,14 @@ if_so false x y h = absurd (cc)
 device_ranges : (before : List DeviceLine) (words : List (List ℕ)) (d : DeviceLine) → device_line before words ≡ Ok d → DeviceRanges before d
 device_ranges before words d h =
     let a = went (needed Words (three_words words))
-    (λ w. and_then (needed Number (number_in 0 15 w.0))
-    (λ n. and_then (needed Number (geometry_of w.1))
-    (λ g. and_then (needed Number (number_in 1 64 w.2)) (λ c. rising before (record { number = n; geometry = g; cylinders = c }))))) d h in
+    (λ w. then_read (needed Number (number_in 0 15 w.0))
+    (λ n. then_read (needed Number (geometry_of w.1))
+    (λ g. then_read (needed Number (number_in 1 64 w.2)) (λ c. rising before (record { number = n; geometry = g; cylinders = c }))))) d h in
     let b = went (needed Number (number_in 0 15 a.value.0))
-    (λ n. and_then (needed Number (geometry_of a.value.1))
-    (λ g. and_then (needed Number (number_in 1 64 a.value.2)) (λ c. rising before (record { number = n; geometry = g; cylinders = c })))) d a.second in
+    (λ n. then_read (needed Number (geometry_of a.value.1))
+    (λ g. then_read (needed Number (number_in 1 64 a.value.2)) (λ c. rising before (record { number = n; geometry = g; cylinders = c })))) d a.second in
     let e = went (needed Number (geometry_of a.value.1))
-    (λ g. and_then (needed Number (number_in 1 64 a.value.2)) (λ c. rising before (record { number = b.value; geometry = g; cylinders = c }))) d b.second
+    (λ g. then_read (needed Number (number_in 1 64 a.value.2)) (λ c. rising before (record { number = b.value; geometry = g; cylinders = c }))) d b.second
     in
     let f = went (needed Number (number_in 1 64 a.value.2)) (λ c. rising before (record { number = b.value; geometry = e.value; cylinders = c })) d e.second in
     let same = if_so (rises before b.value) (record { number = b.value; geometry = e.value; cylinders = f.value }) d f.second in
@@ -128,8 +128,8 @@ read_few_devices text deck read =
 
 path_range : (devices : List DeviceLine) (words : List (List ℕ)) (at : ℕ × ℕ) → path_and_device devices words ≡ Ok at → Ranged 1 4 at.0
 path_range devices words at h =
-    let a = went (needed Words (two_words words)) (λ w. and_then (path_of w.0) (λ p. and_then (device_of devices w.1) (λ d. Ok (p, d)))) at h in
-    let b = went (path_of a.value.0) (λ p. and_then (device_of devices a.value.1) (λ d. Ok (p, d))) at a.second in
+    let a = went (needed Words (two_words words)) (λ w. then_read (path_of w.0) (λ p. then_read (device_of devices w.1) (λ d. Ok (p, d)))) at h in
+    let b = went (path_of a.value.0) (λ p. then_read (device_of devices a.value.1) (λ d. Ok (p, d))) at a.second in
     let c = went (device_of devices a.value.1) (λ d. Ok (b.value, d)) at b.second in
     let same : (b.value, c.value) ≡ at = if_ok true (b.value, c.value) at Number c.second in
     subst (λ (x : ℕ × ℕ). Ranged 1 4 x.0) same
@@ -139,7 +139,7 @@ start_is : (p q a b : ℕ) → ◌≡◌ {A = Result EventLine DeckWhy} (Ok (lin
 start_is p q a b e = cc
 
 started_range : (devices : List DeviceLine) (words : List (List ℕ)) (path d : ℕ) →
-    and_then (path_and_device devices words) (λ at. Ok (lines.Start at.0 at.1)) ≡ Ok (lines.Start path d) → Ranged 1 4 path
+    then_read (path_and_device devices words) (λ at. Ok (lines.Start at.0 at.1)) ≡ Ok (lines.Start path d) → Ranged 1 4 path
 started_range devices words path d h =
     let a = went (path_and_device devices words) (λ at. Ok (lines.Start at.0 at.1)) (lines.Start path d) h in
     subst (λ (p : ℕ). Ranged 1 4 p) (start_is a.value.0 path a.value.1 d a.second) (path_range devices words a.value a.first)

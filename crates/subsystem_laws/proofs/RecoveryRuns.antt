@@ -32,7 +32,7 @@ use Rattle.device_outside.specs.Interaction.{Done, Try, Ask, Read, Write, Tell, 
 use Rattle.device_outside.specs.Keeper.{reply}
 use Rattle.device_outside.specs.Pool.{answer, after}
 use Rattle.device_outside.specs.Told as T
-use Rattle.device_outside.specs.Told.{Told, Outcome, calls_of, read_fails, write_fails, read_counted, write_counted}
+use Rattle.device_outside.specs.Told.{Told, RunOutcome, calls_of, read_fails, write_fails, told_read, told_write}
 use Rattle.device_defs.specs.declared.answers.Did.{Did}
 use Rattle.device_defs.specs.declared.answers.Did.TheVariants as dids
 use Rattle.device_defs.specs.declared.answers.SecondEnd.{SecondEnd}
@@ -75,7 +75,7 @@ use Rattle.subsystem_laws.proofs.Walks.{AreSo, device_so, mounted_so, event_so, 
 
 -- An answer is an event's end
 
-abbrev mapped : {S X Y : Type 0} → (X → Y) → Outcome S X → Outcome S Y
+abbrev mapped : {S X Y : Type 0} → (X → Y) → RunOutcome S X → RunOutcome S Y
 mapped f o = record { state = o.state; answer = f o.answer; told = o.told }
 
 hold_mapped : {X Y : Type 0} (i : Talk X) (f : X → Y) (t : Told) → T.hold true (and_then i (λ z a. Done z (f a))) t ≡ mapped f (T.hold true i t)
@@ -83,13 +83,13 @@ unfolding T.hold
 hold_mapped (Done s a) f t = refl
 hold_mapped (Try k) f t = hold_mapped (k true) f t
 hold_mapped (Ask call k) f t = hold_mapped (k (answer t.pool call)) f (record t { pool = after t.pool call (answer t.pool call) })
-hold_mapped (Read side q k) f t = hold_mapped (k (if read_fails (calls_of t side) then None else Some true)) f (read_counted t side)
-hold_mapped (Write side q r k) f t = hold_mapped (k (if write_fails (calls_of t side) then false else true)) f (write_counted t side)
+hold_mapped (Read side q k) f t = hold_mapped (k (if read_fails (calls_of t side) then None else Some true)) f (told_read t side)
+hold_mapped (Write side q r k) f t = hold_mapped (k (if write_fails (calls_of t side) then false else true)) f (told_write t side)
 hold_mapped (Tell m k) f t = hold_mapped (k (reply m)) f t
 
 -- A device's own event
 
-record Lowers (d : MarksDevice) (o : Outcome MarksDevice (Option EventEnd)) : Type 0 where
+record Lowers (d : MarksDevice) (o : RunOutcome MarksDevice (Option EventEnd)) : Type 0 where
   number : o.state.store.device ≡ d.store.device
   lowers : LowersBy (told_end o.answer) d o.state (waiting_of d) (waiting_of o.state)
 

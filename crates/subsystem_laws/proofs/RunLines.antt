@@ -7,7 +7,7 @@ use Rattle.ckd_types.specs.declared.paths.Side.{Side}
 use Rattle.subsystem_defs.specs.declared.end.EventEnd.TheVariants as ends
 use Rattle.subsystem_defs.specs.declared.event.Event.{Event}
 use Rattle.subsystem_defs.specs.declared.event.Event.TheVariants as events
-use Rattle.subsystem_defs.specs.Happening.{Happened, happens, quietly, replaced, unpaired}
+use Rattle.subsystem_defs.specs.Happening.{EventHappened, happens, quietly, replaced, unpaired}
 use Rattle.subsystem_defs.specs.Lines as L
 use Rattle.subsystem_defs.specs.Lines.{
   is_settled,
@@ -68,7 +68,7 @@ module _ (Q : Subsystem → Type 0) (R : Subsystem → Logged → Type 0) where
   logs_on s (t ∷ ts) us q more = (q.0, logs_on t.happened.behind ts us q.1 more)
 
   -- what an event keeps, and shows
-  abbrev pub GoesBy : Subsystem → Asked → Happened → Type 0
+  abbrev pub GoesBy : Subsystem → Asked → EventHappened → Type 0
   GoesBy s asked h = Q h.behind × R s (logged asked h)
 
   pub record Goes (May : Event → Type 0) : Type 0 where

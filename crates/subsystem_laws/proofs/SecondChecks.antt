@@ -15,19 +15,20 @@ use Rattle.device_defs.specs.Device.{with_store, event_begun, event_ended}
 use Rattle.device_defs.specs.Events as E
 use Rattle.device_defs.specs.Events.{second_turn, command_ended, second_ended, second_of, second, background}
 use Rattle.device_defs.specs.Marks.{MarksDevice, MarksStore}
-use Rattle.device_defs.specs.Owed.{hear, waiting_count, ended}
+use Rattle.device_defs.specs.Owed.{hear, waiting_count, noted_end}
 use Rattle.device_defs.specs.Second as D
-use Rattle.device_defs.specs.Second.{closed, half_image_of, finished, second_done, second_by, second_part}
+use Rattle.device_defs.specs.Second.{half_closed, half_image_of, finished, second_done, second_by, second_part}
 use Rattle.device_defs.specs.Store.{Origin, OfCommand, OfCut, OfBackground, HalfWrite, takes_b, has_level, stale_at, level_at}
 use Rattle.device_defs.specs.Writing.{write_done}
 use Rattle.device_laws.specs.Unharmed.{IsWholeOnA, RunsUnharmed, running_losses}
 use Rattle.device_laws.proofs.Always.{Always, always_done, always_then}
 use Rattle.device_laws.proofs.KeptEvents.{always_any}
-use Rattle.device_laws.proofs.LossLaws.{whole_behind, has_a}
+use Rattle.device_laws.proofs.LossLaws.{whole_behind}
 use Rattle.device_laws.proofs.Lucky.{Lucky, lucky_done, lucky_tell, lucky_then, lucky_if}
 use Rattle.device_laws.proofs.TrackMarks.{marks_are_faithful}
 use Rattle.device_laws.proofs.Unchecked.{lucky_any}
 use Rattle.device_laws.proofs.UncheckedEvents.{equipment_checks, turned_has, acts_same}
+use Rattle.device_laws.proofs.Unlost.{has_a}
 use Rattle.device_laws.proofs.UnlostParts.{hear_goes, tried_lucky}
 
 finished_done : (s : MarksStore) (t : ℕ) (i : Image) (bypass : Bool) → Lucky (λ z a. a ≡ true) (finished by_plain s t i bypass)
@@ -45,7 +46,7 @@ unfolding D.second_part
 part_done s h tried =
     lucky_then (λ z _. second_by by_plain h.track (half_image_of by_plain s h) h.origin z)
     (tried_lucky by_plain marks_are_faithful s h.track (by_plain.bytes (half_image_of by_plain s h)) tried)
-    (λ z _ g. lucky_if (has_level z h.track) (λ _. done_by (closed z) h.track (half_image_of by_plain s h) h.origin)
+    (λ z _ g. lucky_if (has_level z h.track) (λ _. done_by (half_closed z) h.track (half_image_of by_plain s h) h.origin)
     (λ none. absurd (let both : true ≡ false = sym g.1 ∙ none in cc)))
 
 module _ (n : ℕ) where
@@ -82,7 +83,7 @@ module _ (n : ℕ) where
       lucky_then (event_ended by_plain d)
       (lucky_then (λ s _. second_of by_plain (record (event_begun d) { store = s }) s.half) (hear_goes by_plain 960 (event_begun d).store)
       (λ s _ g. of_half_so (record (event_begun d) { store = s }) s.half (whole_behind d.store s g whole) f))
-      (λ y a h. lucky_then (λ z _. Done (record y { store = z }) a) (lucky_any (ended by_plain (waiting_count by_plain d.store) y.store))
+      (λ y a h. lucky_then (λ z _. Done (record y { store = z }) a) (lucky_any (noted_end by_plain (waiting_count by_plain d.store) y.store))
       (λ z _ _. lucky_done h))
 
   pub background_unchecked : (d : MarksDevice) → equipment_checks d.history ≡ n → Always (background by_plain d) (λ e _. equipment_checks e.history ≡ n)
@@ -91,7 +92,7 @@ module _ (n : ℕ) where
       always_then {p = λ (y : MarksDevice) _. equipment_checks y.history ≡ n}
       (always_then (always_any (hear by_plain 960 (event_begun d).store))
       (λ s _ _. always_then (always_any (work by_plain s)) (λ z (did : Option Did) _. always_done (acts_same d.history z.acts ∙ f))))
-      (λ y a g. always_then (always_any (ended by_plain (waiting_count by_plain d.store) y.store)) (λ z _ _. always_done g))
+      (λ y a g. always_then (always_any (noted_end by_plain (waiting_count by_plain d.store) y.store)) (λ z _ _. always_done g))
 
 -- No data of its program were lost
 

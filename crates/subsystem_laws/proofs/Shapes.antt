@@ -39,7 +39,7 @@ use Rattle.device_defs.specs.Cutting.{half_cut, counts_one_by, reset_by, reset, 
 use Rattle.device_defs.specs.Device.{all_acted, event_begun}
 use Rattle.device_defs.specs.Events.{second, lose, background}
 use Rattle.device_defs.specs.Marks.{MarksDevice}
-use Rattle.device_defs.specs.Owed.{waiting_count, ended as event_end}
+use Rattle.device_defs.specs.Owed.{waiting_count, noted_end as event_end}
 use Rattle.device_laws.proofs.Always.{Always, always_done, always_then}
 use Rattle.device_laws.proofs.HistoryTold.{
   HasActed,

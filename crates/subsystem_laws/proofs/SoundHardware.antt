@@ -12,7 +12,7 @@ use Rattle.device_defs.specs.Excused.{unexplained}
 use Rattle.device_defs.specs.Marks.{MarksDevice, no_counts}
 use Rattle.device_laws.specs.Unharmed.{NothingLost}
 use Rattle.subsystem_defs.specs.declared.event.Event.{Event}
-use Rattle.subsystem_defs.specs.Calm.{is_loss, asks_loss}
+use Rattle.subsystem_defs.specs.Calm.{is_loss_event, asks_loss}
 use Rattle.subsystem_defs.specs.Decks as D
 use Rattle.subsystem_defs.specs.Decks.{opened_device, opened, run_of}
 use Rattle.subsystem_defs.specs.Lines.{Asked, Once, Replace, Unpair, Run, Settle, Logged, asked_by}
@@ -91,7 +91,7 @@ losses_explain_checks deck h none =
 -- Where nothing is lost
 
 abbrev IsCalm : Event → Type 0
-IsCalm e = is_loss e ≡ false
+IsCalm e = is_loss_event e ≡ false
 
 abbrev AreNone : Losses → Type 0
 AreNone l = l ≡ no_counts.losses

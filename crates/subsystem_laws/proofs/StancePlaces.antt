@@ -21,8 +21,8 @@ use Rattle.ckd_rules.specs.declared.opening.Opening.{Opening}
 use Rattle.ckd_rules.specs.declared.opening.Opening.TheVariants as openings
 use Rattle.ckd_rules.specs.declared.order.Look.{Look}
 use Rattle.ckd_rules.specs.declared.order.Look.TheVariants as looks
-use Rattle.ckd_rules.specs.declared.order.Order.{Order}
-use Rattle.ckd_rules.specs.declared.order.Order.TheVariants as orders
+use Rattle.ckd_rules.specs.declared.order.CommandOrder.{CommandOrder}
+use Rattle.ckd_rules.specs.declared.order.CommandOrder.TheVariants as orders
 use Rattle.ckd_rules.specs.declared.stance.After.{After}
 use Rattle.ckd_rules.specs.declared.stance.After.TheVariants as afters
 use Rattle.ckd_rules.specs.declared.stance.Place.{Place}
@@ -31,14 +31,14 @@ use Rattle.ckd_rules.specs.declared.stance.Stance.{Stance}
 use Rattle.ckd_rules.specs.declared.turned.Turned.{Turned}
 use Rattle.ckd_rules.specs.declared.turned.Turned.TheVariants as turns
 use Rattle.ckd_rules.specs.Checks.{order_of}
-use Rattle.ckd_rules.specs.Ending.{counted}
+use Rattle.ckd_rules.specs.Ending.{work_counted}
 use Rattle.ckd_rules.specs.Facts.{IsOrder}
 use Rattle.ckd_rules.specs.Finding.{track_after}
 use Rattle.ckd_rules.specs.Formats.{key_given, body_given, has_room_behind, is_zero_given, format_behind, zero_on}
 use Rattle.ckd_rules.specs.Control.{located, unseen_place}
 use Rattle.ckd_rules.specs.Look.{look_on}
 use Rattle.ckd_rules.specs.Looked.{Looked}
-use Rattle.ckd_rules.specs.Opening.{moved, read_from, look_from, locating, begun, opened_by, opening_of}
+use Rattle.ckd_rules.specs.Opening.{moved, read_from, look_from, locating, begun, opening_with, opening_of}
 use Rattle.ckd_rules.specs.Reads.{record_at, read_place, read_passes, read_after, read_sought}
 use Rattle.ckd_rules.specs.Searches.{search_sought}
 use Rattle.ckd_rules.specs.Stance.{one_less}
@@ -84,12 +84,12 @@ either n false x y f g = g
 less_on : (n : ℕ) (s : Stance) → On n s → On n (one_less s)
 less_on n s on = on_if n (is_some s.domain) _ s (record { track = on.track; extent = on.extent }) on
 
-counted_on : (n : ℕ) (s : Stance) (m : ℕ) → On n s → On n (counted s m)
+counted_on : (n : ℕ) (s : Stance) (m : ℕ) → On n s → On n (work_counted s m)
 counted_on n s m on = record { track = on.track; extent = on.extent }
 
 module _ (n : ℕ) (s : Stance) (on : On n s) where
   placed_less : (place : Place) (passes : ℕ) (after : After) (m : ℕ) →
-      On n (counted (one_less (record s { place = place; passes = passes; after = after })) m)
+      On n (work_counted (one_less (record s { place = place; passes = passes; after = after })) m)
   placed_less place passes after m =
       let z = record s { place = place; passes = passes; after = after } in
       counted_on n (one_less z) m (less_on n z (record { track = on.track; extent = on.extent }))
@@ -207,7 +207,7 @@ module _ (n : ℕ) (s : Stance) (on : On n s) where
     seeks_by (looks.Reads r) good = tt
     seeks_by (looks.Writes w) good = tt
 
-    begins : (c : Ccw) (order : Order) → IsOrder n order → Opens n (begun s c order).stance (begun s c order).opening
+    begins : (c : Ccw) (order : CommandOrder) → IsOrder n order → Opens n (begun s c order).stance (begun s c order).opening
     begins c orders.Nothing good = record { track = on.track; extent = on.extent }
     begins c (orders.Seeks t) good = record { track = good; extent = on.extent }
     begins c orders.Recalibrates good = record { track = some; extent = on.extent }
@@ -218,7 +218,7 @@ module _ (n : ℕ) (s : Stance) (on : On n s) where
     begins c (orders.Looks look) good = looks_on c look (seeks_by look good)
     begins c (orders.Asks act) good = on
 
-    opens_by : (c : Ccw) (r : Result Order Sense) → ((o : Order) → r ≡ Ok o → IsOrder n o) → Opens n (opened_by s c r).stance (opened_by s c r).opening
+    opens_by : (c : Ccw) (r : Result CommandOrder Sense) → ((o : CommandOrder) → r ≡ Ok o → IsOrder n o) → Opens n (opening_with s c r).stance (opening_with s c r).opening
     opens_by c (Ok order) good = begins c order (good order refl)
     opens_by c (Err sense) good = record { track = on.track; extent = on.extent }
 

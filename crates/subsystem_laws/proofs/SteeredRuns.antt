@@ -11,7 +11,7 @@ use Rattle.deck_text.specs.DeckLines.{DeckLines}
 use Rattle.track_table.proofs.Places.{empty_places}
 use Rattle.device_defs.specs.Contents.{by_plain}
 use Rattle.device_defs.specs.Marks.{MarksDevice, new_device}
-use Rattle.device_defs.specs.Orders.{replace, hold}
+use Rattle.device_defs.specs.Orders.{replace, hold_side}
 use Rattle.device_defs.specs.Start as S
 use Rattle.device_defs.specs.Start.{start}
 use Rattle.device_defs.specs.Store.{HalfWrite, side_of, tracks_of}
@@ -43,7 +43,7 @@ module _ (d : MarksDevice) (f : Steered d) where
   unfolding S.start
   start_steered path = f
 
-  hold_steered : suspend_fault d ≡ None → Steered (hold d)
+  hold_steered : suspend_fault d ≡ None → Steered (hold_side d)
   unfolding R.suspend_fault
   hold_steered e =
       let a = first_none (R.where_so (not d.store.paired) Unpaired) _ e in

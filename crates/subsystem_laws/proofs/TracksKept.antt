@@ -33,11 +33,12 @@ use Rattle.device_laws.proofs.Always.{Behind, Always}
 use Rattle.device_laws.proofs.Based.{Base, Any, Based, kept, based_any, based_done, based_try, based_ask, based_read, based_write, based_tell}
 use Rattle.device_laws.proofs.BasedEvents.{base_in, with_one_loss, command_based, second_based, background_based, lose_based, power_based, reset_body}
 use Rattle.device_laws.proofs.Harmless.{cache_goes, power_goes, reset_goes}
-use Rattle.device_laws.proofs.LossLaws.{whole_behind, some_counted, has_a, kept_counts, unharmed_counts, held_unharmed, joined_unharmed, replaced_unharmed}
+use Rattle.device_laws.proofs.LossLaws.{whole_behind, some_counted, kept_counts, unharmed_counts, held_unharmed, joined_unharmed, replaced_unharmed}
 use Rattle.device_laws.proofs.Lucky.{top, failed_in, never_falls, where_none_failed}
 use Rattle.device_laws.proofs.TrackMarks.{marks_are_faithful}
-use Rattle.device_laws.proofs.Unlost.{core_of, Fine}
-use Rattle.device_laws.proofs.UnlostEvents.{DeviceGoes, command_goes_within, background_goes, second_event_goes}
+use Rattle.device_laws.proofs.Unlost.{core_of, Fine, has_a}
+use Rattle.device_laws.proofs.UnlostParts.{DeviceGoes}
+use Rattle.device_laws.proofs.invariants.NoTrackIsLost.{command_goes, background_goes, second_event_goes}
 use Rattle.subsystem_defs.specs.Decks as D
 use Rattle.subsystem_defs.specs.Decks.{opened_device, opened, run_of}
 use Rattle.subsystem_defs.specs.Lines.{asked_by}
@@ -122,7 +123,7 @@ module _ (d : MarksDevice) (f : Fair d) where
         un = λ home.
             let was = home_before d y b.2 false home in
             unharmed_at (kept d.store) (command by_plain d) refl refl refl x
-            (λ _. command_goes_within by_plain marks_are_faithful d (within d f.good) (f.good.well was) none) (f.un was) t;
+            (λ _. command_goes by_plain marks_are_faithful d (f.good.well was)) (f.un was) t;
       }
 
   second_fair : (good : LeavesSo Good (second by_plain d)) → LeavesSo Fair (second by_plain d)

@@ -16,14 +16,14 @@ use Rattle.device_outside.specs.Lists as I
 use Rattle.device_outside.specs.Lists.{is_in}
 use Rattle.device_outside.specs.Pool.{Call, Pool, answer, after}
 use Rattle.device_outside.specs.Told as T
-use Rattle.device_outside.specs.Told.{Calls, Told, Outcome, calls_of, read_fails, write_fails, read_counted, write_counted}
+use Rattle.device_outside.specs.Told.{Calls, Told, RunOutcome, calls_of, read_fails, write_fails, told_read, told_write}
 use Rattle.device_outside.specs.Volume.{Plan, counted}
 use Rattle.device_defs.specs.declared.counts.Counts.{Counts}
 use Rattle.device_defs.specs.declared.counts.Losses.{Losses}
 use Rattle.device_defs.specs.Command.{command}
 use Rattle.device_defs.specs.Contents.{by_plain}
 use Rattle.device_defs.specs.Cutting.{reset}
-use Rattle.device_defs.specs.Events.{one_more, second, lose, background}
+use Rattle.device_defs.specs.Events.{one_loss_more, second, lose, background}
 use Rattle.device_defs.specs.Marks.{MarksDevice, no_counts}
 use Rattle.device_defs.specs.Orders.{join, split, restore, replace, lend}
 use Rattle.device_defs.specs.Start as S
@@ -92,16 +92,16 @@ no_write : (t : Told) (side : Side) → AreUnfailing t → write_fails (calls_of
 no_write t sides.A u = none_in (counted t.a.writes) t.a.plan.writes (ap (λ (p : Plan). p.writes) u.0)
 no_write t sides.B u = none_in (counted t.b.writes) t.b.plan.writes (ap (λ (p : Plan). p.writes) u.1)
 
-read_on : (t : Told) (side : Side) → AreUnfailing t → AreUnfailing (read_counted t side)
+read_on : (t : Told) (side : Side) → AreUnfailing t → AreUnfailing (told_read t side)
 read_on t sides.A u = u
 read_on t sides.B u = u
 
-write_on : (t : Told) (side : Side) → AreUnfailing t → AreUnfailing (write_counted t side)
+write_on : (t : Told) (side : Side) → AreUnfailing t → AreUnfailing (told_write t side)
 write_on t sides.A u = u
 write_on t sides.B u = u
 
 -- no more failed calls are counted
-abbrev NoneFailed : {S X : Type 0} → (S → Base) → Base → Outcome S X → Type 0
+abbrev NoneFailed : {S X : Type 0} → (S → Base) → Base → RunOutcome S X → Type 0
 NoneFailed base b o = (failed_in (base o.state) ≡ failed_in b) × AreUnfailing o.told
 
 none_failed : {S X : Type 0} {base : S → Base} {may : Call → Type 0} {b : Base} {i : Interaction Bool Image S X} → Based base may b i → (t : Told) →
@@ -112,20 +112,20 @@ none_failed (based_try x) t u = none_failed (x true) t u
 none_failed (based_ask {call = call} m x) t u =
     none_failed (x (answer t.pool call)) (record t { pool = after t.pool call (answer t.pool call) }) u
 none_failed {base = base} {b = b} (based_read {side = side} {k = k} x) t u =
-    subst (λ (f : Bool). NoneFailed base b (T.hold true (k (if f then None else Some true)) (read_counted t side))) (sym (no_read t side u))
-    (none_failed (x (Some true)) (read_counted t side) (read_on t side u))
+    subst (λ (f : Bool). NoneFailed base b (T.hold true (k (if f then None else Some true)) (told_read t side))) (sym (no_read t side u))
+    (none_failed (x (Some true)) (told_read t side) (read_on t side u))
 none_failed {base = base} {b = b} (based_write {side = side} {k = k} x) t u =
-    subst (λ (f : Bool). NoneFailed base b (T.hold true (k (if f then false else true)) (write_counted t side))) (sym (no_write t side u))
-    (none_failed (x true) (write_counted t side) (write_on t side u))
+    subst (λ (f : Bool). NoneFailed base b (T.hold true (k (if f then false else true)) (told_write t side))) (sym (no_write t side u))
+    (none_failed (x true) (told_write t side) (write_on t side u))
 none_failed (based_tell {m = m} x) t u = none_failed (x (reply m)) t u
 
 -- what is so of the losses that are counted, where these events may come
 pub record Allows (May : Event → Type 0) (so : Losses → Type 0) : Type 0 where
   pub own : HasOwn May
-  pub cache : May events.FailCache → (l : Losses) → so l → so (one_more l losses.Cache)
-  pub store : May events.FailStore → (l : Losses) → so l → so (one_more l losses.Store)
-  pub side : (n : ℕ) (side : Side) → May (events.FailVolume n side) → (l : Losses) → so l → so (one_more l (losses.Side side))
-  pub power : May events.Power → (l : Losses) → so l → so (one_more l losses.Cache)
+  pub cache : May events.FailCache → (l : Losses) → so l → so (one_loss_more l losses.Cache)
+  pub store : May events.FailStore → (l : Losses) → so l → so (one_loss_more l losses.Store)
+  pub side : (n : ℕ) (side : Side) → May (events.FailVolume n side) → (l : Losses) → so l → so (one_loss_more l (losses.Side side))
+  pub power : May events.Power → (l : Losses) → so l → so (one_loss_more l losses.Cache)
 
 module _ (so : Losses → Type 0) where
   -- no call of it failed, and this is so of its losses
@@ -144,7 +144,7 @@ module _ (so : Losses → Type 0) where
   AreOnSound [] = Unit {0}
   AreOnSound (m ∷ ms) = IsOnSound m × AreOnSound ms
 
-  abbrev EndsSound : {X : Type 0} → Outcome MarksDevice X → Type 0
+  abbrev EndsSound : {X : Type 0} → RunOutcome MarksDevice X → Type 0
   EndsSound o = IsIntact o.state × AreUnfailing o.told
 
   abbrev LeavesSound : {X : Type 0} → Talk X → Type 0

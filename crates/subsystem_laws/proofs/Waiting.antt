@@ -50,7 +50,7 @@ use Rattle.device_outside.specs.Lists as L
 use Rattle.device_outside.specs.Lists.{is_in}
 use Rattle.device_outside.specs.Pool.{Pool, all_waiting, cache_repaired, store_repaired}
 use Rattle.device_outside.specs.Told as T
-use Rattle.device_outside.specs.Told.{Calls, Told, Outcome}
+use Rattle.device_outside.specs.Told.{Calls, Told, RunOutcome}
 use Rattle.device_defs.specs.Command.{command}
 use Rattle.device_defs.specs.Contents.{by_plain}
 use Rattle.device_defs.specs.Cutting as U
@@ -59,7 +59,7 @@ use Rattle.device_defs.specs.Events.{second, lose, background}
 use Rattle.device_defs.specs.Losses.{over}
 use Rattle.device_defs.specs.Marks.{MarksDevice, MarksStore, new_store, new_device}
 use Rattle.device_defs.specs.Orders as Q
-use Rattle.device_defs.specs.Orders.{with_tracks, lent_to, given_up, lend, join, split, restore, replace, hold, resume}
+use Rattle.device_defs.specs.Orders.{with_tracks, lent_to, given_up, lend, join, split, restore, replace, hold_side, resume}
 use Rattle.device_defs.specs.Owed as O
 use Rattle.device_defs.specs.Owed.{waits_by, waits}
 use Rattle.device_defs.specs.Start as S
@@ -93,7 +93,6 @@ use Rattle.subsystem_defs.specs.Deeds.{
   on_device,
   starts,
   start_by,
-  is_own,
   step,
   seconds,
   ends_by,
@@ -103,7 +102,7 @@ use Rattle.subsystem_defs.specs.Deeds.{
 }
 use Rattle.subsystem_defs.specs.Happening as H
 use Rattle.subsystem_defs.specs.Happening.{
-  Happened,
+  EventHappened,
   MarksDeed,
   Talk,
   Swept,
@@ -143,7 +142,7 @@ use Rattle.subsystem_laws.proofs.Walks.{AreSo, hold_answer, hold_told, mounted_n
 -- One device's event
 
 -- the pool has the device's number as it is then
-record TellsAt {A : Type 0} (ws : List ℕ) (n : ℕ) (o : Outcome MarksDevice A) : Type 0 where
+record TellsAt {A : Type 0} (ws : List ℕ) (n : ℕ) (o : RunOutcome MarksDevice A) : Type 0 where
   waiting : o.told.pool.waiting ≡ set ws n (waiting_of o.state)
   number : o.state.store.device ≡ n
 
@@ -230,7 +229,7 @@ started_number : (d : MarksDevice) (path : ℕ) → (start d path).store.device 
 unfolding S.start
 started_number d path = refl
 
-held_waits : (d : MarksDevice) → (waiting_of (hold d) ≡ waiting_of d) × (waiting_of (resume d) ≡ waiting_of d)
+held_waits : (d : MarksDevice) → (waiting_of (hold_side d) ≡ waiting_of d) × (waiting_of (resume d) ≡ waiting_of d)
 unfolding O.waits
 held_waits d = (refl, refl)
 
@@ -369,7 +368,7 @@ module _ (s : Subsystem) where
     repaired_cache = repaired_waits (all_waiting s.pool == 0) (record s.pool { cache_up = true }) s.pool refl refl;
     repaired_store = repaired_waits (all_waiting s.pool == 0) (record s.pool { store_up = true }) s.pool refl refl;
     lent = λ x y z w fault. seat_of s y w;
-    held = λ d x fault. held_so d x (hold d) refl (held_waits d).0 ends.Done;
+    held = λ d x fault. held_so d x (hold_side d) refl (held_waits d).0 ends.Done;
     resumed = λ d x fault. held_so d x (resume d) refl (held_waits d).1 ends.Done;
   }
 
@@ -379,7 +378,7 @@ module _ (s : Subsystem) where
 
   -- A repair's end
 
-  record Shows (n : ℕ) (up : Bool) (h : Happened) : Type 0 where
+  record Shows (n : ℕ) (up : Bool) (h : EventHappened) : Type 0 where
     end : h.end ≡ repair_end up n
     before : h.before ≡ s
 
@@ -389,7 +388,7 @@ module _ (s : Subsystem) where
   repair_shows false true n repaired e = record { end = ap (λ (c : Bool). if c then ends.Done else ends.Pending n) (sym e); before = refl }
   repair_shows false false n repaired e = record { end = ap (λ (c : Bool). if c then ends.Done else ends.Pending n) (sym e); before = refl }
 
-  shown_so : (n : ℕ) (up : Subsystem → Bool) (h : Happened) → n ≡ waiting_in (devices_of s) → Shows n (up s) h →
+  shown_so : (n : ℕ) (up : Subsystem → Bool) (h : EventHappened) → n ≡ waiting_in (devices_of s) → Shows n (up s) h →
       h.end ≡ repair_end (up h.before) (waiting_in (devices_of h.before))
   shown_so n up h is x =
       x.end ∙ ap (λ (k : ℕ). repair_end (up s) k) is
@@ -465,7 +464,7 @@ record Behind (s : Subsystem) : Type 0 where
   good : AreSo Good s.mounted
   told : IsTold s
 
-shows : (asked : Asked) (h : Happened) → Behind h.behind → RepairsBy asked h → Behind h.behind × TellsWaiting (logged asked h)
+shows : (asked : Asked) (h : EventHappened) → Behind h.behind → RepairsBy asked h → Behind h.behind × TellsWaiting (logged asked h)
 shows asked h q r = (q, record { behind = sum_told q.told; repairs = r })
 
 event_goes : (s : Subsystem) → Behind s → (e : Event) → Behind (happens s e).behind

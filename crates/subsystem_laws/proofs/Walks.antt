@@ -30,7 +30,7 @@ use Rattle.ckd_types.specs.declared.paths.Side.TheVariants.{A, B}
 use Rattle.loss_model.specs.declared.Loss.TheVariants as losses
 use Rattle.track_image.specs.Image.{Image}
 use Rattle.device_outside.specs.Told as T
-use Rattle.device_outside.specs.Told.{Calls, Told, calls_of, read_fails, write_fails, read_counted, write_counted}
+use Rattle.device_outside.specs.Told.{Calls, Told, calls_of, read_fails, write_fails, told_read, told_write}
 use Rattle.device_outside.specs.Interaction.{Interaction, Done, Try, Ask, Read, Write, Tell, and_then}
 use Rattle.device_outside.specs.Keeper.{reply}
 use Rattle.device_outside.specs.Pool.{Pool, answer, after}
@@ -38,7 +38,7 @@ use Rattle.device_defs.specs.Command.{command}
 use Rattle.device_defs.specs.Contents.{by_plain}
 use Rattle.device_defs.specs.Cutting.{reset, power}
 use Rattle.device_defs.specs.Events.{second, lose, background}
-use Rattle.device_defs.specs.Orders.{join, split, restore, hold, resume, replace, lend}
+use Rattle.device_defs.specs.Orders.{join, split, restore, hold_side, resume, replace, lend}
 use Rattle.device_defs.specs.Marks.{MarksDevice}
 use Rattle.device_defs.specs.Start.{start_fault, start}
 use Rattle.device_defs.specs.Store.{HalfWrite}
@@ -91,8 +91,8 @@ unfolding T.hold
 hold_answer (Done s a) f t = refl
 hold_answer (Try k) f t = hold_answer (k true) f t
 hold_answer (Ask call k) f t = hold_answer (k (answer t.pool call)) f (record t { pool = after t.pool call (answer t.pool call) })
-hold_answer (Read side q k) f t = hold_answer (k (if read_fails (calls_of t side) then None else Some true)) f (read_counted t side)
-hold_answer (Write side q r k) f t = hold_answer (k (if write_fails (calls_of t side) then false else true)) f (write_counted t side)
+hold_answer (Read side q k) f t = hold_answer (k (if read_fails (calls_of t side) then None else Some true)) f (told_read t side)
+hold_answer (Write side q r k) f t = hold_answer (k (if write_fails (calls_of t side) then false else true)) f (told_write t side)
 hold_answer (Tell m k) f t = hold_answer (k (reply m)) f t
 
 -- nor of what the outside tells then
@@ -102,8 +102,8 @@ unfolding T.hold
 hold_told (Done s a) f t = refl
 hold_told (Try k) f t = hold_told (k true) f t
 hold_told (Ask call k) f t = hold_told (k (answer t.pool call)) f (record t { pool = after t.pool call (answer t.pool call) })
-hold_told (Read side q k) f t = hold_told (k (if read_fails (calls_of t side) then None else Some true)) f (read_counted t side)
-hold_told (Write side q r k) f t = hold_told (k (if write_fails (calls_of t side) then false else true)) f (write_counted t side)
+hold_told (Read side q k) f t = hold_told (k (if read_fails (calls_of t side) then None else Some true)) f (told_read t side)
+hold_told (Write side q r k) f t = hold_told (k (if write_fails (calls_of t side) then false else true)) f (told_write t side)
 hold_told (Tell m k) f t = hold_told (k (reply m)) f t
 
 -- Numbers
@@ -187,7 +187,7 @@ module _ (P : MarksDevice → Type 0) where
     pub lost_store : (d : MarksDevice) → P d → LeavesSo (lose by_plain d losses.Store)
     pub lost_side : (d : MarksDevice) (side : Side) → is_some d.store.lent ≡ false → P d → LeavesSo (lose by_plain d (losses.Side side))
     pub lost_power : (d : MarksDevice) → P d → LeavesSo (power by_plain d)
-    pub held : (d : MarksDevice) → suspend_fault d ≡ None → P d → P (hold d)
+    pub held : (d : MarksDevice) → suspend_fault d ≡ None → P d → P (hold_side d)
     pub resumed : (d : MarksDevice) → (is_some d.store.lent ≡ true → d.store.paired ≡ true) → P d → P (resume d)
     pub replaced : (d : MarksDevice) (side : Side) → replace_fault d side ≡ None → P d → P (replace d side)
     pub lent : (x y : MarksDevice) → pair_fault x y ≡ None → P x → P y → LeavesSo (lend by_plain y x.store.device)

@@ -1,6 +1,6 @@
 -- Each kind of deed, over devices and in a run.
-use Rattle.std.proofs.Common.{◌≡◌, ℕ, Bool, true, false, List, [], ◌∷◌, ◌++◌, Option, Some, None, refl, sym, ap, subst, ◌∙◌}
-use Rattle.std.specs.Prelude.{if◌then◌else◌, option_map}
+use Rattle.std.proofs.Common.{◌≡◌, ℕ, true, false, List, [], ◌∷◌, ◌++◌, Option, Some, None, refl, sym, ap, subst, ◌∙◌}
+use Rattle.std.specs.Prelude.{option_map}
 use Rattle.ckd_types.specs.declared.record.Track.{Track}
 use Rattle.track_image.specs.Image.{Image}
 use Rattle.device_outside.specs.Both.{SideTold}
@@ -8,7 +8,7 @@ use Rattle.device_outside.specs.Keeper.{Hearing}
 use Rattle.device_outside.specs.Lists.{is_in}
 use Rattle.device_outside.specs.Pool.{Pool, counted_slots}
 use Rattle.device_outside.specs.Slots.{AreShared}
-use Rattle.device_outside.specs.Told.{Calls, Outcome}
+use Rattle.device_outside.specs.Told.{Calls, RunOutcome}
 use Rattle.device_outside.specs.Volume.{VolumeView}
 use Rattle.device_defs.specs.Marks.{MarksDevice}
 use Rattle.device_laws.specs.Agrees.{Held}
@@ -16,36 +16,13 @@ use Rattle.device_laws.specs.Lent.{Stands}
 use Rattle.device_laws.specs.Whole.{WholeDevice, marks_device}
 use Rattle.subsystem_defs.specs.declared.end.EventEnd.{EventEnd}
 use Rattle.subsystem_defs.specs.declared.end.EventEnd.TheVariants as ends
-use Rattle.subsystem_defs.specs.Deeds.{Ends, Becomes, Asks, Each, Repairs, device_in, on_device}
+use Rattle.subsystem_defs.specs.Deeds.{Ends, Becomes, Asks, Each, Repairs, Lends, device_in, on_device}
 use Rattle.subsystem_defs.specs.Happening as H
-use Rattle.subsystem_defs.specs.Happening.{
-  MarksDeed,
-  Talk,
-  held_with,
-  mounted_behind,
-  told_end,
-  asks,
-  becomes,
-  Swept as RunSwept,
-  swept_on,
-  sweep,
-  happens_by,
-}
+use Rattle.subsystem_defs.specs.Happening.{MarksDeed, Talk, held_with, mounted_behind, told_end, asks, becomes, Swept as RunSwept, swept_on, sweep, happens_by}
+use Rattle.subsystem_defs.specs.Refusals.{pair_fault}
 use Rattle.subsystem_defs.specs.Subsystem.{Mounted, Subsystem, devices_of, mounted_in, put_in}
 use Rattle.subsystem_laws.specs.WholeComes.{OwnDeed, OwnTalk, subsystem_of, Changes, IsNow, Asked, Swept, all_swept, one_swept, CameBy, IsWhatCame}
-use Rattle.subsystem_laws.specs.WholeStood.{
-  HasChain,
-  Stood,
-  devices_at,
-  stood_in,
-  put_at,
-  IsMounted,
-  is_mounted,
-  AreMountedBy,
-  one_more,
-  AreMounted,
-  HaveChains,
-}
+use Rattle.subsystem_laws.specs.WholeStood.{HasChain, Stood, devices_at, stood_in, put_at, IsMounted, is_mounted, AreMountedBy, one_more, AreMounted, HaveChains}
 use Rattle.subsystem_laws.proofs.WholeFinding.{device_mounted, Found, none_found, both_found, find, chain_at, device_stood}
 use Rattle.subsystem_laws.proofs.WholeSlots.{slots_of, first_shared, still_apart, rest_now}
 use Rattle.subsystem_laws.proofs.WholeTalks.{AreTwins, held_so}
@@ -104,6 +81,45 @@ seat_of p xs ms n x m mine others s t (is_mounted d v w h on_a on_b a b stands s
   put = put;
 }
 
+-- a relation of deeds over devices to those in a run, by each kind of deed
+module _ (p : Pool) (xs : List Stood) (ms : List Mounted) (Rel : OwnDeed → MarksDeed → Type 0) where
+  pub record IsOfDeeds : Type 0 where
+    pub ended : (end : EventEnd) → Rel (Ends end) (Ends end)
+    pub repaired : (r : Pool) → r.used ≡ p.used → Rel (Repairs r) (Repairs (counted_slots r))
+    pub asked : (n : ℕ) (x : Seat p xs ms n) (talk : OwnTalk (Option EventEnd)) (other : Talk (Option EventEnd)) → AreTwins x.held talk other →
+        Rel (Asks x.device talk) (Asks (marks_device x.plain x.firm x.device) other)
+    pub became : (n : ℕ) (x : Seat p xs ms n) (d : WholeDevice) (end : EventEnd) → Stands x.plain x.firm d x.held → d.store.device ≡ n →
+        Rel (Becomes d end) (Becomes (marks_device x.plain x.firm d) end)
+    pub swept : (r : Pool) → r.used ≡ p.used → (f : WholeDevice → OwnTalk (Unit {0})) (g : MarksDevice → Talk (Unit {0})) →
+        ((v w : List Track) (d : WholeDevice) (h : Held) → Stands v w d h → AreTwins h (f d) (g (marks_device v w d))) →
+        Rel (Each r f) (Each (counted_slots r) g)
+    pub lent : (a b : ℕ) (x : Seat p xs ms a) (y : Seat p xs ms b) → pair_fault x.device y.device ≡ None →
+        Rel (Lends x.device y.device) (Lends (marks_device x.plain x.firm x.device) (marks_device y.plain y.firm y.device))
+
+  module _ (all : AreMounted p xs ms) (k : IsOfDeeds) where
+    by_found : (n : ℕ) (f : WholeDevice → OwnDeed) (g : MarksDevice → MarksDeed) → Found p.used [] xs ms n → HaveChains xs →
+        ((x : Seat p xs ms n) → Rel (f x.device) (g (marks_device x.plain x.firm x.device))) →
+        Rel (on_device (option_map (λ (x : Stood). x.device) (stood_in xs n)) f) (on_device (option_map (λ (m : Mounted). m.device) (mounted_in ms n)) g)
+    by_found n f g (none_found t u) chains w =
+        subst (λ (o : Option Stood). Rel (on_device (option_map (λ (x : Stood). x.device) o) f)
+        (on_device (option_map (λ (m : Mounted). m.device) (mounted_in ms n)) g)) (sym t)
+        (subst (λ (o : Option Mounted). Rel (Ends ends.Done) (on_device (option_map (λ (m : Mounted). m.device) o) g)) (sym u) (k.ended ends.Done))
+    by_found n f g (both_found x m mine others t u (is_mounted d v w' h on_a on_b a b order slots told_a told_b) shared number put) chains w =
+        subst (λ (o : Option Stood). Rel (on_device (option_map (λ (x : Stood). x.device) o) f)
+        (on_device (option_map (λ (m : Mounted). m.device) (mounted_in ms n)) g)) (sym t)
+        (subst (λ (o : Option Mounted). Rel (f d) (on_device (option_map (λ (m : Mounted). m.device) o) g)) (sym u)
+        (w (seat_of p xs ms n (record { device = d; a = on_a; b = on_b }) (record { device = marks_device v w' d; a = a; b = b }) mine others t u
+        (is_mounted d v w' h on_a on_b a b order slots told_a told_b) shared (chain_at xs n (record { device = d; a = on_a; b = on_b }) chains t) number put)))
+
+    -- the event of one device
+    pub by_device : (n : ℕ) (f : WholeDevice → OwnDeed) (g : MarksDevice → MarksDeed) → HaveChains xs →
+        ((x : Seat p xs ms n) → Rel (f x.device) (g (marks_device x.plain x.firm x.device))) →
+        Rel (on_device (device_in (devices_at xs) n) f) (on_device (device_in (devices_of (subsystem_of p ms)) n) g)
+    by_device n f g chains w =
+        subst (λ (o : Option WholeDevice). Rel (on_device o f) (on_device (device_in (devices_of (subsystem_of p ms)) n) g)) (sym (device_stood xs n))
+        (subst (λ (o : Option MarksDevice). Rel (on_device (option_map (λ (x : Stood). x.device) (stood_in xs n)) f) (on_device o g))
+        (sym (device_mounted ms n)) (by_found n f g (find p.used [] xs ms n all) chains w))
+
 module _ {K : Type 0} (hears : Hearing Image K) (p q : Pool) (xs ys : List Stood) (ms : List Mounted) (e : EventEnd) (all : AreMounted p xs ms) where
   abbrev s : Subsystem
   s = subsystem_of p ms
@@ -111,11 +127,6 @@ module _ {K : Type 0} (hears : Hearing Image K) (p q : Pool) (xs ys : List Stood
   -- the one deed leads to what the other does in a run. A record, so that the deeds can be inferred
   pub record Leads (x : OwnDeed) (u : MarksDeed) : Type 0 where
     pub leads : CameBy hears x p xs e q ys → IsWhatCame (happens_by s u) e q ys
-
-  pub leads_if : (b : Bool) {x y : OwnDeed} {u v : MarksDeed} → (b ≡ true → Leads x u) → (b ≡ false → Leads y v) →
-      Leads (if b then x else y) (if b then u else v)
-  leads_if true f g = f refl
-  leads_if false f g = g refl
 
   pub ends_so : (end : EventEnd) → Leads (Ends end) (Ends end)
   ends_so end = record {
@@ -195,30 +206,6 @@ module _ {K : Type 0} (hears : Hearing Image K) (p q : Pool) (xs ys : List Stood
       };
     }
 
-  by_found : (n : ℕ) (f : WholeDevice → OwnDeed) (g : MarksDevice → MarksDeed) → Found p.used [] xs ms n → HaveChains xs →
-      ((x : Seat p xs ms n) → Leads (f x.device) (g (marks_device x.plain x.firm x.device))) →
-      Leads (on_device (option_map (λ (x : Stood). x.device) (stood_in xs n)) f) (on_device (option_map (λ (m : Mounted). m.device) (mounted_in ms n)) g)
-  by_found n f g (none_found t u) chains w =
-      subst (λ (o : Option Stood). Leads (on_device (option_map (λ (x : Stood). x.device) o) f)
-      (on_device (option_map (λ (m : Mounted). m.device) (mounted_in ms n)) g)) (sym t)
-      (subst (λ (o : Option Mounted). Leads (Ends ends.Done) (on_device (option_map (λ (m : Mounted). m.device) o) g)) (sym u) (ends_so ends.Done))
-  by_found n f g (both_found x m mine others t u (is_mounted d v w' h on_a on_b a b order slots told_a told_b) shared number put) chains w =
-      subst (λ (o : Option Stood). Leads (on_device (option_map (λ (x : Stood). x.device) o) f)
-      (on_device (option_map (λ (m : Mounted). m.device) (mounted_in ms n)) g)) (sym t)
-      (subst (λ (o : Option Mounted). Leads (f d) (on_device (option_map (λ (m : Mounted). m.device) o) g)) (sym u)
-      (w (seat_of p xs ms n (record { device = d; a = on_a; b = on_b }) (record { device = marks_device v w' d; a = a; b = b }) mine others t u
-      (is_mounted d v w' h on_a on_b a b order slots told_a told_b) shared (chain_at xs n (record { device = d; a = on_a; b = on_b }) chains t) number put)))
-
-  -- the event of one device
-  pub by_device : (n : ℕ) (f : WholeDevice → OwnDeed) (g : MarksDevice → MarksDeed) → HaveChains xs →
-      ((x : Seat p xs ms n) → Leads (f x.device) (g (marks_device x.plain x.firm x.device))) →
-      Leads (on_device (device_in (devices_at xs) n) f) (on_device (device_in (devices_of s) n) g)
-  by_device n f g chains w =
-      subst (λ (o : Option WholeDevice). Leads (on_device o f) (on_device (device_in (devices_of s) n) g)) (sym (device_stood xs n))
-      (subst (λ (o : Option MarksDevice). Leads (on_device (option_map (λ (x : Stood). x.device) (stood_in xs n)) f) (on_device o g)) (sym
-      (device_mounted ms n))
-      (by_found n f g (find p.used [] xs ms n all) chains w))
-
 -- Every device
 
 pub record AreSwept (q : Pool) (taken : List ℕ) (ys : List Stood) (o : RunSwept) : Type 0 where
@@ -227,7 +214,7 @@ pub record AreSwept (q : Pool) (taken : List ℕ) (ys : List Stood) (o : RunSwep
 
 module _ {K : Type 0} (hears : Hearing Image K) (f : WholeDevice → OwnTalk (Unit {0})) (g : MarksDevice → Talk (Unit {0}))
     (twins : (v w : List Track) (d : WholeDevice) (h : Held) → Stands v w d h → AreTwins h (f d) (g (marks_device v w d))) where
-  swept_one : (q : Pool) (taken mine : List ℕ) (y : Stood) (ys : List Stood) (ms : List Mounted) (r : Pool) (o : Outcome MarksDevice (Unit {0})) →
+  swept_one : (q : Pool) (taken mine : List ℕ) (y : Stood) (ys : List Stood) (ms : List Mounted) (r : Pool) (o : RunOutcome MarksDevice (Unit {0})) →
       o.told.pool ≡ counted_slots r → IsMounted mine y (mounted_behind o) →
       ((k : ℕ) → is_in k mine ≡ true → is_in k taken ≡ false) →
       AreSwept q (mine ++ taken) ys (sweep g ms (counted_slots r)) → AreSwept q taken (y ∷ ys) (swept_on (sweep g ms) o)

@@ -7,7 +7,7 @@ use Rattle.device_outside.specs.Both.{SideTold, Linked}
 use Rattle.device_outside.specs.Keeper.{Hearing}
 use Rattle.device_outside.specs.Pool.{Pool, counted_slots}
 use Rattle.device_outside.specs.Slots.{AreShared}
-use Rattle.device_outside.specs.Told.{Calls, Outcome}
+use Rattle.device_outside.specs.Told.{Calls, RunOutcome}
 use Rattle.device_outside.specs.Volume.{VolumeView}
 use Rattle.device_outside.proofs.Link.{linked}
 use Rattle.device_defs.specs.Contents.{contents, by_plain}
@@ -47,7 +47,7 @@ turned m n e = by_case (n == m) refl
 
 -- What the one that lends leaves
 
-record Left (pool : Pool) (others : List ℕ) (number tracks : ℕ) (y : Stood) (o : Outcome MarksDevice (Unit {0})) : Type 0 where
+record Left (pool : Pool) (others : List ℕ) (number tracks : ℕ) (y : Stood) (o : RunOutcome MarksDevice (Unit {0})) : Type 0 where
   left : o.told.pool ≡ counted_slots pool
   mine : List ℕ
   volume : List (List ℕ)
@@ -67,9 +67,9 @@ module _ {K : Type 0} (hears : Hearing Image K) (p q : Pool) (d : WholeDevice) (
       Left q others d.store.device (length h.a) y (held_with (counted_slots p) (mounts v w d a b) (lend by_plain (marks_device v w d) to))
   left_by y f t =
       let x = t.is in
-      let o : Outcome MarksDevice (Unit {0}) = record { state = marks_device x.plain x.firm y.device; answer = t.answer; told = t.told } in
+      let o : RunOutcome MarksDevice (Unit {0}) = record { state = marks_device x.plain x.firm y.device; answer = t.answer; told = t.told } in
       let ran = t.ran ∙ ap (λ (m : MarksDevice). record { state = m; answer = t.answer; told = t.told }) (sym x.marks) in
-      subst (λ (u : Outcome MarksDevice (Unit {0})). Left q others d.store.device (length h.a) y u) (sym ran)
+      subst (λ (u : RunOutcome MarksDevice (Unit {0})). Left q others d.store.device (length h.a) y u) (sym ran)
       (record {
         left = told_pool f.after.pool q t.told.pool f.pool_behind t.tells.pool;
         mine = t.tells.mine;

@@ -9,7 +9,7 @@ use Rattle.device_outside.specs.Keeper.{Hearing}
 use Rattle.device_outside.specs.Outside.{PortView}
 use Rattle.device_outside.specs.Pool.{Pool, counted_slots}
 use Rattle.device_outside.specs.Slots.{AreShared, SlotsTold}
-use Rattle.device_outside.specs.Told.{Calls, Outcome}
+use Rattle.device_outside.specs.Told.{Calls, RunOutcome}
 use Rattle.device_outside.specs.Volume.{VolumeView}
 use Rattle.device_outside.proofs.Link.{linked}
 use Rattle.device_defs.specs.Command.{command}
@@ -109,7 +109,7 @@ module _ (v w : List Track) (d : WholeDevice) (h : Held) where
 
 -- What a run holds then
 
-pub record IsHeldSo {A : Type 0} (pool : Pool) (others : List ℕ) (y : Stood) (answer : A) (o : Outcome MarksDevice A) : Type 0 where
+pub record IsHeldSo {A : Type 0} (pool : Pool) (others : List ℕ) (y : Stood) (answer : A) (o : RunOutcome MarksDevice A) : Type 0 where
   pub answered : o.answer ≡ answer
   pub left : o.told.pool ≡ counted_slots pool
   pub mine : List ℕ
@@ -149,11 +149,11 @@ module _ {K A : Type 0} (hears : Hearing Image K) (p q : Pool) (d : WholeDevice)
       IsHeldSo q others y answer (held_with (counted_slots p) (mounts v w d a b) other)
   held_by talk other answer y f t =
       let x = t.is in
-      let o : Outcome MarksDevice A = record { state = marks_device x.plain x.firm y.device; answer = answer; told = t.told } in
+      let o : RunOutcome MarksDevice A = record { state = marks_device x.plain x.firm y.device; answer = answer; told = t.told } in
       let ran = t.ran
       ∙ ap (λ (m : MarksDevice). record { state = m; answer = t.answer; told = t.told }) (sym x.marks)
       ∙ ap (λ (e : A). record { state = marks_device x.plain x.firm y.device; answer = e; told = t.told }) (sym x.is.same) in
-      subst (λ (u : Outcome MarksDevice A). IsHeldSo q others y answer u) (sym ran)
+      subst (λ (u : RunOutcome MarksDevice A). IsHeldSo q others y answer u) (sym ran)
       (record {
         answered = refl;
         left = told_pool f.after.pool q t.told.pool f.pool_behind t.tells.pool;

@@ -34,7 +34,7 @@ pub data CameAbout : MarksDevice → Type 0 where
   cut : {d : MarksDevice} → CameAbout d → (path : ℕ) → (t : CameTo (reset by_plain d path)) → CameAbout t.state
   lost : {d : MarksDevice} → CameAbout d → (loss : Loss) → HasLost d loss → (t : CameTo (lose by_plain d loss)) → CameAbout t.state
   lost_power : {d : MarksDevice} → CameAbout d → (t : CameTo (power by_plain d)) → CameAbout t.state
-  held : {d : MarksDevice} → CameAbout d → suspend_fault d ≡ None → CameAbout (orders.hold d)
+  held : {d : MarksDevice} → CameAbout d → suspend_fault d ≡ None → CameAbout (orders.hold_side d)
   resumed : {d : MarksDevice} → CameAbout d → (is_some d.store.lent ≡ true → d.store.paired ≡ true) → CameAbout (orders.resume d)
   replaced : {d : MarksDevice} → CameAbout d → (side : Side) → replace_fault d side ≡ None → CameAbout (orders.replace d side)
   lent : {x d : MarksDevice} → CameAbout x → CameAbout d → pair_fault x d ≡ None → (t : CameTo (orders.lend by_plain d x.store.device)) → CameAbout t.state

@@ -4,7 +4,7 @@ use Rattle.plain_defs.specs.History.{OpenEntry}
 use Rattle.device_defs.specs.Command.{has_loss}
 use Rattle.device_defs.specs.Contents.{by_plain}
 use Rattle.loss_model.specs.declared.Loss.{Loss}
-use Rattle.device_defs.specs.Events.{one_more}
+use Rattle.device_defs.specs.Events.{one_loss_more}
 use Rattle.device_defs.specs.Excused.{count_lost}
 use Rattle.device_defs.specs.Marks.{MarksDevice}
 use Rattle.device_defs.specs.Pledge.{ends_with_data_check}
@@ -86,7 +86,7 @@ CheckForCause x = EachPair ChecksForCause (devices_of x.happened.before) (device
 -- side has the track and B takes no writes
 
 pub data MayLose (x y : MarksDevice) : Type 0 where
-  by_loss : (loss : Loss) → y.store.counts.losses ≡ one_more x.store.counts.losses loss → MayLose x y
+  by_loss : (loss : Loss) → y.store.counts.losses ≡ one_loss_more x.store.counts.losses loss → MayLose x y
   by_call : x.store.counts.failed < y.store.counts.failed → MayLose x y
   by_full_count : x.store.counts.failed ≡ 2 ^ 64 - 1 → MayLose x y
   by_half : (h : HalfWrite (Unit {0})) → x.store.half ≡ Some h → has_level x.store h.track ≡ false → takes_b x.store ≡ false → MayLose x y

@@ -10,7 +10,7 @@ use Rattle.subsystem_defs.specs.declared.end.EventEnd.{EventEnd}
 use Rattle.subsystem_defs.specs.declared.end.EventEnd.TheVariants as ends
 use Rattle.subsystem_defs.specs.declared.event.Event.TheVariants as events
 use Rattle.subsystem_defs.specs.Deeds.{device_in}
-use Rattle.subsystem_defs.specs.Happening.{Happened}
+use Rattle.subsystem_defs.specs.Happening.{EventHappened}
 use Rattle.subsystem_defs.specs.Lines.{Asked, Once, Run, Settle, Logged}
 use Rattle.subsystem_defs.specs.Subsystem.{devices_of}
 use Rattle.subsystem_laws.specs.Waits.{waiting_in}
@@ -56,7 +56,7 @@ asks_device (Run n) = Some n
 asks_device (Settle n) = Some n
 asks_device _ = None
 
-abbrev pub LowersIn : Option ℕ → Happened → Type 0
+abbrev pub LowersIn : Option ℕ → EventHappened → Type 0
 LowersIn (Some n) h =
     let before = devices_of h.before in
     let behind = devices_of h.behind in

@@ -10,7 +10,7 @@ use Rattle.subsystem_defs.specs.declared.end.EventEnd.{EventEnd}
 use Rattle.subsystem_defs.specs.declared.end.EventEnd.TheVariants as ends
 use Rattle.subsystem_defs.specs.declared.end.OrderFault.TheVariants.{Up}
 use Rattle.subsystem_defs.specs.declared.event.Event.TheVariants as events
-use Rattle.subsystem_defs.specs.Happening.{Happened}
+use Rattle.subsystem_defs.specs.Happening.{EventHappened}
 use Rattle.subsystem_defs.specs.Lines.{Asked, Once, Logged}
 use Rattle.subsystem_defs.specs.Subsystem.{Subsystem, devices_of}
 
@@ -29,7 +29,7 @@ HasToldWaiting s = all_waiting s.pool ≡ waiting_in (devices_of s)
 abbrev pub repair_end : Bool → ℕ → EventEnd
 repair_end up n = if up then ends.Refused Up else if n == 0 then ends.Done else ends.Pending n
 
-abbrev pub RepairsBy : Asked → Happened → Type 0
+abbrev pub RepairsBy : Asked → EventHappened → Type 0
 RepairsBy (Once events.RepairCache) h = h.end ≡ repair_end h.before.pool.cache_up (waiting_in (devices_of h.before))
 RepairsBy (Once events.RepairStore) h = h.end ≡ repair_end h.before.pool.store_up (waiting_in (devices_of h.before))
 RepairsBy _ h = ⊤

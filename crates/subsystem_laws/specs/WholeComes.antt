@@ -14,7 +14,7 @@ use Rattle.subsystem_defs.specs.declared.end.EventEnd.{EventEnd}
 use Rattle.subsystem_defs.specs.declared.end.EventEnd.TheVariants.{Done}
 use Rattle.subsystem_defs.specs.declared.event.Event.{Event}
 use Rattle.subsystem_defs.specs.Deeds.{Deed, Ends, Becomes, Asks, Each, Repairs, Lends, deed}
-use Rattle.subsystem_defs.specs.Happening.{Happened, happens}
+use Rattle.subsystem_defs.specs.Happening.{EventHappened, happens}
 use Rattle.subsystem_defs.specs.Subsystem.{Subsystem, Mounted}
 use Rattle.subsystem_laws.specs.WholeStood.{Stood, devices_at, stood_in, put_at, AreMounted, HaveChains}
 
@@ -91,7 +91,7 @@ abbrev pub subsystem_of : Pool → List Mounted → Subsystem
 subsystem_of pool ms = record { pool = counted_slots pool; mounted = ms }
 
 -- what happens in a run is what came: it ends so, and leaves what a run has mounted for what is left
-pub record IsWhatCame (o : Happened) (end : EventEnd) (pool : Pool) (xs : List Stood) : Type 0 where
+pub record IsWhatCame (o : EventHappened) (end : EventEnd) (pool : Pool) (xs : List Stood) : Type 0 where
   pub ended : o.end ≡ end
   pub left : o.behind.pool ≡ counted_slots pool
   pub mounted : AreMounted pool xs o.behind.mounted

@@ -1,12 +1,12 @@
 ghost use Rattle.std.specs.Prelude.{◌≡◌, ◌<◌, ◌*◌, IfOk, IfSome, is_some, true};
 ghost use Rattle.device_outside.specs.Keeper.{Heard};
-ghost use Rattle.device_outside.specs.Lists.{is_in};
 ghost use Rattle.device_defs.specs.Peek as defs;
 ghost use Rattle.device_defs.specs.Store.{frame_at};
 ghost use Rattle.device_store.specs.Looks.{frame_in, peeked_by, IsPeeked};
 ghost use Rattle.device_store.specs.State.{had, state_of};
-ghost use Rattle.subsystem_core.specs.Devices.{device_at, numbers_of};
+ghost use Rattle.subsystem_core.specs.Devices.{device_at};
 ghost use Rattle.subsystem_core.specs.Keepers.{TakesAll};
+ghost use Rattle.subsystem_core.specs.Frames.{HasDevice, HasSameDevices};
 ghost use Rattle.subsystem_defs.specs.Looks.{looked};
 ghost use Rattle.subsystem_defs.specs.Subsystem as runs;
 ghost use Rattle.deck_run.specs.Owning.{AreOwn};
@@ -58,10 +58,10 @@ pub fn look_with<V: Volume, K: Keep<TrackImage>>(
     t: TrackNo,
     keep: &mut K,
 ) -> Result<Look, NoMemory>
-    requires here { is_in d (numbers_of sub.old.devices.items) ≡ true }
+    requires here { HasDevice sub.old d }
     requires track { IfSome (device_at sub.old.devices.items d) (λ x. t < x.store.cylinders * 15) }
     requires takes { TakesAll K.takes keep.old sub.old.devices.items }
-    ensures numbers { numbers_of sub.new.devices.items ≡ numbers_of sub.old.devices.items }
+    ensures numbers { HasSameDevices sub.old sub.new }
     ensures takes { TakesAll K.takes keep.new sub.new.devices.items }
     ensures own { AreOwn sub.old.devices.items → AreOwn sub.new.devices.items }
     ensures looked { LooksKept (Heard K.hears K.takes) d t (had look_seen result) sub.old keep.old sub.new keep.new }
@@ -79,9 +79,9 @@ pub fn look<V: Volume>(
     d: DeviceNo,
     t: TrackNo,
 ) -> Result<Look, NoMemory>
-    requires here { is_in d (numbers_of sub.old.devices.items) ≡ true }
+    requires here { HasDevice sub.old d }
     requires track { IfSome (device_at sub.old.devices.items d) (λ x. t < x.store.cylinders * 15) }
-    ensures numbers { numbers_of sub.new.devices.items ≡ numbers_of sub.old.devices.items }
+    ensures numbers { HasSameDevices sub.old sub.new }
     ensures own { AreOwn sub.old.devices.items → AreOwn sub.new.devices.items }
     ensures looked { Looks d t (had look_seen result) sub.old sub.new }
     ensures happened { (run : runs.Subsystem) → StandsAs sub.old run → IsAllowed run d t

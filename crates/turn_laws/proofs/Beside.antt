@@ -24,6 +24,7 @@ use Rattle.device_defs.specs.declared.answers.SecondEnd.{SecondEnd}
 use Rattle.device_defs.specs.declared.answers.Stepped.{Stepped}
 use Rattle.device_defs.specs.Command.{command}
 use Rattle.device_defs.specs.Contents.{contents, by_plain}
+use Rattle.device_defs.specs.Cutting.{power, reset}
 use Rattle.device_defs.specs.Events.{background, lose, second}
 use Rattle.device_defs.specs.Marks.{MarksDevice, half_mark}
 use Rattle.device_defs.specs.Start as S
@@ -41,21 +42,25 @@ use Rattle.device_laws.proofs.KeepLaws.{always_ran, clean_ran}
 use Rattle.device_laws.proofs.KeptEvents.{Continues, command_goes, second_goes, background_goes, lose_goes}
 use Rattle.device_laws.proofs.KeptHistories.{data_checks, extends_itself}
 use Rattle.device_laws.proofs.PlainCommand.{command_follows}
+use Rattle.device_laws.proofs.PlainCuts.{reset_follows}
 use Rattle.device_laws.proofs.PlainEvents.{start_follows}
 use Rattle.device_laws.proofs.PlainLosses.{background_follows, loss_follows}
+use Rattle.device_laws.proofs.PlainPower.{power_follows}
 use Rattle.device_laws.proofs.PlainSeconds.{second_follows}
 use Rattle.device_laws.proofs.PlainTurns.{Follows, RunsAt, ChainOf, none_mid}
 use Rattle.device_laws.proofs.WholeCommand.{command_whole}
-use Rattle.device_laws.proofs.WholeParts.{background_whole, loss_whole, second_whole, start_order, start_fault_same}
+use Rattle.device_laws.proofs.WholeParts.{background_whole, loss_whole, reset_whole, second_whole, start_order, start_fault_same}
+use Rattle.device_laws.proofs.WholePower.{power_whole}
 use Rattle.subsystem_laws.specs.Came.{CameTo}
 use Rattle.subsystem_laws.proofs.Came.{came_had}
+use Rattle.subsystem_laws.proofs.Shapes.{power_shape, reset_shape}
 use Rattle.turn_laws.specs.Standing.{IsBeside, Untold}
 use Rattle.turn_laws.proofs.Untold.{twinned}
 
-itself : (d : WholeDevice) → Continues d.plans d.history d
+pub itself : (d : WholeDevice) → Continues d.plans d.history d
 itself d = record { plans = refl; history = extends_itself d.history }
 
-own_follows : (num : ℕ) (empty : PlainState) (m : MarksDevice) → Follows num empty m → Follows m.store.device (empty_state m.store.geometry m.store.cylinders) m
+pub own_follows : (num : ℕ) (empty : PlainState) (m : MarksDevice) → Follows num empty m → Follows m.store.device (empty_state m.store.geometry m.store.cylinders) m
 own_follows num empty m f =
     subst (λ (x : PlainState). Follows m.store.device x m) f.base (subst (λ (n : ℕ). Follows n empty m) (sym f.number) f)
 
@@ -88,7 +93,7 @@ module _ {K : Type 0} {d : WholeDevice} {u : Outside (List ℕ) K} (s : IsBeside
   abbrev pub marks : MarksDevice
   marks = marks_device s.plain s.firm d
 
-  runs_on : (none : d.store.half ≡ None) (o : OpenEntry) → d.history.running ≡ Some o → (chain : ChainState) → d.chain ≡ Some chain → IsChain chain →
+  pub runs_on : (none : d.store.half ≡ None) (o : OpenEntry) → d.history.running ≡ Some o → (chain : ChainState) → d.chain ≡ Some chain → IsChain chain →
       RunsOn d.store.cylinders d.store.geometry chain
   runs_on none o runs chain is c =
       let f = s.follows in
@@ -98,7 +103,7 @@ module _ {K : Type 0} {d : WholeDevice} {u : Outside (List ℕ) K} (s : IsBeside
       (sym (none_mid _ marks.store.half d.history.running f.before d.chain whole f.mid) ∙ is) s.gives start.least start.most
       (subst (λ (r : Option OpenEntry). RunsAt d.plans (replay d.plans empty d.history.items) r f.before) runs f.runs) f.chain c
 
-  whole_of : (o : OpenEntry) (none : d.store.half ≡ None) → d.history.running ≡ Some o → ((chain : ChainState) → d.chain ≡ Some chain → IsChain chain) →
+  pub whole_of : (o : OpenEntry) (none : d.store.half ≡ None) → d.history.running ≡ Some o → ((chain : ChainState) → d.chain ≡ Some chain → IsChain chain) →
       WholeTwins (Leaves (BehindCommand s.plain (d.store.cylinders * 15) d.chain)) (command contents d) (command by_plain marks) s.held
   whole_of o none runs chains =
       let n = d.store.cylinders in
@@ -106,18 +111,18 @@ module _ {K : Type 0} {d : WholeDevice} {u : Outside (List ℕ) K} (s : IsBeside
       command_whole (n * 15) on (LooksAt n on) (chain_feeds n on) s.plain s.firm d s.held s.order refl refl none
       (λ chain q is needs. runs_looks n on chain q (runs_on none o runs chain is (chains chain is)) needs)
 
-  has : Has [] u s.held
+  pub has : Has [] u s.held
   has = record { a = s.untold.a; b = s.untold.b; slots = subst (λ (o : Option (List ℕ)). SlotsTold u.port.pool o []) (sym s.untold.slots) tt }
 
   module _ {hears : Hearing Image K} (heard : (k : K) (m : Message Image) (r : ReplyTo m) (l : K) → hears k m r l → r ≡ reply m)
       {e : WholeDevice} {z : Outside (List ℕ) K} where
-    behind : {A : Type 0} {a : A} {p : List Track → Type 0} {i : Interaction (List ℕ) Image WholeDevice A} {j : Interaction Bool Image MarksDevice A} →
-        WholeTwins (Leaves p) i j s.held → Had j (λ y _. Follows num empty y) → Always i (λ y _. Continues d.plans d.history y) →
-        Ran (λ ok. ok ≡ true) hears i u e a z → BesideBy j e z
-    behind {a = a} {p = p} {i = i} {j = j} both had goes r =
+    -- its plans are told by what the step over marks came to
+    by_marks : {A : Type 0} {a : A} {p : List Track → Type 0} {i : Interaction (List ℕ) Image WholeDevice A} {j : Interaction Bool Image MarksDevice A} →
+        WholeTwins (Leaves p) i j s.held → Had j (λ y _. Follows num empty y) →
+        ((t : CameTo j) (v w : List Track) → marks_device v w e ≡ t.state → e.plans ≡ d.plans) → Ran (λ ok. ok ≡ true) hears i u e a z → BesideBy j e z
+    by_marks {a = a} {p = p} {i = i} {j = j} both had plans r =
         let o = twinned [] (WholeTwin (Leaves p)) heard s.held both s.untold r in
         let t : CameTo j = record { state = o.state; answer = o.answer; is = o.came } in
-        let same = (always_ran i (λ y _. Continues d.plans d.history y) goes.holds r).plans in
         record {
           beside = record {
             plain = o.is.plain;
@@ -127,11 +132,17 @@ module _ {K : Type 0} {d : WholeDevice} {u : Outside (List ℕ) K} (s : IsBeside
             order = o.is.is.order;
             follows = own_follows num empty (marks_device o.is.plain o.is.firm e)
                 (subst (λ (m : MarksDevice). Follows num empty m) (sym o.is.marks) (came_had had t));
-            gives = subst GiveBytes (sym same) s.gives;
+            gives = subst GiveBytes (sym (plans t o.is.plain o.is.firm o.is.marks)) s.gives;
           };
           to = t;
           is = o.is.marks;
         }
+
+    behind : {A : Type 0} {a : A} {p : List Track → Type 0} {i : Interaction (List ℕ) Image WholeDevice A} {j : Interaction Bool Image MarksDevice A} →
+        WholeTwins (Leaves p) i j s.held → Had j (λ y _. Follows num empty y) → Always i (λ y _. Continues d.plans d.history y) →
+        Ran (λ ok. ok ≡ true) hears i u e a z → BesideBy j e z
+    behind {i = i} both had goes r =
+        by_marks both had (λ t v w is. (always_ran i (λ y _. Continues d.plans d.history y) goes.holds r).plans) r
 
     pub command_beside : (a : Option Stepped) (o : OpenEntry) → d.store.half ≡ None → d.history.running ≡ Some o →
         ((chain : ChainState) → d.chain ≡ Some chain → IsChain chain) → Ran (λ ok. ok ≡ true) hears (command contents d) u e a z →
@@ -165,6 +176,16 @@ module _ {K : Type 0} {d : WholeDevice} {u : Outside (List ℕ) K} (s : IsBeside
     background_beside a none r =
         behind (background_whole s.plain s.firm d s.held s.order none) (background_follows num empty marks s.follows (ap (option_map half_mark) none))
         (background_goes contents d.plans d.history d (itself d)) r
+
+    pub reset_beside : (path : ℕ) (a : Unit {0}) → Ran (λ ok. ok ≡ true) hears (reset contents d path) u e a z → BesideBy (reset by_plain marks path) e z
+    reset_beside path a r =
+        by_marks (reset_whole s.plain s.firm d s.held path s.order (λ i is. (s.order.opened i is).suits)) (reset_follows num empty marks s.follows path)
+        (λ t v w is. ap (λ (m : MarksDevice). m.plans) is ∙ (reset_shape marks path t).1) r
+
+    pub power_beside : (a : Unit {0}) → Ran (λ ok. ok ≡ true) hears (power contents d) u e a z → BesideBy (power by_plain marks) e z
+    power_beside a r =
+        by_marks (power_whole s.plain s.firm d s.held s.order) (power_follows num empty marks s.follows)
+        (λ t v w is. ap (λ (m : MarksDevice). m.plans) is ∙ (power_shape marks t).1) r
 
     pub loss_beside : (loss : Loss) (a : Unit {0}) → Ran (λ ok. ok ≡ true) hears (lose contents d loss) u e a z → BesideBy (lose by_plain marks loss) e z
     loss_beside loss a r =

@@ -47,7 +47,7 @@ use Rattle.device_defs.specs.Contents.{Contents}
 use Rattle.device_defs.specs.Device.{Device, all_acted, event_begun}
 use Rattle.device_defs.specs.Events as V
 use Rattle.device_defs.specs.Events.{background, lose, second, second_ended, second_of}
-use Rattle.device_defs.specs.Owed.{ended as told_at_end, waiting_count}
+use Rattle.device_defs.specs.Owed.{noted_end as told_at_end, waiting_count}
 use Rattle.device_defs.specs.Pledge.{command_count, seat_counts}
 use Rattle.device_defs.specs.Second.{second_part}
 use Rattle.device_defs.specs.Start as S

@@ -5,3 +5,9 @@ pub mod Standing
 pub mod Sound
 pub mod NewDevice
 pub mod Orders
+pub mod Lacking
+pub mod Again
+pub mod Wanting
+pub mod SameAgain
+pub mod Finding
+pub mod Found

@@ -1,25 +1,31 @@
--- A device goes on beside the plain device of its history, and to stand so, behind the orders that hold a side, resume it, or put a volume of as many
--- tracks in place of a failed one.
-use Rattle.std.proofs.Common.{◌≡◌, ◌∙◌, ℕ, Bool, true, false, List, Some, None, is_some, length, refl, sym, subst}
+-- A device goes on beside the plain device of its history, and to stand so, behind the orders that hold a side, resume it, put a volume of as many
+-- tracks in place of a failed one, give it a side B, or take that away.
+use Rattle.std.proofs.Common.{◌≡◌, ◌∙◌, ℕ, Bool, true, false, List, [], ◌∷◌, Option, Some, None, is_some, length, refl, sym, ap, subst}
+use Rattle.std.specs.Prelude.{not, option_map}
 use Rattle.ckd_types.specs.declared.paths.Side.{Side}
 use Rattle.ckd_types.specs.declared.paths.Side.TheVariants.{A, B}
+use Rattle.ckd_types.specs.declared.record.Track.{Track}
+use Rattle.track_image.specs.Image.{Image}
 use Rattle.device_outside.specs.Outside.{Outside, with_view}
 use Rattle.device_outside.specs.Volume.{VolumeView}
-use Rattle.device_defs.specs.Marks.{MarksDevice}
-use Rattle.device_defs.specs.Orders.{replace}
-use Rattle.device_defs.specs.Store.{side_of, tracks_of}
+use Rattle.device_defs.specs.Marks.{MarksDevice, half_mark}
+use Rattle.device_defs.specs.Orders.{join, replace, split}
+use Rattle.device_defs.specs.Store.{HalfWrite, side_of, tracks_of}
 use Rattle.device_laws.specs.Whole.{WholeDevice, holding, marks_device}
-use Rattle.device_laws.proofs.OrdersInOrder.{replace_order, replace_same}
+use Rattle.device_laws.proofs.OrdersInOrder.{join_order, replace_order, replace_same, split_order}
 use Rattle.device_laws.proofs.PlainCommand.{follows_store}
 use Rattle.device_laws.proofs.PlainTurns.{Follows}
 use Rattle.device_laws.proofs.TwinLaws.{held_side_leaves_order}
 use Rattle.plain_defs.specs.PlainState.{empty_state}
-use Rattle.subsystem_defs.specs.Refusals.{replace_fault, suspend_fault}
+use Rattle.subsystem_defs.specs.declared.end.OrderFault.TheVariants.{Unpaired, Down, Half}
+use Rattle.subsystem_defs.specs.Refusals as R
+use Rattle.subsystem_defs.specs.Refusals.{replace_fault, suspend_fault, unpair_fault}
 use Rattle.subsystem_laws.specs.CameAbout.{CameAbout}
 use Rattle.subsystem_laws.specs.Excused.{has_fresh}
 use Rattle.subsystem_laws.proofs.AboutRuns.{about_kept}
 use Rattle.subsystem_laws.proofs.WholeHappens.{suspend_fault_both}
 use Rattle.subsystem_laws.proofs.WholeOrders.{down_by, fault_both, paired_by}
+use Rattle.subsystem_laws.proofs.WholeUnpairs.{may_part}
 use Rattle.turn_laws.specs.Standing.{IsBeside, Stands, Untold}
 use Rattle.turn_laws.proofs.Beside.{marks}
 
@@ -87,4 +93,61 @@ module _ {K : Type 0} (d : WholeDevice) (u : Outside (List ℕ) K) (v : VolumeVi
     never = replaced_never side s;
     about = subst CameAbout (sym (replace_same s.beside.plain s.beside.firm d s.beside.held side))
         (about_kept.replaced (marks s.beside) side (fault_both s.beside.plain s.beside.firm d side ∙ fault) s.about);
+  }
+
+-- Another device's volume becomes side B
+
+module _ {K : Type 0} (d : WholeDevice) (u : Outside (List ℕ) K) (v : VolumeView (List ℕ)) (l : List (List ℕ)) (tells : v.contents ≡ Some l)
+    (long : length l ≡ tracks_of d.store) (single : d.store.paired ≡ false) where
+  pub joined_beside : IsBeside d u → IsBeside (join d) (with_view u B v)
+  joined_beside s = record {
+    plain = s.plain;
+    firm = s.firm;
+    held = holding s.held B l;
+    untold = record { a = s.untold.a; b = tells; slots = s.untold.slots };
+    order = join_order s.plain s.firm d s.held l s.order single long;
+    follows = follows_store d.store.device (empty_state d.store.geometry d.store.cylinders) (marks s) s.follows (join (marks s)).store refl;
+    gives = s.gives;
+  }
+
+  pub joined_stands : Stands d u → Stands (join d) (with_view u B v)
+  unfolding joined_beside
+  joined_stands s = record {
+    beside = joined_beside s.beside;
+    about = about_kept.joins (marks s.beside) (single, s.beside.order.free) s.about;
+    never = s.never;
+  }
+
+-- Side B leaves, where that isn't refused
+
+module _ {K : Type 0} (d : WholeDevice) (u : Outside (List ℕ) K) (fault : unpair_fault d ≡ None) where
+  pub split_beside : IsBeside d u → IsBeside (split d) (record u { b = None })
+  split_beside s =
+      let may = may_part d fault in
+      record {
+        plain = s.plain;
+        firm = s.firm;
+        held = s.held;
+        untold = record { a = s.untold.a; b = tt; slots = s.untold.slots };
+        order = split_order s.plain s.firm d s.held s.order may.none may.up may.level;
+        follows = follows_store d.store.device (empty_state d.store.geometry d.store.cylinders) (marks s) s.follows (split (marks s)).store refl;
+        gives = s.gives;
+      }
+
+  some_marked : (o : Option (HalfWrite Image)) → is_some (option_map half_mark o) ≡ is_some o
+  some_marked None = refl
+  some_marked (Some hw) = refl
+
+  unpair_both : (v w : List Track) → unpair_fault (marks_device v w d) ≡ unpair_fault d
+  unfolding R.unpair_fault
+  unpair_both v w =
+      ap (λ (b : Bool). R.first_cause (R.where_so (not d.store.paired) Unpaired ∷ R.active_by d.history.running ∷ R.where_so b Half
+      ∷ R.where_so (not d.store.a.up) Down ∷ R.not_level_by (R.stale_count d.store) ∷ [])) (some_marked d.store.half)
+
+  pub split_stands : Stands d u → Stands (split d) (record u { b = None })
+  unfolding split_beside
+  split_stands s = record {
+    beside = split_beside s.beside;
+    about = about_kept.splits (marks s.beside) (unpair_both s.beside.plain s.beside.firm ∙ fault) s.about;
+    never = s.never;
   }

@@ -13,6 +13,7 @@ use Rattle.device_defs.specs.declared.answers.SecondEnd.{SecondEnd}
 use Rattle.device_defs.specs.declared.answers.Stepped.{Stepped}
 use Rattle.device_defs.specs.Command.{command}
 use Rattle.device_defs.specs.Contents.{contents, by_plain}
+use Rattle.device_defs.specs.Cutting.{power, reset}
 use Rattle.device_defs.specs.Events.{background, lose, second}
 use Rattle.device_defs.specs.Marks.{MarksDevice, half_mark}
 use Rattle.device_defs.specs.Start as S
@@ -27,7 +28,7 @@ use Rattle.subsystem_laws.specs.Came.{CameTo}
 use Rattle.subsystem_laws.specs.CameAbout.{CameAbout}
 use Rattle.subsystem_laws.specs.Excused.{has_fresh}
 use Rattle.subsystem_laws.proofs.AboutRuns.{about_kept}
-use Rattle.subsystem_laws.proofs.Shapes.{Shape, background_shape, command_shape, lose_shape, none_fresh, second_shape}
+use Rattle.subsystem_laws.proofs.Shapes.{Shape, background_shape, command_shape, lose_shape, none_fresh, power_shape, reset_shape, second_shape}
 use Rattle.subsystem_laws.proofs.Walks.{LeavesSo}
 use Rattle.turn_laws.specs.Standing.{Stands, Untold}
 use Rattle.turn_laws.proofs.Beside as B
@@ -38,6 +39,8 @@ use Rattle.turn_laws.proofs.Beside.{
   beside_there,
   command_beside,
   loss_beside,
+  power_beside,
+  reset_beside,
   second_beside,
   start_beside,
 }
@@ -78,6 +81,13 @@ module _ {K : Type 0} {d : WholeDevice} {u : Outside (List ℕ) K} (s : Stands d
     background_stands a none r =
         so_behind (about_kept.worked before (ap (option_map half_mark) none) s.about) (background_shape before)
         (background_beside s.beside heard a none r)
+
+    pub reset_stands : (path : ℕ) (a : Unit {0}) → Ran (λ ok. ok ≡ true) hears (reset contents d path) u e a z → Stands e z
+    reset_stands path a r =
+        so_behind (about_kept.cut before path s.about) (λ t. (reset_shape before path t).0) (reset_beside s.beside heard path a r)
+
+    pub power_stands : (a : Unit {0}) → Ran (λ ok. ok ≡ true) hears (power contents d) u e a z → Stands e z
+    power_stands a r = so_behind (about_kept.lost_power before s.about) (λ t. (power_shape before t).0) (power_beside s.beside heard a r)
 
     pub loss_stands : (loss : Loss) (a : Unit {0}) → Ran (λ ok. ok ≡ true) hears (lose contents d loss) u e a z → Stands e z
     loss_stands loss a r = so_behind (loss_about loss) (lose_shape before loss) (loss_beside s.beside heard loss a r)

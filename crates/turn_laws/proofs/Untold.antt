@@ -8,11 +8,13 @@ use Rattle.device_outside.specs.Both.{Both, both_done, both_try, both_ask, both_
 use Rattle.device_outside.specs.Pool.{Call, FreeSlot, AnswerTo, unnumbered}
 use Rattle.device_outside.specs.Slots.{MayAnswer, held_after}
 use Rattle.device_outside.specs.Volume.{VolumeView, Delivers, Stores}
-use Rattle.device_outside.specs.Keeper.{Hearing, Message, ReplyTo, reply}
+use Rattle.device_outside.specs.Keeper.{Hearing, Message, BeforeEdit, Firm, ReplyTo, reply}
 use Rattle.device_outside.specs.Interaction.{Interaction}
-use Rattle.device_outside.specs.Outside.{Outside, view_of, with_view, Ran, done, tried, asked, read, wrote, told}
+use Rattle.device_outside.specs.Outside.{Outside, view_of, with_view, Had, Ran, done, tried, asked, read, wrote, told}
 use Rattle.device_outside.specs.After.{Holdings, holds_of, with_held, with_slots}
 use Rattle.turn_laws.specs.Standing.{Untold}
+use Rattle.device_laws.proofs.Always as V
+use Rattle.device_laws.proofs.Always.{Behind}
 use Rattle.subsystem_laws.specs.Came as C
 use Rattle.subsystem_laws.specs.Came.{Came, delivered}
 
@@ -104,3 +106,50 @@ module _ {R I S A T B : Type 0} (z : R) (q : S → A → T → B → Holdings R 
     twinned h {u = u} (both_tell {m = m} {l = l} x) t (told {l = keeper} y hears had r) =
         by_one (λ z b c. subst (λ (r : ReplyTo m). Came (l r) z b) (heard u.keeper m y keeper hears) c)
         (twinned h (x y) (record { a = t.a; b = t.b; slots = t.slots }) r)
+
+-- Whether memory was had or not: the other one's end, and what always holds behind it
+
+pub record Along {R K S A T B : Type 0} (p : T → B → Type 0) (q : S → A → T → B → Holdings R → Type 0) (s : S) (a : A) (w : Outside R K) : Type 0 where
+  pub state : T
+  pub answer : B
+  pub holdings : Holdings R
+  pub untold : Untold w holdings
+  pub is : q s a state answer holdings
+  pub so : p state answer
+
+module _ {R I S A T B : Type 0} (z : R) (q : S → A → T → B → Holdings R → Type 0) (p : T → B → Type 0) where
+  pub along : {K : Type 0} {had : Bool → Type 0} {hears : Hearing I K} {i : Interaction R I S A} {j : Interaction Bool I T B} (h : Holdings R)
+      {u w : Outside R K} {s : S} {a : A} → Both z true q i j h → Behind j p → Untold u h → Ran had hears i u s a w → Along p q s a w
+  unfolding V.Behind
+  along h (both_done x) b t done = record { state = _; answer = _; holdings = h; untold = t; is = x; so = b }
+  along h (both_try x y) b t (tried true m r) = along h x (b true) t r
+  along h (both_try x y) b t (tried false m r) = along h y (b false) t r
+  along h {u = u} (both_ask {call = call} e x) b t (asked {a = a} {p = port} says r) =
+      along (with_slots h call a) (x a (may_answer h.slots call a t.slots)) (b (unnumbered call a)) (asked_still u h port call a t) r
+  along h {u = u} (both_free {slot = slot} o x) b t (asked {a = a} {p = port} says r) =
+      along (with_slots h (FreeSlot slot) tt) x (b tt) (asked_still u h port (FreeSlot slot) tt t) r
+  along h {u = u} (both_read {side = side} {t = n} {k = k} {l = l} x y) b t (read {got = got} {v = v} {u = new} seen gives r) =
+      let c = side_tells u h side t seen in
+      let on = after_got z q k l h side n got (rw c at gives.delivers) x y in
+      along h on.both (b (delivered on.ok)) (has_same u h side new t (ap (λ (y : VolumeView _). y.contents) gives.after ∙ c)) r
+  along h {u = u} (both_write {side = side} {t = n} {r = bytes} {k = k} {l = l} x y) b t (wrote {ok = ok} {v = v} {u = new} seen takes r) =
+      let c = side_tells u h side t seen in
+      let put = after_put z q k l h side n bytes ok new.contents (rw c at takes.stores) x y in
+      along (with_held h side n put.left) put.both (b ok) (has_written u h side new n put.left t put.holds) r
+  along h {u = u} (both_tell {m = m} {l = l} x) b t (told {l = keeper} y hears had r) =
+      along h (x y) (b y) (record { a = t.a; b = t.b; slots = t.slots }) r
+
+-- Where memory was had, each reply is the one where memory is had, whatever the keeper makes of what it hears
+
+reply_by : {I : Type 0} (m : Message I) (r : ReplyTo m) → Had (λ ok. ok ≡ true) m r → r ≡ reply m
+reply_by (BeforeEdit d t i) ok h = h
+reply_by (Firm d t i) r h = refl
+
+pub replied : {R I K S A : Type 0} {hears : Hearing I K} {i : Interaction R I S A} {u w : Outside R K} {s : S} {a : A} →
+    Ran (λ ok. ok ≡ true) hears i u s a w → Ran (λ ok. ok ≡ true) (λ _ m r _. r ≡ reply m) i u s a w
+replied done = done
+replied (tried ok x h) = tried ok x (replied h)
+replied (asked a h) = asked a (replied h)
+replied (read is a h) = read is a (replied h)
+replied (wrote is a h) = wrote is a (replied h)
+replied (told {m = m} r a x h) = told r (reply_by m r x) x (replied h)

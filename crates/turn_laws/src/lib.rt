@@ -7,7 +7,7 @@ ghost use Rattle.ckd_types.specs.declared.geometry.Geometry.{Geometry};
 ghost use Rattle.ckd_types.specs.declared.paths.Side.{Side};
 ghost use Rattle.ckd_types.specs.declared.paths.Side.TheVariants.{B};
 ghost use Rattle.loss_model.specs.declared.Loss.{Loss};
-ghost use Rattle.plain_defs.specs.History.{IsPlain, is_path_of};
+ghost use Rattle.plain_defs.specs.History.{IsPlain, OpenEntry, is_path_of};
 ghost use Rattle.plain_defs.specs.Journal.{Plans};
 ghost use Rattle.plain_defs.specs.PlainState.{empty_state};
 ghost use Rattle.track_image.specs.Image.{Image};
@@ -22,16 +22,23 @@ ghost use Rattle.device_defs.specs.declared.answers.SecondEnd.{SecondEnd};
 ghost use Rattle.device_defs.specs.declared.answers.Stepped.{Stepped};
 ghost use Rattle.device_defs.specs.Command.{command};
 ghost use Rattle.device_defs.specs.Contents.{contents};
+ghost use Rattle.ckd_chain.specs.Facts.{IsChain};
+ghost use Rattle.ckd_chain.specs.State.{ChainState};
+ghost use Rattle.device_defs.specs.Cutting.{power, reset};
 ghost use Rattle.device_defs.specs.Events.{second, background, lose};
 ghost use Rattle.device_defs.specs.Excused.{IsExcused};
-ghost use Rattle.device_defs.specs.Orders.{hold, replace, resume};
+ghost use Rattle.device_defs.specs.Orders.{hold_side, join, replace, resume, split};
+ghost use Rattle.device_defs.specs.Peek.{Peeked, peek};
 ghost use Rattle.device_defs.specs.Pledge.{command_count, seat_counts};
-ghost use Rattle.device_defs.specs.Sound.{IsSound};
+ghost use Rattle.device_defs.specs.Sound.{IsSound, plain_device};
 ghost use Rattle.device_defs.specs.Start.{start};
 ghost use Rattle.device_defs.specs.Store.{HalfWrite, OfBackground, side_of, tracks_of};
 ghost use Rattle.device_laws.specs.Agrees.{Held};
 ghost use Rattle.device_laws.specs.Whole.{WholeDevice};
-ghost use Rattle.subsystem_defs.specs.Refusals.{replace_fault, suspend_fault};
+ghost use Rattle.subsystem_defs.specs.Refusals.{replace_fault, suspend_fault, unpair_fault};
+ghost use Rattle.look_laws.specs.Looking.{is_written_at};
+ghost use Rattle.turn_laws.specs.Again.{IsAgain};
+ghost use Rattle.turn_laws.specs.Found.{FoundPlain};
 ghost use Rattle.subsystem_laws.specs.WholeStood.{opened};
 ghost use Rattle.plain_defs.specs.Whole.{GiveBytes};
 ghost use Rattle.turn_laws.specs.Standing.{IsBeside, IsKept, Stands};
@@ -69,7 +76,7 @@ pub fn new_device_stands()
 /// A device that stands so goes on to behind the orders that hold side B, resume it, or put a volume of as many tracks in place of a failed one, where they
 /// aren't refused.
 pub fn orders_let_stand()
-    ensures held { (d : WholeDevice) (u : Outside (List ℕ) NoKeep) → Stands d u → suspend_fault d ≡ None → Stands (hold d) u }
+    ensures held { (d : WholeDevice) (u : Outside (List ℕ) NoKeep) → Stands d u → suspend_fault d ≡ None → Stands (hold_side d) u }
     ensures resumed { (d : WholeDevice) (u : Outside (List ℕ) NoKeep) → Stands d u → Stands (resume d) u }
     ensures replaced { (d : WholeDevice) (u : Outside (List ℕ) NoKeep) (side : Side) (v : VolumeView (List ℕ)) (l : List (List ℕ)) → Stands d u →
         replace_fault d side ≡ None → v.contents ≡ Some l → length l ≡ tracks_of d.store → Stands (replace d side) (with_view u side v) }
@@ -78,7 +85,7 @@ pub fn orders_let_stand()
 /// A device stays beside the plain device of its history behind these orders whether or not they are refused, where what is replaced is down, and side B
 /// only of a pair.
 pub fn orders_leave_it_beside()
-    ensures held { (d : WholeDevice) (u : Outside (List ℕ) NoKeep) → IsBeside d u → IsBeside (hold d) u × IsBeside (resume d) u }
+    ensures held { (d : WholeDevice) (u : Outside (List ℕ) NoKeep) → IsBeside d u → IsBeside (hold_side d) u × IsBeside (resume d) u }
     ensures replaced { (d : WholeDevice) (u : Outside (List ℕ) NoKeep) (side : Side) (v : VolumeView (List ℕ)) (l : List (List ℕ)) → IsBeside d u →
         (side_of d.store side).up ≡ false → (side ≡ B → d.store.paired ≡ true) → v.contents ≡ Some l → length l ≡ tracks_of d.store →
         IsBeside (replace d side) (with_view u side v) }
@@ -101,4 +108,44 @@ pub fn events_count_one_path()
         Ran (λ ok. Unit {0}) (λ _ m r _. r ≡ reply m) (background contents d) u e a z → seat_counts e ≡ seat_counts d }
     ensures lose { (d e : WholeDevice) (u z : Outside (List ℕ) NoKeep) (a : Unit {0}) (loss : Loss) →
         Ran (λ ok. Unit {0}) (λ _ m r _. r ≡ reply m) (lose contents d loss) u e a z → seat_counts e ≡ seat_counts d }
+{}
+
+/// A device that stands so goes on to behind the reset of a path and a loss of power.
+pub fn cuts_let_stand()
+    ensures reset { (d e : WholeDevice) (u z : Outside (List ℕ) NoKeep) (a : Unit {0}) (path : ℕ) → Stands d u →
+        Ran (λ ok. ok ≡ true) (λ _ m r _. r ≡ reply m) (reset contents d path) u e a z → Stands e z }
+    ensures power { (d e : WholeDevice) (u z : Outside (List ℕ) NoKeep) (a : Unit {0}) → Stands d u →
+        Ran (λ ok. ok ≡ true) (λ _ m r _. r ≡ reply m) (power contents d) u e a z → Stands e z }
+{}
+
+/// So it does behind the orders that make a pair and part one, where they aren't refused.
+pub fn pairs_let_stand()
+    ensures joined { (d : WholeDevice) (u : Outside (List ℕ) NoKeep) (v : VolumeView (List ℕ)) (l : List (List ℕ)) → Stands d u → d.store.paired ≡ false →
+        v.contents ≡ Some l → length l ≡ tracks_of d.store → Stands (join d) (with_view u B v) }
+    ensures parted { (d : WholeDevice) (u : Outside (List ℕ) NoKeep) → Stands d u → unpair_fault d ≡ None → Stands (split d) (record u { b = None }) }
+{}
+
+/// Want of memory in a command, and in what a device does by itself, leaves it beside the plain device of its history, with the plain volume that it had; and, also
+/// where its volumes don't tell what they hold, its paths, its plans and where its program is, and of a device that is no pair its history and its marks.
+pub fn want_of_memory_leaves_device()
+    ensures command { (d e : WholeDevice) (u z : Outside (List ℕ) NoKeep) (o : OpenEntry) → IsBeside d u → d.store.half ≡ None → d.history.running ≡ Some o →
+        ((chain : ChainState) → d.chain ≡ Some chain → IsChain chain) →
+        Ran (λ ok. Unit {0}) (λ _ m r _. r ≡ reply m) (command contents d) u e None z →
+        IsBeside e z × ((plain_device e).volume ≡ (plain_device d).volume) }
+    ensures background { (d e : WholeDevice) (u z : Outside (List ℕ) NoKeep) → IsBeside d u → d.store.half ≡ None →
+        Ran (λ ok. Unit {0}) (λ _ m r _. r ≡ reply m) (background contents d) u e None z →
+        IsBeside e z × ((plain_device e).volume ≡ (plain_device d).volume) }
+    ensures same { (d e : WholeDevice) (u z : Outside (List ℕ) NoKeep) (o : OpenEntry) (chain : ChainState) → d.history.running ≡ Some o →
+        d.chain ≡ Some chain → Ran (λ ok. Unit {0}) (λ _ m r _. r ≡ reply m) (command contents d) u e None z → IsAgain d e }
+    ensures same_by_itself { (d e : WholeDevice) (u z : Outside (List ℕ) NoKeep) →
+        Ran (λ ok. Unit {0}) (λ _ m r _. r ≡ reply m) (background contents d) u e None z → IsAgain d e }
+{}
+
+/// A look at a track, on which no half write of a command or of one that was cut is open, finds the plain device's track; or that it is lost, where it is; or a
+/// side that had it and gave no bytes. It leaves the device beside the plain device of its history. So it is whatever is answered, and whether or not memory is
+/// had.
+pub fn look_finds_plain_track()
+    ensures { (d e : WholeDevice) (u z : Outside (List ℕ) NoKeep) (t : ℕ) (a : Option Peeked) → IsBeside d u → t < tracks_of d.store →
+        is_written_at d.store.half t ≡ false → Ran (λ ok. Unit {0}) (λ _ m r _. r ≡ reply m) (peek contents d t) u e a z →
+        FoundPlain d t a × IsBeside e z }
 {}

@@ -1,15 +1,14 @@
 ghost use Rattle.std.specs.Prelude.{◌≡◌, ◌<◌, IfErr, IfOk, length, true};
 ghost use Rattle.deck_text.specs.DeckLines.{DeckLines};
 ghost use Rattle.device_core.specs.State.{device_of};
-ghost use Rattle.device_outside.specs.Lists.{is_in};
 ghost use Rattle.look_laws.specs.Looking.{is_writing};
-ghost use Rattle.subsystem_core.specs.Devices.{numbers_of};
 ghost use Rattle.subsystem_defs.specs.Decks.{run_of};
 ghost use Rattle.subsystem_defs.specs.Subsystem as runs;
 ghost use Rattle.subsystem_laws.specs.Served.{IsServedDeck};
 ghost use Rattle.deck_run.specs.Standing.{StandsAs};
 ghost use Rattle.volume_save.specs.Saving.{refusal, saving, Gives, HasReason, IsSaved};
 ghost use Rattle.volume_save.specs.Stepping.{FitsRun, GoesOn};
+ghost use Rattle.subsystem_core.specs.Frames.{HasDevice, HasSameDevices};
 
 use crate::Unsaved;
 use ckd_types::{DeviceNo, HEADS, NoMemory, TrackNo};
@@ -52,10 +51,10 @@ fn save_track<V: Volume>(
     t: TrackNo,
     volume: &mut FileVolume,
 ) -> Result<(), Unsaved>
-    requires here { is_in d (numbers_of sub.old.devices.items) ≡ true }
+    requires here { HasDevice sub.old d }
     requires track { t < length volume.old.images }
     requires stands { (run : runs.Subsystem) × StandsAs sub.old run × FitsRun run d volume.old }
-    ensures numbers { numbers_of sub.new.devices.items ≡ numbers_of sub.old.devices.items }
+    ensures numbers { HasSameDevices sub.old sub.new }
     ensures size { length volume.new.images ≡ length volume.old.images }
     ensures found { (run : runs.Subsystem) → StandsAs sub.old run → FitsRun run d volume.old
         → GoesOn run d t volume.old sub.new volume.new result }
@@ -80,7 +79,7 @@ pub fn saved<V: Volume>(
     sub: &mut Subsystem<V>,
     d: DeviceNo,
 ) -> Result<FileVolume, Unsaved>
-    requires here { is_in d (numbers_of sub.old.devices.items) ≡ true }
+    requires here { HasDevice sub.old d }
     requires stands { (run : runs.Subsystem) × StandsAs sub.old run }
     ensures found { (run : runs.Subsystem) → StandsAs sub.old run → Gives result (saving run d) }
     ensures plain { (deck : DeckLines) → IsServedDeck deck → StandsAs sub.old (run_of deck).behind → IfOk result (IsSaved deck d) }

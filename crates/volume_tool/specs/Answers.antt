@@ -34,6 +34,7 @@ use Rattle.volume_tool.specs.declared.top.VolumeStatus.TheVariants.{
 }
 use Rattle.volume_tool.specs.Save.{TellsSave}
 use Rattle.volume_tool.specs.Written.{IsWritten}
+use Rattle.ckd_outside.specs.Causes.{Rose}
 
 -- the exit status of the program
 abbrev pub code_of : VolumeStatus → ℕ
@@ -101,3 +102,7 @@ abbrev pub Tells : VolumeStatus → Option Task → Option (List ℕ) → Option
 Tells status None before after held holds = (after ≡ before) × IsWritten status Usage held holds usage_text
 Tells status (Some tasks.List) before after held holds = TellsList status before after held holds
 Tells status (Some (tasks.Save n)) before after held holds = TellsSave status n before after held holds
+
+-- a failed write is told only where a write failed, by the sink's count of faults before and after
+abbrev pub WriteFaultHasCause : VolumeStatus → ℕ → ℕ → Type 0
+WriteFaultHasCause status before after = status ≡ WriteFault → Rose before after

@@ -8,6 +8,7 @@ ghost use Rattle.volume_save.specs.Devices.{is_declared};
 ghost use Rattle.volume_tool.specs.Save.{device_text, half_text, lent_text, lost_text, side_fault_text, side_text};
 ghost use Rattle.volume_tool.specs.Save.{TellsDeck, TellsSave, TellsWhy};
 ghost use Rattle.volume_tool.specs.Written.{IsWritten};
+ghost use Rattle.volume_tool.specs.Answers.{WriteFaultHasCause};
 
 use crate::top::VolumeStatus;
 use ckd_outside::{Failed, Piece, ReadError, Sink, Source, read_up_to};
@@ -61,7 +62,7 @@ fn write_fault<K: Sink>(sink: &mut K, side: Side) -> Result<(), Failed>
 fn undeclared<K: Sink>(sink: &mut K) -> VolumeStatus
     ensures told { IsWritten result VolumeStatus.Device (K.held sink.old) (K.held sink.new) device_text }
     ensures later { K.faults sink.old ≤ K.faults sink.new }
-    ensures write { result ≡ VolumeStatus.WriteFault → Rose (K.faults sink.old) (K.faults sink.new) }
+    ensures write { WriteFaultHasCause result (K.faults sink.old) (K.faults sink.new) }
 {
     match write_line(sink, &[Piece::Text(b"not saved: device\n")]) {
         Ok(()) => VolumeStatus::Device,
@@ -73,7 +74,7 @@ fn undeclared<K: Sink>(sink: &mut K) -> VolumeStatus
 fn lent<K: Sink>(sink: &mut K) -> VolumeStatus
     ensures told { IsWritten result VolumeStatus.Lent (K.held sink.old) (K.held sink.new) lent_text }
     ensures later { K.faults sink.old ≤ K.faults sink.new }
-    ensures write { result ≡ VolumeStatus.WriteFault → Rose (K.faults sink.old) (K.faults sink.new) }
+    ensures write { WriteFaultHasCause result (K.faults sink.old) (K.faults sink.new) }
 {
     match write_line(sink, &[Piece::Text(b"not saved: lent\n")]) {
         Ok(()) => VolumeStatus::Lent,
@@ -85,7 +86,7 @@ fn lent<K: Sink>(sink: &mut K) -> VolumeStatus
 fn half<K: Sink>(sink: &mut K) -> VolumeStatus
     ensures told { IsWritten result VolumeStatus.Half (K.held sink.old) (K.held sink.new) half_text }
     ensures later { K.faults sink.old ≤ K.faults sink.new }
-    ensures write { result ≡ VolumeStatus.WriteFault → Rose (K.faults sink.old) (K.faults sink.new) }
+    ensures write { WriteFaultHasCause result (K.faults sink.old) (K.faults sink.new) }
 {
     match write_line(sink, &[Piece::Text(b"not saved: half\n")]) {
         Ok(()) => VolumeStatus::Half,
@@ -96,7 +97,7 @@ fn half<K: Sink>(sink: &mut K) -> VolumeStatus
 fn lost<K: Sink>(sink: &mut K, t: TrackNo) -> VolumeStatus
     ensures told { IsWritten result (VolumeStatus.Lost t) (K.held sink.old) (K.held sink.new) (lost_text t) }
     ensures later { K.faults sink.old ≤ K.faults sink.new }
-    ensures write { result ≡ VolumeStatus.WriteFault → Rose (K.faults sink.old) (K.faults sink.new) }
+    ensures write { WriteFaultHasCause result (K.faults sink.old) (K.faults sink.new) }
 {
     match write_lost(sink, t) {
         Ok(()) => VolumeStatus::Lost(t),
@@ -107,7 +108,7 @@ fn lost<K: Sink>(sink: &mut K, t: TrackNo) -> VolumeStatus
 fn fault<K: Sink>(sink: &mut K, side: Side) -> VolumeStatus
     ensures told { IsWritten result (VolumeStatus.Fault side) (K.held sink.old) (K.held sink.new) (side_fault_text side) }
     ensures later { K.faults sink.old ≤ K.faults sink.new }
-    ensures write { result ≡ VolumeStatus.WriteFault → Rose (K.faults sink.old) (K.faults sink.new) }
+    ensures write { WriteFaultHasCause result (K.faults sink.old) (K.faults sink.new) }
 {
     match write_fault(sink, side) {
         Ok(()) => VolumeStatus::Fault(side),
@@ -119,7 +120,7 @@ fn fault<K: Sink>(sink: &mut K, side: Side) -> VolumeStatus
 fn refuse<K: Sink>(sink: &mut K, why: Unsaved) -> VolumeStatus
     ensures told { TellsWhy result why (K.held sink.old) (K.held sink.new) }
     ensures later { K.faults sink.old ≤ K.faults sink.new }
-    ensures write { result ≡ VolumeStatus.WriteFault → Rose (K.faults sink.old) (K.faults sink.new) }
+    ensures write { WriteFaultHasCause result (K.faults sink.old) (K.faults sink.new) }
 {
     match why {
         Unsaved::Lent => lent(sink),
@@ -133,7 +134,7 @@ fn refuse<K: Sink>(sink: &mut K, why: Unsaved) -> VolumeStatus
 fn write<K: Sink>(sink: &mut K, volume: &FileVolume) -> VolumeStatus
     ensures told { IsWritten result VolumeStatus.Done (K.held sink.old) (K.held sink.new) (file_of volume.now) }
     ensures later { K.faults sink.old ≤ K.faults sink.new }
-    ensures write { result ≡ VolumeStatus.WriteFault → Rose (K.faults sink.old) (K.faults sink.new) }
+    ensures write { WriteFaultHasCause result (K.faults sink.old) (K.faults sink.new) }
 {
     match save(volume, sink) {
         Ok(()) => VolumeStatus::Done,
@@ -146,7 +147,7 @@ fn save_device<K: Sink>(alloc: Global, deck: &Deck, d: DeviceNo, sink: &mut K) -
     requires here { is_declared deck.now d ≡ true }
     ensures told { TellsDeck result d (Ok deck.now) (K.held sink.old) (K.held sink.new) }
     ensures later { K.faults sink.old ≤ K.faults sink.new }
-    ensures write { result ≡ VolumeStatus.WriteFault → Rose (K.faults sink.old) (K.faults sink.new) }
+    ensures write { WriteFaultHasCause result (K.faults sink.old) (K.faults sink.new) }
 {
     match saved_behind(alloc, deck, d) {
         Ok(volume) => write(sink, &volume),
@@ -158,7 +159,7 @@ fn save_deck<K: Sink>(alloc: Global, deck: &Deck, n: u64, sink: &mut K) -> Volum
     requires { WasRead deck.now }
     ensures told { TellsDeck result n (Ok deck.now) (K.held sink.old) (K.held sink.new) }
     ensures later { K.faults sink.old ≤ K.faults sink.new }
-    ensures write { result ≡ VolumeStatus.WriteFault → Rose (K.faults sink.old) (K.faults sink.new) }
+    ensures write { WriteFaultHasCause result (K.faults sink.old) (K.faults sink.new) }
 {
     match declared(deck, n) {
         Some(d) => save_device(alloc, deck, d, sink),
@@ -169,7 +170,7 @@ fn save_deck<K: Sink>(alloc: Global, deck: &Deck, n: u64, sink: &mut K) -> Volum
 fn deck_refused<K: Sink>(sink: &mut K, line: u32, why: DeckWhy) -> VolumeStatus
     ensures told { (n : ℕ) → TellsDeck result n (Err (DeckFault.Refused line why)) (K.held sink.old) (K.held sink.new) }
     ensures later { K.faults sink.old ≤ K.faults sink.new }
-    ensures write { result ≡ VolumeStatus.WriteFault → Rose (K.faults sink.old) (K.faults sink.new) }
+    ensures write { WriteFaultHasCause result (K.faults sink.old) (K.faults sink.new) }
 {
     match write_refused(sink, line, why) {
         Ok(()) => VolumeStatus::DeckRefused { line, why },
@@ -180,7 +181,7 @@ fn deck_refused<K: Sink>(sink: &mut K, line: u32, why: DeckWhy) -> VolumeStatus
 fn limit<K: Sink>(sink: &mut K, which: Which) -> VolumeStatus
     ensures told { (n : ℕ) → TellsDeck result n (Err (DeckFault.Limit which)) (K.held sink.old) (K.held sink.new) }
     ensures later { K.faults sink.old ≤ K.faults sink.new }
-    ensures write { result ≡ VolumeStatus.WriteFault → Rose (K.faults sink.old) (K.faults sink.new) }
+    ensures write { WriteFaultHasCause result (K.faults sink.old) (K.faults sink.new) }
 {
     match write_limit(sink, which) {
         Ok(()) => VolumeStatus::Limit(which),
@@ -191,7 +192,7 @@ fn limit<K: Sink>(sink: &mut K, which: Which) -> VolumeStatus
 fn answer<K: Sink>(alloc: Global, text: &[u8], n: u64, sink: &mut K) -> VolumeStatus
     ensures told { TellsDeck result n (parsed text.now) (K.held sink.old) (K.held sink.new) }
     ensures later { K.faults sink.old ≤ K.faults sink.new }
-    ensures write { result ≡ VolumeStatus.WriteFault → Rose (K.faults sink.old) (K.faults sink.new) }
+    ensures write { WriteFaultHasCause result (K.faults sink.old) (K.faults sink.new) }
 {
     match read_deck(alloc, text) {
         Ok(deck) => save_deck(alloc, &deck, n, sink),
@@ -211,7 +212,7 @@ pub(crate) fn serve_save<S: Source, K: Sink>(
     ensures told { TellsSave result n (S.left source.old) (S.left source.new) (K.held sink.old) (K.held sink.new) }
     ensures read { result ≡ VolumeStatus.ReadFault → Rose (S.faults source.old) (S.faults source.new) }
     ensures calm { result ≢ VolumeStatus.ReadFault → S.faults source.new ≡ S.faults source.old }
-    ensures write { result ≡ VolumeStatus.WriteFault → Rose (K.faults sink.old) (K.faults sink.new) }
+    ensures write { WriteFaultHasCause result (K.faults sink.old) (K.faults sink.new) }
 {
     match read_up_to(alloc, source, MOST_READ) {
         Ok(text) => answer(alloc, &text, n, sink),

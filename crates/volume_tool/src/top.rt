@@ -6,7 +6,7 @@ ghost use Rattle.deck_text.specs.Parse.{parsed};
 ghost use Rattle.volume_file.specs.File.{ImageVolume, IsWhole, file_of};
 ghost use Rattle.volume_texts.specs.Faults.{head_text, track_text, trailing_text};
 ghost use Rattle.volume_texts.specs.List.{rows_text};
-ghost use Rattle.volume_tool.specs.Answers.{Tells, TellsFault, TellsList, code_of, task_of, usage_text};
+ghost use Rattle.volume_tool.specs.Answers.{Tells, TellsFault, TellsList, code_of, task_of, usage_text, WriteFaultHasCause};
 ghost use Rattle.volume_tool.specs.Save.{status_for};
 ghost use Rattle.volume_tool.specs.Written.{IsWritten};
 
@@ -112,7 +112,7 @@ fn bad_head<K: Sink>(sink: &mut K, offset: u32) -> VolumeStatus
     ensures told { IsWritten result (VolumeStatus.BadHead offset)
         (K.held sink.old) (K.held sink.new) (head_text offset) }
     ensures later { K.faults sink.old ≤ K.faults sink.new }
-    ensures write { result ≡ VolumeStatus.WriteFault → Rose (K.faults sink.old) (K.faults sink.new) }
+    ensures write { WriteFaultHasCause result (K.faults sink.old) (K.faults sink.new) }
 {
     match write_head(sink, offset) {
         Ok(()) => VolumeStatus::BadHead { offset },
@@ -124,7 +124,7 @@ fn bad_track<K: Sink>(sink: &mut K, track: TrackNo, offset: u32) -> VolumeStatus
     ensures told { IsWritten result (VolumeStatus.BadTrack track offset)
         (K.held sink.old) (K.held sink.new) (track_text track offset) }
     ensures later { K.faults sink.old ≤ K.faults sink.new }
-    ensures write { result ≡ VolumeStatus.WriteFault → Rose (K.faults sink.old) (K.faults sink.new) }
+    ensures write { WriteFaultHasCause result (K.faults sink.old) (K.faults sink.new) }
 {
     match write_track(sink, track, offset) {
         Ok(()) => VolumeStatus::BadTrack { track, offset },
@@ -136,7 +136,7 @@ fn trailing<K: Sink>(sink: &mut K, offset: u32) -> VolumeStatus
     ensures told { IsWritten result (VolumeStatus.Trailing offset)
         (K.held sink.old) (K.held sink.new) (trailing_text offset) }
     ensures later { K.faults sink.old ≤ K.faults sink.new }
-    ensures write { result ≡ VolumeStatus.WriteFault → Rose (K.faults sink.old) (K.faults sink.new) }
+    ensures write { WriteFaultHasCause result (K.faults sink.old) (K.faults sink.new) }
 {
     match write_trailing(sink, offset) {
         Ok(()) => VolumeStatus::Trailing { offset },
@@ -148,7 +148,7 @@ fn trailing<K: Sink>(sink: &mut K, offset: u32) -> VolumeStatus
 fn refuse<K: Sink>(sink: &mut K, fault: LoadFault) -> VolumeStatus
     ensures told { TellsFault result fault (K.held sink.old) (K.held sink.new) }
     ensures later { K.faults sink.old ≤ K.faults sink.new }
-    ensures write { result ≡ VolumeStatus.WriteFault → Rose (K.faults sink.old) (K.faults sink.new) }
+    ensures write { WriteFaultHasCause result (K.faults sink.old) (K.faults sink.new) }
 {
     match fault {
         LoadFault::BadHead { offset } => bad_head(sink, offset),
@@ -163,7 +163,7 @@ fn list<K: Sink>(sink: &mut K, geometry: Geometry, cylinders: u8, rows: &[Row]) 
     ensures told { IsWritten result VolumeStatus.Done
         (K.held sink.old) (K.held sink.new) (rows_text geometry cylinders rows.now) }
     ensures later { K.faults sink.old ≤ K.faults sink.new }
-    ensures write { result ≡ VolumeStatus.WriteFault → Rose (K.faults sink.old) (K.faults sink.new) }
+    ensures write { WriteFaultHasCause result (K.faults sink.old) (K.faults sink.new) }
 {
     match write_listing(sink, geometry, cylinders, rows) {
         Ok(()) => VolumeStatus::Done,
@@ -175,7 +175,7 @@ fn serve_list<S: Source, K: Sink>(alloc: Global, source: &mut S, sink: &mut K) -
     ensures told { TellsList result (S.left source.old) (S.left source.new) (K.held sink.old) (K.held sink.new) }
     ensures read { result ≡ VolumeStatus.ReadFault → Rose (S.faults source.old) (S.faults source.new) }
     ensures calm { result ≢ VolumeStatus.ReadFault → S.faults source.new ≡ S.faults source.old }
-    ensures write { result ≡ VolumeStatus.WriteFault → Rose (K.faults sink.old) (K.faults sink.new) }
+    ensures write { WriteFaultHasCause result (K.faults sink.old) (K.faults sink.new) }
 {
     match read_listing(alloc, source) {
         Ok(listing) => list(sink, listing.geometry, listing.cylinders, &listing.rows),
@@ -186,7 +186,7 @@ fn serve_list<S: Source, K: Sink>(alloc: Global, source: &mut S, sink: &mut K) -
 fn usage<K: Sink>(sink: &mut K) -> VolumeStatus
     ensures told { IsWritten result VolumeStatus.Usage (K.held sink.old) (K.held sink.new) usage_text }
     ensures later { K.faults sink.old ≤ K.faults sink.new }
-    ensures write { result ≡ VolumeStatus.WriteFault → Rose (K.faults sink.old) (K.faults sink.new) }
+    ensures write { WriteFaultHasCause result (K.faults sink.old) (K.faults sink.new) }
 {
     match write_usage(sink) {
         Ok(()) => VolumeStatus::Usage,
@@ -204,7 +204,7 @@ fn serve<S: Source, K: Sink>(
         (S.left source.old) (S.left source.new) (K.held sink.old) (K.held sink.new) }
     ensures read { result ≡ VolumeStatus.ReadFault → Rose (S.faults source.old) (S.faults source.new) }
     ensures calm { result ≢ VolumeStatus.ReadFault → S.faults source.new ≡ S.faults source.old }
-    ensures write { result ≡ VolumeStatus.WriteFault → Rose (K.faults sink.old) (K.faults sink.new) }
+    ensures write { WriteFaultHasCause result (K.faults sink.old) (K.faults sink.new) }
 {
     match task_of(words) {
         Some(Task::List) => serve_list(alloc, source, sink),
@@ -226,7 +226,7 @@ pub fn volume_top<S: Source, K: Sink>(
         (S.left source.old) (S.left source.new) (K.held sink.old) (K.held sink.new) }
     ensures read { result ≡ VolumeStatus.ReadFault → Rose (S.faults source.old) (S.faults source.new) }
     ensures calm { result ≢ VolumeStatus.ReadFault → S.faults source.new ≡ S.faults source.old }
-    ensures write { result ≡ VolumeStatus.WriteFault → Rose (K.faults sink.old) (K.faults sink.new) }
+    ensures write { WriteFaultHasCause result (K.faults sink.old) (K.faults sink.new) }
 
     // The file of every volume is listed, unless memory runs out or the outside fails.
     ensures complete { (v : ImageVolume) → IsWhole v → S.left source.old ≡ Some (file_of v)

@@ -15,15 +15,15 @@ use Rattle.device_defs.specs.Background.{work}
 use Rattle.device_defs.specs.Choosing.{provisionally_written}
 use Rattle.device_defs.specs.Contents.{Contents}
 use Rattle.device_defs.specs.Editing.{write}
-use Rattle.device_defs.specs.Effects.{acted, gone_back, loose_lost, hardened, loosened}
+use Rattle.device_defs.specs.Effects.{act_noted, gone_back, loose_lost, hardened, loosened}
 use Rattle.device_defs.specs.Events.{with_loss, lost_by, losing}
 use Rattle.device_defs.specs.Image.{level_bytes, image}
 use Rattle.device_defs.specs.Losses as L
-use Rattle.device_defs.specs.Losses.{over, down, settled, without_frame, side_lost, store_lost, all_firm_told}
+use Rattle.device_defs.specs.Losses.{over, down, settled, stale_everywhere, without_frame, side_lost, store_lost, all_firm_told}
 use Rattle.device_defs.specs.Owed.{hear, all_told}
 use Rattle.device_defs.specs.Second.{second_part}
 use Rattle.device_defs.specs.Store.{HalfWrite, Store, tracks_of, has_loose, is_loose, with_stale}
-use Rattle.device_defs.specs.Writing.{taken_a}
+use Rattle.device_defs.specs.Writing.{write_counted, taken_a}
 use Rattle.device_laws.proofs.Based.{
   Base,
   base_of,
@@ -46,7 +46,7 @@ use Rattle.device_laws.proofs.Based.{
   based_forget,
 }
 use Rattle.device_laws.proofs.walks.Within.{Policy, Within, within_done, within_try, within_ask, within_read, within_write, within_tell, within_weaker}
-use Rattle.device_laws.proofs.walks.Moves.{Shut, Moves, stays, Ends, Goes, Comes, IsKept, moves_keep, IsEnded, ends_keep}
+use Rattle.device_laws.proofs.walks.Moves.{Kind, Shut, Half, Emptied, Losing, Moves, stays, Ends, Goes, Comes, IsKept, moves_keep, IsEnded, ends_keep}
 use Rattle.device_laws.proofs.walks.Reads.{
   over_moves,
   side_moves,
@@ -97,44 +97,49 @@ module _ {F P H R : Type 0} (c : Contents F P H R) where
       by_loose true = refl
       by_loose false = acted_base z (Loosen t) refl
 
-  calls_kept : IsKept calls Shut c Counts
-  calls_kept = record {
+  -- where nothing is noted as lost
+  calls_kept : (kind : Kind) → ((loss : Loss) → kind ≡ Losing loss → ⊥) → IsKept calls kind c Counts
+  calls_kept kind none = record {
     reads = λ m n z ok is e. read_same m (base_of z) n ok is e;
     writes = λ m n z ok is e. write_same m (base_of z) n ok is e;
     falls_reading = λ m n z side pair is e. down_base _ side ∙ read_same m (base_of z) n false is e;
     falls_writing = λ m n z side pair is e. down_base _ side ∙ write_same m (base_of z) n false is e;
-    falls = λ n z side lost e. absurd (cc);
-    takes = λ n z t e. taken_base z t ∙ e;
+    falls = λ n z side lost e. absurd (none (losses.Side side) lost);
+    takes = λ n z t is up e. taken_base z t ∙ e;
     levels = λ n z side t e. level_base z side t ∙ e;
-    spoils = λ n z t is alone e. e;
+    spoils = λ n z t is alone why e. e;
     stales = λ n z t half away e. stale_base z t ∙ e;
-    firms = λ n z t is loose e. stale_base (hardened z t) t ∙ acted_base z (Harden t) refl ∙ e;
+    firms = λ n z t is loose why e. stale_base (hardened z t) t ∙ acted_base z (Harden t) refl ∙ e;
+    firms_taken = λ m n z t is loose up wrote e. let y = stale_everywhere (hardened z t) t in
+        taken_base (write_counted y true) t ∙ write_same m (base_of y) n true wrote (stale_base (hardened z t) t ∙ acted_base z (Harden t) refl ∙ e);
     marks = λ n z t f bare is clean e. e;
     hardens = λ n z t bare loose e. acted_base z (Harden t) refl ∙ e;
     loses = λ n z t bare none half e. e;
     drops = λ n z t clean e. e;
-    fills = λ n z t i patched is e. e;
-    frames = λ n z t o e. e;
-    unframes = λ n z t e. e;
+    fills = λ n z t i patched is level e. e;
+    frames = λ n z t o bare why e. e;
+    renews = λ n z t i g bare is e. e;
+    unframes = λ n z t may e. e;
     patches = λ n z t e. e;
     unpatches = λ n z t slot e. e;
     queues = λ n z t room e. e;
-    dequeues = λ n z ts e. e;
+    dequeues = λ n z ts less e. e;
     edits = λ n z t edit e. e;
-    goes_fast = λ n z t i edit slot e. e;
+    goes_fast = λ n z t i edit slot there e. e;
     goes_provisionally = λ n z t i edit is e. provisional_base z t i edit ∙ e;
-    goes_back = λ n z some e. e;
-    loses_loose = λ n z lossy some e. absurd (cc);
-    closes = λ n z e. e;
+    goes_back = λ n z may some e. e;
+    loses_loose = λ n z lossy some e. absurd (none losses.Cache lossy);
+    closes = λ n z why e. e;
     cuts = λ n z h bypass edit is e. e;
-    notes = λ n z loss lossy e. absurd (cc);
+    notes = λ n z loss lossy e. absurd (none loss lossy);
     pays = λ n z t o e. e;
   }
 
-  calls_ended : IsEnded c Counts Counts
-  calls_ended = record {
+  calls_ended : (kind : Kind) → IsEnded calls kind c Counts Counts
+  calls_ended kind = record {
     weaker = λ n z e. e;
-    opens = λ n z t i origin may e. e;
+    opens = λ n z t i origin is may firm e. e;
+    opens_cleaned = λ n z t i origin is may firm e. e;
     pays = λ n z t o e. e;
   }
 
@@ -142,10 +147,16 @@ module _ {F P H R : Type 0} (c : Contents F P H R) where
   Steady s i = Based base_of Hushed (base_of s) i
 
   pub moves_count : (s : Store F P H) {n : Base} {z : Store F P H} → Moves calls Shut c (base_of s) s n z → base_of z ≡ n
-  moves_count s m = moves_keep {q = Counts} calls_kept refl m
+  moves_count s m = moves_keep {q = Counts} (calls_kept Shut (λ loss e. absurd (cc))) refl m
+
+  pub parts_count : (s : Store F P H) {n : Base} {z : Store F P H} → Moves calls Emptied c (base_of s) s n z → base_of z ≡ n
+  parts_count s m = moves_keep {q = Counts} (calls_kept Emptied (λ loss e. absurd (cc))) refl m
 
   pub ends_count : (s : Store F P H) {n : Base} {z : Store F P H} → Ends calls Shut c (base_of s) s n z → base_of z ≡ n
-  ends_count s m = ends_keep {q = Counts} {g = Counts} calls_kept calls_ended refl m
+  ends_count s m = ends_keep {q = Counts} {g = Counts} (calls_kept Shut (λ loss e. absurd (cc))) (calls_ended Shut) refl m
+
+  pub half_ends_count : (s : Store F P H) {n : Base} {z : Store F P H} → Ends calls Half c (base_of s) s n z → base_of z ≡ n
+  half_ends_count s m = ends_keep {q = Counts} {g = Counts} (calls_kept Half (λ loss e. absurd (cc))) (calls_ended Half) refl m
 
   moves_steady : {A : Type 0} (s : Store F P H) {i : Interaction R Image (Store F P H) A} → Goes calls Shut c (base_of s) s (base_of s) i → Steady s i
   moves_steady s x = within_based (within_weaker x (λ n z a m. moves_count s m))
@@ -168,12 +179,12 @@ module _ {F P H R : Type 0} (c : Contents F P H R) where
   side_base s side writing = moves_count (down s side) (side_moves s side writing stays) ∙ down_base s side
 
   pub store_base : (s : Store F P H) → base_of (store_lost c s) ≡ base_of s
-  store_base s = moves_count s (store_moves s (λ e. absurd (cc)) stays)
+  store_base s = parts_count s (store_moves s tt stays)
 
   pub swept_base : (n : ℕ) (s : Store F P H) → base_of (over n (λ t z. settled c (without_frame z t) t) s) ≡ base_of s
-  swept_base n s = moves_count s (over_moves (λ t z. settled c (without_frame z t) t) swept_moves n s stays)
+  swept_base n s = parts_count s (over_moves (λ t z. settled c (without_frame z t) t) (swept_moves tt) n s stays)
 
-  loose_by : (s : Store F P H) (x : Bool) → kept (record (if x then acted (gone_back s) CfwLost else s) { queue = [] }) ≡ kept s
+  loose_by : (s : Store F P H) (x : Bool) → kept (record (if x then act_noted (gone_back s) CfwLost else s) { queue = [] }) ≡ kept s
   loose_by s true = refl
   loose_by s false = refl
 
@@ -192,7 +203,7 @@ module _ {F P H R : Type 0} (c : Contents F P H R) where
   -- Images, writes, and work
 
   pub level_steady : (s : Store F P H) (t : ℕ) → Steady s (level_bytes c s t)
-  level_steady s t = moves_steady s (level_goes s t stays)
+  level_steady s t = moves_steady s (within_weaker (level_goes s t stays) (λ n z g x. x.0))
 
   pub image_steady : (s : Store F P H) (u : Usage) (t : ℕ) → Steady s (image c s u t)
   image_steady s u t = moves_steady s (image_goes s u t stays)
@@ -200,8 +211,10 @@ module _ {F P H R : Type 0} (c : Contents F P H R) where
   pub write_steady : (s : Store F P H) (u : Usage) (first t : ℕ) (old : Image) (e : Edit) → Steady s (write c s u first t old e)
   write_steady s u first t old e = ends_steady s (write_comes refl s u first t old e stays)
 
-  pub second_steady : (s : Store F P H) (h : HalfWrite H) → Steady s (second_part c s h)
-  second_steady s h = moves_steady s (second_part_goes s h stays)
+  pub second_steady : (s : Store F P H) (h : HalfWrite H) → s.half ≡ Some h → Steady s (second_part c s h)
+  second_steady s h is =
+      within_based (within_weaker (second_part_goes (λ e. absurd (cc)) s h is stays)
+      (λ n z a m. moves_keep {q = Counts} (calls_kept Half (λ loss e. absurd (cc))) refl m))
 
   pub work_steady : (s : Store F P H) → Steady s (work c s)
   work_steady s = ends_steady s (work_comes refl s stays)

@@ -17,17 +17,17 @@ use Rattle.device_defs.specs.Device.{Device, event_ended}
 use Rattle.device_defs.specs.Effects.{loosened, hardened, with_loose_edit}
 use Rattle.device_defs.specs.Events.{second, background, lose}
 use Rattle.device_defs.specs.Image.{read_counted}
-use Rattle.device_defs.specs.Losses.{over, down, side_lost, without_frame}
+use Rattle.device_defs.specs.Losses.{over, down, stale_everywhere, side_lost, without_frame}
 use Rattle.device_defs.specs.Orders as K
 use Rattle.device_defs.specs.Orders.{lent_to, given_up, lend}
-use Rattle.device_defs.specs.Owed.{begun, waiting_count}
+use Rattle.device_defs.specs.Owed.{noted_begin, waiting_count}
 use Rattle.device_defs.specs.Store.{HalfWrite, SideMarks, Store, tracks_of, stale_at, half_is, is_loose, with_stale, with_frame}
 use Rattle.device_defs.specs.Writing.{write_counted}
 use Rattle.device_laws.proofs.Always.{Always, always_done, always_then}
 use Rattle.device_laws.proofs.PoolWalks.{asks_always, ended_asks}
 use Rattle.device_laws.proofs.Unlost.{clear_at}
 use Rattle.device_laws.proofs.walks.Within.{always, within_always, within_weaker}
-use Rattle.device_laws.proofs.walks.Moves.{Kind, Shut, Half, Losing, stays, IsKept, moves_keep, IsEnded, ends_keep}
+use Rattle.device_laws.proofs.walks.Moves.{Kind, Shut, Half, Emptied, Losing, stays, IsKept, moves_keep, IsEnded, ends_keep}
 use Rattle.device_laws.proofs.walks.Reads.{over_moves, unpatched_moves, unframed_moves, side_moves}
 use Rattle.device_laws.proofs.walks.Events.{command_leads, second_leads, background_leads, lose_leads, power_leads, reset_leads}
 
@@ -117,28 +117,31 @@ module _ {F P H R : Type 0} (c : Contents F P H R) where
       falls_reading = λ m n z side pair is f. fall (read_counted z false) side f;
       falls_writing = λ m n z side pair is f. fall (write_counted z false) side f;
       falls = λ n z side lost f. fall z side f;
-      takes = λ n z t f. marked z t false z.b.up (so.levels (state_of z) t f);
+      takes = λ n z t is up f. marked z t false z.b.up (so.levels (state_of z) t f);
       levels = λ n z side t f. level z side t f;
-      spoils = λ n z t is alone f. so.firms (state_of z) t is f;
+      spoils = λ n z t is alone why f. so.firms (state_of z) t is f;
       stales = λ n z t other away f. marked z t true z.paired (so.stales (state_of z) t (λ p e. not_it z.half t p other e) f);
-      firms = λ n z t is loose f. marked (hardened z t) t true z.paired (so.firms (state_of z) t is f);
+      firms = λ n z t is loose why f. marked (hardened z t) t true z.paired (so.firms (state_of z) t is f);
+      firms_taken = λ m n z t is loose up wrote f. let y = stale_everywhere (hardened z t) t in
+          marked (write_counted y true) t false y.b.up (so.levels (state_of y) t (marked (hardened z t) t true z.paired (so.firms (state_of z) t is f)));
       marks = λ n z t g bare is clean f. f;
       hardens = λ n z t bare loose f. f;
       loses = λ n z t bare none half f. f;
       drops = λ n z t clean f. f;
-      fills = λ n z t i patched is f. f;
-      frames = λ n z t o f. f;
-      unframes = λ n z t f. f;
+      fills = λ n z t i patched is level f. f;
+      frames = λ n z t o bare why f. f;
+      renews = λ n z t i g bare is f. f;
+      unframes = λ n z t may f. f;
       patches = λ n z t f. f;
       unpatches = λ n z t slot f. f;
       queues = λ n z t room f. f;
-      dequeues = λ n z ts f. f;
+      dequeues = λ n z ts less f. f;
       edits = λ n z t e f. f;
-      goes_fast = λ n z t i e slot f. f;
+      goes_fast = λ n z t i e slot there f. f;
       goes_provisionally = λ n z t i e is f. provisional z t i e (is_loose z t) f;
-      goes_back = λ n z some f. f;
+      goes_back = λ n z may some f. f;
       loses_loose = λ n z lossy some f. f;
-      closes = λ n z f. so.closes (state_of z) f;
+      closes = λ n z why f. so.closes (state_of z) f;
       cuts = λ n z h bypass e is f.
           subst (λ (o : Option ℕ). q (record (state_of z) { half = o })) (ap (option_map (λ (k : HalfWrite H). k.track)) is) f;
       notes = λ n z loss lossy f. f;
@@ -169,7 +172,7 @@ module _ {F P H R : Type 0} (c : Contents F P H R) where
   abbrev IsAlone : SideState → Type 0
   IsAlone x = IsLed x × (x.paired ≡ false)
 
-  alone_so : StaysSo Half IsAlone
+  alone_so : StaysSo Emptied IsAlone
   alone_so = record {
     a = λ x f. (λ e. absurd (cc), f.1);
     b = λ x f. (λ e. absurd (cc), f.1);
@@ -203,17 +206,19 @@ module _ {F P H R : Type 0} (c : Contents F P H R) where
   losing_kept : (loss : Loss) → IsKept always (Losing loss) c (λ n z. IsSteered (state_of z))
   losing_kept loss = sides_kept (Losing loss) IsSteered (steered_so (Losing loss) (λ e. absurd (cc)))
 
-  shut_ended : IsEnded {K = Unit {0}} c (λ n z. IsShut (state_of z)) (λ n z. IsSteered (state_of z))
+  shut_ended : IsEnded always Shut c (λ n z. IsShut (state_of z)) (λ n z. IsSteered (state_of z))
   shut_ended = record {
     weaker = λ n z f. shut_steered f;
-    opens = λ n z t i origin may f. opened_side (state_of z) t f.led may.2;
+    opens = λ n z t i origin is may firm f. opened_side (state_of z) t f.led may.2;
+    opens_cleaned = λ n z t i origin is may firm f. opened_side (state_of z) t f.led may.2;
     pays = λ n z t o f. f;
   }
 
-  steered_ended : IsEnded {K = Unit {0}} c (λ n z. IsSteered (state_of z)) (λ n z. IsSteered (state_of z))
-  steered_ended = record {
+  steered_ended : (kind : Kind) → IsEnded always kind c (λ n z. IsSteered (state_of z)) (λ n z. IsSteered (state_of z))
+  steered_ended kind = record {
     weaker = λ n z f. f;
-    opens = λ n z t i origin may f. opened_side (state_of z) t f.led may.2;
+    opens = λ n z t i origin is may firm f. opened_side (state_of z) t f.led may.2;
+    opens_cleaned = λ n z t i origin is may firm f. opened_side (state_of z) t f.led may.2;
     pays = λ n z t o f. f;
   }
 
@@ -237,13 +242,13 @@ module _ {F P H R : Type 0} (c : Contents F P H R) where
       within_always (within_weaker (background_leads always c tt d) (λ n e a m. ends_keep shut_kept shut_ended (no_half d.store none f) m))
 
   pub second_steers : (d : Device F P H) → IsSide d.store → Steers (second c d)
-  second_steers d f = within_always (within_weaker (second_leads always c tt d Half) (λ n e a m. ends_keep half_kept steered_ended f m))
+  second_steers d f = within_always (within_weaker (second_leads always c tt d Half (λ e. absurd (cc))) (λ n e a m. ends_keep half_kept (steered_ended Half) f m))
 
   pub lose_steers : (d : Device F P H) (loss : Loss) → IsSide d.store → Steers (lose c d loss)
-  lose_steers d loss f = within_always (within_weaker (lose_leads always c tt d loss) (λ n e a m. ends_keep (losing_kept loss) steered_ended f m))
+  lose_steers d loss f = within_always (within_weaker (lose_leads always c tt d loss) (λ n e a m. ends_keep (losing_kept loss) (steered_ended (Losing loss)) f m))
 
   pub power_steers : (d : Device F P H) → IsSide d.store → Steers (power c d)
-  power_steers d f = within_always (within_weaker (power_leads always c tt d) (λ n e a m. ends_keep (losing_kept losses.Cache) steered_ended f m))
+  power_steers d f = within_always (within_weaker (power_leads always c tt d) (λ n e a m. ends_keep (losing_kept losses.Cache) (steered_ended (Losing losses.Cache)) f m))
 
   pub reset_steers : (d : Device F P H) (path : ℕ) → IsSide d.store → Steers (reset c d path)
   reset_steers d path f = within_always (within_weaker (reset_leads always Half c tt d path) (λ n e a m. moves_keep half_kept f m))
@@ -252,14 +257,14 @@ module _ {F P H R : Type 0} (c : Contents F P H R) where
   pub lend_steers : (d : Device F P H) (to : ℕ) → d.store.paired ≡ false → IsSide d.store → Steers (lend c d to)
   unfolding K.lend
   lend_steers d to alone f =
-      always_then {f = event_ended c d} {p = λ y _. IsSide y.store} (always_done (lent (over (tracks_of d.store) (given_up c) (begun d.store)) left))
+      always_then {f = event_ended c d} {p = λ y _. IsSide y.store} (always_done (lent (over (tracks_of d.store) (given_up c) (noted_begin d.store)) left))
       (λ y a g. always_then {f = λ z _. Done (record y { store = z }) a}
       (asks_always (ended_asks c IsSide (λ z t x. x) (waiting_count c d.store) y.store g)) (λ z _ x. always_done x))
     where
-      left : IsAlone (state_of (over (tracks_of d.store) (given_up c) (begun d.store)))
+      left : IsAlone (state_of (over (tracks_of d.store) (given_up c) (noted_begin d.store)))
       left =
-          moves_keep {k = tt} {s = begun d.store} (sides_kept Half IsAlone alone_so) (f.led, alone)
-          (over_moves (given_up c) (λ t z m. unpatched_moves (without_frame z t) t (unframed_moves z t m)) (tracks_of d.store) (begun d.store) stays)
+          moves_keep {k = tt} {s = noted_begin d.store} (sides_kept Emptied IsAlone alone_so) (f.led, alone)
+          (over_moves (given_up c) (λ t z m. unpatched_moves (without_frame z t) t (unframed_moves tt z t m)) (tracks_of d.store) (noted_begin d.store) stays)
 
       lent : (z : Store F P H) → IsAlone (state_of z) → IsSide (lent_to z to)
       lent z g = record {

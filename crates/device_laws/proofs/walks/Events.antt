@@ -43,7 +43,7 @@ use Rattle.device_defs.specs.Events.{with_loss, losing, second_turn, command_end
 use Rattle.device_defs.specs.Image.{Imaged, Has, NoBytes, BadTrack}
 use Rattle.device_defs.specs.Memory.{had_by}
 use Rattle.device_defs.specs.Outcomes.{Turn, ends_with, settles, checks, usage_of}
-use Rattle.device_defs.specs.Owed.{begun, hear, waiting_count}
+use Rattle.device_defs.specs.Owed.{noted_begin, hear, waiting_count}
 use Rattle.device_defs.specs.Store.{Origin, OfCommand, OfCut, OfBackground, HalfWrite, Store, tracks_of, is_lost}
 use Rattle.device_laws.proofs.Based.{Hushed, Any}
 use Rattle.device_laws.proofs.PoolWalks.{ended_asks}
@@ -66,12 +66,12 @@ use Rattle.device_laws.proofs.walks.Writes.{write_comes, second_part_goes, work_
 
 module _ {K F P H R : Type 0} (w : Policy K) (kind : Kind) (c : Contents F P H R) (k : K) (s : Store F P H) where
   -- behind a look: where the command goes on, no half write was opened
-  abbrev WentTo : K → Store F P H → Option Went → Type 0
+  abbrev pub WentTo : K → Store F P H → Option Went → Type 0
   WentTo n z None = Ends w kind c k s n z
   WentTo n z (Some (Over turn)) = Ends w kind c k s n z
   WentTo n z (Some (On chain t)) = Moves w kind c k s n z
 
-  abbrev Looks : K → Interaction R Image (Store F P H) (Option Went) → Type 0
+  abbrev pub Looks : K → Interaction R Image (Store F P H) (Option Went) → Type 0
   Looks n i = Within w Hushed WentTo n i
 
   abbrev pub Later : ℕ → ℕ → Type 0
@@ -103,7 +103,7 @@ module _ {K F P H R : Type 0} {w : Policy K} {kind : Kind} {c : Contents F P H R
         within_then (had_by (came_of_write c chain t)) (write_comes is_shut z u first t i e m) (λ n y o g. came_looks chain t y o g)
     went_looks u first t z i chain (progresses.Local act) m = within_done (moved m)
 
-    looked_looks : {n : K} (chain : ChainState) (first t : ℕ) (z : Store F P H) (o : Option Imaged) → Moves w kind c k s n z →
+    pub looked_looks : {n : K} (chain : ChainState) (first t : ℕ) (z : Store F P H) (o : Option Imaged) → Moves w kind c k s n z →
         Looks w kind c k s n (had_by (looked c chain first t) z o)
     looked_looks chain first t z None m = within_done (moved m)
     looked_looks chain first t z (Some (Has i)) m =
@@ -111,7 +111,7 @@ module _ {K F P H R : Type 0} {w : Policy K} {kind : Kind} {c : Contents F P H R
     looked_looks chain first t z (Some (NoBytes fault)) m = within_done (moved m)
     looked_looks chain first t z (Some (BadTrack side)) m = within_done (moved m)
 
-    look_looks : {n : K} (chain : ChainState) (first t : ℕ) (z : Store F P H) → Moves w kind c k s n z → Looks w kind c k s n (look c chain first t z)
+    pub look_looks : {n : K} (chain : ChainState) (first t : ℕ) (z : Store F P H) → Moves w kind c k s n z → Looks w kind c k s n (look c chain first t z)
     unfolding N.look
     look_looks chain first t z m =
         within_if (is_lost z t) (λ _. within_done (moved m))
@@ -178,11 +178,12 @@ module _ {K F P H R : Type 0} {w : Policy K} {kind : Kind} {c : Contents F P H R
   second_ended_bodies d t (OfCut bypass) done m = within_done m
   second_ended_bodies d t OfBackground done m = within_done m
 
-  pub second_bodies : {n : K} (d : Device F P H) (o : Option (HalfWrite H)) → Moves w kind c k s n d.store → Bodies w kind c k s n (second_of c d o)
-  second_bodies d (Some h) m =
-      within_then (λ z done. second_ended c (with_store d z) h.track h.origin done) (second_part_goes d.store h m)
+  pub second_bodies : {n : K} → (kind ≡ Shut → ⊥) → (d : Device F P H) (o : Option (HalfWrite H)) → d.store.half ≡ o → Moves w kind c k s n d.store →
+      Bodies w kind c k s n (second_of c d o)
+  second_bodies unshut d (Some h) is m =
+      within_then (λ z done. second_ended c (with_store d z) h.track h.origin done) (second_part_goes unshut d.store h is m)
       (λ n z done g. second_ended_bodies (with_store d z) h.track h.origin done (moved g))
-  second_bodies d None m = within_done (moved m)
+  second_bodies unshut d None is m = within_done (moved m)
 
   -- Its end, and its front
 
@@ -198,18 +199,18 @@ module _ {K F P H R : Type 0} {w : Policy K} {kind : Kind} {c : Contents F P H R
         Leaves w kind c k s n (quiet_event c d body)
     quiet_leaves d body x = within_then (event_ended c d) (within_any x) (λ n y a g. ended_leaves d y a g)
 
-    pub event_leaves : {n : K} (d : Device F P H) (body : Device F P H → Interaction R Image (Device F P H) A) → Moves w kind c k s n (begun d.store) →
+    pub event_leaves : {n : K} (d : Device F P H) (body : Device F P H → Interaction R Image (Device F P H) A) → Moves w kind c k s n (noted_begin d.store) →
         ((m : K) (z : Store F P H) → Moves w kind c k s m z → Bodies w kind c k s m (body (record (event_begun d) { store = z }))) →
         Leaves w kind c k s n (event c d body)
     event_leaves d body m x =
         quiet_leaves d (λ y. and_then (hear c 960 y.store) (λ z _. body (record y { store = z })))
-        (within_then (λ z _. body (record (event_begun d) { store = z })) (hear_goes 960 (begun d.store) m) (λ n z _ g. x n z g))
+        (within_then (λ z _. body (record (event_begun d) { store = z })) (hear_goes 960 (noted_begin d.store) m) (λ n z _ g. x n z g))
 
 -- Each event begins with the device's tracks, and no acts
 
 module _ {K F P H R : Type 0} (w : Policy K) (c : Contents F P H R) (k : K) (d : Device F P H) where
   abbrev pub Leads : {A : Type 0} → Kind → Interaction R Image (Device F P H) A → Type 0
-  Leads kind i = Within w Any (λ m e a. Ends w kind c k (begun d.store) m e.store) k i
+  Leads kind i = Within w Any (λ m e a. Ends w kind c k (noted_begin d.store) m e.store) k i
 
   pub background_leads : Leads Shut (background c d)
   unfolding E.background
@@ -218,10 +219,10 @@ module _ {K F P H R : Type 0} (w : Policy K) (c : Contents F P H R) (k : K) (d :
       (λ n z m. within_then (λ y (did : Option Did). Done (with_store (record (event_begun d) { store = z }) y) did) (work_comes refl z m)
       (λ n y did g. within_done g))
 
-  pub second_leads : (kind : Kind) → Leads kind (second c d)
+  pub second_leads : (kind : Kind) → (kind ≡ Shut → ⊥) → Leads kind (second c d)
   unfolding E.second
-  second_leads kind =
-      event_leaves d (λ y. second_of c y y.store.half) stays (λ n z m. second_bodies (record (event_begun d) { store = z }) z.half m)
+  second_leads kind unshut =
+      event_leaves d (λ y. second_of c y y.store.half) stays (λ n z m. second_bodies unshut (record (event_begun d) { store = z }) z.half refl m)
 
   pub lose_leads : (loss : Loss) → Leads (Losing loss) (lose c d loss)
   unfolding E.lose
@@ -234,11 +235,11 @@ module _ {K F P H R : Type 0} (w : Policy K) (c : Contents F P H R) (k : K) (d :
   unfolding U.power
   power_leads =
       quiet_leaves d (λ y. and_then (half_cut c y.store y.store.half) (λ z _. Done (powered_off c y z) (tt {0})))
-      (within_then (λ z _. Done (powered_off c (event_begun d) z) (tt {0})) (half_cut_goes (begun d.store) stays)
-      (λ n z _ g. within_done (moved (powerless_moves (with_loss z losses.Cache) (notes g losses.Cache refl)))))
+      (within_then (λ z _. Done (powered_off c (event_begun d) z) (tt {0})) (half_cut_goes (noted_begin d.store) stays)
+      (λ n z _ g. within_done (moved (powerless_moves tt (with_loss z losses.Cache) (notes g losses.Cache refl)))))
 
   -- a command that lacks memory for its end leaves the device as it was
-  pub command_leads : (g : K → Device F P H → Type 0) → g k d → ((n : K) (e : Device F P H) → Ends w Shut c k (begun d.store) n e.store → g n e) →
+  pub command_leads : (g : K → Device F P H → Type 0) → g k d → ((n : K) (e : Device F P H) → Ends w Shut c k (noted_begin d.store) n e.store → g n e) →
       Within w Any (λ n e a. g n e) k (command c d)
   unfolding N.command
   command_leads g none f =

@@ -1,13 +1,14 @@
 -- One walk of what begins and ends an event, of failed calls and losses, and of the image of a track, into moves.
-use Rattle.std.proofs.Common.{[], ◌≡◌, ◌+◌, zero, suc, ℕ, Bool, true, false, Option, Some, None, is_some, refl, sym, ap, ◌∙◌}
-use Rattle.std.specs.Prelude.{if◌then◌else◌, ◌==◌, length, nat_le, nat_lt}
+use Rattle.std.proofs.Common.{List, get_or, ◌⊎◌, inl, inr, [], ◌≡◌, ◌+◌, zero, suc, ℕ, Bool, true, false, Option, Some, None, is_some, refl, sym, ap, subst, ◌∙◌, arith}
+use Rattle.std.specs.Prelude.{if◌then◌else◌, ◌||◌, ◌==◌, not, length, nat_le, nat_lt}
+use Rattle.ckd_types.specs.declared.parameters.Mode.{Mode}
 use Rattle.ckd_types.specs.declared.paths.Side.{Side}
 use Rattle.ckd_types.specs.declared.paths.Side.TheVariants as sides
 use Rattle.ckd_types.specs.Parameters.{is_bypass}
 use Rattle.loss_model.specs.declared.Loss.{Loss}
 use Rattle.loss_model.specs.declared.Loss.TheVariants as losses
 use Rattle.track_image.specs.Image.{Image}
-use Rattle.device_outside.specs.Interaction.{Done}
+use Rattle.device_outside.specs.Interaction.{Interaction, Done}
 use Rattle.device_defs.specs.declared.usage.Usage.{Usage}
 use Rattle.device_defs.specs.Contents.{Contents}
 use Rattle.device_defs.specs.Cutting.{origin_cut, half_cut, half_ended, half_lost, loose_gone, powerless}
@@ -16,6 +17,8 @@ use Rattle.device_defs.specs.Events.{with_loss, lost_by, losing}
 use Rattle.device_defs.specs.Image as I
 use Rattle.device_defs.specs.Image.{
   Got,
+  Imaged,
+  Has,
   is_sequential,
   queued,
   ahead,
@@ -24,7 +27,12 @@ use Rattle.device_defs.specs.Image.{
   read_b,
   first_read,
   level_bytes,
+  image_of,
   filled,
+  loads,
+  granted,
+  loaded,
+  delivered,
   missed,
   miss,
   clean_image,
@@ -51,7 +59,7 @@ use Rattle.device_defs.specs.Losses.{
   all_firm_told,
   call_failed,
 }
-use Rattle.device_defs.specs.Owed.{hear, all_told}
+use Rattle.device_defs.specs.Owed.{is_modified, is_clean, hear, all_told}
 use Rattle.device_defs.specs.Store.{
   Origin,
   OfCommand,
@@ -73,12 +81,34 @@ use Rattle.device_defs.specs.Store.{
   with_lost,
 }
 use Rattle.device_defs.specs.Writing.{write_counted}
-use Rattle.device_laws.proofs.PoolWalks.{hear_asks, told_asks, filled_asks, missed_asks}
-use Rattle.device_laws.proofs.walks.Within.{Policy, within_done, within_ask, within_read, within_tell, within_then, within_if, asks_within}
+use Rattle.device_laws.proofs.Bools.{not_true}
+use Rattle.device_laws.proofs.Based.{Hushed}
+use Rattle.device_laws.proofs.HeldPlaces.{none_at}
+use Rattle.device_laws.proofs.PoolWalks.{hear_asks, told_asks}
+use Rattle.device_laws.proofs.walks.Within.{
+  Policy,
+  MayFail,
+  read_fails,
+  write_fails,
+  Within,
+  within_done,
+  within_ask,
+  within_read,
+  within_tell,
+  within_then,
+  within_weaker,
+  within_if,
+  within_tried,
+  asks_within,
+}
 use Rattle.device_laws.proofs.walks.Moves.{
   Kind,
   Losing,
+  Empties,
+  Stales,
   IsBare,
+  IsPlain,
+  half_emptied,
   Moves,
   Goes,
   reads,
@@ -92,7 +122,6 @@ use Rattle.device_laws.proofs.walks.Moves.{
   loses,
   drops,
   fills,
-  frames,
   unframes,
   unpatches,
   queues,
@@ -114,7 +143,38 @@ module _ {K F P H R : Type 0} (w : Policy K) (kind : Kind) (c : Contents F P H R
   -- behind a call: where that failed, also with a side of a pair down
   abbrev pub After : K → Bool → Store F P H → Type 0
   After n true z = Moves w kind c k s n z
-  After n false z = Moves w kind c k s n z × ((side : Side) → z.paired ≡ true → Moves w kind c k s n (down z side))
+  After n false z = MayFail w × Moves w kind c k s n z × ((side : Side) → z.paired ≡ true → Moves w kind c k s n (down z side))
+
+  -- from x behind a read: the frames are the same, or a call failed
+  abbrev Gets : K → Store F P H → Interaction R Image (Store F P H) (Got R) → Type 0
+  Gets n x i = Within w Hushed (λ m z (g : Got R). Moves w kind c k s m z × ((z.frames ≡ x.frames) ⊎ MayFail w)) n i
+
+module _ {K F P H R : Type 0} (w : Policy K) (c : Contents F P H R) where
+  plain_if : (t : ℕ) (b : Bool) (x y : Store F P H) → IsPlain w c x t → IsPlain w c y t → IsPlain w c (if b then x else y) t
+  plain_if t true x y e f = e
+  plain_if t false x y e f = f
+
+  queued_plain : (last : Option ℕ) (z : Store F P H) (q t : ℕ) → IsPlain w c z t → IsPlain w c (queued last z q) t
+  queued_plain None z q t e = e
+  queued_plain (Some last) z q t e = plain_if t (nat_le q last) _ z (plain_if t (nat_lt (length z.queue) 64) _ z e e) e
+
+  ahead_plain : (u : Usage) (z : Store F P H) (q t : ℕ) → IsPlain w c z t → IsPlain w c (ahead u z q) t
+  ahead_plain u z q t e =
+      plain_if t (is_sequential u.mode) _ z (queued_plain u.last (queued u.last z (q + 1)) (q + 2) t (queued_plain u.last z (q + 1) t e)) e
+
+  pub plain_on : (z y : Store F P H) (t : ℕ) → IsPlain w c z t → (y.frames ≡ z.frames) ⊎ MayFail w → IsPlain w c y t
+  plain_on z y t (inl plain) (inl same) = inl (ap (λ (l : List (Option F)). is_modified c (get_or l t None)) same ∙ plain)
+  plain_on z y t (inr why) same = inr why
+  plain_on z y t (inl plain) (inr why) = inr why
+
+module _ {F P H R : Type 0} (c : Contents F P H R) where
+  pub none_plain : (o : Option F) (b : Bool) → (is_some o || b) ≡ false → is_modified c o ≡ false
+  none_plain None b e = refl
+  none_plain (Some f) b e = absurd (cc)
+
+  pub clean_plain : (o : Option F) → is_clean c o ≡ true → is_modified c o ≡ false
+  clean_plain None e = refl
+  clean_plain (Some f) e = not_true (c.modified f) e
 
 module _ {K F P H R : Type 0} {w : Policy K} {kind : Kind} {c : Contents F P H R} {k : K} {s : Store F P H} where
   -- Changes that ask nothing
@@ -138,8 +198,8 @@ module _ {K F P H R : Type 0} {w : Policy K} {kind : Kind} {c : Contents F P H R
   pub unpatched_moves : {n : K} (z : Store F P H) (t : ℕ) → Moves w kind c k s n z → Moves w kind c k s n (without_patch c z t)
   unpatched_moves z t m = freed_moves z t (slot_in c (patch_at z t)) m
 
-  pub unframed_moves : {n : K} (z : Store F P H) (t : ℕ) → Moves w kind c k s n z → Moves w kind c k s n (without_frame z t)
-  unframed_moves z t m = moves_if (is_some (frame_at z t)) _ z (λ _. unframes m t) (λ _. m)
+  pub unframed_moves : {n : K} → Empties kind → (z : Store F P H) (t : ℕ) → Moves w kind c k s n z → Moves w kind c k s n (without_frame z t)
+  unframed_moves may z t m = moves_if (is_some (frame_at z t)) _ z (λ _. unframes m t may) (λ _. m)
 
   frame_moves : {n : K} (z : Store F P H) (t : ℕ) (o : Option F) → frame_at z t ≡ o → IsBare z t → Moves w kind c k s n z →
       Moves w kind c k s n (by_frame c z t o)
@@ -165,16 +225,17 @@ module _ {K F P H R : Type 0} {w : Policy K} {kind : Kind} {c : Contents F P H R
   unfolding L.side_lost
   side_moves z side writing m = over_moves (settled_but c writing) (but_moves writing) (tracks_of z) (down z side) m
 
-  pub swept_moves : {n : K} (t : ℕ) (z : Store F P H) → Moves w kind c k s n z → Moves w kind c k s n (settled c (without_frame z t) t)
-  swept_moves t z m = settled_moves (without_frame z t) t (unframed_moves z t m)
+  pub swept_moves : {n : K} → Empties kind → (t : ℕ) (z : Store F P H) → Moves w kind c k s n z → Moves w kind c k s n (settled c (without_frame z t) t)
+  swept_moves may t z m = settled_moves (without_frame z t) t (unframed_moves may z t m)
 
   cache_moves : {n : K} (z : Store F P H) → kind ≡ Losing losses.Cache → Moves w kind c k s n z → Moves w kind c k s n (cache_lost c z)
   unfolding L.cache_lost
   cache_moves z lossy m =
-      over_moves (λ t y. settled c (without_frame y t) t) swept_moves (tracks_of z) (record (loose_lost z) { queue = [] })
-      (dequeues (moves_if (has_loose z) _ z (λ some. loses_loose m lossy some) (λ _. m)) [])
+      over_moves (λ t y. settled c (without_frame y t) t) (swept_moves (subst (λ (x : Kind). Empties x) (sym lossy) tt)) (tracks_of z)
+      (record (loose_lost z) { queue = [] })
+      (dequeues (moves_if (has_loose z) _ z (λ some. loses_loose m lossy some) (λ _. m)) [] (omega arith))
 
-  patch_moves : {n : K} → (kind ≡ Losing losses.Cache → ⊥) → (t : ℕ) (z : Store F P H) → Moves w kind c k s n z → Moves w kind c k s n (patch_lost c t z)
+  patch_moves : {n : K} → Stales kind → (t : ℕ) (z : Store F P H) → Moves w kind c k s n z → Moves w kind c k s n (patch_lost c t z)
   patch_moves away t z m =
       let gone = unpatched_moves z t m in
       moves_if (is_some (patch_at z t)) _ z
@@ -183,28 +244,28 @@ module _ {K F P H R : Type 0} {w : Policy K} {kind : Kind} {c : Contents F P H R
       (stales gone t (ap (λ (h : Option (HalfWrite H)). half_is h t) (half_same z t (slot_in c (patch_at z t))) ∙ other) away)))
       (λ _. m)
 
-  pub store_moves : {n : K} (z : Store F P H) → (kind ≡ Losing losses.Cache → ⊥) → Moves w kind c k s n z → Moves w kind c k s n (store_lost c z)
+  pub store_moves : {n : K} (z : Store F P H) → Stales kind → Moves w kind c k s n z → Moves w kind c k s n (store_lost c z)
   unfolding L.store_lost
   store_moves z away m = over_moves (patch_lost c) (patch_moves away) (tracks_of z) z m
 
   lost_moves : {n : K} (z : Store F P H) (loss : Loss) → kind ≡ Losing loss → Moves w kind c k s n z → Moves w kind c k s n (lost_by c z loss)
   lost_moves z losses.Cache lossy m = cache_moves z lossy m
-  lost_moves z losses.Store lossy m = store_moves z (λ e. absurd (let both : Losing losses.Store ≡ Losing losses.Cache = sym lossy ∙ e in cc)) m
+  lost_moves z losses.Store lossy m = store_moves z (subst (λ (x : Kind). Stales x) (sym lossy) tt) m
   lost_moves z (losses.Side side) lossy m = side_moves z side None (falls m side lossy)
 
-  half_lost_moves : {n : K} (z : Store F P H) (o : Option (HalfWrite H)) → Moves w kind c k s n z → Moves w kind c k s n (half_lost c z o)
-  half_lost_moves z None m = m
-  half_lost_moves {n = n} z (Some h) m = by_origin h.origin
+  half_lost_moves : {n : K} → Empties kind → (z : Store F P H) (o : Option (HalfWrite H)) → Moves w kind c k s n z → Moves w kind c k s n (half_lost c z o)
+  half_lost_moves may z None m = m
+  half_lost_moves {n = n} may z (Some h) m = by_origin h.origin
     where
       by_origin : (origin : Origin) → Moves w kind c k s n (half_ended c z h origin)
-      by_origin (OfCommand bypass e) = unpatched_moves (record z { half = None }) h.track (closes m)
-      by_origin (OfCut bypass) = unpatched_moves (record z { half = None }) h.track (closes m)
-      by_origin OfBackground = closes m
+      by_origin (OfCommand bypass e) = unpatched_moves (record z { half = None }) h.track (closes m (half_emptied may))
+      by_origin (OfCut bypass) = unpatched_moves (record z { half = None }) h.track (closes m (half_emptied may))
+      by_origin OfBackground = closes m (half_emptied may)
 
-  pub powerless_moves : {n : K} (z : Store F P H) → Moves w kind c k s n z → Moves w kind c k s n (powerless c z)
-  powerless_moves z m =
-      over_moves (λ t y. settled c (without_frame y t) t) swept_moves (tracks_of z) (record (half_lost c (loose_gone c z) z.half) { queue = [] })
-      (dequeues (half_lost_moves (loose_gone c z) z.half (moves_if (has_loose z) _ z (λ some. goes_back m some) (λ _. m))) [])
+  pub powerless_moves : {n : K} → Empties kind → (z : Store F P H) → Moves w kind c k s n z → Moves w kind c k s n (powerless c z)
+  powerless_moves may z m =
+      over_moves (λ t y. settled c (without_frame y t) t) (swept_moves may) (tracks_of z) (record (half_lost c (loose_gone c z) z.half) { queue = [] })
+      (dequeues (half_lost_moves may (loose_gone c z) z.half (moves_if (has_loose z) _ z (λ some. goes_back m may some) (λ _. m))) [] (omega arith))
 
   -- Notices, and what is told
 
@@ -241,44 +302,48 @@ module _ {K F P H R : Type 0} {w : Policy K} {kind : Kind} {c : Contents F P H R
 
   pub read_after : {m n : K} (z : Store F P H) (ok : Bool) → w.read m ok ≡ Some n → Moves w kind c k s m z → After w kind c k s n ok (read_counted z ok)
   read_after z true is x = reads x true is
-  read_after z false is x = (reads x false is, λ side pair. falls_reading x side pair is)
+  read_after {m = m} {n = n} z false is x = (read_fails m n is, reads x false is, λ side pair. falls_reading x side pair is)
 
   pub write_after : {m n : K} (z : Store F P H) (ok : Bool) → w.wrote m ok ≡ Some n → Moves w kind c k s m z → After w kind c k s n ok (write_counted z ok)
   write_after z true is x = writes x true is
-  write_after z false is x = (writes x false is, λ side pair. falls_writing x side pair is)
+  write_after {m = m} {n = n} z false is x = (write_fails m n is, writes x false is, λ side pair. falls_writing x side pair is)
 
   pub failed_goes : {n : K} (z : Store F P H) (side : Side) (writing : Option ℕ) → After w kind c k s n false z →
       Goes w kind c k s n (call_failed c z side writing)
   failed_goes z side writing f =
-      within_if z.paired (λ pair. firm_told_goes (tracks_of z) (side_lost c z side writing) (side_moves z side writing (f.1 side pair)))
-      (λ _. within_done f.0)
+      within_if z.paired (λ pair. firm_told_goes (tracks_of z) (side_lost c z side writing) (side_moves z side writing (f.2 side pair)))
+      (λ _. within_done f.1)
 
   -- The image of a track
 
   second_read_goes : {n : K} (fault : Option Side) (z : Store F P H) (got : Option R) → After w kind c k s n (is_some got) z →
-      Goes w kind c k s n (second_read c fault z got)
-  second_read_goes fault z (Some r) f = within_done f
-  second_read_goes fault z None f = within_then (λ y _. Done y _) (failed_goes z sides.B None f) (λ n y _ g. within_done g)
+      Gets w kind c k s n z (second_read c fault z got)
+  second_read_goes fault z (Some r) f = within_done (f, inl refl)
+  second_read_goes fault z None f = within_then (λ y _. Done y _) (failed_goes z sides.B None f) (λ n y _ g. within_done (g, inr f.0))
 
-  read_b_goes : {n : K} (z : Store F P H) (t : ℕ) (fault : Option Side) → Moves w kind c k s n z → Goes w kind c k s n (read_b c z t fault)
+  read_b_goes : {n : K} (z : Store F P H) (t : ℕ) (fault : Option Side) → Moves w kind c k s n z → Gets w kind c k s n z (read_b c z t fault)
   read_b_goes z t fault m =
       within_if (level_at z.b t)
-      (λ _. within_read (λ got n is. second_read_goes fault (read_counted z (is_some got)) got (read_after z (is_some got) is m))) (λ _. within_done m)
+      (λ _. within_read (λ got n is. second_read_goes fault (read_counted z (is_some got)) got (read_after z (is_some got) is m)))
+      (λ _. within_done (m, inl refl))
 
-  first_read_goes : {n : K} (t : ℕ) (z : Store F P H) (got : Option R) → After w kind c k s n (is_some got) z → Goes w kind c k s n (first_read c t z got)
-  first_read_goes t z (Some r) f = within_done f
+  first_read_goes : {n : K} (t : ℕ) (z : Store F P H) (got : Option R) → After w kind c k s n (is_some got) z →
+      Gets w kind c k s n z (first_read c t z got)
+  first_read_goes t z (Some r) f = within_done (f, inl refl)
   first_read_goes t z None f =
-      within_then (λ y _. read_b c y t (Some sides.A)) (failed_goes z sides.A None f) (λ n y _ g. read_b_goes y t (Some sides.A) g)
+      within_then (λ y _. read_b c y t (Some sides.A)) (failed_goes z sides.A None f)
+      (λ n y _ g. within_weaker (read_b_goes y t (Some sides.A) g) (λ n v _ h. (h.0, inr f.0)))
 
-  pub level_goes : {n : K} (z : Store F P H) (t : ℕ) → Moves w kind c k s n z → Goes w kind c k s n (level_bytes c z t)
+  pub level_goes : {n : K} (z : Store F P H) (t : ℕ) → Moves w kind c k s n z → Gets w kind c k s n z (level_bytes c z t)
   unfolding I.level_bytes
   level_goes z t m =
       within_if (level_at z.a t)
       (λ _. within_read (λ got n is. first_read_goes t (read_counted z (is_some got)) got (read_after z (is_some got) is m)))
       (λ _. read_b_goes z t None m)
 
-  pub filled_goes : {n : K} (z : Store F P H) (t : ℕ) (i : Image) → Moves w kind c k s n z → Goes w kind c k s n (filled c z t i)
-  filled_goes z t i m = asks_within (filled_asks c (λ y. Moves w kind c k s _ y) (λ y q j patched is x. fills x q j patched is) z t i m)
+  pub filled_goes : {n : K} (z : Store F P H) (t : ℕ) (i : Image) → IsPlain w c z t → Moves w kind c k s n z → Goes w kind c k s n (filled c z t i)
+  filled_goes z t i plain m =
+      within_if (is_some (patch_at z t)) (λ is. within_ask tt (λ _. within_done (fills m t i true is plain))) (λ is. within_done (fills m t i false is plain))
 
   queued_moves : {n : K} (last : Option ℕ) (z : Store F P H) (t : ℕ) → Moves w kind c k s n z → Moves w kind c k s n (queued last z t)
   queued_moves None z t m = m
@@ -289,22 +354,43 @@ module _ {K F P H R : Type 0} {w : Policy K} {kind : Kind} {c : Contents F P H R
   ahead_moves u z t m =
       moves_if (is_sequential u.mode) _ z (λ _. queued_moves u.last (queued u.last z (t + 1)) (t + 2) (queued_moves u.last z (t + 1) m)) (λ _. m)
 
-  missed_goes : {n : K} (u : Usage) (t : ℕ) (z : Store F P H) (g : Got R) (o : Option R) → Moves w kind c k s n z → Goes w kind c k s n (missed c u t z g o)
-  missed_goes u t z g o m =
-      asks_within (missed_asks c (λ y. Moves w kind c k s _ y) (λ y q j patched is x. fills x q j patched is) (λ v y q x. ahead_moves v y q x) u t z g o m)
+  granted_goes : {n : K} (z : Store F P H) (t : ℕ) (i : Image) (given : Bool) → IsPlain w c z t → Moves w kind c k s n z →
+      Goes w kind c k s n (granted c z t i given)
+  granted_goes z t i given plain m =
+      within_if given (λ _. within_then (λ y _. Done y (Some (Has i))) (filled_goes z t i plain m) (λ n y _ g. within_done g)) (λ _. within_done m)
 
-  miss_goes : {n : K} (z : Store F P H) (u : Usage) (t : ℕ) → Moves w kind c k s n z → Goes w kind c k s n (miss c z u t)
-  miss_goes z u t m = within_then (λ y g. missed c u t y g g.bytes) (level_goes z t m) (λ n y g x. missed_goes u t y g g.bytes x)
+  loaded_goes : {n : K} (z : Store F P H) (t : ℕ) (i : Image) (mode : Mode) → IsPlain w c z t → Moves w kind c k s n z →
+      Goes w kind c k s n (loaded c z t i mode)
+  loaded_goes z t i mode plain m =
+      within_if (loads mode) (λ _. within_tried z _ m (within_ask tt (λ given. granted_goes z t i given plain m))) (λ _. within_done m)
 
-  clean_goes : {n : K} (z : Store F P H) (u : Usage) (t : ℕ) (f : F) → Moves w kind c k s n z → Goes w kind c k s n (clean_image c z u t f)
-  clean_goes z u t f m =
-      within_if (is_bypass u.mode) (λ _. miss_goes z u t m)
-      (λ _. within_ask tt (λ listed. within_if listed (λ _. within_done m) (λ _. miss_goes (with_frame z t None) u t (frames m t None))))
+  delivered_goes : {n : K} (u : Usage) (t : ℕ) (side : Side) (z : Store F P H) (o : Option Image) → IsPlain w c z t → Moves w kind c k s n z →
+      Goes w kind c k s n (delivered c u t side z o)
+  delivered_goes u t side z None plain m = within_done m
+  delivered_goes u t side z (Some i) plain m = loaded_goes (ahead u z t) t i u.mode (ahead_plain w c u z t t plain) (ahead_moves u z t m)
 
-  by_frame_goes : {n : K} (z : Store F P H) (u : Usage) (t : ℕ) (o : Option F) → Moves w kind c k s n z → Goes w kind c k s n (image_by c z u t o)
-  by_frame_goes z u t None m = miss_goes z u t m
-  by_frame_goes z u t (Some f) m = within_if (c.modified f) (λ _. within_done m) (λ _. clean_goes z u t f m)
+  pub missed_goes : {n : K} (u : Usage) (t : ℕ) (z : Store F P H) (g : Got R) (o : Option R) → IsPlain w c z t →
+      Moves w kind c k s n z → Goes w kind c k s n (missed c u t z g o)
+  missed_goes u t z g None plain m = within_done m
+  missed_goes u t z g (Some r) plain m = within_tried z _ m (delivered_goes u t g.side z (image_of c z t r) plain m)
+
+  miss_goes : {n : K} (z : Store F P H) (u : Usage) (t : ℕ) → IsPlain w c z t → Moves w kind c k s n z → Goes w kind c k s n (miss c z u t)
+  miss_goes z u t plain m =
+      within_then (λ y g. missed c u t y g g.bytes) (level_goes z t m) (λ n y g x. missed_goes u t y g g.bytes (plain_on w c z y t plain x.1) x.0)
+
+  clean_goes : {n : K} (z : Store F P H) (u : Usage) (t : ℕ) (f : F) → is_clean c (frame_at z t) ≡ true → Moves w kind c k s n z →
+      Goes w kind c k s n (clean_image c z u t f)
+  clean_goes z u t f clean m =
+      within_if (is_bypass u.mode) (λ _. miss_goes z u t (inl (clean_plain c (frame_at z t) clean)) m)
+      (λ _. within_ask tt (λ listed. within_if listed (λ _. within_done m) (λ _. miss_goes (with_frame z t None) u t
+      (inl (ap (λ (o : Option F). is_modified c o) (none_at z.frames t))) (drops m t clean))))
+
+  by_frame_goes : {n : K} (z : Store F P H) (u : Usage) (t : ℕ) (o : Option F) → frame_at z t ≡ o → Moves w kind c k s n z →
+      Goes w kind c k s n (image_by c z u t o)
+  by_frame_goes z u t None is m = miss_goes z u t (inl (ap (λ (o : Option F). is_modified c o) is)) m
+  by_frame_goes z u t (Some f) is m =
+      within_if (c.modified f) (λ _. within_done m) (λ plain. clean_goes z u t f (ap (is_clean c) is ∙ ap not plain) m)
 
   pub image_goes : {n : K} (z : Store F P H) (u : Usage) (t : ℕ) → Moves w kind c k s n z → Goes w kind c k s n (image c z u t)
   unfolding I.image
-  image_goes z u t m = by_frame_goes z u t (frame_at z t) m
+  image_goes z u t m = by_frame_goes z u t (frame_at z t) refl m

@@ -6,7 +6,8 @@ use Rattle.device_outside.specs.Interaction.{Interaction, Done, Try, Ask, Read, 
 use Rattle.device_outside.specs.Keeper.{Message, BeforeEdit, Firm, ReplyTo}
 use Rattle.device_outside.specs.Pool.{Call, AnswerTo}
 use Rattle.device_defs.specs.Memory.{tried}
-use Rattle.device_laws.proofs.Always.{Always, always_done, always_try, always_ask, always_read, always_write, always_tell}
+use Rattle.device_laws.proofs.Always as A
+use Rattle.device_laws.proofs.Always.{Behind, Always, always_done, always_try, always_ask, always_read, always_write, always_tell}
 use Rattle.device_laws.proofs.Based.{Any}
 use Rattle.device_laws.proofs.Lucky.{Lucky, lucky_done, lucky_try, lucky_ask, lucky_read, lucky_write, lucky_tell}
 use Rattle.device_laws.proofs.PoolWalks.{AsksPool, asks_done, asks_try, asks_ask}
@@ -16,6 +17,11 @@ pub record Policy (K : Type 0) : Type 0 where
   pub had : Bool → Bool
   pub read : K → Bool → Option K
   pub wrote : K → Bool → Option K
+
+-- it considers a failed call of a volume
+pub data MayFail {K : Type 0} (w : Policy K) : Type 0 where
+  read_fails : (m n : K) → w.read m false ≡ Some n → MayFail w
+  write_fails : (m n : K) → w.wrote m false ≡ Some n → MayFail w
 
 -- whether a keeper had memory for what it was told
 abbrev pub agreed : {I : Type 0} → (m : Message I) → ReplyTo m → Bool
@@ -73,6 +79,21 @@ pub within_tried : {K R I S A : Type 0} {w : Policy K} {may : Call → Type 0} {
     (i : Interaction R I S (Option A)) → q n s None → Within w may q n i → Within w may q n (tried s i)
 within_tried s i e x = within_try (λ ok _. within_if ok (λ _. x) (λ _. within_done e))
 
+within_behind : {K R I S A : Type 0} {w : Policy K} {may : Call → Type 0} {q : K → S → A → Type 0} {p : S → A → Type 0} {n : K}
+    (i : Interaction R I S A) → Behind i p → Within w may q n i → Within w may (λ m s a. q m s a × p s a) n i
+unfolding A.Behind
+within_behind (Done s a) h (within_done x) = within_done (x, h)
+within_behind {q = q} {p = p} (Try k) h (within_try x) = within_try (λ ok is. within_behind {q = q} {p = p} (k ok) (h ok) (x ok is))
+within_behind {q = q} {p = p} (Ask call k) h (within_ask m x) = within_ask m (λ a. within_behind {q = q} {p = p} (k a) (h a) (x a))
+within_behind {q = q} {p = p} (Read side t k) h (within_read x) = within_read (λ got n is. within_behind {q = q} {p = p} (k got) (h got) (x got n is))
+within_behind {q = q} {p = p} (Write side t r k) h (within_write x) = within_write (λ ok n is. within_behind {q = q} {p = p} (k ok) (h ok) (x ok n is))
+within_behind {q = q} {p = p} (Tell m k) h (within_tell x) = within_tell (λ r is. within_behind {q = q} {p = p} (k r) (h r) (x r is))
+
+-- with what always holds
+pub within_and_always : {K R I S A : Type 0} {w : Policy K} {may : Call → Type 0} {q : K → S → A → Type 0} {p : S → A → Type 0} {n : K}
+    {i : Interaction R I S A} → Within w may q n i → Always i p → Within w may (λ m s a. q m s a × p s a) n i
+within_and_always {q = q} {p = p} {i = i} x h = within_behind {q = q} {p = p} i h.holds x
+
 -- what calls no volume keeps what the policy kept
 pub asks_within : {K R I S A : Type 0} {w : Policy K} {may : Call → Type 0} {q : K → S → A → Type 0} {n : K} {i : Interaction R I S A} →
     AsksPool may (λ s a. q n s a) i → Within w may q n i
@@ -93,6 +114,10 @@ where_so n false = None
 -- no call of a volume fails
 abbrev pub lucky : Policy (Unit {0})
 lucky = record { had = λ ok. true; read = where_so; wrote = where_so }
+
+pub none_fails : {X : Type 0} → MayFail lucky → X
+none_fails (read_fails m n is) = absurd (cc)
+none_fails (write_fails m n is) = absurd (cc)
 
 pub within_always : {R I S A : Type 0} {may : Call → Type 0} {q : Unit {0} → S → A → Type 0} {n : Unit {0}} {i : Interaction R I S A} →
     Within always may q n i → Always i (λ s a. q tt s a)

@@ -14,6 +14,7 @@ pub returns-clause-well : goal.returns-clause-well
 returns-clause-well c = record {
   shown = c.read_run_runs_plainly.ensures c.requires.0 c.args.deck.now c.requires.1;
   promised = c.read_run_is_promised.ensures c.requires.0 c.args.deck.now c.requires.1;
+  fast = c.fast_writes_are_not_checked.ensures c.args.deck.now;
   origins = c.read_run_has_origins.ensures c.requires.0 c.args.deck.now c.requires.1;
   kept = c.read_run_keeps_writes.ensures c.requires.0 c.args.deck.now c.requires.1;
   transfers = c.run_moves_exactly.ensures c.args.deck.now;

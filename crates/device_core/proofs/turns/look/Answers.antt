@@ -74,7 +74,7 @@ pub returns-then-has-clause-half : goal.returns-then-has-clause-half
 returns-then-has-clause-half g c = ap is_some c.requires.none ∙ sym c.check.ensures.half
 
 pub returns-in-NoBytes-clause-half : goal.returns-in-NoBytes-clause-half
-returns-in-NoBytes-clause-half g c = ap is_some (c.in-Ok.ensures.half ∙ c.requires.none) ∙ sym c.check-in-NoBytes.ensures.half
+returns-in-NoBytes-clause-half g c = ap is_some (c.in-Ok.ensures.leaves.half ∙ c.requires.none) ∙ sym c.check-in-NoBytes.ensures.half
 
 pub returns-in-BadTrack-clause-half : goal.returns-in-BadTrack-clause-half
-returns-in-BadTrack-clause-half g c = ap is_some (c.in-Ok.ensures.half ∙ c.requires.none) ∙ sym c.check_data.ensures.half
+returns-in-BadTrack-clause-half g c = ap is_some (c.in-Ok.ensures.leaves.half ∙ c.requires.none) ∙ sym c.check_data.ensures.half

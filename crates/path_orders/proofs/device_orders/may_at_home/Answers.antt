@@ -1,6 +1,6 @@
 use Rattle.std.proofs.Common.{◌∙◌, sym, ap, subst}
 use Rattle.device_defs.specs.declared.counts.Losses.{Losses}
-use Rattle.device_defs.specs.Events.{one_more}
+use Rattle.device_defs.specs.Events.{one_loss_more}
 use Rattle.path_turns.specs.Keeping.{IsWithin}
 use Rattle.path_orders.proofs.Keeping.{lent_away}
 use Rattle.path_orders.proofs.device_orders.may_at_home.Goals as goal
@@ -10,4 +10,4 @@ returns-then-is_lent g c may home = absurd (lent_away _ (sym c.is_lent.ensures �
 
 pub returns : goal.returns
 returns g c may home =
-    subst (λ (l : Losses). IsWithin l c.args.most) (c.one_more.ensures.is ∙ ap (λ (l : Losses). one_more l c.args.loss) c.losses.ensures) (c.is_within.ensures may)
+    subst (λ (l : Losses). IsWithin l c.args.most) (c.one_more.ensures.is ∙ ap (λ (l : Losses). one_loss_more l c.args.loss) c.losses.ensures) (c.is_within.ensures may)

@@ -23,11 +23,11 @@ invariant_of-self-2 g c =
     let l = c.args.self.now.store.loose in
     let whole : weight l ≡ loose_count l.loose + length c.acts.result.now = omega (arith, ap length c.acts.ensures) in
     record {
-      at_word = at_word_same c.note_acts.new.self.running c.args.self.now.past.running _ _ c.note_acts.ensures.chain c.end_event.ensures.fixed.1
+      at_word = at_word_same c.note_acts.new.self.running c.args.self.now.past.running _ _ c.note_acts.ensures.chain c.end_event.ensures.leaves.cylinders
           c.args.self.now.at_word;
       keeps = c.note_acts.ensures.keeps;
       half_waits = λ one. waits_same c.note_acts.new.self.running c.args.self.now.past.running c.note_acts.ensures.chain c.note_acts.ensures.ends
-          (c.args.self.now.half_waits (ap count_of (sym c.end_event.ensures.half) ∙ one));
-      act_room = subst (λ x. ActRoom (loose_count x.loose) c.note_acts.new.self) (sym c.end_event.ensures.loose)
+          (c.args.self.now.half_waits (ap count_of (sym c.end_event.ensures.leaves.half) ∙ one));
+      act_room = subst (λ x. ActRoom (loose_count x.loose) c.note_acts.new.self) (sym c.end_event.ensures.leaves.loose)
           (c.note_acts.ensures.room (loose_count l.loose) (subst (λ n. ActRoom n c.args.self.now.past) whole c.requires.room));
     }

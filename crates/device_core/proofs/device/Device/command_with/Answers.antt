@@ -11,6 +11,8 @@ use Rattle.device_core.proofs.Commands.{same_device}
 use Rattle.device_core.proofs.Parts.{mapped_some, none_unmapped}
 use Rattle.seen_laws.proofs.Calls.{ends_as_seen}
 use Rattle.seen_laws.proofs.EventCounts.{command_moved, hit_reads_none}
+use Rattle.std.specs.Prelude.{Err}
+use Rattle.device_core.proofs.Promising.{command_ends, command_excused, command_same, command_sound, command_stays_plain}
 use Rattle.device_core.proofs.device.Device.command_with.Goals as goal
 
 pub returns-in-Err-clause-run : goal.returns-in-Err-clause-run
@@ -55,3 +57,39 @@ returns-in-Err-clause-transfers g c = command_moved _ _ _ (returns-in-Err-clause
 
 pub returns-clause-transfers : goal.returns-clause-transfers
 returns-clause-transfers g c = command_moved _ _ _ (returns-clause-run g c)
+
+pub returns-in-Err-clause-sound : goal.returns-in-Err-clause-sound
+returns-in-Err-clause-sound g c =
+    command_sound _ _ _ _ _ _ c.requires.running c.requires.whole c.recall_chain.ensures c.reserve.new.self (Err (record {})) (returns-in-Err-clause-run g c)
+
+pub returns-clause-sound : goal.returns-clause-sound
+returns-clause-sound g c =
+    command_sound _ _ _ _ _ _ c.requires.running c.requires.whole c.recall_chain.ensures c.command_event.new.self.past c.command_event.result (returns-clause-run g c)
+
+pub returns-in-Err-clause-plain : goal.returns-in-Err-clause-plain
+returns-in-Err-clause-plain g c =
+    command_stays_plain _ _ _ _ _ _ c.requires.running c.requires.whole c.recall_chain.ensures c.reserve.new.self (Err (record {})) (returns-in-Err-clause-run g c)
+
+pub returns-clause-plain : goal.returns-clause-plain
+returns-clause-plain g c =
+    command_stays_plain _ _ _ _ _ _ c.requires.running c.requires.whole c.recall_chain.ensures c.command_event.new.self.past c.command_event.result
+    (returns-clause-run g c)
+
+pub returns-clause-excused : goal.returns-clause-excused
+returns-clause-excused g c =
+    command_excused _ _ _ _ _ _ c.requires.running c.requires.whole c.recall_chain.ensures c.command_event.new.self.past c.command_event.result (returns-clause-run g c)
+
+pub returns-in-Err-clause-same_without_memory : goal.returns-in-Err-clause-same_without_memory
+returns-in-Err-clause-same_without_memory g c =
+    command_same _ _ _ _ _ _ c.requires.running c.requires.whole c.recall_chain.ensures c.reserve.new.self (Err (record {})) (returns-in-Err-clause-run g c)
+
+pub returns-clause-same_without_memory : goal.returns-clause-same_without_memory
+returns-clause-same_without_memory g c =
+    command_same _ _ _ _ _ _ c.requires.running c.requires.whole c.recall_chain.ensures c.command_event.new.self.past c.command_event.result (returns-clause-run g c)
+
+pub returns-in-Err-clause-ends : goal.returns-in-Err-clause-ends
+returns-in-Err-clause-ends g c =
+    command_ends c.args.self.now c.args.self.now c.requires.running c.requires.whole c.recall_chain.ensures (returns-in-Err-clause-ends_as_seen g c)
+
+pub returns-clause-ends : goal.returns-clause-ends
+returns-clause-ends g c = command_ends c.args.self.now c.args.self.now c.requires.running c.requires.whole c.recall_chain.ensures (returns-clause-ends_as_seen g c)

@@ -24,7 +24,7 @@ lend-volume-requires g c =
 
 pub returns-clause-b : goal.returns-clause-b
 returns-clause-b g c =
-    ap (λ v. v.b) c.end_event.ensures.volume ∙ c.lend-volume.ensures.b ∙ ap (λ v. v.b) c.begin_event.ensures.volume
+    ap (λ v. v.b) c.end_event.ensures.leaves.volume ∙ c.lend-volume.ensures.b ∙ ap (λ v. v.b) c.begin_event.ensures.leaves.volume
     ∙ none_by c.args.self.now.store.pair.volumes.b c.requires
 
 pub returns-clause-run : goal.returns-clause-run
@@ -36,13 +36,13 @@ returns-clause-run g c =
     let view = g.V.Volume.view in
     let store_is = c.lend-volume.ensures.state
     ∙ ap (λ (s : StoreOf). lent_to (over (tracks_of s) (given_up contents) s) c.args.to) c.begin_event.ensures.state in
-    let b_is = c.lend-volume.ensures.b ∙ ap (λ v. v.b) c.begin_event.ensures.volume in
-    let a_is = c.lend-volume.ensures.back ∙ ap (λ v. v.a) c.begin_event.ensures.volume in
+    let b_is = c.lend-volume.ensures.b ∙ ap (λ v. v.b) c.begin_event.ensures.leaves.volume in
+    let a_is = c.lend-volume.ensures.back ∙ ap (λ v. v.a) c.begin_event.ensures.leaves.volume in
     λ k. lands (ap (λ v. record (outside (g.P.Port.view c.end_event.new.port) c.end_event.new.self k) { a = option_map view v }) (sym a_is))
     (quiet_run d (λ z. Done (with_tracks z (lent_to (over (tracks_of z.store) (given_up contents) z.store) c.args.to)) tt)
     (with_tracks (event_begun d) (state_of lent)) (with_tracks (event_begun d) (state_of c.end_event.new.self))
     (ended (ap (with_tracks (event_begun d)) (sym store_is)) refl)
-    (from_equal (λ n. owed.ended contents n (state_of lent)) c.waiting_count-before.ensures
+    (from_equal (λ n. owed.noted_end contents n (state_of lent)) c.waiting_count-before.ensures
     (ap (λ v. record (outside (g.P.Port.view c.args.port.now) lent k) { a = option_map view (on_a old); b = option_map view v }) b_is)
     (beside (option_map view (on_a old)) (c.end_event.ensures.run k) (ap (option_map view) c.lend-volume.ensures.a)
     (ap (option_map view) (b_is ∙ none_by old.pair.volumes.b c.requires)))) refl)

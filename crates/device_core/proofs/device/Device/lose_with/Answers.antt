@@ -5,7 +5,7 @@ use Rattle.device_outside.proofs.Runs.{joined}
 use Rattle.device_defs.specs.Contents.{contents}
 use Rattle.device_defs.specs.Device.{with_store, event_begun}
 use Rattle.device_defs.specs.Events.{lose, losing}
-use Rattle.device_defs.specs.Owed.{hear, ended}
+use Rattle.device_defs.specs.Owed.{hear, noted_end}
 use Rattle.event_notes.specs.Loose.{loose_count, weight}
 use Rattle.device_store.specs.State.{state_of, outside_of}
 use Rattle.device_store.proofs.Moves.{from_equal}
@@ -13,13 +13,14 @@ use Rattle.device_core.specs.State.{device_of}
 use Rattle.device_core.proofs.Eventful.{event_run, begun_weight, fits_room}
 use Rattle.seen_laws.proofs.EventCounts.{lose_moved}
 use Rattle.seen_laws.proofs.Others.{lose_keeps}
+use Rattle.device_core.proofs.Promising.{lose_excused, lose_sound, lose_stays_plain}
 use Rattle.device_core.proofs.device.Device.lose_with.Goals as goal
 
 pub close_event-requires : goal.close_event-requires
 close_event-requires g c =
     let l = c.args.self.now.store.loose in
     let first = begun_weight l c.begin_event.new.self.loose c.begin_event.ensures.loose (ap (λ s. s.acts) c.begin_event.ensures.state) in
-    let le : weight c.lose.new.self.loose ≤ loose_count l.loose = omega (arith, c.lose.ensures.weight, ap weight c.hear.ensures.loose, first) in
+    let le : weight c.lose.new.self.loose ≤ loose_count l.loose = omega (arith, c.lose.ensures.weight, ap weight c.hear.ensures.leaves.loose, first) in
     record { room = fits_room l c.lose.new.self.loose c.args.self.now.past c.args.self.now.act_room le }
 
 pub returns-clause-run : goal.returns-clause-run
@@ -30,9 +31,9 @@ returns-clause-run g c =
     event_run d (λ e. and_then (losing contents e.store c.args.loss) (λ s _. Done (with_store e s) tt))
     (with_store z (state_of c.lose.new.self)) (device_of c.close_event.new.self)
     (from_equal (hear contents 960) c.begin_event.ensures.state
-    (ap (λ v. outside_of (g.P.Port.view c.args.port.now) g.V.Volume.view v c.args.keep.now) c.begin_event.ensures.volume) (c.hear.ensures.run c.args.keep.now))
+    (ap (λ v. outside_of (g.P.Port.view c.args.port.now) g.V.Volume.view v c.args.keep.now) c.begin_event.ensures.leaves.volume) (c.hear.ensures.run c.args.keep.now))
     (joined (λ s _. Done (with_store z s) tt) (c.lose.ensures.run _) done)
-    (from_equal (λ n. ended contents n (state_of c.lose.new.self)) c.waiting_count-before.ensures refl (c.close_event.ensures.run _))
+    (from_equal (λ n. noted_end contents n (state_of c.lose.new.self)) c.waiting_count-before.ensures refl (c.close_event.ensures.run _))
     c.close_event.ensures.device
 
 pub returns-clause-paths : goal.returns-clause-paths
@@ -40,3 +41,12 @@ returns-clause-paths g c = lose_keeps _ _ _ _ (returns-clause-run g c)
 
 pub returns-clause-transfers : goal.returns-clause-transfers
 returns-clause-transfers g c = lose_moved _ _ _ _ (returns-clause-run g c)
+
+pub returns-clause-sound : goal.returns-clause-sound
+returns-clause-sound g c = lose_sound _ _ _ _ _ _ c.args.loss (returns-clause-run g c)
+
+pub returns-clause-plain : goal.returns-clause-plain
+returns-clause-plain g c = lose_stays_plain _ _ _ _ _ _ c.args.loss (returns-clause-run g c)
+
+pub returns-clause-excused : goal.returns-clause-excused
+returns-clause-excused g c = lose_excused _ _ _ _ _ _ c.args.loss (returns-clause-run g c)

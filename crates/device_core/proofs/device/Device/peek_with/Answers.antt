@@ -16,13 +16,14 @@ use Rattle.device_core.proofs.Commands.{to_answer}
 use Rattle.device_core.proofs.Eventful.{quiet_run, begun_weight, fits_room}
 use Rattle.seen_laws.proofs.EventCounts.{peek_moved}
 use Rattle.seen_laws.proofs.Others.{peek_keeps}
+use Rattle.device_core.proofs.Promising.{peek_answers, peek_sound, peek_stays_plain}
 use Rattle.device_core.proofs.device.Device.peek_with.Goals as goal
 
 pub close_event-requires : goal.close_event-requires
 close_event-requires g c =
     let l = c.args.self.now.store.loose in
     let first = begun_weight l c.begin_event.new.self.loose c.begin_event.ensures.loose (ap (λ s. s.acts) c.begin_event.ensures.state) in
-    let le : weight c.peek-peeked.new.self.loose ≤ loose_count l.loose = omega (arith, c.peek-peeked.ensures.weight, first) in
+    let le : weight c.peek-peeked.new.self.loose ≤ loose_count l.loose = omega (arith, c.peek-peeked.ensures.leaves.weight, first) in
     record { room = fits_room l c.peek-peeked.new.self.loose c.args.self.now.past c.args.self.now.act_room le }
 
 pub returns-clause-run : goal.returns-clause-run
@@ -35,8 +36,8 @@ returns-clause-run g c =
     (device_of c.close_event.new.self)
     (joined (λ q found. Done (with_store (event_begun d) q) found)
     (from_equal (λ q. peek_track contents q c.args.t) c.begin_event.ensures.state
-    (ap (λ x. outside_of (g.P.Port.view c.args.port.now) g.V.Volume.view x c.args.keep.now) c.begin_event.ensures.volume) c.peek-peeked.ensures.run) done)
-    (from_equal (λ n. owed.ended contents n s) c.waiting_count-before.ensures refl (weaker c.peek-peeked.result (c.close_event.ensures.run _)))
+    (ap (λ x. outside_of (g.P.Port.view c.args.port.now) g.V.Volume.view x c.args.keep.now) c.begin_event.ensures.leaves.volume) c.peek-peeked.ensures.run) done)
+    (from_equal (λ n. owed.noted_end contents n s) c.waiting_count-before.ensures refl (weaker c.peek-peeked.result (c.close_event.ensures.run _)))
     c.close_event.ensures.device)
 
 pub returns-clause-there : goal.returns-clause-there
@@ -48,3 +49,13 @@ returns-clause-paths g c = peek_keeps _ _ _ _ (returns-clause-run g c)
 
 pub returns-clause-transfers : goal.returns-clause-transfers
 returns-clause-transfers g c = peek_moved _ _ _ _ (returns-clause-run g c)
+
+pub returns-clause-sound : goal.returns-clause-sound
+returns-clause-sound g c may = peek_sound _ _ _ _ _ _ c.args.t c.requires.track may (returns-clause-run g c)
+
+pub returns-clause-plain : goal.returns-clause-plain
+returns-clause-plain g c may = peek_stays_plain _ _ _ _ _ _ c.args.t c.requires.track may (returns-clause-run g c)
+
+pub returns-clause-answers : goal.returns-clause-answers
+returns-clause-answers g c stands may =
+    peek_answers c.args.self.now c.close_event.new.self _ _ _ _ c.args.t c.requires.track may (state_of c.close_event.new.self.store) c.peek-peeked.result (returns-clause-run g c) stands

@@ -22,7 +22,7 @@ use Rattle.device_core.proofs.device.Device.second_ready.Goals as goal
 pub note_acts-requires-clause-room : goal.note_acts-requires-clause-room
 note_acts-requires-clause-room g c =
     let l = c.second-part.new.self.loose in
-    let le : length c.acts.result.now ≤ weight c.args.self.now.store.loose = omega (arith, ap length c.acts.ensures, c.second-part.ensures.weight) in
+    let le : length c.acts.result.now ≤ weight c.args.self.now.store.loose = omega (arith, ap length c.acts.ensures, c.second-part.ensures.leaves.weight) in
     less_room (length c.acts.result.now) (weight c.args.self.now.store.loose) c.args.self.now.past le c.requires.room
 
 pub end_write-requires-clause-waits : goal.end_write-requires-clause-waits
@@ -94,10 +94,10 @@ invariant_of-self-then-part g c =
     let old = c.args.self.now in
     let s = c.second-part.new.self in
     let w = weight old.store.loose in
-    let le : loose_count s.loose.loose + length c.acts.result.now ≤ w = omega (arith, c.second-part.ensures.weight, ap length c.acts.ensures) in
+    let le : loose_count s.loose.loose + length c.acts.result.now ≤ w = omega (arith, c.second-part.ensures.leaves.weight, ap length c.acts.ensures) in
     record {
       at_word = c.end_write.ensures.word s.cylinders (cylinders_held c.note_acts.new.self.running old.past.running s.cylinders old.store.cylinders
-          c.note_acts.ensures.chain c.second-part.ensures.fixed.1 old.at_word);
+          c.note_acts.ensures.chain c.second-part.ensures.leaves.cylinders old.at_word);
       half_waits = λ one. absurd (none_counts s.half c.second-part.ensures.half one);
       keeps = c.end_write.ensures.keeps;
       act_room = c.end_write.ensures.room (loose_count s.loose.loose) (c.note_acts.ensures.room (loose_count s.loose.loose)
@@ -109,10 +109,10 @@ invariant_of-self-else-part g c =
     let old = c.args.self.now in
     let s = c.second-part.new.self in
     let w = weight old.store.loose in
-    let le : loose_count s.loose.loose + length c.acts.result.now ≤ w = omega (arith, c.second-part.ensures.weight, ap length c.acts.ensures) in
+    let le : loose_count s.loose.loose + length c.acts.result.now ≤ w = omega (arith, c.second-part.ensures.leaves.weight, ap length c.acts.ensures) in
     record {
       at_word = at_word_same c.note_acts.new.self.running old.past.running s.cylinders old.store.cylinders c.note_acts.ensures.chain
-          c.second-part.ensures.fixed.1 old.at_word;
+          c.second-part.ensures.leaves.cylinders old.at_word;
       half_waits = λ one. absurd (none_counts s.half c.second-part.ensures.half one);
       keeps = c.note_acts.ensures.keeps;
       act_room = c.note_acts.ensures.room (loose_count s.loose.loose)

@@ -20,8 +20,8 @@ pub returns-clause-run : goal.returns-clause-run
 returns-clause-run g c =
     rw (← c.is_bypass.ensures, c.if-is_bypass.false) (asks (rw c.if-touch.false at c.touch.ensures)
     (from_equal (λ z. miss contents z c.args.usage.now c.args.t) c.forget.ensures.state
-    (ap (λ x. outside_of (g.P.Port.view c.touch.new.self) g.V.Volume.view x c.args.keep.now) c.forget.ensures.volume) c.miss-2.ensures.run))
+    (ap (λ x. outside_of (g.P.Port.view c.touch.new.self) g.V.Volume.view x c.args.keep.now) c.forget.ensures.leaves.volume) c.miss-2.ensures.run))
 
 pub miss-requires-2-clause-firm : goal.miss-requires-2-clause-firm
 miss-requires-2-clause-firm g c = λ here.
-    ap (λ l. is_loose_in l.loose c.args.t) c.forget.ensures.loose ∙ c.requires.firm (ap (λ z. is_some z.lent) (sym c.forget.ensures.state) ∙ here)
+    ap (λ l. is_loose_in l.loose c.args.t) c.forget.ensures.leaves.loose ∙ c.requires.firm (ap (λ z. is_some z.lent) (sym c.forget.ensures.state) ∙ here)

@@ -12,7 +12,7 @@ use Rattle.device_store.proofs.store.DeviceStore.copy_written.Goals as goal
 pub returns-then-took-clause-run : goal.returns-then-took-clause-run
 returns-then-took-clause-run g c =
     λ p. from_equal (copied contents c.args.t c.args.side (state_of c.args.self.now)) (sym c.if-took.true) refl
-    (lands (ap (λ x. outside_of p g.V.Volume.view x c.args.keep.now) (sym c.mark.ensures.volume)) (ended (sym c.mark.ensures.state) refl))
+    (lands (ap (λ x. outside_of p g.V.Volume.view x c.args.keep.now) (sym c.mark.ensures.leaves.volume)) (ended (sym c.mark.ensures.state) refl))
 
 pub returns-clause-run : goal.returns-clause-run
 returns-clause-run g c =

@@ -18,10 +18,10 @@ pub returns-in-Ok-Some-clause-run : goal.returns-in-Ok-Some-clause-run
 returns-in-Ok-Some-clause-run g c =
     λ k. tries true (had_ok c.load.result) (rw (← c.in-Ok-Some.ensures.image, c.in-Ok-Some.field-0-is) (
     from_equal (λ z. loaded contents z c.args.t c.in-Ok-Some.image c.args.usage.now.mode) c.queue_ahead.ensures.state
-    (ap (λ x. outside_of (g.P.Port.view c.args.port.now) g.V.Volume.view x k) c.queue_ahead.ensures.volume) (c.load.ensures.run k)))
+    (ap (λ x. outside_of (g.P.Port.view c.args.port.now) g.V.Volume.view x k) c.queue_ahead.ensures.leaves.volume) (c.load.ensures.run k)))
 
 pub load-requires-clause-here : goal.load-requires-clause-here
 load-requires-clause-here g c = ap is_some c.queue_ahead.ensures.lent ∙ c.requires.here
 
 pub load-requires-clause-of : goal.load-requires-clause-of
-load-requires-clause-of g c = rw c.queue_ahead.ensures.fixed.2 (rw c.in-Ok-Some.field-0-is at c.in-Ok-Some.ensures.of)
+load-requires-clause-of g c = rw c.queue_ahead.ensures.leaves.geometry (rw c.in-Ok-Some.field-0-is at c.in-Ok-Some.ensures.of)

@@ -11,13 +11,13 @@ use Rattle.device_store.proofs.store.DeviceStore.edit_fast.Goals as goal
 
 pub returns-clause-run : goal.returns-clause-run
 returns-clause-run g c = λ u first p.
-    lands (ap (λ x. outside_of p g.V.Volume.view x c.edit_firm.new.keep) (sym c.keep_edit.ensures.volume))
+    lands (ap (λ x. outside_of p g.V.Volume.view x c.edit_firm.new.keep) (sym c.keep_edit.ensures.leaves.volume))
     (tells tt (rw c.requires.copy at (c.edit_firm.ensures.told (state_of c.args.self.now) refl)) tt
     (ended (sym (rw (c.keep_edit.ensures.state, c.edit_firm.ensures.frames (state_of c.args.self.now) refl, c.requires.copy) refl)) refl))
 
 pub returns-clause-takes : goal.returns-clause-takes
 returns-clause-takes g c =
-    rw (c.keep_edit.ensures.fixed.0, c.keep_edit.ensures.fixed.1, c.keep_edit.ensures.fixed.2)
+    rw (c.keep_edit.ensures.leaves.number, c.keep_edit.ensures.leaves.cylinders, c.keep_edit.ensures.leaves.geometry)
     (record {
       all = λ t i below of fits. (c.edit_firm.ensures.told (state_of c.args.self.now) refl).still c.args.self.now.number t i
           (c.requires.takes.all t i below of fits);

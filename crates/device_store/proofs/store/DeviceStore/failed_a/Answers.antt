@@ -15,4 +15,4 @@ returns-then-takes-clause-run g c =
 pub returns-clause-run : goal.returns-clause-run
 returns-clause-run g c =
     λ p. from_equal (λ b. failed_a contents c.args.t (track_bytes c.args.image.now.track) b (state_of c.args.self.now)) (sym c.if-takes.false) refl
-    (lands (ap (λ x. outside_of p g.V.Volume.view x c.args.keep.now) (sym c.refuse.ensures.volume)) (ended (sym c.refuse.ensures.state) refl))
+    (lands (ap (λ x. outside_of p g.V.Volume.view x c.args.keep.now) (sym c.refuse.ensures.leaves.volume)) (ended (sym c.refuse.ensures.state) refl))

@@ -9,7 +9,7 @@ use Rattle.device_store.proofs.store.DeviceStore.firm_first.Goals as goal
 pub returns-then-has-clause-run : goal.returns-then-has-clause-run
 returns-then-has-clause-run g c =
     λ p. rw (← c.has.ensures, c.if-has.true)
-    (lands (ap (λ x. outside_of p g.V.Volume.view x c.firm.new.self) (sym (c.stale_everywhere.ensures.volume ∙ ap (λ x. x.volumes) c.harden.ensures.volume)))
+    (lands (ap (λ x. outside_of p g.V.Volume.view x c.firm.new.self) (sym (c.stale_everywhere.ensures.leaves.volume ∙ ap (λ x. x.volumes) c.harden.ensures.volume)))
     (tells tt (rw c.frame_image-image.ensures.image at c.firm.ensures) tt
     (ended (sym (c.stale_everywhere.ensures.state ∙ ap (λ z. stale_everywhere z c.args.t) c.harden.ensures.state)) refl)))
 
@@ -17,7 +17,7 @@ pub returns-clause-run : goal.returns-clause-run
 returns-clause-run g c = λ p. rw (← c.has.ensures, c.if-has.false) done
 
 pub returns-then-has-clause-volume : goal.returns-then-has-clause-volume
-returns-then-has-clause-volume g c = c.stale_everywhere.ensures.volume ∙ ap (λ x. x.volumes) c.harden.ensures.volume
+returns-then-has-clause-volume g c = c.stale_everywhere.ensures.leaves.volume ∙ ap (λ x. x.volumes) c.harden.ensures.volume
 
 pub frame_image-image-requires : goal.frame_image-image-requires
 frame_image-image-requires g c = c.requires.kept (sym c.has.ensures ∙ c.if-has.true)

@@ -19,12 +19,12 @@ loop-t-init g c = record {
 
 pub loop-t-preserved : goal.loop-t-preserved
 loop-t-preserved g c = record {
-  number = c.give_up.ensures.fixed.0 ∙ c.loop-t.invariant.number;
-  cylinders = c.give_up.ensures.fixed.1 ∙ c.loop-t.invariant.cylinders;
-  geometry = c.give_up.ensures.fixed.2 ∙ c.loop-t.invariant.geometry;
+  number = c.give_up.ensures.leaves.number ∙ c.loop-t.invariant.number;
+  cylinders = c.give_up.ensures.leaves.cylinders ∙ c.loop-t.invariant.cylinders;
+  geometry = c.give_up.ensures.leaves.geometry ∙ c.loop-t.invariant.geometry;
   volume = c.give_up.ensures.volume ∙ c.loop-t.invariant.volume;
-  half = c.give_up.ensures.half ∙ c.loop-t.invariant.half;
-  loose = c.give_up.ensures.loose ∙ c.loop-t.invariant.loose;
+  half = c.give_up.ensures.leaves.half ∙ c.loop-t.invariant.half;
+  loose = c.give_up.ensures.leaves.loose ∙ c.loop-t.invariant.loose;
   state = c.give_up.ensures.state ∙ ap (λ n. given_up contents n (state_of c.loop-t.self)) c.track.ensures
       ∙ ap (given_up contents c.loop-t.t) c.loop-t.invariant.state
       ∙ sym (over_more (given_up contents) c.loop-t.t (state_of c.args.self.now));

@@ -9,14 +9,14 @@ loop-turn-init g c = record { number = refl; cylinders = refl; geometry = refl; 
 
 pub loop-turn-preserved : goal.loop-turn-preserved
 loop-turn-preserved g c = record {
-  number = c.drop_noted.ensures.fixed.0 ∙ c.loop-turn.invariant.number;
-  cylinders = c.drop_noted.ensures.fixed.1 ∙ c.loop-turn.invariant.cylinders;
-  geometry = c.drop_noted.ensures.fixed.2 ∙ c.loop-turn.invariant.geometry;
-  half = c.drop_noted.ensures.half ∙ c.loop-turn.invariant.half;
-  loose = c.drop_noted.ensures.loose ∙ c.loop-turn.invariant.loose;
+  number = c.drop_noted.ensures.leaves.number ∙ c.loop-turn.invariant.number;
+  cylinders = c.drop_noted.ensures.leaves.cylinders ∙ c.loop-turn.invariant.cylinders;
+  geometry = c.drop_noted.ensures.leaves.geometry ∙ c.loop-turn.invariant.geometry;
+  half = c.drop_noted.ensures.leaves.half ∙ c.loop-turn.invariant.half;
+  loose = c.drop_noted.ensures.leaves.loose ∙ c.loop-turn.invariant.loose;
   rest = λ k. hear_on contents 960 c.loop-turn._turn c.in-Some.t (state_of c.loop-turn.self) c.loop-turn-test.true (c.loop-turn.invariant.rest k)
       c.in-Some.ensures c.drop_noted.ensures.state (ap (λ x. outside_of (g.P.Port.view c.next_notice.new.self) g.V.Volume.view x k)
-      c.drop_noted.ensures.volume);
+      c.drop_noted.ensures.leaves.volume);
 }
 
 pub returns-in-None-clause-run : goal.returns-in-None-clause-run

@@ -19,7 +19,7 @@ returns-clause-state g c =
     let x = c.give_up_all.new.self in
     let given = over n (given_up contents) s in
     ap (λ (l : List Bool). record (state_of x) { lost = l; queue = c.clear-2.new.self })
-    (c.clear.ensures ∙ ap (λ m. replicate m false) (x.lost_of_each ∙ ap (λ m. m * 15) c.give_up_all.ensures.fixed.1))
+    (c.clear.ensures ∙ ap (λ m. replicate m false) (x.lost_of_each ∙ ap (λ m. m * 15) c.give_up_all.ensures.leaves.cylinders))
     ∙ ap (λ (q : List ℕ). record (state_of x) { lost = replicate n false; queue = q }) c.clear-2.ensures
     ∙ ap (λ (z : StoreOf). record z { lost = replicate n false; queue = [] })
     (c.give_up_all.ensures.state

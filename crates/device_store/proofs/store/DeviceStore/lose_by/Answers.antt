@@ -12,4 +12,4 @@ returns-in-Cache-clause-run g c =
     λ p. rw c.in-Cache.is (from_equal (λ i. i)
     (sym (ap (λ z. all_firm_told contents (c.args.self.now.cylinders * 15) z) (sym c.lose_cache.ensures.state)
     ∙ none_firm contents (c.args.self.now.cylinders * 15) (state_of c.lose_cache.new.self) c.no_firm.ensures))
-    (ap (λ x. outside_of p g.V.Volume.view x c.args.keep.now) c.lose_cache.ensures.volume) done)
+    (ap (λ x. outside_of p g.V.Volume.view x c.args.keep.now) c.lose_cache.ensures.leaves.volume) done)

@@ -14,5 +14,5 @@ returns-clause-state g c =
     ap (λ (q : List ℕ). record s { queue = q }) c.clear.ensures ∙ ap (λ (z : StoreOf). record z { queue = [] }) c.lose_loose.ensures.state
     in
     c.lose_frames.ensures.state
-    ∙ ap (λ n. over (n * 15) (λ t z. settled contents (without_frame z t) t) (record s { queue = c.clear.new.self })) c.lose_loose.ensures.fixed.1
+    ∙ ap (λ n. over (n * 15) (λ t z. settled contents (without_frame z t) t) (record s { queue = c.clear.new.self })) c.lose_loose.ensures.leaves.cylinders
     ∙ ap (λ z. over (c.args.self.now.cylinders * 15) (λ t y. settled contents (without_frame y t) t) z) same

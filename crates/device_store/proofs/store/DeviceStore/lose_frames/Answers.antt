@@ -48,13 +48,13 @@ pub loop-t-preserved : goal.loop-t-preserved
 loop-t-preserved g c =
     let e : marked_left c.loop-t.t-iterator ≡ c.in-Some.t ∷ marked_left c.next.new.self = rw c.in-Some.is at c.next.ensures.steps in
     let walked = frames_next c.loop-t.invariant.walk e in record {
-      number = c.lose_frame.ensures.fixed.0 ∙ c.loop-t.invariant.number;
-      cylinders = c.lose_frame.ensures.fixed.1 ∙ c.loop-t.invariant.cylinders;
-      geometry = c.lose_frame.ensures.fixed.2 ∙ c.loop-t.invariant.geometry;
-      volume = c.lose_frame.ensures.volume ∙ c.loop-t.invariant.volume;
-      half = c.lose_frame.ensures.half ∙ c.loop-t.invariant.half;
+      number = c.lose_frame.ensures.leaves.number ∙ c.loop-t.invariant.number;
+      cylinders = c.lose_frame.ensures.leaves.cylinders ∙ c.loop-t.invariant.cylinders;
+      geometry = c.lose_frame.ensures.leaves.geometry ∙ c.loop-t.invariant.geometry;
+      volume = c.lose_frame.ensures.leaves.volume ∙ c.loop-t.invariant.volume;
+      half = c.lose_frame.ensures.leaves.half ∙ c.loop-t.invariant.half;
       weight = c.lose_frame.ensures.weight ∙ c.loop-t.invariant.weight;
-      firm = λ t. ap (λ l. is_loose_in l.loose t) c.lose_frame.ensures.loose ∙ c.loop-t.invariant.firm t;
+      firm = λ t. ap (λ l. is_loose_in l.loose t) c.lose_frame.ensures.leaves.loose ∙ c.loop-t.invariant.firm t;
       walk = rw (← c.lose_frame.ensures.state) at walked;
     }
 

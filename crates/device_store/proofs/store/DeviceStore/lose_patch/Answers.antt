@@ -29,8 +29,8 @@ returns-clause-run g c =
     ∙ sym (ap (firm_told contents c.args.t) (patch_settled s c.args.t (sym c.has.ensures ∙ c.if-not-has.false)
     (sym c.is_half_open.ensures ∙ c.if-is_half_open.false))))
     (ap (λ x. outside_of p g.V.Volume.view x c.args.keep.now)
-    (c.stale_everywhere.ensures.volume ∙ ap (λ x. x.volumes) c.give_up_patch-2.ensures.volume)) (c.settle_told.ensures.run p)
+    (c.stale_everywhere.ensures.leaves.volume ∙ ap (λ x. x.volumes) c.give_up_patch-2.ensures.volume)) (c.settle_told.ensures.run p)
 
 pub returns-clause-volume : goal.returns-clause-volume
 returns-clause-volume g c =
-    ap (λ x. x.volumes) c.settle_told.ensures.volume ∙ c.stale_everywhere.ensures.volume ∙ ap (λ x. x.volumes) c.give_up_patch-2.ensures.volume
+    ap (λ x. x.volumes) c.settle_told.ensures.volume ∙ c.stale_everywhere.ensures.leaves.volume ∙ ap (λ x. x.volumes) c.give_up_patch-2.ensures.volume

@@ -18,7 +18,7 @@ returns-clause-state g c =
     let lost = ap (λ (l : Losses). record old { counts = record old.counts { losses = l } }) c.count_loss.ensures in
     let gone = c.clear_loose.ensures.state ∙ ap (λ z. loose_gone contents z) lost in
     let ended =
-    c.end_half.ensures.state ∙ ap (λ h. half_lost contents (state_of c.clear_loose.new.self) (option_map half_of h)) c.clear_loose.ensures.half
+    c.end_half.ensures.state ∙ ap (λ h. half_lost contents (state_of c.clear_loose.new.self) (option_map half_of h)) c.clear_loose.ensures.leaves.half
     ∙ ap (λ (z : StoreOf). half_lost contents z old.half) gone
     in
     let same : record s { queue = c.clear.new.self } ≡ record (half_lost contents (loose_gone contents (with_loss old Cache)) old.half) { queue = [] } =
@@ -26,11 +26,11 @@ returns-clause-state g c =
     in
     c.lose_frames.ensures.state
     ∙ ap (λ n. over (n * 15) (λ t z. settled contents (without_frame z t) t) (record s { queue = c.clear.new.self }))
-    (c.end_half.ensures.fixed.1 ∙ c.clear_loose.ensures.fixed.1)
+    (c.end_half.ensures.leaves.cylinders ∙ c.clear_loose.ensures.leaves.cylinders)
     ∙ ap (λ z. over (c.args.self.now.cylinders * 15) (λ t y. settled contents (without_frame y t) t) z) same
 
 pub returns-clause-volume : goal.returns-clause-volume
-returns-clause-volume g c = c.lose_frames.ensures.volume ∙ ap (λ x. x.volumes) c.end_half.ensures.volume ∙ c.clear_loose.ensures.volume
+returns-clause-volume g c = c.lose_frames.ensures.leaves.volume ∙ ap (λ x. x.volumes) c.end_half.ensures.volume ∙ c.clear_loose.ensures.leaves.volume
 
 pub returns-clause-weight : goal.returns-clause-weight
-returns-clause-weight g c = omega (arith, c.lose_frames.ensures.weight, ap (λ l. weight l) c.end_half.ensures.loose, c.clear_loose.ensures.weight)
+returns-clause-weight g c = omega (arith, c.lose_frames.ensures.leaves.weight, ap (λ l. weight l) c.end_half.ensures.loose, c.clear_loose.ensures.weight)

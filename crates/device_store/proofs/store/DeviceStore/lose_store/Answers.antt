@@ -61,12 +61,12 @@ loop-t-preserved g c =
     let none = c.loop-t.invariant.walk.1 in
     let ran = c.loop-t.invariant.walk.2 in
     let told = told_patches contents t (lost t z) (c.lose_patch.ensures.run (no_pool 0)) in record {
-      number = c.lose_patch.ensures.fixed.0 ∙ c.loop-t.invariant.number;
-      cylinders = c.lose_patch.ensures.fixed.1 ∙ c.loop-t.invariant.cylinders;
-      geometry = c.lose_patch.ensures.fixed.2 ∙ c.loop-t.invariant.geometry;
+      number = c.lose_patch.ensures.leaves.number ∙ c.loop-t.invariant.number;
+      cylinders = c.lose_patch.ensures.leaves.cylinders ∙ c.loop-t.invariant.cylinders;
+      geometry = c.lose_patch.ensures.leaves.geometry ∙ c.loop-t.invariant.geometry;
       volume = c.lose_patch.ensures.volume ∙ c.loop-t.invariant.volume;
-      half = c.lose_patch.ensures.half ∙ c.loop-t.invariant.half;
-      weight = c.lose_patch.ensures.weight ∙ c.loop-t.invariant.weight;
+      half = c.lose_patch.ensures.leaves.half ∙ c.loop-t.invariant.half;
+      weight = c.lose_patch.ensures.leaves.weight ∙ c.loop-t.invariant.weight;
       takes = c.lose_patch.ensures.takes;
       walk = (
         gone_on w e,

@@ -6,7 +6,7 @@ use Rattle.device_outside.specs.Outside.{done}
 use Rattle.device_outside.proofs.Runs.{ended, joined}
 use Rattle.device_defs.specs.Contents.{contents}
 use Rattle.device_defs.specs.declared.counts.Counts.{Counts}
-use Rattle.device_defs.specs.Image.{first_fault, got, read_counted}
+use Rattle.device_defs.specs.Image.{first_faulty_side, got, read_counted}
 use Rattle.device_defs.specs.Losses.{call_failed}
 use Rattle.device_store.specs.State.{state_of, with_pair}
 use Rattle.device_store.proofs.Moves.{from_equal}
@@ -33,7 +33,7 @@ returns-in-Err-clause-run g c =
     λ p. rw (← c.is_level.ensures, c.if-not-is_level.false)
     (reads_on_b g.V.Volume.view c.args.self.now.pair.volumes c.read.new.self.volumes c.in-Err.ensures.before c.in-Err.ensures.there
     c.in-Err.ensures.other c.in-Err.ensures.read
-    (joined (λ z _. Done z (got B None (Some (first_fault c.args.fault B))))
+    (joined (λ z _. Done z (got B None (Some (first_faulty_side c.args.fault B))))
     (from_equal (λ z. call_failed contents z B None) now refl (c.call_failed.ensures.run p))
     (ended refl (rw c.first_fault.ensures refl))))
 

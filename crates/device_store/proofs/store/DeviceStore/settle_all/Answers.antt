@@ -23,12 +23,12 @@ loop-t-init g c = record {
 
 pub loop-t-preserved : goal.loop-t-preserved
 loop-t-preserved g c = record {
-  number = c.settle_other.ensures.fixed.0 ∙ c.loop-t.invariant.number;
-  cylinders = c.settle_other.ensures.fixed.1 ∙ c.loop-t.invariant.cylinders;
-  geometry = c.settle_other.ensures.fixed.2 ∙ c.loop-t.invariant.geometry;
+  number = c.settle_other.ensures.leaves.number ∙ c.loop-t.invariant.number;
+  cylinders = c.settle_other.ensures.leaves.cylinders ∙ c.loop-t.invariant.cylinders;
+  geometry = c.settle_other.ensures.leaves.geometry ∙ c.loop-t.invariant.geometry;
   volume = c.settle_other.ensures.volume ∙ c.loop-t.invariant.volume;
-  half = c.settle_other.ensures.half ∙ c.loop-t.invariant.half;
-  weight = c.settle_other.ensures.weight ∙ c.loop-t.invariant.weight;
+  half = c.settle_other.ensures.leaves.half ∙ c.loop-t.invariant.half;
+  weight = c.settle_other.ensures.leaves.weight ∙ c.loop-t.invariant.weight;
   firm = λ q e. c.settle_other.ensures.firm q (c.loop-t.invariant.firm q e);
   takes = c.settle_other.ensures.takes;
   ran = λ p. from_equal (λ i. i)

@@ -12,11 +12,11 @@ returns-then-done-clause-run g c =
     let s = state_of c.args.self.now in
     let none = none_taken _ c.args.self.now.pair.held _ c.args.self.now.pair.b_there c.requires.single in
     λ p k bytes. from_equal (λ i. i) (sym (ap (first_a contents c.args.t bytes s) c.if-done.true ∙ taken_alone s c.args.t bytes none)) refl
-    (lands (ap (λ x. outside_of p g.V.Volume.view x k) (sym c.taken_a.ensures.volume)) (ended (sym c.taken_a.ensures.state) refl))
+    (lands (ap (λ x. outside_of p g.V.Volume.view x k) (sym c.taken_a.ensures.leaves.volume)) (ended (sym c.taken_a.ensures.state) refl))
 
 pub returns-clause-run : goal.returns-clause-run
 returns-clause-run g c =
     let s = state_of c.args.self.now in
     let none = none_taken _ c.args.self.now.pair.held _ c.args.self.now.pair.b_there c.requires.single in
     λ p k bytes. from_equal (λ i. i) (sym (ap (first_a contents c.args.t bytes s) c.if-done.false ∙ refused_by_a s c.args.t bytes c.requires.single none)) refl
-    (lands (ap (λ x. outside_of p g.V.Volume.view x k) (sym c.refuse.ensures.volume)) (ended (sym c.refuse.ensures.state) refl))
+    (lands (ap (λ x. outside_of p g.V.Volume.view x k) (sym c.refuse.ensures.leaves.volume)) (ended (sym c.refuse.ensures.state) refl))

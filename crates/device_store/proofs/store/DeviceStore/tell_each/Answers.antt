@@ -42,12 +42,12 @@ loop-t-preserved g c =
     let w = c.loop-t.invariant.walk.0 in
     let paid = c.loop-t.invariant.walk.1 in
     let ran = c.loop-t.invariant.walk.2 in record {
-      number = c.tell_track.ensures.fixed.0 ∙ c.loop-t.invariant.number;
-      cylinders = c.tell_track.ensures.fixed.1 ∙ c.loop-t.invariant.cylinders;
-      geometry = c.tell_track.ensures.fixed.2 ∙ c.loop-t.invariant.geometry;
-      volume = c.tell_track.ensures.volume ∙ c.loop-t.invariant.volume;
-      half = c.tell_track.ensures.half ∙ c.loop-t.invariant.half;
-      loose = c.tell_track.ensures.loose ∙ c.loop-t.invariant.loose;
+      number = c.tell_track.ensures.leaves.number ∙ c.loop-t.invariant.number;
+      cylinders = c.tell_track.ensures.leaves.cylinders ∙ c.loop-t.invariant.cylinders;
+      geometry = c.tell_track.ensures.leaves.geometry ∙ c.loop-t.invariant.geometry;
+      volume = c.tell_track.ensures.leaves.volume ∙ c.loop-t.invariant.volume;
+      half = c.tell_track.ensures.leaves.half ∙ c.loop-t.invariant.half;
+      loose = c.tell_track.ensures.leaves.loose ∙ c.loop-t.invariant.loose;
       rest = c.tell_track.ensures.rest ∙ ap (λ (z : StoreOf). record z { owed = c.tell_track.new.self.owed }) c.loop-t.invariant.rest;
       walk = (
         gone_on w e,

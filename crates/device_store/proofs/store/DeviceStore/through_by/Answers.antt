@@ -4,7 +4,7 @@ use Rattle.device_outside.specs.Outside.{done}
 use Rattle.device_outside.proofs.Runs.{joined}
 use Rattle.device_defs.specs.Contents.{contents}
 use Rattle.device_defs.specs.declared.answers.Took.TheVariants.{Opened}
-use Rattle.device_defs.specs.Writing.{opened}
+use Rattle.device_defs.specs.Writing.{write_opened}
 use Rattle.device_store.specs.State.{state_of}
 use Rattle.device_store.proofs.Moves.{from_equal}
 use Rattle.device_store.proofs.Halved.{none_opened}
@@ -22,8 +22,8 @@ returns-then-not-opens-clause-run g c = λ e is. rw (c.in-Opened.is, c.if-not-op
 pub returns-else-not-opens-clause-run : goal.returns-else-not-opens-clause-run
 returns-else-not-opens-clause-run g c =
     λ e is. rw (c.in-Opened.is, c.if-not-opens.false) (joined (λ z _. Done z Opened)
-    (from_equal (λ o. opened contents (state_of c.args.self.now) c.args.half.track c.args.half.image o c.args.was_loose) is refl
+    (from_equal (λ o. write_opened contents (state_of c.args.self.now) c.args.half.track c.args.half.image o c.args.was_loose) is refl
     (c.open_half.ensures.run _)) done)
 
 pub returns-then-not-opens-clause-half : goal.returns-then-not-opens-clause-half
-returns-then-not-opens-clause-half g c = c.at_once.ensures.half ∙ c.requires.none ∙ none_opened c.at_once.result c.args.half c.at_once.ensures.ends
+returns-then-not-opens-clause-half g c = c.at_once.ensures.leaves.half ∙ c.requires.none ∙ none_opened c.at_once.result c.args.half c.at_once.ensures.ends

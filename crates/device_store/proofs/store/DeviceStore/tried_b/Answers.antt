@@ -9,7 +9,7 @@ use Rattle.device_store.proofs.store.DeviceStore.tried_b.Goals as goal
 pub returns-then-took-clause-run : goal.returns-then-took-clause-run
 returns-then-took-clause-run g c =
     λ p. from_equal (tried_b contents c.args.t (state_of c.args.self.now)) (sym c.if-took.true) refl
-    (lands (ap (λ x. outside_of p g.V.Volume.view x c.args.keep.now) (sym c.mark_b.ensures.volume)) (ended (sym c.mark_b.ensures.state) refl))
+    (lands (ap (λ x. outside_of p g.V.Volume.view x c.args.keep.now) (sym c.mark_b.ensures.leaves.volume)) (ended (sym c.mark_b.ensures.state) refl))
 
 pub returns-clause-run : goal.returns-clause-run
 returns-clause-run g c =

@@ -18,14 +18,14 @@ returns-in-Err-clause-run g c = tries false tt done
 pub returns-in-Err-make_room-clause-run : goal.returns-in-Err-make_room-clause-run
 unfolding write
 returns-in-Err-make_room-clause-run g c = lands (ap (λ v. outside_of (g.P.Port.view c.args.port.now) g.V.Volume.view v c.args.keep.now)
-    (sym c.make_room.ensures.volume)) (tries false tt (ended (sym c.make_room.ensures.state) refl))
+    (sym c.make_room.ensures.leaves.volume)) (tries false tt (ended (sym c.make_room.ensures.state) refl))
 
 pub returns-in-Ok-make_room-clause-run : goal.returns-in-Ok-make_room-clause-run
 unfolding write
 returns-in-Ok-make_room-clause-run g c =
     tries true (had_ok c.chosen_read.result) (from_equal
     (λ z. and_then (choose contents z c.args.usage.now c.args.t) (write_chosen contents c.args.usage.now c.args.first c.args.t c.args.old.now c.args.edit))
-    c.make_room.ensures.state (ap (λ v. outside_of (g.P.Port.view c.args.port.now) g.V.Volume.view v c.args.keep.now) c.make_room.ensures.volume)
+    c.make_room.ensures.state (ap (λ v. outside_of (g.P.Port.view c.args.port.now) g.V.Volume.view v c.args.keep.now) c.make_room.ensures.leaves.volume)
     c.chosen_read.ensures.run)
 
 pub chosen_read-requires-clause-kept : goal.chosen_read-requires-clause-kept

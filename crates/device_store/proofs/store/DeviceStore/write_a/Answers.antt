@@ -26,7 +26,7 @@ returns-then-write_side-clause-run g c =
     (writes_on_a g.V.Volume.view c.args.self.now.pair.volumes c.write_side.new.pair.volumes c.write_side.ensures.before c.write_side.ensures.there
     c.write_side.ensures.other c.write_side.ensures.wrote
     (from_equal (first_a contents c.args.t (track_bytes c.args.image.now.track) (write_counted s c.write_side.result)) (sym c.if-write_side.true) refl
-    (lands (ap (λ x. outside_of p g.V.Volume.view x c.args.keep.now) (sym c.taken_a.ensures.volume))
+    (lands (ap (λ x. outside_of p g.V.Volume.view x c.args.keep.now) (sym c.taken_a.ensures.leaves.volume))
     (ended (sym (c.taken_a.ensures.state ∙ ap (λ z. taken_a z c.args.t) now)) (sym (rw (c.opened_if.ensures, c.takes_b-takes.ensures) refl))))))
 
 pub returns-clause-run : goal.returns-clause-run

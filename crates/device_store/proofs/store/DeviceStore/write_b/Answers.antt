@@ -21,7 +21,7 @@ returns-then-write_side-clause-run g c =
     λ p. writes_on_b g.V.Volume.view c.args.self.now.pair.volumes c.write_side.new.pair.volumes c.write_side.ensures.before c.write_side.ensures.there
     c.write_side.ensures.other c.write_side.ensures.wrote
     (from_equal (alone_b contents c.args.t c.args.fault c.args.first (write_counted s c.write_side.result)) (sym c.if-write_side.true) refl
-    (lands (ap (λ x. outside_of p g.V.Volume.view x c.args.keep.now) (sym c.mark_b.ensures.volume))
+    (lands (ap (λ x. outside_of p g.V.Volume.view x c.args.keep.now) (sym c.mark_b.ensures.leaves.volume))
     (ended (sym (c.mark_b.ensures.state ∙ ap (λ z. with_stale z B c.args.t false) now)) refl)))
 
 pub returns-clause-run : goal.returns-clause-run
@@ -34,4 +34,4 @@ returns-clause-run g c =
     (from_equal (alone_b contents c.args.t c.args.fault c.args.first (write_counted s c.write_side.result)) (sym c.if-write_side.false) refl
     (joined (λ z _. Done (unwritten contents z c.args.t) (wrote Unwritten (Some c.args.first)))
     (from_equal (λ z. call_failed contents z B (Some c.args.t)) now refl (c.call_failed.ensures.run p))
-    (lands (ap (λ x. outside_of p g.V.Volume.view x c.call_failed.new.keep) (sym c.refuse.ensures.volume)) (ended (sym c.refuse.ensures.state) refl))))
+    (lands (ap (λ x. outside_of p g.V.Volume.view x c.call_failed.new.keep) (sym c.refuse.ensures.leaves.volume)) (ended (sym c.refuse.ensures.state) refl))))

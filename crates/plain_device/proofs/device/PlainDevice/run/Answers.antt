@@ -3,7 +3,7 @@ use Rattle.ckd_types.specs.declared.channel.Ccw.{Ccw}
 use Rattle.ckd_types.specs.Fixed.{Fixed}
 use Rattle.ckd_chain.specs.Steps.{begun_chain}
 use Rattle.plain_defs.specs.PlainState.{PlainState, fixed_of}
-use Rattle.plain_defs.specs.Program.{begun}
+use Rattle.plain_defs.specs.Program.{sense_begun}
 use Rattle.ckd_types.specs.declared.channel.CommandEnd.{CommandEnd}
 use Rattle.plain_device.proofs.Running.{IsRunningOn, running_first, running_more, fewer_left, few_ends, all_ends, all_done, all_over}
 use Rattle.plain_device.proofs.device.PlainDevice.run.Goals as goal
@@ -18,11 +18,11 @@ loop-alloc-smaller c =
 pub loop-alloc-init : goal.loop-alloc-init
 loop-alloc-init c =
     let start = c.args.self.now in
-    let device : c.begin.new.self ≡ record start { paths = begun start.paths c.args.path c.args.program.now } =
+    let device : c.begin.new.self ≡ record start { paths = sense_begun start.paths c.args.path c.args.program.now } =
     c.begin.ensures
-    ∙ ap (λ (l : List Ccw). record c.in_ok-device.device { paths = begun c.in_ok-device.device.paths c.args.path l })
+    ∙ ap (λ (l : List Ccw). record c.in_ok-device.device { paths = sense_begun c.in_ok-device.device.paths c.args.path l })
     c.ccws.ensures.value
-    ∙ ap (λ (d : PlainState). record d { paths = begun d.paths c.args.path c.args.program.now }) c.in_ok-device.ensures
+    ∙ ap (λ (d : PlainState). record d { paths = sense_begun d.paths c.args.path c.args.program.now }) c.in_ok-device.ensures
     in
     let chain : c.begin-chain.result ≡ begun_chain c.args.program.now (fixed_of start) =
     c.begin-chain.ensures

@@ -5,7 +5,7 @@ use Rattle.ckd_types.specs.Fixed.{Fixed}
 use Rattle.ckd_chain.specs.Steps.{begun_chain}
 use Rattle.plain_defs.specs.declared.journal.Acted.{Acted}
 use Rattle.plain_defs.specs.PlainState.{PlainState, fixed_of}
-use Rattle.plain_defs.specs.Program.{begun, part_of}
+use Rattle.plain_defs.specs.Program.{sense_begun, part_of}
 use Rattle.plain_device.specs.Volume.{IsActOn}
 use Rattle.plain_device.proofs.Running.{between_of, part_first, part_next}
 use Rattle.plain_device.proofs.device.PlainDevice.run_part.Goals as goal
@@ -21,11 +21,11 @@ one_more-requires-clause-on c = subst (λ (n : ℕ). All (λ (x : Acted). IsActO
 pub loop-command-init : goal.loop-command-init
 loop-command-init c =
     let start = c.args.self.now in
-    let device : c.begin.new.self ≡ record start { paths = begun start.paths c.args.path c.args.program.now } =
+    let device : c.begin.new.self ≡ record start { paths = sense_begun start.paths c.args.path c.args.program.now } =
     c.begin.ensures
-    ∙ ap (λ (l : List Ccw). record c.in_ok-device.device { paths = begun c.in_ok-device.device.paths c.args.path l })
+    ∙ ap (λ (l : List Ccw). record c.in_ok-device.device { paths = sense_begun c.in_ok-device.device.paths c.args.path l })
     c.ccws.ensures.value
-    ∙ ap (λ (d : PlainState). record d { paths = begun d.paths c.args.path c.args.program.now }) c.in_ok-device.ensures
+    ∙ ap (λ (d : PlainState). record d { paths = sense_begun d.paths c.args.path c.args.program.now }) c.in_ok-device.ensures
     in
     let chain : c.begin-chain.result ≡ begun_chain c.args.program.now (fixed_of start) =
     c.begin-chain.ensures

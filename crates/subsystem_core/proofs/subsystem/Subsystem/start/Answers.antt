@@ -6,14 +6,14 @@ use Rattle.subsystem_defs.specs.declared.end.EventEnd.TheVariants as answers
 use Rattle.subsystem_core.specs.declared.end.EventEnd.TheVariants as ends
 use Rattle.subsystem_defs.specs.declared.event.Event.TheVariants as events
 use Rattle.device_defs.specs.Start.{start}
-use Rattle.subsystem_core.proofs.Coming.{became_none, ended, has_started, own_runs, same_number}
+use Rattle.subsystem_core.proofs.Coming.{became_none, ended, has_started, same_number}
 use Rattle.subsystem_core.proofs.Deeds as deeds
 use Rattle.subsystem_core.proofs.Found.{found_in}
 use Rattle.subsystem_core.proofs.subsystem.Subsystem.start.Goals as goal
 
 pub start_at-requires-clause-idle : goal.start_at-requires-clause-idle
 start_at-requires-clause-idle g c =
-    rw c.device-device.ensures (sym (own_runs c.args.path (device_of c.device-device.result.now).history.running) ∙ sym c.is_own.ensures ∙ c.if-is_own.false)
+    rw c.device-device.ensures (sym c.is_own.ensures ∙ c.if-is_own.false)
 
 pub start_at-requires-clause-free : goal.start_at-requires-clause-free
 start_at-requires-clause-free g c =

@@ -1,7 +1,7 @@
 use Rattle.std.proofs.Common.{◌∙◌, refl, sym}
 use Rattle.device_outside.specs.Keeper.{Heard}
 use Rattle.device_defs.specs.Contents.{contents}
-use Rattle.device_defs.specs.Orders.{hold}
+use Rattle.device_defs.specs.Orders.{hold_side}
 use Rattle.device_core.specs.State.{device_of}
 use Rattle.subsystem_defs.specs.declared.end.EventEnd.TheVariants as answers
 use Rattle.subsystem_core.specs.Comes.{IsNow}
@@ -22,7 +22,7 @@ returns-in-Some-clause-came g c =
 pub returns-clause-came : goal.returns-clause-came
 returns-clause-came g c =
     λ k. became (Heard g.K.Keep.hears g.K.Keep.takes) k c.args.self.now _ (events.Suspend c.args.d) c.args.d
-    c.device.result.now (hold (device_of c.device.result.now))
-    answers.Done ends.Done (λ x y. IsNow (hold (device_of x)) x y) c.device.ensures
+    c.device.result.now (hold_side (device_of c.device.result.now))
+    answers.Done ends.Done (λ x y. IsNow (hold_side (device_of x)) x y) c.device.ensures
     (deeds.suspended contents _ _ _ _ (found_in c.args.self.now.devices.items c.args.d _ c.device.ensures)
     (sym c.suspend_fault.ensures ∙ c.in_default.is)) refl (λ p. refl) c.hold_at.ensures.pool (λ y is. is) c.hold_at.ensures.held

@@ -1,0 +1,395 @@
+-- What a device promises by its calls follows from what each of them is.
+use Rattle.std.proofs.Common.{◌≡◌, ◌<◌, ◌≤◌, ◌*◌, ℕ, Bool, true, false, List, [], Option, Some, None, Result, Ok, Err, is_some, length, refl, sym, ap, subst, ◌∙◌}
+use Rattle.std.specs.Prelude.{IfOk, IfSome, IsSome, OnErr, OnOk, option_map}
+use Rattle.ckd_types.specs.declared.memory.NoMemory.{NoMemory}
+use Rattle.ckd_chain.specs.Facts.{IsChain}
+use Rattle.ckd_chain.specs.State.{ChainState}
+use Rattle.loss_model.specs.declared.Loss.{Loss}
+use Rattle.ckd_types.specs.declared.geometry.Geometry.{Geometry}
+use Rattle.plain_defs.specs.History.{History, OpenEntry, no_history}
+use Rattle.plain_defs.specs.Journal.{Plans}
+use Rattle.plain_defs.specs.PlainState.{PathsState, fresh_paths}
+use Rattle.plain_defs.specs.Whole.{GiveBytes}
+use Rattle.track_image.specs.Image.{Image}
+use Rattle.device_outside.specs.declared.volume.Volume.{Ghosts}
+use Rattle.device_outside.specs.After.{Tells}
+use Rattle.device_outside.specs.Disk.{empty_contents}
+use Rattle.device_outside.specs.Keeper.{Hearing}
+use Rattle.device_outside.specs.Outside.{Outside, PortView, Ran, no_pool, where_ok}
+use Rattle.device_defs.specs.declared.answers.Did.{Did}
+use Rattle.device_defs.specs.declared.answers.SecondEnd.{SecondEnd}
+use Rattle.device_defs.specs.declared.answers.Stepped as defs_steps
+use Rattle.device_defs.specs.Command.{command}
+use Rattle.device_defs.specs.Contents.{contents}
+use Rattle.device_defs.specs.Cutting.{power, reset}
+use Rattle.device_defs.specs.Events.{background, lose, second}
+use Rattle.device_defs.specs.Peek as defs
+use Rattle.device_defs.specs.Peek.{peek}
+use Rattle.device_defs.specs.Start.{start, start_fault}
+use Rattle.device_store.specs.declared.store.DeviceStore.{DeviceStore}
+use Rattle.device_store.specs.declared.store.Peeked.{Peeked}
+use Rattle.device_store.specs.Looks.{StoreOf, peeked_by}
+use Rattle.device_store.specs.State.{had, on_a, on_b, opened_store, outside, surely}
+use Rattle.look_laws.specs.Looking.{is_written_at}
+use Rattle.turn_laws.specs.Found.{FoundPlain}
+use Rattle.turn_laws.specs.Standing.{IsBeside, Stands}
+use Rattle.turn_laws.proofs.Beside.{
+  background_beside,
+  beside_there,
+  command_beside,
+  loss_beside,
+  power_beside,
+  reset_beside,
+  runs_on,
+  second_beside,
+  start_beside,
+}
+use Rattle.turn_laws.proofs.Found.{peek_finds}
+use Rattle.turn_laws.proofs.NewDevice.{new_stands}
+use Rattle.turn_laws.proofs.SameAgain.{background_again, command_again}
+use Rattle.turn_laws.proofs.Sound.{beside_plain, beside_sound, stands_excused}
+use Rattle.turn_laws.proofs.Standing.{
+  background_stands,
+  command_stands,
+  loss_stands,
+  power_stands,
+  reset_stands,
+  second_stands,
+  stands_there,
+  start_stands,
+}
+use Rattle.turn_laws.proofs.Untold.{replied}
+use Rattle.turn_laws.proofs.Wanting.{background_lacked, command_lacked, peek_beside, same_volume}
+use Rattle.device_core.specs.declared.device.Device.{Device}
+use Rattle.device_core.specs.declared.past.Past.{Past}
+use Rattle.device_core.specs.declared.past.Running.{Running}
+use Rattle.device_core.specs.declared.past.Stepped.{Stepped}
+use Rattle.seen_laws.specs.Seen.{EndsAsSeen}
+use Rattle.device_core.specs.Promises.{EndsSeen, IsPromised, IsSound, StandsPlain, StandsWhole, StaysExcused, StaysPlain, StaysSame, StaysSound, told_by}
+use Rattle.device_core.specs.State.{DefinedDevice, chain_of, device_by, device_of, history_of, open_of, opened_device, step_had}
+use Rattle.device_core.proofs.Halves.{none_by}
+
+-- the program that runs, and its chain
+running_there : (r : Option Running) → IsSome r → (o : Running) × (r ≡ Some o)
+running_there (Some r) is = (r, refl)
+running_there None is = absurd cc
+
+some_same : {X : Type 0} (x y : X) → Some x ≡ Some y → x ≡ y
+some_same x y e = cc
+
+chain_told : (r : Option Running) → IfSome r (λ r. IsChain r.chain) → (chain : ChainState) → option_map chain_of r ≡ Some chain → IsChain chain
+chain_told (Some r) is chain e = subst IsChain (some_same (chain_of r) chain e) is
+chain_told None is chain e = absurd cc
+
+pub half_there : {X : Type 0} (o : Option X) → is_some o ≡ true → (x : X) × (o ≡ Some x)
+half_there (Some x) is = (x, refl)
+half_there None is = absurd cc
+
+module _ {V : Type 0} {G : Ghosts V} (d e : Device V G) where
+  -- What follows where it still stands so
+
+  pub sound_by : (StandsPlain d → StandsPlain e) → StaysSound d e
+  sound_by f = record {
+    sound = λ s. let x = f s in record {
+      held = x.held;
+      on_a = x.untold.a;
+      on_b = x.untold.b;
+      is = beside_sound (device_of e) (told_by e) x;
+    };
+  }
+
+  pub plain_by : (StandsPlain d → StandsPlain e) → StaysPlain d e
+  plain_by f = record { stands = f; history = λ s. beside_plain (device_of e) (told_by e) (f s) }
+
+  pub excused_by : (StandsWhole d → StandsWhole e) → StaysExcused d e
+  excused_by f = record { stands = f; excused = λ s failed cache. stands_excused (device_of e) (told_by e) (f s) failed cache }
+
+  -- another device, over volumes that tell something else
+  pub plain_over : {x : DefinedDevice} {w : Outside (List ℕ) (Unit {0})} → (IsBeside (device_of d) (told_by d) → IsBeside x w) → device_of e ≡ x →
+      told_by e ≡ w → StandsPlain d → StandsPlain e
+  plain_over {x = x} f is told s =
+      subst (λ (y : DefinedDevice). IsBeside y (told_by e)) (sym is) (subst (λ (w : Outside (List ℕ) (Unit {0})). IsBeside x w) (sym told) (f s))
+
+  pub whole_over : {x : DefinedDevice} {w : Outside (List ℕ) (Unit {0})} → (Stands (device_of d) (told_by d) → Stands x w) → device_of e ≡ x →
+      told_by e ≡ w → StandsWhole d → StandsWhole e
+  whole_over {x = x} f is told s =
+      subst (λ (y : DefinedDevice). Stands y (told_by e)) (sym is) (subst (λ (w : Outside (List ℕ) (Unit {0})). Stands x w) (sym told) (f s))
+
+  pub same_told : e.store ≡ d.store → told_by e ≡ told_by d
+  same_told store = ap (λ (s : DeviceStore V G). outside (no_pool 0) s (tt {0})) store
+
+  -- nothing changed
+  module _ (is : device_of e ≡ device_of d) (store : e.store ≡ d.store) where
+    still_plain : StandsPlain d → StandsPlain e
+    still_plain = plain_over (λ s. s) is (same_told store)
+
+    still_whole : StandsWhole d → StandsWhole e
+    still_whole = whole_over (λ s. s) is (same_told store)
+
+    pub still_sound : StaysSound d e
+    still_sound = sound_by still_plain
+
+    pub still_stays_plain : StaysPlain d e
+    still_stays_plain = plain_by still_plain
+
+    pub still_excused : StaysExcused d e
+    still_excused = excused_by still_whole
+
+  -- A start
+
+  module _ (path : ℕ) (least : 1 ≤ path) (most : path ≤ 4) (fault : start_fault (device_of d) path ≡ None) (is : device_of e ≡ start (device_of d) path)
+      (store : e.store ≡ d.store) where
+    start_goes_plain : StandsPlain d → StandsPlain e
+    start_goes_plain = plain_over (λ s. start_beside (device_of d) (told_by d) path s least most fault) is (same_told store)
+
+    start_goes_whole : StandsWhole d → StandsWhole e
+    start_goes_whole = whole_over (λ s. start_stands (device_of d) (told_by d) path s least most fault) is (same_told store)
+
+    pub start_sound : StaysSound d e
+    start_sound = sound_by start_goes_plain
+
+    pub start_stays_plain : StaysPlain d e
+    start_stays_plain = plain_by start_goes_plain
+
+    pub start_excused : StaysExcused d e
+    start_excused = excused_by start_goes_whole
+
+  -- The program that runs, between two of its commands
+
+  module _ (some : IsSome d.past.running) (whole : is_some (device_of d).store.half ≡ false) (chain : IfSome d.past.running (λ r. IsChain r.chain)) where
+    entry : (o : OpenEntry) × ((device_of d).history.running ≡ Some o)
+    entry = let r = running_there d.past.running some in (open_of r.0, ap (option_map open_of) r.1)
+
+    none : (device_of d).store.half ≡ None
+    none = none_by (device_of d).store.half whole
+
+    chains : (chain : ChainState) → (device_of d).chain ≡ Some chain → IsChain chain
+    chains = chain_told d.past.running chain
+
+    -- its chain runs on its device
+    pub command_ends : {L : Type 0} {had : Bool → Type 0} {hears : Hearing Image L} {a : Option defs_steps.Stepped} {v w : Outside (List ℕ) L}
+        {x : DefinedDevice} → EndsAsSeen had hears (device_of d) v x a w → StandsPlain d → EndsSeen had hears (device_of d) v x a w
+    command_ends f s o hand x running now is = f o hand x running now (runs_on s none o running hand now (chains hand now)) is
+
+  -- What it ran between a port and a keeper, whatever they told
+
+  module _ {L : Type 0} (old new : PortView) (j k : L) where
+    abbrev u : Outside (List ℕ) L
+    u = outside old d.store j
+
+    abbrev z : Outside (List ℕ) L
+    z = outside new e.store k
+
+    plain_across : (IsBeside (device_of d) u → IsBeside (device_of e) z) → StandsPlain d → StandsPlain e
+    plain_across f s =
+        beside_there (device_of e) z (told_by e) (λ h t. record { a = t.a; b = t.b; slots = t.slots })
+        (f (beside_there (device_of d) (told_by d) u (λ h t. record { a = t.a; b = t.b; slots = t.slots }) s))
+
+    whole_across : (Stands (device_of d) u → Stands (device_of e) z) → StandsWhole d → StandsWhole e
+    whole_across f s =
+        stands_there (device_of e) z (told_by e) (λ h t. record { a = t.a; b = t.b; slots = t.slots })
+        (f (stands_there (device_of d) (told_by d) u (λ h t. record { a = t.a; b = t.b; slots = t.slots }) s))
+
+    -- A command
+
+    module _ (some : IsSome d.past.running) (whole : is_some (device_of d).store.half ≡ false) (chain : IfSome d.past.running (λ r. IsChain r.chain))
+        {hears : Hearing Image L} where
+      command_plain : (p : Past) (r : Result Stepped NoMemory) → Ran (where_ok r) hears (command contents (device_of d)) u (device_of e) (step_had p r) z →
+          StandsPlain d → StandsPlain e
+      command_plain p (Ok x) run =
+          plain_across (λ s. (command_beside s (λ m y q l h. h) (step_had {E = NoMemory} p (Ok x)) (entry some whole chain).0 (none some whole chain) (entry some whole chain).1 (chains some whole chain) (replied run)).beside)
+      command_plain p (Err x) run = plain_across (λ s. (command_lacked s (entry some whole chain).0 (none some whole chain) (entry some whole chain).1 (chains some whole chain) run).beside)
+
+      pub command_sound : (p : Past) (r : Result Stepped NoMemory) →
+          Ran (where_ok r) hears (command contents (device_of d)) u (device_of e) (step_had p r) z → StaysSound d e
+      command_sound p r run = sound_by (command_plain p r run)
+
+      pub command_stays_plain : (p : Past) (r : Result Stepped NoMemory) →
+          Ran (where_ok r) hears (command contents (device_of d)) u (device_of e) (step_had p r) z → StaysPlain d e
+      command_stays_plain p r run = plain_by (command_plain p r run)
+
+      pub command_excused : (p : Past) (r : Result Stepped NoMemory) →
+          Ran (where_ok r) hears (command contents (device_of d)) u (device_of e) (step_had p r) z → OnOk r (StaysExcused d e)
+      command_excused p (Ok x) run =
+          excused_by (whole_across
+          (λ s. command_stands s (λ m y q l h. h) (step_had {E = NoMemory} p (Ok x)) (entry some whole chain).0 (none some whole chain) (entry some whole chain).1 (chains some whole chain) (replied run)))
+      command_excused p (Err x) run = tt
+
+      pub command_same : (p : Past) (r : Result Stepped NoMemory) →
+          Ran (where_ok r) hears (command contents (device_of d)) u (device_of e) (step_had p r) z → OnErr r (StaysSame d e)
+      command_same p (Ok x) run = tt
+      command_same p (Err x) run =
+          let r = running_there d.past.running some in
+          record {
+            again = command_again (device_of d) (open_of r.0) (chain_of r.0) (ap (option_map open_of) r.1) (ap (option_map chain_of) r.1) run;
+            contents = λ s.
+                let b = beside_there (device_of d) (told_by d) u (λ h t. record { a = t.a; b = t.b; slots = t.slots }) s in
+                same_volume b (command_lacked b (entry some whole chain).0 (none some whole chain) (entry some whole chain).1 (chains some whole chain) run);
+          }
+
+    -- What it does by itself
+
+    module _ (whole : is_some (device_of d).store.half ≡ false) {hears : Hearing Image L} where
+      background_plain : (r : Result Did NoMemory) →
+          Ran (where_ok r) hears (background contents (device_of d)) u (device_of e) (had (λ x. x) r) z → StandsPlain d → StandsPlain e
+      background_plain (Ok x) run = plain_across (λ s. (background_beside s (λ m y q l h. h) (Some x) (none_by (device_of d).store.half whole) (replied run)).beside)
+      background_plain (Err x) run = plain_across (λ s. (background_lacked s (none_by (device_of d).store.half whole) run).beside)
+
+      pub background_sound : (r : Result Did NoMemory) →
+          Ran (where_ok r) hears (background contents (device_of d)) u (device_of e) (had (λ x. x) r) z → StaysSound d e
+      background_sound r run = sound_by (background_plain r run)
+
+      pub background_stays_plain : (r : Result Did NoMemory) →
+          Ran (where_ok r) hears (background contents (device_of d)) u (device_of e) (had (λ x. x) r) z → StaysPlain d e
+      background_stays_plain r run = plain_by (background_plain r run)
+
+      pub background_excused : (r : Result Did NoMemory) →
+          Ran (where_ok r) hears (background contents (device_of d)) u (device_of e) (had (λ x. x) r) z → OnOk r (StaysExcused d e)
+      background_excused (Ok x) run = excused_by (whole_across (λ s. background_stands s (λ m y q l h. h) (Some x) (none_by (device_of d).store.half whole) (replied run)))
+      background_excused (Err x) run = tt
+
+      pub background_same : (r : Result Did NoMemory) →
+          Ran (where_ok r) hears (background contents (device_of d)) u (device_of e) (had (λ x. x) r) z → OnErr r (StaysSame d e)
+      background_same (Ok x) run = tt
+      background_same (Err x) run = record {
+        again = background_again (device_of d) run;
+        contents = λ s.
+            let b = beside_there (device_of d) (told_by d) u (λ h t. record { a = t.a; b = t.b; slots = t.slots }) s in
+            same_volume b (background_lacked b (none_by (device_of d).store.half whole) run);
+      }
+
+    -- The second part of a write
+
+    module _ (open_is : is_some (device_of d).store.half ≡ true) {hears : Hearing Image L} {a : SecondEnd}
+        (run : Ran surely hears (second contents (device_of d)) u (device_of e) a z) where
+      second_plain : StandsPlain d → StandsPlain e
+      second_plain =
+          let h = half_there (device_of d).store.half open_is in
+          plain_across (λ s. (second_beside s (λ m y q l h. h) a h.0 h.1 (replied run)).beside)
+
+      pub second_sound : StaysSound d e
+      second_sound = sound_by second_plain
+
+      pub second_stays_plain : StaysPlain d e
+      second_stays_plain = plain_by second_plain
+
+      pub second_excused : StaysExcused d e
+      second_excused =
+          let h = half_there (device_of d).store.half open_is in
+          excused_by (whole_across (λ s. second_stands s (λ m y q l h. h) a h.0 h.1 (replied run)))
+
+    -- A loss, a reset, a loss of power
+
+    module _ (loss : Loss) {hears : Hearing Image L} (run : Ran surely hears (lose contents (device_of d) loss) u (device_of e) tt z) where
+      lose_plain : StandsPlain d → StandsPlain e
+      lose_plain = plain_across (λ s. (loss_beside s (λ m y q l h. h) loss tt (replied run)).beside)
+
+      lose_whole : StandsWhole d → StandsWhole e
+      lose_whole = whole_across (λ s. loss_stands s (λ m y q l h. h) loss tt (replied run))
+
+      pub lose_sound : StaysSound d e
+      lose_sound = sound_by lose_plain
+
+      pub lose_stays_plain : StaysPlain d e
+      lose_stays_plain = plain_by lose_plain
+
+      pub lose_excused : StaysExcused d e
+      lose_excused = excused_by lose_whole
+
+    module _ (path : ℕ) {hears : Hearing Image L} (run : Ran surely hears (reset contents (device_of d) path) u (device_of e) tt z) where
+      reset_plain : StandsPlain d → StandsPlain e
+      reset_plain = plain_across (λ s. (reset_beside s (λ m y q l h. h) path tt (replied run)).beside)
+
+      reset_whole : StandsWhole d → StandsWhole e
+      reset_whole = whole_across (λ s. reset_stands s (λ m y q l h. h) path tt (replied run))
+
+      pub reset_sound : StaysSound d e
+      reset_sound = sound_by reset_plain
+
+      pub reset_stays_plain : StaysPlain d e
+      reset_stays_plain = plain_by reset_plain
+
+      pub reset_excused : StaysExcused d e
+      reset_excused = excused_by reset_whole
+
+    module _ {hears : Hearing Image L} (run : Ran surely hears (power contents (device_of d)) u (device_of e) tt z) where
+      power_plain : StandsPlain d → StandsPlain e
+      power_plain = plain_across (λ s. (power_beside s (λ m y q l h. h) tt (replied run)).beside)
+
+      power_whole : StandsWhole d → StandsWhole e
+      power_whole = whole_across (λ s. power_stands s (λ m y q l h. h) tt (replied run))
+
+      pub power_sound : StaysSound d e
+      power_sound = sound_by power_plain
+
+      pub power_stays_plain : StaysPlain d e
+      power_stays_plain = plain_by power_plain
+
+      pub power_excused : StaysExcused d e
+      power_excused = excused_by power_whole
+
+    -- A look
+
+    module _ (t : ℕ) (lt : t < d.store.cylinders * 15) (may : is_written_at (device_of d).store.half t ≡ false)
+        {hears : Hearing Image L} where
+      peek_goes : {had : Bool → Type 0} {a : Option defs.Peeked} → Ran had hears (peek contents (device_of d) t) u (device_of e) a z →
+          StandsPlain d → StandsPlain e
+      peek_goes run = plain_across (λ s. (peek_beside s t lt may run).beside)
+
+      pub peek_sound : {had : Bool → Type 0} {a : Option defs.Peeked} → Ran had hears (peek contents (device_of d) t) u (device_of e) a z → StaysSound d e
+      peek_sound run = sound_by (peek_goes run)
+
+      pub peek_stays_plain : {had : Bool → Type 0} {a : Option defs.Peeked} → Ran had hears (peek contents (device_of d) t) u (device_of e) a z → StaysPlain d e
+      peek_stays_plain run = plain_by (peek_goes run)
+
+      pub peek_answers : (q : StoreOf) (r : Result Peeked NoMemory) →
+          Ran (where_ok r) hears (peek contents (device_of d) t) u (device_of e) (had (peeked_by q t) r) z → StandsPlain d →
+          IfOk r (λ p. FoundPlain (device_of d) t (Some (peeked_by q t p)))
+      peek_answers q (Ok p) run s =
+          peek_finds (beside_there (device_of d) (told_by d) u (λ h t. record { a = t.a; b = t.b; slots = t.slots }) s) t lt may run
+      peek_answers q (Err x) run s = tt
+
+pub opened_is : (s : StoreOf) (paths : PathsState) (plans : Plans) (p : Past) (number : ℕ) (g : Geometry) (n : ℕ) → s ≡ opened_store number g n →
+    paths ≡ fresh_paths → history_of p ≡ no_history → p.running ≡ None → device_by s paths plans p ≡ opened_device number g n plans
+opened_is s paths plans p number g n store path history over =
+    ap (λ (x : StoreOf). device_by x paths plans p) store
+    ∙ ap (λ (x : PathsState). device_by (opened_store number g n) x plans p) path
+    ∙ ap (λ (h : History). record {
+      store = opened_store number g n;
+      paths = fresh_paths;
+      plans = plans;
+      history = h;
+      chain = option_map chain_of p.running;
+    }) history
+    ∙ ap (λ (r : Option Running). record {
+      store = opened_store number g n;
+      paths = fresh_paths;
+      plans = plans;
+      history = no_history;
+      chain = option_map chain_of r;
+    }) over
+
+-- a new device on a volume of empty tracks
+pub opened_promised : {V : Type 0} {G : Ghosts V} (d : Device V G) (number : ℕ) (g : Geometry) (n : ℕ) (plans : Plans) (v : V) →
+    device_of d ≡ opened_device number g n plans → on_a d.store ≡ Some v → on_b d.store ≡ None → 1 ≤ n → n ≤ 64 → GiveBytes plans →
+    (G.view v).contents ≡ Some (empty_contents (n * 15)) → IsPromised d
+opened_promised {G = G} d number g n plans v is a b some most gives tells =
+    let told_a : Tells (told_by d).a (empty_contents (n * 15)) = subst (λ (o : Option _). Tells (option_map G.view o) (empty_contents (n * 15))) (sym a) tells in
+    let told_b : Tells (told_by d).b [] = subst (λ (o : Option _). Tells (option_map G.view o) []) (sym b) tt in
+    let stands : StandsWhole d = subst (λ (x : DefinedDevice). Stands x (told_by d)) (sym is)
+    (new_stands number g n plans (told_by d) some most told_a told_b gives) in
+    record {
+      stands = stands;
+      sound = record {
+        held = stands.beside.held;
+        on_a = stands.beside.untold.a;
+        on_b = stands.beside.untold.b;
+        is = beside_sound (device_of d) (told_by d) stands.beside;
+      };
+      plain = beside_plain (device_of d) (told_by d) stands.beside;
+      excused = λ failed cache. stands_excused (device_of d) (told_by d) stands failed cache;
+    }
+
+pub seen_there : {X : Type 0} (o : Option X) → IsSome o → (x : X) × (o ≡ Some x)
+seen_there (Some x) is = (x, refl)
+seen_there None is = absurd cc

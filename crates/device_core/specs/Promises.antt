@@ -1,0 +1,93 @@
+-- What a device promises by each of its calls: that it stays sound, that its history stays a plain device's, that it stays excused for what it lost, and what want
+-- of memory leaves as it was.
+use Rattle.std.specs.Prelude.{◌≡◌, ◌<◌, ◌^◌, ◌-◌, ℕ, Bool, List, Option, Some, length}
+use Rattle.ckd_chain.specs.State.{ChainState}
+use Rattle.plain_defs.specs.History.{IsPlain, OpenEntry}
+use Rattle.plain_defs.specs.PlainState.{empty_state}
+use Rattle.device_outside.specs.declared.volume.Volume.{Ghosts}
+use Rattle.track_image.specs.Image.{Image}
+use Rattle.device_outside.specs.After.{Holdings, Tells}
+use Rattle.device_outside.specs.Keeper.{Hearing}
+use Rattle.device_outside.specs.Outside.{Outside, no_pool}
+use Rattle.device_outside.specs.Volume.{VolumeView}
+use Rattle.device_defs.specs.declared.answers.Stepped.{Stepped}
+use Rattle.device_defs.specs.Excused as defs
+use Rattle.device_defs.specs.Sound as defs_sound
+use Rattle.device_defs.specs.Sound.{plain_device}
+use Rattle.device_laws.specs.Whole.{WholeDevice}
+use Rattle.seen_laws.specs.Seen.{CommandCame}
+use Rattle.device_store.specs.State.{outside}
+use Rattle.turn_laws.specs.Again.{IsAgain}
+use Rattle.turn_laws.specs.Standing.{IsBeside, Stands}
+use Rattle.device_core.specs.declared.device.Device.{Device}
+use Rattle.device_core.specs.State.{device_of}
+
+-- A command of a running program that ended, or is half done, came out as the rules say over the images that it saw
+module _ {K : Type 0} (had : Bool → Type 0) (hears : Hearing Image K) where
+  abbrev pub EndsSeen : WholeDevice → Outside (List ℕ) K → WholeDevice → Option Stepped → Outside (List ℕ) K → Type 0
+  EndsSeen d u e a z =
+      (o : OpenEntry) (chain : ChainState) (x : Stepped) → d.history.running ≡ Some o → d.chain ≡ Some chain → a ≡ Some x →
+      CommandCame had hears d o chain u x e z
+
+-- a volume tells what it holds, so many tracks
+abbrev pub TellsTracks : VolumeView (List ℕ) → ℕ → Type 0
+TellsTracks v n = (l : List (List ℕ)) × (v.contents ≡ Some l) × (length l ≡ n)
+
+module _ {V : Type 0} {G : Ghosts V} where
+  -- what its volumes tell
+  abbrev pub told_by : Device V G → Outside (List ℕ) (Unit {0})
+  told_by d = outside (no_pool 0) d.store tt
+
+  -- its volumes tell what they hold, and it stands beside the plain device of its history
+  abbrev pub StandsPlain : Device V G → Type 0
+  StandsPlain d = IsBeside (device_of d) (told_by d)
+
+  -- and it came about from a new device by its calls, its orders only where they aren't refused, and never got an empty volume on the way
+  abbrev pub StandsWhole : Device V G → Type 0
+  StandsWhole d = Stands (device_of d) (told_by d)
+
+  -- Sound: track by track, its frames, its patches and the bytes of each side that has the track are those of the plain device of its history
+
+  pub record IsSound (d : Device V G) : Type 0 where
+    pub held : Holdings (List ℕ)
+    pub on_a : Tells (told_by d).a held.a
+    pub on_b : Tells (told_by d).b held.b
+    pub is : defs_sound.IsSound (device_of d) held
+
+  -- behind a call, where it stood so before
+  pub record StaysSound (d e : Device V G) : Type 0 where
+    pub sound : StandsPlain d → IsSound e
+
+  -- Plain: its history is one that a plain device could have, over its plans and from an empty volume
+
+  abbrev pub HasPlainHistory : Device V G → Type 0
+  HasPlainHistory d = IsPlain d.plans (empty_state d.store.geometry d.store.cylinders) (device_of d).history
+
+  pub record StaysPlain (d e : Device V G) : Type 0 where
+    pub stands : StandsPlain d → StandsPlain e
+    pub history : StandsPlain d → HasPlainHistory e
+
+  -- Excused: each lost track and each equipment check has its cause, while the counts of failed calls and of losses of the cache aren't at the greatest number
+
+  abbrev pub IsExcused : Device V G → Type 0
+  IsExcused d =
+      d.store.counts.failed < 2 ^ 64 - 1 → d.store.counts.losses.cache < 2 ^ 64 - 1 →
+      defs.IsExcused d.plans (empty_state d.store.geometry d.store.cylinders) d.past.items.items d.store.lost d.store.counts
+
+  -- all of these, so that its next call keeps them
+  pub record IsPromised (d : Device V G) : Type 0 where
+    pub stands : StandsWhole d
+    pub sound : IsSound d
+    pub plain : HasPlainHistory d
+    pub excused : IsExcused d
+
+  pub record StaysExcused (d e : Device V G) : Type 0 where
+    pub stands : StandsWhole d → StandsWhole e
+    pub excused : StandsWhole d → IsExcused e
+
+  -- The same: want of memory leaves its paths, who holds it, its plans and its place in the program; of a device that is no pair its history and its marks;
+  -- and the contents of the plain device of its history
+
+  pub record StaysSame (d e : Device V G) : Type 0 where
+    pub again : IsAgain (device_of d) (device_of e)
+    pub contents : StandsPlain d → (plain_device (device_of e)).volume ≡ (plain_device (device_of d)).volume

@@ -1,0 +1,16 @@
+pub mod Pieces
+pub mod Drawing
+pub mod Names
+pub mod Parameters
+pub mod Answers
+pub mod Lines
+pub mod ReportRows
+pub mod DeckRows
+pub mod Marks
+pub mod Lanes
+pub mod Sides
+pub mod Parts
+pub mod Grid
+pub mod Timeline
+pub mod Fixed
+pub mod Whole

@@ -1,0 +1,23 @@
+-- What the top call of paths says, one fact a clause. Held and holds are what the sink got, before and after; before and after are what the source
+-- has left.
+use Rattle.std.specs.Prelude.{ℕ, List, Option}
+use Rattle.std.specs.Io.KnownBytes.{Appends}
+use Rattle.ckd_outside.specs.Texts.{AppendsFront}
+use Rattle.deck_text.specs.DeckLines.{DeckLines}
+use Rattle.deck_text.specs.Parse.{parsed}
+use Rattle.deck_top.specs.Answers.{Reads}
+use Rattle.path_top.specs.Answers.{IsHistoryText, IsTextOf}
+
+-- the sink got a history of the deck
+pub record WritesHistory (held holds : Option (List ℕ)) (deck : DeckLines) : Type 0 where
+  pub text : List ℕ
+  pub history : IsHistoryText deck text
+  pub written : Appends held holds text
+
+-- of what is written for the text that the source gave, the sink got a front
+pub record WritesFront (before after held holds : Option (List ℕ)) : Type 0 where
+  pub text : List ℕ
+  pub read : Reads before after text
+  pub whole : List ℕ
+  pub suits : IsTextOf (parsed text) whole
+  pub front : AppendsFront held holds whole
