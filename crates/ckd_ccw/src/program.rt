@@ -1,7 +1,6 @@
-ghost use Rattle.std.specs.Prelude.{◌≡◌, ◌<◌, ◌≤◌, true, false, IfOk, IfErr, IfSome, MatchOption, length};
+ghost use Rattle.std.specs.Prelude.{◌≡◌, ◌<◌, ◌≤◌, false, IfOk, IfErr, IfSome, MatchOption, length};
 ghost use Rattle.ckd_types.specs.Ccw.{ccw_at, is_transfer};
-ghost use Rattle.ckd_types.specs.Commands.{is_search};
-ghost use Rattle.ckd_types.specs.Program.{IsProgram, fault_from, fault_of, first_fault, next_ccw, target};
+ghost use Rattle.ckd_types.specs.Program.{IsProgram, fault_from, fault_of, first_fault};
 ghost use Rattle.ckd_ccw.specs.Faults.{reason, index_of};
 ghost use Rattle.ckd_ccw.specs.Words.{IsWord};
 
@@ -119,36 +118,6 @@ impl Program {
         ensures index { i < 256 }
     {
         &self.items[i]
-    }
-
-    /// Where a chain goes behind word `index`: to the next word, past it where the word's status had
-    /// status modifier, and from a transfer in channel to its target at once.
-    pub fn successor(&self, index: u16, modified: bool) -> Option<u16>
-        requires index { index < length self.now }
-        requires command { is_transfer (ccw_at self.now index) ≡ false }
-        requires modified { modified ≡ true → is_search (ccw_at self.now index).command ≡ true }
-        ensures next { result ≡ next_ccw self.now index modified }
-        ensures range { IfSome result (λ i. i < length self.now) }
-        ensures command { IfSome result (λ i. is_transfer (ccw_at self.now i) ≡ false) }
-    {
-        if !self.at(usize::from(index)).is_chained() {
-            None
-        } else if modified {
-            Some(self.target(index + 2))
-        } else {
-            Some(self.target(index + 1))
-        }
-    }
-
-    /// The command that a chain reaches at a word: the word itself, or the target of a transfer.
-    fn target(&self, index: u16) -> u16
-        requires { index < length self.now }
-        ensures target { result ≡ target self.now index }
-        ensures range { result < length self.now }
-        ensures command { is_transfer (ccw_at self.now result) ≡ false }
-    {
-        let ccw = self.at(usize::from(index));
-        if ccw.is_transfer() { ccw.count } else { index }
     }
 
     /// An equal program.

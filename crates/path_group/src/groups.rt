@@ -1,7 +1,7 @@
 ghost use Rattle.std.specs.Prelude.{◌≡◌, ◌-◌, MatchResult, None, OnErr, OnOk, Some, replicate, slice_set};
 ghost use Rattle.ckd_types.specs.declared.paths.PathState.TheVariants.{Reset};
 ghost use Rattle.ckd_rules.specs.Grouping.{owner_by};
-ghost use Rattle.ckd_rules.specs.Grouping.{group_fault, group_in, paths_set, state_byte, state_in};
+ghost use Rattle.ckd_rules.specs.Grouping.{group_fault, paths_set, state_byte, state_in};
 
 use ckd_rules::{GroupFault, group_fault, owner_by, set_paths, state_byte};
 use ckd_types::{GroupId, Owner, PathNo, PathState};
@@ -66,16 +66,6 @@ impl Groups {
         ensures { result ≡ state_byte (state_in self.now path) path owner }
     {
         state_byte(self.state(path), path, owner)
-    }
-
-    /// The group that a path is in.
-    pub fn group_of(&self, path: PathNo) -> Option<GroupId>
-        ensures { result ≡ group_in (state_in self.now path) }
-    {
-        match self.state(path) {
-            PathState::Grouped { id, .. } => Some(id),
-            PathState::Reset | PathState::Ungrouped => None,
-        }
     }
 
     /// Whom a path stands for: its group where it is in one, else itself.

@@ -8,4 +8,3 @@ pub mod Running
 pub mod Acts
 pub mod Suiting
 pub mod Wholes
-pub mod LastSense

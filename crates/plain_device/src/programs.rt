@@ -1,8 +1,6 @@
-ghost use Rattle.std.specs.Prelude.{◌≡◌, ◌*◌, [], List, false, is_none, All, IfOk, OnErr, OnOk, length};
+ghost use Rattle.std.specs.Prelude.{◌≡◌, ◌*◌, [], List, false, is_none, All, IfOk, OnErr, OnOk};
 ghost use Rattle.ckd_types.specs.declared.channel.Ccw.{Ccw};
-ghost use Rattle.ckd_types.specs.declared.channel.CommandEnd.{CommandEnd};
 ghost use Rattle.plain_defs.specs.Ends.{LastIsOver};
-ghost use Rattle.plain_defs.specs.Journal.{effects_of, last_sense, replay_program};
 ghost use Rattle.plain_defs.specs.Program.{Part, one_more, part_of, whole_run};
 ghost use Rattle.plain_device.specs.Between.{IsBetween};
 ghost use Rattle.plain_device.specs.Parts.{IsAtPart};
@@ -11,30 +9,9 @@ ghost use Rattle.plain_device.specs.Volume.{IsActOn};
 use crate::PlainDevice;
 use ckd_ccw::Program;
 use ckd_chain::Chain;
-use ckd_types::{CommandEnd, EndList, NoMemory, PathNo, Sense};
-use plain_defs::{Acted, Entry, How};
+use ckd_types::{EndList, NoMemory, PathNo};
+use plain_defs::Acted;
 use std::alloc::Global;
-
-/// How many of a program's commands took effect, of which so many ended.
-fn effects_of(how: How, ends: usize) -> usize
-    ensures { (l : List CommandEnd) → length l ≡ ends → result ≡ effects_of how l }
-{
-    match how {
-        How::Full => ends,
-        How::Cut { effect } => usize::from(effect),
-        How::Checked => ends.saturating_sub(1),
-    }
-}
-
-/// The sense of the last command that ended, where it has one.
-fn last_sense(ends: &[CommandEnd]) -> Option<Sense>
-    ensures { result ≡ last_sense ends.now }
-{
-    match ends.last() {
-        Some(end) => end.sense,
-        None => None,
-    }
-}
 
 impl PlainDevice {
     /// Runs a program on a path from its beginning to its end. It runs over a copy of the device, so
@@ -118,26 +95,5 @@ impl PlainDevice {
         }
         *self = device;
         Ok(ends)
-    }
-
-    /// Makes of the device what a program made of it that ran as an entry of a journal says: whole, or cut
-    /// when so many of its commands had taken effect, or up to a last command that had no effect but its
-    /// sense. At want of memory nothing changes.
-    pub fn run_entry(
-        &mut self,
-        alloc: Global,
-        program: &Program,
-        entry: &Entry,
-    ) -> Result<(), NoMemory>
-        requires on { All (λ a. IsActOn (self.old.cylinders * 15) a.act) entry.now.acts }
-        ensures after { OnOk result (self.new ≡ replay_program program.now self.old entry.now) }
-        ensures err { OnErr result (self.new ≡ self.old) }
-    {
-        let commands = effects_of(entry.how, entry.ends.len());
-        self.run_part(alloc, entry.path, program, entry.acts.as_slice(), commands)?;
-        if entry.how == How::Checked {
-            self.keep_sense(entry.path, last_sense(entry.ends.as_slice()));
-        }
-        Ok(())
     }
 }

@@ -3,4 +3,4 @@
 
 mod reserve;
 
-pub use reserve::{Held, Reserve};
+pub use reserve::Reserve;

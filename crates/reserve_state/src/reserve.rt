@@ -1,16 +1,10 @@
-ghost use Rattle.std.specs.Prelude.{◌≡◌, MatchResult, None, OnErr, OnOk, Some, false, true};
-ghost use Rattle.ckd_rules.specs.Grouping.{is_free_for, is_same_owner, owner_after};
+ghost use Rattle.std.specs.Prelude.{◌≡◌, None, Some};
+ghost use Rattle.ckd_rules.specs.Grouping.{owner_after};
 ghost use Rattle.ckd_rules.specs.Grouping.{owner_set};
 
-use ckd_rules::{is_same_owner, owner_after, owner_set};
+use ckd_rules::{owner_after, owner_set};
 use ckd_types::{GroupId, Owner, PathNo, PathState};
 use std::marker::Model;
-
-/// The device is held by somebody else.
-#[derive(Clone, Copy, Debug, PartialEq, Eq)]
-pub struct Held {
-    pub by: Owner,
-}
 
 /// The reservation of a device. Contracts see who holds it, if anyone does.
 #[derive(Clone, Copy, Debug)]
@@ -42,21 +36,6 @@ impl Reserve {
         ensures { result ≡ self.now }
     {
         self.owner
-    }
-
-    /// Reserves the device, unless another owner holds it.
-    pub fn claim(&mut self, by: Owner) -> Result<(), Held>
-        ensures free { MatchResult result (λ done. is_free_for self.old by ≡ true) (λ held. is_same_owner held.by by ≡ false) }
-        ensures held { MatchResult result (λ done. self.new ≡ Some by) (λ held. self.old ≡ Some held.by) }
-        ensures same { OnErr result (self.new ≡ self.old) }
-    {
-        if let Some(holder) = self.owner {
-            if !is_same_owner(&holder, &by) {
-                return Err(Held { by: holder });
-            }
-        }
-        self.owner = Some(by);
-        Ok(())
     }
 
     /// Releases the device.

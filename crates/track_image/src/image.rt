@@ -1,5 +1,5 @@
-ghost use Rattle.std.specs.Prelude.{◌≡◌, ◌≢◌, IsOk, ◌<◌, ◌≤◌, ◌^◌, ◌+◌, ◌↔◌, false, Err, IfOk, OnOk};
-ghost use Rattle.std.specs.Prelude.{OnErr, IfSome, All, true, [], ◌∷◌, ◌++◌, length, take, drop};
+ghost use Rattle.std.specs.Prelude.{◌≡◌, ◌≢◌, ◌<◌, ◌≤◌, ◌^◌, ◌+◌, ◌↔◌, false, Err, IfOk, OnOk};
+ghost use Rattle.std.specs.Prelude.{OnErr, IfSome, true, [], ◌++◌, length, take, drop};
 ghost use Rattle.std.specs.List.{flat_map};
 ghost use Rattle.ckd_types.specs.Geometry.{cost, capacity};
 ghost use Rattle.ckd_types.specs.Track.{IsRecord, Fits, cost_of, find_id, empty_track, home_bytes, record_bytes, end_mark, track_bytes};
@@ -10,7 +10,7 @@ ghost use Rattle.track_image.specs.Packed.{most_bytes};
 use crate::count::home_area;
 use crate::packed::Packed;
 use crate::{AddFault, RecordRef, RecordRoom};
-use ckd_types::{Bytes, Cchh, Geometry, NoMemory, RecId, Record, TrackNo, capacity, cchh_of, cost};
+use ckd_types::{Cchh, Geometry, NoMemory, RecId, Record, TrackNo, capacity, cchh_of, cost};
 use std::alloc::Global;
 use std::marker::Model;
 
@@ -106,16 +106,6 @@ impl TrackImage {
         ensures most { length result.now ≤ most_bytes }
     {
         self.packed.bytes()
-    }
-
-    /// A copy of the bytes of the track, as a volume holds them.
-    pub fn to_bytes(&self, alloc: Global) -> Result<Bytes, NoMemory>
-        ensures { IfOk result (λ made. made ≡ track_bytes self.now.track) }
-    {
-        let bytes = self.packed.bytes();
-        let mut out = Vec::with_capacity(alloc, bytes.len())?;
-        out.extend_from_slice(bytes)?;
-        Ok(Bytes::from_vec(out))
     }
 
     /// The bytes of record `i` and those behind it, and the end mark. Takes no memory.
