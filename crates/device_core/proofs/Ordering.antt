@@ -12,7 +12,7 @@ use Rattle.duplex_pair.specs.declared.pair.SideVolumes.{SideVolumes}
 use Rattle.duplex_pair.specs.Sides.{other_of, volume_of}
 use Rattle.device_store.specs.State.{on_a, on_b, outside_of}
 use Rattle.subsystem_defs.specs.Refusals.{replace_fault, suspend_fault, unpair_fault}
-use Rattle.turn_laws.proofs.Orders.{
+use Rattle.subsystem_laws.proofs.turning.Orders.{
   held_beside,
   held_stands,
   joined_beside,

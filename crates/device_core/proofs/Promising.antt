@@ -30,10 +30,10 @@ use Rattle.device_store.specs.declared.store.DeviceStore.{DeviceStore}
 use Rattle.device_store.specs.declared.store.Peeked.{Peeked}
 use Rattle.device_store.specs.Looks.{StoreOf, peeked_by}
 use Rattle.device_store.specs.State.{had, on_a, on_b, opened_store, outside, surely}
-use Rattle.look_laws.specs.Looking.{is_written_at}
-use Rattle.turn_laws.specs.Found.{FoundPlain}
-use Rattle.turn_laws.specs.Standing.{IsBeside, Stands}
-use Rattle.turn_laws.proofs.Beside.{
+use Rattle.subsystem_laws.specs.Looking.{is_written_at}
+use Rattle.subsystem_laws.specs.Found.{FoundPlain}
+use Rattle.subsystem_laws.specs.Standing.{IsBeside, Stands}
+use Rattle.subsystem_laws.proofs.turning.Beside.{
   background_beside,
   beside_there,
   command_beside,
@@ -44,11 +44,11 @@ use Rattle.turn_laws.proofs.Beside.{
   second_beside,
   start_beside,
 }
-use Rattle.turn_laws.proofs.Found.{peek_finds}
-use Rattle.turn_laws.proofs.NewDevice.{new_stands}
-use Rattle.turn_laws.proofs.SameAgain.{background_again, command_again}
-use Rattle.turn_laws.proofs.Sound.{beside_plain, beside_sound, stands_excused}
-use Rattle.turn_laws.proofs.Standing.{
+use Rattle.subsystem_laws.proofs.turning.Found.{peek_finds}
+use Rattle.subsystem_laws.proofs.turning.NewDevice.{new_stands}
+use Rattle.subsystem_laws.proofs.turning.SameAgain.{background_again, command_again}
+use Rattle.subsystem_laws.proofs.turning.Sound.{beside_plain, beside_sound, stands_excused}
+use Rattle.subsystem_laws.proofs.turning.Standing.{
   background_stands,
   command_stands,
   loss_stands,
@@ -58,13 +58,13 @@ use Rattle.turn_laws.proofs.Standing.{
   stands_there,
   start_stands,
 }
-use Rattle.turn_laws.proofs.Untold.{replied}
-use Rattle.turn_laws.proofs.Wanting.{background_lacked, command_lacked, peek_beside, same_volume}
+use Rattle.subsystem_laws.proofs.turning.Untold.{replied}
+use Rattle.subsystem_laws.proofs.turning.Wanting.{background_lacked, command_lacked, peek_beside, same_volume}
 use Rattle.device_core.specs.declared.device.Device.{Device}
 use Rattle.device_core.specs.declared.past.Past.{Past}
 use Rattle.device_core.specs.declared.past.Running.{Running}
 use Rattle.device_core.specs.declared.past.Stepped.{Stepped}
-use Rattle.seen_laws.specs.Seen.{EndsAsSeen}
+use Rattle.device_laws.specs.Seen.{EndsAsSeen}
 use Rattle.device_core.specs.Promises.{EndsSeen, IsPromised, IsSound, StandsPlain, StandsWhole, StaysExcused, StaysPlain, StaysSame, StaysSound, told_by}
 use Rattle.device_core.specs.State.{DefinedDevice, chain_of, device_by, device_of, history_of, open_of, opened_device, step_had}
 use Rattle.device_core.proofs.Halves.{none_by}

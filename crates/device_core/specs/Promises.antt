@@ -15,10 +15,10 @@ use Rattle.device_defs.specs.Excused as defs
 use Rattle.device_defs.specs.Sound as defs_sound
 use Rattle.device_defs.specs.Sound.{plain_device}
 use Rattle.device_laws.specs.Whole.{WholeDevice}
-use Rattle.seen_laws.specs.Seen.{CommandCame}
+use Rattle.device_laws.specs.Seen.{CommandCame}
 use Rattle.device_store.specs.State.{outside}
-use Rattle.turn_laws.specs.Again.{IsAgain}
-use Rattle.turn_laws.specs.Standing.{IsBeside, Stands}
+use Rattle.subsystem_laws.specs.Again.{IsAgain}
+use Rattle.subsystem_laws.specs.Standing.{IsBeside, Stands}
 use Rattle.device_core.specs.declared.device.Device.{Device}
 use Rattle.device_core.specs.State.{device_of}
 

@@ -8,11 +8,11 @@ ghost use Rattle.device_outside.specs.Outside.{Ran, where_ok};
 ghost use Rattle.device_store.specs.Looks.{peeked_by, IsPeeked};
 ghost use Rattle.device_store.specs.State.{state_of, outside, had, TakesTracks};
 ghost use Rattle.device_core.specs.State.{device_of, IsSameDevice};
-ghost use Rattle.seen_laws.specs.Moved.{LookMoves, WorkMoves};
-ghost use Rattle.seen_laws.specs.Seen.{KeepsPaths};
+ghost use Rattle.device_laws.specs.Moved.{LookMoves, WorkMoves};
+ghost use Rattle.device_laws.specs.Seen.{KeepsPaths};
 ghost use Rattle.device_core.specs.Promises.{StandsPlain, StaysExcused, StaysPlain, StaysSame, StaysSound};
-ghost use Rattle.look_laws.specs.Looking.{is_written_at};
-ghost use Rattle.turn_laws.specs.Found.{FoundPlain};
+ghost use Rattle.subsystem_laws.specs.Looking.{is_written_at};
+ghost use Rattle.subsystem_laws.specs.Found.{FoundPlain};
 
 use crate::Device;
 use ckd_types::{NoMemory, TrackNo};

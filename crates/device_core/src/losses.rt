@@ -6,8 +6,8 @@ ghost use Rattle.device_outside.specs.Keeper.{Heard, reply};
 ghost use Rattle.device_outside.specs.Outside.{Ran};
 ghost use Rattle.device_store.specs.State.{outside, surely, TakesTracks};
 ghost use Rattle.device_core.specs.State.{device_of, IsSameDevice};
-ghost use Rattle.seen_laws.specs.Moved.{MovesNothing};
-ghost use Rattle.seen_laws.specs.Seen.{KeepsPaths};
+ghost use Rattle.device_laws.specs.Moved.{MovesNothing};
+ghost use Rattle.device_laws.specs.Seen.{KeepsPaths};
 ghost use Rattle.device_core.specs.Promises.{StaysExcused, StaysPlain, StaysSound};
 
 use crate::Device;

@@ -10,7 +10,7 @@ ghost use Rattle.device_store.specs.State.{outside, surely, Takes, TakesTracks};
 ghost use Rattle.device_core.specs.Kept.{history_of, Keeps};
 ghost use Rattle.device_core.specs.Powered.{off_path};
 ghost use Rattle.device_core.specs.State.{device_of, IsSameDevice};
-ghost use Rattle.seen_laws.specs.Moved.{MovesNothing};
+ghost use Rattle.device_laws.specs.Moved.{MovesNothing};
 ghost use Rattle.device_core.specs.Promises.{StaysExcused, StaysPlain, StaysSound};
 
 use crate::Device;

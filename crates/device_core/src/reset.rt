@@ -13,7 +13,7 @@ ghost use Rattle.device_outside.specs.Outside.{PortView, Ran};
 ghost use Rattle.device_store.specs.State.{outside, surely, Takes, TakesTracks};
 ghost use Rattle.device_core.specs.Kept.{open_of, history_of, waiting_in, Keeps};
 ghost use Rattle.device_core.specs.State.{device_of, IsSameDevice};
-ghost use Rattle.seen_laws.specs.Moved.{MovesNothing};
+ghost use Rattle.device_laws.specs.Moved.{MovesNothing};
 ghost use Rattle.device_core.specs.Promises.{StaysExcused, StaysPlain, StaysSound};
 
 use crate::Device;

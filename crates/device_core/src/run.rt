@@ -12,8 +12,8 @@ ghost use Rattle.device_core.specs.Halves.{is_half_step};
 ghost use Rattle.device_core.specs.Kept.{open_of, chain_of, history_of, ActRoom, HasRoomFor, Keeps};
 ghost use Rattle.device_core.specs.State.{device_of, step_had, IsSameDevice};
 ghost use Rattle.device_core.specs.Words.{HasEndRoom};
-ghost use Rattle.seen_laws.specs.Moved.{CommandMoves, HitReadsNone};
-ghost use Rattle.seen_laws.specs.Seen.{EndsAsSeen};
+ghost use Rattle.device_laws.specs.Moved.{CommandMoves, HitReadsNone};
+ghost use Rattle.device_laws.specs.Seen.{EndsAsSeen};
 ghost use Rattle.device_core.specs.Promises.{EndsSeen, StandsPlain, StaysExcused, StaysPlain, StaysSame, StaysSound};
 
 use crate::Device;

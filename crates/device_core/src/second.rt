@@ -12,8 +12,8 @@ ghost use Rattle.device_outside.specs.Keeper.{Heard, reply};
 ghost use Rattle.device_outside.specs.Outside.{Ran};
 ghost use Rattle.device_store.specs.State.{outside, surely, Takes, TakesTracks};
 ghost use Rattle.device_core.specs.State.{device_of, second_seen, IsSameDevice};
-ghost use Rattle.seen_laws.specs.Moved.{SecondMoves};
-ghost use Rattle.seen_laws.specs.Seen.{EndsAsKept};
+ghost use Rattle.device_laws.specs.Moved.{SecondMoves};
+ghost use Rattle.device_laws.specs.Seen.{EndsAsKept};
 ghost use Rattle.device_core.specs.Promises.{StaysExcused, StaysPlain, StaysSound};
 
 use crate::Device;

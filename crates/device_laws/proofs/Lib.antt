@@ -128,3 +128,4 @@ pub mod Recoveries
 pub mod RecoveryEvents
 pub mod walks
 pub mod invariants
+pub mod counted

@@ -9,3 +9,5 @@ pub mod Whole
 pub mod Handed
 pub mod Lent
 pub mod Unharmed
+pub mod Seen
+pub mod Moved

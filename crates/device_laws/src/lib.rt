@@ -5,6 +5,7 @@ mod contents;
 mod keeping;
 mod losses;
 mod runs;
+mod seen;
 mod transfers;
 
 pub use contents::{
@@ -23,6 +24,10 @@ pub use losses::{
 pub use runs::{
     background_is_step, command_is_step, loss_is_step, orders_leave_order, power_is_step,
     reset_is_step, second_is_step, start_is_step,
+};
+pub use seen::{
+    command_ends_as_seen, events_move_by_table, image_is_seen, others_keep_paths,
+    second_ends_as_kept, track_walk_is_seen, write_is_seen,
 };
 pub use transfers::{
     cache_writes_move_nothing, image_reads_sides, losses_move_nothing, work_moves_sides,

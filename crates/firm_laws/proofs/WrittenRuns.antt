@@ -51,7 +51,7 @@ use Rattle.subsystem_defs.specs.Subsystem.{Mounted, Subsystem, devices_of, numbe
 use Rattle.subsystem_laws.proofs.DeedWalk.{Stands, seat_of, IsDeedwise, deed_is}
 use Rattle.subsystem_laws.proofs.PlainRuns.{Plainly}
 use Rattle.subsystem_laws.proofs.Walks.{mounted_number}
-use Rattle.look_laws.specs.Looking.{messages_at, look_messages}
+use Rattle.subsystem_laws.specs.Looking.{messages_at, look_messages}
 use Rattle.keeper_laws.specs.Firmness.{IsTold, has_one}
 use Rattle.keeper_laws.specs.Messages as M
 use Rattle.keeper_laws.specs.Messages.{asked_messages, swept_messages, deed_messages, event_messages}

@@ -16,7 +16,7 @@ ghost use Rattle.subsystem_defs.specs.Looks.{looked};
 ghost use Rattle.subsystem_defs.specs.Subsystem.{Mounted, Subsystem, mounted_in};
 ghost use Rattle.subsystem_laws.specs.Served.{IsServedEvent};
 ghost use Rattle.subsystem_laws.proofs.PlainRuns.{ArePlain};
-ghost use Rattle.look_laws.specs.Looking.{look_messages};
+ghost use Rattle.subsystem_laws.specs.Looking.{look_messages};
 ghost use Rattle.keeper_laws.specs.Firmness.{told_firm, IsTold, has_one, IsFirm};
 ghost use Rattle.keeper_laws.specs.Messages.{event_messages};
 ghost use Rattle.line_drive.specs.Driven.{Course, Goes, driven};

@@ -11,7 +11,7 @@ use Rattle.plain_defs.specs.declared.journal.Act.{Act}
 use Rattle.track_image.specs.Image.{Image}
 use Rattle.device_defs.specs.Marks.{MarksStore}
 use Rattle.device_defs.specs.Store.{Origin, HalfWrite, plain_at}
-use Rattle.look_laws.specs.Looking.{is_written, is_written_at}
+use Rattle.subsystem_laws.specs.Looking.{is_written, is_written_at}
 use Rattle.device_laws.proofs.PlainEvents.{none_loose}
 use Rattle.device_laws.proofs.PlainLosses.{gone_core}
 use Rattle.device_laws.proofs.PlainStores.{

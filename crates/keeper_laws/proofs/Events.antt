@@ -32,7 +32,7 @@ use Rattle.device_defs.specs.Second.{half_closed, finished, cut_kept, second_by,
 use Rattle.device_defs.specs.Store.{Origin, OfCommand, OfCut, OfBackground, HalfWrite, tracks_of, has_level, has_loose, frame_at, patch_at, is_lost, half_is, with_frame}
 use Rattle.device_laws.proofs.PlainStores.{core_of}
 use Rattle.device_laws.proofs.PlainWalks.{patch_same, everywhere_same, over_holds, side_holds}
-use Rattle.look_laws.specs.Looking.{is_written}
+use Rattle.subsystem_laws.specs.Looking.{is_written}
 use Rattle.keeper_laws.proofs.Calm.{Watch, is_watched, Keeps, hardened_keeps, edited_keeps, gone_keeps, acts_keep, half_keeps, lent_keeps, half_unwatched, unwritten, unwatched}
 use Rattle.keeper_laws.proofs.Commands.{OnDevice, Kept, begun_on, end_kept, turned_has}
 use Rattle.keeper_laws.proofs.FirmWalk.{work_rests}

@@ -23,7 +23,7 @@ use Rattle.subsystem_laws.proofs.WholeDeeds.{Seat, IsOfDeeds}
 use Rattle.subsystem_laws.proofs.WholeHappens.{deeds_related}
 use Rattle.subsystem_laws.proofs.WholeSlots.{slots_of, first_shared, rest_now}
 use Rattle.subsystem_laws.proofs.WholeTalks.{LeavesSo, AreTwins, stands, mounts, tells, held_so}
-use Rattle.look_laws.specs.Looking.{AskedWith}
+use Rattle.subsystem_laws.specs.Looking.{AskedWith}
 use Rattle.keeper_laws.specs.Keeping.{SweptWith, all_swept, one_swept, CameWith, ComesWith}
 use Rattle.keeper_laws.specs.Messages as M
 use Rattle.keeper_laws.specs.Messages.{asked_messages, swept_messages, deed_messages, event_messages}

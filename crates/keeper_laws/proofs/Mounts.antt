@@ -11,7 +11,7 @@ use Rattle.subsystem_defs.specs.Subsystem.{Mounted, mounted_in}
 use Rattle.subsystem_laws.specs.WholeStood.{Stood, is_mounted, AreMounted}
 use Rattle.subsystem_laws.proofs.WholeFinding.{Found, none_found, both_found, find}
 use Rattle.subsystem_laws.proofs.WholeTalks.{mounts}
-use Rattle.look_laws.specs.Looking.{is_written_at}
+use Rattle.subsystem_laws.specs.Looking.{is_written_at}
 use Rattle.keeper_laws.specs.Quiet.{IsQuiet}
 
 some_is : {X : Type 0} {x y : X} → Some x ≡ Some y → x ≡ y

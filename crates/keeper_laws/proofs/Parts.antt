@@ -15,7 +15,7 @@ use Rattle.device_defs.specs.Writing.{write_second, write_done, cleaned, write_o
 use Rattle.device_laws.proofs.PlainStores.{core_of}
 use Rattle.device_laws.proofs.PlainWalks.{framed_same, everywhere_same, settled_holds, side_holds, opened_half}
 use Rattle.device_laws.proofs.PoolWalks.{ended_asks}
-use Rattle.look_laws.specs.Looking.{is_written_at}
+use Rattle.subsystem_laws.specs.Looking.{is_written_at}
 use Rattle.keeper_laws.proofs.Calm.{Watch, is_watched, watched_image, Keeps, hardened_keeps, half_keeps, image_is}
 use Rattle.keeper_laws.proofs.FirmWalk.{IsSaying, ImageOf, hear_goes, image_has as image_goes, write_second_goes, done_goes}
 use Rattle.keeper_laws.proofs.Firms.{firms_weaker, silent_of, says_of}

@@ -11,7 +11,7 @@ use Rattle.subsystem_defs.specs.declared.event.Event.{Event}
 use Rattle.subsystem_defs.specs.Deeds.{Asks, Each, deed}
 use Rattle.subsystem_laws.specs.WholeComes.{OwnDeed, OwnTalk, Changes, CameBy}
 use Rattle.subsystem_laws.specs.WholeStood.{Stood, devices_at}
-use Rattle.look_laws.specs.Looking.{AskedWith}
+use Rattle.subsystem_laws.specs.Looking.{AskedWith}
 
 module _ {K : Type 0} (hears : Hearing Image K) where
   -- each device in its turn, and the keeper goes on from one to the next

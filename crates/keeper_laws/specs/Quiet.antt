@@ -3,7 +3,7 @@ use Rattle.std.specs.Prelude.{◌≡◌, ℕ, false, Some}
 use Rattle.ckd_types.specs.Volume.{track_in}
 use Rattle.device_defs.specs.Store.{is_loose}
 use Rattle.subsystem_defs.specs.Subsystem.{Mounted, Subsystem, mounted_in}
-use Rattle.look_laws.specs.Looking.{is_written_at}
+use Rattle.subsystem_laws.specs.Looking.{is_written_at}
 
 -- it isn't loose, no half write of a command or of one that was cut is open there, and it is the same without data of cache fast write
 pub record IsQuiet (m : Mounted) (t : ℕ) : Type 0 where

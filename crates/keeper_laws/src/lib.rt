@@ -16,7 +16,7 @@ ghost use Rattle.subsystem_defs.specs.Looks.{looked};
 ghost use Rattle.subsystem_defs.specs.Subsystem.{Mounted, Subsystem, mounted_in};
 ghost use Rattle.subsystem_laws.specs.WholeComes.{subsystem_of, Comes};
 ghost use Rattle.subsystem_laws.specs.WholeStood.{Stood, AreMounted, HaveChains};
-ghost use Rattle.look_laws.specs.Looking.{is_written_at, look_messages};
+ghost use Rattle.subsystem_laws.specs.Looking.{is_written_at, look_messages};
 ghost use Rattle.keeper_laws.specs.Firmness.{told_firm, IsTold, has_one, IsFirm};
 ghost use Rattle.keeper_laws.specs.Keeping.{ComesWith};
 ghost use Rattle.keeper_laws.specs.Messages.{event_messages, first_named};

@@ -21,7 +21,7 @@ use Rattle.device_core.specs.declared.device.Device.{Device}
 use Rattle.device_core.specs.State.{DefinedDevice, device_of}
 use Rattle.duplex_pair.specs.declared.pair.SideVolumes.{SideVolumes}
 use Rattle.frame_pool.specs.Shared.{Shared, shared_view}
-use Rattle.look_laws.specs.Looking.{AskedWith}
+use Rattle.subsystem_laws.specs.Looking.{AskedWith}
 use Rattle.subsystem_core.specs.declared.end.EventEnd.{EventEnd}
 use Rattle.subsystem_core.specs.declared.subsystem.Subsystem.{Subsystem}
 use Rattle.subsystem_core.specs.Comes.{OwnDeed, Talk, CameKept, CameKeptBy, SweptBy, SweepsKept, over, next}

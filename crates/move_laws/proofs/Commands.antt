@@ -26,7 +26,7 @@ use Rattle.device_defs.specs.Store.{tracks_of}
 use Rattle.device_laws.proofs.QuietParts.{hear_quiet, ended_quiet}
 use Rattle.device_laws.proofs.Unchecked.{TurnSo}
 use Rattle.device_laws.proofs.UncheckedEvents.{Has, acts_same, turned_has}
-use Rattle.seen_laws.specs.Seen.{is_half}
+use Rattle.device_laws.specs.Seen.{is_half}
 use Rattle.move_laws.specs.Chosen.{choice_at, writes_in_cache}
 use Rattle.move_laws.specs.Exactly.{CommandWalk, no_walk, write_writes, walk_tracks, looks_walk, command_walk, is_half_step}
 use Rattle.move_laws.proofs.Holds.{Made, made_none, made_on, made_still, hold_then, hold_on, quiet_made}

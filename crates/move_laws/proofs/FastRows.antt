@@ -37,7 +37,7 @@ use Rattle.subsystem_defs.specs.Refusals.{pair_fault, unpair_fault, suspend_faul
 use Rattle.subsystem_defs.specs.Subsystem.{devices_of}
 use Rattle.subsystem_defs.proofs.Runs.{provisional_write_is_lost}
 use Rattle.subsystem_defs.proofs.Stand.{Sample, deck, go, line}
-use Rattle.seen_laws.specs.Seen.{is_in_cache}
+use Rattle.device_laws.specs.Seen.{is_in_cache}
 use Rattle.subsystem_laws.specs.Causes.{checks_of}
 use Rattle.promise_laws.specs.Origins.{event_of}
 use Rattle.move_laws.specs.Chosen.{chosen_in}

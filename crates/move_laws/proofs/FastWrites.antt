@@ -14,7 +14,7 @@ use Rattle.device_defs.specs.Contents.{by_plain}
 use Rattle.device_defs.specs.Editing as E
 use Rattle.device_defs.specs.Editing.{write_chosen, write}
 use Rattle.device_defs.specs.Marks.{MarksStore}
-use Rattle.seen_laws.specs.Seen.{is_in_cache}
+use Rattle.device_laws.specs.Seen.{is_in_cache}
 use Rattle.move_laws.proofs.Holds.{hold_then}
 
 module _ (u : Usage) (first t : ℕ) (old : Image) (e : Edit) where

@@ -11,7 +11,7 @@ use Rattle.device_outside.specs.Told.{Told, RunOutcome, hold, calls_of, read_fai
 use Rattle.device_laws.proofs.Always as W
 use Rattle.device_laws.proofs.Always.{Behind}
 use Rattle.device_laws.proofs.QuietParts.{Quiet, quiet_done, quiet_try, quiet_ask, quiet_tell}
-use Rattle.seen_laws.proofs.Counting.{Counts, counts_done, counts_try, counts_ask, counts_read, counts_write, counts_tell}
+use Rattle.device_laws.proofs.counted.Counting.{Counts, counts_done, counts_try, counts_ask, counts_read, counts_write, counts_tell}
 
 -- so many more reads and writes
 pub record Made (r m : ℕ) (w z : Told) : Type 0 where

@@ -44,7 +44,7 @@ use Rattle.device_defs.specs.Losses.{call_failed}
 use Rattle.device_defs.specs.Marks.{MarksStore}
 use Rattle.device_defs.specs.Store.{SideMarks, level_at, frame_at, patch_at, with_frame}
 use Rattle.device_laws.proofs.QuietParts.{Quiet, quiet_done, quiet_try, quiet_ask, quiet_then, quiet_if, failed_quiet}
-use Rattle.seen_laws.proofs.SidesLeft.{failed_leaves}
+use Rattle.device_laws.proofs.counted.SidesLeft.{failed_leaves}
 use Rattle.move_laws.specs.Exactly.{missed_reads, is_hit_by, look_reads}
 use Rattle.move_laws.proofs.Holds.{Made, made_none, made_on, hold_then, held_behind, quiet_made, made_past}
 

@@ -15,9 +15,9 @@ use Rattle.device_defs.specs.Events.{second, background}
 use Rattle.device_defs.specs.Marks.{MarksDevice}
 use Rattle.device_defs.specs.Owed.{hear}
 use Rattle.device_laws.proofs.QuietParts.{quiet_done}
-use Rattle.seen_laws.specs.Moved.{second_writing, SecondTransfers}
-use Rattle.seen_laws.proofs.Counting.{Counts, counts_done, counts_then, held_moved}
-use Rattle.seen_laws.proofs.EventCounts.{second_counts}
+use Rattle.device_laws.specs.Moved.{second_writing, SecondTransfers}
+use Rattle.device_laws.proofs.counted.Counting.{Counts, counts_done, counts_then, held_moved}
+use Rattle.device_laws.proofs.counted.EventCounts.{second_counts}
 use Rattle.subsystem_defs.specs.declared.end.EventEnd.{EventEnd}
 use Rattle.subsystem_defs.specs.declared.end.EventEnd.TheVariants as ends
 use Rattle.subsystem_defs.specs.declared.event.Event.TheVariants as events

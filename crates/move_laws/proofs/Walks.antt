@@ -25,8 +25,8 @@ use Rattle.device_defs.specs.Memory.{had_by}
 use Rattle.device_defs.specs.Outcomes.{Turn, ends_with, checks, wrote_turn, usage_of}
 use Rattle.device_defs.specs.Store.{is_lost}
 use Rattle.device_laws.proofs.Unchecked.{NoCheck, TurnSo}
-use Rattle.seen_laws.specs.Moved.{choice_writes, sides_writing}
-use Rattle.seen_laws.specs.Seen.{is_in_cache, is_half, is_opened}
+use Rattle.device_laws.specs.Moved.{choice_writes, sides_writing}
+use Rattle.device_laws.specs.Seen.{is_in_cache, is_half, is_opened}
 use Rattle.move_laws.specs.Chosen.{choice_at, writes_in_cache}
 use Rattle.move_laws.specs.Exactly as X
 use Rattle.move_laws.specs.Exactly.{

@@ -87,7 +87,7 @@ use Rattle.move_laws.specs.Exactly.{
 }
 use Rattle.move_laws.proofs.Holds.{Made, made_none, made_on, made_then, hold_then, quiet_made, made_past}
 use Rattle.move_laws.proofs.Looks.{level_made}
-use Rattle.seen_laws.proofs.WriteCounts.{opened_quiet}
+use Rattle.device_laws.proofs.counted.WriteCounts.{opened_quiet}
 
 -- from one write on
 made_write : {m : ℕ} {w z : Told} (side : Side) → Made 0 m (T.told_write w side) z → Made 0 (1 + m) w z

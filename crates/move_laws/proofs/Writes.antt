@@ -17,9 +17,9 @@ use Rattle.device_defs.specs.Editing.{write_by, written, is_given, unchosen, wri
 use Rattle.device_defs.specs.Marks.{MarksStore}
 use Rattle.device_laws.proofs.PoolWalks.{asks_always, choose_asks}
 use Rattle.device_laws.proofs.QuietParts.{asks_quiet}
-use Rattle.seen_laws.specs.Moved.{sides_writing, choice_writes}
-use Rattle.seen_laws.specs.Seen.{is_opened}
-use Rattle.seen_laws.proofs.Exact.{written_by}
+use Rattle.device_laws.specs.Moved.{sides_writing, choice_writes}
+use Rattle.device_laws.specs.Seen.{is_opened}
+use Rattle.device_laws.proofs.counted.Exact.{written_by}
 use Rattle.move_laws.proofs.Holds.{Made, made_on, hold_then, held_behind, quiet_made, has}
 
 -- A command's whole write, where the outside is told and memory is had

@@ -7,7 +7,7 @@ use Rattle.subsystem_defs.specs.declared.event.Event.TheVariants as events
 use Rattle.subsystem_defs.specs.Happening.{told_to}
 use Rattle.subsystem_defs.specs.Lines.{Logged}
 use Rattle.subsystem_defs.specs.Subsystem.{Mounted, Subsystem, devices_of, mounted_in}
-use Rattle.seen_laws.specs.Seen.{is_in_cache}
+use Rattle.device_laws.specs.Seen.{is_in_cache}
 use Rattle.subsystem_laws.specs.Causes.{checks_of, EachPair}
 use Rattle.promise_laws.specs.Origins.{event_of}
 use Rattle.move_laws.specs.Exactly.{WritePoint, chosen_at, command_walk}

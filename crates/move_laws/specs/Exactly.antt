@@ -30,7 +30,7 @@ use Rattle.subsystem_defs.specs.declared.event.Event.TheVariants as events
 use Rattle.subsystem_defs.specs.Happening.{EventHappened, told_to}
 use Rattle.subsystem_defs.specs.Lines.{Logged}
 use Rattle.subsystem_defs.specs.Subsystem.{Mounted, Subsystem, mounted_in}
-use Rattle.seen_laws.specs.Moved.{choice_writes, sides_writing, second_writing}
+use Rattle.device_laws.specs.Moved.{choice_writes, sides_writing, second_writing}
 use Rattle.subsystem_laws.specs.Transfers.{MovesByTable}
 use Rattle.promise_laws.specs.Origins.{event_of}
 

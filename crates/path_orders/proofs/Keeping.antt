@@ -13,10 +13,10 @@ use Rattle.device_laws.specs.Handed.{StaysInTurn, allowance_in}
 use Rattle.device_laws.specs.Whole.{WholeDevice}
 use Rattle.device_laws.proofs.KeepLaws.{AreWithin, loss_kept, loss_checks}
 use Rattle.subsystem_defs.specs.Refusals.{suspend_fault}
-use Rattle.turn_laws.specs.Standing.{Stands}
-use Rattle.turn_laws.proofs.Counts.{loss_acts, same_counts}
-use Rattle.turn_laws.proofs.Orders.{held_stands}
-use Rattle.turn_laws.proofs.Standing.{loss_stands}
+use Rattle.subsystem_laws.specs.Standing.{Stands}
+use Rattle.subsystem_laws.proofs.turning.Counts.{loss_acts, same_counts}
+use Rattle.subsystem_laws.proofs.turning.Orders.{held_stands}
+use Rattle.subsystem_laws.proofs.turning.Standing.{loss_stands}
 use Rattle.duplex_pair.specs.declared.pair.SideVolumes.{SideVolumes}
 use Rattle.device_store.specs.State.{outside, outside_of}
 use Rattle.device_core.specs.declared.device.Device.{Device}

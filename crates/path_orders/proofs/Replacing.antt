@@ -16,8 +16,8 @@ use Rattle.device_laws.specs.Handed.{StaysInTurn, allowance_in, in_all}
 use Rattle.device_laws.specs.Whole.{WholeDevice}
 use Rattle.subsystem_core.proofs.Coming.{is_home}
 use Rattle.subsystem_defs.specs.Refusals.{replace_fault}
-use Rattle.turn_laws.specs.Standing.{Stands}
-use Rattle.turn_laws.proofs.Orders.{replaced_stands}
+use Rattle.subsystem_laws.specs.Standing.{Stands}
+use Rattle.subsystem_laws.proofs.turning.Orders.{replaced_stands}
 use Rattle.device_store.specs.State.{outside_of}
 use Rattle.device_core.specs.declared.device.Device.{Device}
 use Rattle.device_core.specs.State.{device_of}

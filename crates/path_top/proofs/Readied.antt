@@ -19,7 +19,7 @@ use Rattle.device_laws.specs.Lent as lent
 use Rattle.device_laws.specs.Whole.{marks_device}
 use Rattle.device_laws.proofs.PlainTurns.{Follows}
 use Rattle.plain_defs.specs.Whole.{GiveBytes}
-use Rattle.turn_laws.specs.Standing.{Stands}
+use Rattle.subsystem_laws.specs.Standing.{Stands}
 use Rattle.device_core.specs.declared.device.Device.{Device}
 use Rattle.device_core.specs.State.{device_of}
 use Rattle.subsystem_core.specs.declared.subsystem.Subsystem.{Subsystem}

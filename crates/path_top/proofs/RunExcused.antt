@@ -6,8 +6,8 @@ use Rattle.device_defs.specs.declared.counts.Counts.{Counts}
 use Rattle.device_defs.specs.Excused.{IsExcused}
 use Rattle.device_core.specs.declared.device.Device.{Device}
 use Rattle.device_core.specs.State.{device_of}
-use Rattle.turn_laws.specs.Standing.{Stands}
-use Rattle.turn_laws.proofs.Sound.{stands_excused}
+use Rattle.subsystem_laws.specs.Standing.{Stands}
+use Rattle.subsystem_laws.proofs.turning.Sound.{stands_excused}
 use Rattle.path_turns.specs.Keeping.{told_of}
 use Rattle.path_top.specs.Devices.{told_by}
 use Rattle.path_top.specs.Histories.{IsExcusedBy}

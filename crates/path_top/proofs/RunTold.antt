@@ -15,7 +15,7 @@ use Rattle.plain_defs.specs.PlainState.{PlainState, empty_state}
 use Rattle.device_outside.specs.declared.volume.Volume.{Ghosts}
 use Rattle.device_outside.specs.Disk.{Disk, disk_view}
 use Rattle.device_defs.specs.Pledge.{fresh_count, is_kept_journal}
-use Rattle.turn_laws.proofs.Sound.{beside_plain}
+use Rattle.subsystem_laws.proofs.turning.Sound.{beside_plain}
 use Rattle.device_core.specs.declared.device.Device.{Device}
 use Rattle.device_core.specs.State.{device_of}
 use Rattle.deck_run.specs.Ending.{lost_in}

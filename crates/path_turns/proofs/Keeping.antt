@@ -28,8 +28,8 @@ use Rattle.device_laws.proofs.DeviceHistory.{starts_where_idle}
 use Rattle.device_laws.specs.Handed.{StaysInTurn, allowance_in}
 use Rattle.device_laws.specs.Whole.{WholeDevice}
 use Rattle.device_laws.proofs.KeepLaws.{start_kept, command_kept, second_kept, background_kept, background_checks}
-use Rattle.turn_laws.specs.Standing.{Stands}
-use Rattle.turn_laws.proofs.Counts.{
+use Rattle.subsystem_laws.specs.Standing.{Stands}
+use Rattle.subsystem_laws.proofs.turning.Counts.{
   OtherPaths,
   command_counts,
   second_counts,
@@ -39,8 +39,8 @@ use Rattle.turn_laws.proofs.Counts.{
   others_set,
   same_counts,
 }
-use Rattle.turn_laws.proofs.Beside.{command_checks, second_checks}
-use Rattle.turn_laws.proofs.Standing.{background_stands, command_stands, second_stands, stands_there, start_stands}
+use Rattle.subsystem_laws.proofs.turning.Beside.{command_checks, second_checks}
+use Rattle.subsystem_laws.proofs.turning.Standing.{background_stands, command_stands, second_stands, stands_there, start_stands}
 use Rattle.device_store.specs.State.{outside}
 use Rattle.device_store.specs.declared.store.DeviceStore.{DeviceStore}
 use Rattle.device_core.specs.declared.device.Device.{Device}

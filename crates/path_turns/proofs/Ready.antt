@@ -18,8 +18,8 @@ use Rattle.device_laws.specs.Whole.{WholeDevice}
 use Rattle.device_laws.proofs.KeptHistories.{AreNot, count_more}
 use Rattle.device_turn.specs.Rule.{zeros}
 use Rattle.plain_defs.specs.Whole.{GiveBytes}
-use Rattle.turn_laws.specs.Standing.{Stands}
-use Rattle.turn_laws.proofs.NewDevice.{new_stands}
+use Rattle.subsystem_laws.specs.Standing.{Stands}
+use Rattle.subsystem_laws.proofs.turning.NewDevice.{new_stands}
 use Rattle.device_core.specs.declared.device.Device.{Device}
 use Rattle.device_core.specs.State.{device_of, opened_device}
 use Rattle.path_turns.specs.Keeping.{IsReady, IsWithin, KeepsWithin, are_fresh, told_of}

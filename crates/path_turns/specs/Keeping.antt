@@ -8,7 +8,7 @@ use Rattle.device_defs.specs.declared.counts.Losses.{Losses}
 use Rattle.device_defs.specs.Pledge.{Handed, Pledge, is_fresh, pledge, seat_counts}
 use Rattle.device_defs.specs.Start.{is_finished}
 use Rattle.device_laws.specs.Handed.{StaysInTurn, allowance_in}
-use Rattle.turn_laws.specs.Standing.{Stands}
+use Rattle.subsystem_laws.specs.Standing.{Stands}
 use Rattle.device_store.specs.State.{outside}
 use Rattle.device_core.specs.declared.device.Device.{Device}
 use Rattle.device_core.specs.State.{device_of}

@@ -9,7 +9,7 @@ use Rattle.device_core.specs.declared.device.Device.{Device}
 use Rattle.device_core.specs.State.{device_of}
 use Rattle.device_defs.specs.Store.{HalfWrite, tracks_of, is_loose}
 use Rattle.device_laws.proofs.CacheLost.{none_below}
-use Rattle.look_laws.specs.Looking.{is_written_at}
+use Rattle.subsystem_laws.specs.Looking.{is_written_at}
 use Rattle.subsystem_core.specs.declared.subsystem.Subsystem.{Subsystem}
 use Rattle.subsystem_core.specs.Devices.{device_at}
 use Rattle.subsystem_defs.specs.Subsystem as runs

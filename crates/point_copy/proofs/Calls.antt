@@ -34,7 +34,7 @@ use Rattle.device_core.specs.declared.device.Device.{Device}
 use Rattle.device_defs.specs.Peek as peeks
 use Rattle.device_defs.specs.Peek.{Peeked}
 use Rattle.device_defs.specs.Store.{tracks_of}
-use Rattle.look_laws.specs.Looking.{is_written_at}
+use Rattle.subsystem_laws.specs.Looking.{is_written_at}
 use Rattle.subsystem_core.specs.declared.subsystem.Subsystem.{Subsystem}
 use Rattle.subsystem_core.specs.Devices.{device_at}
 use Rattle.subsystem_core.specs.Keepers.{TakesAll}

@@ -7,7 +7,7 @@ use Rattle.track_table.specs.Table.{entry_at}
 use Rattle.device_defs.specs.Peek as peeks
 use Rattle.device_defs.specs.Peek.{Peeked}
 use Rattle.device_defs.specs.Store.{tracks_of, is_lost}
-use Rattle.look_laws.proofs.Leaves.{lost_is_found, lost_is_lost}
+use Rattle.subsystem_laws.proofs.looking.Leaves.{lost_is_found, lost_is_lost}
 use Rattle.subsystem_defs.specs.Looks.{looked}
 use Rattle.subsystem_defs.specs.Subsystem.{Mounted, mounted_in}
 use Rattle.point_copy.specs.declared.given.Given.{Given}

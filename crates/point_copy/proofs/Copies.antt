@@ -15,8 +15,8 @@ use Rattle.device_defs.specs.Store.{tracks_of, plain_at}
 use Rattle.subsystem_defs.specs.Happening.{happens, replaced, unpaired}
 use Rattle.subsystem_defs.specs.Looks.{Looked, looked}
 use Rattle.subsystem_defs.specs.Subsystem.{Mounted, Subsystem, mounted_in, unfailing}
-use Rattle.look_laws.specs.Looking.{IsPlainly, StaysOwn}
-use Rattle.look_laws.proofs.Leaves.{look_finds_plain, look_leaves_own}
+use Rattle.subsystem_laws.specs.Looking.{IsPlainly, StaysOwn}
+use Rattle.subsystem_laws.proofs.looking.Leaves.{look_finds_plain, look_leaves_own}
 use Rattle.keeper_laws.specs.Messages.{event_messages, first_named}
 use Rattle.keeper_laws.specs.Quiet.{IsQuiet, StaysQuiet, StaysThere}
 use Rattle.keeper_laws.proofs.Quiet.{quiet_look, quiet_replaced, quiet_unpaired, told_event, untold_event}

@@ -24,8 +24,8 @@ use Rattle.subsystem_core.specs.declared.subsystem.Subsystem.{Subsystem}
 use Rattle.subsystem_core.specs.Devices.{device_at, numbers_of}
 use Rattle.subsystem_defs.specs.Subsystem as runs
 use Rattle.subsystem_defs.specs.Subsystem.{Mounted, mounted_in}
-use Rattle.look_laws.specs.Looking.{is_written_at}
-use Rattle.look_laws.proofs.Talks.{marked_same}
+use Rattle.subsystem_laws.specs.Looking.{is_written_at}
+use Rattle.subsystem_laws.proofs.looking.Talks.{marked_same}
 use Rattle.deck_run.specs.Standing.{StandsAs, all_stood}
 use Rattle.deck_run.proofs.Telling.{all_known, known_at}
 use Rattle.remote_copy.specs.declared.remote.Remote.{Remote}

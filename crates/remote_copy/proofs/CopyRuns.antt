@@ -29,10 +29,10 @@ use Rattle.subsystem_defs.specs.Subsystem as runs
 use Rattle.subsystem_defs.specs.Subsystem.{Mounted, mounted_in}
 use Rattle.subsystem_laws.specs.WholeComes as laws
 use Rattle.subsystem_laws.specs.WholeComes.{subsystem_of}
-use Rattle.look_laws.specs.Looking.{IsLooked, IsPlainly, is_written_at, look_messages}
-use Rattle.look_laws.proofs.Hears.{look_is_heard}
-use Rattle.look_laws.proofs.Leaves.{look_finds_plain}
-use Rattle.look_laws.proofs.Talks.{look_so}
+use Rattle.subsystem_laws.specs.Looking.{IsLooked, IsPlainly, is_written_at, look_messages}
+use Rattle.subsystem_laws.proofs.looking.Hears.{look_is_heard}
+use Rattle.subsystem_laws.proofs.looking.Leaves.{look_finds_plain}
+use Rattle.subsystem_laws.proofs.looking.Talks.{look_so}
 use Rattle.keeper_laws.specs.Quiet.{StaysQuiet}
 use Rattle.keeper_laws.proofs.FirmMounts.{mounted_is_told}
 use Rattle.keeper_laws.proofs.FirmNumbers.{one_look}

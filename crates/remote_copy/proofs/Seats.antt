@@ -51,7 +51,7 @@ use Rattle.subsystem_defs.specs.declared.event.Event.TheVariants as events
 use Rattle.subsystem_defs.specs.Deeds as D
 use Rattle.subsystem_defs.specs.Deeds.{Asks, Becomes, Each, Ends, Lends, Repairs, back, deed, device_in, end_of, ends_by, ends_done, may_end_by, on_device, order, seconds, start_by, starts, step}
 use Rattle.subsystem_defs.specs.Refusals.{fail_fault, pair_fault, replace_fault, resume_fault, suspend_fault, unpair_fault}
-use Rattle.look_laws.proofs.Keeps.{peek_keeps_own}
+use Rattle.subsystem_laws.proofs.looking.Keeps.{peek_keeps_own}
 use Rattle.deck_run.proofs.Events.{has_one}
 use Rattle.remote_copy.specs.Mirroring.{is_lending}
 

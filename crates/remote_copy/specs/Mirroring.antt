@@ -12,7 +12,7 @@ use Rattle.subsystem_defs.specs.declared.event.Event.TheVariants as events
 use Rattle.subsystem_defs.specs.Happening.{happens, replaced, unpaired}
 use Rattle.subsystem_defs.specs.Looks.{looked}
 use Rattle.subsystem_defs.specs.Subsystem.{Mounted, Subsystem, mounted_in, unfailing}
-use Rattle.look_laws.specs.Looking.{is_written_at, look_messages}
+use Rattle.subsystem_laws.specs.Looking.{is_written_at, look_messages}
 use Rattle.keeper_laws.specs.Firmness.{has_one}
 use Rattle.keeper_laws.specs.Messages.{event_messages}
 use Rattle.deck_run.specs.Owning.{AreOwn}

@@ -3,7 +3,7 @@ ghost use Rattle.ckd_outside.specs.Causes.{Rose};
 ghost use Rattle.device_core.specs.State.{device_of};
 ghost use Rattle.device_store.specs.Looks.{IsPeeked, peeked_by};
 ghost use Rattle.device_store.specs.State.{state_of};
-ghost use Rattle.look_laws.specs.Looking.{is_written_at};
+ghost use Rattle.subsystem_laws.specs.Looking.{is_written_at};
 ghost use Rattle.subsystem_core.specs.Devices.{device_at};
 ghost use Rattle.subsystem_core.specs.Frames.{HasSameDevices};
 ghost use Rattle.remote_copy.specs.declared.remote.Remote.TheVariants.{LinkFault};

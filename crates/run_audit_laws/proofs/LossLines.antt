@@ -19,8 +19,8 @@ use Rattle.device_defs.specs.Events.{lose}
 use Rattle.device_defs.specs.Marks.{MarksDevice}
 use Rattle.device_laws.proofs.Had.{Had, had_done, had_then, held}
 use Rattle.device_laws.proofs.HistoryActs.{acted_plain, acted_state, acts_first, acts_rest}
-use Rattle.seen_laws.proofs.Counting.{counts_done, counts_then, held_moved}
-use Rattle.seen_laws.proofs.EventCounts.{lose_counts}
+use Rattle.device_laws.proofs.counted.Counting.{counts_done, counts_then, held_moved}
+use Rattle.device_laws.proofs.counted.EventCounts.{lose_counts}
 use Rattle.report_text.specs.declared.answers.LooseAnswer.TheVariants as loose
 use Rattle.report_text.specs.declared.answers.OrderAnswer.TheVariants as answers
 use Rattle.report_text.specs.declared.event.Happened.TheVariants as did

@@ -25,7 +25,7 @@ use Rattle.report_reading.specs.Ranges.{IsDevice, IsLine, IsLong, IsOwner}
 use Rattle.run_report.specs.Closing.{device_lines, ending_lines, frame_line}
 use Rattle.run_report.specs.Events.{lines_of}
 use Rattle.run_report.specs.Report.{lines_of_run, report_lines}
-use Rattle.seen_laws.specs.Moved.{NoTransfers, SecondTransfers, half_writing}
+use Rattle.device_laws.specs.Moved.{NoTransfers, SecondTransfers, half_writing}
 use Rattle.subsystem_defs.specs.declared.end.EventEnd.{EventEnd}
 use Rattle.subsystem_defs.specs.declared.end.EventEnd.TheVariants as ends
 use Rattle.subsystem_defs.specs.declared.event.Event.{Event}

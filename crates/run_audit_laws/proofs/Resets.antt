@@ -52,8 +52,8 @@ use Rattle.device_laws.proofs.Had.{Had, held, had_done, had_then}
 use Rattle.device_laws.proofs.HistoryCuts.{MayTake}
 use Rattle.device_laws.proofs.PlainCuts.{may}
 use Rattle.device_laws.proofs.PlainEvents.{had_always, had_both}
-use Rattle.seen_laws.proofs.Counting.{counts_done, counts_then, held_moved}
-use Rattle.seen_laws.proofs.EventCounts.{reset_counts}
+use Rattle.device_laws.proofs.counted.Counting.{counts_done, counts_then, held_moved}
+use Rattle.device_laws.proofs.counted.EventCounts.{reset_counts}
 use Rattle.report_text.specs.declared.answers.HowOver.TheVariants as how
 use Rattle.report_text.specs.declared.event.Happened.TheVariants as did
 use Rattle.report_text.specs.declared.line.ReportLine.{ReportLine}

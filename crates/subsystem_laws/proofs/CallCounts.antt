@@ -63,9 +63,9 @@ use Rattle.device_laws.proofs.Based.{Base, Any, Based, kept, based_any, based_do
 use Rattle.device_laws.proofs.BasedEvents.{base_in, with_one_loss, command_based, second_based, background_based, lose_based, power_based, reset_body}
 use Rattle.device_laws.proofs.Lucky.{top}
 use Rattle.device_laws.proofs.QuietParts.{ended_quiet}
-use Rattle.seen_laws.specs.Moved.{half_writing, NoTransfers, SecondTransfers}
-use Rattle.seen_laws.proofs.Counting.{Counts, counts_done, counts_try, counts_ask, counts_read, counts_write, counts_tell, counts_weaker, counts_past}
-use Rattle.seen_laws.proofs.EventCounts.{command_counts, second_counts, background_counts, lose_counts, power_counts, reset_counts}
+use Rattle.device_laws.specs.Moved.{half_writing, NoTransfers, SecondTransfers}
+use Rattle.device_laws.proofs.counted.Counting.{Counts, counts_done, counts_try, counts_ask, counts_read, counts_write, counts_tell, counts_weaker, counts_past}
+use Rattle.device_laws.proofs.counted.EventCounts.{command_counts, second_counts, background_counts, lose_counts, power_counts, reset_counts}
 use Rattle.subsystem_defs.specs.declared.end.EventEnd.TheVariants as ends
 use Rattle.subsystem_defs.specs.Decks as D
 use Rattle.subsystem_defs.specs.Decks.{opened_device, opened, run_of}

@@ -59,3 +59,5 @@ pub mod SoundHardware
 mod SoundRows
 pub mod RecoveryRuns
 mod RecoveryRows
+pub mod looking
+pub mod turning

@@ -62,9 +62,9 @@ use Rattle.subsystem_defs.specs.Happening.{
 use Rattle.subsystem_defs.specs.Lines.{asked_by}
 use Rattle.subsystem_defs.specs.Refusals.{fail_fault, pair_fault, replace_fault, suspend_fault, resume_fault, unpair_fault}
 use Rattle.subsystem_defs.specs.Subsystem.{Mounted, Subsystem, number_of, devices_of, mounted_in, unfailing}
-use Rattle.seen_laws.specs.Moved.{sides_up, sides_writing, second_writing, NoTransfers, CommandTransfers, SecondTransfers, WorkTransfers}
-use Rattle.seen_laws.proofs.Counting.{Counts, counts_done, counts_then, held_moved}
-use Rattle.seen_laws.proofs.EventCounts.{command_counts, second_counts, background_counts, lose_counts, reset_counts}
+use Rattle.device_laws.specs.Moved.{sides_up, sides_writing, second_writing, NoTransfers, CommandTransfers, SecondTransfers, WorkTransfers}
+use Rattle.device_laws.proofs.counted.Counting.{Counts, counts_done, counts_then, held_moved}
+use Rattle.device_laws.proofs.counted.EventCounts.{command_counts, second_counts, background_counts, lose_counts, reset_counts}
 use Rattle.subsystem_laws.specs.Transfers.{did_of, RunningTransfers, StepBy, StepTransfers, BackBy, BackTransfers, EventTransfers, RunTransfers, MovesByTable}
 use Rattle.subsystem_laws.proofs.FoundDevices.{number_found}
 use Rattle.subsystem_laws.proofs.RunLines.{AnyEvent, Goes, run_shows}

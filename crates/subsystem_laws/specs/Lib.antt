@@ -11,3 +11,7 @@ pub mod SoundHardware
 pub mod Recoveries
 pub mod Came
 pub mod CameAbout
+pub mod Looking
+pub mod Standing
+pub mod Again
+pub mod Found

@@ -10,7 +10,7 @@ use Rattle.subsystem_defs.specs.declared.event.Event.TheVariants as events
 use Rattle.subsystem_defs.specs.Deeds.{device_in}
 use Rattle.subsystem_defs.specs.Lines.{Asked, Once, Replace, Unpair, Run, Settle, Logged}
 use Rattle.subsystem_defs.specs.Subsystem.{Subsystem, devices_of}
-use Rattle.seen_laws.specs.Moved.{sides_up, sides_writing, second_writing, NoTransfers, CommandTransfers, SecondTransfers, WorkTransfers}
+use Rattle.device_laws.specs.Moved.{sides_up, sides_writing, second_writing, NoTransfers, CommandTransfers, SecondTransfers, WorkTransfers}
 
 abbrev pub did_of : EventEnd → Option Did
 did_of (ends.Back did) = Some did

@@ -3,10 +3,12 @@
 
 mod about;
 mod causes;
+mod looks;
 mod plain;
 mod promised;
 mod standing;
 mod transfers;
+mod turns;
 mod waits;
 mod whole;
 
@@ -17,10 +19,19 @@ pub use causes::{
     run_has_good_marks, run_has_no_data_check, run_is_explained, run_loses_no_track,
     run_misses_nothing, sound_hardware_checks_nothing,
 };
+pub use looks::{
+    fault_has_failed, look_finds_plain, look_is_heard, look_is_step, look_is_what_happens,
+    look_keeps_own,
+};
 pub use plain::{read_run_is_plain, run_is_plain};
 pub use promised::read_run_is_promised;
 pub use standing::{devices_are_sound, slots_are_apart};
 pub use transfers::run_moves_by_table;
+pub use turns::{
+    cuts_let_stand, device_beside_is_sound, device_stands_on, events_count_one_path,
+    look_finds_plain_track, new_device_stands, orders_leave_it_beside, orders_let_stand,
+    pairs_let_stand, standing_device_is_excused, want_of_memory_leaves_device,
+};
 pub use waits::{read_repairs_count_waiting, recoveries_lower_waiting, repairs_count_waiting};
 pub use whole::{
     whole_device_is_mounted, whole_event_is_what_happens, whole_events_are_what_happens,

@@ -24,8 +24,8 @@ use Rattle.subsystem_laws.specs.WholeComes.{subsystem_of}
 use Rattle.deck_run.specs.Standing.{StandsAs, stood_of, all_stood}
 use Rattle.deck_run.proofs.Found.{stood_found, put_stood}
 use Rattle.deck_run.proofs.Telling.{FoundKnown, all_known, known_at}
-use Rattle.look_laws.specs.Looking.{is_written_at, IsLooked}
-use Rattle.look_laws.proofs.Talks.{look_so}
+use Rattle.subsystem_laws.specs.Looking.{is_written_at, IsLooked}
+use Rattle.subsystem_laws.proofs.looking.Talks.{look_so}
 use Rattle.track_looks.specs.declared.found.Look.{Look}
 use Rattle.track_looks.specs.Looking.{look_seen, IsAllowed, Looks}
 

@@ -18,8 +18,8 @@ use Rattle.deck_run.specs.Owning.{IsOwn, AllOwn, AreOwn}
 use Rattle.deck_run.specs.Sides.{AreAccounted, all_sides}
 use Rattle.deck_run.proofs.Accounted.{asked_sides, put_sides, ran_there}
 use Rattle.deck_run.proofs.Found.{own_put, own_at}
-use Rattle.look_laws.specs.Looking.{KeepsOwn}
-use Rattle.look_laws.proofs.Keeps.{peek_keeps_own}
+use Rattle.subsystem_laws.specs.Looking.{KeepsOwn}
+use Rattle.subsystem_laws.proofs.looking.Keeps.{peek_keeps_own}
 use Rattle.track_looks.specs.Looking.{LooksKept, Looks}
 
 still_own : (d e : WholeDevice) → KeepsOwn d e → IsOwn d → IsOwn e

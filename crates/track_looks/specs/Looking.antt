@@ -6,7 +6,7 @@ use Rattle.device_outside.specs.Keeper.{Hearing}
 use Rattle.device_defs.specs.Contents.{contents}
 use Rattle.device_defs.specs.Peek.{Peeked, Track, Lost, Fault, BadBytes, peek}
 use Rattle.device_core.specs.State.{device_of}
-use Rattle.look_laws.specs.Looking.{is_written_at}
+use Rattle.subsystem_laws.specs.Looking.{is_written_at}
 use Rattle.subsystem_core.specs.declared.subsystem.Subsystem.{Subsystem}
 use Rattle.subsystem_core.specs.Comes.{AskedKept, AskedWith, Changes}
 use Rattle.subsystem_core.specs.Ends.{where_some}

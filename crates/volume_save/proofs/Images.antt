@@ -42,9 +42,9 @@ use Rattle.device_defs.specs.Marks.{MarksStore}
 use Rattle.device_defs.specs.Peek as peeks
 use Rattle.device_defs.specs.Peek.{Peeked}
 use Rattle.device_defs.specs.Store.{tracks_of}
-use Rattle.look_laws.specs.Looking.{is_writing, is_written_at, IsPlainly, LeavesOwn, StaysOwn}
-use Rattle.look_laws.proofs.Talks.{unwritten}
-use Rattle.look_laws.proofs.Leaves.{look_finds_plain, look_leaves_own}
+use Rattle.subsystem_laws.specs.Looking.{is_writing, is_written_at, IsPlainly, LeavesOwn, StaysOwn}
+use Rattle.subsystem_laws.proofs.looking.Talks.{unwritten}
+use Rattle.subsystem_laws.proofs.looking.Leaves.{look_finds_plain, look_leaves_own}
 use Rattle.subsystem_defs.specs.Looks.{looked}
 use Rattle.subsystem_defs.specs.Subsystem.{Mounted, Subsystem, mounted_in}
 use Rattle.volume_file.specs.File.{ImageVolume}

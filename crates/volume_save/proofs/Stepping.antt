@@ -59,9 +59,9 @@ use Rattle.device_defs.specs.Peek as peeks
 use Rattle.device_defs.specs.Peek.{Peeked}
 use Rattle.device_defs.specs.Sound.{has_sound_marks}
 use Rattle.device_defs.specs.Store.{HalfWrite, tracks_of, is_lost, half_is}
-use Rattle.look_laws.specs.Looking.{is_writing, is_written_at, IsPlainly, StaysOwn}
-use Rattle.look_laws.proofs.Talks.{unwritten}
-use Rattle.look_laws.proofs.Leaves.{fault_has_failed, fault_is, look_finds_plain, look_leaves_own, lost_is_lost}
+use Rattle.subsystem_laws.specs.Looking.{is_writing, is_written_at, IsPlainly, StaysOwn}
+use Rattle.subsystem_laws.proofs.looking.Talks.{unwritten}
+use Rattle.subsystem_laws.proofs.looking.Leaves.{fault_has_failed, fault_is, look_finds_plain, look_leaves_own, lost_is_lost}
 use Rattle.subsystem_core.specs.declared.subsystem.Subsystem.{Subsystem}
 use Rattle.subsystem_core.specs.Devices.{device_at}
 use Rattle.subsystem_defs.specs.Decks.{run_of}

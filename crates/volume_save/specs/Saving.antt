@@ -31,7 +31,7 @@ use Rattle.device_defs.specs.Peek as peeks
 use Rattle.device_defs.specs.Peek.{Peeked}
 use Rattle.device_defs.specs.Sound.{plain_device}
 use Rattle.device_defs.specs.Store.{Store, tracks_of, is_lost, half_is}
-use Rattle.look_laws.specs.Looking.{is_writing, HasFailed, IsNowhere}
+use Rattle.subsystem_laws.specs.Looking.{is_writing, HasFailed, IsNowhere}
 use Rattle.subsystem_defs.specs.Decks.{run_of}
 use Rattle.subsystem_defs.specs.Looks.{Looked, looked}
 use Rattle.subsystem_defs.specs.Subsystem.{Mounted, Subsystem, mounted_in}

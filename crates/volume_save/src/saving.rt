@@ -1,7 +1,7 @@
 ghost use Rattle.std.specs.Prelude.{◌≡◌, ◌<◌, IfErr, IfOk, length, true};
 ghost use Rattle.deck_text.specs.DeckLines.{DeckLines};
 ghost use Rattle.device_core.specs.State.{device_of};
-ghost use Rattle.look_laws.specs.Looking.{is_writing};
+ghost use Rattle.subsystem_laws.specs.Looking.{is_writing};
 ghost use Rattle.subsystem_defs.specs.Decks.{run_of};
 ghost use Rattle.subsystem_defs.specs.Subsystem as runs;
 ghost use Rattle.subsystem_laws.specs.Served.{IsServedDeck};

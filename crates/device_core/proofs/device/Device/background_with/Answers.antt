@@ -13,8 +13,8 @@ use Rattle.device_store.proofs.Moves.{from_equal, weaker}
 use Rattle.device_core.proofs.Parts.{none_unmapped}
 use Rattle.device_core.specs.State.{device_of}
 use Rattle.device_core.proofs.Eventful.{event_run, begun_weight, fits_room}
-use Rattle.seen_laws.proofs.EventCounts.{background_moved}
-use Rattle.seen_laws.proofs.Others.{background_keeps}
+use Rattle.device_laws.proofs.counted.EventCounts.{background_moved}
+use Rattle.device_laws.proofs.counted.Others.{background_keeps}
 use Rattle.device_core.proofs.Promising.{background_excused, background_same, background_sound, background_stays_plain}
 use Rattle.device_core.proofs.device.Device.background_with.Goals as goal
 

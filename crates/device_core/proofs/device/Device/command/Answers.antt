@@ -1,5 +1,5 @@
 use Rattle.device_store.proofs.Moves.{heard_alone}
-use Rattle.seen_laws.proofs.Calls.{ends_as_seen}
+use Rattle.device_laws.proofs.counted.Calls.{ends_as_seen}
 use Rattle.device_core.proofs.Promising.{command_ends}
 use Rattle.device_core.proofs.device.Device.command.Goals as goal
 

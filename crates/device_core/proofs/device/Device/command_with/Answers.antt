@@ -9,8 +9,8 @@ use Rattle.device_store.specs.State.{half_of, state_of}
 use Rattle.device_store.proofs.Moves.{had_ok, from_equal}
 use Rattle.device_core.proofs.Commands.{same_device}
 use Rattle.device_core.proofs.Parts.{mapped_some, none_unmapped}
-use Rattle.seen_laws.proofs.Calls.{ends_as_seen}
-use Rattle.seen_laws.proofs.EventCounts.{command_moved, hit_reads_none}
+use Rattle.device_laws.proofs.counted.Calls.{ends_as_seen}
+use Rattle.device_laws.proofs.counted.EventCounts.{command_moved, hit_reads_none}
 use Rattle.std.specs.Prelude.{Err}
 use Rattle.device_core.proofs.Promising.{command_ends, command_excused, command_same, command_sound, command_stays_plain}
 use Rattle.device_core.proofs.device.Device.command_with.Goals as goal

@@ -11,8 +11,8 @@ use Rattle.device_store.specs.State.{state_of, outside_of}
 use Rattle.device_store.proofs.Moves.{from_equal}
 use Rattle.device_core.specs.State.{device_of}
 use Rattle.device_core.proofs.Eventful.{event_run, begun_weight, fits_room}
-use Rattle.seen_laws.proofs.EventCounts.{lose_moved}
-use Rattle.seen_laws.proofs.Others.{lose_keeps}
+use Rattle.device_laws.proofs.counted.EventCounts.{lose_moved}
+use Rattle.device_laws.proofs.counted.Others.{lose_keeps}
 use Rattle.device_core.proofs.Promising.{lose_excused, lose_sound, lose_stays_plain}
 use Rattle.device_core.proofs.device.Device.lose_with.Goals as goal
 

@@ -14,8 +14,8 @@ use Rattle.device_store.proofs.Moves.{from_equal, weaker}
 use Rattle.device_core.specs.State.{device_of}
 use Rattle.device_core.proofs.Commands.{to_answer}
 use Rattle.device_core.proofs.Eventful.{quiet_run, begun_weight, fits_room}
-use Rattle.seen_laws.proofs.EventCounts.{peek_moved}
-use Rattle.seen_laws.proofs.Others.{peek_keeps}
+use Rattle.device_laws.proofs.counted.EventCounts.{peek_moved}
+use Rattle.device_laws.proofs.counted.Others.{peek_keeps}
 use Rattle.device_core.proofs.Promising.{peek_answers, peek_sound, peek_stays_plain}
 use Rattle.device_core.proofs.device.Device.peek_with.Goals as goal
 

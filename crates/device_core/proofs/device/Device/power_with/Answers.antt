@@ -10,7 +10,7 @@ use Rattle.device_store.proofs.Moves.{from_equal}
 use Rattle.device_core.specs.State.{device_by, device_of}
 use Rattle.device_core.proofs.Eventful.{quiet_run}
 use Rattle.device_core.proofs.Powers.{off_is}
-use Rattle.seen_laws.proofs.EventCounts.{power_moved}
+use Rattle.device_laws.proofs.counted.EventCounts.{power_moved}
 use Rattle.device_core.proofs.Promising.{power_excused, power_sound, power_stays_plain}
 use Rattle.device_core.proofs.device.Device.power_with.Goals as goal
 

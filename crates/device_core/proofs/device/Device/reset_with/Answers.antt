@@ -2,7 +2,7 @@ use Rattle.std.proofs.Common.{◌∙◌, refl, sym}
 use Rattle.device_core.specs.State.{device_of}
 use Rattle.device_core.proofs.Resetting.{asks_nothing, reset_none}
 use Rattle.device_outside.specs.Outside.{no_pool}
-use Rattle.seen_laws.proofs.EventCounts.{reset_moved}
+use Rattle.device_laws.proofs.counted.EventCounts.{reset_moved}
 use Rattle.device_core.proofs.Promising.{reset_excused, reset_sound, reset_stays_plain}
 use Rattle.device_core.proofs.device.Device.reset_with.Goals as goal
 

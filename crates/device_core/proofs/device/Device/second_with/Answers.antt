@@ -7,8 +7,8 @@ use Rattle.device_store.specs.State.{state_of, outside_of}
 use Rattle.device_store.proofs.Moves.{from_equal}
 use Rattle.device_core.specs.State.{device_of}
 use Rattle.device_core.proofs.Eventful.{event_run}
-use Rattle.seen_laws.proofs.Calls.{ends_as_kept}
-use Rattle.seen_laws.proofs.EventCounts.{second_moved}
+use Rattle.device_laws.proofs.counted.Calls.{ends_as_kept}
+use Rattle.device_laws.proofs.counted.EventCounts.{second_moved}
 use Rattle.device_core.proofs.Promising.{second_excused, second_sound, second_stays_plain, seen_there}
 use Rattle.device_core.proofs.device.Device.second_with.Goals as goal
 

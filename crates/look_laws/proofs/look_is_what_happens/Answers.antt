@@ -1,5 +1,0 @@
-use Rattle.look_laws.proofs.Talks.{look_so}
-use Rattle.look_laws.proofs.look_is_what_happens.Goals as goal
-
-pub returns : goal.returns
-returns g c = λ p q xs ys ms n t m f all there may lt came. look_so _ p q xs ys ms n t m f all there may lt came

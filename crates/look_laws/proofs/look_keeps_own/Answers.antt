@@ -1,5 +1,0 @@
-use Rattle.look_laws.proofs.Keeps.{peek_keeps_own}
-use Rattle.look_laws.proofs.look_keeps_own.Goals as goal
-
-pub returns : goal.returns
-returns g c = λ d e u z a t r. peek_keeps_own d e t r

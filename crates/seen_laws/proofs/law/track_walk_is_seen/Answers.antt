@@ -1,9 +1,0 @@
-use Rattle.std.proofs.Common.{◌*◌}
-use Rattle.device_laws.specs.Standing.{LooksAt}
-use Rattle.device_laws.proofs.ChainFeeds.{chain_feeds}
-use Rattle.seen_laws.proofs.Walks.{follow_so}
-use Rattle.seen_laws.proofs.law.track_walk_is_seen.Goals as goal
-
-pub returns : goal.returns
-returns h c = λ cylinders g n first t chain s e u z turn at r.
-    follow_so _ _ (cylinders * 15) g (LooksAt cylinders g) (chain_feeds cylinders g) n first chain t s at e u z turn r

@@ -1,6 +1,0 @@
-use Rattle.turn_laws.proofs.Found.{peek_finds}
-use Rattle.turn_laws.proofs.Wanting.{peek_beside}
-use Rattle.turn_laws.proofs.look_finds_plain_track.Goals as goal
-
-pub returns : goal.returns
-returns c = λ d e u z t a s lt may r. (peek_finds s t lt may r, (peek_beside s t lt may r).beside)

@@ -1,8 +1,0 @@
-use Rattle.turn_laws.proofs.Orders.{joined_stands, split_stands}
-use Rattle.turn_laws.proofs.pairs_let_stand.Goals as goal
-
-pub returns : goal.returns
-returns c = record {
-  joined = λ d u v l s single tells long. joined_stands d u v l tells long single s;
-  parted = λ d u s fault. split_stands d u fault s;
-}

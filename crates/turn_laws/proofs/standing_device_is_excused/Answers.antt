@@ -1,5 +1,0 @@
-use Rattle.turn_laws.proofs.Sound.{stands_excused}
-use Rattle.turn_laws.proofs.standing_device_is_excused.Goals as goal
-
-pub returns : goal.returns
-returns c = λ d u s failed cache. stands_excused d u s failed cache
