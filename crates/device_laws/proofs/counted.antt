@@ -1,17 +1,17 @@
-mod RanParts
-mod Looks
-mod Walks
-mod Commands
-mod Rows
-mod Seconds
+pub mod RanParts
+pub mod Looks
+pub mod Walks
+pub mod Commands
+pub mod Rows
+pub mod Seconds
 pub mod Others
 pub mod Counting
-mod RanCounts
+pub mod RanCounts
 pub mod SidesLeft
-mod ReadCounts
+pub mod ReadCounts
 pub mod WriteCounts
 pub mod Exact
-mod WorkCounts
-mod CommandCounts
+pub mod WorkCounts
+pub mod CommandCounts
 pub mod EventCounts
 pub mod Calls
