@@ -18,4 +18,5 @@ pub mod Halves
 pub mod Lending
 pub mod Promising
 pub mod Ordering
+pub mod FastWrites
 pub mod StaleTracks

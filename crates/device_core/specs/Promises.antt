@@ -1,26 +1,43 @@
 -- What a device promises by each of its calls: that it stays sound, that its history stays a plain device's, that it stays excused for what it lost, and what want
 -- of memory leaves as it was.
-use Rattle.std.specs.Prelude.{◌≡◌, ◌<◌, ◌^◌, ◌-◌, ℕ, Bool, List, Option, Some, length}
+use Rattle.std.specs.Prelude.{◌≡◌, ◌<◌, ◌^◌, ◌-◌, ℕ, Bool, List, Option, Some, Result, length}
 use Rattle.ckd_chain.specs.State.{ChainState}
+use Rattle.ckd_chain.specs.Steps.{need_of}
 use Rattle.plain_defs.specs.History.{IsPlain, OpenEntry}
 use Rattle.plain_defs.specs.PlainState.{empty_state}
 use Rattle.device_outside.specs.declared.volume.Volume.{Ghosts}
 use Rattle.track_image.specs.Image.{Image}
 use Rattle.device_outside.specs.After.{Holdings, Tells}
 use Rattle.device_outside.specs.Keeper.{Hearing}
-use Rattle.device_outside.specs.Outside.{Outside, no_pool}
+use Rattle.device_outside.specs.Outside.{Outside, PortView, Ran, no_pool, where_ok}
 use Rattle.device_outside.specs.Volume.{VolumeView}
+use Rattle.device_defs.specs.declared.answers.Choice.TheVariants.{Through}
 use Rattle.device_defs.specs.declared.answers.Stepped.{Stepped}
+use Rattle.device_defs.specs.Choosing.{choose}
+use Rattle.device_defs.specs.Command.{command}
+use Rattle.device_defs.specs.Contents.{contents}
+use Rattle.device_defs.specs.Outcomes.{usage_of}
 use Rattle.device_defs.specs.Excused as defs
 use Rattle.device_defs.specs.Sound as defs_sound
-use Rattle.device_defs.specs.Sound.{plain_device}
+use Rattle.device_defs.specs.Sound.{DeviceStore, plain_device}
+use Rattle.device_laws.specs.Moved.{choice_writes, counted_by, sides_writing}
+use Rattle.device_laws.specs.Seen.{CommandCame, Look, Noticed, Saw, WentOn}
 use Rattle.device_laws.specs.Whole.{WholeDevice}
-use Rattle.device_laws.specs.Seen.{CommandCame}
 use Rattle.device_store.specs.State.{outside}
 use Rattle.subsystem_laws.specs.Again.{IsAgain}
 use Rattle.subsystem_laws.specs.Standing.{IsBeside, Stands}
 use Rattle.device_core.specs.declared.device.Device.{Device}
-use Rattle.device_core.specs.State.{device_of}
+use Rattle.device_core.specs.declared.past.Stepped as own
+use Rattle.device_core.specs.State.{device_of, step_had}
+
+-- A command
+
+-- What it did between what port, volumes and keeper told before it and after it: all that its definition does. The end that it answers stands in the journal
+module _ {V : Type 0} {G : Ghosts V} {K : Type 0} (hears : Hearing Image K) where
+  abbrev pub DidCommand : {E : Type 0} → Device V G → PortView → K → Device V G → PortView → K → Result own.Stepped E → Type 0
+  DidCommand d port keeper e later kept result =
+      Ran (where_ok result) hears (command contents (device_of d)) (outside port d.store keeper) (device_of e) (step_had e.past result)
+      (outside later e.store kept)
 
 -- A command of a running program that ended, or is half done, came out as the rules say over the images that it saw
 module _ {K : Type 0} (had : Bool → Type 0) (hears : Hearing Image K) where
@@ -28,6 +45,20 @@ module _ {K : Type 0} (had : Bool → Type 0) (hears : Hearing Image K) where
   EndsSeen d u e a z =
       (o : OpenEntry) (chain : ChainState) (x : Stepped) → d.history.running ≡ Some o → d.chain ≡ Some chain → a ≡ Some x →
       CommandCame had hears d o chain u x e z
+
+  -- It wrote no volume; or behind its notices and its looks it chose, by the rules, to write the track of its last look through, and wrote it once to each
+  -- side that takes it, or where it is half done to the first alone
+  pub data NoneOrThrough (d : WholeDevice) (chain : ChainState) (u : Outside (List ℕ) K) (e : WholeDevice) : Type 0 where
+    none : e.store.counts.writes ≡ d.store.counts.writes → NoneOrThrough d chain u e
+    through : (s x y : DeviceStore) (v w p q : Outside (List ℕ) K) (looks : List Look) (final : ChainState) (t : ℕ) (i : Image) (reads : ℕ) (half : Bool) →
+        Noticed had hears d u s v → WentOn had hears chain s v looks final x w → need_of final ≡ Some t →
+        Saw had hears x (usage_of final) t w i reads y p → Ran had hears (choose contents y (usage_of final) t) p y Through q →
+        e.store.counts.writes ≡ counted_by (choice_writes (sides_writing y) Through half) d.store.counts.writes → NoneOrThrough d chain u e
+
+  -- so a write that is fast, or of data that stay in the cache, writes no volume
+  abbrev pub FastWritesNone : WholeDevice → Outside (List ℕ) K → WholeDevice → Option Stepped → Type 0
+  FastWritesNone d u e a =
+      (o : OpenEntry) (chain : ChainState) (x : Stepped) → d.history.running ≡ Some o → d.chain ≡ Some chain → a ≡ Some x → NoneOrThrough d chain u e
 
 -- a volume tells what it holds, so many tracks
 abbrev pub TellsTracks : VolumeView (List ℕ) → ℕ → Type 0

@@ -1,6 +1,6 @@
 ghost use Rattle.std.specs.Prelude.{◌≡◌, ◌≤◌, ◌+◌, ℕ, [], IfOk, IfSome, IsSome, None, OnErr, OnOk, false, is_some, option_map};
 ghost use Rattle.ckd_chain.specs.Facts.{IsChain};
-ghost use Rattle.device_defs.specs.Command.{command, command_by};
+ghost use Rattle.device_defs.specs.Command.{command_by};
 ghost use Rattle.device_defs.specs.Contents.{contents};
 ghost use Rattle.device_defs.specs.Device.{event};
 ghost use Rattle.event_notes.specs.Loose.{loose_count, weight};
@@ -14,7 +14,7 @@ ghost use Rattle.device_core.specs.State.{device_of, step_had, IsSameDevice};
 ghost use Rattle.device_core.specs.Words.{HasEndRoom};
 ghost use Rattle.device_laws.specs.Moved.{CommandMoves, HitReadsNone};
 ghost use Rattle.device_laws.specs.Seen.{EndsAsSeen};
-ghost use Rattle.device_core.specs.Promises.{EndsSeen, StandsPlain, StaysExcused, StaysPlain, StaysSame, StaysSound};
+ghost use Rattle.device_core.specs.Promises.{DidCommand, EndsSeen, FastWritesNone, StandsPlain, StaysExcused, StaysPlain, StaysSame, StaysSound};
 
 use crate::Device;
 use crate::past::{Past, Running, Stepped};
@@ -159,13 +159,14 @@ impl<V: Volume> Device<V> {
         ensures takes { TakesTracks K.takes keep.new self.new.store }
         ensures half { IfOk result (λ step. is_some (device_of self.new).store.half ≡ is_half_step step) }
         ensures same { OnErr result (is_some (device_of self.new).store.half ≡ false) }
-        ensures run { Ran (where_ok result) (Heard K.hears K.takes) (command contents (device_of self.old)) (outside (P.view port.old) self.old.store keep.old)
-            (device_of self.new) (step_had self.new.past result) (outside (P.view port.new) self.new.store keep.new) }
+        ensures run { DidCommand (Heard K.hears K.takes) self.old (P.view port.old) keep.old self.new (P.view port.new) keep.new result }
         ensures ends_as_seen { EndsAsSeen (where_ok result) (Heard K.hears K.takes) (device_of self.old) (outside (P.view port.old) self.old.store keep.old)
             (device_of self.new) (step_had self.new.past result) (outside (P.view port.new) self.new.store keep.new) }
         ensures ends { StandsPlain self.old → EndsSeen (where_ok result) (Heard K.hears K.takes) (device_of self.old)
             (outside (P.view port.old) self.old.store keep.old) (device_of self.new) (step_had self.new.past result) (outside (P.view port.new) self.new.store keep.new) }
-        ensures hits { HitReadsNone (device_of self.old) (device_of self.new) }
+        ensures hit_reads_none { HitReadsNone (device_of self.old) (device_of self.new) }
+        ensures fast_writes_none { StandsPlain self.old → FastWritesNone (where_ok result) (Heard K.hears K.takes) (device_of self.old)
+            (outside (P.view port.old) self.old.store keep.old) (device_of self.new) (step_had self.new.past result) }
         ensures transfers { CommandMoves (device_of self.old) (device_of self.new) }
         ensures sound { StaysSound self.old self.new }
         ensures plain { StaysPlain self.old self.new }
@@ -190,13 +191,14 @@ impl<V: Volume> Device<V> {
         ensures fixed { IsSameDevice self.old self.new }
         ensures half { IfOk result (λ step. is_some (device_of self.new).store.half ≡ is_half_step step) }
         ensures same { OnErr result (is_some (device_of self.new).store.half ≡ false) }
-        ensures run { (k : NoKeep) → Ran (where_ok result) (λ _ m r _. r ≡ reply m) (command contents (device_of self.old))
-            (outside (P.view port.old) self.old.store k) (device_of self.new) (step_had self.new.past result) (outside (P.view port.new) self.new.store k) }
+        ensures run { (k : NoKeep) → DidCommand (λ _ m r _. r ≡ reply m) self.old (P.view port.old) k self.new (P.view port.new) k result }
         ensures ends_as_seen { (k : NoKeep) → EndsAsSeen (where_ok result) (λ _ m r _. r ≡ reply m) (device_of self.old)
             (outside (P.view port.old) self.old.store k) (device_of self.new) (step_had self.new.past result) (outside (P.view port.new) self.new.store k) }
         ensures ends { StandsPlain self.old → (k : NoKeep) → EndsSeen (where_ok result) (λ _ m r _. r ≡ reply m) (device_of self.old)
             (outside (P.view port.old) self.old.store k) (device_of self.new) (step_had self.new.past result) (outside (P.view port.new) self.new.store k) }
-        ensures hits { HitReadsNone (device_of self.old) (device_of self.new) }
+        ensures hit_reads_none { HitReadsNone (device_of self.old) (device_of self.new) }
+        ensures fast_writes_none { StandsPlain self.old → (k : NoKeep) → FastWritesNone (where_ok result) (λ _ m r _. r ≡ reply m) (device_of self.old)
+            (outside (P.view port.old) self.old.store k) (device_of self.new) (step_had self.new.past result) }
         ensures transfers { CommandMoves (device_of self.old) (device_of self.new) }
         ensures sound { StaysSound self.old self.new }
         ensures plain { StaysPlain self.old self.new }

@@ -12,6 +12,8 @@ use Rattle.device_core.proofs.Parts.{mapped_some, none_unmapped}
 use Rattle.device_laws.proofs.counted.Calls.{ends_as_seen}
 use Rattle.device_laws.proofs.counted.EventCounts.{command_moved, hit_reads_none}
 use Rattle.std.specs.Prelude.{Err}
+use Rattle.device_core.specs.State.{device_of}
+use Rattle.device_core.proofs.FastWrites.{fast_writes_none}
 use Rattle.device_core.proofs.Promising.{command_ends, command_excused, command_same, command_sound, command_stays_plain}
 use Rattle.device_core.proofs.device.Device.command_with.Goals as goal
 
@@ -46,11 +48,11 @@ returns-in-Err-clause-ends_as_seen g c = ends_as_seen _ _ _ (returns-in-Err-clau
 pub returns-clause-ends_as_seen : goal.returns-clause-ends_as_seen
 returns-clause-ends_as_seen g c = ends_as_seen _ _ _ (returns-clause-run g c)
 
-pub returns-in-Err-clause-hits : goal.returns-in-Err-clause-hits
-returns-in-Err-clause-hits g c = hit_reads_none _ _ _ (returns-in-Err-clause-run g c)
+pub returns-in-Err-clause-hit_reads_none : goal.returns-in-Err-clause-hit_reads_none
+returns-in-Err-clause-hit_reads_none g c = hit_reads_none _ _ _ (returns-in-Err-clause-run g c)
 
-pub returns-clause-hits : goal.returns-clause-hits
-returns-clause-hits g c = hit_reads_none _ _ _ (returns-clause-run g c)
+pub returns-clause-hit_reads_none : goal.returns-clause-hit_reads_none
+returns-clause-hit_reads_none g c = hit_reads_none _ _ _ (returns-clause-run g c)
 
 pub returns-in-Err-clause-transfers : goal.returns-in-Err-clause-transfers
 returns-in-Err-clause-transfers g c = command_moved _ _ _ (returns-in-Err-clause-run g c)
@@ -93,3 +95,9 @@ returns-in-Err-clause-ends g c =
 
 pub returns-clause-ends : goal.returns-clause-ends
 returns-clause-ends g c = command_ends c.args.self.now c.args.self.now c.requires.running c.requires.whole c.recall_chain.ensures (returns-clause-ends_as_seen g c)
+
+pub returns-in-Err-clause-fast_writes_none : goal.returns-in-Err-clause-fast_writes_none
+returns-in-Err-clause-fast_writes_none g c stands = fast_writes_none (device_of c.args.self.now) (returns-in-Err-clause-ends g c stands)
+
+pub returns-clause-fast_writes_none : goal.returns-clause-fast_writes_none
+returns-clause-fast_writes_none g c stands = fast_writes_none (device_of c.args.self.now) (returns-clause-ends g c stands)
