@@ -19,4 +19,5 @@ pub mod Lending
 pub mod Promising
 pub mod Ordering
 pub mod FastWrites
+pub mod Away
 pub mod StaleTracks

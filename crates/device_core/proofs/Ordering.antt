@@ -69,7 +69,7 @@ module _ {V : Type 0} {G : Ghosts V} (d e : Device V G) where
   abbrev told_with : Option V → Option V → Outside (List ℕ) (Unit {0})
   told_with a b = record { port = no_pool 0; a = option_map G.view a; b = option_map G.view b; keeper = tt }
 
-  side_told : (side : Side) (v : V) → volume_of e.store.pair.volumes side ≡ Some v →
+  pub side_told : (side : Side) (v : V) → volume_of e.store.pair.volumes side ≡ Some v →
       other_of e.store.pair.volumes side ≡ other_of d.store.pair.volumes side → told_by e ≡ with_view (told_by d) side (G.view v)
   side_told A v here other =
       ap (λ (a : Option V). told_with a e.store.pair.volumes.b) here ∙ ap (told_with (Some v)) other

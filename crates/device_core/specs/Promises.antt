@@ -1,10 +1,14 @@
 -- What a device promises by each of its calls: that it stays sound, that its history stays a plain device's, that it stays excused for what it lost, and what want
 -- of memory leaves as it was.
-use Rattle.std.specs.Prelude.{◌≡◌, ◌<◌, ◌^◌, ◌-◌, ℕ, Bool, List, Option, Some, Result, length}
+use Rattle.std.specs.Prelude.{◌≡◌, ◌<◌, ◌^◌, ◌-◌, ℕ, Bool, false, List, Option, Some, Result, length}
+use Rattle.ckd_types.specs.declared.record.Track.{Track}
 use Rattle.ckd_chain.specs.State.{ChainState}
 use Rattle.ckd_chain.specs.Steps.{need_of}
+use Rattle.loss_model.specs.declared.Loss.{Loss}
+use Rattle.loss_model.specs.declared.Loss.TheVariants as losses
 use Rattle.plain_defs.specs.History.{IsPlain, OpenEntry}
 use Rattle.plain_defs.specs.PlainState.{empty_state}
+use Rattle.plain_defs.specs.Whole.{GiveBytes}
 use Rattle.device_outside.specs.declared.volume.Volume.{Ghosts}
 use Rattle.track_image.specs.Image.{Image}
 use Rattle.device_outside.specs.After.{Holdings, Tells}
@@ -17,15 +21,18 @@ use Rattle.device_defs.specs.Choosing.{choose}
 use Rattle.device_defs.specs.Command.{command}
 use Rattle.device_defs.specs.Contents.{contents}
 use Rattle.device_defs.specs.Outcomes.{usage_of}
+use Rattle.device_defs.specs.Store.{is_lost}
 use Rattle.device_defs.specs.Excused as defs
 use Rattle.device_defs.specs.Sound as defs_sound
 use Rattle.device_defs.specs.Sound.{DeviceStore, plain_device}
+use Rattle.device_laws.specs.Lent.{IsLent}
 use Rattle.device_laws.specs.Moved.{choice_writes, counted_by, sides_writing}
 use Rattle.device_laws.specs.Seen.{CommandCame, Look, Noticed, Saw, WentOn}
-use Rattle.device_laws.specs.Whole.{WholeDevice}
+use Rattle.device_laws.specs.Whole.{WholeDevice, marks_device}
+use Rattle.device_laws.proofs.PlainTurns.{Follows}
 use Rattle.device_store.specs.State.{outside}
 use Rattle.subsystem_laws.specs.Again.{IsAgain}
-use Rattle.subsystem_laws.specs.Standing.{IsBeside, Stands}
+use Rattle.subsystem_laws.specs.Standing.{IsBeside, Stands, Untold}
 use Rattle.device_core.specs.declared.device.Device.{Device}
 use Rattle.device_core.specs.declared.past.Stepped as own
 use Rattle.device_core.specs.State.{device_of, step_had}
@@ -59,6 +66,24 @@ module _ {K : Type 0} (had : Bool → Type 0) (hears : Hearing Image K) where
   abbrev pub FastWritesNone : WholeDevice → Outside (List ℕ) K → WholeDevice → Option Stepped → Type 0
   FastWritesNone d u e a =
       (o : OpenEntry) (chain : ChainState) (x : Stepped) → d.history.running ≡ Some o → d.chain ≡ Some chain → a ≡ Some x → NoneOrThrough d chain u e
+
+-- A volume that leaves
+
+-- of the cache, or of the nonvolatile store
+abbrev pub TakesNoSide : Loss → Type 0
+TakesNoSide losses.Cache = Unit {0}
+TakesNoSide losses.Store = Unit {0}
+TakesNoSide (losses.Side side) = ⊥
+
+-- A device is lent, and keeps nothing of its tracks: its history is still one of a plain device, whose volume was that of the one that left
+pub record IsLentBeside {K : Type 0} (d : WholeDevice) (u : Outside (List ℕ) K) : Type 0 where
+  pub plain : List Track
+  pub firm : List Track
+  pub held : Holdings (List ℕ)
+  pub untold : Untold u held
+  pub lent : IsLent plain firm d held
+  pub follows : Follows d.store.device (empty_state d.store.geometry d.store.cylinders) (marks_device plain firm d)
+  pub gives : GiveBytes d.plans
 
 -- a volume tells what it holds, so many tracks
 abbrev pub TellsTracks : VolumeView (List ℕ) → ℕ → Type 0
@@ -122,3 +147,27 @@ module _ {V : Type 0} {G : Ghosts V} where
   pub record StaysSame (d e : Device V G) : Type 0 where
     pub again : IsAgain (device_of d) (device_of e)
     pub contents : StandsPlain d → (plain_device (device_of e)).volume ≡ (plain_device (device_of d)).volume
+
+  -- Lent: where it stood beside the plain device and ran nothing it does so without its volume, and on an empty one again
+
+  abbrev pub StandsLent : Device V G → Type 0
+  StandsLent d = IsLentBeside (device_of d) (told_by d)
+
+  abbrev pub HasLostNone : Device V G → Type 0
+  HasLostNone d = (t : ℕ) → is_lost (device_of d).store t ≡ false
+
+  pub record LeavesPlain (d e : Device V G) : Type 0 where
+    pub stands : StandsPlain d → StandsLent e
+    pub history : StandsPlain d → HasPlainHistory e
+
+  pub record StaysLent (d e : Device V G) : Type 0 where
+    pub stands : StandsLent d → StandsLent e
+    pub history : StandsLent d → HasPlainHistory e
+    pub lost : StandsLent d → HasLostNone e
+
+  pub record ComesSound (d e : Device V G) : Type 0 where
+    pub sound : StandsLent d → IsSound e
+
+  pub record ComesPlain (d e : Device V G) : Type 0 where
+    pub stands : StandsLent d → StandsPlain e
+    pub history : StandsLent d → HasPlainHistory e

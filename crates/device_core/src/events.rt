@@ -10,7 +10,7 @@ ghost use Rattle.device_store.specs.State.{state_of, outside, had, TakesTracks};
 ghost use Rattle.device_core.specs.State.{device_of, IsSameDevice};
 ghost use Rattle.device_laws.specs.Moved.{LookMoves, WorkMoves};
 ghost use Rattle.device_laws.specs.Seen.{KeepsPaths};
-ghost use Rattle.device_core.specs.Promises.{StandsPlain, StaysExcused, StaysPlain, StaysSame, StaysSound};
+ghost use Rattle.device_core.specs.Promises.{StandsPlain, StaysExcused, StaysLent, StaysPlain, StaysSame, StaysSound};
 ghost use Rattle.subsystem_laws.specs.Looking.{is_written_at};
 ghost use Rattle.subsystem_laws.specs.Found.{FoundPlain};
 
@@ -43,6 +43,7 @@ impl<V: Volume> Device<V> {
         ensures plain { StaysPlain self.old self.new }
         ensures excused { OnOk result (StaysExcused self.old self.new) }
         ensures same_without_memory { OnErr result (StaysSame self.old self.new) }
+        ensures lent { OnOk result (StaysLent self.old self.new) }
     {
         let before = self.store.waiting_count();
         self.store.begin_event();
@@ -64,6 +65,7 @@ impl<V: Volume> Device<V> {
         ensures plain { StaysPlain self.old self.new }
         ensures excused { OnOk result (StaysExcused self.old self.new) }
         ensures same_without_memory { OnErr result (StaysSame self.old self.new) }
+        ensures lent { OnOk result (StaysLent self.old self.new) }
     {
         let mut keep = NoKeep;
         self.background_with(port, &mut keep)

@@ -8,7 +8,7 @@ ghost use Rattle.device_store.specs.State.{outside, surely, TakesTracks};
 ghost use Rattle.device_core.specs.State.{device_of, IsSameDevice};
 ghost use Rattle.device_laws.specs.Moved.{MovesNothing};
 ghost use Rattle.device_laws.specs.Seen.{KeepsPaths};
-ghost use Rattle.device_core.specs.Promises.{StaysExcused, StaysPlain, StaysSound};
+ghost use Rattle.device_core.specs.Promises.{StaysExcused, StaysLent, StaysPlain, StaysSound, TakesNoSide};
 
 use crate::Device;
 use device_outside::{Keep, NoKeep, Port, Volume};
@@ -34,6 +34,7 @@ impl<V: Volume> Device<V> {
         ensures sound { StaysSound self.old self.new }
         ensures plain { StaysPlain self.old self.new }
         ensures excused { StaysExcused self.old self.new }
+        ensures lent { TakesNoSide loss → StaysLent self.old self.new }
     {
         let before = self.store.waiting_count();
         self.store.begin_event();
@@ -52,6 +53,7 @@ impl<V: Volume> Device<V> {
         ensures sound { StaysSound self.old self.new }
         ensures plain { StaysPlain self.old self.new }
         ensures excused { StaysExcused self.old self.new }
+        ensures lent { TakesNoSide loss → StaysLent self.old self.new }
     {
         let mut keep = NoKeep;
         self.lose_with(loss, port, &mut keep)

@@ -11,7 +11,19 @@ ghost use Rattle.duplex_pair.specs.Sides.{other_of, volume_of};
 ghost use Rattle.device_store.specs.State.{on_a, on_b, outside, surely};
 ghost use Rattle.device_core.specs.Kept.{history_of, ActRoom, Keeps};
 ghost use Rattle.device_core.specs.State.{device_of, IsSameDevice};
-ghost use Rattle.device_core.specs.Promises.{StaysExcused, StaysPlain, StaysSound, TellsTracks};
+ghost use Rattle.device_core.specs.Promises.{
+  ComesPlain,
+  ComesSound,
+  HasLostNone,
+  LeavesPlain,
+  StandsLent,
+  StandsPlain,
+  StaysExcused,
+  StaysPlain,
+  StaysSound,
+  TellsTracks,
+};
+ghost use Rattle.device_outside.specs.Disk.{empty_contents};
 ghost use Rattle.subsystem_defs.specs.Refusals.{replace_fault, suspend_fault, unpair_fault};
 
 use crate::Device;
@@ -132,6 +144,9 @@ impl<V: Volume> Device<V> {
         ensures back { result ≡ on_a self.old.store }
         ensures run { (k : K) → Ran surely (Heard K.hears K.takes) (lend contents (device_of self.old) to) (outside (P.view port.old) self.old.store k)
             (device_of self.new) tt (record (outside (P.view port.new) self.new.store k) { a = option_map V.view result }) }
+        ensures sound { (k : K) → (device_of self.old).history.running ≡ None → StaysSound self.old self.new }
+        ensures plain { (k : K) → (device_of self.old).history.running ≡ None → LeavesPlain self.old self.new }
+        ensures excused { (k : K) → (device_of self.old).history.running ≡ None → StandsPlain self.old → HasLostNone self.new }
     {
         let before = self.store.waiting_count();
         self.store.begin_event();
@@ -150,6 +165,9 @@ impl<V: Volume> Device<V> {
         ensures run { (k : NoKeep) → Ran surely (λ _ m r _. r ≡ reply m) (lend contents (device_of self.old) to)
             (outside (P.view port.old) self.old.store k) (device_of self.new) tt
             (record (outside (P.view port.new) self.new.store k) { a = option_map V.view result }) }
+        ensures sound { (device_of self.old).history.running ≡ None → StaysSound self.old self.new }
+        ensures plain { (device_of self.old).history.running ≡ None → LeavesPlain self.old self.new }
+        ensures excused { (device_of self.old).history.running ≡ None → StandsPlain self.old → HasLostNone self.new }
     {
         self.lend_with::<P, NoKeep>(to, port)
     }
@@ -162,6 +180,9 @@ impl<V: Volume> Device<V> {
         ensures b { on_b self.new.store ≡ on_b self.old.store }
         ensures same { OnErr result ((device_of self.new ≡ device_of self.old) × (self.new.store ≡ self.old.store)) }
         ensures back { IfErr result (λ e. e.1 ≡ volume) }
+        ensures sound { OnOk result ((V.view volume).contents ≡ Some (empty_contents (self.old.store.cylinders * 15)) → ComesSound self.old self.new) }
+        ensures plain { OnOk result ((V.view volume).contents ≡ Some (empty_contents (self.old.store.cylinders * 15)) → ComesPlain self.old self.new) }
+        ensures excused { OnOk result (StandsLent self.old → HasLostNone self.new) }
     {
         match self.past.reserve_fresh() {
             Err(NoMemory) => return Err((NoMemory, volume)),

@@ -11,7 +11,7 @@ ghost use Rattle.device_core.specs.Kept.{history_of, Keeps};
 ghost use Rattle.device_core.specs.Powered.{off_path};
 ghost use Rattle.device_core.specs.State.{device_of, IsSameDevice};
 ghost use Rattle.device_laws.specs.Moved.{MovesNothing};
-ghost use Rattle.device_core.specs.Promises.{StaysExcused, StaysPlain, StaysSound};
+ghost use Rattle.device_core.specs.Promises.{StaysExcused, StaysLent, StaysPlain, StaysSound};
 
 use crate::Device;
 use crate::half::half_count;
@@ -84,6 +84,7 @@ impl<V: Volume> Device<V> {
         ensures sound { StaysSound self.old self.new }
         ensures plain { StaysPlain self.old self.new }
         ensures excused { StaysExcused self.old self.new }
+        ensures lent { StaysLent self.old self.new }
     {
         let before = self.store.waiting_count();
         self.store.begin_event();
@@ -104,6 +105,7 @@ impl<V: Volume> Device<V> {
         ensures sound { StaysSound self.old self.new }
         ensures plain { StaysPlain self.old self.new }
         ensures excused { StaysExcused self.old self.new }
+        ensures lent { StaysLent self.old self.new }
     {
         let mut keep = NoKeep;
         self.power_with(port, &mut keep)

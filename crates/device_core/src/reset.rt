@@ -14,7 +14,7 @@ ghost use Rattle.device_store.specs.State.{outside, surely, Takes, TakesTracks};
 ghost use Rattle.device_core.specs.Kept.{open_of, history_of, waiting_in, Keeps};
 ghost use Rattle.device_core.specs.State.{device_of, IsSameDevice};
 ghost use Rattle.device_laws.specs.Moved.{MovesNothing};
-ghost use Rattle.device_core.specs.Promises.{StaysExcused, StaysPlain, StaysSound};
+ghost use Rattle.device_core.specs.Promises.{StaysExcused, StaysLent, StaysPlain, StaysSound};
 
 use crate::Device;
 use crate::half::half_count;
@@ -146,6 +146,7 @@ impl<V: Volume> Device<V> {
         ensures sound { StaysSound self.old self.new }
         ensures plain { StaysPlain self.old self.new }
         ensures excused { StaysExcused self.old self.new }
+        ensures lent { StaysLent self.old self.new }
     {
         if self.past.runs_on(path) {
             self.cut_program(path, keep);
@@ -166,6 +167,7 @@ impl<V: Volume> Device<V> {
         ensures sound { StaysSound self.old self.new }
         ensures plain { StaysPlain self.old self.new }
         ensures excused { StaysExcused self.old self.new }
+        ensures lent { StaysLent self.old self.new }
     {
         let mut keep = NoKeep;
         self.reset_with(path, &mut keep)

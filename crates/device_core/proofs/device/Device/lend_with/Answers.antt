@@ -12,6 +12,7 @@ use Rattle.device_store.specs.Looks.{StoreOf}
 use Rattle.device_store.specs.State.{on_a, outside, state_of}
 use Rattle.device_store.proofs.Moves.{from_equal, lands}
 use Rattle.device_core.specs.State.{device_of}
+use Rattle.device_core.proofs.Away.{lend_leaves_plain, lend_loses_none, lend_sound}
 use Rattle.device_core.proofs.Eventful.{quiet_run}
 use Rattle.device_core.proofs.Halves.{none_by}
 use Rattle.device_core.proofs.Lending.{beside, down_alone}
@@ -46,3 +47,18 @@ returns-clause-run g c =
     (ap (λ v. record (outside (g.P.Port.view c.args.port.now) lent k) { a = option_map view (on_a old); b = option_map view v }) b_is)
     (beside (option_map view (on_a old)) (c.end_event.ensures.run k) (ap (option_map view) c.lend-volume.ensures.a)
     (ap (option_map view) (b_is ∙ none_by old.pair.volumes.b c.requires)))) refl)
+
+pub returns-clause-sound : goal.returns-clause-sound
+returns-clause-sound g c k idle =
+    lend_sound c.args.self.now _ c.requires c.args.to _ _ k _ (ap (λ v. v.a) c.end_event.ensures.leaves.volume ∙ c.lend-volume.ensures.a)
+    (returns-clause-run g c k) idle
+
+pub returns-clause-plain : goal.returns-clause-plain
+returns-clause-plain g c k idle =
+    lend_leaves_plain c.args.self.now _ c.requires c.args.to _ _ k _ (ap (λ v. v.a) c.end_event.ensures.leaves.volume ∙ c.lend-volume.ensures.a)
+    (returns-clause-run g c k) idle
+
+pub returns-clause-excused : goal.returns-clause-excused
+returns-clause-excused g c k idle =
+    lend_loses_none c.args.self.now _ c.requires c.args.to _ _ k _ (ap (λ v. v.a) c.end_event.ensures.leaves.volume ∙ c.lend-volume.ensures.a)
+    (returns-clause-run g c k) idle

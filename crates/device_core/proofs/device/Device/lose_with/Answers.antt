@@ -13,6 +13,7 @@ use Rattle.device_core.specs.State.{device_of}
 use Rattle.device_core.proofs.Eventful.{event_run, begun_weight, fits_room}
 use Rattle.device_laws.proofs.counted.EventCounts.{lose_moved}
 use Rattle.device_laws.proofs.counted.Others.{lose_keeps}
+use Rattle.device_core.proofs.Away.{lose_lent_on}
 use Rattle.device_core.proofs.Promising.{lose_excused, lose_sound, lose_stays_plain}
 use Rattle.device_core.proofs.device.Device.lose_with.Goals as goal
 
@@ -50,3 +51,6 @@ returns-clause-plain g c = lose_stays_plain _ _ _ _ _ _ c.args.loss (returns-cla
 
 pub returns-clause-excused : goal.returns-clause-excused
 returns-clause-excused g c = lose_excused _ _ _ _ _ _ c.args.loss (returns-clause-run g c)
+
+pub returns-clause-lent : goal.returns-clause-lent
+returns-clause-lent g c = lose_lent_on _ _ _ _ _ _ c.args.loss (returns-clause-run g c)

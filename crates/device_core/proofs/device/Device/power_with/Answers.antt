@@ -11,6 +11,7 @@ use Rattle.device_core.specs.State.{device_by, device_of}
 use Rattle.device_core.proofs.Eventful.{quiet_run}
 use Rattle.device_core.proofs.Powers.{off_is}
 use Rattle.device_laws.proofs.counted.EventCounts.{power_moved}
+use Rattle.device_core.proofs.Away.{power_lent_on}
 use Rattle.device_core.proofs.Promising.{power_excused, power_sound, power_stays_plain}
 use Rattle.device_core.proofs.device.Device.power_with.Goals as goal
 
@@ -43,3 +44,6 @@ returns-clause-plain g c = power_stays_plain _ _ _ _ _ _ (returns-clause-run g c
 
 pub returns-clause-excused : goal.returns-clause-excused
 returns-clause-excused g c = power_excused _ _ _ _ _ _ (returns-clause-run g c)
+
+pub returns-clause-lent : goal.returns-clause-lent
+returns-clause-lent g c = power_lent_on _ _ _ _ _ _ (returns-clause-run g c)

@@ -3,6 +3,7 @@ use Rattle.device_core.specs.State.{device_of}
 use Rattle.device_core.proofs.Resetting.{asks_nothing, reset_none}
 use Rattle.device_outside.specs.Outside.{no_pool}
 use Rattle.device_laws.proofs.counted.EventCounts.{reset_moved}
+use Rattle.device_core.proofs.Away.{reset_lent_on}
 use Rattle.device_core.proofs.Promising.{reset_excused, reset_sound, reset_stays_plain}
 use Rattle.device_core.proofs.device.Device.reset_with.Goals as goal
 
@@ -50,3 +51,12 @@ returns-clause-plain g c = reset_stays_plain _ _ _ _ _ _ c.args.path (returns-cl
 
 pub returns-clause-excused : goal.returns-clause-excused
 returns-clause-excused g c = reset_excused _ _ _ _ _ _ c.args.path (returns-clause-run g c (no_pool 0))
+
+pub returns-then-runs_on-clause-lent : goal.returns-then-runs_on-clause-lent
+returns-then-runs_on-clause-lent g c = reset_lent_on _ _ _ _ _ _ c.args.path (c.cut_program.ensures.run (no_pool 0))
+
+pub returns-then-has_used-clause-lent : goal.returns-then-has_used-clause-lent
+returns-then-has_used-clause-lent g c = reset_lent_on _ _ _ _ _ _ c.args.path (returns-then-has_used-clause-run g c (no_pool 0))
+
+pub returns-clause-lent : goal.returns-clause-lent
+returns-clause-lent g c = reset_lent_on _ _ _ _ _ _ c.args.path (returns-clause-run g c (no_pool 0))

@@ -5,6 +5,7 @@ use Rattle.device_store.specs.Looks.{StoreOf}
 use Rattle.device_store.specs.State.{state_of}
 use Rattle.device_core.specs.Kept.{chain_of, history_of}
 use Rattle.device_core.specs.State.{device_by}
+use Rattle.device_core.proofs.Away.{restore_comes_plain, restore_loses_none, restore_sound}
 use Rattle.device_core.proofs.Commands.{same_device}
 use Rattle.device_core.proofs.Resetting.{device_with}
 use Rattle.device_core.proofs.device.Device.restore.Goals as goal
@@ -25,3 +26,12 @@ returns-in-Err-clause-same g c =
           (ap (option_map chain_of) c.in-Err.ensures.running)),
       refl,
     )
+
+pub returns-clause-sound : goal.returns-clause-sound
+returns-clause-sound g c tells = restore_sound c.args.self.now _ c.args.volume (returns-clause-device g c) c.restore.ensures.a c.restore.ensures.b tells
+
+pub returns-clause-plain : goal.returns-clause-plain
+returns-clause-plain g c tells = restore_comes_plain c.args.self.now _ c.args.volume (returns-clause-device g c) c.restore.ensures.a c.restore.ensures.b tells
+
+pub returns-clause-excused : goal.returns-clause-excused
+returns-clause-excused g c = restore_loses_none c.args.self.now _ (returns-clause-device g c)
