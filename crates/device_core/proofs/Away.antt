@@ -207,7 +207,7 @@ module _ {V : Type 0} {G : Ghosts V} (d e : core.Device V G) where
     lend_leaves_plain = record { stands = goes; history = λ s. (goes s).follows.stands.plain }
 
     pub lend_loses_none : StandsPlain d → HasLostNone e
-    lend_loses_none s = (goes s).lent.store.lost
+    lend_loses_none s = record { none = (goes s).lent.store.lost }
 
   module _ (v : V) (is : device_of e ≡ restore (device_of d)) (a : on_a e.store ≡ Some v) (b : on_b e.store ≡ on_b d.store)
       (tells : (G.view v).contents ≡ Some (empty_contents (d.store.cylinders * 15))) where
@@ -231,32 +231,33 @@ module _ {V : Type 0} {G : Ghosts V} (d e : core.Device V G) where
     restore_comes_plain = record { stands = comes; history = λ s. beside_plain (device_of e) (told_by e) (comes s) }
 
   pub restore_loses_none : device_of e ≡ restore (device_of d) → StandsLent d → HasLostNone e
-  restore_loses_none is s = λ t. ap (λ (y : DefinedDevice). is_lost y.store t) is ∙ s.lent.store.lost t
+  restore_loses_none is s = record { none = λ t. ap (λ (y : DefinedDevice). is_lost y.store t) is ∙ s.lent.store.lost t }
 
   -- while it is lent
 
   lent_by : (StandsLent d → StandsLent e) → StaysLent d e
-  lent_by f = record { stands = f; history = λ s. (f s).follows.stands.plain; lost = λ s. (f s).lent.store.lost }
+  lent_by f = record { stands = f; history = λ s. (f s).follows.stands.plain; lost = λ s. record { none = (f s).lent.store.lost } }
 
-  module _ {L : Type 0} (old new : PortView) (j k : L) {hears : Hearing Image L} where
+  module _ {L : Type 0} (old new : PortView) (j k : L) where
     across : (IsLentBeside (device_of d) (outside old d.store j) → IsLentBeside (device_of e) (outside new e.store k)) → StaysLent d e
     across f =
         lent_by (λ s. there (λ h t. record { a = t.a; b = t.b; slots = t.slots })
         (f (there (λ h t. record { a = t.a; b = t.b; slots = t.slots }) s)))
 
-    pub background_lent_on : (r : Result Did NoMemory) →
+    pub background_lent_on : {hears : Hearing Image L} (r : Result Did NoMemory) →
         Ran (where_ok r) hears (background contents (device_of d)) (outside old d.store j) (device_of e) (had (λ x. x) r) (outside new e.store k) →
         OnOk r (StaysLent d e)
     background_lent_on (Ok x) run = across (λ s. works (device_of d) s run)
     background_lent_on (Err x) run = tt
 
-    pub lose_lent_on : (loss : Loss) →
+    pub lose_lent_on : {hears : Hearing Image L} (loss : Loss) →
         Ran surely hears (lose contents (device_of d) loss) (outside old d.store j) (device_of e) tt (outside new e.store k) → TakesNoSide loss → StaysLent d e
     lose_lent_on loss run no_side = across (λ s. loses (device_of d) s loss no_side run)
 
-    pub reset_lent_on : (path : ℕ) →
+    pub reset_lent_on : {hears : Hearing Image L} (path : ℕ) →
         Ran surely hears (reset contents (device_of d) path) (outside old d.store j) (device_of e) tt (outside new e.store k) → StaysLent d e
     reset_lent_on path run = across (λ s. resets (device_of d) s path run)
 
-    pub power_lent_on : Ran surely hears (power contents (device_of d)) (outside old d.store j) (device_of e) tt (outside new e.store k) → StaysLent d e
+    pub power_lent_on : {hears : Hearing Image L} →
+        Ran surely hears (power contents (device_of d)) (outside old d.store j) (device_of e) tt (outside new e.store k) → StaysLent d e
     power_lent_on run = across (λ s. loses_power (device_of d) s run)

@@ -153,8 +153,8 @@ module _ {V : Type 0} {G : Ghosts V} where
   abbrev pub StandsLent : Device V G → Type 0
   StandsLent d = IsLentBeside (device_of d) (told_by d)
 
-  abbrev pub HasLostNone : Device V G → Type 0
-  HasLostNone d = (t : ℕ) → is_lost (device_of d).store t ≡ false
+  pub record HasLostNone (d : Device V G) : Type 0 where
+    pub none : (t : ℕ) → is_lost (device_of d).store t ≡ false
 
   pub record LeavesPlain (d e : Device V G) : Type 0 where
     pub stands : StandsPlain d → StandsLent e
