@@ -20,7 +20,6 @@ use Rattle.line_drive.specs.Driven.{
   line_on,
   moved,
   onward,
-  run_on,
   settles_at,
   steps_on,
 }

@@ -26,12 +26,9 @@ use Rattle.point_copy.specs.CopyRun.{IsPlainVolumeAt, copied, copy_run}
 use Rattle.point_copy.specs.Sessions.{IsBegunOver}
 use Rattle.point_copy.proofs.Fronts.{front_is_plain}
 use Rattle.copy_tool.specs.Copying as C
-use Rattle.copy_tool.specs.Copying.{Copied, copying, copying_at, not_begun, unless_refused, volume_of, Gives}
+use Rattle.copy_tool.specs.Copying.{Made, copying, copying_at, not_begun, unless_refused, volume_of, Gives}
 use Rattle.copy_tool.specs.Standing.{IsBegunOf, IsMade}
-use Rattle.copy_tool.proofs.Made.{gives_err}
-
-some_same : {X : Type 0} {x y : X} → Some x ≡ Some y → x ≡ y
-some_same e = cc
+use Rattle.copy_tool.proofs.Made.{gives_err, some_same}
 
 pub record IsThere (run : runs.Subsystem) (d : ℕ) : Type 0 where
   pub mounted : Mounted
@@ -59,7 +56,7 @@ module _ (deck : DeckLines) (d n : ℕ) (m : Mounted) (there : mounted_in (front
   unfolding C.copying
   copying_begun free = ap (copying_at deck d n) there ∙ ap (λ o. unless_refused o (volume_of m (copy_run deck n d))) free
 
-  pub begun_found : (rest : List EventLine) (r : Copied) → begin_fault m.device.store ≡ None → rest ≡ drop n deck.events →
+  pub begun_found : (rest : List EventLine) (r : Made) → begin_fault m.device.store ≡ None → rest ≡ drop n deck.events →
       Gives r (volume_of m (copied (front_of deck n).behind d (map asked_by rest))) → Gives r (copying deck d n)
   begun_found rest r free is found =
       subst (Gives r) (ap (λ (l : List EventLine). volume_of m (copied (front_of deck n).behind d (map asked_by l))) is ∙ sym (copying_begun free)) found
@@ -88,6 +85,6 @@ module _ (deck : DeckLines) (d n : ℕ) (m : Mounted) (there : mounted_in (front
     made.whole,
   )
 
-  pub plain_ok : (r : Copied) → WasRead deck → IfOk r (IsMade m) → IfOk r (λ v. IsPlainVolumeAt deck n d v × IsWhole v)
+  pub plain_ok : (r : Made) → WasRead deck → IfOk r (IsMade m) → IfOk r (λ v. IsPlainVolumeAt deck n d v × IsWhole v)
   plain_ok (Ok v) read made = plain_at v read made
   plain_ok (Err why) read made = tt

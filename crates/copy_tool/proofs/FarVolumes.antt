@@ -29,14 +29,12 @@ use Rattle.remote_copy.specs.Sending.{IsReached, put_all, reached}
 use Rattle.remote_copy.proofs.Puttings.{length_put_all}
 use Rattle.remote_copy.proofs.Reached.{reached_first}
 use Rattle.copy_tool.specs.Mirroring as M
-use Rattle.copy_tool.specs.Copying.{Gives}
-use Rattle.copy_tool.specs.Mirroring.{Mirrored, images_of, mirroring, mirroring_at, sent_before, volume_as}
+use Rattle.copy_tool.specs.Copying.{Made, Gives}
+use Rattle.copy_tool.specs.Mirroring.{images_of, mirroring, mirroring_at, sent_before, volume_as}
 use Rattle.copy_tool.specs.MirrorStanding.{IsFarVolume, failing, firm_at, mirror_course, mirror_from}
 use Rattle.copy_tool.proofs.Firms.{IsOver, firms_so, over_so}
+use Rattle.copy_tool.proofs.Made.{some_same}
 use Rattle.copy_tool.proofs.MirrorBegun.{opened_in}
-
-some_same : {X : Type 0} {x y : X} → Some x ≡ Some y → x ≡ y
-some_same e = cc
 
 pub if_ok : {A E : Type 0} (p q : A → Type 0) (r : Result A E) → ((x : A) → p x → q x) → IfOk r p → IfOk r q
 if_ok p q (Ok x) f so = f x so
@@ -102,7 +100,7 @@ module _ {V L : Type 0} {G : Ghosts V} {H : links.Ghosts L} (x : Mirror V L G H)
   -- so it is answered
   pub found_so : (v : ImageVolume) → v ≡ volume_as is.mounted far → Gives (Ok v) (mirroring deck d n)
   found_so v made =
-      ap (λ (w : ImageVolume). (let r : Mirrored = Ok w in r)) made ∙ sym mirroring_so
+      ap (λ (w : ImageVolume). (let r : Made = Ok w in r)) made ∙ sym mirroring_so
 
 -- What a link has is what the mirror tells
 

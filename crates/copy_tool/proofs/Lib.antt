@@ -11,5 +11,3 @@ pub mod MirrorBegun
 pub mod MirrorStaged
 pub mod FarVolumes
 pub mod LinkVolumes
-pub mod MirrorTelling
-pub mod MirrorComplete

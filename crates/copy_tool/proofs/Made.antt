@@ -44,11 +44,11 @@ use Rattle.point_copy.specs.Copying.{plain_images, tracks_at}
 use Rattle.point_copy.specs.CopyRun.{Copying, copied}
 use Rattle.point_copy.specs.Sessions.{IsBegunOver}
 use Rattle.point_copy.proofs.Images.{copies_are_old}
-use Rattle.copy_tool.specs.declared.uncopied.Uncopied.{Uncopied}
-use Rattle.copy_tool.specs.Copying.{Copied, stopped_by, volume_of, Gives}
+use Rattle.copy_tool.specs.declared.unmade.Unmade.{Unmade}
+use Rattle.copy_tool.specs.Copying.{Made, stopped_by, volume_of, Gives}
 use Rattle.copy_tool.specs.Standing.{IsBegunOf, IsMade}
 
-some_same : {X : Type 0} {x y : X} → Some x ≡ Some y → x ≡ y
+pub some_same : {X : Type 0} {x y : X} → Some x ≡ Some y → x ≡ y
 some_same e = cc
 
 -- The images of a plain volume are a volume of a file
@@ -117,7 +117,7 @@ made_found m v s z made e given =
     ∙ ap (λ (l : List Image). Ok (volume_with m.device.store.geometry m.device.store.cylinders l)) given
     ∙ ap (volume_of m) (sym e)
 
-pub gives_err : (why : Stopped Uncopied) (wanted : Copied) → wanted ≡ Err why → Gives {A = ImageVolume} (Err why) wanted
+pub gives_err : (why : Stopped Unmade) (wanted : Made) → wanted ≡ Err why → Gives {A = ImageVolume} (Err why) wanted
 gives_err NoMemory wanted is = tt
 gives_err (Ended why) wanted is = sym is
 

@@ -20,9 +20,7 @@ use Rattle.remote_copy.specs.declared.mirror.Mirror.{Mirror}
 use Rattle.remote_copy.specs.Linking.{PutCalls}
 use Rattle.remote_copy.specs.Mirroring.{IsMirror, mirror_begun}
 use Rattle.copy_tool.specs.MirrorStanding.{failing, firm_at, mirror_from}
-
-some_same : {X : Type 0} {x y : X} → Some x ≡ Some y → x ≡ y
-some_same e = cc
+use Rattle.copy_tool.proofs.Made.{some_same}
 
 -- A device of a deck that has just been opened
 

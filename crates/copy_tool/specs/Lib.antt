@@ -1,11 +1,7 @@
 pub mod Texts
-pub mod MirrorTexts
 pub mod Copying
 pub mod Mirroring
 pub mod Standing
 pub mod MirrorStanding
-pub mod Written
-pub mod Copy
-pub mod Mirror
+pub mod Making
 pub mod Answers
-pub mod MirrorAnswers

@@ -1,5 +1,5 @@
 -- What a device of a deck has on a far volume after the run, where a put may fail; or why nothing is mirrored.
-use Rattle.std.specs.Prelude.{◌==◌, ◌-◌, ℕ, Bool, false, List, map, take, Option, Some, None, Result, Ok, Err, if◌then◌else◌}
+use Rattle.std.specs.Prelude.{◌==◌, ◌-◌, ℕ, Bool, false, List, map, take, Option, Some, None, Ok, if◌then◌else◌}
 use Rattle.std.specs.List.{list_any}
 use Rattle.ckd_types.specs.declared.geometry.Geometry.{Geometry}
 use Rattle.ckd_types.specs.declared.record.Track.{Track}
@@ -10,22 +10,13 @@ use Rattle.deck_text.specs.DeckLines.{DeckLines}
 use Rattle.track_image.specs.Image.{Image}
 use Rattle.subsystem_defs.specs.Decks.{run_of}
 use Rattle.subsystem_defs.specs.Subsystem.{Mounted, mounted_in}
-use Rattle.line_drive.specs.declared.stage.Stopped.{Stopped}
-use Rattle.line_drive.specs.declared.stage.Stopped.TheVariants as stopped
 use Rattle.volume_file.specs.File.{ImageVolume}
 use Rattle.volume_save.specs.Devices.{is_declared}
 use Rattle.volume_save.specs.Saving.{volume_with}
 use Rattle.firm_laws.specs.FirmWrites.{FirmWrite, firm_writes_of}
 use Rattle.remote_copy.specs.Sending.{put_all}
-use Rattle.copy_tool.specs.declared.unmirrored.Unmirrored.{Unmirrored}
-use Rattle.copy_tool.specs.declared.unmirrored.Unmirrored.TheVariants.{Device, Lends}
-
--- the far volume, or why there is none; or memory was lacking, which no run ends with
-abbrev pub Mirrored : Type 0
-Mirrored = Result ImageVolume (Stopped Unmirrored)
-
-abbrev pub not_mirrored : Unmirrored → Mirrored
-not_mirrored why = Err (stopped.Ended why)
+use Rattle.copy_tool.specs.declared.unmade.Unmade.TheVariants.{Device, Lends}
+use Rattle.copy_tool.specs.Copying.{Made, not_made}
 
 -- a line lends the device of this number, unless it is refused
 abbrev pub lends : ℕ → EventLine → Bool
@@ -48,14 +39,14 @@ abbrev pub far_behind : Mounted → List FirmWrite → ImageVolume
 far_behind m ws = volume_as m (put_all ws (empty_volume m.device.store.cylinders))
 
 -- those of the device's history. A device that isn't there has no far volume
-abbrev pub mirroring_at : ℕ → Option Mounted → Mirrored
+abbrev pub mirroring_at : ℕ → Option Mounted → Made
 mirroring_at n (Some m) = Ok (far_behind m (sent_before n (firm_writes_of m.device)))
-mirroring_at n None = not_mirrored Device
+mirroring_at n None = not_made Device
 
 -- of device d after the run, where the n-th put fails
-unfoldable pub mirroring : DeckLines → ℕ → ℕ → Mirrored
+unfoldable pub mirroring : DeckLines → ℕ → ℕ → Made
 mirroring deck d n = mirroring_at n (mounted_in (run_of deck).behind.mounted d)
 
-abbrev pub mirroring_of : DeckLines → ℕ → ℕ → Mirrored
+abbrev pub mirroring_of : DeckLines → ℕ → ℕ → Made
 mirroring_of deck d n =
-    if is_declared deck d then if list_any (lends d) deck.events then not_mirrored Lends else mirroring deck d n else not_mirrored Device
+    if is_declared deck d then if list_any (lends d) deck.events then not_made Lends else mirroring deck d n else not_made Device

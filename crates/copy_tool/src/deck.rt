@@ -8,11 +8,11 @@ ghost use Rattle.subsystem_defs.specs.Lines.{asked_by};
 ghost use Rattle.subsystem_defs.specs.Subsystem as runs;
 ghost use Rattle.volume_file.specs.File.{IsWhole};
 ghost use Rattle.volume_save.specs.Devices.{is_declared};
-ghost use Rattle.copy_tool.specs.Copying.{copying, copying_of, early_why, not_begun, stopped_by, volume_of, Gives, IsCopied};
+ghost use Rattle.copy_tool.specs.Copying.{copying, copying_of, early_why, not_begun, stopped_by, volume_of, Gives};
 ghost use Rattle.copy_tool.specs.Standing.{IsBegunOf, IsCopying, IsMade};
 
 use crate::copying::{CopyStage, looks};
-use crate::uncopied::Uncopied;
+use crate::unmade::Unmade;
 use ckd_types::{DeviceNo, Geometry, NoMemory};
 use deck_plan::EventLine;
 use deck_run::run_front;
@@ -24,17 +24,17 @@ use std::alloc::Global;
 use volume_file::FileVolume;
 use volume_save::declared;
 
-fn early_why(early: Early) -> Uncopied
+fn early_why(early: Early) -> Unmade
     ensures { result ≡ early_why early }
 {
     match early {
-        Early::Gone => Uncopied::Gone,
-        Early::Lost(t) => Uncopied::Lost(t),
-        Early::Fault(side) => Uncopied::Fault(side),
+        Early::Gone => Unmade::Gone,
+        Early::Lost(t) => Unmade::Lost(t),
+        Early::Fault(side) => Unmade::Fault(side),
     }
 }
 
-fn stopped(why: Stopped<Early>) -> Stopped<Uncopied>
+fn stopped(why: Stopped<Early>) -> Stopped<Unmade>
     ensures { result ≡ stopped_by why }
 {
     match why {
@@ -43,13 +43,13 @@ fn stopped(why: Stopped<Early>) -> Stopped<Uncopied>
     }
 }
 
-fn not_begun(fault: BeginFault) -> Stopped<Uncopied>
+fn not_begun(fault: BeginFault) -> Stopped<Unmade>
     ensures { result ≡ not_begun fault }
 {
     match fault {
-        BeginFault::Lent { .. } => Stopped::Ended(Uncopied::Lent),
-        BeginFault::Half => Stopped::Ended(Uncopied::Half),
-        BeginFault::Loose { track } => Stopped::Ended(Uncopied::Loose(track)),
+        BeginFault::Lent { .. } => Stopped::Ended(Unmade::Lent),
+        BeginFault::Half => Stopped::Ended(Unmade::Half),
+        BeginFault::Loose { track } => Stopped::Ended(Unmade::Loose(track)),
         BeginFault::NoMemory => Stopped::NoMemory,
     }
 }
@@ -78,7 +78,7 @@ fn copy_begun(
     geometry: Geometry,
     cylinders: u8,
     lines: &[EventLine],
-) -> Result<FileVolume, Stopped<Uncopied>>
+) -> Result<FileVolume, Stopped<Unmade>>
     requires least { 1 ≤ cylinders }
     requires most { cylinders ≤ 64 }
     requires lines { are_open_lines (numbers_of session.sub.devices.items) lines.now ≡ true }
@@ -103,7 +103,7 @@ fn copy_device(
     deck: &Deck,
     d: DeviceNo,
     lines: usize,
-) -> Result<FileVolume, Stopped<Uncopied>>
+) -> Result<FileVolume, Stopped<Unmade>>
     requires read { WasRead deck.now }
     requires here { is_declared deck.now d ≡ true }
     requires within { lines ≤ length deck.now.events }
@@ -132,16 +132,16 @@ pub(crate) fn copied(
     deck: &Deck,
     device: u64,
     lines: u64,
-) -> Result<FileVolume, Stopped<Uncopied>>
+) -> Result<FileVolume, Stopped<Unmade>>
     requires { WasRead deck.now }
     ensures found { Gives result (copying_of deck.now device lines) }
-    ensures plain { IfOk result (IsCopied deck.now device lines) }
+    ensures plain { IfOk result (λ v. IsPlainVolumeAt deck.now lines device v × IsWhole v) }
 {
     let Some(d) = declared(deck, device) else {
-        return Err(Stopped::Ended(Uncopied::Device));
+        return Err(Stopped::Ended(Unmade::Device));
     };
     if lines > deck.event_count() as u64 {
-        return Err(Stopped::Ended(Uncopied::Events));
+        return Err(Stopped::Ended(Unmade::Events));
     }
     copy_device(alloc, deck, d, lines as usize)
 }

@@ -11,7 +11,7 @@ ghost use Rattle.copy_tool.specs.MirrorStanding.{IsFarVolume, IsMirrorBegun};
 ghost use Rattle.subsystem_core.specs.Frames.{HasDevice};
 
 use crate::mirroring::MirrorStage;
-use crate::unmirrored::Unmirrored;
+use crate::unmade::Unmade;
 use ckd_types::{DeviceNo, HEADS, NoMemory, TrackNo};
 use deck_plan::EventLine;
 use deck_run::open_deck;
@@ -93,7 +93,7 @@ fn mirror_device(
     deck: &Deck,
     d: DeviceNo,
     put: u32,
-) -> Result<FileVolume, Stopped<Unmirrored>>
+) -> Result<FileVolume, Stopped<Unmade>>
     requires read { WasRead deck.now }
     requires here { is_declared deck.now d ≡ true }
     requires kept { list_any (lends d) deck.now.events ≡ false }
@@ -123,16 +123,16 @@ pub(crate) fn mirrored(
     deck: &Deck,
     device: u64,
     put: u32,
-) -> Result<FileVolume, Stopped<Unmirrored>>
+) -> Result<FileVolume, Stopped<Unmade>>
     requires { WasRead deck.now }
     ensures found { Gives result (mirroring_of deck.now device put) }
     ensures whole { IfOk result (λ v. IsWhole v) }
 {
     let Some(d) = declared(deck, device) else {
-        return Err(Stopped::Ended(Unmirrored::Device));
+        return Err(Stopped::Ended(Unmade::Device));
     };
     if is_lent(deck, d) {
-        return Err(Stopped::Ended(Unmirrored::Lends));
+        return Err(Stopped::Ended(Unmade::Lends));
     }
     mirror_device(alloc, deck, d, put)
 }

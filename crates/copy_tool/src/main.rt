@@ -5,20 +5,16 @@
 mod copying;
 mod deck;
 mod far;
-mod mirror;
 mod mirroring;
 mod task;
 mod top;
-mod uncopied;
-mod unmirrored;
+mod unmade;
 
 use ckd_outside::{StdSink, StdSource};
-use mirror::mirror_top;
 use std::alloc::AllocError;
 use std::env::Args;
 use std::process::ExitCode;
 use std::{env, io};
-use task::{Task, task_of};
 use top::{CopyStatus, code_of, copy_top, words_of};
 
 fn ended(status: CopyStatus) -> ExitCode {
@@ -30,15 +26,7 @@ fn serve(rt: &HostRuntime, arguments: Option<&[&str]>) -> ExitCode {
     let mut source = StdSource::new(rt.reader());
     let mut sink = StdSink::new(io::writer(rt));
     let words = words_of(arguments);
-    match task_of(words) {
-        Some(Task::Mirror { .. }) => {
-            let status = mirror_top(rt.alloc(), words, &mut source, &mut sink);
-            ExitCode::from(mirror::code_of(status))
-        }
-        Some(Task::Copy { .. }) | None => {
-            ended(copy_top(rt.alloc(), words, &mut source, &mut sink))
-        }
-    }
+    ended(copy_top(rt.alloc(), words, &mut source, &mut sink))
 }
 
 /// Runs with the arguments behind the program's name.

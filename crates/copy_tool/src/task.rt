@@ -1,5 +1,5 @@
 ghost use Rattle.std.specs.Prelude.{◌≡◌, map};
-ghost use Rattle.copy_tool.specs.Answers.{copy_of, mirror_of, number_of, task_by, task_of};
+ghost use Rattle.copy_tool.specs.Answers.{number_of, task_by, task_of, task_with};
 
 use report_text::number_in;
 
@@ -24,46 +24,34 @@ fn number_of(word: &str) -> Option<u32>
     }
 }
 
-fn copy_of(device: Option<u32>, lines: Option<u32>) -> Option<Task>
-    ensures { result ≡ copy_of device lines }
-{
-    match device {
-        None => None,
-        Some(device) => match lines {
-            None => None,
-            Some(lines) => Some(Task::Copy {
-                device: u64::from(device),
-                lines: u64::from(lines),
-            }),
-        },
-    }
-}
-
-fn mirror_of(device: Option<u32>, put: Option<u32>) -> Option<Task>
-    ensures { result ≡ mirror_of device put }
-{
-    match device {
-        None => None,
-        Some(device) => match put {
-            None => None,
-            Some(put) => Some(Task::Mirror {
-                device: u64::from(device),
-                put,
-            }),
-        },
-    }
-}
-
-fn task_by(word: &str, device: &str, number: &str) -> Option<Task>
-    ensures { result ≡ task_by word.now device.now number.now }
+fn task_with(word: &str, device: u32, number: u32) -> Option<Task>
+    ensures { result ≡ task_with word.now device number }
 {
     if word.as_bytes() == b"copy".as_slice() {
-        return copy_of(number_of(device), number_of(number));
+        return Some(Task::Copy {
+            device: u64::from(device),
+            lines: u64::from(number),
+        });
     }
     if word.as_bytes() == b"mirror".as_slice() {
-        return mirror_of(number_of(device), number_of(number));
+        return Some(Task::Mirror {
+            device: u64::from(device),
+            put: number,
+        });
     }
     None
+}
+
+fn task_by(word: &str, device: Option<u32>, number: Option<u32>) -> Option<Task>
+    ensures { result ≡ task_by word.now device number }
+{
+    match device {
+        None => None,
+        Some(device) => match number {
+            None => None,
+            Some(number) => task_with(word, device, number),
+        },
+    }
 }
 
 #[tactic(auto, unfolding(crate::specs::Answers::task_of))]
@@ -71,7 +59,7 @@ pub(crate) fn task_of(words: &[&str]) -> Option<Task>
     ensures { result ≡ task_of (map (λ w. w.now) words.now) }
 {
     match words {
-        [word, device, number] => task_by(word, device, number),
+        [word, device, number] => task_by(word, number_of(device), number_of(number)),
         _ => None,
     }
 }

@@ -1,20 +1,19 @@
-ghost use Rattle.std.specs.Prelude.{◌≡◌, ◌≢◌, ◌⊎◌, ◌≤◌, ℕ, IfSome, Some, None, Ok, Err, List, [], map};
-ghost use Rattle.ckd_outside.specs.Causes.{Rose, HasCause};
-ghost use Rattle.ckd_outside.specs.Texts.{Writes};
+ghost use Rattle.std.specs.Prelude.{◌≡◌, ◌≢◌, ◌⊎◌, ℕ, IfOk, IfSome, Some, None, Ok, Err, List, [], map};
+ghost use Rattle.ckd_outside.specs.Causes.{Rose};
 ghost use Rattle.deck_text.specs.DeckLines.{DeckLines};
 ghost use Rattle.deck_text.specs.Parse.{parsed};
 ghost use Rattle.deck_run.specs.Opening.{WasRead};
-ghost use Rattle.volume_file.specs.File.{file_of};
+ghost use Rattle.volume_file.specs.File.{IsWhole, file_of};
 ghost use Rattle.copy_tool.specs.Answers.{Tells, code_of, task_of, usage_text};
-ghost use Rattle.copy_tool.specs.Copy.{TellsCopy, TellsDeck, refused_by, status_for};
-ghost use Rattle.copy_tool.specs.Texts.{uncopied_text};
-ghost use Rattle.copy_tool.specs.Written.{IsWritten};
+ghost use Rattle.copy_tool.specs.Copying.{Gives};
+ghost use Rattle.copy_tool.specs.Making.{IsPlainFor, IsWritten, TellsDeck, TellsTask, made_for, status_for};
+ghost use Rattle.copy_tool.specs.Texts.{unmade_text};
 
 use crate::deck::copied;
+use crate::far::mirrored;
 use crate::task::{Task, task_of};
-use crate::uncopied::{Uncopied, write_uncopied};
-use ckd_outside::{Failed, Piece, ReadError, Sink, Source, read_up_to};
-use ckd_types::{Side, TrackNo};
+use crate::unmade::{Unmade, write_unmade};
+use ckd_outside::{Piece, ReadError, Sink, Source, read_up_to};
 use deck_text::{
     Deck, DeckFault, DeckWhy, Which, read_deck, write_limit, write_line, write_refused,
 };
@@ -23,7 +22,7 @@ use std::alloc::Global;
 use volume_file::{FileVolume, save};
 
 /// One byte more than a deck may have.
-pub(crate) const MOST_READ: usize = 16_777_217;
+const MOST_READ: usize = 16_777_217;
 
 /// How the program ends.
 #[derive(Clone, Copy, Debug, PartialEq, Eq)]
@@ -40,24 +39,10 @@ pub enum CopyStatus {
     Limit(Which),
     /// Memory is wanting, and nothing was written.
     NoMemory,
-    /// The words name no copy, and the usage was written.
+    /// The words name no task, and the usage was written.
     Usage,
-    /// The deck has no device of that number, which was written.
-    Device,
-    /// It has fewer event lines, which was written.
-    Events,
-    /// The device is lent after these lines, which was written.
-    Lent,
-    /// A half write is open on it then, which was written.
-    Half,
-    /// This is its least loose track then, which was written.
-    Loose(TrackNo),
-    /// It was lent before its last track was copied, which was written.
-    Gone,
-    /// This track was lost before it was copied, which was written.
-    Lost(TrackNo),
-    /// This side failed as a track was to be copied, and no other side gave it, which was written.
-    Fault(Side),
+    /// No file is made for this reason, which was written.
+    NotMade(Unmade),
 }
 
 /// The exit status of the program.
@@ -72,14 +57,7 @@ pub fn code_of(status: CopyStatus) -> u8
         CopyStatus::Limit(_) => 4,
         CopyStatus::NoMemory => 5,
         CopyStatus::Usage => 6,
-        CopyStatus::Device
-        | CopyStatus::Events
-        | CopyStatus::Lent
-        | CopyStatus::Half
-        | CopyStatus::Loose(_)
-        | CopyStatus::Gone
-        | CopyStatus::Lost(_)
-        | CopyStatus::Fault(_) => 7,
+        CopyStatus::NotMade(_) => 7,
     }
 }
 
@@ -94,56 +72,31 @@ pub fn words_of<'a>(arguments: Option<&'a [&'a str]>) -> &'a [&'a str]
     }
 }
 
-/// Writes which words there are.
+/// Tells which words there are.
 #[tactic(auto, unfolding(crate::specs::Answers::usage_text))]
-pub(crate) fn write_usage<K: Sink>(sink: &mut K) -> Result<(), Failed>
-    ensures bytes { Writes (K.held sink.old) (K.held sink.new) result usage_text }
-    ensures cause { HasCause (K.faults sink.old) (K.faults sink.new) result }
-{
-    write_line(sink, &[Piece::Text(b"usage: copy D N, mirror D N\n")])
-}
-
 fn usage<K: Sink>(sink: &mut K) -> CopyStatus
     ensures told { IsWritten result CopyStatus.Usage (K.held sink.old) (K.held sink.new) usage_text }
-    ensures later { K.faults sink.old ≤ K.faults sink.new }
     ensures write { result ≡ CopyStatus.WriteFault → Rose (K.faults sink.old) (K.faults sink.new) }
 {
-    match write_usage(sink) {
+    match write_line(sink, &[Piece::Text(b"usage: copy D N, mirror D N\n")]) {
         Ok(()) => CopyStatus::Usage,
         Err(_) => CopyStatus::WriteFault,
     }
 }
 
-fn refused_by(why: Uncopied) -> CopyStatus
-    ensures { result ≡ refused_by why }
-{
-    match why {
-        Uncopied::Device => CopyStatus::Device,
-        Uncopied::Events => CopyStatus::Events,
-        Uncopied::Lent => CopyStatus::Lent,
-        Uncopied::Half => CopyStatus::Half,
-        Uncopied::Loose(t) => CopyStatus::Loose(t),
-        Uncopied::Gone => CopyStatus::Gone,
-        Uncopied::Lost(t) => CopyStatus::Lost(t),
-        Uncopied::Fault(side) => CopyStatus::Fault(side),
-    }
-}
-
-/// Tells why no copy is made.
-fn refuse<K: Sink>(sink: &mut K, why: Uncopied) -> CopyStatus
-    ensures told { IsWritten result (refused_by why) (K.held sink.old) (K.held sink.new) (uncopied_text why) }
-    ensures later { K.faults sink.old ≤ K.faults sink.new }
+/// Tells why no file is made.
+fn refuse<K: Sink>(sink: &mut K, task: Task, why: Unmade) -> CopyStatus
+    ensures told { IsWritten result (CopyStatus.NotMade why) (K.held sink.old) (K.held sink.new) (unmade_text task why) }
     ensures write { result ≡ CopyStatus.WriteFault → Rose (K.faults sink.old) (K.faults sink.new) }
 {
-    match write_uncopied(sink, &why) {
-        Ok(()) => refused_by(why),
+    match write_unmade(sink, task, &why) {
+        Ok(()) => CopyStatus::NotMade(why),
         Err(_) => CopyStatus::WriteFault,
     }
 }
 
 fn write<K: Sink>(sink: &mut K, volume: &FileVolume) -> CopyStatus
     ensures told { IsWritten result CopyStatus.Done (K.held sink.old) (K.held sink.new) (file_of volume.now) }
-    ensures later { K.faults sink.old ≤ K.faults sink.new }
     ensures write { result ≡ CopyStatus.WriteFault → Rose (K.faults sink.old) (K.faults sink.new) }
 {
     match save(volume, sink) {
@@ -152,28 +105,32 @@ fn write<K: Sink>(sink: &mut K, volume: &FileVolume) -> CopyStatus
     }
 }
 
-fn copy_deck<K: Sink>(
-    alloc: Global,
-    deck: &Deck,
-    device: u64,
-    lines: u64,
-    sink: &mut K,
-) -> CopyStatus
+/// The volume that is asked for of a deck; or the first reason why there is none.
+fn made(alloc: Global, deck: &Deck, task: Task) -> Result<FileVolume, Stopped<Unmade>>
     requires { WasRead deck.now }
-    ensures told { TellsDeck result device lines (Ok deck.now) (K.held sink.old) (K.held sink.new) }
-    ensures later { K.faults sink.old ≤ K.faults sink.new }
+    ensures found { Gives result (made_for deck.now task) }
+    ensures plain { IfOk result (λ v. IsPlainFor deck.now task v × IsWhole v) }
+{
+    match task {
+        Task::Copy { device, lines } => copied(alloc, deck, device, lines),
+        Task::Mirror { device, put } => mirrored(alloc, deck, device, put),
+    }
+}
+
+fn serve_deck<K: Sink>(alloc: Global, deck: &Deck, task: Task, sink: &mut K) -> CopyStatus
+    requires { WasRead deck.now }
+    ensures told { TellsDeck result task (Ok deck.now) (K.held sink.old) (K.held sink.new) }
     ensures write { result ≡ CopyStatus.WriteFault → Rose (K.faults sink.old) (K.faults sink.new) }
 {
-    match copied(alloc, deck, device, lines) {
+    match made(alloc, deck, task) {
         Ok(volume) => write(sink, &volume),
-        Err(Stopped::Ended(why)) => refuse(sink, why),
+        Err(Stopped::Ended(why)) => refuse(sink, task, why),
         Err(Stopped::NoMemory) => CopyStatus::NoMemory,
     }
 }
 
 fn deck_refused<K: Sink>(sink: &mut K, line: u32, why: DeckWhy) -> CopyStatus
-    ensures told { (d n : ℕ) → TellsDeck result d n (Err (DeckFault.Refused line why)) (K.held sink.old) (K.held sink.new) }
-    ensures later { K.faults sink.old ≤ K.faults sink.new }
+    ensures told { (task : Task) → TellsDeck result task (Err (DeckFault.Refused line why)) (K.held sink.old) (K.held sink.new) }
     ensures write { result ≡ CopyStatus.WriteFault → Rose (K.faults sink.old) (K.faults sink.new) }
 {
     match write_refused(sink, line, why) {
@@ -183,8 +140,7 @@ fn deck_refused<K: Sink>(sink: &mut K, line: u32, why: DeckWhy) -> CopyStatus
 }
 
 fn limit<K: Sink>(sink: &mut K, which: Which) -> CopyStatus
-    ensures told { (d n : ℕ) → TellsDeck result d n (Err (DeckFault.Limit which)) (K.held sink.old) (K.held sink.new) }
-    ensures later { K.faults sink.old ≤ K.faults sink.new }
+    ensures told { (task : Task) → TellsDeck result task (Err (DeckFault.Limit which)) (K.held sink.old) (K.held sink.new) }
     ensures write { result ≡ CopyStatus.WriteFault → Rose (K.faults sink.old) (K.faults sink.new) }
 {
     match write_limit(sink, which) {
@@ -193,33 +149,31 @@ fn limit<K: Sink>(sink: &mut K, which: Which) -> CopyStatus
     }
 }
 
-fn answer<K: Sink>(alloc: Global, text: &[u8], device: u64, lines: u64, sink: &mut K) -> CopyStatus
-    ensures told { TellsDeck result device lines (parsed text.now) (K.held sink.old) (K.held sink.new) }
-    ensures later { K.faults sink.old ≤ K.faults sink.new }
+fn answer<K: Sink>(alloc: Global, text: &[u8], task: Task, sink: &mut K) -> CopyStatus
+    ensures told { TellsDeck result task (parsed text.now) (K.held sink.old) (K.held sink.new) }
     ensures write { result ≡ CopyStatus.WriteFault → Rose (K.faults sink.old) (K.faults sink.new) }
 {
     match read_deck(alloc, text) {
-        Ok(deck) => copy_deck(alloc, &deck, device, lines, sink),
+        Ok(deck) => serve_deck(alloc, &deck, task, sink),
         Err(DeckFault::Refused { line, why }) => deck_refused(sink, line, why),
         Err(DeckFault::Limit(which)) => limit(sink, which),
         Err(DeckFault::NoMemory) => CopyStatus::NoMemory,
     }
 }
 
-fn serve_copy<S: Source, K: Sink>(
+fn serve_task<S: Source, K: Sink>(
     alloc: Global,
-    device: u64,
-    lines: u64,
+    task: Task,
     source: &mut S,
     sink: &mut K,
 ) -> CopyStatus
-    ensures told { TellsCopy result device lines (S.left source.old) (S.left source.new) (K.held sink.old) (K.held sink.new) }
+    ensures told { TellsTask result task (S.left source.old) (S.left source.new) (K.held sink.old) (K.held sink.new) }
     ensures read { result ≡ CopyStatus.ReadFault → Rose (S.faults source.old) (S.faults source.new) }
     ensures calm { result ≢ CopyStatus.ReadFault → S.faults source.new ≡ S.faults source.old }
     ensures write { result ≡ CopyStatus.WriteFault → Rose (K.faults sink.old) (K.faults sink.new) }
 {
     match read_up_to(alloc, source, MOST_READ) {
-        Ok(text) => answer(alloc, &text, device, lines, sink),
+        Ok(text) => answer(alloc, &text, task, sink),
         Err(ReadError::Failed) => CopyStatus::ReadFault,
         Err(ReadError::NoMemory) => CopyStatus::NoMemory,
     }
@@ -238,14 +192,17 @@ fn serve<S: Source, K: Sink>(
     ensures write { result ≡ CopyStatus.WriteFault → Rose (K.faults sink.old) (K.faults sink.new) }
 {
     match task_of(words) {
-        Some(Task::Copy { device, lines }) => serve_copy(alloc, device, lines, source, sink),
-        Some(Task::Mirror { .. }) | None => usage(sink),
+        Some(task) => serve_task(alloc, task, source, sink),
+        None => usage(sink),
     }
 }
 
-/// Does what the words of a copy ask for, over a source and a sink. `copy D N` reads a deck, does its first N event lines, and writes the file
-/// of its device D as it is then. The tracks are copied one by one in rising order, each behind an event of the other lines, and the
-/// rest after the last one; nothing is written before the last track is copied. A read fault is answered exactly where a read failed.
+/// Does what the words ask for, over a source and a sink: reads a deck, and writes the file of a volume. `copy D N` does the first N
+/// event lines, and writes its device D as it is then. The tracks are copied one by one in rising order, each behind an event of the
+/// other lines, and the rest after the last one; nothing is written before the last track is copied. `mirror D N` runs the deck, and
+/// puts each track of its device D that becomes firm on a far volume, which is empty at first, in the event in which it does. The N-th
+/// put fails, none where N is 0, and nothing is put from then on. Then the far volume is written, whatever became of the puts. A read
+/// fault is answered exactly where a read failed.
 pub fn copy_top<S: Source, K: Sink>(
     alloc: Global,
     words: &[&str],
@@ -258,11 +215,11 @@ pub fn copy_top<S: Source, K: Sink>(
     ensures calm { result ≢ CopyStatus.ReadFault → S.faults source.new ≡ S.faults source.old }
     ensures write { result ≡ CopyStatus.WriteFault → Rose (K.faults sink.old) (K.faults sink.new) }
 
-    // Of every deck the file is written, or the reason why not that the defined copy has.
-    ensures complete { (text : List ℕ) (deck : DeckLines) (d n : ℕ) → S.left source.old ≡ Some text
-        → task_of (map (λ w. w.now) words.now) ≡ Some (Task.Copy d n) → parsed text ≡ Ok deck
+    // Of every deck the file is written, or the reason why not that the defined copy or mirror has.
+    ensures complete { (text : List ℕ) (deck : DeckLines) (task : Task) → S.left source.old ≡ Some text
+        → task_of (map (λ w. w.now) words.now) ≡ Some task → parsed text ≡ Ok deck
         → ¬ Rose (S.faults source.old) (S.faults source.new) → ¬ Rose (K.faults sink.old) (K.faults sink.new)
-        → (result ≡ status_for deck d n) ⊎ (result ≡ CopyStatus.NoMemory) }
+        → (result ≡ status_for deck task) ⊎ (result ≡ CopyStatus.NoMemory) }
 {
     serve(alloc, words, source, sink)
 }

@@ -1,6 +1,6 @@
 use Rattle.std.proofs.Common.{◌∙◌}
 use Rattle.copy_tool.specs.Texts.{track_text}
-use Rattle.copy_tool.proofs.uncopied.write_track.Goals as goal
+use Rattle.copy_tool.proofs.unmade.write_track.Goals as goal
 
 pub returns-clause-bytes : goal.returns-clause-bytes
 unfolding track_text
