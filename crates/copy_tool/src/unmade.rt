@@ -75,7 +75,7 @@ fn track_of(why: &Unmade) -> Option<TrackNo>
 }
 
 #[tactic(auto, unfolding(crate::specs::Texts::word_text))]
-fn write_word<K: Sink>(sink: &mut K, front: &[u8], word: &[u8]) -> Result<(), Failed>
+fn write_word<'w, K: Sink>(sink: &mut K, front: &'w [u8], word: &'w [u8]) -> Result<(), Failed>
     ensures bytes { Writes (K.held sink.old) (K.held sink.new) result (word_text front.now word.now) }
     ensures cause { HasCause (K.faults sink.old) (K.faults sink.new) result }
 {
@@ -84,7 +84,12 @@ fn write_word<K: Sink>(sink: &mut K, front: &[u8], word: &[u8]) -> Result<(), Fa
 }
 
 #[tactic(auto, unfolding(crate::specs::Texts::track_text))]
-fn write_track<K: Sink>(sink: &mut K, front: &[u8], word: &[u8], t: TrackNo) -> Result<(), Failed>
+fn write_track<'w, K: Sink>(
+    sink: &mut K,
+    front: &'w [u8],
+    word: &'w [u8],
+    t: TrackNo,
+) -> Result<(), Failed>
     ensures bytes { Writes (K.held sink.old) (K.held sink.new) result (track_text front.now word.now t) }
     ensures cause { HasCause (K.faults sink.old) (K.faults sink.new) result }
 {
