@@ -8,7 +8,7 @@ use Rattle.deck_text.specs.declared.line.DeviceLine.{DeviceLine}
 use Rattle.deck_text.specs.DeckLines.{DeckLines}
 use Rattle.device_outside.specs.declared.volume.Volume.{Ghosts}
 use Rattle.device_core.specs.declared.device.Device.{Device}
-use Rattle.device_core.specs.Kept.{open_of}
+use Rattle.device_core.specs.State.{device_of}
 use Rattle.subsystem_core.specs.declared.subsystem.Subsystem.{Subsystem}
 use Rattle.subsystem_core.specs.Devices.{device_at}
 use Rattle.subsystem_defs.specs.Decks.{opened, opened_device}
@@ -39,10 +39,6 @@ opened_in deck [] d m at = absurd (cc)
 opened_in deck (x ∷ ds) d m at =
     opened_if deck x (x.number == d) (mounted_in (map (opened_device deck) ds) d) m (λ so. opened_in deck ds d m so) at
 
-none_of : {A B : Type 0} (f : A → B) (o : Option A) → option_map f o ≡ None → o ≡ None
-none_of f None e = refl
-none_of f (Some x) e = absurd (cc)
-
 pub if_there : {X : Type 0} (p : X → Type 0) (o : Option X) (x : X) → o ≡ Some x → p x → IfSome o p
 if_there p o x at so = subst (λ q. IfSome q p) (sym at) so
 
@@ -51,11 +47,11 @@ module _ {V : Type 0} {G : Ghosts V} where
   pub record IsNew (deck : DeckLines) (d : ℕ) (x : Device V G) : Type 0 where
     pub mounted : Mounted
     pub there : mounted_in (opened deck).mounted d ≡ Some mounted
-    pub home : x.store.pair.lent ≡ None
-    pub items : x.past.items.items ≡ []
-    pub running : x.past.running ≡ None
-    pub cylinders : mounted.device.store.cylinders ≡ x.store.cylinders
-    pub firm : mounted.device.store.firm ≡ empty_volume x.store.cylinders
+    pub home : (device_of x).store.lent ≡ None
+    pub items : (device_of x).history.items ≡ []
+    pub running : (device_of x).history.running ≡ None
+    pub cylinders : mounted.device.store.cylinders ≡ (device_of x).store.cylinders
+    pub firm : mounted.device.store.firm ≡ empty_volume (device_of x).store.cylinders
 
   pub is_new : (sub : Subsystem V G) (deck : DeckLines) (d : ℕ) (x : Device V G) → StandsAs sub (opened deck) →
       device_at sub.devices.items d ≡ Some x → IsNew deck d x
@@ -67,7 +63,7 @@ module _ {V : Type 0} {G : Ghosts V} where
         there = k.there;
         home = sym k.is.lent ∙ o.lent;
         items = ap (λ (h : History). h.items) (sym k.is.history ∙ o.history);
-        running = none_of open_of x.past.running (ap (λ (h : History). h.running) (sym k.is.history ∙ o.history));
+        running = ap (λ (h : History). h.running) (sym k.is.history ∙ o.history);
         cylinders = k.is.cylinders;
         firm = o.firm ∙ ap empty_volume k.is.cylinders;
       }

@@ -7,6 +7,7 @@ use Rattle.track_image.specs.Image.{Image}
 use Rattle.device_outside.specs.declared.volume.Volume.{Ghosts}
 use Rattle.device_core.specs.declared.device.Device.{Device}
 use Rattle.device_defs.specs.Store.{tracks_of}
+use Rattle.device_core.specs.State.{device_of}
 use Rattle.subsystem_core.specs.Devices.{device_at}
 use Rattle.subsystem_defs.specs.Subsystem as runs
 use Rattle.subsystem_defs.specs.Subsystem.{Mounted}
@@ -24,7 +25,7 @@ pub record IsCopying (x : CopyStage) (c : Copying) : Type 0 where
   pub images : x.images.items ≡ c.images
 
 abbrev pub cylinders_of : {V : Type 0} {G : Ghosts V} → Option (Device V G) → ℕ
-cylinders_of (Some x) = x.store.cylinders
+cylinders_of (Some x) = (device_of x).store.cylinders
 cylinders_of None = 0
 
 abbrev pub cylinders_at : CopyStage → ℕ → ℕ

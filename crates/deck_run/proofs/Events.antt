@@ -38,7 +38,7 @@ use Rattle.plain_defs.specs.declared.journal.Act.{Act}
 use Rattle.device_core.specs.declared.device.Device.{Device}
 use Rattle.device_core.specs.declared.past.Running.{Running}
 use Rattle.device_core.specs.Kept.{open_of, chain_of}
-use Rattle.device_core.specs.State.{DefinedDevice, device_of}
+use Rattle.device_core.specs.State.{DefinedDevice, device_of, last_end}
 use Rattle.frame_pool.specs.Shared.{shared_view}
 use Rattle.subsystem_defs.specs.declared.end.EventEnd as ends
 use Rattle.subsystem_defs.specs.declared.end.EventEnd.TheVariants as answers
@@ -326,7 +326,7 @@ module _ {V : Type 0} {G : Ghosts V} where
     pub stands : device_at new.devices.items n ≡ Some behind
     pub put : new.devices.items ≡ put_at old.devices.items n behind
     pub end : ends.EventEnd
-    pub seen : end_seen behind.past a ≡ Some end
+    pub seen : end_seen (last_end behind) a ≡ Some end
     pub comes : laws.CameBy hears d old.pool.pool (all_stood old.devices.items) end new.pool.pool (all_stood new.devices.items)
     pub own : AllOwn new.devices.items
     pub sides : all_sides new.devices.items ≡ all_sides old.devices.items
@@ -345,7 +345,7 @@ module _ {V : Type 0} {G : Ghosts V} where
       stands = ap (λ (l : List (Device V G)). device_at l n) came.1.1 ∙ at;
       put = came.1.1 ∙ sym (put_same old.devices.items n x at);
       end = end;
-      seen = came.0 x.past;
+      seen = came.0 (last_end x);
       comes = (refl, ap (λ s. s.pool) came.1.0, ap all_stood came.1.1);
       own = subst AllOwn (sym came.1.1) own;
       sides = ap (λ (l : List (Device V G)). all_sides l) came.1.1;
@@ -359,7 +359,7 @@ module _ {V : Type 0} {G : Ghosts V} where
           stands = put_there ch.behind ch.stands;
           put = ch.stands;
           end = end;
-          seen = came.0 ch.behind.past;
+          seen = came.0 (last_end ch.behind);
           comes = (
             refl,
             ap (λ s. s.pool) came.1,
@@ -390,9 +390,9 @@ module _ {V : Type 0} {G : Ghosts V} where
         let ch = subst (λ (m : ℕ). Rattle.subsystem_core.specs.Comes.Changes m (Rattle.subsystem_core.specs.Comes.AskedBy talk old (Some a) new)
         old.devices.items new.devices.items) good.0 came in
         let k : NoKeep = record {} in
-        let left : KeptOwn (device_of x) (device_of ch.behind) × Brings e (device_of x) (device_of ch.behind) (end_seen ch.behind.past a) =
+        let left : KeptOwn (device_of x) (device_of ch.behind) × Brings e (device_of x) (device_of ch.behind) (end_seen (last_end ch.behind) a) =
         ran_so (λ y o. KeptOwn (device_of x) y × Brings e (device_of x) y o) (ch.is_so k) good.1 in
-        let f = ending e (device_of x) (device_of ch.behind) (end_seen ch.behind.past a) left.1 in
+        let f = ending e (device_of x) (device_of ch.behind) (end_seen (last_end ch.behind) a) left.1 in
         record {
           behind = ch.behind;
           stands = put_there ch.behind ch.stands;
@@ -472,13 +472,13 @@ module _ {V : Type 0} {G : Ghosts V} where
 
     pub shows_end : ShowsEnd new n a
     shows_end =
-        subst (λ (o : Option (Device V G)). IfSome o (λ y. IsSome (end_seen y.past a))) (sym so.stands) (subst IsSome (sym so.seen) refl)
+        subst (λ (o : Option (Device V G)). IfSome o (λ y. IsSome (end_seen (last_end y) a))) (sym so.stands) (subst IsSome (sym so.seen) refl)
 
     pub happens_so : (run : runs.Subsystem) → ChainsStand old.devices.items → StandsAs old run →
         SeesEnd new n a (happens run e).end × StandsAs new (happens run e).behind
     happens_so run stand all =
         let h = event_happens e n (has_one old.devices.items n here).device old new a run so own.each stand all in (
-          subst (λ (o : Option (Device V G)). IfSome o (λ y. end_seen y.past a ≡ Some (happens run e).end)) (sym so.stands)
+          subst (λ (o : Option (Device V G)). IfSome o (λ y. end_seen (last_end y) a ≡ Some (happens run e).end)) (sym so.stands)
               (so.seen ∙ ap Some (sym h.0)),
           h.1,
         )

@@ -51,7 +51,7 @@ head_same m n ms ns e = cc
 rest_same : (m n : ℕ) (ms ns : List ℕ) → m ∷ ms ≡ n ∷ ns → ms ≡ ns
 rest_same m n ms ns e = cc
 
-runs_on : (n : ℕ) (g : Geometry) (r : Option Running) → IfSome r (λ r. IsAtWord n r.chain) → IfSome r (λ r. IsChain r.chain) →
+runs_on : (n : ℕ) (g : Geometry) (r : Option Running) → IfSome r (λ r. IsAtWord n r.chain) → IfSome (option_map chain_of r) IsChain →
     IfSome (option_map chain_of r) (λ (c : ChainState). (c.fixed.geometry ≡ g) × GivesAll c.ccws) →
     (chain : ChainState) → option_map chain_of r ≡ Some chain → RunsOn n g chain
 runs_on n g None word stands own chain is = absurd (cc)
@@ -141,12 +141,12 @@ module _ {V : Type 0} {G : Ghosts V} where
   chains_are (x ∷ xs) own stand =
       (runs_on x.store.cylinders x.store.geometry x.past.running x.at_word stand.0 own.0.chain, chains_are xs own.1 stand.1)
 
-  stand_append : (xs : List (Device V G)) (x : Device V G) → ChainsStand xs → IfSome x.past.running (λ r. IsChain r.chain) → ChainsStand (xs ++ x ∷ [])
+  stand_append : (xs : List (Device V G)) (x : Device V G) → ChainsStand xs → IfSome (device_of x).chain IsChain → ChainsStand (xs ++ x ∷ [])
   stand_append [] x all is = (is, tt)
   stand_append (y ∷ xs) x all is = (all.0, stand_append xs x all.1 is)
 
   pub stand_more : (xs : List (Device V G)) (i : ℕ) (x : Device V G) → i < length xs → x ≡ get_or xs i x → ChainsStand (take i xs) →
-      IfSome x.past.running (λ r. IsChain r.chain) → ChainsStand (take (i + 1) xs)
+      IfSome (device_of x).chain IsChain → ChainsStand (take (i + 1) xs)
   stand_more xs i x within is all stands =
       subst ChainsStand (sym (take_more xs i x within ∙ ap (λ (y : Device V G). take i xs ++ y ∷ []) (sym is))) (stand_append (take i xs) x all stands)
 

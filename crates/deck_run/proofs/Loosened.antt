@@ -1,10 +1,6 @@
--- Items that came, one on; and how many tracks are loose.
-use Rattle.std.proofs.Common.{◌≡◌, ◌<◌, ◌≤◌, ◌+◌, ◌∙◌, arith, ℕ, zero, suc, Bool, false, List, [], ◌∷◌, length, drop, get_or, cond, true, refl, ap, sym}
-use Rattle.std.specs.Prelude.{if◌then◌else◌, count_by, slice_index_or}
+-- Items that came, one on.
+use Rattle.std.proofs.Common.{◌≡◌, ◌<◌, ◌≤◌, ◌+◌, ◌∙◌, ℕ, false, List, length, drop, get_or, cond, true, ap, sym}
 use Rattle.std.proofs.lemmas.List.{at_drop_more, at_drop_all}
-use Rattle.std.proofs.lemmas.List.Sums.{sum_by-cons}
-use Rattle.track_table.specs.Tracks as tracks
-use Rattle.track_table.specs.Tracks.{count_below}
 use Rattle.plain_defs.specs.declared.journal.Item.{Item}
 use Rattle.subsystem_defs.specs.Beside.{has_power, is_power}
 
@@ -15,30 +11,3 @@ module _ (xs : List Item) (i : ℕ) (x : Item) (inside : i < length xs) (is : x 
 
 pub power_none : (xs : List Item) (i : ℕ) → length xs ≤ i → has_power (drop i xs) ≡ false
 power_none xs i past = at_drop_all has_power xs i past
-
--- Marks that are set
-
-sum_moved : (x a b c : ℕ) → x ≡ a + b → x + c ≡ a + (b + c)
-sum_moved x a b c is = omega (arith, is)
-
-no_more : (a : ℕ) → 0 + a ≡ a + 0
-no_more a = omega arith
-
-below_front : (n : ℕ) (f : ℕ → Bool) → count_below (suc n) f ≡ (if f 0 then 1 else 0) + count_below n (λ t. f (suc t))
-unfolding tracks.count_below
-below_front zero f = no_more (if f 0 then 1 else 0)
-below_front (suc n) f =
-    sum_moved (count_below (suc n) f) (if f 0 then 1 else 0) (count_below n (λ t. f (suc t))) (if f (suc n) then 1 else 0) (below_front n f)
-
-below_none : (n : ℕ) → count_below n (λ t. slice_index_or [] t false) ≡ 0
-unfolding tracks.count_below
-below_none zero = refl
-below_none (suc n) = ap (λ (k : ℕ). k + 0) (below_none n)
-
-pub count_all : (l : List Bool) (n : ℕ) → length l ≤ n → count_below n (λ t. slice_index_or l t false) ≡ count_by (λ (b : Bool). b) l
-count_all [] n few = below_none n
-count_all (x ∷ l) zero few = absurd (omega (arith, few))
-count_all (x ∷ l) (suc n) few =
-    below_front n (λ t. slice_index_or (x ∷ l) t false)
-    ∙ ap (λ (k : ℕ). (if x then 1 else 0) + k) (count_all l n (omega (arith, few)))
-    ∙ sym (sum_by-cons (λ (b : Bool). cond b 1 0) x l)

@@ -1,11 +1,13 @@
 -- What passed at an event, by what it tells.
-use Rattle.std.proofs.Common.{◌≡◌, ◌∙◌, ℕ, List, Some, sym, ap, subst}
-use Rattle.std.specs.Prelude.{length}
+use Rattle.std.proofs.Common.{◌≡◌, ◌∙◌, ℕ, List, Option, Some, None, refl, sym, ap, subst}
+use Rattle.std.specs.Prelude.{length, option_map}
 use Rattle.plain_defs.specs.declared.journal.Act.{Act}
+use Rattle.plain_defs.specs.History.{OpenEntry}
 use Rattle.device_outside.specs.declared.volume.Volume.{Ghosts}
 use Rattle.device_core.specs.declared.device.Device.{Device}
-use Rattle.device_core.specs.State.{device_of, history_of}
+use Rattle.device_core.specs.State.{device_of, history_of, last_end}
 use Rattle.report_text.specs.declared.event.Loosed.{Loosed}
+use Rattle.run_report.specs.Events.{running_program}
 use Rattle.run_report.specs.OneDevice.{lines_by}
 use Rattle.subsystem_core.specs.declared.subsystem.Subsystem.{Subsystem}
 use Rattle.subsystem_core.specs.Devices.{device_at}
@@ -17,13 +19,19 @@ use Rattle.deck_run.specs.declared.pass.Passed.{Passed}
 use Rattle.deck_run.specs.Counting.{more_calls}
 use Rattle.deck_run.specs.Passing.{HasPassed}
 use Rattle.deck_run.specs.Loosening.{all_loosed, is_quiet}
-use Rattle.deck_run.specs.Recording.{IsTold, loosed_between, running_of}
+use Rattle.deck_run.specs.Recording.{IsTold, loosed_between, program_from, running_of}
 use Rattle.deck_run.specs.Seen.{SeesEnd, acts_seen}
 use Rattle.deck_run.specs.Standing.{StandsAs}
 use Rattle.deck_run.proofs.Seen.{acts_are, sees_at}
 
 some_same : {X : Type 0} {x y : X} → Some x ≡ Some y → x ≡ y
 some_same e = cc
+
+-- the program that runs, told as its path and its ordinal
+pub program_told : (o : Option OpenEntry) →
+    option_map program_from (option_map (λ (e : OpenEntry). (e.path, e.ordinal)) o) ≡ option_map running_program o
+program_told None = refl
+program_told (Some e) = refl
 
 module _ {V : Type 0} {G : Ghosts V} where
   pub passed_so : (old new : Subsystem V G) (e : Event) (d : ℕ) (run : runs.Subsystem) (x y : Device V G) (p : Passed) (loose : ℕ) →
@@ -51,7 +59,7 @@ module _ {V : Type 0} {G : Ghosts V} where
             ∙ ap (λ (n : ℕ). all_loosed d n number (acts_seen (is_quiet e) p.end (device_of z)) (has_power (behind_first p.items z.past.items.items)))
             counted
             ∙ ap (λ (l : List Act). all_loosed d (loose_count (device_of x).store) number l (has_power (behind_first p.items z.past.items.items)))
-            (acts_are z.past (happens run e).end (is_quiet e) p.end (device_of z) (sees_at new d p.end (happens run e).end z there ended))
+            (acts_are (last_end z) (happens run e).end (is_quiet e) p.end (device_of z) (sees_at new d p.end (happens run e).end z there ended))
             ∙ ap (λ (l : List Act). all_loosed d (loose_count (device_of x).store) number l (has_power (behind_first p.items z.past.items.items)))
             (sym (told x z at there).acts)
             ∙ ap (λ (n : ℕ). all_loosed d (loose_count (device_of x).store) number (new_acts (history_of x.past) (history_of z.past))

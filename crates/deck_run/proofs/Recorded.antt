@@ -5,6 +5,7 @@ use Rattle.ckd_types.specs.declared.paths.Side.{Side}
 use Rattle.plain_defs.specs.declared.journal.Item.{Item}
 use Rattle.device_outside.specs.declared.volume.Volume.{Ghosts}
 use Rattle.device_core.specs.declared.device.Device.{Device}
+use Rattle.device_core.specs.State.{last_end}
 use Rattle.report_text.specs.declared.event.Loosed.{Loosed}
 use Rattle.report_text.specs.declared.answers.BackAnswer.TheVariants as backs
 use Rattle.report_text.specs.declared.answers.OrderAnswer.{OrderAnswer}
@@ -148,7 +149,7 @@ module _ {V : Type 0} {G : Ghosts V} (s : Subsystem V G) (run : runs.Subsystem) 
       more ≡ told ++ lines_by d h acts p.calls.reads p.calls.writes items
   roomy h room same is = is ∙ ap (λ (l : List ReportLine). l ++ lines_by d h acts p.calls.reads p.calls.writes items) same
 
-  seen : end_seen y.past p.end ≡ Some (happens run e).end
+  seen : end_seen (last_end y) p.end ≡ Some (happens run e).end
   seen = sees_at s d p.end (happens run e).end y at has.ended
 
   pub start_recorded : (path : ℕ) (a : StartAnswer) (room : List ReportLine) → room ≡ told → a ≡ start_answer (start_end p.end) →
@@ -156,14 +157,14 @@ module _ {V : Type 0} {G : Ghosts V} (s : Subsystem V G) (run : runs.Subsystem) 
       more ≡ told ++ lines_when run e (did.Started path d (start_answer (happens run e).end))
   start_recorded path a room same answered is =
       recorded (did.Started path d a) (roomy (did.Started path d a) room same is)
-      ∙ ap (λ (x : StartAnswer). told ++ lines_when run e (did.Started path d x)) (answered ∙ start_is y.past (happens run e).end p.end seen)
+      ∙ ap (λ (x : StartAnswer). told ++ lines_when run e (did.Started path d x)) (answered ∙ start_is (last_end y) (happens run e).end p.end seen)
 
   pub order_recorded : (order : Order) (a : OrderAnswer) (room : List ReportLine) → room ≡ told → a ≡ order_answer (order_end p.end) →
       more ≡ room ++ lines_by d (did.Ordered order a) acts p.calls.reads p.calls.writes items →
       more ≡ told ++ lines_when run e (did.Ordered order (order_answer (happens run e).end))
   order_recorded order a room same answered is =
       recorded (did.Ordered order a) (roomy (did.Ordered order a) room same is)
-      ∙ ap (λ (x : OrderAnswer). told ++ lines_when run e (did.Ordered order x)) (answered ∙ order_is y.past (happens run e).end p.end seen)
+      ∙ ap (λ (x : OrderAnswer). told ++ lines_when run e (did.Ordered order x)) (answered ∙ order_is (last_end y) (happens run e).end p.end seen)
 
   pub reset_recorded : (path : ℕ) (room : List ReportLine) → room ≡ told →
       more ≡ room ++ lines_by d (did.Reset path d) acts p.calls.reads p.calls.writes items → more ≡ told ++ lines_when run e (did.Reset path d)
@@ -173,7 +174,7 @@ module _ {V : Type 0} {G : Ghosts V} (s : Subsystem V G) (run : runs.Subsystem) 
 module _ {V : Type 0} {G : Ghosts V} (s : Subsystem V G) (run : runs.Subsystem) (e : Event) (d : ℕ) (p : Passed) (has : HasPassed s run e d p)
     (y : Device V G) (at : device_at s.devices.items d ≡ Some y) (told more room : List ReportLine) (same : room ≡ told) where
   pub work_recorded : (idle : report.Happened) →
-      ((end : EventEnd) → end_seen y.past p.end ≡ Some end → more ≡ room ++ lines_passed d y p (work_told d p.running idle end)) →
+      ((end : EventEnd) → end_seen (last_end y) p.end ≡ Some end → more ≡ room ++ lines_passed d y p (work_told d p.running idle end)) →
       more ≡ told ++ lines_when run e (work_told d (running_in (devices_of run) d) idle (happens run e).end)
   work_recorded idle tells =
       let end = (happens run e).end in

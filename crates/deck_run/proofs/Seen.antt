@@ -5,10 +5,9 @@ use Rattle.ckd_types.specs.declared.channel.CommandEnd.{CommandEnd}
 use Rattle.plain_defs.specs.declared.journal.Item.{Item}
 use Rattle.device_outside.specs.declared.volume.Volume.{Ghosts}
 use Rattle.device_core.specs.declared.device.Device.{Device}
-use Rattle.device_core.specs.declared.past.Past.{Past}
 use Rattle.device_core.specs.declared.past.Stepped.TheVariants as steps
 use Rattle.device_core.specs.declared.second.SecondStep.TheVariants as parts
-use Rattle.device_core.specs.State.{DefinedDevice, last_end_of, step_seen, second_seen}
+use Rattle.device_core.specs.State.{DefinedDevice, last_end, step_seen, second_seen}
 use Rattle.device_defs.specs.declared.answers.SecondEnd.TheVariants as seconds
 use Rattle.device_defs.specs.declared.answers.Stepped.TheVariants as stepped
 use Rattle.report_text.specs.declared.event.Happened as report
@@ -43,55 +42,55 @@ end_so : {A : Type 0} (f : A → defs.EventEnd) (o : Option A) (told : defs.Even
 end_so f (Some a) told q is h = subst q (some_is is) (h a)
 end_so f None told q is h = absurd (cc)
 
-module _ (p : Past) (told : defs.EventEnd) where
-  pub acts_are : (quiet : Bool) (a : EventEnd) (d : DefinedDevice) → end_seen p a ≡ Some told → acts_seen quiet a d ≡ acts_when quiet told d
+module _ (at : Option CommandEnd) (told : defs.EventEnd) where
+  pub acts_are : (quiet : Bool) (a : EventEnd) (d : DefinedDevice) → end_seen at a ≡ Some told → acts_seen quiet a d ≡ acts_when quiet told d
   acts_are quiet (ends.Started n) d is = ap (λ (e : defs.EventEnd). acts_when quiet e d) (some_is is)
   acts_are quiet (ends.NotStarted fault) d is = ap (λ (e : defs.EventEnd). acts_when quiet e d) (some_is is)
   acts_are quiet ends.Running d is = ap (λ (e : defs.EventEnd). acts_when quiet e d) (some_is is)
   acts_are quiet (ends.Stepped s) d is =
-      end_so answers.Stepped (step_seen p s) told (λ (e : defs.EventEnd). d.store.acts ≡ acts_when quiet e d) is (λ a. refl)
+      end_so answers.Stepped (step_seen at s) told (λ (e : defs.EventEnd). d.store.acts ≡ acts_when quiet e d) is (λ a. refl)
   acts_are quiet (ends.Second s) d is =
-      end_so answers.Second (second_seen p s) told (λ (e : defs.EventEnd). d.store.acts ≡ acts_when quiet e d) is (λ a. refl)
+      end_so answers.Second (second_seen at s) told (λ (e : defs.EventEnd). d.store.acts ≡ acts_when quiet e d) is (λ a. refl)
   acts_are quiet ends.Idle d is = ap (λ (e : defs.EventEnd). acts_when quiet e d) (some_is is)
   acts_are quiet (ends.Back x) d is = ap (λ (e : defs.EventEnd). acts_when quiet e d) (some_is is)
   acts_are quiet ends.Done d is = ap (λ (e : defs.EventEnd). acts_when quiet e d) (some_is is)
   acts_are quiet (ends.Pending n) d is = ap (λ (e : defs.EventEnd). acts_when quiet e d) (some_is is)
   acts_are quiet (ends.Refused fault) d is = ap (λ (e : defs.EventEnd). acts_when quiet e d) (some_is is)
 
-  pub start_is : (a : EventEnd) → end_seen p a ≡ Some told → start_answer (start_end a) ≡ start_answer told
+  pub start_is : (a : EventEnd) → end_seen at a ≡ Some told → start_answer (start_end a) ≡ start_answer told
   start_is (ends.Started n) is = ap (λ (e : defs.EventEnd). start_answer e) (some_is is)
   start_is (ends.NotStarted fault) is = ap (λ (e : defs.EventEnd). start_answer e) (some_is is)
   start_is ends.Running is = ap (λ (e : defs.EventEnd). start_answer e) (some_is is)
   start_is (ends.Stepped s) is =
-      end_so answers.Stepped (step_seen p s) told (λ (e : defs.EventEnd). start_answer answers.Running ≡ start_answer e) is (λ a. refl)
+      end_so answers.Stepped (step_seen at s) told (λ (e : defs.EventEnd). start_answer answers.Running ≡ start_answer e) is (λ a. refl)
   start_is (ends.Second s) is =
-      end_so answers.Second (second_seen p s) told (λ (e : defs.EventEnd). start_answer answers.Running ≡ start_answer e) is (λ a. refl)
+      end_so answers.Second (second_seen at s) told (λ (e : defs.EventEnd). start_answer answers.Running ≡ start_answer e) is (λ a. refl)
   start_is ends.Idle is = ap (λ (e : defs.EventEnd). start_answer e) (some_is is)
   start_is (ends.Back x) is = ap (λ (e : defs.EventEnd). start_answer e) (some_is is)
   start_is ends.Done is = ap (λ (e : defs.EventEnd). start_answer e) (some_is is)
   start_is (ends.Pending n) is = ap (λ (e : defs.EventEnd). start_answer e) (some_is is)
   start_is (ends.Refused fault) is = ap (λ (e : defs.EventEnd). start_answer e) (some_is is)
 
-  pub order_is : (a : EventEnd) → end_seen p a ≡ Some told → order_answer (order_end a) ≡ order_answer told
+  pub order_is : (a : EventEnd) → end_seen at a ≡ Some told → order_answer (order_end a) ≡ order_answer told
   order_is (ends.Started n) is = ap (λ (e : defs.EventEnd). order_answer e) (some_is is)
   order_is (ends.NotStarted fault) is = ap (λ (e : defs.EventEnd). order_answer e) (some_is is)
   order_is ends.Running is = ap (λ (e : defs.EventEnd). order_answer e) (some_is is)
   order_is (ends.Stepped s) is =
-      end_so answers.Stepped (step_seen p s) told (λ (e : defs.EventEnd). order_answer answers.Done ≡ order_answer e) is (λ a. refl)
+      end_so answers.Stepped (step_seen at s) told (λ (e : defs.EventEnd). order_answer answers.Done ≡ order_answer e) is (λ a. refl)
   order_is (ends.Second s) is =
-      end_so answers.Second (second_seen p s) told (λ (e : defs.EventEnd). order_answer answers.Done ≡ order_answer e) is (λ a. refl)
+      end_so answers.Second (second_seen at s) told (λ (e : defs.EventEnd). order_answer answers.Done ≡ order_answer e) is (λ a. refl)
   order_is ends.Idle is = ap (λ (e : defs.EventEnd). order_answer e) (some_is is)
   order_is (ends.Back x) is = ap (λ (e : defs.EventEnd). order_answer e) (some_is is)
   order_is ends.Done is = ap (λ (e : defs.EventEnd). order_answer e) (some_is is)
   order_is (ends.Pending n) is = ap (λ (e : defs.EventEnd). order_answer e) (some_is is)
   order_is (ends.Refused fault) is = ap (λ (e : defs.EventEnd). order_answer e) (some_is is)
 
-  settles_is : (a : EventEnd) → end_seen p a ≡ Some told → settles a ≡ is_settled told
+  settles_is : (a : EventEnd) → end_seen at a ≡ Some told → settles a ≡ is_settled told
   settles_is (ends.Started n) is = ap (λ (e : defs.EventEnd). is_settled e) (some_is is)
   settles_is (ends.NotStarted fault) is = ap (λ (e : defs.EventEnd). is_settled e) (some_is is)
   settles_is ends.Running is = ap (λ (e : defs.EventEnd). is_settled e) (some_is is)
-  settles_is (ends.Stepped s) is = end_so answers.Stepped (step_seen p s) told (λ (e : defs.EventEnd). false ≡ is_settled e) is (λ a. refl)
-  settles_is (ends.Second s) is = end_so answers.Second (second_seen p s) told (λ (e : defs.EventEnd). false ≡ is_settled e) is (λ a. refl)
+  settles_is (ends.Stepped s) is = end_so answers.Stepped (step_seen at s) told (λ (e : defs.EventEnd). false ≡ is_settled e) is (λ a. refl)
+  settles_is (ends.Second s) is = end_so answers.Second (second_seen at s) told (λ (e : defs.EventEnd). false ≡ is_settled e) is (λ a. refl)
   settles_is ends.Idle is = ap (λ (e : defs.EventEnd). is_settled e) (some_is is)
   settles_is (ends.Back x) is = ap (λ (e : defs.EventEnd). is_settled e) (some_is is)
   settles_is ends.Done is = ap (λ (e : defs.EventEnd). is_settled e) (some_is is)
@@ -100,7 +99,7 @@ module _ (p : Past) (told : defs.EventEnd) where
 
   -- work with which a command ended, and other work
   module _ (d : ℕ) (running : Option RunningProgram) (idle : report.Happened) where
-    ended_is : (e : CommandEnd) (a : EventEnd) → is_ended a ≡ true → last_end_of p ≡ Some e → end_seen p a ≡ Some told →
+    ended_is : (e : CommandEnd) (a : EventEnd) → is_ended a ≡ true → at ≡ Some e → end_seen at a ≡ Some told →
         work_told d running idle told ≡ end_told d running e
     ended_is e (ends.Stepped steps.Ended) ended last is =
         ap (λ (x : defs.EventEnd). work_told d running idle x)
@@ -120,7 +119,7 @@ module _ (p : Past) (told : defs.EventEnd) where
     ended_is e (ends.Pending n) ended last is = absurd (cc)
     ended_is e (ends.Refused fault) ended last is = absurd (cc)
 
-    work_is : (a : EventEnd) → is_ended a ≡ false → end_seen p a ≡ Some told → work_told d running idle told ≡ work_seen d running idle a
+    work_is : (a : EventEnd) → is_ended a ≡ false → end_seen at a ≡ Some told → work_told d running idle told ≡ work_seen d running idle a
     work_is (ends.Stepped steps.Ended) ended is = absurd (cc)
     work_is (ends.Second parts.Ended) ended is = absurd (cc)
     work_is (ends.Stepped (steps.Half t)) ended is = ap (λ (x : defs.EventEnd). work_told d running idle x) (sym (some_is is))
@@ -140,54 +139,54 @@ last_some : {B : Type 0} (f : CommandEnd → B) (g : B → defs.EventEnd) (o : O
 last_some f g (Some e) is = refl
 last_some f g None is = absurd (cc)
 
-pub last_stands : (p : Past) (a : EventEnd) → is_ended a ≡ true → IsSome (end_seen p a) → IsSome (last_end_of p)
-last_stands p (ends.Stepped steps.Ended) ended is = last_some stepped.Ended answers.Stepped (last_end_of p) is
-last_stands p (ends.Second parts.Ended) ended is = last_some seconds.Ended answers.Second (last_end_of p) is
-last_stands p (ends.Stepped (steps.Half t)) ended is = absurd (cc)
-last_stands p (ends.Second (parts.Finished t)) ended is = absurd (cc)
-last_stands p (ends.Second (parts.Unwritten t)) ended is = absurd (cc)
-last_stands p (ends.Started n) ended is = absurd (cc)
-last_stands p (ends.NotStarted fault) ended is = absurd (cc)
-last_stands p ends.Running ended is = absurd (cc)
-last_stands p ends.Idle ended is = absurd (cc)
-last_stands p (ends.Back x) ended is = absurd (cc)
-last_stands p ends.Done ended is = absurd (cc)
-last_stands p (ends.Pending n) ended is = absurd (cc)
-last_stands p (ends.Refused fault) ended is = absurd (cc)
+pub last_stands : (at : Option CommandEnd) (a : EventEnd) → is_ended a ≡ true → IsSome (end_seen at a) → IsSome at
+last_stands at (ends.Stepped steps.Ended) ended is = last_some stepped.Ended answers.Stepped at is
+last_stands at (ends.Second parts.Ended) ended is = last_some seconds.Ended answers.Second at is
+last_stands at (ends.Stepped (steps.Half t)) ended is = absurd (cc)
+last_stands at (ends.Second (parts.Finished t)) ended is = absurd (cc)
+last_stands at (ends.Second (parts.Unwritten t)) ended is = absurd (cc)
+last_stands at (ends.Started n) ended is = absurd (cc)
+last_stands at (ends.NotStarted fault) ended is = absurd (cc)
+last_stands at ends.Running ended is = absurd (cc)
+last_stands at ends.Idle ended is = absurd (cc)
+last_stands at (ends.Back x) ended is = absurd (cc)
+last_stands at ends.Done ended is = absurd (cc)
+last_stands at (ends.Pending n) ended is = absurd (cc)
+last_stands at (ends.Refused fault) ended is = absurd (cc)
 
 module _ {V : Type 0} {G : Ghosts V} where
   -- of the device that is read
   pub shows_at : (s : Subsystem V G) (d : ℕ) (a : EventEnd) (y : Device V G) → device_at s.devices.items d ≡ Some y → ShowsEnd s d a →
-      IsSome (end_seen y.past a)
-  shows_at s d a y at shows = subst (λ (o : Option (Device V G)). IfSome o (λ x. IsSome (end_seen x.past a))) at shows
+      IsSome (end_seen (last_end y) a)
+  shows_at s d a y at shows = subst (λ (o : Option (Device V G)). IfSome o (λ x. IsSome (end_seen (last_end x) a))) at shows
 
   pub sees_at : (s : Subsystem V G) (d : ℕ) (a : EventEnd) (told : defs.EventEnd) (y : Device V G) → device_at s.devices.items d ≡ Some y →
-      SeesEnd s d a told → end_seen y.past a ≡ Some told
-  sees_at s d a told y at sees = subst (λ (o : Option (Device V G)). IfSome o (λ x. end_seen x.past a ≡ Some told)) at sees
+      SeesEnd s d a told → end_seen (last_end y) a ≡ Some told
+  sees_at s d a told y at sees = subst (λ (o : Option (Device V G)). IfSome o (λ x. end_seen (last_end x) a ≡ Some told)) at sees
 
   pub settled_at : (s : Subsystem V G) (d : ℕ) (a : EventEnd) (told : defs.EventEnd) (y : Device V G) → device_at s.devices.items d ≡ Some y →
       SeesEnd s d a told → settles a ≡ is_settled told
-  settled_at s d a told y at sees = settles_is y.past told a (sees_at s d a told y at sees)
+  settled_at s d a told y at sees = settles_is (last_end y) told a (sees_at s d a told y at sees)
 
   -- What was recorded of a piece of work
 
   module _ (y : Device V G) (d : ℕ) (p : Passed) (idle : report.Happened) (told : defs.EventEnd) (items : List Item) (came : items ≡ behind_first p.items
-      y.past.items.items) (acts : List Loosed) (noted : acts ≡ p.acts.items) (old new : List ReportLine) (seen : end_seen y.past p.end ≡ Some told) where
+      y.past.items.items) (acts : List Loosed) (noted : acts ≡ p.acts.items) (old new : List ReportLine) (seen : end_seen (last_end y) p.end ≡ Some told) where
     passed_is : (h g : report.Happened) → g ≡ h → new ≡ old ++ lines_by d h acts p.calls.reads p.calls.writes items → new ≡ old ++ lines_passed d y p g
     passed_is h g same is =
         is ∙ ap (λ (l : List Item). old ++ lines_by d h acts p.calls.reads p.calls.writes l) came
         ∙ ap (λ (l : List Loosed). old ++ lines_by d h l p.calls.reads p.calls.writes (behind_first p.items y.past.items.items)) noted
         ∙ ap (λ (x : report.Happened). old ++ lines_passed d y p x) (sym same)
 
-    pub command_tells : (e : CommandEnd) → is_ended p.end ≡ true → last_end_of y.past ≡ Some e →
+    pub command_tells : (e : CommandEnd) → is_ended p.end ≡ true → last_end y ≡ Some e →
         new ≡ old ++ lines_by d (end_told d p.running e) acts p.calls.reads p.calls.writes items →
         new ≡ old ++ lines_passed d y p (work_told d p.running idle told)
     command_tells e ended last is =
-        passed_is (end_told d p.running e) (work_told d p.running idle told) (ended_is y.past told d p.running idle e p.end ended last seen) is
+        passed_is (end_told d p.running e) (work_told d p.running idle told) (ended_is (last_end y) told d p.running idle e p.end ended last seen) is
 
     pub work_tells : (i h : report.Happened) → i ≡ idle → h ≡ work_seen d p.running i p.end → is_ended p.end ≡ false →
         new ≡ old ++ lines_by d h acts p.calls.reads p.calls.writes items → new ≡ old ++ lines_passed d y p (work_told d p.running idle told)
     work_tells i h same did_so ended is =
         passed_is h (work_told d p.running idle told)
-        (work_is y.past told d p.running idle p.end ended seen
+        (work_is (last_end y) told d p.running idle p.end ended seen
         ∙ sym (did_so ∙ ap (λ (x : report.Happened). work_seen d p.running x p.end) same)) is

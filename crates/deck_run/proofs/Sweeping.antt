@@ -50,7 +50,7 @@ use Rattle.device_defs.specs.Events.{lose}
 use Rattle.device_defs.specs.declared.answers.Stepped as defs
 use Rattle.device_defs.specs.declared.answers.SecondEnd.{SecondEnd}
 use Rattle.device_core.specs.declared.device.Device.{Device}
-use Rattle.device_core.specs.declared.past.Past.{Past}
+use Rattle.ckd_types.specs.declared.channel.CommandEnd.{CommandEnd}
 use Rattle.device_core.specs.State.{DefinedDevice, device_of}
 use Rattle.frame_pool.specs.Shared.{Shared, shared_view}
 use Rattle.report_text.specs.declared.line.ReportLine.{ReportLine}
@@ -115,8 +115,8 @@ IsOrderEnd (answers.Pending n) = Unit {0}
 IsOrderEnd (answers.Refused fault) = Unit {0}
 IsOrderEnd _ = ⊥
 
-pub blank : Past
-blank = record { items = record { items = []; spare = 0; aside = 0 }; running = None; kept = []; powered = false; last = 0 }
+pub blank : Option CommandEnd
+blank = None
 
 not_stepped : (o : Option defs.Stepped) (end : ends.EventEnd) → end_of answers.Stepped o ≡ Some end → IsOrderEnd end → ⊥
 not_stepped None end is on = cc

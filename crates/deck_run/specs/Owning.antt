@@ -29,7 +29,7 @@ module _ {V : Type 0} {G : Ghosts V} where
   -- the chain of each program that runs keeps to what chains keep to
   abbrev pub ChainsStand : List (Device V G) → Type 0
   ChainsStand [] = Unit {0}
-  ChainsStand (x ∷ xs) = IfSome x.past.running (λ r. IsChain r.chain) × ChainsStand xs
+  ChainsStand (x ∷ xs) = IfSome (device_of x).chain IsChain × ChainsStand xs
 
 -- the events of this device
 abbrev pub IsOpenOn : ℕ → Event → Type 0

@@ -2,6 +2,7 @@
 use Rattle.std.specs.Prelude.{◌≡◌, ℕ, List, Some}
 use Rattle.device_outside.specs.declared.volume.Volume.{Ghosts}
 use Rattle.device_core.specs.declared.device.Device.{Device}
+use Rattle.device_core.specs.State.{device_of}
 use Rattle.report_text.specs.declared.event.Happened.{Happened}
 use Rattle.report_text.specs.declared.line.ReportLine.{ReportLine}
 use Rattle.run_report.specs.Events.{running_in}
@@ -21,7 +22,7 @@ use Rattle.deck_run.specs.Standing.{StandsAs}
 module _ {V : Type 0} {G : Ghosts V} where
   -- the lines of an event that did this, by what passed and the device behind it
   abbrev pub lines_passed : ℕ → Device V G → Passed → Happened → List ReportLine
-  lines_passed d y p h = lines_by d h p.acts.items p.calls.reads p.calls.writes (behind_first p.items y.past.items.items)
+  lines_passed d y p h = lines_by d h p.acts.items p.calls.reads p.calls.writes (behind_first p.items (device_of y).history.items)
 
   -- behind it the subsystem stands as the run has it; the event ended so, of the program that ran; and it tells what came to the device
   pub record HasPassed (s : Subsystem V G) (run : runs.Subsystem) (e : Event) (d : ℕ) (p : Passed) : Type 0 where

@@ -3,7 +3,7 @@ use Rattle.std.specs.Prelude.{◌≡◌, ℕ, List, Option, Some, option_map}
 use Rattle.std.specs.List.{flat_map}
 use Rattle.device_outside.specs.declared.volume.Volume.{Ghosts}
 use Rattle.device_core.specs.declared.device.Device.{Device}
-use Rattle.device_core.specs.State.{device_of, history_of}
+use Rattle.device_core.specs.State.{device_of}
 use Rattle.report_text.specs.declared.event.Happened.{Happened}
 use Rattle.report_text.specs.declared.event.Loosed.{Loosed}
 use Rattle.report_text.specs.declared.line.ReportLine.{ReportLine}
@@ -29,25 +29,29 @@ all_lines events = flat_map lines_of events
 abbrev pub lines_when : runs.Subsystem → Event → Happened → List ReportLine
 lines_when run e h = work_lines h (happens run e).reads (happens run e).writes (devices_of run) (devices_of (happens run e).behind)
 
+-- of a path and an ordinal
+abbrev pub program_from : ℕ × ℕ → RunningProgram
+program_from p = record { path = p.0; ordinal = p.1 }
+
 module _ {V : Type 0} {G : Ghosts V} where
   abbrev pub running_of : Device V G → Option RunningProgram
-  running_of x = option_map running_program (history_of x.past).running
+  running_of x = option_map running_program (device_of x).history.running
 
   -- what came of data of cache fast write, between x and y
   abbrev pub loosed_between : ℕ → Device V G → Device V G → List Loosed
   loosed_between n x y =
-      all_loosed n (loose_count (device_of x).store) (device_of y).store.number (new_acts (history_of x.past) (history_of y.past))
-      (has_power (new_items (history_of x.past) (history_of y.past)))
+      all_loosed n (loose_count (device_of x).store) (device_of y).store.number (new_acts (device_of x).history (device_of y).history)
+      (has_power (new_items (device_of x).history (device_of y).history))
 
   -- the run knows which program runs on x; the event tells what came of data of cache fast write and what came to its journal; the acts are
   -- those that are noted; and the counts of its calls went on by those of the event
   pub record IsToldBy (run : runs.Subsystem) (e : Event) (n : ℕ) (x y : Device V G) : Type 0 where
     pub running : running_in (devices_of run) n ≡ running_of x
     pub lines : (h : Happened) → lines_when run e h
-        ≡ lines_by n h (loosed_between n x y) (happens run e).reads (happens run e).writes (new_items (history_of x.past) (history_of y.past))
-    pub acts : new_acts (history_of x.past) (history_of y.past) ≡ acts_by e (happens run e).end (device_of y)
-    pub reads : y.store.counts.reads ≡ more_calls (happens run e).reads x.store.counts.reads
-    pub writes : y.store.counts.writes ≡ more_calls (happens run e).writes x.store.counts.writes
+        ≡ lines_by n h (loosed_between n x y) (happens run e).reads (happens run e).writes (new_items (device_of x).history (device_of y).history)
+    pub acts : new_acts (device_of x).history (device_of y).history ≡ acts_by e (happens run e).end (device_of y)
+    pub reads : (device_of y).store.counts.reads ≡ more_calls (happens run e).reads (device_of x).store.counts.reads
+    pub writes : (device_of y).store.counts.writes ≡ more_calls (happens run e).writes (device_of x).store.counts.writes
 
   -- so it is of the device of this number before the event and behind it
   abbrev pub IsTold : Subsystem V G → Subsystem V G → Event → ℕ → runs.Subsystem → Type 0

@@ -6,7 +6,7 @@ use Rattle.device_core.specs.declared.past.Stepped.{Stepped}
 use Rattle.device_core.specs.declared.past.Stepped.TheVariants as steps
 use Rattle.device_core.specs.declared.second.SecondStep.{SecondStep}
 use Rattle.device_core.specs.declared.second.SecondStep.TheVariants as parts
-use Rattle.device_core.specs.State.{DefinedDevice}
+use Rattle.device_core.specs.State.{DefinedDevice, last_end}
 use Rattle.report_text.specs.declared.answers.BackAnswer.TheVariants as back
 use Rattle.report_text.specs.declared.event.Happened.{Happened}
 use Rattle.report_text.specs.declared.event.Happened.TheVariants as did
@@ -27,11 +27,11 @@ use Rattle.deck_run.specs.declared.work.Asker.TheVariants as askers
 module _ {V : Type 0} {G : Ghosts V} where
   -- behind the event the device of this number shows how it ended
   abbrev pub ShowsEnd : Subsystem V G → ℕ → EventEnd → Type 0
-  ShowsEnd s d a = IfSome (device_at s.devices.items d) (λ y. IsSome (end_seen y.past a))
+  ShowsEnd s d a = IfSome (device_at s.devices.items d) (λ y. IsSome (end_seen (last_end y) a))
 
   -- and it ended so
   abbrev pub SeesEnd : Subsystem V G → ℕ → EventEnd → defs.EventEnd → Type 0
-  SeesEnd s d a end = IfSome (device_at s.devices.items d) (λ y. end_seen y.past a ≡ Some end)
+  SeesEnd s d a end = IfSome (device_at s.devices.items d) (λ y. end_seen (last_end y) a ≡ Some end)
 
 -- the acts that came with it, of those that the device notes
 abbrev pub acts_seen : Bool → EventEnd → DefinedDevice → List Act

@@ -1,8 +1,8 @@
 -- On which sides of devices a volume stands, and to whom devices are lent. Every volume of a run stands in one of its devices.
 use Rattle.std.specs.Prelude.{◌≡◌, ℕ, ◌+◌, ◌==◌, ◌&&◌, Bool, true, false, List, [], ◌∷◌, length, map, Option, None, is_some, if◌then◌else◌}
 use Rattle.device_outside.specs.declared.volume.Volume.{Ghosts}
-use Rattle.device_store.specs.State.{on_a, on_b}
 use Rattle.device_core.specs.declared.device.Device.{Device}
+use Rattle.device_core.specs.State.{device_of, volume_a, volume_b}
 use Rattle.subsystem_defs.specs.Happening.{is_lent_to}
 
 -- of a device
@@ -42,16 +42,16 @@ pub record AreAccounted (xs : List Sides) : Type 0 where
 
 module _ {V : Type 0} {G : Ghosts V} where
   abbrev pub sides_of : Device V G → Sides
-  sides_of x = record { number = x.store.number; lent = x.store.pair.lent; a = is_some (on_a x.store); b = is_some (on_b x.store) }
+  sides_of x = record { number = (device_of x).store.device; lent = (device_of x).store.lent; a = is_some (volume_a x); b = is_some (volume_b x) }
 
   abbrev pub all_sides : List (Device V G) → List Sides
   all_sides xs = map sides_of xs
 
   -- on one volume, and lent to none
   pub record IsFresh (x : Device V G) : Type 0 where
-    pub lent : x.store.pair.lent ≡ None
-    pub a : is_some (on_a x.store) ≡ true
-    pub b : is_some (on_b x.store) ≡ false
+    pub lent : (device_of x).store.lent ≡ None
+    pub a : is_some (volume_a x) ≡ true
+    pub b : is_some (volume_b x) ≡ false
 
   abbrev pub AllFresh : List (Device V G) → Type 0
   AllFresh [] = Unit {0}

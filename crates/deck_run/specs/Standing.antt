@@ -2,9 +2,8 @@
 use Rattle.std.specs.Prelude.{◌≡◌, List, map, option_map}
 use Rattle.device_outside.specs.declared.volume.Volume.{Ghosts}
 use Rattle.device_outside.specs.Pool.{counted_slots}
-use Rattle.device_store.specs.State.{on_a, on_b}
 use Rattle.device_core.specs.declared.device.Device.{Device}
-use Rattle.device_core.specs.State.{device_of}
+use Rattle.device_core.specs.State.{device_of, volume_a, volume_b}
 use Rattle.subsystem_core.specs.declared.subsystem.Subsystem.{Subsystem}
 use Rattle.subsystem_defs.specs.Subsystem as defs
 use Rattle.subsystem_laws.specs.WholeStood.{Stood, AreMounted}
@@ -12,7 +11,7 @@ use Rattle.subsystem_laws.specs.WholeStood.{Stood, AreMounted}
 module _ {V : Type 0} {G : Ghosts V} where
   -- a device, with what the volume of each side tells
   abbrev pub stood_of : Device V G → Stood
-  stood_of x = record { device = device_of x; a = option_map G.view (on_a x.store); b = option_map G.view (on_b x.store) }
+  stood_of x = record { device = device_of x; a = option_map G.view (volume_a x); b = option_map G.view (volume_b x) }
 
   abbrev pub all_stood : List (Device V G) → List Stood
   all_stood ds = map stood_of ds

@@ -66,9 +66,9 @@ module _ {V : Type 0} {G : Ghosts V} where
   -- of a device that had so much before: the program that a loss of power cut, and what came of its data of cache fast write
   abbrev pub gone_one : Bool → EventEnd → Stock → Device V G → List ReportLine
   gone_one quiet end s y =
-      let items = behind_first s.items y.past.items.items in
-      power_lines_by y.store.number
-      (all_loosed y.store.number s.loose (device_of y).store.number (acts_when quiet end (device_of y)) (has_power items)) items
+      let items = behind_first s.items (device_of y).history.items in
+      power_lines_by (device_of y).store.device
+      (all_loosed (device_of y).store.device s.loose (device_of y).store.number (acts_when quiet end (device_of y)) (has_power items)) items
 
   -- of each in rising order
   abbrev pub gone_lines : Bool → EventEnd → List Stock → List (Device V G) → List ReportLine

@@ -12,7 +12,7 @@ ghost use Rattle.deck_run.specs.Sweeping.{IsOpenOfAll, TellsAll, gone_lines, gon
 ghost use Rattle.subsystem_core.specs.Frames.{HasSameDevices};
 
 use crate::event::chains_stand;
-use crate::loosed::{acts_when, all_loosed, is_quiet, loose_of};
+use crate::loosed::{acts_when, all_loosed, is_quiet};
 use crate::pass::behind_first;
 use ckd_types::NoMemory;
 use device_core::Device;
@@ -34,7 +34,7 @@ fn stock_of<V: Volume>(device: &Device<V>) -> Stock
     ensures { result ≡ stock_of device.now }
 {
     Stock {
-        loose: loose_of(device),
+        loose: device.loose_count(),
         items: device.journal().len(),
     }
 }

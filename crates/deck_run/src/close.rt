@@ -6,6 +6,7 @@ ghost use Rattle.report_text.specs.declared.line.ReportLine.TheVariants as lines
 ghost use Rattle.run_report.specs.Closing.{device_lines, frame_line};
 ghost use Rattle.subsystem_defs.specs.Closing.{Counted, LentTo};
 ghost use Rattle.deck_run.specs.Ending.{end_by, end_lines_of, lost_at, lost_in};
+ghost use Rattle.device_core.specs.State.{device_of};
 
 use ckd_types::{DeviceNo, NoMemory, TrackNo};
 use device_core::Device;
@@ -58,7 +59,7 @@ fn record_end<V: Volume>(
     lost: &[TrackNo],
 ) -> Result<(), NoMemory>
     ensures { OnOk result (report.new ≡ report.old ++ device_lines
-        (Counted device.now.store.number device.now.store.counts.reads device.now.store.counts.writes lost.now)) }
+        (Counted (device_of device.now).store.device (device_of device.now).store.counts.reads (device_of device.now).store.counts.writes lost.now)) }
 {
     let totals = DeviceTotals::Calls {
         reads: device.reads(),
@@ -88,7 +89,7 @@ fn record_lent<V: Volume>(
     device: &Device<V>,
     to: DeviceNo,
 ) -> Result<(), NoMemory>
-    ensures { OnOk result (report.new ≡ report.old ++ device_lines (LentTo device.now.store.number to)) }
+    ensures { OnOk result (report.new ≡ report.old ++ device_lines (LentTo (device_of device.now).store.device to)) }
 {
     report.push(ReportLine::Device(device.number(), DeviceTotals::Lent(to)))?;
     Ok(())

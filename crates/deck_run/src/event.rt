@@ -1,5 +1,4 @@
-ghost use Rattle.std.specs.Prelude.{IfOk, IfSome, OnOk};
-ghost use Rattle.ckd_chain.specs.Facts.{IsChain};
+ghost use Rattle.std.specs.Prelude.{IfOk, OnOk};
 ghost use Rattle.subsystem_core.specs.Frames.{HasDevice, HasSameDevices};
 ghost use Rattle.subsystem_defs.specs.Happening.{happens};
 ghost use Rattle.subsystem_defs.specs.Subsystem as runs;
@@ -14,22 +13,12 @@ use device_outside::Volume;
 use subsystem_core::{EventEnd, Subsystem};
 use subsystem_defs::Event;
 
-/// The chain of a program that runs stands on its device.
-fn chain_stands<V: Volume>(device: &Device<V>)
-    ensures { IfSome device.now.past.running (λ r. IsChain r.chain) }
-{
-    match &device.past.running {
-        Some(running) => running.chain.stands(),
-        None => (),
-    }
-}
-
 /// The chain of each program that runs stands on its device.
 pub fn chains_stand<V: Volume>(devices: &[Device<V>])
     ensures { ChainsStand devices.now }
 {
     for device in devices {
-        chain_stands(device);
+        device.recall_chain();
     }
 }
 

@@ -1,9 +1,9 @@
 //! What is told of the acts of cache fast write that came with an event.
 
-ghost use Rattle.std.specs.Prelude.{◌≡◌, ◌≤◌, [], IfOk, if◌then◌else◌};
+ghost use Rattle.std.specs.Prelude.{◌≡◌, [], IfOk, if◌then◌else◌};
 ghost use Rattle.device_core.specs.State.{device_of};
 ghost use Rattle.run_report.specs.Beside.{id_of};
-ghost use Rattle.subsystem_defs.specs.Beside.{has_power, is_power, loose_count};
+ghost use Rattle.subsystem_defs.specs.Beside.{has_power, is_power};
 ghost use Rattle.deck_run.specs.Loosening.{acts_when, all_loosed, is_quiet, loosed_by, power_by};
 ghost use Rattle.deck_run.specs.Seen.{acts_seen};
 
@@ -15,32 +15,6 @@ use report_text::{LooseAnswer, Loosed};
 use std::alloc::Global;
 use subsystem_core::EventEnd;
 use subsystem_defs::{Event, EventEnd as End};
-
-fn count_of<V: Volume>(device: &Device<V>) -> usize
-    ensures value { result ≡ loose_count (device_of device.now).store }
-    ensures most { result ≤ 960 }
-{
-    device.store.loose.count()
-}
-
-/// How many tracks are loose.
-pub(crate) fn loose_of<V: Volume>(device: &Device<V>) -> u16
-    ensures { result ≡ loose_count (device_of device.now).store }
-{
-    count_of(device) as u16
-}
-
-fn data_of<V: Volume>(device: &Device<V>) -> u16
-    ensures { result ≡ (device_of device.now).store.number }
-{
-    device.store.data_number
-}
-
-fn noted<V: Volume>(device: &Device<V>) -> &[Act]
-    ensures { result.now ≡ (device_of device.now).store.acts }
-{
-    device.store.loose.acts()
-}
 
 pub(crate) fn is_quiet(e: &Event) -> bool
     ensures { result ≡ is_quiet e.now }
@@ -59,7 +33,7 @@ fn done_acts<V: Volume>(quiet: bool, device: &Device<V>) -> &[Act]
     if quiet {
         return &[];
     }
-    noted(device)
+    device.acts()
 }
 
 /// The acts that came with an event which ended so, as the definitions have its end.
@@ -67,7 +41,7 @@ pub(crate) fn acts_when<'a, V: Volume>(quiet: bool, end: &End, device: &'a Devic
     ensures { result.now ≡ acts_when quiet end.now (device_of device.now) }
 {
     match end {
-        End::Stepped(_) | End::Second(_) | End::Back(_) => noted(device),
+        End::Stepped(_) | End::Second(_) | End::Back(_) => device.acts(),
         End::Done => done_acts(quiet, device),
         _ => &[],
     }
@@ -82,7 +56,7 @@ pub(crate) fn acts_seen<'a, V: Volume>(
     ensures { result.now ≡ acts_seen quiet end.now (device_of device.now) }
 {
     match end {
-        EventEnd::Stepped(_) | EventEnd::Second(_) | EventEnd::Back(_) => noted(device),
+        EventEnd::Stepped(_) | EventEnd::Second(_) | EventEnd::Back(_) => device.acts(),
         EventEnd::Done => done_acts(quiet, device),
         _ => &[],
     }
@@ -141,7 +115,7 @@ pub(crate) fn all_loosed<V: Volume>(
 ) -> Result<Vec<Loosed>, NoMemory>
     ensures { IfOk result (λ told. told.items ≡ all_loosed d count (device_of device.now).store.number acts.now (has_power items.now)) }
 {
-    let number = data_of(device);
+    let number = device.data_number();
     let mut told = Vec::new(alloc);
     for act in acts {
         told.push(loosed_by(d, count, number, *act))?;

@@ -46,7 +46,7 @@ fn open_device(
     line: DeviceLine,
 ) -> Result<Device<MemVolume>, NoMemory>
     requires { is_open_device line ≡ true }
-    ensures number { IfOk result (λ made. made.store.number ≡ line.number) }
+    ensures number { IfOk result (λ made. (device_of made).store.device ≡ line.number) }
     ensures mounted { bay.old.spoiled ≡ [] → IfOk result (λ made. IsMounted [] (stood_of made) (opened_device deck.now line)) }
     ensures own { IfOk result (λ made. IsOwn (device_of made)) }
     ensures fresh { IfOk result (λ made. IsFresh made) }

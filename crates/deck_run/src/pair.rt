@@ -1,5 +1,7 @@
 ghost use Rattle.std.specs.Prelude.{◌≡◌, ◌*◌, ◌++◌, [], IfOk, IfSome, OnOk, length};
 ghost use Rattle.device_outside.specs.Disk.{new_disk};
+ghost use Rattle.device_core.specs.State.{device_of};
+ghost use Rattle.device_defs.specs.Store.{tracks_of};
 ghost use Rattle.report_text.specs.declared.order.Order.TheVariants as orders;
 ghost use Rattle.run_report.specs.Events.{lines_of};
 ghost use Rattle.subsystem_core.specs.Devices.{device_at};
@@ -74,8 +76,8 @@ fn part(
 ) -> Result<EventEnd, NoMemory>
     requires here { HasDevice sub.old a }
     requires own { AreOwn sub.old.devices.items }
-    requires empty { IfSome (device_at sub.old.devices.items a) (λ x. volume ≡ new_disk x.store.cylinders [] []) }
-    requires size { IfSome (device_at sub.old.devices.items a) (λ x. length volume.tracks ≡ x.store.cylinders * 15) }
+    requires empty { IfSome (device_at sub.old.devices.items a) (λ x. volume ≡ new_disk (device_of x).store.cylinders [] []) }
+    requires size { IfSome (device_at sub.old.devices.items a) (λ x. length volume.tracks ≡ tracks_of (device_of x).store) }
     ensures numbers { HasSameDevices sub.old sub.new }
     ensures own { OnOk result (AreOwn sub.new.devices.items) }
     ensures happened { (run : runs.Subsystem) → StandsAs sub.old run

@@ -1,19 +1,20 @@
 //! One event of one device, with what its lines tell.
 
-ghost use Rattle.std.specs.Prelude.{◌≡◌, ℕ, IfOk, OnOk};
+ghost use Rattle.std.specs.Prelude.{◌≡◌, ℕ, IfOk, OnOk, option_map};
+ghost use Rattle.device_core.specs.State.{device_of};
 ghost use Rattle.subsystem_defs.specs.Beside.{behind_first};
 ghost use Rattle.subsystem_defs.specs.Subsystem as runs;
 ghost use Rattle.deck_run.specs.Counting.{more_calls};
 ghost use Rattle.deck_run.specs.Owning.{AreOwn, IsOpenOn};
 ghost use Rattle.deck_run.specs.Passing.{HasPassed};
-ghost use Rattle.deck_run.specs.Recording.{running_of};
+ghost use Rattle.deck_run.specs.Recording.{program_from, running_of};
 ghost use Rattle.deck_run.specs.Seen.{ShowsEnd};
 ghost use Rattle.deck_run.specs.Standing.{StandsAs};
 ghost use Rattle.subsystem_core.specs.Frames.{HasDevice, HasSameDevices};
 
 use crate::event::do_event;
-use crate::loosed::{acts_seen, all_loosed, is_quiet, loose_of};
-use ckd_types::{DeviceNo, NoMemory};
+use crate::loosed::{acts_seen, all_loosed, is_quiet};
+use ckd_types::{DeviceNo, NoMemory, PathNo};
 use device_core::Device;
 use device_outside::Volume;
 use plain_defs::Item;
@@ -34,21 +35,27 @@ pub(crate) struct Passed {
     pub calls: Calls,
 }
 
-fn running_of<V: Volume>(device: &Device<V>) -> Option<RunningProgram>
-    ensures { result ≡ running_of device.now }
+fn program_of(running: Option<(PathNo, u16)>) -> Option<RunningProgram>
+    ensures { result ≡ option_map program_from running }
 {
-    match &device.past.running {
+    match running {
         Some(running) => Some(RunningProgram {
-            path: running.path,
-            ordinal: running.ordinal,
+            path: running.0,
+            ordinal: running.1,
         }),
         None => None,
     }
 }
 
+fn running_of<V: Volume>(device: &Device<V>) -> Option<RunningProgram>
+    ensures { result ≡ running_of device.now }
+{
+    program_of(device.running())
+}
+
 fn calls_of<V: Volume>(device: &Device<V>) -> Calls
-    ensures reads { result.reads ≡ device.now.store.counts.reads }
-    ensures writes { result.writes ≡ device.now.store.counts.writes }
+    ensures reads { result.reads ≡ (device_of device.now).store.counts.reads }
+    ensures writes { result.writes ≡ (device_of device.now).store.counts.writes }
 {
     Calls {
         reads: device.reads(),
@@ -106,7 +113,7 @@ pub(crate) fn pass<V: Volume>(
     let device = sub.device(d);
     let running = running_of(device);
     let items = device.journal().len();
-    let loose = loose_of(device);
+    let loose = device.loose_count();
     let before = calls_of(device);
     let quiet = is_quiet(&e);
     let end = do_event(sub, d, e)?;

@@ -1,7 +1,7 @@
 //! The lines of an event of one device.
 
 ghost use Rattle.std.specs.Prelude.{◌≡◌, ◌++◌, IsSome, OnOk, Some};
-ghost use Rattle.device_core.specs.State.{last_end_of};
+ghost use Rattle.device_core.specs.State.{last_end};
 ghost use Rattle.run_report.specs.Events.{end_told, work_told};
 ghost use Rattle.run_report.specs.OneDevice.{lines_by};
 ghost use Rattle.subsystem_core.specs.Ends.{end_seen};
@@ -145,8 +145,8 @@ fn work_seen(
 
 /// The end of the command that ended last, where it stands.
 fn last_end<V: Volume>(device: &Device<V>) -> &CommandEnd
-    requires { IsSome (last_end_of device.now.past) }
-    ensures { last_end_of device.now.past ≡ Some result.now }
+    requires { IsSome (last_end device.now) }
+    ensures { last_end device.now ≡ Some result.now }
 {
     match device.last_end() {
         Some(end) => end,
@@ -194,8 +194,8 @@ pub(crate) fn record_work<V: Volume>(
     passed: &Passed,
     asker: Asker,
 ) -> Result<(), NoMemory>
-    requires { IsSome (end_seen device.now.past passed.now.end) }
-    ensures { (told : defs.EventEnd) → end_seen device.now.past passed.now.end ≡ Some told → OnOk result (report.new ≡ report.old
+    requires { IsSome (end_seen (last_end device.now) passed.now.end) }
+    ensures { (told : defs.EventEnd) → end_seen (last_end device.now) passed.now.end ≡ Some told → OnOk result (report.new ≡ report.old
         ++ lines_passed d device.now passed.now (work_told d passed.now.running (idle_told d asker) told)) }
 {
     let items = behind_first(device.journal(), passed.items);

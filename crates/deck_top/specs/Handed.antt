@@ -8,8 +8,8 @@ use Rattle.device_outside.specs.Bay.{Bay}
 use Rattle.device_outside.specs.declared.bay.Taken.{Taken}
 use Rattle.device_outside.specs.declared.volume.Volume.{Ghosts}
 use Rattle.device_outside.specs.Disk.{Disk}
-use Rattle.device_store.specs.State.{on_a, on_b}
 use Rattle.device_core.specs.declared.device.Device.{Device}
+use Rattle.device_core.specs.State.{device_of, volume_a, volume_b}
 use Rattle.subsystem_defs.specs.Closing.{HandedOut}
 use Rattle.subsystem_defs.specs.Decks.{handed_out_of}
 
@@ -50,13 +50,13 @@ on_side n side (Some v) = record { device = n; side = side; volume = v } ∷ []
 module _ {G : Ghosts Disk} where
   -- the volumes that stand in a device, side A before side B
   abbrev pub taken_of : Device Disk G → List Taken
-  taken_of x = on_side x.store.number A (on_a x.store) ++ on_side x.store.number B (on_b x.store)
+  taken_of x = on_side (device_of x).store.device A (volume_a x) ++ on_side (device_of x).store.device B (volume_b x)
 
   abbrev pub all_taken : List (Device Disk G) → List Taken
   all_taken xs = flat_map taken_of xs
 
   abbrev pub SidesHoldBytes : Device Disk G → Type 0
-  SidesHoldBytes x = IfSome (on_a x.store) HoldsBytes × IfSome (on_b x.store) HoldsBytes
+  SidesHoldBytes x = IfSome (volume_a x) HoldsBytes × IfSome (volume_b x) HoldsBytes
 
   abbrev pub AllHoldBytes : List (Device Disk G) → Type 0
   AllHoldBytes [] = Unit {0}

@@ -3,6 +3,7 @@ use Rattle.std.specs.Prelude.{ℕ, ◌+◌, ◌-◌, ◌^◌, min, List, fold}
 use Rattle.device_outside.specs.declared.volume.Volume.{Ghosts}
 use Rattle.device_core.specs.declared.device.Device.{Device}
 use Rattle.device_defs.specs.Excused.{count_lost}
+use Rattle.device_core.specs.State.{device_of}
 use Rattle.deck_top.specs.declared.sums.Sums.{Sums}
 use Rattle.report_text.specs.declared.summary.LineCounts.{LineCounts}
 use Rattle.report_text.specs.declared.summary.Summary.{Summary}
@@ -26,13 +27,13 @@ total f xs = fold (λ n x. added n (f x)) 0 xs
 
 module _ {V : Type 0} {G : Ghosts V} where
   abbrev pub reads_in : Device V G → ℕ
-  reads_in x = x.store.counts.reads
+  reads_in x = (device_of x).store.counts.reads
 
   abbrev pub writes_in : Device V G → ℕ
-  writes_in x = x.store.counts.writes
+  writes_in x = (device_of x).store.counts.writes
 
   abbrev pub lost_in : Device V G → ℕ
-  lost_in x = count_lost x.store.lost
+  lost_in x = count_lost (device_of x).store.lost
 
   -- the volume calls and the lost tracks of all
   abbrev pub sums_of : List (Device V G) → Sums

@@ -8,7 +8,6 @@ use Rattle.ckd_types.specs.Volume.{empty_volume}
 use Rattle.loss_model.specs.declared.Loss.{Loss}
 use Rattle.loss_model.specs.declared.Loss.TheVariants as losses
 use Rattle.plain_defs.specs.Journal.{Plans}
-use Rattle.plain_defs.specs.PlainState.{PlainState, empty_state}
 use Rattle.plain_defs.specs.Whole.{GiveBytes}
 use Rattle.track_image.specs.Image.{Image}
 use Rattle.device_outside.specs.declared.volume.Volume.{Ghosts}
@@ -27,10 +26,12 @@ use Rattle.device_defs.specs.Marks.{MarksDevice, half_mark}
 use Rattle.device_defs.specs.Orders as O
 use Rattle.device_defs.specs.Orders.{lend, restore}
 use Rattle.device_defs.specs.Owed.{noted_end, waiting_count}
+use Rattle.device_defs.specs.Peek.{Peeked, peek}
 use Rattle.device_defs.specs.Sound as defs
 use Rattle.device_defs.specs.Store.{is_lost, tracks_of}
+use Rattle.device_laws.specs.SoundOn.{IsSoundAtOn, IsSoundOn, begun_as}
 use Rattle.device_laws.specs.Whole.{WholeDevice, WholeTwin, WholeTwins, holding, marks_device}
-use Rattle.device_laws.proofs.Always.{Always, always_done, always_then}
+use Rattle.device_laws.proofs.Always.{Always, always_done, always_then, always_weaker}
 use Rattle.device_laws.proofs.DeviceCuts.{always_any}
 use Rattle.device_laws.proofs.Had.{Had}
 use Rattle.device_laws.proofs.KeepLaws.{always_ran}
@@ -38,6 +39,7 @@ use Rattle.device_laws.proofs.KeptEvents.{Continues, background_goes, lose_goes}
 use Rattle.device_laws.proofs.Lending.{lend_whole}
 use Rattle.device_laws.proofs.Lent.{IsShared, LeavesLent, background_lent, loss_lent, power_lent, reset_lent}
 use Rattle.device_laws.proofs.PlainCuts.{reset_follows}
+use Rattle.device_laws.proofs.PlainEvents.{had_always}
 use Rattle.device_laws.proofs.PlainLosses.{background_follows, loss_follows}
 use Rattle.device_laws.proofs.PlainOrders.{lend_follows, restore_follows}
 use Rattle.device_laws.proofs.PlainPower.{power_follows}
@@ -45,12 +47,16 @@ use Rattle.device_laws.proofs.PlainTurns.{Follows}
 use Rattle.device_laws.proofs.Restoring.{restore_order, restore_same}
 use Rattle.device_store.specs.State.{had, on_a, on_b, outside, surely}
 use Rattle.subsystem_laws.specs.Came.{CameTo}
-use Rattle.subsystem_laws.specs.Standing.{IsBeside, Untold}
+use Rattle.subsystem_laws.specs.Standing.{IsBesideOn, Untold}
 use Rattle.subsystem_laws.proofs.Came.{came_had}
 use Rattle.subsystem_laws.proofs.Shapes.{power_shape, reset_shape}
+use Rattle.subsystem_laws.proofs.looking.EitherWay.{look_had}
+use Rattle.subsystem_laws.proofs.looking.Keeps.{peek_keeps_own}
+use Rattle.subsystem_laws.proofs.looking.LentPeek.{peek_lent}
 use Rattle.subsystem_laws.proofs.turning.Beside.{beside_there, itself, own_follows}
 use Rattle.subsystem_laws.proofs.turning.Sound.{beside_plain, beside_sound}
 use Rattle.subsystem_laws.proofs.turning.Untold.{replied, twinned}
+use Rattle.subsystem_laws.proofs.turning.Wanting.{peek_stays}
 use Rattle.device_core.specs.declared.device.Device as core
 use Rattle.device_core.specs.Promises.{
   ComesPlain,
@@ -79,10 +85,7 @@ module _ {F P H R : Type 0} (c : Contents F P H R) where
 
 -- Over contents
 
-abbrev own_empty : WholeDevice → PlainState
-own_empty d = empty_state d.store.geometry d.store.cylinders
-
-abbrev marks : {K : Type 0} {d : WholeDevice} {u : Outside (List ℕ) K} → IsLentBeside d u → MarksDevice
+abbrev marks : {first : List Track} {K : Type 0} {d : WholeDevice} {u : Outside (List ℕ) K} → IsLentBeside first d u → MarksDevice
 marks {d = d} s = marks_device s.plain s.firm d
 
 shared : (loss : Loss) → TakesNoSide loss → IsShared loss
@@ -90,11 +93,11 @@ shared losses.Cache no_side = tt
 shared losses.Store no_side = tt
 shared (losses.Side side) no_side = no_side
 
-module _ {K : Type 0} (d : WholeDevice) {e : WholeDevice} {u z : Outside (List ℕ) K} {hears : Hearing Image K} where
+module _ (first : List Track) {K : Type 0} (d : WholeDevice) {e : WholeDevice} {u z : Outside (List ℕ) K} {hears : Hearing Image K} where
   -- what leaves it lent
   behind : {A : Type 0} {a : A} (h : Holdings (List ℕ)) → Untold u h → GiveBytes d.plans → {i : Interaction (List ℕ) Image WholeDevice A}
-      {j : Interaction Bool Image MarksDevice A} → WholeTwins LeavesLent i j h → Had j (λ y _. Follows d.store.device (own_empty d) y) →
-      ((t : CameTo j) (v w : List Track) → marks_device v w e ≡ t.state → e.plans ≡ d.plans) → Ran surely hears i u e a z → IsLentBeside e z
+      {j : Interaction Bool Image MarksDevice A} → WholeTwins LeavesLent i j h → Had j (λ y _. Follows d.store.device (begun_as (λ (_ : ℕ). first) d) y) →
+      ((t : CameTo j) (v w : List Track) → marks_device v w e ≡ t.state → e.plans ≡ d.plans) → Ran surely hears i u e a z → IsLentBeside first e z
   behind h untold gives {j = j} both follows plans r =
       let o = twinned [] (WholeTwin LeavesLent) (λ m y q l h. h) h both untold (replied r) in
       let t : CameTo j = record { state = o.state; answer = o.answer; is = o.came } in
@@ -104,73 +107,79 @@ module _ {K : Type 0} (d : WholeDevice) {e : WholeDevice} {u z : Outside (List �
         held = o.holdings;
         untold = o.untold;
         lent = o.is.is.lent;
-        follows = own_follows d.store.device (own_empty d) (marks_device o.is.plain o.is.firm e)
-            (subst (λ (x : MarksDevice). Follows d.store.device (own_empty d) x) (sym o.is.marks) (came_had follows t));
+        follows = own_follows (λ (_ : ℕ). first) d.store.device (begun_as (λ (_ : ℕ). first) d) (marks_device o.is.plain o.is.firm e)
+            (subst (λ (x : MarksDevice). Follows d.store.device (begun_as (λ (_ : ℕ). first) d) x) (sym o.is.marks) (came_had follows t)) refl;
         gives = subst (λ (p : Plans). GiveBytes p) (sym (plans t o.is.plain o.is.firm o.is.marks)) gives;
       }
 
   -- the volume leaves
-  lends : (to : ℕ) → IsBeside d u → d.store.paired ≡ false → d.history.running ≡ None → Ran surely hears (lend contents d to) u e tt z → IsLentBeside e z
+  lends : (to : ℕ) → IsBesideOn (λ (_ : ℕ). first) d u → d.store.paired ≡ false → d.history.running ≡ None → Ran surely hears (lend contents d to) u e tt z → IsLentBeside first e z
   lends to s single idle r =
       behind s.held s.untold s.gives (lend_whole s.plain s.firm d s.held to s.order single idle)
-      (lend_follows d.store.device (own_empty d) (marks_device s.plain s.firm d) s.follows idle to)
+      (lend_follows d.store.device (begun_as (λ (_ : ℕ). first) d) (marks_device s.plain s.firm d) s.follows idle to)
       (λ t v w is. always_ran (lend contents d to) (λ y _. y.plans ≡ d.plans) (lend_plans contents d to).holds r) r
 
   -- Its events then
 
-  module _ (s : IsLentBeside d u) where
-    works : {a : Option Did} → Ran surely hears (background contents d) u e a z → IsLentBeside e z
+  module _ (s : IsLentBeside first d u) where
+    works : {a : Option Did} → Ran surely hears (background contents d) u e a z → IsLentBeside first e z
     works r =
         behind s.held s.untold s.gives (background_lent s.plain s.firm d s.held s.lent)
-        (background_follows d.store.device (own_empty d) (marks s) s.follows (ap (option_map half_mark) s.lent.store.half))
+        (background_follows d.store.device (begun_as (λ (_ : ℕ). first) d) (marks s) s.follows (ap (option_map half_mark) s.lent.store.half))
         (λ t v w is. (always_ran (background contents d) (λ y _. Continues d.plans d.history y)
         (background_goes contents d.plans d.history d (itself d)).holds r).plans) r
 
-    loses : (loss : Loss) → TakesNoSide loss → Ran surely hears (lose contents d loss) u e tt z → IsLentBeside e z
+    looks : (track : ℕ) {a : Option Peeked} → Ran surely hears (peek contents d track) u e a z → IsLentBeside first e z
+    looks track r =
+        behind s.held s.untold s.gives (peek_lent s.plain s.firm d s.held track s.lent)
+        (had_always (always_weaker (peek_stays d.store.device (begun_as (λ (_ : ℕ). first) d) (marks s) s.follows track) (λ y _ x. x.follows)))
+        (λ t v w is. (peek_keeps_own d e track r).plans) r
+
+    loses : (loss : Loss) → TakesNoSide loss → Ran surely hears (lose contents d loss) u e tt z → IsLentBeside first e z
     loses loss no_side r =
         behind s.held s.untold s.gives (loss_lent s.plain s.firm d s.held loss (shared loss no_side) s.lent)
-        (loss_follows d.store.device (own_empty d) (marks s) s.follows loss)
+        (loss_follows d.store.device (begun_as (λ (_ : ℕ). first) d) (marks s) s.follows loss)
         (λ t v w is. (always_ran (lose contents d loss) (λ y _. Continues d.plans d.history y)
         (lose_goes contents d.plans d.history d loss (itself d)).holds r).plans) r
 
-    resets : (path : ℕ) → Ran surely hears (reset contents d path) u e tt z → IsLentBeside e z
+    resets : (path : ℕ) → Ran surely hears (reset contents d path) u e tt z → IsLentBeside first e z
     resets path r =
         behind s.held s.untold s.gives (reset_lent s.plain s.firm d s.held path s.lent)
-        (reset_follows d.store.device (own_empty d) (marks s) s.follows path)
+        (reset_follows d.store.device (begun_as (λ (_ : ℕ). first) d) (marks s) s.follows path)
         (λ t v w is. ap (λ (m : MarksDevice). m.plans) is ∙ (reset_shape (marks s) path t).1) r
 
-    loses_power : Ran surely hears (power contents d) u e tt z → IsLentBeside e z
+    loses_power : Ran surely hears (power contents d) u e tt z → IsLentBeside first e z
     loses_power r =
-        behind s.held s.untold s.gives (power_lent s.plain s.firm d s.held s.lent) (power_follows d.store.device (own_empty d) (marks s) s.follows)
+        behind s.held s.untold s.gives (power_lent s.plain s.firm d s.held s.lent) (power_follows d.store.device (begun_as (λ (_ : ℕ). first) d) (marks s) s.follows)
         (λ t v w is. ap (λ (m : MarksDevice). m.plans) is ∙ (power_shape (marks s) t).1) r
 
 -- an empty one comes
-restores : {K : Type 0} {d : WholeDevice} {u : Outside (List ℕ) K} (v : VolumeView (List ℕ)) → d.store.cylinders ≤ 64 →
-    v.contents ≡ Some (empty_contents (d.store.cylinders * 15)) → IsLentBeside d u → IsBeside (restore d) (with_view u sides.A v)
-restores {d = d} v most tells s = record {
+restores : {first : List Track} {K : Type 0} {d : WholeDevice} {u : Outside (List ℕ) K} (v : VolumeView (List ℕ)) → d.store.cylinders ≤ 64 →
+    v.contents ≡ Some (empty_contents (d.store.cylinders * 15)) → IsLentBeside first d u → IsBesideOn (λ (_ : ℕ). first) (restore d) (with_view u sides.A v)
+restores {first = first} {d = d} v most tells s = record {
   plain = empty_volume d.store.cylinders;
   firm = empty_volume d.store.cylinders;
   held = holding s.held sides.A (empty_contents (d.store.cylinders * 15));
   untold = record { a = tells; b = s.untold.b; slots = s.untold.slots };
   order = restore_order s.plain s.firm d s.held s.lent.store most;
   follows =
-      subst (λ (x : MarksDevice). Follows d.store.device (own_empty d) x) (sym (restore_same s.plain s.firm d s.held s.lent.store most))
-      (restore_follows d.store.device (own_empty d) (marks_device s.plain s.firm d) s.follows s.lent.idle);
+      subst (λ (x : MarksDevice). Follows d.store.device (begun_as (λ (_ : ℕ). first) d) x) (sym (restore_same s.plain s.firm d s.held s.lent.store most))
+      (restore_follows d.store.device (begun_as (λ (_ : ℕ). first) d) (marks_device s.plain s.firm d) s.follows s.lent.idle);
   gives = s.gives;
 }
 
 -- of a device that is lent nothing has to be held
-lent_by_mark : (d : WholeDevice) (h : Holdings (List ℕ)) (b : Bool) → b ≡ true →
-    elim b as (λ (x : Bool). Type 0) [ true ↦ Unit {0} | false ↦ (t : ℕ) → t < tracks_of d.store → defs.IsSoundAt d h t ]
-lent_by_mark d h true e = tt
-lent_by_mark d h false e = absurd (cc)
+lent_by_mark : (first : List Track) (d : WholeDevice) (h : Holdings (List ℕ)) (b : Bool) → b ≡ true →
+    elim b as (λ (x : Bool). Type 0) [ true ↦ Unit {0} | false ↦ (t : ℕ) → t < tracks_of d.store → IsSoundAtOn (λ (_ : ℕ). first) d h t ]
+lent_by_mark first d h true e = tt
+lent_by_mark first d h false e = absurd (cc)
 
-lent_sound : {K : Type 0} {d : WholeDevice} {u : Outside (List ℕ) K} (s : IsLentBeside d u) → defs.IsSound d s.held
-lent_sound {d = d} s = lent_by_mark d s.held (is_some d.store.lent) s.lent.store.lent
+lent_sound : {first : List Track} {K : Type 0} {d : WholeDevice} {u : Outside (List ℕ) K} (s : IsLentBeside first d u) → IsSoundOn (λ (_ : ℕ). first) d s.held
+lent_sound {first = first} {d = d} s = lent_by_mark first d s.held (is_some d.store.lent) s.lent.store.lent
 
 -- over another outside of the same volumes
-there : {K L : Type 0} {d : WholeDevice} {u : Outside (List ℕ) K} {w : Outside (List ℕ) L} → ((h : Holdings (List ℕ)) → Untold u h → Untold w h) →
-    IsLentBeside d u → IsLentBeside d w
+there : {first : List Track} {K L : Type 0} {d : WholeDevice} {u : Outside (List ℕ) K} {w : Outside (List ℕ) L} → ((h : Holdings (List ℕ)) → Untold u h → Untold w h) →
+    IsLentBeside first d u → IsLentBeside first d w
 there same s = record {
   plain = s.plain;
   firm = s.firm;
@@ -188,10 +197,10 @@ module _ {V : Type 0} {G : Ghosts V} (d e : core.Device V G) where
       {hears : Hearing Image L}
       (run : Ran surely hears (lend contents (device_of d) to) (outside old d.store k) (device_of e) tt
       (record (outside new e.store k) { a = option_map G.view x })) (idle : (device_of d).history.running ≡ None) where
-    goes : StandsPlain d → StandsLent e
-    goes s =
+    goes : (first : List Track) → StandsPlain first d → StandsLent first e
+    goes first s =
         let b = beside_there (device_of d) (told_by d) (outside old d.store k) (λ h t. record { a = t.a; b = t.b; slots = t.slots }) s in
-        let l = lends (device_of d) to b single idle run in
+        let l = lends first (device_of d) to b single idle run in
         there (λ h t. record {
           a = subst (λ (o : Option V). Tells (option_map G.view o) h.a) (sym gone) tt;
           b = t.b;
@@ -200,26 +209,26 @@ module _ {V : Type 0} {G : Ghosts V} (d e : core.Device V G) where
 
     pub lend_sound : StaysSound d e
     lend_sound = record {
-      sound = λ s. let l = goes s in record { held = l.held; on_a = l.untold.a; on_b = l.untold.b; is = lent_sound l };
+      sound = λ first s. let l = goes first s in record { held = l.held; on_a = l.untold.a; on_b = l.untold.b; is = lent_sound l };
     }
 
     pub lend_leaves_plain : LeavesPlain d e
-    lend_leaves_plain = record { stands = goes; history = λ s. (goes s).follows.stands.plain }
+    lend_leaves_plain = record { stands = goes; history = λ first s. (goes first s).follows.stands.plain }
 
-    pub lend_loses_none : StandsPlain d → HasLostNone e
-    lend_loses_none s = record { none = (goes s).lent.store.lost }
+    pub lend_loses_none : (first : List Track) → StandsPlain first d → HasLostNone e
+    lend_loses_none first s = record { none = (goes first s).lent.store.lost }
 
   module _ (v : V) (is : device_of e ≡ restore (device_of d)) (a : on_a e.store ≡ Some v) (b : on_b e.store ≡ on_b d.store)
       (tells : (G.view v).contents ≡ Some (empty_contents (d.store.cylinders * 15))) where
-    comes : StandsLent d → StandsPlain e
-    comes s =
-        subst (λ (y : DefinedDevice). IsBeside y (told_by e)) (sym is)
-        (subst (λ (w : Outside (List ℕ) (Unit {0})). IsBeside (restore (device_of d)) w) (sym (side_told d e sides.A v a b))
+    comes : (first : List Track) → StandsLent first d → StandsPlain first e
+    comes first s =
+        subst (λ (y : DefinedDevice). IsBesideOn (λ (_ : ℕ). first) y (told_by e)) (sym is)
+        (subst (λ (w : Outside (List ℕ) (Unit {0})). IsBesideOn (λ (_ : ℕ). first) (restore (device_of d)) w) (sym (side_told d e sides.A v a b))
         (restores (G.view v) d.store.most tells s))
 
     pub restore_sound : ComesSound d e
     restore_sound = record {
-      sound = λ s. let x = comes s in record {
+      sound = λ first s. let x = comes first s in record {
         held = x.held;
         on_a = x.untold.a;
         on_b = x.untold.b;
@@ -228,36 +237,46 @@ module _ {V : Type 0} {G : Ghosts V} (d e : core.Device V G) where
     }
 
     pub restore_comes_plain : ComesPlain d e
-    restore_comes_plain = record { stands = comes; history = λ s. beside_plain (device_of e) (told_by e) (comes s) }
+    restore_comes_plain = record { stands = comes; history = λ first s. beside_plain (device_of e) (told_by e) (comes first s) }
 
-  pub restore_loses_none : device_of e ≡ restore (device_of d) → StandsLent d → HasLostNone e
-  restore_loses_none is s = record { none = λ t. ap (λ (y : DefinedDevice). is_lost y.store t) is ∙ s.lent.store.lost t }
+  pub restore_loses_none : device_of e ≡ restore (device_of d) → (first : List Track) → StandsLent first d → HasLostNone e
+  restore_loses_none is first s = record { none = λ t. ap (λ (y : DefinedDevice). is_lost y.store t) is ∙ s.lent.store.lost t }
 
   -- while it is lent
 
-  lent_by : (StandsLent d → StandsLent e) → StaysLent d e
-  lent_by f = record { stands = f; history = λ s. (f s).follows.stands.plain; lost = λ s. record { none = (f s).lent.store.lost } }
+  pub lent_by : ((first : List Track) → StandsLent first d → StandsLent first e) → StaysLent d e
+  lent_by f = record {
+    stands = f;
+    history = λ first s. (f first s).follows.stands.plain;
+    lost = λ first s. record { none = (f first s).lent.store.lost };
+  }
 
   module _ {L : Type 0} (old new : PortView) (j k : L) where
-    across : (IsLentBeside (device_of d) (outside old d.store j) → IsLentBeside (device_of e) (outside new e.store k)) → StaysLent d e
+    across : ((first : List Track) → IsLentBeside first (device_of d) (outside old d.store j) → IsLentBeside first (device_of e) (outside new e.store k)) →
+        StaysLent d e
     across f =
-        lent_by (λ s. there (λ h t. record { a = t.a; b = t.b; slots = t.slots })
-        (f (there (λ h t. record { a = t.a; b = t.b; slots = t.slots }) s)))
+        lent_by (λ first s. there (λ h t. record { a = t.a; b = t.b; slots = t.slots })
+        (f first (there (λ h t. record { a = t.a; b = t.b; slots = t.slots }) s)))
 
     pub background_lent_on : {hears : Hearing Image L} (r : Result Did NoMemory) →
         Ran (where_ok r) hears (background contents (device_of d)) (outside old d.store j) (device_of e) (had (λ x. x) r) (outside new e.store k) →
         OnOk r (StaysLent d e)
-    background_lent_on (Ok x) run = across (λ s. works (device_of d) s run)
+    background_lent_on (Ok x) run = across (λ first s. works first (device_of d) s run)
     background_lent_on (Err x) run = tt
+
+    -- a look, also where memory was lacking
+    pub peek_lent_on : {hears : Hearing Image L} {had : Bool → Type 0} {a : Option Peeked} (t : ℕ) →
+        Ran had hears (peek contents (device_of d) t) (outside old d.store j) (device_of e) a (outside new e.store k) → StaysLent d e
+    peek_lent_on t run = across (λ first s. looks first (device_of d) s t (look_had contents (device_of d) t run).1)
 
     pub lose_lent_on : {hears : Hearing Image L} (loss : Loss) →
         Ran surely hears (lose contents (device_of d) loss) (outside old d.store j) (device_of e) tt (outside new e.store k) → TakesNoSide loss → StaysLent d e
-    lose_lent_on loss run no_side = across (λ s. loses (device_of d) s loss no_side run)
+    lose_lent_on loss run no_side = across (λ first s. loses first (device_of d) s loss no_side run)
 
     pub reset_lent_on : {hears : Hearing Image L} (path : ℕ) →
         Ran surely hears (reset contents (device_of d) path) (outside old d.store j) (device_of e) tt (outside new e.store k) → StaysLent d e
-    reset_lent_on path run = across (λ s. resets (device_of d) s path run)
+    reset_lent_on path run = across (λ first s. resets first (device_of d) s path run)
 
     pub power_lent_on : {hears : Hearing Image L} →
         Ran surely hears (power contents (device_of d)) (outside old d.store j) (device_of e) tt (outside new e.store k) → StaysLent d e
-    power_lent_on run = across (λ s. loses_power (device_of d) s run)
+    power_lent_on run = across (λ first s. loses_power first (device_of d) s run)

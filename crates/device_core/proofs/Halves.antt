@@ -16,13 +16,12 @@ use Rattle.device_defs.specs.Events.{second_told}
 use Rattle.device_defs.specs.Outcomes.{told_step}
 use Rattle.device_store.specs.declared.half.HalfWrite.{HalfWrite}
 use Rattle.device_store.specs.State.{half_of}
-use Rattle.device_core.specs.declared.past.Past.{Past}
 use Rattle.device_core.specs.declared.past.Running.{Running}
 use Rattle.device_core.specs.declared.past.Stepped.{Stepped}
 use Rattle.device_core.specs.declared.past.Stepped.TheVariants as steps
 use Rattle.device_core.specs.Halves.{IsWaiting, is_half_step}
 use Rattle.device_core.specs.Kept.{chain_of}
-use Rattle.device_core.specs.State.{last_end_of, step_seen}
+use Rattle.device_core.specs.State.{step_seen}
 use Rattle.device_core.specs.Turns.{may_be_written, is_half, IsHeld, Left}
 use Rattle.device_core.specs.Words.{HasEndRoom, IsAtWord}
 use Rattle.device_core.proofs.Stepping.{ready_at}
@@ -89,10 +88,10 @@ ended_by : (o : Option CommandEnd) (e : CommandEnd) → option_map answers.Ended
 ended_by None e is = absurd (cc)
 ended_by (Some x) e is = let same : x ≡ e = cc in ap (λ (y : CommandEnd). Some (seconds.Ended y)) same
 
-pub told_second : (p : Past) (s : Stepped) (came : Came) (t : ℕ) → step_seen p s ≡ Some (told_step came) → is_half_step s ≡ is_half came →
-    is_half came ≡ false → option_map seconds.Ended (last_end_of p) ≡ Some (second_told contents t came)
-told_second p steps.Ended (Ends e) t is same whole = ended_by (last_end_of p) e is
-told_second p steps.Ended (Checks e) t is same whole = ended_by (last_end_of p) e is
-told_second p s (HalfOpen q) t is same whole = absurd (cc)
-told_second p (steps.Half q) (Ends e) t is same whole = absurd (cc)
-told_second p (steps.Half q) (Checks e) t is same whole = absurd (cc)
+pub told_second : (last : Option CommandEnd) (s : Stepped) (came : Came) (t : ℕ) → step_seen last s ≡ Some (told_step came) → is_half_step s ≡ is_half came →
+    is_half came ≡ false → option_map seconds.Ended last ≡ Some (second_told contents t came)
+told_second last steps.Ended (Ends e) t is same whole = ended_by last e is
+told_second last steps.Ended (Checks e) t is same whole = ended_by last e is
+told_second last s (HalfOpen q) t is same whole = absurd (cc)
+told_second last (steps.Half q) (Ends e) t is same whole = absurd (cc)
+told_second last (steps.Half q) (Checks e) t is same whole = absurd (cc)

@@ -20,4 +20,6 @@ pub mod Promising
 pub mod Ordering
 pub mod FastWrites
 pub mod Away
+pub mod Planned
 pub mod StaleTracks
+pub mod Marked

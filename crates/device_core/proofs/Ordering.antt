@@ -23,7 +23,7 @@ use Rattle.subsystem_laws.proofs.turning.Orders.{
   split_stands,
 }
 use Rattle.device_core.specs.declared.device.Device.{Device}
-use Rattle.device_core.specs.Promises.{StandsPlain, StandsWhole, StaysExcused, StaysPlain, StaysSound, TellsTracks, told_by}
+use Rattle.device_core.specs.Promises.{KeepsPlain, KeepsWhole, StaysExcused, StaysPlain, StaysSound, TellsTracks, told_by}
 use Rattle.device_core.specs.State.{device_of}
 use Rattle.device_core.proofs.Promising.{excused_by, plain_by, plain_over, sound_by, whole_over}
 
@@ -33,12 +33,12 @@ module _ {V : Type 0} {G : Ghosts V} (d e : Device V G) where
   same_volumes : e.store.pair.volumes ≡ d.store.pair.volumes → told_by e ≡ told_by d
   same_volumes same = ap (λ (v : SideVolumes V). outside_of (no_pool 0) G.view v (tt {0})) same
 
-  held_plain : device_of e ≡ hold_side (device_of d) → e.store.pair.volumes ≡ d.store.pair.volumes → StandsPlain d → StandsPlain e
-  held_plain is same = plain_over d e (λ s. held_beside (device_of d) (told_by d) true s) is (same_volumes same)
+  held_plain : device_of e ≡ hold_side (device_of d) → e.store.pair.volumes ≡ d.store.pair.volumes → KeepsPlain d e
+  held_plain is same = plain_over d e (λ first s. held_beside (device_of d) (told_by d) true s) is (same_volumes same)
 
   held_whole : device_of e ≡ hold_side (device_of d) → e.store.pair.volumes ≡ d.store.pair.volumes → suspend_fault (device_of d) ≡ None →
-      StandsWhole d → StandsWhole e
-  held_whole is same fault = whole_over d e (λ s. held_stands (device_of d) (told_by d) true (λ _. fault) s) is (same_volumes same)
+      KeepsWhole d e
+  held_whole is same fault = whole_over d e (λ first s. held_stands (device_of d) (told_by d) true (λ _. fault) s) is (same_volumes same)
 
   pub hold_sound : device_of e ≡ hold_side (device_of d) → e.store.pair.volumes ≡ d.store.pair.volumes → StaysSound d e
   hold_sound is same = sound_by d e (held_plain is same)
@@ -49,11 +49,11 @@ module _ {V : Type 0} {G : Ghosts V} (d e : Device V G) where
   pub hold_excused : device_of e ≡ hold_side (device_of d) → e.store.pair.volumes ≡ d.store.pair.volumes → suspend_fault (device_of d) ≡ None → StaysExcused d e
   hold_excused is same fault = excused_by d e (held_whole is same fault)
 
-  resumed_plain : device_of e ≡ resume (device_of d) → e.store.pair.volumes ≡ d.store.pair.volumes → StandsPlain d → StandsPlain e
-  resumed_plain is same = plain_over d e (λ s. held_beside (device_of d) (told_by d) false s) is (same_volumes same)
+  resumed_plain : device_of e ≡ resume (device_of d) → e.store.pair.volumes ≡ d.store.pair.volumes → KeepsPlain d e
+  resumed_plain is same = plain_over d e (λ first s. held_beside (device_of d) (told_by d) false s) is (same_volumes same)
 
-  resumed_whole : device_of e ≡ resume (device_of d) → e.store.pair.volumes ≡ d.store.pair.volumes → StandsWhole d → StandsWhole e
-  resumed_whole is same = whole_over d e (λ s. held_stands (device_of d) (told_by d) false (λ f. absurd (cc)) s) is (same_volumes same)
+  resumed_whole : device_of e ≡ resume (device_of d) → e.store.pair.volumes ≡ d.store.pair.volumes → KeepsWhole d e
+  resumed_whole is same = whole_over d e (λ first s. held_stands (device_of d) (told_by d) false (λ f. absurd (cc)) s) is (same_volumes same)
 
   pub resume_sound : device_of e ≡ resume (device_of d) → e.store.pair.volumes ≡ d.store.pair.volumes → StaysSound d e
   resume_sound is same = sound_by d e (resumed_plain is same)
@@ -82,14 +82,14 @@ module _ {V : Type 0} {G : Ghosts V} (d e : Device V G) where
 
   module _ (side : Side) (v : V) (tells : TellsTracks (G.view v) (d.store.cylinders * 15)) (is : device_of e ≡ replace (device_of d) side)
       (here : volume_of e.store.pair.volumes side ≡ Some v) (other : other_of e.store.pair.volumes side ≡ other_of d.store.pair.volumes side) where
-    replaced_plain : is_some (volume_of d.store.pair.volumes side) ≡ true → (side_of (device_of d).store side).up ≡ false → StandsPlain d → StandsPlain e
+    replaced_plain : is_some (volume_of d.store.pair.volumes side) ≡ true → (side_of (device_of d).store side).up ≡ false → KeepsPlain d e
     replaced_plain there down =
-        plain_over d e (λ s. replaced_beside (device_of d) (told_by d) (G.view v) tells.0 tells.1 tells.2 side s down (paired_by side there)) is
+        plain_over d e (λ first s. replaced_beside (device_of d) (told_by d) (G.view v) tells.0 tells.1 tells.2 side s down (paired_by side there)) is
         (side_told side v here other)
 
-    replaced_whole : replace_fault (device_of d) side ≡ None → StandsWhole d → StandsWhole e
+    replaced_whole : replace_fault (device_of d) side ≡ None → KeepsWhole d e
     replaced_whole fault =
-        whole_over d e (λ s. replaced_stands (device_of d) (told_by d) (G.view v) tells.0 tells.1 tells.2 side s fault) is (side_told side v here other)
+        whole_over d e (λ first s. replaced_stands (device_of d) (told_by d) (G.view v) tells.0 tells.1 tells.2 side s fault) is (side_told side v here other)
 
     pub replace_sound : is_some (volume_of d.store.pair.volumes side) ≡ true → (side_of (device_of d).store side).up ≡ false → StaysSound d e
     replace_sound there down = sound_by d e (replaced_plain there down)
@@ -104,13 +104,13 @@ module _ {V : Type 0} {G : Ghosts V} (d e : Device V G) where
 
   module _ (v : V) (tells : TellsTracks (G.view v) (d.store.cylinders * 15)) (single : (device_of d).store.paired ≡ false)
       (is : device_of e ≡ join (device_of d)) (a : on_a e.store ≡ on_a d.store) (b : on_b e.store ≡ Some v) where
-    joined_plain : StandsPlain d → StandsPlain e
+    joined_plain : KeepsPlain d e
     joined_plain =
-        plain_over d e (λ s. joined_beside (device_of d) (told_by d) (G.view v) tells.0 tells.1 tells.2 single s) is (side_told B v b a)
+        plain_over d e (λ first s. joined_beside (device_of d) (told_by d) (G.view v) tells.0 tells.1 tells.2 single s) is (side_told B v b a)
 
-    joined_whole : StandsWhole d → StandsWhole e
+    joined_whole : KeepsWhole d e
     joined_whole =
-        whole_over d e (λ s. joined_stands (device_of d) (told_by d) (G.view v) tells.0 tells.1 tells.2 single s) is (side_told B v b a)
+        whole_over d e (λ first s. joined_stands (device_of d) (told_by d) (G.view v) tells.0 tells.1 tells.2 single s) is (side_told B v b a)
 
     pub join_sound : StaysSound d e
     join_sound = sound_by d e joined_plain
@@ -126,11 +126,11 @@ module _ {V : Type 0} {G : Ghosts V} (d e : Device V G) where
 
   module _ (fault : unpair_fault (device_of d) ≡ None) (is : device_of e ≡ split (device_of d)) (a : on_a e.store ≡ on_a d.store)
       (b : on_b e.store ≡ None) where
-    split_plain : StandsPlain d → StandsPlain e
-    split_plain = plain_over d e (λ s. split_beside (device_of d) (told_by d) fault s) is (parted_told a b)
+    split_plain : KeepsPlain d e
+    split_plain = plain_over d e (λ first s. split_beside (device_of d) (told_by d) fault s) is (parted_told a b)
 
-    split_whole : StandsWhole d → StandsWhole e
-    split_whole = whole_over d e (λ s. split_stands (device_of d) (told_by d) fault s) is (parted_told a b)
+    split_whole : KeepsWhole d e
+    split_whole = whole_over d e (λ first s. split_stands (device_of d) (told_by d) fault s) is (parted_told a b)
 
     pub part_sound : StaysSound d e
     part_sound = sound_by d e split_plain

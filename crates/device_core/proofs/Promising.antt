@@ -1,7 +1,10 @@
 -- What a device promises by its calls follows from what each of them is.
 use Rattle.std.proofs.Common.{◌≡◌, ◌<◌, ◌≤◌, ◌*◌, ℕ, Bool, true, false, List, [], Option, Some, None, Result, Ok, Err, is_some, length, refl, sym, ap, subst, ◌∙◌}
 use Rattle.std.specs.Prelude.{IfOk, IfSome, IsSome, OnErr, OnOk, option_map}
+use Rattle.ckd_types.specs.declared.channel.CommandEnd.{CommandEnd}
 use Rattle.ckd_types.specs.declared.memory.NoMemory.{NoMemory}
+use Rattle.ckd_types.specs.declared.record.Track.{Track}
+use Rattle.ckd_types.specs.Volume.{empty_volume}
 use Rattle.ckd_chain.specs.Facts.{IsChain}
 use Rattle.ckd_chain.specs.State.{ChainState}
 use Rattle.loss_model.specs.declared.Loss.{Loss}
@@ -10,12 +13,14 @@ use Rattle.plain_defs.specs.History.{History, OpenEntry, no_history}
 use Rattle.plain_defs.specs.Journal.{Plans}
 use Rattle.plain_defs.specs.PlainState.{PathsState, fresh_paths}
 use Rattle.plain_defs.specs.Whole.{GiveBytes}
+use Rattle.plain_device.proofs.Wholes.{volume_empty}
 use Rattle.track_image.specs.Image.{Image}
 use Rattle.device_outside.specs.declared.volume.Volume.{Ghosts}
 use Rattle.device_outside.specs.After.{Tells}
 use Rattle.device_outside.specs.Disk.{empty_contents}
 use Rattle.device_outside.specs.Keeper.{Hearing}
 use Rattle.device_outside.specs.Outside.{Outside, PortView, Ran, no_pool, where_ok}
+use Rattle.device_outside.specs.Volume.{VolumeView}
 use Rattle.device_defs.specs.declared.answers.Did.{Did}
 use Rattle.device_defs.specs.declared.answers.SecondEnd.{SecondEnd}
 use Rattle.device_defs.specs.declared.answers.Stepped as defs_steps
@@ -32,7 +37,7 @@ use Rattle.device_store.specs.Looks.{StoreOf, peeked_by}
 use Rattle.device_store.specs.State.{had, on_a, on_b, opened_store, outside, surely}
 use Rattle.subsystem_laws.specs.Looking.{is_written_at}
 use Rattle.subsystem_laws.specs.Found.{FoundPlain}
-use Rattle.subsystem_laws.specs.Standing.{IsBeside, Stands}
+use Rattle.subsystem_laws.specs.Standing.{IsBesideOn, StandsOn}
 use Rattle.subsystem_laws.proofs.turning.Beside.{
   background_beside,
   beside_there,
@@ -44,14 +49,16 @@ use Rattle.subsystem_laws.proofs.turning.Beside.{
   second_beside,
   start_beside,
 }
+use Rattle.subsystem_laws.proofs.looking.EitherWay.{look_had}
 use Rattle.subsystem_laws.proofs.turning.Found.{peek_finds}
-use Rattle.subsystem_laws.proofs.turning.NewDevice.{new_stands}
-use Rattle.subsystem_laws.proofs.turning.SameAgain.{background_again, command_again}
+use Rattle.subsystem_laws.proofs.turning.NewDevice.{first_stands}
+use Rattle.subsystem_laws.proofs.turning.SameAgain.{background_again, command_again, peek_again}
 use Rattle.subsystem_laws.proofs.turning.Sound.{beside_plain, beside_sound, stands_excused}
 use Rattle.subsystem_laws.proofs.turning.Standing.{
   background_stands,
   command_stands,
   loss_stands,
+  peek_stands,
   power_stands,
   reset_stands,
   second_stands,
@@ -64,12 +71,32 @@ use Rattle.device_core.specs.declared.device.Device.{Device}
 use Rattle.device_core.specs.declared.past.Past.{Past}
 use Rattle.device_core.specs.declared.past.Running.{Running}
 use Rattle.device_core.specs.declared.past.Stepped.{Stepped}
+use Rattle.device_laws.specs.NewDevice.{volume_contents}
 use Rattle.device_laws.specs.Seen.{EndsAsSeen}
-use Rattle.device_core.specs.Promises.{EndsSeen, IsPromised, IsSound, StandsPlain, StandsWhole, StaysExcused, StaysPlain, StaysSame, StaysSound, told_by}
+use Rattle.device_laws.proofs.NewDevices.{empty_is_contents}
+use Rattle.device_core.specs.Promises.{
+  EndsSeen,
+  HoldsTracks,
+  IsPromised,
+  IsSound,
+  KeepsPlain,
+  KeepsWhole,
+  StandsPlain,
+  StandsWhole,
+  StaysExcused,
+  StaysPlain,
+  StaysSame,
+  StaysSound,
+  told_by,
+}
 use Rattle.device_core.specs.State.{DefinedDevice, chain_of, device_by, device_of, history_of, open_of, opened_device, step_had}
 use Rattle.device_core.proofs.Halves.{none_by}
 
 -- the program that runs, and its chain
+pub runs_there : (r : Option Running) → IsSome (option_map open_of r) → IsSome r
+runs_there (Some r) is = refl
+runs_there None is = absurd cc
+
 running_there : (r : Option Running) → IsSome r → (o : Running) × (r ≡ Some o)
 running_there (Some r) is = (r, refl)
 running_there None is = absurd cc
@@ -77,8 +104,8 @@ running_there None is = absurd cc
 some_same : {X : Type 0} (x y : X) → Some x ≡ Some y → x ≡ y
 some_same x y e = cc
 
-chain_told : (r : Option Running) → IfSome r (λ r. IsChain r.chain) → (chain : ChainState) → option_map chain_of r ≡ Some chain → IsChain chain
-chain_told (Some r) is chain e = subst IsChain (some_same (chain_of r) chain e) is
+chain_told : (o : Option ChainState) → IfSome o IsChain → (chain : ChainState) → o ≡ Some chain → IsChain chain
+chain_told (Some c) is chain e = subst IsChain (some_same c chain e) is
 chain_told None is chain e = absurd cc
 
 pub half_there : {X : Type 0} (o : Option X) → is_some o ≡ true → (x : X) × (o ≡ Some x)
@@ -88,9 +115,9 @@ half_there None is = absurd cc
 module _ {V : Type 0} {G : Ghosts V} (d e : Device V G) where
   -- What follows where it still stands so
 
-  pub sound_by : (StandsPlain d → StandsPlain e) → StaysSound d e
+  pub sound_by : KeepsPlain d e → StaysSound d e
   sound_by f = record {
-    sound = λ s. let x = f s in record {
+    sound = λ first s. let x = f first s in record {
       held = x.held;
       on_a = x.untold.a;
       on_b = x.untold.b;
@@ -98,33 +125,35 @@ module _ {V : Type 0} {G : Ghosts V} (d e : Device V G) where
     };
   }
 
-  pub plain_by : (StandsPlain d → StandsPlain e) → StaysPlain d e
-  plain_by f = record { stands = f; history = λ s. beside_plain (device_of e) (told_by e) (f s) }
+  pub plain_by : KeepsPlain d e → StaysPlain d e
+  plain_by f = record { stands = f; history = λ first s. beside_plain (device_of e) (told_by e) (f first s) }
 
-  pub excused_by : (StandsWhole d → StandsWhole e) → StaysExcused d e
-  excused_by f = record { stands = f; excused = λ s failed cache. stands_excused (device_of e) (told_by e) (f s) failed cache }
+  pub excused_by : KeepsWhole d e → StaysExcused d e
+  excused_by f = record { stands = f; excused = λ first s failed cache. stands_excused (device_of e) (told_by e) (f first s) failed cache }
 
   -- another device, over volumes that tell something else
-  pub plain_over : {x : DefinedDevice} {w : Outside (List ℕ) (Unit {0})} → (IsBeside (device_of d) (told_by d) → IsBeside x w) → device_of e ≡ x →
-      told_by e ≡ w → StandsPlain d → StandsPlain e
-  plain_over {x = x} f is told s =
-      subst (λ (y : DefinedDevice). IsBeside y (told_by e)) (sym is) (subst (λ (w : Outside (List ℕ) (Unit {0})). IsBeside x w) (sym told) (f s))
+  pub plain_over : {x : DefinedDevice} {w : Outside (List ℕ) (Unit {0})} → ((first : List Track) → IsBesideOn (λ (_ : ℕ). first) (device_of d) (told_by d) → IsBesideOn (λ (_ : ℕ). first) x w) →
+      device_of e ≡ x → told_by e ≡ w → KeepsPlain d e
+  plain_over {x = x} f is told first s =
+      subst (λ (y : DefinedDevice). IsBesideOn (λ (_ : ℕ). first) y (told_by e)) (sym is)
+      (subst (λ (w : Outside (List ℕ) (Unit {0})). IsBesideOn (λ (_ : ℕ). first) x w) (sym told) (f first s))
 
-  pub whole_over : {x : DefinedDevice} {w : Outside (List ℕ) (Unit {0})} → (Stands (device_of d) (told_by d) → Stands x w) → device_of e ≡ x →
-      told_by e ≡ w → StandsWhole d → StandsWhole e
-  whole_over {x = x} f is told s =
-      subst (λ (y : DefinedDevice). Stands y (told_by e)) (sym is) (subst (λ (w : Outside (List ℕ) (Unit {0})). Stands x w) (sym told) (f s))
+  pub whole_over : {x : DefinedDevice} {w : Outside (List ℕ) (Unit {0})} → ((first : List Track) → StandsOn (λ (_ : ℕ). first) (device_of d) (told_by d) → StandsOn (λ (_ : ℕ). first) x w) →
+      device_of e ≡ x → told_by e ≡ w → KeepsWhole d e
+  whole_over {x = x} f is told first s =
+      subst (λ (y : DefinedDevice). StandsOn (λ (_ : ℕ). first) y (told_by e)) (sym is)
+      (subst (λ (w : Outside (List ℕ) (Unit {0})). StandsOn (λ (_ : ℕ). first) x w) (sym told) (f first s))
 
   pub same_told : e.store ≡ d.store → told_by e ≡ told_by d
   same_told store = ap (λ (s : DeviceStore V G). outside (no_pool 0) s (tt {0})) store
 
   -- nothing changed
   module _ (is : device_of e ≡ device_of d) (store : e.store ≡ d.store) where
-    still_plain : StandsPlain d → StandsPlain e
-    still_plain = plain_over (λ s. s) is (same_told store)
+    still_plain : KeepsPlain d e
+    still_plain = plain_over (λ first s. s) is (same_told store)
 
-    still_whole : StandsWhole d → StandsWhole e
-    still_whole = whole_over (λ s. s) is (same_told store)
+    still_whole : KeepsWhole d e
+    still_whole = whole_over (λ first s. s) is (same_told store)
 
     pub still_sound : StaysSound d e
     still_sound = sound_by still_plain
@@ -139,11 +168,11 @@ module _ {V : Type 0} {G : Ghosts V} (d e : Device V G) where
 
   module _ (path : ℕ) (least : 1 ≤ path) (most : path ≤ 4) (fault : start_fault (device_of d) path ≡ None) (is : device_of e ≡ start (device_of d) path)
       (store : e.store ≡ d.store) where
-    start_goes_plain : StandsPlain d → StandsPlain e
-    start_goes_plain = plain_over (λ s. start_beside (device_of d) (told_by d) path s least most fault) is (same_told store)
+    start_goes_plain : KeepsPlain d e
+    start_goes_plain = plain_over (λ first s. start_beside (device_of d) (told_by d) path s least most fault) is (same_told store)
 
-    start_goes_whole : StandsWhole d → StandsWhole e
-    start_goes_whole = whole_over (λ s. start_stands (device_of d) (told_by d) path s least most fault) is (same_told store)
+    start_goes_whole : KeepsWhole d e
+    start_goes_whole = whole_over (λ first s. start_stands (device_of d) (told_by d) path s least most fault) is (same_told store)
 
     pub start_sound : StaysSound d e
     start_sound = sound_by start_goes_plain
@@ -156,20 +185,20 @@ module _ {V : Type 0} {G : Ghosts V} (d e : Device V G) where
 
   -- The program that runs, between two of its commands
 
-  module _ (some : IsSome d.past.running) (whole : is_some (device_of d).store.half ≡ false) (chain : IfSome d.past.running (λ r. IsChain r.chain)) where
+  module _ (some : IsSome (device_of d).history.running) (whole : is_some (device_of d).store.half ≡ false) (chain : IfSome (device_of d).chain IsChain) where
     entry : (o : OpenEntry) × ((device_of d).history.running ≡ Some o)
-    entry = let r = running_there d.past.running some in (open_of r.0, ap (option_map open_of) r.1)
+    entry = let r = running_there d.past.running (runs_there d.past.running some) in (open_of r.0, ap (option_map open_of) r.1)
 
     none : (device_of d).store.half ≡ None
     none = none_by (device_of d).store.half whole
 
     chains : (chain : ChainState) → (device_of d).chain ≡ Some chain → IsChain chain
-    chains = chain_told d.past.running chain
+    chains = chain_told (device_of d).chain chain
 
     -- its chain runs on its device
     pub command_ends : {L : Type 0} {had : Bool → Type 0} {hears : Hearing Image L} {a : Option defs_steps.Stepped} {v w : Outside (List ℕ) L}
-        {x : DefinedDevice} → EndsAsSeen had hears (device_of d) v x a w → StandsPlain d → EndsSeen had hears (device_of d) v x a w
-    command_ends f s o hand x running now is = f o hand x running now (runs_on s none o running hand now (chains hand now)) is
+        {x : DefinedDevice} → EndsAsSeen had hears (device_of d) v x a w → (first : List Track) → StandsPlain first d → EndsSeen had hears (device_of d) v x a w
+    command_ends f first s o hand x running now is = f o hand x running now (runs_on s none o running hand now (chains hand now)) is
 
   -- What it ran between a port and a keeper, whatever they told
 
@@ -180,49 +209,51 @@ module _ {V : Type 0} {G : Ghosts V} (d e : Device V G) where
     abbrev z : Outside (List ℕ) L
     z = outside new e.store k
 
-    plain_across : (IsBeside (device_of d) u → IsBeside (device_of e) z) → StandsPlain d → StandsPlain e
-    plain_across f s =
+    plain_across : ((first : List Track) → IsBesideOn (λ (_ : ℕ). first) (device_of d) u → IsBesideOn (λ (_ : ℕ). first) (device_of e) z) →
+        KeepsPlain d e
+    plain_across f first s =
         beside_there (device_of e) z (told_by e) (λ h t. record { a = t.a; b = t.b; slots = t.slots })
-        (f (beside_there (device_of d) (told_by d) u (λ h t. record { a = t.a; b = t.b; slots = t.slots }) s))
+        (f first (beside_there (device_of d) (told_by d) u (λ h t. record { a = t.a; b = t.b; slots = t.slots }) s))
 
-    whole_across : (Stands (device_of d) u → Stands (device_of e) z) → StandsWhole d → StandsWhole e
-    whole_across f s =
+    whole_across : ((first : List Track) → StandsOn (λ (_ : ℕ). first) (device_of d) u → StandsOn (λ (_ : ℕ). first) (device_of e) z) →
+        KeepsWhole d e
+    whole_across f first s =
         stands_there (device_of e) z (told_by e) (λ h t. record { a = t.a; b = t.b; slots = t.slots })
-        (f (stands_there (device_of d) (told_by d) u (λ h t. record { a = t.a; b = t.b; slots = t.slots }) s))
+        (f first (stands_there (device_of d) (told_by d) u (λ h t. record { a = t.a; b = t.b; slots = t.slots }) s))
 
     -- A command
 
-    module _ (some : IsSome d.past.running) (whole : is_some (device_of d).store.half ≡ false) (chain : IfSome d.past.running (λ r. IsChain r.chain))
+    module _ (some : IsSome (device_of d).history.running) (whole : is_some (device_of d).store.half ≡ false) (chain : IfSome (device_of d).chain IsChain)
         {hears : Hearing Image L} where
-      command_plain : (p : Past) (r : Result Stepped NoMemory) → Ran (where_ok r) hears (command contents (device_of d)) u (device_of e) (step_had p r) z →
-          StandsPlain d → StandsPlain e
-      command_plain p (Ok x) run =
-          plain_across (λ s. (command_beside s (λ m y q l h. h) (step_had {E = NoMemory} p (Ok x)) (entry some whole chain).0 (none some whole chain) (entry some whole chain).1 (chains some whole chain) (replied run)).beside)
-      command_plain p (Err x) run = plain_across (λ s. (command_lacked s (entry some whole chain).0 (none some whole chain) (entry some whole chain).1 (chains some whole chain) run).beside)
+      command_plain : (last : Option CommandEnd) (r : Result Stepped NoMemory) → Ran (where_ok r) hears (command contents (device_of d)) u (device_of e) (step_had last r) z →
+          KeepsPlain d e
+      command_plain last (Ok x) run =
+          plain_across (λ first s. (command_beside s (λ m y q l h. h) (step_had {E = NoMemory} last (Ok x)) (entry some whole chain).0 (none some whole chain) (entry some whole chain).1 (chains some whole chain) (replied run)).beside)
+      command_plain last (Err x) run = plain_across (λ first s. (command_lacked s (entry some whole chain).0 (none some whole chain) (entry some whole chain).1 (chains some whole chain) run).beside)
 
-      pub command_sound : (p : Past) (r : Result Stepped NoMemory) →
-          Ran (where_ok r) hears (command contents (device_of d)) u (device_of e) (step_had p r) z → StaysSound d e
-      command_sound p r run = sound_by (command_plain p r run)
+      pub command_sound : (last : Option CommandEnd) (r : Result Stepped NoMemory) →
+          Ran (where_ok r) hears (command contents (device_of d)) u (device_of e) (step_had last r) z → StaysSound d e
+      command_sound last r run = sound_by (command_plain last r run)
 
-      pub command_stays_plain : (p : Past) (r : Result Stepped NoMemory) →
-          Ran (where_ok r) hears (command contents (device_of d)) u (device_of e) (step_had p r) z → StaysPlain d e
-      command_stays_plain p r run = plain_by (command_plain p r run)
+      pub command_stays_plain : (last : Option CommandEnd) (r : Result Stepped NoMemory) →
+          Ran (where_ok r) hears (command contents (device_of d)) u (device_of e) (step_had last r) z → StaysPlain d e
+      command_stays_plain last r run = plain_by (command_plain last r run)
 
-      pub command_excused : (p : Past) (r : Result Stepped NoMemory) →
-          Ran (where_ok r) hears (command contents (device_of d)) u (device_of e) (step_had p r) z → OnOk r (StaysExcused d e)
-      command_excused p (Ok x) run =
+      pub command_excused : (last : Option CommandEnd) (r : Result Stepped NoMemory) →
+          Ran (where_ok r) hears (command contents (device_of d)) u (device_of e) (step_had last r) z → OnOk r (StaysExcused d e)
+      command_excused last (Ok x) run =
           excused_by (whole_across
-          (λ s. command_stands s (λ m y q l h. h) (step_had {E = NoMemory} p (Ok x)) (entry some whole chain).0 (none some whole chain) (entry some whole chain).1 (chains some whole chain) (replied run)))
-      command_excused p (Err x) run = tt
+          (λ first s. command_stands s (λ m y q l h. h) (step_had {E = NoMemory} last (Ok x)) (entry some whole chain).0 (none some whole chain) (entry some whole chain).1 (chains some whole chain) (replied run)))
+      command_excused last (Err x) run = tt
 
-      pub command_same : (p : Past) (r : Result Stepped NoMemory) →
-          Ran (where_ok r) hears (command contents (device_of d)) u (device_of e) (step_had p r) z → OnErr r (StaysSame d e)
-      command_same p (Ok x) run = tt
-      command_same p (Err x) run =
-          let r = running_there d.past.running some in
+      pub command_same : (last : Option CommandEnd) (r : Result Stepped NoMemory) →
+          Ran (where_ok r) hears (command contents (device_of d)) u (device_of e) (step_had last r) z → OnErr r (StaysSame d e)
+      command_same last (Ok x) run = tt
+      command_same last (Err x) run =
+          let r = running_there d.past.running (runs_there d.past.running some) in
           record {
             again = command_again (device_of d) (open_of r.0) (chain_of r.0) (ap (option_map open_of) r.1) (ap (option_map chain_of) r.1) run;
-            contents = λ s.
+            contents = λ first s.
                 let b = beside_there (device_of d) (told_by d) u (λ h t. record { a = t.a; b = t.b; slots = t.slots }) s in
                 same_volume b (command_lacked b (entry some whole chain).0 (none some whole chain) (entry some whole chain).1 (chains some whole chain) run);
           }
@@ -231,9 +262,9 @@ module _ {V : Type 0} {G : Ghosts V} (d e : Device V G) where
 
     module _ (whole : is_some (device_of d).store.half ≡ false) {hears : Hearing Image L} where
       background_plain : (r : Result Did NoMemory) →
-          Ran (where_ok r) hears (background contents (device_of d)) u (device_of e) (had (λ x. x) r) z → StandsPlain d → StandsPlain e
-      background_plain (Ok x) run = plain_across (λ s. (background_beside s (λ m y q l h. h) (Some x) (none_by (device_of d).store.half whole) (replied run)).beside)
-      background_plain (Err x) run = plain_across (λ s. (background_lacked s (none_by (device_of d).store.half whole) run).beside)
+          Ran (where_ok r) hears (background contents (device_of d)) u (device_of e) (had (λ x. x) r) z → KeepsPlain d e
+      background_plain (Ok x) run = plain_across (λ first s. (background_beside s (λ m y q l h. h) (Some x) (none_by (device_of d).store.half whole) (replied run)).beside)
+      background_plain (Err x) run = plain_across (λ first s. (background_lacked s (none_by (device_of d).store.half whole) run).beside)
 
       pub background_sound : (r : Result Did NoMemory) →
           Ran (where_ok r) hears (background contents (device_of d)) u (device_of e) (had (λ x. x) r) z → StaysSound d e
@@ -245,7 +276,7 @@ module _ {V : Type 0} {G : Ghosts V} (d e : Device V G) where
 
       pub background_excused : (r : Result Did NoMemory) →
           Ran (where_ok r) hears (background contents (device_of d)) u (device_of e) (had (λ x. x) r) z → OnOk r (StaysExcused d e)
-      background_excused (Ok x) run = excused_by (whole_across (λ s. background_stands s (λ m y q l h. h) (Some x) (none_by (device_of d).store.half whole) (replied run)))
+      background_excused (Ok x) run = excused_by (whole_across (λ first s. background_stands s (λ m y q l h. h) (Some x) (none_by (device_of d).store.half whole) (replied run)))
       background_excused (Err x) run = tt
 
       pub background_same : (r : Result Did NoMemory) →
@@ -253,7 +284,7 @@ module _ {V : Type 0} {G : Ghosts V} (d e : Device V G) where
       background_same (Ok x) run = tt
       background_same (Err x) run = record {
         again = background_again (device_of d) run;
-        contents = λ s.
+        contents = λ first s.
             let b = beside_there (device_of d) (told_by d) u (λ h t. record { a = t.a; b = t.b; slots = t.slots }) s in
             same_volume b (background_lacked b (none_by (device_of d).store.half whole) run);
       }
@@ -262,10 +293,10 @@ module _ {V : Type 0} {G : Ghosts V} (d e : Device V G) where
 
     module _ (open_is : is_some (device_of d).store.half ≡ true) {hears : Hearing Image L} {a : SecondEnd}
         (run : Ran surely hears (second contents (device_of d)) u (device_of e) a z) where
-      second_plain : StandsPlain d → StandsPlain e
+      second_plain : KeepsPlain d e
       second_plain =
           let h = half_there (device_of d).store.half open_is in
-          plain_across (λ s. (second_beside s (λ m y q l h. h) a h.0 h.1 (replied run)).beside)
+          plain_across (λ first s. (second_beside s (λ m y q l h. h) a h.0 h.1 (replied run)).beside)
 
       pub second_sound : StaysSound d e
       second_sound = sound_by second_plain
@@ -276,16 +307,16 @@ module _ {V : Type 0} {G : Ghosts V} (d e : Device V G) where
       pub second_excused : StaysExcused d e
       second_excused =
           let h = half_there (device_of d).store.half open_is in
-          excused_by (whole_across (λ s. second_stands s (λ m y q l h. h) a h.0 h.1 (replied run)))
+          excused_by (whole_across (λ first s. second_stands s (λ m y q l h. h) a h.0 h.1 (replied run)))
 
     -- A loss, a reset, a loss of power
 
     module _ (loss : Loss) {hears : Hearing Image L} (run : Ran surely hears (lose contents (device_of d) loss) u (device_of e) tt z) where
-      lose_plain : StandsPlain d → StandsPlain e
-      lose_plain = plain_across (λ s. (loss_beside s (λ m y q l h. h) loss tt (replied run)).beside)
+      lose_plain : KeepsPlain d e
+      lose_plain = plain_across (λ first s. (loss_beside s (λ m y q l h. h) loss tt (replied run)).beside)
 
-      lose_whole : StandsWhole d → StandsWhole e
-      lose_whole = whole_across (λ s. loss_stands s (λ m y q l h. h) loss tt (replied run))
+      lose_whole : KeepsWhole d e
+      lose_whole = whole_across (λ first s. loss_stands s (λ m y q l h. h) loss tt (replied run))
 
       pub lose_sound : StaysSound d e
       lose_sound = sound_by lose_plain
@@ -297,11 +328,11 @@ module _ {V : Type 0} {G : Ghosts V} (d e : Device V G) where
       lose_excused = excused_by lose_whole
 
     module _ (path : ℕ) {hears : Hearing Image L} (run : Ran surely hears (reset contents (device_of d) path) u (device_of e) tt z) where
-      reset_plain : StandsPlain d → StandsPlain e
-      reset_plain = plain_across (λ s. (reset_beside s (λ m y q l h. h) path tt (replied run)).beside)
+      reset_plain : KeepsPlain d e
+      reset_plain = plain_across (λ first s. (reset_beside s (λ m y q l h. h) path tt (replied run)).beside)
 
-      reset_whole : StandsWhole d → StandsWhole e
-      reset_whole = whole_across (λ s. reset_stands s (λ m y q l h. h) path tt (replied run))
+      reset_whole : KeepsWhole d e
+      reset_whole = whole_across (λ first s. reset_stands s (λ m y q l h. h) path tt (replied run))
 
       pub reset_sound : StaysSound d e
       reset_sound = sound_by reset_plain
@@ -313,11 +344,11 @@ module _ {V : Type 0} {G : Ghosts V} (d e : Device V G) where
       reset_excused = excused_by reset_whole
 
     module _ {hears : Hearing Image L} (run : Ran surely hears (power contents (device_of d)) u (device_of e) tt z) where
-      power_plain : StandsPlain d → StandsPlain e
-      power_plain = plain_across (λ s. (power_beside s (λ m y q l h. h) tt (replied run)).beside)
+      power_plain : KeepsPlain d e
+      power_plain = plain_across (λ first s. (power_beside s (λ m y q l h. h) tt (replied run)).beside)
 
-      power_whole : StandsWhole d → StandsWhole e
-      power_whole = whole_across (λ s. power_stands s (λ m y q l h. h) tt (replied run))
+      power_whole : KeepsWhole d e
+      power_whole = whole_across (λ first s. power_stands s (λ m y q l h. h) tt (replied run))
 
       pub power_sound : StaysSound d e
       power_sound = sound_by power_plain
@@ -333,8 +364,8 @@ module _ {V : Type 0} {G : Ghosts V} (d e : Device V G) where
     module _ (t : ℕ) (lt : t < d.store.cylinders * 15) (may : is_written_at (device_of d).store.half t ≡ false)
         {hears : Hearing Image L} where
       peek_goes : {had : Bool → Type 0} {a : Option defs.Peeked} → Ran had hears (peek contents (device_of d) t) u (device_of e) a z →
-          StandsPlain d → StandsPlain e
-      peek_goes run = plain_across (λ s. (peek_beside s t lt may run).beside)
+          KeepsPlain d e
+      peek_goes run = plain_across (λ first s. (peek_beside s t lt may run).beside)
 
       pub peek_sound : {had : Bool → Type 0} {a : Option defs.Peeked} → Ran had hears (peek contents (device_of d) t) u (device_of e) a z → StaysSound d e
       peek_sound run = sound_by (peek_goes run)
@@ -342,12 +373,27 @@ module _ {V : Type 0} {G : Ghosts V} (d e : Device V G) where
       pub peek_stays_plain : {had : Bool → Type 0} {a : Option defs.Peeked} → Ran had hears (peek contents (device_of d) t) u (device_of e) a z → StaysPlain d e
       peek_stays_plain run = plain_by (peek_goes run)
 
+      -- also where memory was lacking
+      pub peek_excused : {had : Bool → Type 0} {a : Option defs.Peeked} → Ran had hears (peek contents (device_of d) t) u (device_of e) a z →
+          StaysExcused d e
+      peek_excused run =
+          let o = look_had contents (device_of d) t run in
+          excused_by (whole_across (λ first s. peek_stands s (λ m y q l h. h) o.0 t lt may (replied o.1)))
+
+      pub peek_same : {had : Bool → Type 0} {a : Option defs.Peeked} → Ran had hears (peek contents (device_of d) t) u (device_of e) a z → StaysSame d e
+      peek_same run = record {
+        again = peek_again (device_of d) t run;
+        contents = λ first s.
+            let b = beside_there (device_of d) (told_by d) u (λ h t. record { a = t.a; b = t.b; slots = t.slots }) s in
+            same_volume b (peek_beside b t lt may run);
+      }
+
       pub peek_answers : (q : StoreOf) (r : Result Peeked NoMemory) →
-          Ran (where_ok r) hears (peek contents (device_of d) t) u (device_of e) (had (peeked_by q t) r) z → StandsPlain d →
-          IfOk r (λ p. FoundPlain (device_of d) t (Some (peeked_by q t p)))
-      peek_answers q (Ok p) run s =
+          Ran (where_ok r) hears (peek contents (device_of d) t) u (device_of e) (had (peeked_by q t) r) z → (first : List Track) → StandsPlain first d →
+          IfOk r (λ p. FoundPlain (λ (_ : ℕ). first) (device_of d) t (Some (peeked_by q t p)))
+      peek_answers q (Ok p) run first s =
           peek_finds (beside_there (device_of d) (told_by d) u (λ h t. record { a = t.a; b = t.b; slots = t.slots }) s) t lt may run
-      peek_answers q (Err x) run s = tt
+      peek_answers q (Err x) run first s = tt
 
 pub opened_is : (s : StoreOf) (paths : PathsState) (plans : Plans) (p : Past) (number : ℕ) (g : Geometry) (n : ℕ) → s ≡ opened_store number g n →
     paths ≡ fresh_paths → history_of p ≡ no_history → p.running ≡ None → device_by s paths plans p ≡ opened_device number g n plans
@@ -369,15 +415,16 @@ opened_is s paths plans p number g n store path history over =
       chain = option_map chain_of r;
     }) over
 
--- a new device on a volume of empty tracks
+-- a new device on a volume that holds tracks
 pub opened_promised : {V : Type 0} {G : Ghosts V} (d : Device V G) (number : ℕ) (g : Geometry) (n : ℕ) (plans : Plans) (v : V) →
-    device_of d ≡ opened_device number g n plans → on_a d.store ≡ Some v → on_b d.store ≡ None → 1 ≤ n → n ≤ 64 → GiveBytes plans →
-    (G.view v).contents ≡ Some (empty_contents (n * 15)) → IsPromised d
-opened_promised {G = G} d number g n plans v is a b some most gives tells =
-    let told_a : Tells (told_by d).a (empty_contents (n * 15)) = subst (λ (o : Option _). Tells (option_map G.view o) (empty_contents (n * 15))) (sym a) tells in
+    device_of d ≡ opened_device number g n plans → on_a d.store ≡ Some v → on_b d.store ≡ None → 1 ≤ n → GiveBytes plans →
+    (first : List Track) → HoldsTracks g n first (G.view v) → IsPromised first d
+opened_promised {G = G} d number g n plans v is a b some gives first holds =
+    let l = volume_contents first in
+    let told_a : Tells (told_by d).a l = subst (λ (o : Option _). Tells (option_map G.view o) l) (sym a) holds.tells in
     let told_b : Tells (told_by d).b [] = subst (λ (o : Option _). Tells (option_map G.view o) []) (sym b) tt in
-    let stands : StandsWhole d = subst (λ (x : DefinedDevice). Stands x (told_by d)) (sym is)
-    (new_stands number g n plans (told_by d) some most told_a told_b gives) in
+    let stands : StandsWhole first d = subst (λ (x : DefinedDevice). StandsOn (λ (_ : ℕ). first) x (told_by d)) (sym is)
+    (first_stands (λ (_ : ℕ). first) number g n plans (told_by d) some holds.is told_a told_b gives) in
     record {
       stands = stands;
       sound = record {
@@ -389,6 +436,11 @@ opened_promised {G = G} d number g n plans v is a b some most gives tells =
       plain = beside_plain (device_of d) (told_by d) stands.beside;
       excused = λ failed cache. stands_excused (device_of d) (told_by d) stands failed cache;
     }
+
+-- so does one that tells that its tracks are empty
+pub empty_holds : (g : Geometry) (n : ℕ) (v : VolumeView (List ℕ)) → n ≤ 64 → v.contents ≡ Some (empty_contents (n * 15)) →
+    HoldsTracks g n (empty_volume n) v
+empty_holds g n v most tells = record { is = volume_empty g n most; tells = tells ∙ ap (λ (l : List (List ℕ)). Some l) (empty_is_contents n) }
 
 pub seen_there : {X : Type 0} (o : Option X) → IsSome o → (x : X) × (o ≡ Some x)
 seen_there (Some x) is = (x, refl)

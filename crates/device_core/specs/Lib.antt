@@ -6,6 +6,7 @@ pub mod Turns
 pub mod Halves
 pub mod State
 pub mod Starting
+pub mod Planning
 pub mod OpenHalf
 pub mod Promises
 pub mod Pairs

@@ -1,13 +1,15 @@
 -- What a device promises by each of its calls: that it stays sound, that its history stays a plain device's, that it stays excused for what it lost, and what want
 -- of memory leaves as it was.
 use Rattle.std.specs.Prelude.{◌≡◌, ◌<◌, ◌^◌, ◌-◌, ℕ, Bool, false, List, Option, Some, Result, length}
+use Rattle.ckd_types.specs.declared.geometry.Geometry.{Geometry}
 use Rattle.ckd_types.specs.declared.record.Track.{Track}
+use Rattle.ckd_types.specs.Volume.{IsVolume}
 use Rattle.ckd_chain.specs.State.{ChainState}
 use Rattle.ckd_chain.specs.Steps.{need_of}
 use Rattle.loss_model.specs.declared.Loss.{Loss}
 use Rattle.loss_model.specs.declared.Loss.TheVariants as losses
 use Rattle.plain_defs.specs.History.{IsPlain, OpenEntry}
-use Rattle.plain_defs.specs.PlainState.{empty_state}
+use Rattle.plain_defs.specs.PlainState.{PlainState}
 use Rattle.plain_defs.specs.Whole.{GiveBytes}
 use Rattle.device_outside.specs.declared.volume.Volume.{Ghosts}
 use Rattle.track_image.specs.Image.{Image}
@@ -23,19 +25,20 @@ use Rattle.device_defs.specs.Contents.{contents}
 use Rattle.device_defs.specs.Outcomes.{usage_of}
 use Rattle.device_defs.specs.Store.{is_lost}
 use Rattle.device_defs.specs.Excused as defs
-use Rattle.device_defs.specs.Sound as defs_sound
-use Rattle.device_defs.specs.Sound.{DeviceStore, plain_device}
+use Rattle.device_defs.specs.Sound.{DeviceStore}
 use Rattle.device_laws.specs.Lent.{IsLent}
 use Rattle.device_laws.specs.Moved.{choice_writes, counted_by, sides_writing}
+use Rattle.device_laws.specs.NewDevice.{first_state, volume_contents}
 use Rattle.device_laws.specs.Seen.{CommandCame, Look, Noticed, Saw, WentOn}
+use Rattle.device_laws.specs.SoundOn.{IsSoundOn, plain_on}
 use Rattle.device_laws.specs.Whole.{WholeDevice, marks_device}
 use Rattle.device_laws.proofs.PlainTurns.{Follows}
 use Rattle.device_store.specs.State.{outside}
 use Rattle.subsystem_laws.specs.Again.{IsAgain}
-use Rattle.subsystem_laws.specs.Standing.{IsBeside, Stands, Untold}
+use Rattle.subsystem_laws.specs.Standing.{IsBesideOn, StandsOn, Untold}
 use Rattle.device_core.specs.declared.device.Device.{Device}
 use Rattle.device_core.specs.declared.past.Stepped as own
-use Rattle.device_core.specs.State.{device_of, step_had}
+use Rattle.device_core.specs.State.{around, device_of, last_end, step_had}
 
 -- A command
 
@@ -43,8 +46,8 @@ use Rattle.device_core.specs.State.{device_of, step_had}
 module _ {V : Type 0} {G : Ghosts V} {K : Type 0} (hears : Hearing Image K) where
   abbrev pub DidCommand : {E : Type 0} → Device V G → PortView → K → Device V G → PortView → K → Result own.Stepped E → Type 0
   DidCommand d port keeper e later kept result =
-      Ran (where_ok result) hears (command contents (device_of d)) (outside port d.store keeper) (device_of e) (step_had e.past result)
-      (outside later e.store kept)
+      Ran (where_ok result) hears (command contents (device_of d)) (around port d keeper) (device_of e) (step_had (last_end e) result)
+      (around later e kept)
 
 -- A command of a running program that ended, or is half done, came out as the rules say over the images that it saw
 module _ {K : Type 0} (had : Bool → Type 0) (hears : Hearing Image K) where
@@ -75,15 +78,21 @@ TakesNoSide losses.Cache = Unit {0}
 TakesNoSide losses.Store = Unit {0}
 TakesNoSide (losses.Side side) = ⊥
 
--- A device is lent, and keeps nothing of its tracks: its history is still one of a plain device, whose volume was that of the one that left
-pub record IsLentBeside {K : Type 0} (d : WholeDevice) (u : Outside (List ℕ) K) : Type 0 where
+-- A device is lent, and keeps nothing of its tracks: its history is still one of a plain device, whose volume was that of the one that left; it began with
+-- these tracks
+pub record IsLentBeside (first : List Track) {K : Type 0} (d : WholeDevice) (u : Outside (List ℕ) K) : Type 0 where
   pub plain : List Track
   pub firm : List Track
   pub held : Holdings (List ℕ)
   pub untold : Untold u held
   pub lent : IsLent plain firm d held
-  pub follows : Follows d.store.device (empty_state d.store.geometry d.store.cylinders) (marks_device plain firm d)
+  pub follows : Follows d.store.device (first_state d.store.geometry d.store.cylinders first) (marks_device plain firm d)
   pub gives : GiveBytes d.plans
+
+-- a volume tells that it holds these tracks, each where it says and such as fits
+pub record HoldsTracks (g : Geometry) (cylinders : ℕ) (first : List Track) (v : VolumeView (List ℕ)) : Type 0 where
+  pub is : IsVolume g cylinders first
+  pub tells : v.contents ≡ Some (volume_contents first)
 
 -- a volume tells what it holds, so many tracks
 abbrev pub TellsTracks : VolumeView (List ℕ) → ℕ → Type 0
@@ -94,80 +103,90 @@ module _ {V : Type 0} {G : Ghosts V} where
   abbrev pub told_by : Device V G → Outside (List ℕ) (Unit {0})
   told_by d = outside (no_pool 0) d.store tt
 
-  -- its volumes tell what they hold, and it stands beside the plain device of its history
-  abbrev pub StandsPlain : Device V G → Type 0
-  StandsPlain d = IsBeside (device_of d) (told_by d)
+  -- its volumes tell what they hold, and it stands beside the plain device of its history, which began with these tracks
+  abbrev pub StandsPlain : List Track → Device V G → Type 0
+  StandsPlain first d = IsBesideOn (λ (_ : ℕ). first) (device_of d) (told_by d)
 
   -- and it came about from a new device by its calls, its orders only where they aren't refused, and never got an empty volume on the way
-  abbrev pub StandsWhole : Device V G → Type 0
-  StandsWhole d = Stands (device_of d) (told_by d)
+  abbrev pub StandsWhole : List Track → Device V G → Type 0
+  StandsWhole first d = StandsOn (λ (_ : ℕ). first) (device_of d) (told_by d)
+
+  abbrev pub begun_with : List Track → Device V G → PlainState
+  begun_with first d = first_state d.store.geometry d.store.cylinders first
+
+  -- so behind a call, where it stood so before, whatever it began with
+  abbrev pub KeepsPlain : Device V G → Device V G → Type 0
+  KeepsPlain d e = (first : List Track) → StandsPlain first d → StandsPlain first e
+
+  abbrev pub KeepsWhole : Device V G → Device V G → Type 0
+  KeepsWhole d e = (first : List Track) → StandsWhole first d → StandsWhole first e
 
   -- Sound: track by track, its frames, its patches and the bytes of each side that has the track are those of the plain device of its history
 
-  pub record IsSound (d : Device V G) : Type 0 where
+  pub record IsSound (first : List Track) (d : Device V G) : Type 0 where
     pub held : Holdings (List ℕ)
     pub on_a : Tells (told_by d).a held.a
     pub on_b : Tells (told_by d).b held.b
-    pub is : defs_sound.IsSound (device_of d) held
+    pub is : IsSoundOn (λ (_ : ℕ). first) (device_of d) held
 
   -- behind a call, where it stood so before
   pub record StaysSound (d e : Device V G) : Type 0 where
-    pub sound : StandsPlain d → IsSound e
+    pub sound : (first : List Track) → StandsPlain first d → IsSound first e
 
-  -- Plain: its history is one that a plain device could have, over its plans and from an empty volume
+  -- Plain: its history is one that a plain device could have, over its plans and from a volume of these tracks
 
-  abbrev pub HasPlainHistory : Device V G → Type 0
-  HasPlainHistory d = IsPlain d.plans (empty_state d.store.geometry d.store.cylinders) (device_of d).history
+  abbrev pub HasPlainHistory : List Track → Device V G → Type 0
+  HasPlainHistory first d = IsPlain d.plans (begun_with first d) (device_of d).history
 
   pub record StaysPlain (d e : Device V G) : Type 0 where
-    pub stands : StandsPlain d → StandsPlain e
-    pub history : StandsPlain d → HasPlainHistory e
+    pub stands : KeepsPlain d e
+    pub history : (first : List Track) → StandsPlain first d → HasPlainHistory first e
 
   -- Excused: each lost track and each equipment check has its cause, while the counts of failed calls and of losses of the cache aren't at the greatest number
 
-  abbrev pub IsExcused : Device V G → Type 0
-  IsExcused d =
+  abbrev pub IsExcused : List Track → Device V G → Type 0
+  IsExcused first d =
       d.store.counts.failed < 2 ^ 64 - 1 → d.store.counts.losses.cache < 2 ^ 64 - 1 →
-      defs.IsExcused d.plans (empty_state d.store.geometry d.store.cylinders) d.past.items.items d.store.lost d.store.counts
+      defs.IsExcused d.plans (begun_with first d) d.past.items.items d.store.lost d.store.counts
 
   -- all of these, so that its next call keeps them
-  pub record IsPromised (d : Device V G) : Type 0 where
-    pub stands : StandsWhole d
-    pub sound : IsSound d
-    pub plain : HasPlainHistory d
-    pub excused : IsExcused d
+  pub record IsPromised (first : List Track) (d : Device V G) : Type 0 where
+    pub stands : StandsWhole first d
+    pub sound : IsSound first d
+    pub plain : HasPlainHistory first d
+    pub excused : IsExcused first d
 
   pub record StaysExcused (d e : Device V G) : Type 0 where
-    pub stands : StandsWhole d → StandsWhole e
-    pub excused : StandsWhole d → IsExcused e
+    pub stands : KeepsWhole d e
+    pub excused : (first : List Track) → StandsWhole first d → IsExcused first e
 
   -- The same: want of memory leaves its paths, who holds it, its plans and its place in the program; of a device that is no pair its history and its marks;
   -- and the contents of the plain device of its history
 
   pub record StaysSame (d e : Device V G) : Type 0 where
     pub again : IsAgain (device_of d) (device_of e)
-    pub contents : StandsPlain d → (plain_device (device_of e)).volume ≡ (plain_device (device_of d)).volume
+    pub contents : (first : List Track) → StandsPlain first d → (plain_on (λ (_ : ℕ). first) (device_of e)).volume ≡ (plain_on (λ (_ : ℕ). first) (device_of d)).volume
 
   -- Lent: where it stood beside the plain device and ran nothing it does so without its volume, and on an empty one again
 
-  abbrev pub StandsLent : Device V G → Type 0
-  StandsLent d = IsLentBeside (device_of d) (told_by d)
+  abbrev pub StandsLent : List Track → Device V G → Type 0
+  StandsLent first d = IsLentBeside first (device_of d) (told_by d)
 
   pub record HasLostNone (d : Device V G) : Type 0 where
     pub none : (t : ℕ) → is_lost (device_of d).store t ≡ false
 
   pub record LeavesPlain (d e : Device V G) : Type 0 where
-    pub stands : StandsPlain d → StandsLent e
-    pub history : StandsPlain d → HasPlainHistory e
+    pub stands : (first : List Track) → StandsPlain first d → StandsLent first e
+    pub history : (first : List Track) → StandsPlain first d → HasPlainHistory first e
 
   pub record StaysLent (d e : Device V G) : Type 0 where
-    pub stands : StandsLent d → StandsLent e
-    pub history : StandsLent d → HasPlainHistory e
-    pub lost : StandsLent d → HasLostNone e
+    pub stands : (first : List Track) → StandsLent first d → StandsLent first e
+    pub history : (first : List Track) → StandsLent first d → HasPlainHistory first e
+    pub lost : (first : List Track) → StandsLent first d → HasLostNone e
 
   pub record ComesSound (d e : Device V G) : Type 0 where
-    pub sound : StandsLent d → IsSound e
+    pub sound : (first : List Track) → StandsLent first d → IsSound first e
 
   pub record ComesPlain (d e : Device V G) : Type 0 where
-    pub stands : StandsLent d → StandsPlain e
-    pub history : StandsLent d → HasPlainHistory e
+    pub stands : (first : List Track) → StandsLent first d → StandsPlain first e
+    pub history : (first : List Track) → StandsLent first d → HasPlainHistory first e

@@ -21,6 +21,7 @@ use Rattle.std.specs.Prelude.{
   if◌then◌else◌,
 }
 use Rattle.ckd_types.specs.declared.channel.CommandEnd.{CommandEnd}
+use Rattle.ckd_types.specs.declared.paths.Side.{Side}
 use Rattle.ckd_chain.specs.State.{ChainState}
 use Rattle.ckd_chain.specs.Steps.{need_of}
 use Rattle.plain_defs.specs.declared.journal.Item.{Item}
@@ -33,6 +34,7 @@ use Rattle.track_image.specs.Image.{Image}
 use Rattle.track_cache.specs.declared.frames.Frame.{Frame}
 use Rattle.nv_store.specs.declared.patches.Stored.{Stored}
 use Rattle.device_outside.specs.declared.volume.Volume.{Ghosts}
+use Rattle.device_outside.specs.Outside.{Outside, PortView}
 use Rattle.device_defs.specs.declared.answers.Stepped as defs
 use Rattle.ckd_chain.specs.declared.progress.Progress.{Progress}
 use Rattle.ckd_types.specs.declared.geometry.Geometry.{Geometry}
@@ -47,8 +49,10 @@ use Rattle.device_defs.specs.declared.answers.Stepped.TheVariants as answers
 use Rattle.device_defs.specs.declared.answers.SecondEnd.{SecondEnd}
 use Rattle.device_defs.specs.declared.answers.SecondEnd.TheVariants as seconds
 use Rattle.device_defs.specs.Device as definitions
-use Rattle.device_defs.specs.Store.{Store}
-use Rattle.device_store.specs.State.{state_of, opened_store}
+use Rattle.device_defs.specs.Store.{Store, tracks_of}
+use Rattle.device_store.specs.State.{state_of, opened_store, outside_of, Takes}
+use Rattle.duplex_pair.specs.declared.pair.SideVolumes.{SideVolumes}
+use Rattle.duplex_pair.specs.Sides.{other_of, volume_of}
 use Rattle.device_core.specs.declared.device.Device.{Device}
 use Rattle.device_core.specs.declared.past.Past.{Past}
 use Rattle.device_core.specs.declared.past.Running.{Running}
@@ -80,20 +84,20 @@ last_by p None = last_of_item (slice_get p.items.items p.last)
 abbrev pub last_end_of : Past → Option CommandEnd
 last_end_of p = last_by p p.running
 
--- an answer, whose end stands in the journal
-abbrev pub step_seen : Past → Stepped → Option defs.Stepped
-step_seen p steps.Ended = option_map answers.Ended (last_end_of p)
-step_seen p (steps.Half t) = Some (answers.Half t)
+-- an answer, whose end stands in the journal: the end that was the last
+abbrev pub step_seen : Option CommandEnd → Stepped → Option defs.Stepped
+step_seen last steps.Ended = option_map answers.Ended last
+step_seen last (steps.Half t) = Some (answers.Half t)
 
-abbrev pub step_had : {E : Type 0} → Past → Result Stepped E → Option defs.Stepped
-step_had p (Ok s) = step_seen p s
-step_had p (Err e) = None
+abbrev pub step_had : {E : Type 0} → Option CommandEnd → Result Stepped E → Option defs.Stepped
+step_had last (Ok s) = step_seen last s
+step_had last (Err e) = None
 
 -- the same of a second part
-abbrev pub second_seen : Past → SecondStep → Option SecondEnd
-second_seen p parts.Ended = option_map seconds.Ended (last_end_of p)
-second_seen p (parts.Finished t) = Some (seconds.Finished t)
-second_seen p (parts.Unwritten t) = Some (seconds.Unwritten t)
+abbrev pub second_seen : Option CommandEnd → SecondStep → Option SecondEnd
+second_seen last parts.Ended = option_map seconds.Ended last
+second_seen last (parts.Finished t) = Some (seconds.Finished t)
+second_seen last (parts.Unwritten t) = Some (seconds.Unwritten t)
 
 -- The device behind a command of a path that came out, or for which memory was lacking
 
@@ -143,7 +147,43 @@ opened_device d g cylinders plans = record {
 abbrev pub count_of : History → ℕ → ℕ
 count_of h path = min (min (count_by (is_of_path path) h.items * 2) (2 ^ 64 - 1) + (if is_path_of h.running path then 1 else 0)) (2 ^ 64 - 1)
 
--- it is the same device
-abbrev pub IsSameDevice : {V : Type 0} {G : Ghosts V} → Device V G → Device V G → Type 0
-IsSameDevice old new =
-    (new.store.number ≡ old.store.number) × (new.store.cylinders ≡ old.store.cylinders) × (new.store.geometry ≡ old.store.geometry)
+module _ {V : Type 0} {G : Ghosts V} where
+  -- What callers see of a device beside `device_of`
+
+  -- the end of the command that ended last
+  abbrev pub last_end : Device V G → Option CommandEnd
+  last_end d = last_end_of d.past
+
+  -- the volumes of its sides. None: there is no such side, or it is lent
+  abbrev pub own_volumes : Device V G → SideVolumes V
+  own_volumes d = d.store.pair.volumes
+
+  abbrev pub volume_a : Device V G → Option V
+  volume_a d = (own_volumes d).a
+
+  abbrev pub volume_b : Device V G → Option V
+  volume_b d = (own_volumes d).b
+
+  abbrev pub side_volume : Device V G → Side → Option V
+  side_volume d side = volume_of (own_volumes d) side
+
+  abbrev pub other_volume : Device V G → Side → Option V
+  other_volume d side = other_of (own_volumes d) side
+
+  -- what is told by a port, the volumes of a device, and a keeper
+  abbrev pub around : {K : Type 0} → PortView → Device V G → K → Outside (List ℕ) K
+  around port d keeper = outside_of port G.view (own_volumes d) keeper
+
+  -- a keeper may be told each image of one of its tracks that fits there
+  abbrev pub TakesItsTracks : {K : Type 0} → (K → ℕ → ℕ → Image → Type 0) → K → Device V G → Type 0
+  TakesItsTracks takes keeper d = Takes takes keeper (device_of d).store.device (device_of d).store.geometry (tracks_of (device_of d).store)
+
+  -- nothing of its tracks is otherwise, nor of the room that is kept for them
+  abbrev pub HasSameTracks : Device V G → Device V G → Type 0
+  HasSameTracks old new = new.store ≡ old.store
+
+  -- it is the same device
+  abbrev pub IsSameDevice : Device V G → Device V G → Type 0
+  IsSameDevice old new =
+      ((device_of new).store.device ≡ (device_of old).store.device) × ((device_of new).store.cylinders ≡ (device_of old).store.cylinders)
+      × ((device_of new).store.geometry ≡ (device_of old).store.geometry)

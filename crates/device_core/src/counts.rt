@@ -61,9 +61,16 @@ impl<V: Volume> Device<V> {
         self.plans.len(path).saturating_sub(started) as u16
     }
 
+    /// How many programs of a path were started.
+    pub fn started(&self, path: PathNo) -> u16
+        ensures { result ≡ started_count (device_of self.now).history path }
+    {
+        self.past.started_count(path)
+    }
+
     /// Twice the programs of a path that ended, and one more while one runs. It stops at the greatest number.
     pub fn count(&self, path: PathNo) -> u64
-        ensures { result ≡ count_of (history_of self.now.past) path }
+        ensures { result ≡ count_of (device_of self.now).history path }
     {
         let running = if self.past.runs_on(path) { 1 } else { 0 };
         let started = u64::from(self.past.started_count(path));

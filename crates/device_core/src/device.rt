@@ -13,15 +13,16 @@ use device_outside::Volume;
 use device_store::DeviceStore;
 use plain_device::Paths;
 
-/// A device: its tracks, what is kept of its paths, the programs that are planned for them, and what happened to it.
+/// A device: its tracks, what is kept of its paths, the programs that are planned for them, and what happened to it. What callers
+/// see of it is the `device_of` of the definitions, the volumes of its sides, and the end of its last command.
 #[derive(Drop)]
 pub struct Device<V: Volume> {
-    pub store: DeviceStore<V>,
-    pub paths: Paths,
-    pub plans: PathPlans,
-    pub past: Past,
-    pub ghost at_word: { IfSome past.running (λ r. IsAtWord store.cylinders r.chain) } by { Prim.hlevel props },
-    pub ghost half_waits: { counts_one_by (state_of store).half ≡ 1 → IsWaiting past.running } by { Prim.hlevel props },
-    pub ghost keeps: { Keeps past } by { Prim.hlevel props },
-    pub ghost act_room: { ActRoom (loose_count store.loose.loose) past } by { Prim.hlevel props },
+    pub(crate) store: DeviceStore<V>,
+    pub(crate) paths: Paths,
+    pub(crate) plans: PathPlans,
+    pub(crate) past: Past,
+    pub(crate) ghost at_word: { IfSome past.running (λ r. IsAtWord store.cylinders r.chain) } by { Prim.hlevel props },
+    pub(crate) ghost half_waits: { counts_one_by (state_of store).half ≡ 1 → IsWaiting past.running } by { Prim.hlevel props },
+    pub(crate) ghost keeps: { Keeps past } by { Prim.hlevel props },
+    pub(crate) ghost act_room: { ActRoom (loose_count store.loose.loose) past } by { Prim.hlevel props },
 }

@@ -89,7 +89,7 @@ impl Past {
         ensures state { (s : Store Frame Stored Image) (plans : Plans) (o : OpenEntry) (chain : ChainState) → option_map open_of self.old.running
             ≡ Some o → option_map chain_of self.old.running ≡ Some chain → device_by s paths.new plans self.new
             ≡ turned (device_by s paths.old plans self.old) o.path (turn_with chain came) }
-        ensures answer { step_seen self.new result ≡ Some (told_step came) }
+        ensures answer { step_seen (last_end_of self.new) result ≡ Some (told_step came) }
         ensures word { (n : ℕ) → IfSome self.old.running (λ r. Left n r.chain came) → IfSome self.new.running (λ r. IsAtWord n r.chain) }
         ensures waits { (n : ℕ) → is_half came ≡ true → IfSome self.old.running (λ r. Left n r.chain came) → IsWaiting self.new.running }
         ensures half { is_half_step result ≡ is_half came }

@@ -1,4 +1,5 @@
-ghost use Rattle.std.specs.Prelude.{◌≡◌, ◌<◌, ◌*◌, IfOk, OnErr, OnOk, Some, false, is_some};
+ghost use Rattle.std.specs.Prelude.{◌≡◌, ◌<◌, ◌*◌, IfOk, OnErr, OnOk, Some, false, is_some, List};
+ghost use Rattle.ckd_types.specs.declared.record.Track.{Track};
 ghost use Rattle.device_defs.specs.Contents.{contents};
 ghost use Rattle.device_defs.specs.Events.{background};
 ghost use Rattle.device_defs.specs.Peek.{peek};
@@ -7,7 +8,7 @@ ghost use Rattle.device_outside.specs.Keeper.{Heard, reply};
 ghost use Rattle.device_outside.specs.Outside.{Ran, where_ok};
 ghost use Rattle.device_store.specs.Looks.{peeked_by, IsPeeked};
 ghost use Rattle.device_store.specs.State.{state_of, outside, had, TakesTracks};
-ghost use Rattle.device_core.specs.State.{device_of, IsSameDevice};
+ghost use Rattle.device_core.specs.State.{around, device_of, IsSameDevice, TakesItsTracks};
 ghost use Rattle.device_laws.specs.Moved.{LookMoves, WorkMoves};
 ghost use Rattle.device_laws.specs.Seen.{KeepsPaths};
 ghost use Rattle.device_core.specs.Promises.{StandsPlain, StaysExcused, StaysLent, StaysPlain, StaysSame, StaysSound};
@@ -31,12 +32,12 @@ impl<V: Volume> Device<V> {
         keep: &mut K,
     ) -> Result<Did, NoMemory>
         requires whole { is_some (device_of self.old).store.half ≡ false }
-        requires takes { TakesTracks K.takes keep.old self.old.store }
+        requires takes { TakesItsTracks K.takes keep.old self.old }
         ensures fixed { IsSameDevice self.old self.new }
-        ensures takes { TakesTracks K.takes keep.new self.new.store }
+        ensures takes { TakesItsTracks K.takes keep.new self.new }
         ensures run { Ran (where_ok result) (Heard K.hears K.takes) (background contents (device_of self.old))
-            (outside (P.view port.old) self.old.store keep.old) (device_of self.new) (had (λ did. did) result)
-            (outside (P.view port.new) self.new.store keep.new) }
+            (around (P.view port.old) self.old keep.old) (device_of self.new) (had (λ did. did) result)
+            (around (P.view port.new) self.new keep.new) }
         ensures paths { KeepsPaths (device_of self.old) (device_of self.new) }
         ensures transfers { WorkMoves (device_of self.old) (had (λ did. did) result) (device_of self.new) }
         ensures sound { StaysSound self.old self.new }
@@ -58,7 +59,7 @@ impl<V: Volume> Device<V> {
         requires whole { is_some (device_of self.old).store.half ≡ false }
         ensures fixed { IsSameDevice self.old self.new }
         ensures run { (k : NoKeep) → Ran (where_ok result) (λ _ m r _. r ≡ reply m) (background contents (device_of self.old))
-            (outside (P.view port.old) self.old.store k) (device_of self.new) (had (λ did. did) result) (outside (P.view port.new) self.new.store k) }
+            (around (P.view port.old) self.old k) (device_of self.new) (had (λ did. did) result) (around (P.view port.new) self.new k) }
         ensures paths { KeepsPaths (device_of self.old) (device_of self.new) }
         ensures transfers { WorkMoves (device_of self.old) (had (λ did. did) result) (device_of self.new) }
         ensures sound { StaysSound self.old self.new }
@@ -90,8 +91,11 @@ impl<V: Volume> Device<V> {
         ensures transfers { LookMoves (device_of self.old) (device_of self.new) }
         ensures sound { is_written_at (device_of self.old).store.half t ≡ false → StaysSound self.old self.new }
         ensures plain { is_written_at (device_of self.old).store.half t ≡ false → StaysPlain self.old self.new }
-        ensures answers { StandsPlain self.old → is_written_at (device_of self.old).store.half t ≡ false
-            → IfOk result (λ p. FoundPlain (device_of self.old) t (Some (peeked_by (state_of self.new.store) t p))) }
+        ensures excused { is_written_at (device_of self.old).store.half t ≡ false → StaysExcused self.old self.new }
+        ensures same { is_written_at (device_of self.old).store.half t ≡ false → StaysSame self.old self.new }
+        ensures lent { StaysLent self.old self.new }
+        ensures answers { (first : List Track) → StandsPlain first self.old → is_written_at (device_of self.old).store.half t ≡ false
+            → IfOk result (λ p. FoundPlain (λ _. first) (device_of self.old) t (Some (peeked_by (state_of self.new.store) t p))) }
     {
         let before = self.store.waiting_count();
         self.store.begin_event();
@@ -112,8 +116,11 @@ impl<V: Volume> Device<V> {
         ensures transfers { LookMoves (device_of self.old) (device_of self.new) }
         ensures sound { is_written_at (device_of self.old).store.half t ≡ false → StaysSound self.old self.new }
         ensures plain { is_written_at (device_of self.old).store.half t ≡ false → StaysPlain self.old self.new }
-        ensures answers { StandsPlain self.old → is_written_at (device_of self.old).store.half t ≡ false
-            → IfOk result (λ p. FoundPlain (device_of self.old) t (Some (peeked_by (state_of self.new.store) t p))) }
+        ensures excused { is_written_at (device_of self.old).store.half t ≡ false → StaysExcused self.old self.new }
+        ensures same { is_written_at (device_of self.old).store.half t ≡ false → StaysSame self.old self.new }
+        ensures lent { StaysLent self.old self.new }
+        ensures answers { (first : List Track) → StandsPlain first self.old → is_written_at (device_of self.old).store.half t ≡ false
+            → IfOk result (λ p. FoundPlain (λ _. first) (device_of self.old) t (Some (peeked_by (state_of self.new.store) t p))) }
     {
         let mut keep = NoKeep;
         self.peek_with(t, port, &mut keep)

@@ -20,7 +20,7 @@ fn word_gives(ccw: &Ccw)
     are_bytes(ccw.given.as_slice());
 }
 
-fn program_gives(program: &Program)
+pub(crate) fn program_gives(program: &Program)
     ensures { GivesAll program.now }
 {
     for k in 0..program.len() {

@@ -13,7 +13,7 @@ ghost use Rattle.device_defs.specs.Store.{Store};
 ghost use Rattle.device_store.specs.State.{half_of, is_opened};
 ghost use Rattle.device_core.specs.Halves.{IsWaiting};
 ghost use Rattle.device_core.specs.Kept.{open_of, chain_of, ActRoom, HasRoomFor, Keeps};
-ghost use Rattle.device_core.specs.State.{device_by, second_seen};
+ghost use Rattle.device_core.specs.State.{device_by, last_end_of, second_seen};
 ghost use Rattle.device_core.specs.Turns.{turn_with, is_half, Left};
 ghost use Rattle.device_core.specs.Words.{HasEndRoom, IsAtWord};
 ghost use Rattle.device_core.specs.declared.second.SecondStep.TheVariants.{Ended};
@@ -67,7 +67,7 @@ impl Past {
         ensures state { (s : Store Frame Stored Image) (plans : Plans) (o : OpenEntry) (chain : ChainState) → option_map open_of self.old.running
             ≡ Some o → option_map chain_of self.old.running ≡ Some chain → device_by s paths.new plans self.new
             ≡ turned (device_by s paths.old plans self.old) o.path (wrote_turn chain t took) }
-        ensures answer { (chain : ChainState) → option_map chain_of self.old.running ≡ Some chain → second_seen self.new Ended
+        ensures answer { (chain : ChainState) → option_map chain_of self.old.running ≡ Some chain → second_seen (last_end_of self.new) Ended
             ≡ Some (second_told contents t (wrote_turn chain t took).came) }
         ensures word { (n : ℕ) → IfSome self.old.running (λ r. r.chain.fixed.cylinders ≡ n) → IfSome self.new.running (λ r. IsAtWord n r.chain) }
         ensures keeps { Keeps self.new }

@@ -4,8 +4,8 @@ ghost use Rattle.device_defs.specs.Events.{lose};
 ghost use Rattle.device_outside.specs.declared.keep.NoKeep.{NoKeep};
 ghost use Rattle.device_outside.specs.Keeper.{Heard, reply};
 ghost use Rattle.device_outside.specs.Outside.{Ran};
-ghost use Rattle.device_store.specs.State.{outside, surely, TakesTracks};
-ghost use Rattle.device_core.specs.State.{device_of, IsSameDevice};
+ghost use Rattle.device_store.specs.State.{surely};
+ghost use Rattle.device_core.specs.State.{around, device_of, IsSameDevice, TakesItsTracks};
 ghost use Rattle.device_laws.specs.Moved.{MovesNothing};
 ghost use Rattle.device_laws.specs.Seen.{KeepsPaths};
 ghost use Rattle.device_core.specs.Promises.{StaysExcused, StaysLent, StaysPlain, StaysSound, TakesNoSide};
@@ -24,11 +24,11 @@ impl<V: Volume> Device<V> {
         port: &mut P,
         keep: &mut K,
     )
-        requires { TakesTracks K.takes keep.old self.old.store }
+        requires { TakesItsTracks K.takes keep.old self.old }
         ensures fixed { IsSameDevice self.old self.new }
-        ensures takes { TakesTracks K.takes keep.new self.new.store }
-        ensures run { Ran surely (Heard K.hears K.takes) (lose contents (device_of self.old) loss) (outside (P.view port.old) self.old.store keep.old)
-            (device_of self.new) tt (outside (P.view port.new) self.new.store keep.new) }
+        ensures takes { TakesItsTracks K.takes keep.new self.new }
+        ensures run { Ran surely (Heard K.hears K.takes) (lose contents (device_of self.old) loss) (around (P.view port.old) self.old keep.old)
+            (device_of self.new) tt (around (P.view port.new) self.new keep.new) }
         ensures paths { KeepsPaths (device_of self.old) (device_of self.new) }
         ensures transfers { MovesNothing (device_of self.old) (device_of self.new) }
         ensures sound { StaysSound self.old self.new }
@@ -47,7 +47,7 @@ impl<V: Volume> Device<V> {
     pub fn lose<P: Port>(&mut self, loss: Loss, port: &mut P)
         ensures fixed { IsSameDevice self.old self.new }
         ensures run { (k : NoKeep) → Ran surely (λ _ m r _. r ≡ reply m) (lose contents (device_of self.old) loss)
-            (outside (P.view port.old) self.old.store k) (device_of self.new) tt (outside (P.view port.new) self.new.store k) }
+            (around (P.view port.old) self.old k) (device_of self.new) tt (around (P.view port.new) self.new k) }
         ensures paths { KeepsPaths (device_of self.old) (device_of self.new) }
         ensures transfers { MovesNothing (device_of self.old) (device_of self.new) }
         ensures sound { StaysSound self.old self.new }

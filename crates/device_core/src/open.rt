@@ -1,9 +1,11 @@
-ghost use Rattle.std.specs.Prelude.{◌≡◌, ◌≤◌, ◌*◌, IfErr, IfOk, None, Some};
+ghost use Rattle.std.specs.Prelude.{◌≡◌, ◌≤◌, ◌*◌, IfErr, IfOk, List, None, Some};
+ghost use Rattle.ckd_types.specs.declared.record.Track.{Track};
+ghost use Rattle.ckd_types.specs.Volume.{empty_volume};
 ghost use Rattle.plain_defs.specs.History.{no_history};
 ghost use Rattle.device_core.specs.Kept.{history_of, Keeps};
 ghost use Rattle.device_store.specs.State.{on_a, on_b};
 ghost use Rattle.device_core.specs.State.{device_of, opened_device};
-ghost use Rattle.device_core.specs.Promises.{IsPromised};
+ghost use Rattle.device_core.specs.Promises.{HoldsTracks, IsPromised};
 ghost use Rattle.device_outside.specs.Disk.{empty_contents};
 
 use crate::giving::plans_give;
@@ -34,8 +36,9 @@ impl Past {
 }
 
 impl<V: Volume> Device<V> {
-    /// A device of 1 to 64 cylinders on a volume of empty tracks, with 15 tracks for each cylinder. What was handed in comes
-    /// back where memory is lacking.
+    /// A device of 1 to 64 cylinders on a volume, with 15 tracks for each cylinder, which holds whatever tracks it holds. What
+    /// is promised of it is so of a volume that holds tracks, each where it says and such as fits, as empty ones do. What was
+    /// handed in comes back where memory is lacking.
     pub fn open(
         alloc: Global,
         number: DeviceNo,
@@ -50,7 +53,9 @@ impl<V: Volume> Device<V> {
         ensures device { IfOk result (λ d. device_of d ≡ opened_device number geometry cylinders plans) }
         ensures volume { IfOk result (λ d. (on_a d.store ≡ Some volume) × (on_b d.store ≡ None)) }
         ensures back { IfErr result (λ e. (e.1 ≡ volume) × (e.2 ≡ plans)) }
-        ensures promised { IfOk result (λ d. (V.view volume).contents ≡ Some (empty_contents (cylinders * 15)) → IsPromised d) }
+        ensures promised { IfOk result (λ d. (first : List Track) → HoldsTracks geometry cylinders first (V.view volume) → IsPromised first d) }
+        ensures empty { (V.view volume).contents ≡ Some (empty_contents (cylinders * 15)) →
+            HoldsTracks geometry cylinders (empty_volume cylinders) (V.view volume) }
     {
         plans_give(&plans);
         let paths = Paths::new();

@@ -1,4 +1,5 @@
-ghost use Rattle.std.specs.Prelude.{◌≡◌, ◌≤◌, ◌*◌, ℕ, IfErr, None, OnErr, OnOk, Some, false, is_some, option_map, true};
+ghost use Rattle.std.specs.Prelude.{◌≡◌, ◌≤◌, ◌*◌, ℕ, IfErr, None, OnErr, OnOk, Some, false, is_some, option_map, true, List};
+ghost use Rattle.ckd_types.specs.declared.record.Track.{Track};
 ghost use Rattle.track_table.specs.Tracks.{count_below};
 ghost use Rattle.plain_defs.specs.History.{emptied};
 ghost use Rattle.device_defs.specs.Contents.{contents};
@@ -7,10 +8,9 @@ ghost use Rattle.device_defs.specs.Store.{side_of, stale_at, tracks_of};
 ghost use Rattle.device_outside.specs.declared.keep.NoKeep.{NoKeep};
 ghost use Rattle.device_outside.specs.Keeper.{Heard, reply};
 ghost use Rattle.device_outside.specs.Outside.{Ran};
-ghost use Rattle.duplex_pair.specs.Sides.{other_of, volume_of};
-ghost use Rattle.device_store.specs.State.{on_a, on_b, outside, surely};
+ghost use Rattle.device_store.specs.State.{surely};
 ghost use Rattle.device_core.specs.Kept.{history_of, ActRoom, Keeps};
-ghost use Rattle.device_core.specs.State.{device_of, IsSameDevice};
+ghost use Rattle.device_core.specs.State.{around, device_of, other_volume, own_volumes, side_volume, volume_a, volume_b, HasSameTracks, IsSameDevice};
 ghost use Rattle.device_core.specs.Promises.{
   ComesPlain,
   ComesSound,
@@ -66,15 +66,15 @@ impl<V: Volume> Device<V> {
     /// but for `restore`.
     pub fn replace(&mut self, side: Side, volume: V) -> V
         requires here { is_some (device_of self.old).store.lent ≡ false }
-        requires there { is_some (volume_of self.old.store.pair.volumes side) ≡ true }
-        requires size { (V.view volume).tracks ≡ self.old.store.cylinders * 15 }
+        requires there { is_some (side_volume self.old side) ≡ true }
+        requires size { (V.view volume).tracks ≡ tracks_of (device_of self.old).store }
         ensures device { device_of self.new ≡ replace (device_of self.old) side }
-        ensures volume { volume_of self.new.store.pair.volumes side ≡ Some volume }
-        ensures other { other_of self.new.store.pair.volumes side ≡ other_of self.old.store.pair.volumes side }
-        ensures back { volume_of self.old.store.pair.volumes side ≡ Some result }
-        ensures sound { TellsTracks (V.view volume) (self.old.store.cylinders * 15) → (side_of (device_of self.old).store side).up ≡ false → StaysSound self.old self.new }
-        ensures plain { TellsTracks (V.view volume) (self.old.store.cylinders * 15) → (side_of (device_of self.old).store side).up ≡ false → StaysPlain self.old self.new }
-        ensures excused { TellsTracks (V.view volume) (self.old.store.cylinders * 15) → replace_fault (device_of self.old) side ≡ None → StaysExcused self.old self.new }
+        ensures volume { side_volume self.new side ≡ Some volume }
+        ensures other { other_volume self.new side ≡ other_volume self.old side }
+        ensures back { side_volume self.old side ≡ Some result }
+        ensures sound { TellsTracks (V.view volume) (tracks_of (device_of self.old).store) → (side_of (device_of self.old).store side).up ≡ false → StaysSound self.old self.new }
+        ensures plain { TellsTracks (V.view volume) (tracks_of (device_of self.old).store) → (side_of (device_of self.old).store side).up ≡ false → StaysPlain self.old self.new }
+        ensures excused { TellsTracks (V.view volume) (tracks_of (device_of self.old).store) → replace_fault (device_of self.old) side ≡ None → StaysExcused self.old self.new }
     {
         match self.store.replace(side, volume) {
             Some(old) => old,
@@ -85,7 +85,7 @@ impl<V: Volume> Device<V> {
     /// Side B takes nothing from here on.
     pub fn hold(&mut self)
         ensures device { device_of self.new ≡ hold_side (device_of self.old) }
-        ensures volume { self.new.store.pair.volumes ≡ self.old.store.pair.volumes }
+        ensures volume { own_volumes self.new ≡ own_volumes self.old }
         ensures sound { StaysSound self.old self.new }
         ensures plain { StaysPlain self.old self.new }
         ensures excused { suspend_fault (device_of self.old) ≡ None → StaysExcused self.old self.new }
@@ -96,7 +96,7 @@ impl<V: Volume> Device<V> {
     /// What is stale on a held side is copied from here on.
     pub fn resume(&mut self)
         ensures device { device_of self.new ≡ resume (device_of self.old) }
-        ensures volume { self.new.store.pair.volumes ≡ self.old.store.pair.volumes }
+        ensures volume { own_volumes self.new ≡ own_volumes self.old }
         ensures sound { StaysSound self.old self.new }
         ensures plain { StaysPlain self.old self.new }
         ensures excused { StaysExcused self.old self.new }
@@ -107,13 +107,13 @@ impl<V: Volume> Device<V> {
     /// Another device's volume becomes side B, with every track stale.
     pub fn join_volume(&mut self, volume: V)
         requires here { is_some (device_of self.old).store.lent ≡ false }
-        requires size { (V.view volume).tracks ≡ self.old.store.cylinders * 15 }
+        requires size { (V.view volume).tracks ≡ tracks_of (device_of self.old).store }
         ensures device { device_of self.new ≡ join (device_of self.old) }
-        ensures a { on_a self.new.store ≡ on_a self.old.store }
-        ensures b { on_b self.new.store ≡ Some volume }
-        ensures sound { TellsTracks (V.view volume) (self.old.store.cylinders * 15) → (device_of self.old).store.paired ≡ false → StaysSound self.old self.new }
-        ensures plain { TellsTracks (V.view volume) (self.old.store.cylinders * 15) → (device_of self.old).store.paired ≡ false → StaysPlain self.old self.new }
-        ensures excused { TellsTracks (V.view volume) (self.old.store.cylinders * 15) → (device_of self.old).store.paired ≡ false → StaysExcused self.old self.new }
+        ensures a { volume_a self.new ≡ volume_a self.old }
+        ensures b { volume_b self.new ≡ Some volume }
+        ensures sound { TellsTracks (V.view volume) (tracks_of (device_of self.old).store) → (device_of self.old).store.paired ≡ false → StaysSound self.old self.new }
+        ensures plain { TellsTracks (V.view volume) (tracks_of (device_of self.old).store) → (device_of self.old).store.paired ≡ false → StaysPlain self.old self.new }
+        ensures excused { TellsTracks (V.view volume) (tracks_of (device_of self.old).store) → (device_of self.old).store.paired ≡ false → StaysExcused self.old self.new }
     {
         self.store.join(volume);
     }
@@ -121,9 +121,9 @@ impl<V: Volume> Device<V> {
     /// Side B leaves, where there is one.
     pub fn split(&mut self) -> Option<V>
         ensures device { device_of self.new ≡ split (device_of self.old) }
-        ensures a { on_a self.new.store ≡ on_a self.old.store }
-        ensures b { on_b self.new.store ≡ None }
-        ensures back { result ≡ on_b self.old.store }
+        ensures a { volume_a self.new ≡ volume_a self.old }
+        ensures b { volume_b self.new ≡ None }
+        ensures back { result ≡ volume_b self.old }
         ensures sound { unpair_fault (device_of self.old) ≡ None → StaysSound self.old self.new }
         ensures plain { unpair_fault (device_of self.old) ≡ None → StaysPlain self.old self.new }
         ensures excused { unpair_fault (device_of self.old) ≡ None → StaysExcused self.old self.new }
@@ -139,14 +139,14 @@ impl<V: Volume> Device<V> {
     ) -> Option<V>
         requires { (device_of self.old).store.paired ≡ false }
         ensures fixed { IsSameDevice self.old self.new }
-        ensures a { on_a self.new.store ≡ None }
-        ensures b { on_b self.new.store ≡ None }
-        ensures back { result ≡ on_a self.old.store }
-        ensures run { (k : K) → Ran surely (Heard K.hears K.takes) (lend contents (device_of self.old) to) (outside (P.view port.old) self.old.store k)
-            (device_of self.new) tt (record (outside (P.view port.new) self.new.store k) { a = option_map V.view result }) }
+        ensures a { volume_a self.new ≡ None }
+        ensures b { volume_b self.new ≡ None }
+        ensures back { result ≡ volume_a self.old }
+        ensures run { (k : K) → Ran surely (Heard K.hears K.takes) (lend contents (device_of self.old) to) (around (P.view port.old) self.old k)
+            (device_of self.new) tt (record (around (P.view port.new) self.new k) { a = option_map V.view result }) }
         ensures sound { (k : K) → (device_of self.old).history.running ≡ None → StaysSound self.old self.new }
         ensures plain { (k : K) → (device_of self.old).history.running ≡ None → LeavesPlain self.old self.new }
-        ensures excused { (k : K) → (device_of self.old).history.running ≡ None → StandsPlain self.old → HasLostNone self.new }
+        ensures excused { (k : K) → (device_of self.old).history.running ≡ None → (first : List Track) → StandsPlain first self.old → HasLostNone self.new }
     {
         let before = self.store.waiting_count();
         self.store.begin_event();
@@ -159,30 +159,30 @@ impl<V: Volume> Device<V> {
     pub fn lend<P: Port>(&mut self, to: DeviceNo, port: &mut P) -> Option<V>
         requires { (device_of self.old).store.paired ≡ false }
         ensures fixed { IsSameDevice self.old self.new }
-        ensures a { on_a self.new.store ≡ None }
-        ensures b { on_b self.new.store ≡ None }
-        ensures back { result ≡ on_a self.old.store }
+        ensures a { volume_a self.new ≡ None }
+        ensures b { volume_b self.new ≡ None }
+        ensures back { result ≡ volume_a self.old }
         ensures run { (k : NoKeep) → Ran surely (λ _ m r _. r ≡ reply m) (lend contents (device_of self.old) to)
-            (outside (P.view port.old) self.old.store k) (device_of self.new) tt
-            (record (outside (P.view port.new) self.new.store k) { a = option_map V.view result }) }
+            (around (P.view port.old) self.old k) (device_of self.new) tt
+            (record (around (P.view port.new) self.new k) { a = option_map V.view result }) }
         ensures sound { (device_of self.old).history.running ≡ None → StaysSound self.old self.new }
         ensures plain { (device_of self.old).history.running ≡ None → LeavesPlain self.old self.new }
-        ensures excused { (device_of self.old).history.running ≡ None → StandsPlain self.old → HasLostNone self.new }
+        ensures excused { (device_of self.old).history.running ≡ None → (first : List Track) → StandsPlain first self.old → HasLostNone self.new }
     {
         self.lend_with::<P, NoKeep>(to, port)
     }
 
     /// An empty volume in place of the one that was lent, and the device is empty. Room in the journal is made first.
     pub fn restore(&mut self, volume: V) -> Result<(), (NoMemory, V)>
-        requires { (V.view volume).tracks ≡ self.old.store.cylinders * 15 }
+        requires { (V.view volume).tracks ≡ tracks_of (device_of self.old).store }
         ensures device { OnOk result (device_of self.new ≡ restore (device_of self.old)) }
-        ensures a { OnOk result (on_a self.new.store ≡ Some volume) }
-        ensures b { on_b self.new.store ≡ on_b self.old.store }
-        ensures same { OnErr result ((device_of self.new ≡ device_of self.old) × (self.new.store ≡ self.old.store)) }
+        ensures a { OnOk result (volume_a self.new ≡ Some volume) }
+        ensures b { volume_b self.new ≡ volume_b self.old }
+        ensures same { OnErr result ((device_of self.new ≡ device_of self.old) × HasSameTracks self.old self.new) }
         ensures back { IfErr result (λ e. e.1 ≡ volume) }
         ensures sound { OnOk result ((V.view volume).contents ≡ Some (empty_contents (self.old.store.cylinders * 15)) → ComesSound self.old self.new) }
         ensures plain { OnOk result ((V.view volume).contents ≡ Some (empty_contents (self.old.store.cylinders * 15)) → ComesPlain self.old self.new) }
-        ensures excused { OnOk result (StandsLent self.old → HasLostNone self.new) }
+        ensures excused { OnOk result ((first : List Track) → StandsLent first self.old → HasLostNone self.new) }
     {
         match self.past.reserve_fresh() {
             Err(NoMemory) => return Err((NoMemory, volume)),

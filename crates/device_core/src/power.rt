@@ -6,10 +6,10 @@ ghost use Rattle.device_defs.specs.Cutting.{power};
 ghost use Rattle.device_outside.specs.declared.keep.NoKeep.{NoKeep};
 ghost use Rattle.device_outside.specs.Keeper.{Heard, reply};
 ghost use Rattle.device_outside.specs.Outside.{Ran};
-ghost use Rattle.device_store.specs.State.{outside, surely, Takes, TakesTracks};
+ghost use Rattle.device_store.specs.State.{surely, Takes};
 ghost use Rattle.device_core.specs.Kept.{history_of, Keeps};
 ghost use Rattle.device_core.specs.Powered.{off_path};
-ghost use Rattle.device_core.specs.State.{device_of, IsSameDevice};
+ghost use Rattle.device_core.specs.State.{around, device_of, IsSameDevice, TakesItsTracks};
 ghost use Rattle.device_laws.specs.Moved.{MovesNothing};
 ghost use Rattle.device_core.specs.Promises.{StaysExcused, StaysLent, StaysPlain, StaysSound};
 
@@ -75,11 +75,11 @@ impl<V: Volume> Device<V> {
     /// The loss of power. Takes no memory. The device takes no notes. An open half write ends; that of a command counts as done, and
     /// the keeper is told of its edit.
     pub fn power_with<P: Port, K: Keep<TrackImage>>(&mut self, port: &mut P, keep: &mut K)
-        requires takes { TakesTracks K.takes keep.old self.old.store }
+        requires takes { TakesItsTracks K.takes keep.old self.old }
         ensures fixed { IsSameDevice self.old self.new }
-        ensures takes { TakesTracks K.takes keep.new self.new.store }
-        ensures run { Ran surely (Heard K.hears K.takes) (power contents (device_of self.old)) (outside (P.view port.old) self.old.store keep.old)
-            (device_of self.new) tt (outside (P.view port.new) self.new.store keep.new) }
+        ensures takes { TakesItsTracks K.takes keep.new self.new }
+        ensures run { Ran surely (Heard K.hears K.takes) (power contents (device_of self.old)) (around (P.view port.old) self.old keep.old)
+            (device_of self.new) tt (around (P.view port.new) self.new keep.new) }
         ensures transfers { MovesNothing (device_of self.old) (device_of self.new) }
         ensures sound { StaysSound self.old self.new }
         ensures plain { StaysPlain self.old self.new }
@@ -100,7 +100,7 @@ impl<V: Volume> Device<V> {
     pub fn power<P: Port>(&mut self, port: &mut P)
         ensures fixed { IsSameDevice self.old self.new }
         ensures run { (k : NoKeep) → Ran surely (λ _ m r _. r ≡ reply m) (power contents (device_of self.old))
-            (outside (P.view port.old) self.old.store k) (device_of self.new) tt (outside (P.view port.new) self.new.store k) }
+            (around (P.view port.old) self.old k) (device_of self.new) tt (around (P.view port.new) self.new k) }
         ensures transfers { MovesNothing (device_of self.old) (device_of self.new) }
         ensures sound { StaysSound self.old self.new }
         ensures plain { StaysPlain self.old self.new }

@@ -10,9 +10,9 @@ ghost use Rattle.device_outside.specs.declared.keep.NoKeep.{NoKeep};
 ghost use Rattle.device_outside.specs.Interaction.{Done};
 ghost use Rattle.device_outside.specs.Keeper.{Heard, reply};
 ghost use Rattle.device_outside.specs.Outside.{PortView, Ran};
-ghost use Rattle.device_store.specs.State.{outside, surely, Takes, TakesTracks};
+ghost use Rattle.device_store.specs.State.{surely, Takes};
 ghost use Rattle.device_core.specs.Kept.{open_of, history_of, waiting_in, Keeps};
-ghost use Rattle.device_core.specs.State.{device_of, IsSameDevice};
+ghost use Rattle.device_core.specs.State.{around, device_of, own_volumes, IsSameDevice, TakesItsTracks};
 ghost use Rattle.device_laws.specs.Moved.{MovesNothing};
 ghost use Rattle.device_core.specs.Promises.{StaysExcused, StaysLent, StaysPlain, StaysSound};
 
@@ -121,12 +121,12 @@ impl<V: Volume> Device<V> {
     /// Its path's reset cuts the program that runs. An open half write of its command counts as done.
     fn cut_program<K: Keep<TrackImage>>(&mut self, path: PathNo, keep: &mut K)
         requires runs { is_path_of (history_of self.old.past).running path ≡ true }
-        requires takes { TakesTracks K.takes keep.old self.old.store }
+        requires takes { TakesItsTracks K.takes keep.old self.old }
         ensures fixed { IsSameDevice self.old self.new }
-        ensures volume { self.new.store.pair.volumes ≡ self.old.store.pair.volumes }
-        ensures takes { TakesTracks K.takes keep.new self.new.store }
-        ensures run { (p : PortView) → Ran surely (Heard K.hears K.takes) (reset contents (device_of self.old) path) (outside p self.old.store keep.old)
-            (device_of self.new) tt (outside p self.new.store keep.new) }
+        ensures volume { own_volumes self.new ≡ own_volumes self.old }
+        ensures takes { TakesItsTracks K.takes keep.new self.new }
+        ensures run { (p : PortView) → Ran surely (Heard K.hears K.takes) (reset contents (device_of self.old) path) (around p self.old keep.old)
+            (device_of self.new) tt (around p self.new keep.new) }
     {
         let more = half_count(&self.store.half);
         self.store.cut_half(keep);
@@ -136,13 +136,13 @@ impl<V: Volume> Device<V> {
     /// A path is reset: a program that it runs is cut, and where another path's runs, the reset waits for its end. Of a path that used
     /// nothing since its last reset it is none. Takes no memory. The keeper is told of an edit that takes effect.
     pub fn reset_with<K: Keep<TrackImage>>(&mut self, path: PathNo, keep: &mut K)
-        requires takes { TakesTracks K.takes keep.old self.old.store }
+        requires takes { TakesItsTracks K.takes keep.old self.old }
         ensures fixed { IsSameDevice self.old self.new }
-        ensures volume { self.new.store.pair.volumes ≡ self.old.store.pair.volumes }
-        ensures run { (p : PortView) → Ran surely (Heard K.hears K.takes) (reset contents (device_of self.old) path) (outside p self.old.store keep.old)
-            (device_of self.new) tt (outside p self.new.store keep.new) }
+        ensures volume { own_volumes self.new ≡ own_volumes self.old }
+        ensures run { (p : PortView) → Ran surely (Heard K.hears K.takes) (reset contents (device_of self.old) path) (around p self.old keep.old)
+            (device_of self.new) tt (around p self.new keep.new) }
         ensures transfers { MovesNothing (device_of self.old) (device_of self.new) }
-        ensures takes { TakesTracks K.takes keep.new self.new.store }
+        ensures takes { TakesItsTracks K.takes keep.new self.new }
         ensures sound { StaysSound self.old self.new }
         ensures plain { StaysPlain self.old self.new }
         ensures excused { StaysExcused self.old self.new }
@@ -161,9 +161,9 @@ impl<V: Volume> Device<V> {
     /// The same, with a keeper that keeps nothing.
     pub fn reset(&mut self, path: PathNo)
         ensures fixed { IsSameDevice self.old self.new }
-        ensures volume { self.new.store.pair.volumes ≡ self.old.store.pair.volumes }
+        ensures volume { own_volumes self.new ≡ own_volumes self.old }
         ensures run { (p : PortView) (k : NoKeep) → Ran surely (λ _ m r _. r ≡ reply m) (reset contents (device_of self.old) path)
-            (outside p self.old.store k) (device_of self.new) tt (outside p self.new.store k) }
+            (around p self.old k) (device_of self.new) tt (around p self.new k) }
         ensures sound { StaysSound self.old self.new }
         ensures plain { StaysPlain self.old self.new }
         ensures excused { StaysExcused self.old self.new }

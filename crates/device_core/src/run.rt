@@ -1,4 +1,5 @@
-ghost use Rattle.std.specs.Prelude.{◌≡◌, ◌≤◌, ◌+◌, ℕ, [], IfOk, IfSome, IsSome, None, OnErr, OnOk, false, is_some, option_map};
+ghost use Rattle.std.specs.Prelude.{◌≡◌, ◌≤◌, ◌+◌, ℕ, [], IfOk, IfSome, IsSome, None, OnErr, OnOk, false, is_some, option_map, List};
+ghost use Rattle.ckd_types.specs.declared.record.Track.{Track};
 ghost use Rattle.ckd_chain.specs.Facts.{IsChain};
 ghost use Rattle.device_defs.specs.Command.{command_by};
 ghost use Rattle.device_defs.specs.Contents.{contents};
@@ -7,10 +8,9 @@ ghost use Rattle.event_notes.specs.Loose.{loose_count, weight};
 ghost use Rattle.device_outside.specs.declared.keep.NoKeep.{NoKeep};
 ghost use Rattle.device_outside.specs.Keeper.{Heard, reply};
 ghost use Rattle.device_outside.specs.Outside.{Ran, where_ok};
-ghost use Rattle.device_store.specs.State.{outside, TakesTracks};
 ghost use Rattle.device_core.specs.Halves.{is_half_step};
 ghost use Rattle.device_core.specs.Kept.{open_of, chain_of, history_of, ActRoom, HasRoomFor, Keeps};
-ghost use Rattle.device_core.specs.State.{device_of, step_had, IsSameDevice};
+ghost use Rattle.device_core.specs.State.{around, device_of, last_end, step_had, IsSameDevice, TakesItsTracks};
 ghost use Rattle.device_core.specs.Words.{HasEndRoom};
 ghost use Rattle.device_laws.specs.Moved.{CommandMoves, HitReadsNone};
 ghost use Rattle.device_laws.specs.Seen.{EndsAsSeen};
@@ -80,15 +80,15 @@ impl<V: Volume> Device<V> {
         requires fresh { self.old.store.loose.acts ≡ [] }
         requires whole { self.old.store.half ≡ None }
         requires room { ActRoom (weight self.old.store.loose + 2) self.old.past }
-        requires takes { TakesTracks K.takes keep.old self.old.store }
+        requires takes { TakesItsTracks K.takes keep.old self.old }
         ensures fixed { IsSameDevice self.old self.new }
-        ensures takes { TakesTracks K.takes keep.new self.new.store }
+        ensures takes { TakesItsTracks K.takes keep.new self.new }
         ensures half { IfOk result (λ step. is_some self.new.store.half ≡ is_half_step step) }
         ensures same { OnErr result (self.new.store.half ≡ None) }
         ensures run { Ran (where_ok result) (Heard K.hears K.takes)
             (command_by contents (device_of self.old) (device_of self.old).history.running (device_of self.old).chain)
-            (outside (P.view port.old) self.old.store keep.old) (device_of self.new) (step_had self.new.past result)
-            (outside (P.view port.new) self.new.store keep.new) }
+            (around (P.view port.old) self.old keep.old) (device_of self.new) (step_had (last_end self.new) result)
+            (around (P.view port.new) self.new keep.new) }
     {
         match on_past(
             &mut self.store,
@@ -118,14 +118,14 @@ impl<V: Volume> Device<V> {
         requires ends { IfSome self.old.past.running (λ r. HasEndRoom r.ends) }
         requires room { ActRoom (loose_count self.old.store.loose.loose + 2) self.old.past }
         requires whole { self.old.store.half ≡ None }
-        requires takes { TakesTracks K.takes keep.old self.old.store }
+        requires takes { TakesItsTracks K.takes keep.old self.old }
         ensures fixed { IsSameDevice self.old self.new }
-        ensures takes { TakesTracks K.takes keep.new self.new.store }
+        ensures takes { TakesItsTracks K.takes keep.new self.new }
         ensures half { IfOk result (λ step. is_some self.new.store.half ≡ is_half_step step) }
         ensures same { OnErr result (self.new.store.half ≡ None) }
         ensures run { Ran (where_ok result) (Heard K.hears K.takes) (event contents (device_of self.old) (λ z. command_by contents z z.history.running z.chain))
-            (outside (P.view port.old) self.old.store keep.old) (device_of self.new) (step_had self.new.past result)
-            (outside (P.view port.new) self.new.store keep.new) }
+            (around (P.view port.old) self.old keep.old) (device_of self.new) (step_had (last_end self.new) result)
+            (around (P.view port.new) self.new keep.new) }
     {
         let before = self.store.waiting_count();
         self.store.begin_event();
@@ -136,8 +136,8 @@ impl<V: Volume> Device<V> {
     }
 
     /// The chain of the program that runs keeps to what chains keep to. No code but for the proof.
-    fn recall_chain(&self)
-        ensures { IfSome self.now.past.running (λ r. IsChain r.chain) }
+    pub fn recall_chain(&self)
+        ensures { IfSome (device_of self.now).chain IsChain }
     {
         match &self.past.running {
             Some(running) => running.chain.stands(),
@@ -152,21 +152,21 @@ impl<V: Volume> Device<V> {
         port: &mut P,
         keep: &mut K,
     ) -> Result<Stepped, NoMemory>
-        requires running { IsSome self.old.past.running }
+        requires running { IsSome (device_of self.old).history.running }
         requires whole { is_some (device_of self.old).store.half ≡ false }
-        requires takes { TakesTracks K.takes keep.old self.old.store }
+        requires takes { TakesItsTracks K.takes keep.old self.old }
         ensures fixed { IsSameDevice self.old self.new }
-        ensures takes { TakesTracks K.takes keep.new self.new.store }
+        ensures takes { TakesItsTracks K.takes keep.new self.new }
         ensures half { IfOk result (λ step. is_some (device_of self.new).store.half ≡ is_half_step step) }
         ensures same { OnErr result (is_some (device_of self.new).store.half ≡ false) }
         ensures run { DidCommand (Heard K.hears K.takes) self.old (P.view port.old) keep.old self.new (P.view port.new) keep.new result }
-        ensures ends_as_seen { EndsAsSeen (where_ok result) (Heard K.hears K.takes) (device_of self.old) (outside (P.view port.old) self.old.store keep.old)
-            (device_of self.new) (step_had self.new.past result) (outside (P.view port.new) self.new.store keep.new) }
-        ensures ends { StandsPlain self.old → EndsSeen (where_ok result) (Heard K.hears K.takes) (device_of self.old)
-            (outside (P.view port.old) self.old.store keep.old) (device_of self.new) (step_had self.new.past result) (outside (P.view port.new) self.new.store keep.new) }
+        ensures ends_as_seen { EndsAsSeen (where_ok result) (Heard K.hears K.takes) (device_of self.old) (around (P.view port.old) self.old keep.old)
+            (device_of self.new) (step_had (last_end self.new) result) (around (P.view port.new) self.new keep.new) }
+        ensures ends { (first : List Track) → StandsPlain first self.old → EndsSeen (where_ok result) (Heard K.hears K.takes) (device_of self.old)
+            (around (P.view port.old) self.old keep.old) (device_of self.new) (step_had (last_end self.new) result) (around (P.view port.new) self.new keep.new) }
         ensures hit_reads_none { HitReadsNone (device_of self.old) (device_of self.new) }
-        ensures fast_writes_none { StandsPlain self.old → FastWritesNone (where_ok result) (Heard K.hears K.takes) (device_of self.old)
-            (outside (P.view port.old) self.old.store keep.old) (device_of self.new) (step_had self.new.past result) }
+        ensures fast_writes_none { (first : List Track) → StandsPlain first self.old → FastWritesNone (where_ok result) (Heard K.hears K.takes) (device_of self.old)
+            (around (P.view port.old) self.old keep.old) (device_of self.new) (step_had (last_end self.new) result) }
         ensures transfers { CommandMoves (device_of self.old) (device_of self.new) }
         ensures sound { StaysSound self.old self.new }
         ensures plain { StaysPlain self.old self.new }
@@ -186,19 +186,19 @@ impl<V: Volume> Device<V> {
 
     /// The same, with a keeper that keeps nothing.
     pub fn command<P: Port>(&mut self, port: &mut P) -> Result<Stepped, NoMemory>
-        requires running { IsSome self.old.past.running }
+        requires running { IsSome (device_of self.old).history.running }
         requires whole { is_some (device_of self.old).store.half ≡ false }
         ensures fixed { IsSameDevice self.old self.new }
         ensures half { IfOk result (λ step. is_some (device_of self.new).store.half ≡ is_half_step step) }
         ensures same { OnErr result (is_some (device_of self.new).store.half ≡ false) }
         ensures run { (k : NoKeep) → DidCommand (λ _ m r _. r ≡ reply m) self.old (P.view port.old) k self.new (P.view port.new) k result }
         ensures ends_as_seen { (k : NoKeep) → EndsAsSeen (where_ok result) (λ _ m r _. r ≡ reply m) (device_of self.old)
-            (outside (P.view port.old) self.old.store k) (device_of self.new) (step_had self.new.past result) (outside (P.view port.new) self.new.store k) }
-        ensures ends { StandsPlain self.old → (k : NoKeep) → EndsSeen (where_ok result) (λ _ m r _. r ≡ reply m) (device_of self.old)
-            (outside (P.view port.old) self.old.store k) (device_of self.new) (step_had self.new.past result) (outside (P.view port.new) self.new.store k) }
+            (around (P.view port.old) self.old k) (device_of self.new) (step_had (last_end self.new) result) (around (P.view port.new) self.new k) }
+        ensures ends { (first : List Track) → StandsPlain first self.old → (k : NoKeep) → EndsSeen (where_ok result) (λ _ m r _. r ≡ reply m) (device_of self.old)
+            (around (P.view port.old) self.old k) (device_of self.new) (step_had (last_end self.new) result) (around (P.view port.new) self.new k) }
         ensures hit_reads_none { HitReadsNone (device_of self.old) (device_of self.new) }
-        ensures fast_writes_none { StandsPlain self.old → (k : NoKeep) → FastWritesNone (where_ok result) (λ _ m r _. r ≡ reply m) (device_of self.old)
-            (outside (P.view port.old) self.old.store k) (device_of self.new) (step_had self.new.past result) }
+        ensures fast_writes_none { (first : List Track) → StandsPlain first self.old → (k : NoKeep) → FastWritesNone (where_ok result) (λ _ m r _. r ≡ reply m) (device_of self.old)
+            (around (P.view port.old) self.old k) (device_of self.new) (step_had (last_end self.new) result) }
         ensures transfers { CommandMoves (device_of self.old) (device_of self.new) }
         ensures sound { StaysSound self.old self.new }
         ensures plain { StaysPlain self.old self.new }

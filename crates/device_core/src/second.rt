@@ -1,17 +1,17 @@
-ghost use Rattle.std.specs.Prelude.{◌≡◌, [], IsSome, None, Some, is_some, true, if◌then◌else◌};
+ghost use Rattle.std.specs.Prelude.{◌≡◌, [], IsSome, None, Option, Some, is_some, true, if◌then◌else◌};
+ghost use Rattle.ckd_types.specs.declared.channel.CommandEnd.{CommandEnd};
 ghost use Rattle.device_defs.specs.declared.answers.SecondEnd.{SecondEnd};
 ghost use Rattle.device_defs.specs.declared.answers.SecondEnd.TheVariants as seconds;
 ghost use Rattle.device_defs.specs.declared.answers.Took.TheVariants.{Whole, Unwritten};
 ghost use Rattle.event_notes.specs.Loose.{weight};
-ghost use Rattle.device_core.specs.declared.past.Past.{Past};
 ghost use Rattle.device_core.specs.Kept.{ActRoom};
 ghost use Rattle.device_defs.specs.Contents.{contents};
 ghost use Rattle.device_defs.specs.Events.{second, second_of};
 ghost use Rattle.device_outside.specs.declared.keep.NoKeep.{NoKeep};
 ghost use Rattle.device_outside.specs.Keeper.{Heard, reply};
 ghost use Rattle.device_outside.specs.Outside.{Ran};
-ghost use Rattle.device_store.specs.State.{outside, surely, Takes, TakesTracks};
-ghost use Rattle.device_core.specs.State.{device_of, second_seen, IsSameDevice};
+ghost use Rattle.device_store.specs.State.{surely, Takes};
+ghost use Rattle.device_core.specs.State.{around, device_of, last_end, second_seen, IsSameDevice, TakesItsTracks};
 ghost use Rattle.device_laws.specs.Moved.{SecondMoves};
 ghost use Rattle.device_laws.specs.Seen.{EndsAsKept};
 ghost use Rattle.device_core.specs.Promises.{StaysExcused, StaysPlain, StaysSound};
@@ -45,7 +45,7 @@ fn took_of(done: bool) -> Took
 
 /// The second part of a write that no command waits for.
 fn told(track: TrackNo, done: bool) -> SecondStep
-    ensures { (p : Past) → second_seen p result ≡ Some (if done then seconds.Finished track else seconds.Unwritten track) }
+    ensures { (last : Option CommandEnd) → second_seen last result ≡ Some (if done then seconds.Finished track else seconds.Unwritten track) }
 {
     if done {
         return SecondStep::Finished(track);
@@ -62,14 +62,14 @@ impl<V: Volume> Device<V> {
     ) -> SecondStep
         requires open { is_some self.old.store.half ≡ true }
         requires room { ActRoom (weight self.old.store.loose) self.old.past }
-        requires takes { TakesTracks K.takes keep.old self.old.store }
+        requires takes { TakesItsTracks K.takes keep.old self.old }
         ensures fixed { IsSameDevice self.old self.new }
-        ensures takes { TakesTracks K.takes keep.new self.new.store }
+        ensures takes { TakesItsTracks K.takes keep.new self.new }
         ensures whole { self.new.store.half ≡ None }
-        ensures seen { IsSome (second_seen self.new.past result) }
-        ensures run { (e : SecondEnd) → second_seen self.new.past result ≡ Some e
+        ensures seen { IsSome (second_seen (last_end self.new) result) }
+        ensures run { (e : SecondEnd) → second_seen (last_end self.new) result ≡ Some e
             → Ran surely (Heard K.hears K.takes) (second_of contents (device_of self.old) (device_of self.old).store.half)
-            (outside (P.view port.old) self.old.store keep.old) (device_of self.new) e (outside (P.view port.new) self.new.store keep.new) }
+            (around (P.view port.old) self.old keep.old) (device_of self.new) e (around (P.view port.new) self.new keep.new) }
     {
         let part = self.store.second(port, keep);
         self.past.note_acts(self.store.loose.acts());
@@ -89,14 +89,14 @@ impl<V: Volume> Device<V> {
     ) -> SecondStep
         requires room { ActRoom (weight self.old.store.loose) self.old.past }
         requires fresh { self.old.store.loose.acts ≡ [] }
-        requires takes { TakesTracks K.takes keep.old self.old.store }
+        requires takes { TakesItsTracks K.takes keep.old self.old }
         ensures fixed { IsSameDevice self.old self.new }
-        ensures takes { TakesTracks K.takes keep.new self.new.store }
+        ensures takes { TakesItsTracks K.takes keep.new self.new }
         ensures whole { self.new.store.half ≡ None }
-        ensures seen { IsSome (second_seen self.new.past result) }
-        ensures run { (e : SecondEnd) → second_seen self.new.past result ≡ Some e
+        ensures seen { IsSome (second_seen (last_end self.new) result) }
+        ensures run { (e : SecondEnd) → second_seen (last_end self.new) result ≡ Some e
             → Ran surely (Heard K.hears K.takes) (second_of contents (device_of self.old) (device_of self.old).store.half)
-            (outside (P.view port.old) self.old.store keep.old) (device_of self.new) e (outside (P.view port.new) self.new.store keep.new) }
+            (around (P.view port.old) self.old keep.old) (device_of self.new) e (around (P.view port.new) self.new keep.new) }
     {
         if self.store.half_open() {
             return self.second_ready(port, keep);
@@ -111,16 +111,16 @@ impl<V: Volume> Device<V> {
         port: &mut P,
         keep: &mut K,
     ) -> SecondStep
-        requires takes { TakesTracks K.takes keep.old self.old.store }
+        requires takes { TakesItsTracks K.takes keep.old self.old }
         ensures fixed { IsSameDevice self.old self.new }
-        ensures takes { TakesTracks K.takes keep.new self.new.store }
-        ensures whole { self.new.store.half ≡ None }
-        ensures seen { IsSome (second_seen self.new.past result) }
-        ensures run { (e : SecondEnd) → second_seen self.new.past result ≡ Some e
-            → Ran surely (Heard K.hears K.takes) (second contents (device_of self.old)) (outside (P.view port.old) self.old.store keep.old)
-            (device_of self.new) e (outside (P.view port.new) self.new.store keep.new) }
-        ensures ends_as_kept { (e : SecondEnd) → second_seen self.new.past result ≡ Some e → EndsAsKept (device_of self.old) (device_of self.new) e }
-        ensures transfers { (e : SecondEnd) → second_seen self.new.past result ≡ Some e → SecondMoves (device_of self.old) (device_of self.new) }
+        ensures takes { TakesItsTracks K.takes keep.new self.new }
+        ensures whole { (device_of self.new).store.half ≡ None }
+        ensures seen { IsSome (second_seen (last_end self.new) result) }
+        ensures run { (e : SecondEnd) → second_seen (last_end self.new) result ≡ Some e
+            → Ran surely (Heard K.hears K.takes) (second contents (device_of self.old)) (around (P.view port.old) self.old keep.old)
+            (device_of self.new) e (around (P.view port.new) self.new keep.new) }
+        ensures ends_as_kept { (e : SecondEnd) → second_seen (last_end self.new) result ≡ Some e → EndsAsKept (device_of self.old) (device_of self.new) e }
+        ensures transfers { (e : SecondEnd) → second_seen (last_end self.new) result ≡ Some e → SecondMoves (device_of self.old) (device_of self.new) }
         ensures sound { is_some (device_of self.old).store.half ≡ true → StaysSound self.old self.new }
         ensures plain { is_some (device_of self.old).store.half ≡ true → StaysPlain self.old self.new }
         ensures excused { is_some (device_of self.old).store.half ≡ true → StaysExcused self.old self.new }
@@ -136,13 +136,13 @@ impl<V: Volume> Device<V> {
     /// The same, with a keeper that keeps nothing.
     pub fn second<P: Port>(&mut self, port: &mut P) -> SecondStep
         ensures fixed { IsSameDevice self.old self.new }
-        ensures whole { self.new.store.half ≡ None }
-        ensures seen { IsSome (second_seen self.new.past result) }
-        ensures run { (k : NoKeep) (e : SecondEnd) → second_seen self.new.past result ≡ Some e
-            → Ran surely (λ _ m r _. r ≡ reply m) (second contents (device_of self.old)) (outside (P.view port.old) self.old.store k)
-            (device_of self.new) e (outside (P.view port.new) self.new.store k) }
-        ensures ends_as_kept { (e : SecondEnd) → second_seen self.new.past result ≡ Some e → EndsAsKept (device_of self.old) (device_of self.new) e }
-        ensures transfers { (e : SecondEnd) → second_seen self.new.past result ≡ Some e → SecondMoves (device_of self.old) (device_of self.new) }
+        ensures whole { (device_of self.new).store.half ≡ None }
+        ensures seen { IsSome (second_seen (last_end self.new) result) }
+        ensures run { (k : NoKeep) (e : SecondEnd) → second_seen (last_end self.new) result ≡ Some e
+            → Ran surely (λ _ m r _. r ≡ reply m) (second contents (device_of self.old)) (around (P.view port.old) self.old k)
+            (device_of self.new) e (around (P.view port.new) self.new k) }
+        ensures ends_as_kept { (e : SecondEnd) → second_seen (last_end self.new) result ≡ Some e → EndsAsKept (device_of self.old) (device_of self.new) e }
+        ensures transfers { (e : SecondEnd) → second_seen (last_end self.new) result ≡ Some e → SecondMoves (device_of self.old) (device_of self.new) }
         ensures sound { is_some (device_of self.old).store.half ≡ true → StaysSound self.old self.new }
         ensures plain { is_some (device_of self.old).store.half ≡ true → StaysPlain self.old self.new }
         ensures excused { is_some (device_of self.old).store.half ≡ true → StaysExcused self.old self.new }

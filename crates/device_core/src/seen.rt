@@ -1,11 +1,9 @@
 ghost use Rattle.std.specs.Prelude.{◌≡◌, option_map, is_some};
 ghost use Rattle.std.specs.Option.{option_copied};
 ghost use Rattle.plain_defs.specs.History.{OpenEntry};
-ghost use Rattle.device_defs.specs.Store.{is_loose};
-ghost use Rattle.device_store.specs.State.{half_of, on_a, on_b, origin_of};
+ghost use Rattle.device_store.specs.State.{half_of, origin_of};
 ghost use Rattle.device_core.specs.OpenHalf.{half_seen, origin_seen};
-ghost use Rattle.device_core.specs.Kept.{open_of};
-ghost use Rattle.device_core.specs.State.{last_of, last_end_of, device_of};
+ghost use Rattle.device_core.specs.State.{device_of, last_end, last_of, volume_a, volume_b};
 
 use crate::Device;
 use ckd_types::{CommandEnd, DeviceNo, Geometry, PathNo, TrackNo};
@@ -54,7 +52,7 @@ impl<V: Volume> Device<V> {
     /// The end of the command that ended last: of the program that runs, or else of the one that ended last. Directly behind a
     /// command that answered `Stepped::Ended` it is that command's.
     pub fn last_end(&self) -> Option<&CommandEnd>
-        ensures { option_copied result ≡ last_end_of self.now.past }
+        ensures { option_copied result ≡ last_end self.now }
     {
         if let Some(running) = &self.past.running {
             return last_of(running.ends.as_slice());
@@ -66,29 +64,39 @@ impl<V: Volume> Device<V> {
     }
 
     pub fn number(&self) -> DeviceNo
-        ensures { result ≡ self.now.store.number }
+        ensures { result ≡ (device_of self.now).store.device }
     {
         self.store.number
     }
 
     pub fn geometry(&self) -> Geometry
-        ensures { result ≡ self.now.store.geometry }
+        ensures { result ≡ (device_of self.now).store.geometry }
     {
         self.store.geometry
     }
 
     pub fn cylinders(&self) -> u8
-        ensures { result ≡ self.now.store.cylinders }
+        ensures { result ≡ (device_of self.now).store.cylinders }
     {
         self.store.cylinders
     }
 
     /// The path whose program runs.
     pub fn active(&self) -> Option<PathNo>
-        ensures { result ≡ option_map (λ (o : OpenEntry). o.path) (option_map open_of self.now.past.running) }
+        ensures { result ≡ option_map (λ (o : OpenEntry). o.path) (device_of self.now).history.running }
     {
         match &self.past.running {
             Some(running) => Some(running.path),
+            None => None,
+        }
+    }
+
+    /// The path whose program runs, and which of its programs that is.
+    pub fn running(&self) -> Option<(PathNo, u16)>
+        ensures { result ≡ option_map (λ (o : OpenEntry). (o.path, o.ordinal)) (device_of self.now).history.running }
+    {
+        match &self.past.running {
+            Some(running) => Some((running.path, running.ordinal)),
             None => None,
         }
     }
@@ -107,13 +115,6 @@ impl<V: Volume> Device<V> {
         half_told(&self.store.half)
     }
 
-    /// Whether a track holds data of cache fast write that aren't firm.
-    pub fn loose(&self, t: TrackNo) -> bool
-        ensures { result ≡ is_loose (device_of self.now).store t }
-    {
-        self.store.loose.has(t)
-    }
-
     /// The device that its volume is lent to.
     pub fn lent_to(&self) -> Option<DeviceNo>
         ensures { result ≡ (device_of self.now).store.lent }
@@ -123,42 +124,42 @@ impl<V: Volume> Device<V> {
 
     /// What happened to the device, but for the program that runs.
     pub fn journal(&self) -> &[Item]
-        ensures { result.now ≡ self.now.past.items.items }
+        ensures { result.now ≡ (device_of self.now).history.items }
     {
         self.past.items.as_slice()
     }
 
     /// The tracks that are lost.
     pub fn lost(&self) -> &LostList
-        ensures { result.now ≡ self.now.store.lost }
+        ensures { result.now ≡ (device_of self.now).store.lost }
     {
         &self.store.lost
     }
 
     /// How often each kind of loss came to it.
     pub fn losses(&self) -> Losses
-        ensures { result ≡ self.now.store.counts.losses }
+        ensures { result ≡ (device_of self.now).store.counts.losses }
     {
         self.store.counts.losses
     }
 
     /// How many reads of volumes it made.
     pub fn reads(&self) -> u64
-        ensures { result ≡ self.now.store.counts.reads }
+        ensures { result ≡ (device_of self.now).store.counts.reads }
     {
         self.store.counts.reads
     }
 
     /// How many writes of volumes it made.
     pub fn writes(&self) -> u64
-        ensures { result ≡ self.now.store.counts.writes }
+        ensures { result ≡ (device_of self.now).store.counts.writes }
     {
         self.store.counts.writes
     }
 
     /// Hands back the volumes of side A and of side B: none where there is no such side, or it is lent. Takes no memory.
     pub fn into_volumes(self) -> (Option<V>, Option<V>)
-        ensures { result ≡ (on_a self.store, on_b self.store) }
+        ensures { result ≡ (volume_a self, volume_b self) }
     {
         self.store.into_volumes()
     }

@@ -16,7 +16,7 @@ ghost use Rattle.device_defs.specs.Start.{
   started_count,
 };
 ghost use Rattle.device_core.specs.Kept.{open_of, chain_of, history_of, of_path, ActRoom, Keeps};
-ghost use Rattle.device_core.specs.State.{device_of};
+ghost use Rattle.device_core.specs.State.{device_of, HasSameTracks};
 ghost use Rattle.device_core.specs.Starting.{fault_told};
 ghost use Rattle.device_core.specs.Promises.{StaysExcused, StaysPlain, StaysSound};
 
@@ -226,7 +226,7 @@ impl<V: Volume> Device<V> {
         ensures ordinal { IfOk result (λ n. n ≡ next_ordinal (device_of self.old) path) }
         ensures started { OnOk result (device_of self.new ≡ start (device_of self.old) path) }
         ensures same { OnErr result (device_of self.new ≡ device_of self.old) }
-        ensures store { self.new.store ≡ self.old.store }
+        ensures store { HasSameTracks self.old self.new }
         ensures sound { StaysSound self.old self.new }
         ensures plain { StaysPlain self.old self.new }
         ensures excused { StaysExcused self.old self.new }

@@ -1,4 +1,4 @@
-ghost use Rattle.device_core.specs.Promises.{StandsPlain};
+ghost use Rattle.device_core.specs.Promises.{KeepsPlain};
 
 use ckd_types::NoMemory;
 use device_core::Device;
@@ -10,7 +10,7 @@ pub fn run_program<V: Volume, P: Port>(
     port: &mut P,
     most: u16,
 ) -> Result<bool, NoMemory>
-    ensures { StandsPlain device.old → StandsPlain device.new }
+    ensures { KeepsPlain device.old device.new }
 {
     for _event in 0..most {
         if device.half_open() {

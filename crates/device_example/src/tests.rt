@@ -1,9 +1,11 @@
+ghost use Rattle.std.specs.Prelude.{◌≡◌, IfOk, length};
+
 use crate::{CountedRequests, Watched, run_program};
 use ckd_ccw::Program;
-use ckd_types::{Bytes, Ccw, DeviceNo, Geometry, PathNo, TrackNo};
+use ckd_types::{Bytes, Ccw, DeviceNo, Geometry, PathNo, Side, TrackNo};
 use deck_plan::PathPlans;
 use device_core::Device;
-use device_outside::MemVolume;
+use device_outside::{MemVolume, Volume};
 use std::alloc::Global;
 use std::test::Fail;
 
@@ -20,6 +22,12 @@ const RECORD_ONE: &[u8] = &[0, 0, 0, 0, 1, 0, 0, 4, 0xc3, 0xd2, 0xc4, 0x40];
 
 /// Its data, as the second program reads it.
 const DATA: &[u8] = &[0xc3, 0xd2, 0xc4, 0x40];
+
+/// Track 0 with record 0 and this record 1, as a volume has it: home address, records, end mark.
+const HELD: &[u8] = &[
+    0, 0, 0, 0, 0, 0, 0, 0, 0, 0, 0, 0, 8, 0, 0, 0, 0, 0, 0, 0, 0, 0, 0, 0, 0, 1, 0, 0, 4, 0xc3,
+    0xd2, 0xc4, 0x40, 0xff, 0xff, 0xff, 0xff, 0xff, 0xff, 0xff, 0xff,
+];
 
 fn word(alloc: Global, command: u8, flags: u8, count: u16, given: &[u8]) -> Result<Ccw, Fail> {
     Ok(Ccw {
@@ -39,25 +47,57 @@ fn program(alloc: Global, locate: &[u8], last: Ccw) -> Result<Program, Fail> {
     Ok(Program::new(words).ok().ok_or("a word is bad")?)
 }
 
-/// Path 1 has two programs: it formats record 1 of track 0, and reads it.
+/// It formats record 1 of track 0.
+fn format(alloc: Global) -> Result<Program, Fail> {
+    program(alloc, FORMAT_ONE, word(alloc, 0x1d, 0, 12, RECORD_ONE)?)
+}
+
+/// It reads that record.
+fn read(alloc: Global) -> Result<Program, Fail> {
+    program(alloc, READ_ONE, word(alloc, 0x06, 0, 4, &[])?)
+}
+
+/// Path 1 has both programs.
 fn plans(alloc: Global, path: PathNo) -> Result<PathPlans, Fail> {
-    let format = program(alloc, FORMAT_ONE, word(alloc, 0x1d, 0, 12, RECORD_ONE)?)?;
-    let read = program(alloc, READ_ONE, word(alloc, 0x06, 0, 4, &[])?)?;
     let mut plans = PathPlans::new(alloc);
-    plans.push(path, format)?;
+    plans.push(path, format(alloc)?)?;
     if plans.len(path) < 65535 {
-        plans.push(path, read)?;
+        plans.push(path, read(alloc)?)?;
     }
     Ok(plans)
 }
 
-/// Device 5 of one cylinder, over a volume of empty tracks.
-fn device(alloc: Global, plans: PathPlans) -> Result<Device<Watched<MemVolume>>, Fail> {
+/// Device 5 of one cylinder, over this volume.
+fn device_on(
+    alloc: Global,
+    volume: MemVolume,
+    plans: PathPlans,
+) -> Result<Device<Watched<MemVolume>>, Fail>
+    requires { length volume.tracks ≡ 15 }
+{
     let number = DeviceNo::new(5).ok_or("device")?;
-    let volume = Watched::new(MemVolume::new(alloc, 1, &[], &[])?);
-    match Device::open(alloc, number, Geometry::D3390, 1, volume, plans) {
+    match Device::open(
+        alloc,
+        number,
+        Geometry::D3390,
+        1,
+        Watched::new(volume),
+        plans,
+    ) {
         Ok(device) => Ok(device),
         Err(_) => Err("no memory".into()),
+    }
+}
+
+/// A volume of one cylinder whose track 0 has a record.
+fn volume_with_record(alloc: Global) -> Result<MemVolume, Fail>
+    ensures { IfOk result (λ volume. length volume.tracks ≡ 15) }
+{
+    let mut volume = MemVolume::new(alloc, 1, &[], &[])?;
+    let track = TrackNo::new(0).ok_or("track")?;
+    match volume.write_track(track, HELD) {
+        Ok(()) => Ok(volume),
+        Err(_) => Err("not written".into()),
     }
 }
 
@@ -93,10 +133,7 @@ fn last_sent(device: &Device<Watched<MemVolume>>) -> Result<(u16, bool), Fail> {
 
 /// The track that the device's volume wrote last.
 fn last_written(device: &Device<Watched<MemVolume>>) -> Option<TrackNo> {
-    match &device.store.pair.volumes.a {
-        Some(volume) => volume.last_written,
-        None => None,
-    }
+    device.volume(Side::A)?.last_written
 }
 
 fn expect(is_so: bool, what: &'static str) -> Result<(), Fail> {
@@ -130,7 +167,74 @@ fn run_both(
 #[test]
 fn two_programs_over_a_volume_of_the_callers(rt: HostRuntime) -> Result<(), Fail> {
     let path = PathNo::new(1).ok_or("path")?;
-    let mut device = device(rt.alloc(), plans(rt.alloc(), path)?)?;
+    let volume = MemVolume::new(rt.alloc(), 1, &[], &[])?;
+    let mut device = device_on(rt.alloc(), volume, plans(rt.alloc(), path)?)?;
     let mut port = CountedRequests::new();
     run_both(&mut device, path, &mut port)
+}
+
+/// No path has a program yet.
+fn no_plans(alloc: Global) -> Result<PathPlans, Fail> {
+    Ok(PathPlans::new(alloc))
+}
+
+/// Plans a program for the path, and runs it.
+fn plan_and_run(
+    device: &mut Device<Watched<MemVolume>>,
+    path: PathNo,
+    program: Program,
+    port: &mut CountedRequests,
+) -> Result<(), Fail> {
+    expect(device.finished(), "nothing waits")?;
+    match device.plan(path, program) {
+        Ok(()) => (),
+        Err(_) => return Err("not planned".into()),
+    }
+    expect(device.left(path) == 1, "it waits")?;
+    run(device, path, port)
+}
+
+/// Both programs, each planned once nothing waits.
+fn plan_both(
+    device: &mut Device<Watched<MemVolume>>,
+    path: PathNo,
+    alloc: Global,
+    port: &mut CountedRequests,
+) -> Result<(), Fail> {
+    plan_and_run(device, path, format(alloc)?, port)?;
+    plan_and_run(device, path, read(alloc)?, port)?;
+    expect(last_sent(device)? == (0, true), "record 1 is sent")
+}
+
+#[test]
+fn programs_planned_on_an_open_device(rt: HostRuntime) -> Result<(), Fail> {
+    let path = PathNo::new(1).ok_or("path")?;
+    let volume = MemVolume::new(rt.alloc(), 1, &[], &[])?;
+    let mut device = device_on(rt.alloc(), volume, no_plans(rt.alloc())?)?;
+    let mut port = CountedRequests::new();
+    plan_both(&mut device, path, rt.alloc(), &mut port)
+}
+
+/// Reads the record that the volume held: a locate record and a read, each of which reads the track.
+fn read_held(
+    device: &mut Device<Watched<MemVolume>>,
+    path: PathNo,
+    alloc: Global,
+    port: &mut CountedRequests,
+) -> Result<(), Fail> {
+    plan_and_run(device, path, read(alloc)?, port)?;
+    expect(last_sent(device)? == (0, true), "record 1 is sent")?;
+    expect(
+        device.reads() == 2 && device.writes() == 0,
+        "two reads and no write",
+    )
+}
+
+#[test]
+fn device_gives_what_its_volume_held(rt: HostRuntime) -> Result<(), Fail> {
+    let path = PathNo::new(1).ok_or("path")?;
+    let volume = volume_with_record(rt.alloc())?;
+    let mut device = device_on(rt.alloc(), volume, no_plans(rt.alloc())?)?;
+    let mut port = CountedRequests::new();
+    read_held(&mut device, path, rt.alloc(), &mut port)
 }

@@ -18,8 +18,8 @@ use Rattle.device_defs.specs.Events as E
 use Rattle.device_defs.specs.Events.{one_loss_more, with_loss, losing, second_of, second, background, lose}
 use Rattle.device_defs.specs.Owed.{hear, waiting_count, noted_end}
 use Rattle.device_defs.specs.Peek as K
-use Rattle.device_defs.specs.Peek.{Peeked, peek_usage, peeked, peek_image, is_in_half, peek_half, peek_track, peek}
-use Rattle.device_defs.specs.Store.{Origin, OfCommand, OfCut, OfBackground, HalfWrite, Store, is_lost}
+use Rattle.device_defs.specs.Peek.{Peeked, peek_track, peek}
+use Rattle.device_defs.specs.Store.{Origin, OfCommand, OfCut, OfBackground, HalfWrite, Store}
 use Rattle.device_laws.proofs.Based.{
   Base,
   base_of,
@@ -33,9 +33,7 @@ use Rattle.device_laws.proofs.Based.{
   based_tell,
   based_then,
   based_any,
-  based_if,
   based_tried,
-  based_had,
 }
 use Rattle.device_laws.proofs.PoolWalks.{asks_based, hear_asks, ended_asks}
 use Rattle.device_laws.proofs.walks.Within.{Within, within_done, within_then, within_weaker}
@@ -43,7 +41,7 @@ use Rattle.device_laws.proofs.walks.Moves.{Shut, stays, Ends, moved}
 use Rattle.device_laws.proofs.walks.Reads.{powerless_moves}
 use Rattle.device_laws.proofs.walks.Writes.{work_comes}
 use Rattle.device_laws.proofs.walks.Events.{follow_comes, by_bodies, second_bodies, reset_leads}
-use Rattle.device_laws.proofs.invariants.CallCounts.{calls, within_based, Steady, parts_count, ends_count, half_ends_count, ends_steady, losing_steady, image_steady}
+use Rattle.device_laws.proofs.invariants.CallCounts.{calls, within_based, Steady, parts_count, ends_count, half_ends_count, ends_steady, losing_steady, track_steady}
 
 abbrev pub base_in : {F P H : Type 0} → Device F P H → Base
 base_in d = kept d.store
@@ -110,17 +108,7 @@ module _ {F P H R : Type 0} (c : Contents F P H R) where
     event_based d body f x = quiet_based d (f (kept d.store)) (fronted d body) (front_based d body f x)
 
   pub peeked_body : (t : ℕ) (d : Device F P H) → Settled d (and_then (peek_track c d.store t) (λ s (found : Option Peeked). Done (with_store d s) found))
-  peeked_body t d = based_then (λ s found. Done (with_store d s) found) (based_forget (tracked d.store)) (λ s found. based_done refl)
-    where
-      imaged : (s : Store F P H) → Steady c s (peek_image c s t)
-      imaged s = based_had (λ z i. Done z (Some (peeked i))) (image_steady c s peek_usage t) (λ z i. based_done refl)
-
-      by_half : (s : Store F P H) (o : Option (HalfWrite H)) → Steady c s (peek_half c s t o)
-      by_half s (Some h) = based_if (is_in_half c s t h) (based_tried s _ refl (based_done refl)) (imaged s)
-      by_half s None = imaged s
-
-      tracked : (s : Store F P H) → Steady c s (peek_track c s t)
-      tracked s = based_if (is_lost s t) (based_done refl) (by_half s s.half)
+  peeked_body t d = based_then (λ s found. Done (with_store d s) found) (based_forget (track_steady c d.store t)) (λ s found. based_done refl)
 
   -- The events
 

@@ -32,6 +32,8 @@ use Rattle.device_defs.specs.Orders as O
 use Rattle.device_defs.specs.Orders.{lend}
 use Rattle.device_defs.specs.Outcomes.{Turn, settles, checks, ends_with, told_step, turned, turned_by, sense_kept, program_over, again}
 use Rattle.device_defs.specs.Owed.{hear, noted_end, waiting_count}
+use Rattle.device_defs.specs.Peek as Y
+use Rattle.device_defs.specs.Peek.{Peeked, peek_track, peek}
 use Rattle.device_defs.specs.Second.{second_part}
 use Rattle.device_defs.specs.Store.{Origin, OfCommand, OfCut, OfBackground, HalfWrite, Store, tracks_of}
 use Rattle.device_laws.proofs.Always.{Always, always_done, always_try, always_then}
@@ -99,6 +101,13 @@ module _ {F P H R : Type 0} (c : Contents F P H R) where
   background_told d =
       event_history d (λ z. and_then (work c z.store) (λ s did. Done (with_store z s) did)) (λ h _. HasActed d.history h)
       (λ s. always_then (always_any (work c s)) (λ z _ _. always_done (acted_so z.acts)))
+
+  pub peek_told : (d : Device F P H) (t : ℕ) → Always (peek c d t) (λ y (_ : Option Peeked). HasActed d.history y.history)
+  unfolding Y.peek
+  peek_told d t =
+      always_then
+      (always_then (always_any (peek_track c (event_begun d).store t)) (λ z (found : Option Peeked) _. always_done (acted_so z.acts)))
+      (λ y a g. always_then (always_any (noted_end c (waiting_count c d.store) y.store)) (λ z _ _. always_done g))
 
   pub lend_told : (d : Device F P H) (to : ℕ) → Always (lend c d to) (λ y (_ : Unit {0}). y.history ≡ d.history)
   unfolding O.lend

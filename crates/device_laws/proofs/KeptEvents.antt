@@ -24,6 +24,8 @@ use Rattle.device_defs.specs.Events as E
 use Rattle.device_defs.specs.Events.{losing, second_turn, command_ended, second_ended, second_of, second, background, lose}
 use Rattle.device_defs.specs.Outcomes.{Turn, ends_with, settles, checks, sense_kept, program_over, turned_by}
 use Rattle.device_defs.specs.Owed.{hear, waiting_count, noted_end as event_end}
+use Rattle.device_defs.specs.Peek as Y
+use Rattle.device_defs.specs.Peek.{Peeked, peek_track, peek}
 use Rattle.device_defs.specs.Second.{second_part}
 use Rattle.device_defs.specs.Store.{Origin, OfCommand, OfCut, OfBackground, HalfWrite, Store, tracks_of}
 use Rattle.device_laws.proofs.Always as A
@@ -161,6 +163,14 @@ module _ {F P H R : Type 0} (c : Contents F P H R) (programs : Plans) (past : Hi
   lose_goes d loss f =
       event_goes d (λ z. and_then (losing c z.store loss) (λ s _. Done (with_store z s) tt)) f
       (λ y g. always_then (always_any (losing c y.store loss)) (λ s _ _. always_done (store_continues programs past y s g)))
+
+  pub peek_goes : (d : Device F P H) (t : ℕ) → Continues programs past d → Goes (peek c d t)
+  unfolding Y.peek
+  peek_goes d t f =
+      quiet_goes d (λ z. and_then (peek_track c z.store t) (λ s found. Done (with_store z s) found))
+      (always_then (always_any (peek_track c (event_begun d).store t))
+      (λ s (found : Option Peeked) _.
+      always_done (store_continues programs past (event_begun d) s (record { plans = f.plans; history = f.history }))))
 
 -- Events in which no command ends add no data check
 

@@ -91,6 +91,7 @@ pub mod PlainCuts
 pub mod PlainPower
 pub mod PlainSeconds
 pub mod PlainOrders
+pub mod MorePlans
 pub mod HistoryTold
 pub mod WholePower
 pub mod Based

@@ -58,13 +58,15 @@ use Rattle.device_defs.specs.Losses as L
 use Rattle.device_defs.specs.Losses.{over, without_frame, settled, cache_lost, all_firm_told}
 use Rattle.device_defs.specs.Outcomes.{Turn, ends_with, settles, checks, sense_kept, program_over, turned_by}
 use Rattle.device_defs.specs.Owed.{waiting_count, noted_end as event_end}
+use Rattle.device_defs.specs.Peek as Y
+use Rattle.device_defs.specs.Peek.{Peeked, peek_track, peek}
 use Rattle.device_defs.specs.Store.{Origin, OfCommand, OfCut, OfBackground, HalfWrite, Store, tracks_of, has_loose}
 use Rattle.device_laws.specs.Unharmed.{running_losses, all_losses}
 use Rattle.device_laws.proofs.Always as A
 use Rattle.device_laws.proofs.Always.{Behind, Always, always_done, always_try, always_then}
 use Rattle.device_laws.proofs.Based.{Base, Based, based_done, based_try, based_ask, based_read, based_write, based_tell}
 use Rattle.device_laws.proofs.BasedEvents.{follow_steady}
-use Rattle.device_laws.proofs.invariants.CallCounts.{swept_base, store_base, side_base, hear_steady, firm_steady, second_steady, work_steady}
+use Rattle.device_laws.proofs.invariants.CallCounts.{swept_base, store_base, side_base, hear_steady, firm_steady, second_steady, track_steady, work_steady}
 use Rattle.device_laws.proofs.KeptEvents.{always_any, always_if}
 
 -- Counts of acts and of items
@@ -293,6 +295,14 @@ module _ {F P H R : Type 0} (c : Contents F P H R) (n : ℕ) where
       event_has (Has n) (λ y s g. g) d (λ z. and_then (work c z.store) (λ s did. Done (with_store z s) did))
       (λ s none. always_then (always_gone (work_steady c s))
       (λ y (did : Option Did) e. always_done (store_has n (record (event_begun d) { store = s }) y (e ∙ none) f)))
+
+  pub peek_has : (d : Device F P H) (t : ℕ) → Has n d → Holds (peek c d t)
+  unfolding Y.peek
+  peek_has d t f =
+      always_then
+      (always_then (always_gone (track_steady c (event_begun d).store t))
+      (λ y (found : Option Peeked) e. always_done (store_has n (event_begun d) y e f)))
+      (λ y a g. always_then (always_any (event_end c (waiting_count c d.store) y.store)) (λ z _ _. always_done g))
 
   -- losses
 

@@ -26,14 +26,14 @@ use Rattle.std.proofs.Common.{
   arith,
 }
 use Rattle.std.specs.Prelude.{replicate, option_map}
-use Rattle.std.proofs.lemmas.List.{length-replicate}
-use Rattle.std.proofs.lemmas.List.FromFn.{get_or-map-range_with_len, length-map-range_with_len}
+use Rattle.std.specs.List.{range_with_len}
+use Rattle.std.proofs.lemmas.List.{get_or-map, length-map, length-replicate}
 use Rattle.ckd_types.specs.declared.geometry.Geometry.{Geometry}
 use Rattle.ckd_types.specs.declared.paths.Side.{Side}
 use Rattle.ckd_types.specs.declared.paths.Side.TheVariants.{A, B}
 use Rattle.ckd_types.specs.declared.record.Track.{Track}
 use Rattle.ckd_types.specs.Track.{empty_track, track_bytes}
-use Rattle.ckd_types.specs.Volume.{empty_volume, track_in}
+use Rattle.ckd_types.specs.Volume.{IsVolume, empty_volume, track_in}
 use Rattle.track_image.specs.Image.{Image}
 use Rattle.track_image.specs.Reading.{reading}
 use Rattle.track_image.proofs.Tracks.{reading_again}
@@ -51,7 +51,7 @@ use Rattle.device_defs.specs.Sound.{DeviceStore, IsHeld, has_sound_marks}
 use Rattle.device_defs.specs.Store.{tracks_of, side_of, frame_at, patch_at, is_lost, owed_at, no_debt}
 use Rattle.device_laws.specs.Agrees.{Held, image_in, slot_at, HasSlots, IsGround}
 use Rattle.device_laws.specs.InOrder.{IsInOrder}
-use Rattle.device_laws.specs.NewDevice.{new_contents}
+use Rattle.device_laws.specs.NewDevice.{new_contents, store_on, volume_contents}
 use Rattle.device_laws.proofs.TrackContents as T
 use Rattle.device_laws.proofs.TrackContents.{TrackContents, contents_at, Keeps, IsRight, right_by}
 
@@ -63,24 +63,30 @@ pub unpatched : (o : Option Image) → patched_by None o ≡ o
 unpatched None = refl
 unpatched (Some i) = refl
 
-module _ (d : ℕ) (g : Geometry) (n : ℕ) where
+-- empty tracks have the bytes of an empty volume
+empty_each : (l : List ℕ) → map empty_bytes l ≡ map track_bytes (map empty_track l)
+unfolding empty_bytes
+empty_each [] = refl
+empty_each (t ∷ ts) = ap (λ (l : List (List ℕ)). track_bytes (empty_track t) ∷ l) (empty_each ts)
+
+pub empty_is_contents : (n : ℕ) → empty_contents (n * 15) ≡ volume_contents (empty_volume n)
+empty_is_contents n = empty_each (range_with_len 0 (n * 15))
+
+module _ (d : ℕ) (g : Geometry) (n : ℕ) (v : List Track) where
   abbrev s : DeviceStore
   s = new_contents d g n
 
-  abbrev v : List Track
-  v = empty_volume n
-
   -- over marks it is the new device of a run
-  pub new_marks : marks_of v v s ≡ new_store d g n
-  new_marks =
-      ap (λ (l : List (Option Bool)). record (new_store d g n) {
+  pub marks_on : marks_of v v s ≡ store_on d g n v
+  marks_on =
+      ap (λ (l : List (Option Bool)). record (store_on d g n v) {
         frames = l;
         patches = map (option_map patch_mark) s.patches;
         owed = map owed_mark s.owed;
       }) (map_replicate (option_map frame_mark) (n * 15) None)
-      ∙ ap (λ (l : List (Option (Unit {0}))). record (new_store d g n) { patches = l; owed = map owed_mark s.owed })
+      ∙ ap (λ (l : List (Option (Unit {0}))). record (store_on d g n v) { patches = l; owed = map owed_mark s.owed })
       (map_replicate (option_map patch_mark) (n * 15) None)
-      ∙ ap (λ (l : List Owed). record (new_store d g n) { owed = l }) (map_replicate owed_mark (n * 15) no_debt)
+      ∙ ap (λ (l : List Owed). record (store_on d g n v) { owed = l }) (map_replicate owed_mark (n * 15) no_debt)
 
   -- of each track there is nothing but what side A has
   no_frame : (t : ℕ) → frame_at s t ≡ None
@@ -120,16 +126,16 @@ module _ (d : ℕ) (g : Geometry) (n : ℕ) where
     apart = λ kept other t q slot e f. absurd (no_slot kept t slot e);
   }
 
-  module _ (h : Held) (most : n ≤ 64) (on : h.a ≡ empty_contents (n * 15)) where
+  module _ (h : Held) (is : IsVolume g n v) (on : h.a ≡ volume_contents v) where
     long : (side : Side) → (side_of s side).up ≡ true → length (holds_of h side) ≡ tracks_of s
-    long A up = ap length on ∙ length-map-range_with_len empty_bytes 0 (n * 15)
+    long A up = ap length on ∙ length-map v track_bytes ∙ is.tracks
     long B up = absurd (cc)
 
     ground : IsGround v v s h
     ground = record {
       sizes = new_sizes;
-      plain = volume_empty g n most;
-      firm = volume_empty g n most;
+      plain = is;
+      firm = is;
       same = λ t lt e. refl;
       apart = λ t e. refl;
       patches = λ t p e. absurd (let f = no_patch t in cc);
@@ -138,20 +144,14 @@ module _ (d : ℕ) (g : Geometry) (n : ℕ) where
     }
 
     module _ (t : ℕ) (lt : t < n * 15) where
-      track_is : track_in v t ≡ empty_track t
-      track_is = get_or-map-range_with_len empty_track 0 (n * 15) t t (empty_track t) lt (omega arith)
-
       bytes_are : get_or h.a t [] ≡ track_bytes (track_in v t)
-      unfolding empty_bytes
       bytes_are =
           ap (λ (l : List (List ℕ)). get_or l t []) on
-          ∙ get_or-map-range_with_len empty_bytes 0 (n * 15) t t [] lt (omega arith)
-          ∙ ap track_bytes (sym track_is)
+          ∙ get_or-map track_bytes v t (empty_track t) [] (let long = is.tracks in omega arith)
 
       pub reads : image_read g t (get_or h.a t []) ≡ Some (image_in s v t)
       reads =
           let x = track_in v t in
-          let is = volume_empty g n most in
           ap (image_read g t) bytes_are
           ∙ ap (λ p. image_with g (reading g p (track_bytes x))) (sym (is.homes t lt))
           ∙ ap (image_with g) (reading_again g x (is.fits t lt))
@@ -168,8 +168,8 @@ module _ (d : ℕ) (g : Geometry) (n : ℕ) where
       held : IsHeld s h t (image_in s v t) (image_in s v t)
       held = T.right_is_held s h t (image_in s v t) (image_in s v t) (right_by g t None (contents_at s h t) (image_in s v t) (image_in s v t) keeps)
 
-    pub new_in_order : IsInOrder v v s h
-    new_in_order = record {
+    pub in_order_on : IsInOrder v v s h
+    in_order_on = record {
       agrees = record { ground = ground; held = held };
       told = λ t. ap (λ (o : Owed). o.firm) (none_owed t);
       free = refl;
@@ -183,3 +183,11 @@ module _ (d : ℕ) (g : Geometry) (n : ℕ) where
       patched = λ t lt there off. T.none_fits (patch_at s t) (image_in s v t) (image_in s v t) (no_patch t);
       opened = λ i e. absurd (cc);
     }
+
+-- an empty volume
+pub new_marks : (d : ℕ) (g : Geometry) (n : ℕ) → marks_of (empty_volume n) (empty_volume n) (new_contents d g n) ≡ new_store d g n
+new_marks d g n = marks_on d g n (empty_volume n)
+
+pub new_in_order : (d : ℕ) (g : Geometry) (n : ℕ) (h : Held) → n ≤ 64 → h.a ≡ empty_contents (n * 15) →
+    IsInOrder (empty_volume n) (empty_volume n) (new_contents d g n) h
+new_in_order d g n h most on = in_order_on d g n (empty_volume n) h (volume_empty g n most) (on ∙ empty_is_contents n)

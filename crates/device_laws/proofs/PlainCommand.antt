@@ -69,7 +69,7 @@ use Rattle.plain_defs.specs.History.{OpenEntry, History, open_part, plain_of, st
 use Rattle.plain_defs.specs.Journal.{program_of, replay}
 use Rattle.plain_defs.specs.Legal.{AreActs, MayEdit, IsLegal, edit_at, track_of}
 use Rattle.plain_defs.specs.Loose.{is_loose_in, act_done}
-use Rattle.plain_defs.specs.PlainState.{PathsState, PlainState, empty_state, with_sense}
+use Rattle.plain_defs.specs.PlainState.{PathsState, PlainState, with_sense}
 use Rattle.plain_defs.specs.Program.{Part, acts_done}
 use Rattle.plain_device.specs.Acted.{settled_act, paths_behind}
 use Rattle.device_outside.specs.Interaction.{Interaction}
@@ -84,6 +84,7 @@ use Rattle.device_defs.specs.Marks.{MarksDevice, MarksStore}
 use Rattle.device_defs.specs.Outcomes.{Turn, checks, turned}
 use Rattle.device_defs.specs.Owed.{noted_begin, waiting_count}
 use Rattle.device_defs.specs.Store.{OfCommand, HalfWrite, tracks_of}
+use Rattle.device_laws.specs.NewDevice.{first_state}
 use Rattle.device_laws.proofs.DeviceCuts.{StandsPlainly}
 use Rattle.device_laws.proofs.DeviceEnds.{all_acted-append}
 use Rattle.device_laws.proofs.DeviceHistory.{index_is}
@@ -185,8 +186,10 @@ module _ (num : ℕ) (empty : PlainState) (d : MarksDevice) (f : Follows num emp
     pub geometry : y.geometry ≡ d.store.geometry
     pub cylinders : y.cylinders ≡ d.store.cylinders
 
-  base_of : (y : MarksStore) → Sized y → empty ≡ empty_state y.geometry y.cylinders
-  base_of y z = f.base ∙ ap (λ (g : Geometry). empty_state g d.store.cylinders) (sym z.geometry) ∙ ap (empty_state y.geometry) (sym z.cylinders)
+  base_of : (y : MarksStore) → Sized y → empty ≡ first_state y.geometry y.cylinders empty.volume
+  base_of y z =
+      f.base ∙ ap (λ (g : Geometry). first_state g d.store.cylinders empty.volume) (sym z.geometry)
+      ∙ ap (λ (n : ℕ). first_state y.geometry n empty.volume) (sym z.cylinders)
 
   some_of : (y : MarksStore) → Sized y → 0 < y.cylinders
   some_of y z = subst (λ (n : ℕ). 0 < n) (sym z.cylinders) f.some
@@ -487,7 +490,8 @@ module _ (num : ℕ) (empty : PlainState) (d : MarksDevice) (f : Follows num emp
         let n : y.cylinders ≡ d.store.cylinders = ap (λ (k : Core). k.cylinders) core_is ∙ w.cylinders in
         record {
           number = ap (λ (k : Core). k.device) core_is ∙ ap (λ (k : Open). k.1.1) w.rest ∙ f.number;
-          base = f.base ∙ ap (λ (k : Geometry). empty_state k d.store.cylinders) (sym g) ∙ ap (empty_state y.geometry) (sym n);
+          base = f.base ∙ ap (λ (k : Geometry). first_state k d.store.cylinders empty.volume) (sym g)
+              ∙ ap (λ (k : ℕ). first_state y.geometry k empty.volume) (sym n);
           some = subst (λ (k : ℕ). 0 < k) (sym n) f.some;
           stands = record { plain = plain_on y.acts are; due = due_on y.acts are };
           keeps = acts_keep_them empty d y f.stands are f.keeps;
@@ -665,7 +669,7 @@ module _ (num : ℕ) (empty : PlainState) where
   pub follows_store : (d : MarksDevice) → Follows num empty d → (z : MarksStore) → core_of z ≡ core_of d.store → Follows num empty (record d { store = z })
   follows_store d f z e = record {
     number = ap (λ (c : Core). c.device) e ∙ f.number;
-    base = subst (λ (c : Core). empty ≡ empty_state c.geometry c.cylinders) (sym e) f.base;
+    base = subst (λ (c : Core). empty ≡ first_state c.geometry c.cylinders empty.volume) (sym e) f.base;
     some = subst (λ (c : Core). 0 < c.cylinders) (sym e) f.some;
     stands = record { plain = f.stands.plain; due = f.stands.due };
     keeps = f.keeps;

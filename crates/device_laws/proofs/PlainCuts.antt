@@ -30,7 +30,7 @@ use Rattle.plain_defs.specs.History.{
 use Rattle.plain_defs.specs.Journal.{program_of, replay}
 use Rattle.plain_defs.specs.Legal.{MayEdit, edit_at, next_edit, is_used}
 use Rattle.plain_defs.specs.Loose.{is_loose_in}
-use Rattle.plain_defs.specs.PlainState.{PathsState, PlainState, empty_state, with_sense, reset_path}
+use Rattle.plain_defs.specs.PlainState.{PathsState, PlainState, with_sense, reset_path}
 use Rattle.plain_defs.specs.Program.{Part}
 use Rattle.device_defs.specs.Contents.{by_plain}
 use Rattle.device_defs.specs.Cutting as K
@@ -39,6 +39,7 @@ use Rattle.device_defs.specs.Device.{all_reset}
 use Rattle.device_defs.specs.Effects.{with_edit}
 use Rattle.device_defs.specs.Marks.{MarksDevice, MarksStore}
 use Rattle.device_defs.specs.Store.{Origin, OfCommand, OfCut, OfBackground, HalfWrite}
+use Rattle.device_laws.specs.NewDevice.{first_state}
 use Rattle.device_laws.proofs.DeviceCuts.{reset_stands}
 use Rattle.device_laws.proofs.DeviceHistory.{next_is}
 use Rattle.device_laws.proofs.Had.{Had, had_done, had_tell, had_if, had_then, had_weaker}
@@ -425,7 +426,8 @@ module _ (num : ℕ) (empty : PlainState) (d : MarksDevice) (f : Follows num emp
         (had_always (reset_keeps_paths by_plain empty d f.stands f.keeps path may forgotten))))
         (λ y _ g. record {
           number = g.0.device ∙ f.number;
-          base = f.base ∙ ap (λ (x : Geometry). empty_state x d.store.cylinders) (sym g.0.geometry) ∙ ap (empty_state y.store.geometry) (sym g.0.cylinders);
+          base = f.base ∙ ap (λ (x : Geometry). first_state x d.store.cylinders empty.volume) (sym g.0.geometry)
+              ∙ ap (λ (n : ℕ). first_state y.store.geometry n empty.volume) (sym g.0.cylinders);
           some = subst (λ (m : ℕ). 0 < m) (sym g.0.cylinders) f.some;
           stands = g.1.0;
           keeps = g.1.1;

@@ -1,11 +1,13 @@
 -- A new device of a run and a start keep its history a plain device's.
-use Rattle.std.proofs.Common.{◌≡◌, ◌<◌, ◌≤◌, ◌*◌, ℕ, true, false, [], length, Option, Some, None, get_or, refl, sym, ap, subst, ◌∙◌, arith, inl, inr}
+use Rattle.std.proofs.Common.{◌≡◌, ◌<◌, ◌≤◌, ◌*◌, ℕ, true, false, List, [], length, Option, Some, None, get_or, refl, sym, ap, subst, ◌∙◌, arith, inl, inr}
 use Rattle.std.specs.Prelude.{◌⊎◌, replicate}
 use Rattle.std.proofs.lemmas.Bool.{cases_lt}
 use Rattle.std.proofs.lemmas.List.{get_or-replicate, get_or_past, length-replicate}
 use Rattle.std.proofs.lemmas.List.FromFn.{length-map-range_with_len}
 use Rattle.ckd_types.specs.declared.geometry.Geometry.{Geometry}
+use Rattle.ckd_types.specs.declared.record.Track.{Track}
 use Rattle.ckd_types.specs.Track.{empty_track}
+use Rattle.ckd_types.specs.Volume.{empty_volume}
 use Rattle.ckd_chain.specs.State.{ChainState}
 use Rattle.ckd_chain.specs.Steps.{begun_chain}
 use Rattle.plain_defs.specs.History.{OpenEntry, open_part, state_by}
@@ -19,6 +21,7 @@ use Rattle.device_defs.specs.Marks.{MarksDevice, new_device}
 use Rattle.device_defs.specs.Start as S
 use Rattle.device_defs.specs.Start.{start, start_fault, fault_by, next_program, next_ordinal}
 use Rattle.device_defs.specs.Store.{store_fixed}
+use Rattle.device_laws.specs.NewDevice.{device_on, first_state}
 use Rattle.device_laws.proofs.Always as A
 use Rattle.device_laws.proofs.Always.{Behind, Always}
 use Rattle.device_laws.proofs.ChainAtHand.{start_at_hand}
@@ -65,12 +68,13 @@ none_loose n t = by_place (cases_lt t n) where
   by_place (inl lt) = get_or-replicate n t false false lt
   by_place (inr le) = let many : length (replicate n false) ≡ n = length-replicate n false in get_or_past (replicate n false) t false (omega (arith, le, many))
 
-pub new_follows : (d : ℕ) (g : Geometry) (n : ℕ) (plans : Plans) → 0 < n → Follows d (empty_state g n) (new_device d g n plans)
-new_follows d g n plans some = record {
+pub first_follows : (d : ℕ) (g : Geometry) (n : ℕ) (v : List Track) (plans : Plans) → length v ≡ n * 15 → 0 < n →
+    Follows d (first_state g n v) (device_on d g n v plans)
+first_follows d g n v plans many some = record {
   number = refl;
   base = refl;
   some = some;
-  stands = new_stands (empty_state g n) (new_device d g n plans) refl;
+  stands = new_stands (first_state g n v) (device_on d g n v plans) refl;
   keeps = refl;
   of = record {
     geometry = refl;
@@ -80,8 +84,8 @@ new_follows d g n plans some = record {
     loose = λ t. sym (none_loose (n * 15) t);
     firm = λ t. refl;
     firms = refl;
-    looses = length-replicate (n * 15) false ∙ sym (length-map-range_with_len empty_track 0 (n * 15));
-    tracks = length-map-range_with_len empty_track 0 (n * 15);
+    looses = length-replicate (n * 15) false ∙ sym many;
+    tracks = many;
   };
   places = length-replicate (n * 15) None ∙ sym (length-replicate (n * 15) false);
   before = None;
@@ -90,6 +94,9 @@ new_follows d g n plans some = record {
   mid = refl;
   home = tt;
 }
+
+pub new_follows : (d : ℕ) (g : Geometry) (n : ℕ) (plans : Plans) → 0 < n → Follows d (empty_state g n) (new_device d g n plans)
+new_follows d g n plans some = first_follows d g n (empty_volume n) plans (length-map-range_with_len empty_track 0 (n * 15)) some
 
 pub runs_idle : (plans : Plans) (x : PlainState) (r : Option OpenEntry) (k : Option ChainState) → r ≡ None → RunsAt plans x r k
 runs_idle plans x (Some o) k is = absurd (cc)

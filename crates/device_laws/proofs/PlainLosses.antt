@@ -44,7 +44,7 @@ use Rattle.plain_defs.specs.History.{OpenEntry, History, plain_of, acted, acted_
 use Rattle.plain_defs.specs.Journal.{replay}
 use Rattle.plain_defs.specs.Legal.{AreActs}
 use Rattle.plain_defs.specs.Loose.{firm_in, restored, next_number, cfw_lost}
-use Rattle.plain_defs.specs.PlainState.{LooseTrack, PlainState, empty_state}
+use Rattle.plain_defs.specs.PlainState.{LooseTrack, PlainState}
 use Rattle.plain_defs.specs.Program.{acts_done}
 use Rattle.track_image.specs.Image.{Image}
 use Rattle.track_table.specs.Tracks.{least}
@@ -98,6 +98,7 @@ use Rattle.device_defs.specs.Store.{
   with_frame,
   with_stale,
 }
+use Rattle.device_laws.specs.NewDevice.{first_state}
 use Rattle.device_laws.proofs.DeviceEnds.{acts_stand}
 use Rattle.device_laws.proofs.DevicePaths.{acts_keep_them}
 use Rattle.device_laws.proofs.Had.{Had, had_done, had_try, had_ask, had_read, had_write, had_if, had_then}
@@ -461,7 +462,8 @@ module _ (num : ℕ) (empty : PlainState) (d : MarksDevice) (f : Follows num emp
       IsMid (core_of y) y.half (all_acted d.history y.acts).running f.before d.chain → Follows num empty (with_store d y)
   acts_follow y u k mid = record {
     number = ap (λ (x : Open). x.1.1) k.rest ∙ f.number;
-    base = f.base ∙ ap (λ (g : Geometry). empty_state g d.store.cylinders) (sym k.geometry) ∙ ap (empty_state y.geometry) (sym k.cylinders);
+    base = f.base ∙ ap (λ (g : Geometry). first_state g d.store.cylinders empty.volume) (sym k.geometry)
+        ∙ ap (λ (n : ℕ). first_state y.geometry n empty.volume) (sym k.cylinders);
     some = subst (λ (m : ℕ). 0 < m) (sym k.cylinders) f.some;
     stands = acts_stand empty d y f.stands k.are;
     keeps = acts_keep_them empty d y f.stands k.are f.keeps;

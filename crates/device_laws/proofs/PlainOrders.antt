@@ -9,7 +9,7 @@ use Rattle.ckd_types.specs.Track.{empty_track}
 use Rattle.ckd_types.specs.Volume.{empty_volume, track_in}
 use Rattle.plain_defs.specs.History.{OpenEntry, plain_of, state_by, emptied}
 use Rattle.plain_defs.specs.Journal.{replay}
-use Rattle.plain_defs.specs.PlainState.{PlainState, empty_state}
+use Rattle.plain_defs.specs.PlainState.{PlainState}
 use Rattle.device_defs.specs.Contents.{by_plain}
 use Rattle.device_defs.specs.Losses as L
 use Rattle.device_defs.specs.Losses.{over, without_frame, slot_in}
@@ -18,6 +18,7 @@ use Rattle.device_defs.specs.Orders as O
 use Rattle.device_defs.specs.Orders.{given_up, lent_to, lend, restore}
 use Rattle.device_defs.specs.Owed.{noted_begin, waiting_count}
 use Rattle.device_defs.specs.Store.{tracks_of, frame_at, patch_at, owed_at, with_frame}
+use Rattle.device_laws.specs.NewDevice.{first_state}
 use Rattle.device_laws.proofs.DeviceCuts.{restore_stands}
 use Rattle.device_laws.proofs.Had.{Had, had_done, had_then}
 use Rattle.device_laws.proofs.HistoryCuts.{emptied_state}
@@ -62,7 +63,7 @@ module _ (num : ℕ) (empty : PlainState) (d : MarksDevice) (f : Follows num emp
   away_follows : (to : ℕ) (z : MarksStore) → core_of z ≡ away_core (core_of d.store) to → Follows num empty (record d { store = z })
   away_follows to z e = record {
     number = ap (λ (c : Core). c.device) e ∙ f.number;
-    base = subst (λ (c : Core). empty ≡ empty_state c.geometry c.cylinders) (sym e) f.base;
+    base = subst (λ (c : Core). empty ≡ first_state c.geometry c.cylinders empty.volume) (sym e) f.base;
     some = subst (λ (c : Core). 0 < c.cylinders) (sym e) f.some;
     stands = record { plain = f.stands.plain; due = f.stands.due };
     keeps = f.keeps;

@@ -38,7 +38,7 @@ use Rattle.plain_defs.specs.History.{OpenEntry, History, plain_of, state_by, los
 use Rattle.plain_defs.specs.Journal.{Plans, replay, replay_item}
 use Rattle.plain_defs.specs.Legal.{AreActs, IsSomeLoose, IsLegalFrom, is_started}
 use Rattle.plain_defs.specs.Loose.{is_loose_in, without, act_done, cfw_lost, lost_by_power}
-use Rattle.plain_defs.specs.PlainState.{LooseTrack, PlainState, empty_state, fresh_paths}
+use Rattle.plain_defs.specs.PlainState.{LooseTrack, PlainState, fresh_paths}
 use Rattle.plain_defs.specs.Program.{acts_done}
 use Rattle.track_table.specs.Tracks.{least}
 use Rattle.device_defs.specs.Contents.{by_plain}
@@ -51,6 +51,7 @@ use Rattle.device_defs.specs.Losses.{settled, slot_in, without_frame}
 use Rattle.device_defs.specs.Marks.{MarksDevice, MarksStore}
 use Rattle.device_defs.specs.Owed.{noted_begin, waiting_count}
 use Rattle.device_defs.specs.Store.{Origin, OfCommand, OfCut, OfBackground, HalfWrite, tracks_of, is_loose, patch_at}
+use Rattle.device_laws.specs.NewDevice.{first_state}
 use Rattle.device_laws.proofs.CacheLost.{none_below}
 use Rattle.device_laws.proofs.DeviceCuts.{power_stands}
 use Rattle.device_laws.proofs.Had.{Had, had_done, had_then, had_weaker}
@@ -294,7 +295,8 @@ module _ (num : ℕ) (empty : PlainState) (d : MarksDevice) (f : Follows num emp
       (had_always (power_keeps_paths by_plain empty d f.stands (ap (λ (x : PlainState). x.paths) f.base) (may num empty d f)))))
       (λ y _ g. record {
         number = g.0.device ∙ f.number;
-        base = f.base ∙ ap (λ (x : Geometry). empty_state x d.store.cylinders) (sym g.0.geometry) ∙ ap (empty_state y.store.geometry) (sym g.0.cylinders);
+        base = f.base ∙ ap (λ (x : Geometry). first_state x d.store.cylinders empty.volume) (sym g.0.geometry)
+            ∙ ap (λ (n : ℕ). first_state y.store.geometry n empty.volume) (sym g.0.cylinders);
         some = subst (λ (m : ℕ). 0 < m) (sym g.0.cylinders) f.some;
         stands = g.1.0;
         keeps = g.1.1;

@@ -37,13 +37,14 @@ use Rattle.plain_defs.specs.History.{
 }
 use Rattle.plain_defs.specs.Journal.{Plans, program_of, replay}
 use Rattle.plain_defs.specs.Legal.{MayEdit, IsCheck, IsLegal}
-use Rattle.plain_defs.specs.PlainState.{PathsState, PlainState, empty_state, with_sense}
+use Rattle.plain_defs.specs.PlainState.{PathsState, PlainState, with_sense}
 use Rattle.plain_defs.specs.Program.{Part, ended_with, part_of}
 use Rattle.device_defs.specs.declared.answers.Came.TheVariants.{Ends}
 use Rattle.device_defs.specs.Device.{all_reset}
 use Rattle.device_defs.specs.Marks.{MarksDevice}
 use Rattle.device_defs.specs.Store.{Origin, OfCommand, OfCut, OfBackground, HalfWrite}
 use Rattle.device_defs.specs.Outcomes.{checks, turned, sense_kept, program_over}
+use Rattle.device_laws.specs.NewDevice.{first_state}
 use Rattle.device_laws.proofs.ChainAtHand.{act_at_hand, end_at_hand}
 use Rattle.device_laws.proofs.DeviceCuts.{StandsPlainly}
 use Rattle.device_laws.proofs.DeviceEnds.{equipment_stands, data_check_stands}
@@ -120,7 +121,7 @@ IsAtHome None r = Unit {0}
 -- the history is a plain device's, whose volume and whose paths the device keeps, and whose program it runs
 pub record Follows (num : ℕ) (empty : PlainState) (d : MarksDevice) : Type 0 where
   pub number : d.store.device ≡ num
-  pub base : empty ≡ empty_state d.store.geometry d.store.cylinders
+  pub base : empty ≡ first_state d.store.geometry d.store.cylinders empty.volume
   pub some : 0 < d.store.cylinders
   pub stands : StandsPlainly empty d
   pub keeps : KeepsPaths empty d
@@ -289,7 +290,7 @@ module _ (empty : PlainState) (d : MarksDevice) where
   abbrev h : History
   h = d.history
 
-  module _ (base : empty ≡ empty_state d.store.geometry d.store.cylinders) (some : 0 < d.store.cylinders) (places : HasPlaces (core_of d.store))
+  module _ (base : empty ≡ first_state d.store.geometry d.store.cylinders empty.volume) (some : 0 < d.store.cylinders) (places : HasPlaces (core_of d.store))
       (whole : d.store.half ≡ None) (home : d.store.lent ≡ None) (num : ℕ) (number : d.store.device ≡ num)
       (o : OpenEntry) (running : d.history.running ≡ Some o) (chain : ChainState) where
     -- as on the plain device, with what its path keeps of it

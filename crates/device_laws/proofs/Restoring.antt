@@ -24,7 +24,7 @@ use Rattle.device_laws.specs.Lent.{IsLentStore}
 use Rattle.device_laws.specs.Whole.{WholeDevice, marks_device, holding}
 use Rattle.device_laws.proofs.ContentChanges.{same_slots}
 use Rattle.device_laws.proofs.FailedCall.{IsWell}
-use Rattle.device_laws.proofs.NewDevices.{reads, unpatched}
+use Rattle.device_laws.proofs.NewDevices.{empty_is_contents, reads, unpatched}
 use Rattle.device_laws.proofs.OrderMarks.{IsGone, restore_makes_good}
 use Rattle.device_laws.proofs.TrackContents as T
 use Rattle.device_laws.proofs.TrackContents.{TrackContents, contents_at, Keeps, none_fits}
@@ -94,7 +94,7 @@ module _ (v w : List Track) (d : WholeDevice) (h : Held) (i : IsLentStore v w d.
   keeps q lt = record {
     frame = λ f e. absurd (let none = i.frame q in cc);
     a = λ e. ap (λ (o : Option Stored). patched_by o (image_read g q (get_or k.a q []))) (i.patch q)
-        ∙ unpatched (image_read g q (get_or k.a q [])) ∙ reads 0 g n k most refl q lt;
+        ∙ unpatched (image_read g q (get_or k.a q [])) ∙ reads 0 g n u k (volume_empty g n most) (empty_is_contents n) q lt;
     b = λ e. absurd (off q e);
     patch = none_fits (contents_at z k q).patch (image_in z u q) (image_in z u q) (i.patch q);
   }

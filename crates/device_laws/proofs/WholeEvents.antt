@@ -1,5 +1,5 @@
--- The events of a device keep good marks good: a second part, what it does by itself, and the reset of a path.
-use Rattle.std.proofs.Common.{◌≡◌, ◌==◌, ℕ, Bool, true, false, Option, Some, None, refl, sym, ap, subst, ◌∙◌, arith}
+-- The events of a device keep good marks good: a second part, what it does by itself, a look past the channel, and the reset of a path.
+use Rattle.std.proofs.Common.{◌≡◌, ◌<◌, ◌==◌, ℕ, Bool, true, false, Option, Some, None, refl, sym, ap, subst, ◌∙◌, arith}
 use Rattle.std.specs.Prelude.{if◌then◌else◌}
 use Rattle.ckd_chain.specs.State.{ChainState}
 use Rattle.ckd_types.specs.declared.record.Edit.{Edit}
@@ -17,20 +17,26 @@ use Rattle.device_defs.specs.Device.{Device, with_store, event_begun, quiet_even
 use Rattle.device_defs.specs.Effects.{with_edit}
 use Rattle.device_defs.specs.Events as E
 use Rattle.device_defs.specs.Events.{second_turn, command_ended, second_ended, second_of, second, background}
+use Rattle.device_defs.specs.Image.{Imaged}
+use Rattle.device_defs.specs.Memory.{had_by}
 use Rattle.device_defs.specs.Outcomes.{sense_kept, program_over, turned_by, turned}
 use Rattle.device_defs.specs.Owed.{waiting_count}
-use Rattle.device_defs.specs.Store.{Origin, OfCommand, OfCut, OfBackground, HalfWrite, Store, half_is}
-use Rattle.device_laws.proofs.Always.{Always, always_done, always_tell, always_then, always_weaker}
+use Rattle.device_defs.specs.Peek as Y
+use Rattle.device_defs.specs.Peek.{Peeked, peek_usage, peeked, peek_image, is_in_half, peek_half, peek_track, peek}
+use Rattle.device_defs.specs.Store.{Origin, OfCommand, OfCut, OfBackground, HalfWrite, Store, tracks_of, is_lost, half_is}
+use Rattle.device_laws.proofs.Always.{Always, always_done, always_try, always_tell, always_then, always_weaker}
 use Rattle.device_laws.proofs.Changes as C
 use Rattle.device_laws.proofs.Changes.{rest_of}
 use Rattle.device_laws.proofs.Done.{Keeps, goes_keeps, keeps_on}
 use Rattle.device_laws.proofs.FailedCall.{IsKept, IsWell, Goes, stays, goes_on, goes_same}
+use Rattle.device_laws.proofs.KeptEvents.{always_if}
 use Rattle.device_laws.proofs.LossEvents.{begun_same}
 use Rattle.device_laws.proofs.Notices.{hearing_keeps_good, ending_changes_no_mark}
 use Rattle.device_laws.proofs.SecondPart.{second_part_keeps_good}
 use Rattle.device_laws.proofs.Sweeps.{IsHere, half_within}
 use Rattle.device_laws.proofs.TrackMarks as M
 use Rattle.device_laws.proofs.TrackMarks.{TrackMarks, IsFaithful, is_good, track_at}
+use Rattle.device_laws.proofs.WholeImage.{image_keeps_good}
 use Rattle.device_laws.proofs.Working.{work_keeps_good}
 
 -- how a command comes out changes nothing of the tracks
@@ -109,6 +115,34 @@ module _ {F P H R : Type 0} (c : Contents F P H R) (faithful : IsFaithful c) whe
   background_keeps_good d w none =
       event_keeps d (λ z. and_then (work c z.store) (λ s did. Done (with_store z s) did)) w
       (λ s g. always_then (work_keeps_good c faithful s g.well (g.half ∙ none)) (λ y _ k. always_done k))
+
+  -- A look past the channel at a track of the device
+
+  found_keeps : (s z : Store F P H) (o : Option Imaged) → Goes c s z →
+      Always {R = R} {I = Image} (had_by (λ y i. Done y (Some (peeked i))) z o) (λ y (_ : Option Peeked). Goes c s y)
+  found_keeps s z None g = always_done g
+  found_keeps s z (Some i) g = always_done g
+
+  peeked_keeps : (s : Store F P H) (t : ℕ) → t < tracks_of s → IsWell c s → Always (peek_image c s t) (λ y (_ : Option Peeked). Goes c s y)
+  peeked_keeps s t lt w = always_then (image_keeps_good c faithful s peek_usage t tt lt w) (λ z o x. found_keeps s z o x.goes)
+
+  in_half_keeps : (s : Store F P H) (t : ℕ) (o : Option (HalfWrite H)) → t < tracks_of s → IsWell c s →
+      Always (peek_half c s t o) (λ y (_ : Option Peeked). Goes c s y)
+  in_half_keeps s t (Some h) lt w =
+      always_if (is_in_half c s t h) (always_try (λ ok. always_if ok (always_done (stays c s w)) (always_done (stays c s w)))) (peeked_keeps s t lt w)
+  in_half_keeps s t None lt w = peeked_keeps s t lt w
+
+  track_keeps : (s : Store F P H) (t : ℕ) → t < tracks_of s → IsWell c s → Always (peek_track c s t) (λ y (_ : Option Peeked). Goes c s y)
+  track_keeps s t lt w = always_if (is_lost s t) (always_done (stays c s w)) (in_half_keeps s t s.half lt w)
+
+  pub peek_keeps_good : (d : Device F P H) (t : ℕ) → t < tracks_of d.store → IsWell c d.store →
+      Always (peek c d t) (λ y _. Keeps c faithful d.store y.store)
+  unfolding Y.peek
+  peek_keeps_good d t lt w =
+      let front = goes_same c d.store (event_begun d).store w (begun_same c faithful d w) in
+      quiet_event_keeps d (λ z. and_then (peek_track c z.store t) (λ s found. Done (with_store z s) found))
+      (always_then (track_keeps (event_begun d).store t lt front.well)
+      (λ z (found : Option Peeked) g. always_done (goes_keeps c faithful d.store z (goes_on c d.store (event_begun d).store z front g))))
 
   -- What cuts a running program
 

@@ -4,6 +4,7 @@ pub mod PlainWrites
 pub mod InOrder
 pub mod Feeding
 pub mod NewDevice
+pub mod SoundOn
 pub mod Standing
 pub mod Whole
 pub mod Handed

@@ -1,7 +1,12 @@
--- A new device over contents, on one empty volume.
-use Rattle.std.specs.Prelude.{ℕ, ◌*◌, false, [], None, replicate}
+-- A new device over contents, on one volume; what it is on a volume that holds something, and the plain device that it begins as.
+use Rattle.std.specs.Prelude.{ℕ, ◌*◌, false, List, [], None, map, replicate}
 use Rattle.ckd_types.specs.declared.geometry.Geometry.{Geometry}
-use Rattle.device_defs.specs.Marks.{no_counts}
+use Rattle.ckd_types.specs.declared.record.Track.{Track}
+use Rattle.ckd_types.specs.Track.{track_bytes}
+use Rattle.plain_defs.specs.History.{no_history}
+use Rattle.plain_defs.specs.Journal.{Plans}
+use Rattle.plain_defs.specs.PlainState.{PlainState, empty_state, fresh_paths}
+use Rattle.device_defs.specs.Marks.{MarksDevice, MarksStore, new_store, no_counts}
 use Rattle.device_defs.specs.Sound.{DeviceStore}
 use Rattle.device_defs.specs.Store.{new_side, no_side, no_debt}
 
@@ -29,3 +34,24 @@ new_contents d g cylinders = record {
   owed = replicate (cylinders * 15) no_debt;
   counts = no_counts;
 }
+
+-- a plain device whose volume holds these tracks
+abbrev pub first_state : Geometry → ℕ → List Track → PlainState
+first_state g cylinders v = record (empty_state g cylinders) { volume = v }
+
+-- over marks, a new device on a volume of these tracks
+abbrev pub store_on : ℕ → Geometry → ℕ → List Track → MarksStore
+store_on d g cylinders v = record (new_store d g cylinders) { plain = v; firm = v }
+
+abbrev pub device_on : ℕ → Geometry → ℕ → List Track → Plans → MarksDevice
+device_on d g cylinders v plans = record {
+  store = store_on d g cylinders v;
+  paths = fresh_paths;
+  plans = plans;
+  history = no_history;
+  chain = None;
+}
+
+-- what a volume holds that holds these tracks
+abbrev pub volume_contents : List Track → List (List ℕ)
+volume_contents v = map track_bytes v

@@ -16,7 +16,7 @@ ghost use Rattle.ckd_types.specs.declared.geometry.Geometry.{Geometry};
 ghost use Rattle.ckd_types.specs.declared.paths.Side.{Side};
 ghost use Rattle.ckd_types.specs.declared.record.Edit.{Edit};
 ghost use Rattle.ckd_types.specs.declared.record.Track.{Track};
-ghost use Rattle.ckd_types.specs.Volume.{track_in, empty_volume};
+ghost use Rattle.ckd_types.specs.Volume.{IsVolume, track_in, empty_volume};
 ghost use Rattle.device_outside.specs.Disk.{empty_contents};
 ghost use Rattle.track_image.specs.Image.{Image};
 ghost use Rattle.device_defs.specs.declared.usage.Usage.{Usage};
@@ -37,7 +37,7 @@ ghost use Rattle.device_defs.specs.Store.{HalfWrite, tracks_of, is_lost, half_is
 ghost use Rattle.device_laws.specs.Agrees.{Held, image_in};
 ghost use Rattle.device_laws.specs.Feeding.{Feeds, FollowIs};
 ghost use Rattle.device_laws.specs.InOrder.{IsInOrder, StaysInOrder, ImageIs, WriteIs, SecondIs, plain_lost, plain_cut};
-ghost use Rattle.device_laws.specs.NewDevice.{new_contents};
+ghost use Rattle.device_laws.specs.NewDevice.{new_contents, store_on, volume_contents};
 ghost use Rattle.device_laws.specs.PlainWrites.{SuitsTrack, OriginSuits};
 ghost use Rattle.device_laws.specs.Standing.{IsWithin};
 ghost use Rattle.device_laws.specs.Twin.{Twins};
@@ -48,6 +48,14 @@ pub fn new_device_is_in_order()
     ensures order { (d : ℕ) (g : Geometry) (n : ℕ) (h : Held) → n ≤ 64 → h.a ≡ empty_contents (n * 15) →
         IsInOrder (empty_volume n) (empty_volume n) (new_contents d g n) h }
     ensures marks { (d : ℕ) (g : Geometry) (n : ℕ) → marks_of (empty_volume n) (empty_volume n) (new_contents d g n) ≡ new_store d g n }
+{}
+
+/// So it is on a volume that holds tracks, each where it says and such as fits, with plain volumes of these tracks.
+pub fn device_on_volume_is_in_order()
+    ensures order { (d : ℕ) (g : Geometry) (n : ℕ) (v : List Track) (h : Held) → IsVolume g n v → h.a ≡ volume_contents v →
+        IsInOrder v v (new_contents d g n) h }
+    ensures marks { (d : ℕ) (g : Geometry) (n : ℕ) (v : List Track) → marks_of v v (new_contents d g n) ≡ store_on d g n v }
+    ensures empty { (n : ℕ) → empty_contents (n * 15) ≡ volume_contents (empty_volume n) }
 {}
 
 /// A failed call, but for a write's, whose track its write settles.

@@ -9,10 +9,11 @@ mod seen;
 mod transfers;
 
 pub use contents::{
-    chain_is_on_device, command_goes_as_fed, cut_leaves_order, end_leaves_order,
-    failed_call_leaves_order, held_side_leaves_order, image_is_plain, lost_cache_leaves_order,
-    lost_side_leaves_order, lost_store_leaves_order, new_device_is_in_order, notices_leave_order,
-    order_is_on_device, second_part_is_plain, work_is_plain, write_is_plain,
+    chain_is_on_device, command_goes_as_fed, cut_leaves_order, device_on_volume_is_in_order,
+    end_leaves_order, failed_call_leaves_order, held_side_leaves_order, image_is_plain,
+    lost_cache_leaves_order, lost_side_leaves_order, lost_store_leaves_order,
+    new_device_is_in_order, notices_leave_order, order_is_on_device, second_part_is_plain,
+    work_is_plain, write_is_plain,
 };
 pub use keeping::{
     pool_is_told_waiting, run_tells_waiting, told_device_has_no_bad_bytes, turn_keeps_pledge,

@@ -32,7 +32,7 @@ use Rattle.subsystem_defs.specs.Looks as L
 use Rattle.subsystem_defs.specs.Looks.{looked_at, looked}
 use Rattle.subsystem_defs.specs.Subsystem.{Mounted, Subsystem, mounted_in}
 use Rattle.subsystem_laws.specs.Served.{IsServedEvent}
-use Rattle.subsystem_laws.proofs.PlainRuns.{Plainly, ArePlain, plain_kept}
+use Rattle.subsystem_laws.proofs.PlainRuns.{Plainly, ArePlain, follows_on, plain_kept}
 use Rattle.subsystem_laws.proofs.Walks.{mounted_so, put_so, replaced_so, unpaired_so}
 
 -- Whatever a loose track that becomes firm leaves, a look leaves
@@ -101,11 +101,9 @@ module _ (s : Subsystem) (p : ArePlain s.mounted) where
   looked_plain k q None is = p
   looked_plain k q (Some m) is =
       let x : Plainly m.device = subst (λ (o : Option Mounted). IfSome o (λ (y : Mounted). Plainly y.device)) is (mounted_so Plainly s.mounted k p) in
-      put_so Plainly s.mounted k (mounted_behind (held_with s.pool m (peek by_plain m.device q))) p (record {
-        number = x.number;
-        empty = x.empty;
-        follows = held true (peek_follows x.number x.empty m.device x.follows q) (told_to s.pool m);
-      })
+      put_so Plainly s.mounted k (mounted_behind (held_with s.pool m (peek by_plain m.device q))) p
+      (follows_on m.device (mounted_behind (held_with s.pool m (peek by_plain m.device q))).device x
+      (held true (peek_follows x.number x.empty m.device x.follows q) (told_to s.pool m)))
 
   pub look_plain : (k q : ℕ) → ArePlain (looked s k q).behind.mounted
   unfolding L.looked

@@ -6,6 +6,7 @@ use Rattle.std.proofs.lemmas.List.{append-nil}
 use Rattle.ckd_types.specs.declared.geometry.Geometry.{Geometry}
 use Rattle.ckd_types.specs.declared.paths.Side.{Side}
 use Rattle.ckd_types.specs.declared.paths.Side.TheVariants.{A, B}
+use Rattle.ckd_types.specs.Volume.{empty_volume}
 use Rattle.loss_model.specs.declared.Loss.TheVariants as losses
 use Rattle.plain_defs.specs.History.{OpenEntry, History}
 use Rattle.plain_defs.specs.Journal.{Plans}
@@ -49,7 +50,7 @@ use Rattle.subsystem_defs.specs.Looks.{looked_at, looked}
 use Rattle.subsystem_defs.specs.Promised.{empty_of}
 use Rattle.subsystem_defs.specs.Subsystem.{Mounted, Subsystem, devices_of, number_of, mounted_in, put_in}
 use Rattle.subsystem_laws.proofs.DeedWalk.{Stands, seat_of, IsDeedwise, deed_is}
-use Rattle.subsystem_laws.proofs.PlainRuns.{Plainly}
+use Rattle.subsystem_laws.proofs.PlainRuns.{Plainly, first_held, still_first}
 use Rattle.subsystem_laws.proofs.Walks.{mounted_number}
 use Rattle.subsystem_laws.specs.Looking.{messages_at, look_messages}
 use Rattle.keeper_laws.specs.Firmness.{IsTold, has_one}
@@ -153,11 +154,12 @@ module _ (n : ℕ) (m : Mounted) (s : Subsystem) (there : mounted_in s.mounted n
         let y = (hold true talk o).state in
         let u = all_firms (messages true talk o) in
         let left = tells_held (λ u y (_ : X). Left x.beside.number x.beside.empty d x.beside.follows x.tells u y) tells o in
-        let after = held true had o in (
+        let after = held true had o in
+        let base = still_first empty_volume x.beside.number x.beside.empty y after (first_held empty_volume x.beside.empty d x.beside.base) in (
           after.number ∙ sym x.beside.follows.number ∙ x.number,
-          ap (λ (e : PlainState). firm_writes y.plans e y.history) (sym after.base)
+          ap (λ (e : PlainState). firm_writes y.plans e y.history) (sym base)
               ∙ made_written x.beside.number x.beside.empty d x.beside.follows u y left.0 after left.1
-              ∙ ap (λ (e : PlainState). firm_writes d.plans e d.history ++ u) x.beside.follows.base
+              ∙ ap (λ (e : PlainState). firm_writes d.plans e d.history ++ u) x.beside.base
               ∙ ap (λ (w : List FirmWrite). w ++ u) x.writes
               ∙ ap (λ (w : List FirmWrite). before ++ w) (sym (own_in d talk own x.number o)),
         )
@@ -206,11 +208,11 @@ module _ (n : ℕ) (m : Mounted) (s : Subsystem) (there : mounted_in s.mounted n
       (peek_left x.beside.number x.beside.empty d f x.tells q) o in
       let sized = peek_sized d q o in
       let empty : empty_of y ≡ x.beside.empty =
-      ap (λ (g : Geometry). empty_state g y.store.cylinders) sized.geometry ∙ ap (empty_state d.store.geometry) sized.cylinders ∙ sym f.base in (
+      ap (λ (g : Geometry). empty_state g y.store.cylinders) sized.geometry ∙ ap (empty_state d.store.geometry) sized.cylinders ∙ sym x.beside.base in (
         sized.device ∙ x.number,
         ap (λ (e : PlainState). firm_writes y.plans e y.history) empty
             ∙ acts_written x.beside.number x.beside.empty d f u y left.0 left.1 left.2
-            ∙ ap (λ (e : PlainState). firm_writes d.plans e d.history ++ u) f.base
+            ∙ ap (λ (e : PlainState). firm_writes d.plans e d.history ++ u) x.beside.base
             ∙ ap (λ (w : List FirmWrite). w ++ u) x.writes
             ∙ ap (λ (w : List FirmWrite). before ++ w) (sym (own_in d talk own x.number o)),
       )

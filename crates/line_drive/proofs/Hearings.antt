@@ -18,7 +18,7 @@ use Rattle.device_defs.specs.Events.{background, lose}
 use Rattle.device_defs.specs.Orders.{hold_side, resume}
 use Rattle.device_defs.specs.Start.{start_fault}
 use Rattle.device_core.specs.declared.device.Device.{Device}
-use Rattle.device_core.specs.State.{DefinedDevice, device_of}
+use Rattle.device_core.specs.State.{DefinedDevice, device_of, last_end}
 use Rattle.duplex_pair.specs.declared.pair.SideVolumes.{SideVolumes}
 use Rattle.frame_pool.specs.Shared.{Shared, shared_view}
 use Rattle.subsystem_laws.specs.Looking.{AskedWith}
@@ -269,8 +269,8 @@ module _ {V : Type 0} {G : Ghosts V} where
           let there : device_at new.devices.items m ≡ Some came.behind =
           ap (λ (l : List (Device V G)). device_at l m) came.stands
           ∙ again old.devices.items m came.before came.behind came.stood (ap (λ (l : List (Device V G)). numbers_of l) (sym came.stands) ∙ numbers) in
-          let seen : end_seen came.behind.past a ≡ Some end =
-          subst (λ (o : Option (Device V G)). IfSome o (λ y. end_seen y.past a ≡ Some end))
+          let seen : end_seen (last_end came.behind) a ≡ Some end =
+          subst (λ (o : Option (Device V G)). IfSome o (λ y. end_seen (last_end y) a ≡ Some end))
           (ap (λ (k : ℕ). device_at new.devices.items k) (sym at) ∙ there) sees in
           record {
             end = end;

@@ -5,6 +5,8 @@ use Rattle.device_outside.specs.Both.{SideIs}
 use Rattle.device_outside.specs.Disk.{empty_contents}
 use Rattle.device_outside.specs.Volume.{VolumeView}
 use Rattle.device_core.specs.declared.device.Device.{Device}
+use Rattle.device_core.specs.State.{device_of}
+use Rattle.device_defs.specs.Store.{tracks_of}
 use Rattle.subsystem_core.specs.declared.end.EventEnd.{EventEnd}
 use Rattle.subsystem_core.specs.declared.subsystem.Subsystem.{Subsystem}
 use Rattle.subsystem_core.specs.Ends.{Answers}
@@ -36,4 +38,4 @@ module _ {V : Type 0} {G : Ghosts V} where
 
   -- a volume for that device whose tracks are empty, and of which no call fails
   abbrev pub IsNewFor : VolumeView (List ℕ) → Option (Device V G) → Type 0
-  IsNewFor v o = IfSome o (λ x. SideIs v (empty_contents (x.store.cylinders * 15)) unfailing)
+  IsNewFor v o = IfSome o (λ x. SideIs v (empty_contents (tracks_of (device_of x).store)) unfailing)

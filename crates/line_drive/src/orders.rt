@@ -9,6 +9,8 @@ ghost use Rattle.subsystem_defs.specs.Subsystem.{unfailing};
 ghost use Rattle.deck_run.specs.Owning.{AreOwn};
 ghost use Rattle.deck_run.specs.Standing.{StandsAs};
 ghost use Rattle.line_drive.specs.Ending.{IsNewFor};
+ghost use Rattle.device_core.specs.State.{device_of};
+ghost use Rattle.device_defs.specs.Store.{tracks_of};
 
 use ckd_types::{DeviceNo, NoMemory, Side};
 use deck_run::chains_stand;
@@ -24,7 +26,7 @@ pub fn do_replace<V: Volume>(
     volume: V,
 ) -> Result<EventEnd, (NoMemory, V)>
     requires here { HasDevice sub.old d }
-    requires size { IfSome (device_at sub.old.devices.items d) (λ x. (V.view volume).tracks ≡ x.store.cylinders * 15) }
+    requires size { IfSome (device_at sub.old.devices.items d) (λ x. (V.view volume).tracks ≡ tracks_of (device_of x).store) }
     ensures numbers { HasSameDevices sub.old sub.new }
     ensures had { IsOk result }
     ensures replaced { IfOk result (λ end. Replaced d side volume (device_at sub.old.devices.items d) sub.old end sub.new) }
@@ -45,7 +47,7 @@ pub fn do_unpair<V: Volume>(
     volume: V,
 ) -> Result<EventEnd, (NoMemory, V)>
     requires here { HasDevice sub.old a }
-    requires size { IfSome (device_at sub.old.devices.items a) (λ x. (V.view volume).tracks ≡ x.store.cylinders * 15) }
+    requires size { IfSome (device_at sub.old.devices.items a) (λ x. (V.view volume).tracks ≡ tracks_of (device_of x).store) }
     ensures numbers { HasSameDevices sub.old sub.new }
     ensures unpaired { IfOk result (λ end. Unpaired a volume (device_at sub.old.devices.items a) sub.old end sub.new) }
     ensures lacked { OnErr result ((sub.new.pool ≡ sub.old.pool) × AreStill sub.old.devices.items sub.new.devices.items) }

@@ -1,6 +1,7 @@
 ghost use Rattle.std.specs.Prelude.{◌≡◌, ◌*◌, [], ℕ, List, IfOk, IfSome, OnOk, length, true};
 ghost use Rattle.device_outside.specs.Disk.{new_disk};
 ghost use Rattle.device_outside.specs.Lists.{is_in};
+ghost use Rattle.device_core.specs.State.{device_of};
 ghost use Rattle.subsystem_core.specs.Devices.{device_at, numbers_of};
 ghost use Rattle.subsystem_core.specs.Places.{may_come};
 ghost use Rattle.subsystem_defs.specs.Happening.{happens};
@@ -43,7 +44,7 @@ pub trait Stage<E> {
     /// Its devices.
     fn sub(&self) -> &Subsystem<MemVolume>
         ensures there { numbers_of result.now.devices.items ≡ numbers self.now }
-        ensures sizes { (d : ℕ) → IfSome (device_at result.now.devices.items d) (λ x. x.store.cylinders ≡ cylinders self.now d) }
+        ensures sizes { (d : ℕ) → IfSome (device_at result.now.devices.items d) (λ x. (device_of x).store.cylinders ≡ cylinders self.now d) }
         ensures stood { (w : Way) → stands self.now w → StandsAs result.now (course.sub w) };
 
     /// One event, and how it ended.

@@ -10,6 +10,7 @@ use Rattle.loss_model.specs.declared.Loss.TheVariants as losses
 use Rattle.subsystem_defs.specs.Refusals.{fail_fault}
 use Rattle.device_core.specs.declared.device.Device.{Device}
 use Rattle.device_core.specs.State.{device_of}
+use Rattle.device_defs.specs.Store.{tracks_of}
 use Rattle.path_turns.specs.Keeping.{IsWithin, KeepsPledge}
 use Rattle.path_orders.specs.declared.device_orders.DeviceOrder.{DeviceOrder}
 use Rattle.path_orders.specs.declared.device_orders.DeviceOrder.TheVariants.{Replace}
@@ -37,11 +38,11 @@ module _ {V : Type 0} {G : Ghosts V} where
 
   -- and with one loss more of this kind a device that isn't lent has no more losses than it may have
   abbrev pub MayLose : Loss → Losses → Device V G → Type 0
-  MayLose loss most d = CanLose loss d × ((device_of d).store.lent ≡ None → IsWithin (one_loss_more d.store.counts.losses loss) most)
+  MayLose loss most d = CanLose loss d × ((device_of d).store.lent ≡ None → IsWithin (one_loss_more (device_of d).store.counts.losses loss) most)
 
   -- a volume that comes to the device has as many tracks
   abbrev pub HasSize : DeviceOrder V → Device V G → Type 0
-  HasSize (Replace side volume) d = (G.view volume).tracks ≡ d.store.cylinders * 15
+  HasSize (Replace side volume) d = (G.view volume).tracks ≡ tracks_of (device_of d).store
   HasSize _ d = Unit {0}
 
   -- what was pledged of a device is kept, and no seat's count changes

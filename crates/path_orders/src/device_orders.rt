@@ -2,6 +2,7 @@ ghost use Rattle.std.specs.Prelude.{◌≡◌, ◌*◌, None, is_some, true};
 ghost use Rattle.device_outside.specs.Volume.{counted};
 ghost use Rattle.device_defs.specs.Events.{one_loss_more};
 ghost use Rattle.device_core.specs.State.{device_of};
+ghost use Rattle.device_defs.specs.Store.{tracks_of};
 ghost use Rattle.subsystem_defs.specs.Refusals.{fail_fault, replace_fault, suspend_fault};
 ghost use Rattle.path_turns.specs.Keeping.{IsWithin};
 ghost use Rattle.path_orders.specs.Ordered.{CanLose, HasSize, HaveLosses, IsOrdered, IsPledged, MayLose, Suits};
@@ -99,7 +100,7 @@ fn can_lose<V: Volume>(device: &Device<V>, loss: Loss) -> bool
 }
 
 fn may_at_home<V: Volume>(device: &Device<V>, loss: Loss, most: Losses) -> bool
-    ensures { result ≡ true → (device_of device.now).store.lent ≡ None → IsWithin (one_loss_more device.now.store.counts.losses loss) most }
+    ensures { result ≡ true → (device_of device.now).store.lent ≡ None → IsWithin (one_loss_more (device_of device.now).store.counts.losses loss) most }
 {
     if is_lent(device) {
         return true;
@@ -169,7 +170,7 @@ fn resume<V: Volume>(device: &mut Device<V>, most: Losses)
 
 /// The volume that it gets, or the one that it had, is dropped.
 fn replace<V: Volume>(device: &mut Device<V>, side: Side, volume: V)
-    requires { (V.view volume).tracks ≡ device.old.store.cylinders * 15 }
+    requires { (V.view volume).tracks ≡ tracks_of (device_of device.old).store }
     ensures { IsOrdered (λ p. IsPledged p (V.view volume)) device.old device.new }
 {
     if !may_replace(device, side) {

@@ -8,6 +8,7 @@ use Rattle.loss_model.specs.declared.Loss.TheVariants.{Cache, Store, Side}
 use Rattle.subsystem_defs.specs.declared.event.Event as events
 use Rattle.subsystem_defs.specs.declared.event.Event.TheVariants.{FailCache, FailStore, FailVolume}
 use Rattle.device_core.specs.declared.device.Device.{Device}
+use Rattle.device_core.specs.State.{device_of}
 use Rattle.path_threads.specs.declared.orders.Order.{Order}
 use Rattle.path_threads.specs.declared.orders.Order.TheVariants.{Event, Replace}
 
@@ -34,4 +35,4 @@ module _ {M : Type 0} where
   allowed l n (o ∷ os) = allowed (with_loss l (loss_of n o)) n os
 
   abbrev pub allowed_of : {V : Type 0} {G : Ghosts V} → List (Order M) → Device V G → Losses
-  allowed_of os d = allowed d.store.counts.losses d.store.number os
+  allowed_of os d = allowed (device_of d).store.counts.losses (device_of d).store.device os

@@ -42,7 +42,7 @@ module _ {V : Type 0} {G : Ghosts V} where
 
   -- the place of a device has its number, and how many programs wait there
   abbrev pub IsPlaceOf : Device V G → Place → Type 0
-  IsPlaceOf d place = (place.number ≡ d.store.number) × (place.left ≡ waiting_of d)
+  IsPlaceOf d place = (place.number ≡ (device_of d).store.device) × (place.left ≡ waiting_of d)
 
   -- the first of these devices have these places
   pub record HavePlaces (devices : List (Device V G)) (places : List Place) (rest : List (Device V G)) : Type 0 where
@@ -70,7 +70,7 @@ module _ {V : Type 0} {G : Ghosts V} {N : holders.Ghosts (Device V G) (Promise V
     pub promise : Promise V G
     pub pledge : s.seat.me.0.pledge ≡ Some promise
     pub most : promise.most ≡ place.most
-    pub number : promise.made.value.store.number ≡ place.number
+    pub number : (device_of promise.made.value).store.device ≡ place.number
 
   -- the seat of the device of this number
   abbrev pub seat_at : List Place → List (TurnSeat (Device V G) (Promise V G) N) → ℕ → Option (TurnSeat (Device V G) (Promise V G) N)

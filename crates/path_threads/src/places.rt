@@ -4,6 +4,7 @@ ghost use Rattle.path_turns.specs.Keeping.{IsReady, IsWithin};
 ghost use Rattle.path_threads.specs.Allowed.{allowed_of};
 ghost use Rattle.path_threads.specs.Places.{Allows, IsPlaceOf, IsPromised, IsPromisedFor, KeepPromises, waiting_of, waits_for};
 ghost use Rattle.turn_seats.specs.Seating.{AreSet, IsSet};
+ghost use Rattle.device_core.specs.State.{device_of};
 
 use crate::allowed::allowed;
 use crate::orders::Order;
@@ -40,7 +41,7 @@ type DeviceTable<V> = Table<Device<V>, Promise<V>>;
 /// How many losses a device may have while these orders are done.
 fn most_of<V: Volume, M>(device: &Device<V>, orders: &[Order<M>]) -> Losses
     ensures is { result ≡ allowed_of orders.now device.now }
-    ensures more { IsWithin device.now.store.counts.losses result }
+    ensures more { IsWithin (device_of device.now).store.counts.losses result }
 {
     allowed(device.losses(), device.number(), orders)
 }
@@ -64,7 +65,7 @@ fn set_one<V: Volume>(
     most: Losses,
 ) -> Result<DeviceSetting<V>, NoMemory>
     requires ready { IsReady device }
-    requires within { IsWithin device.store.counts.losses most }
+    requires within { IsWithin (device_of device).store.counts.losses most }
     ensures set { IfOk result IsSet }
     ensures promised { IfOk result (λ s. IsPromised most device s.operator) }
 {

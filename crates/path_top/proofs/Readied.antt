@@ -3,11 +3,12 @@ use Rattle.std.proofs.Common.{◌≡◌, ◌<◌, ◌≤◌, ◌∙◌, ℕ, zer
 use Rattle.std.proofs.lemmas.Bool.{and_from}
 use Rattle.std.specs.Prelude.{◌&&◌, slice_index_or}
 use Rattle.std.specs.List.{AllZip}
+use Rattle.ckd_types.specs.Volume.{empty_volume}
 use Rattle.deck_text.specs.declared.line.DeviceLine.{DeviceLine}
 use Rattle.deck_text.specs.DeckLines.{DeckLines}
 use Rattle.deck_text.specs.Plans.{plans_of}
 use Rattle.plain_defs.specs.History.{History, no_history}
-use Rattle.plain_defs.specs.PlainState.{PlainState, empty_state}
+use Rattle.plain_defs.specs.PlainState.{empty_state}
 use Rattle.device_outside.specs.declared.volume.Volume.{Ghosts}
 use Rattle.device_outside.specs.Both.{SideTold}
 use Rattle.device_outside.specs.Outside.{Outside, no_pool}
@@ -29,6 +30,8 @@ use Rattle.subsystem_laws.specs.CameAbout.{CameAbout}
 use Rattle.subsystem_laws.proofs.Walks.{AreSo}
 use Rattle.subsystem_laws.specs.WholeStood.{Stood, IsMounted, is_mounted, AreMountedBy, one_more}
 use Rattle.subsystem_laws.proofs.AllSound.{side_tells}
+use Rattle.subsystem_laws.proofs.PlainRuns.{still_first}
+use Rattle.subsystem_laws.proofs.turning.Beside.{own_follows}
 use Rattle.deck_run.specs.Owning.{AllOwn}
 use Rattle.deck_run.specs.Standing.{StandsAs, all_stood, stood_of}
 use Rattle.path_turns.proofs.Pooled.{untold_order}
@@ -80,9 +83,7 @@ pub record IsUsable (deck : DeckLines) (line : DeviceLine) (to : Option ℕ) (x 
 
 follows_so : (line : DeviceLine) (m : Mounted) → Follows line.number (empty_state line.geometry line.cylinders) m.device →
     Follows m.device.store.device (empty_state m.device.store.geometry m.device.store.cylinders) m.device
-follows_so line m f =
-    subst (λ (n : ℕ). Follows n (empty_state m.device.store.geometry m.device.store.cylinders) m.device) (sym f.number)
-    (subst (λ (p : PlainState). Follows line.number p m.device) f.base f)
+follows_so line m f = own_follows empty_volume line.number (empty_state line.geometry line.cylinders) m.device f refl
 
 one_usable : {mine : List ℕ} {x : Stood} {m : Mounted} (deck : DeckLines) (line : DeviceLine) → IsMounted mine x m →
     IsNew deck (λ n. lent_faults deck n (paired deck).mounted) line m → CameAbout m.device → GiveBytes x.device.plans → IsUsable deck line (lent_of m) x
@@ -90,7 +91,7 @@ one_usable deck line (is_mounted d v w h on_a on_b a b stands slots told_a told_
   number = p.follows.number;
   plans = p.plans;
   none = p.none;
-  base = p.follows.base;
+  base = still_first empty_volume line.number (empty_state line.geometry line.cylinders) (marks_device v w d) p.follows refl;
   lent = refl;
   cylinders = p.cylinders;
   counts = p.counts;

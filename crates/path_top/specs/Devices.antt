@@ -10,8 +10,8 @@ use Rattle.path_top.specs.Told.{DeviceTold}
 module _ {V : Type 0} {G : Ghosts V} where
   abbrev pub told_by : Device V G → DeviceTold
   told_by x = record {
-    device = x.store.number;
-    journal = x.past.items.items;
+    device = (device_of x).store.device;
+    journal = (device_of x).history.items;
     left = map (left (device_of x)) (1 ∷ 2 ∷ 3 ∷ 4 ∷ []);
     lent = (device_of x).store.lent;
     lost = lost_in x;

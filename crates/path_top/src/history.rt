@@ -30,7 +30,7 @@ fn put_left<V: Volume, K: Sink>(
     path: PathNo,
 ) -> Result<(), Failed>
     ensures bytes { Puts (K.held sink.old) buffer.old (K.held sink.new) buffer.new result
-        (lines_text (left_line device.now.store.number path (left (device_of device.now) path))) }
+        (lines_text (left_line (device_of device.now).store.device path (left (device_of device.now) path))) }
     ensures cause { HasCause (K.faults sink.old) (K.faults sink.new) result }
 {
     match device.left(path) {
@@ -45,7 +45,7 @@ fn put_all_left<V: Volume, K: Sink>(
     device: &Device<V>,
 ) -> Result<(), Failed>
     ensures bytes { Puts (K.held sink.old) buffer.old (K.held sink.new) buffer.new result
-        (lines_text (left_lines device.now.store.number 1 (told_by device.now).left)) }
+        (lines_text (left_lines (device_of device.now).store.device 1 (told_by device.now).left)) }
     ensures cause { HasCause (K.faults sink.old) (K.faults sink.new) result }
 {
     for number in 1..5 {
@@ -76,7 +76,7 @@ fn put_losses<V: Volume, K: Sink>(
     device: &Device<V>,
 ) -> Result<(), Failed>
     ensures bytes { Puts (K.held sink.old) buffer.old (K.held sink.new) buffer.new result
-        (lines_text (end_lines device.now.store.number None (lost_in device.now))) }
+        (lines_text (end_lines (device_of device.now).store.device None (lost_in device.now))) }
     ensures cause { HasCause (K.faults sink.old) (K.faults sink.new) result }
 {
     let d = device.number();
@@ -92,7 +92,7 @@ fn put_end<V: Volume, K: Sink>(
     device: &Device<V>,
 ) -> Result<(), Failed>
     ensures bytes { Puts (K.held sink.old) buffer.old (K.held sink.new) buffer.new result
-        (lines_text (end_lines device.now.store.number (told_by device.now).lent (told_by device.now).lost)) }
+        (lines_text (end_lines (device_of device.now).store.device (told_by device.now).lent (told_by device.now).lost)) }
     ensures cause { HasCause (K.faults sink.old) (K.faults sink.new) result }
 {
     match device.lent_to() {
@@ -111,8 +111,8 @@ fn put_behind_journal<V: Volume, K: Sink>(
     device: &Device<V>,
 ) -> Result<(), Failed>
     ensures bytes { Puts (K.held sink.old) buffer.old (K.held sink.new) buffer.new result
-        (lines_text (left_lines device.now.store.number 1 (told_by device.now).left
-        ++ end_lines device.now.store.number (told_by device.now).lent (told_by device.now).lost)) }
+        (lines_text (left_lines (device_of device.now).store.device 1 (told_by device.now).left
+        ++ end_lines (device_of device.now).store.device (told_by device.now).lent (told_by device.now).lost)) }
     ensures cause { HasCause (K.faults sink.old) (K.faults sink.new) result }
 {
     put_all_left(sink, buffer, device)?;

@@ -2,12 +2,13 @@
 use Rattle.std.specs.Prelude.{◌≡◌}
 use Rattle.device_outside.specs.declared.volume.Volume.{Ghosts}
 use Rattle.device_core.specs.declared.device.Device.{Device}
+use Rattle.device_core.specs.State.{device_of}
 use Rattle.path_threads.specs.declared.orders.EmptyVolume.{EmptyVolume}
 use Rattle.path_threads.specs.declared.orders.Order.{Order}
 use Rattle.path_threads.specs.declared.orders.Order.TheVariants.{Event, Replace}
 
 abbrev pub IsSmall : {V : Type 0} {G : Ghosts V} → Device V G → Type 0
-IsSmall d = d.store.cylinders ≡ 1
+IsSmall d = (device_of d).store.cylinders ≡ 1
 
 -- a volume that comes is a new one of as many cylinders
 abbrev pub IsNew : Order EmptyVolume → Type 0

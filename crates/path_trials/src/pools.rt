@@ -114,7 +114,7 @@ fn listed(pool: &Pool, device: &Device<MemVolume>) -> Option<u16> {
             return Some(count);
         };
         if d == device.number() {
-            if !device.store.frames.has(track) || device.store.frames.modified(track) != modified {
+            if !device.framed(track) || device.modified(track) != modified {
                 return None;
             }
             count = count.saturating_add(1);
@@ -159,17 +159,17 @@ fn free_slots(pool: &mut Pool, slots: u16) -> Option<u16> {
 fn difference(pool: &mut Pool, devices: &[Device<MemVolume>], slots: u16) -> u8 {
     let mut patches: u16 = 0;
     for device in devices {
-        let held = device.store.frames.framed_tracks().count();
+        let held = device.framed_count();
         let Some(known) = listed(pool, device) else {
             return 1;
         };
         if held != known.saturating_add(untold(pool, device.number())) {
             return 2;
         }
-        patches = patches.saturating_add(device.store.patches.patched_tracks().count());
+        patches = patches.saturating_add(device.patched_count());
         let told = waiting(pool);
         pool.tell_waiting(device.number(), 0);
-        if told.saturating_sub(waiting(pool)) != u32::from(device.store.waiting_count()) {
+        if told.saturating_sub(waiting(pool)) != u32::from(device.waiting_count()) {
             return 3;
         }
     }

@@ -44,8 +44,7 @@ use Rattle.subsystem_laws.proofs.turning.Standing.{background_stands, command_st
 use Rattle.device_store.specs.State.{outside}
 use Rattle.device_store.specs.declared.store.DeviceStore.{DeviceStore}
 use Rattle.device_core.specs.declared.device.Device.{Device}
-use Rattle.device_core.specs.declared.past.Running.{Running}
-use Rattle.device_core.specs.State.{device_of, chain_of}
+use Rattle.device_core.specs.State.{device_of}
 use Rattle.path_turns.specs.Keeping.{KeepsPledge, Moves, StaysKept, handed_of, tells, told_of}
 use Rattle.path_turns.specs.Visits.{is_backgrounds, is_of_background}
 
@@ -56,8 +55,8 @@ abbrev pub no_keep : NoKeep
 no_keep = record {}
 
 -- the chain of the program that runs, told of the device
-pub chain_told : (r : Option Running) → IfSome r (λ r. IsChain r.chain) → (chain : ChainState) → option_map chain_of r ≡ Some chain → IsChain chain
-chain_told (Some r) is chain e = subst IsChain (same_Some (chain_of r) chain e) is
+pub chain_told : (o : Option ChainState) → IfSome o IsChain → (chain : ChainState) → o ≡ Some chain → IsChain chain
+chain_told (Some c) is chain e = subst IsChain (same_Some c chain e) is
 chain_told None is chain e = absurd (cc)
 
 -- the path's program is there
@@ -164,9 +163,9 @@ module _ {V : Type 0} {G : Ghosts V} where
 
     module _ (home : (device_of d).store.lent ≡ None) where
       pub command_stays : {a : Option Stepped} → (device_of d).store.half ≡ None → Runs (device_of d).history.running →
-          IfSome d.past.running (λ r. IsChain r.chain) → Came (λ ok. ok ≡ true) (command contents (device_of d)) a → StaysKept d e
+          IfSome (device_of d).chain IsChain → Came (λ ok. ok ≡ true) (command contents (device_of d)) a → StaysKept d e
       command_stays {a = a} none runs chain r p k =
-          let chains = chain_told d.past.running chain in
+          let chains = chain_told (device_of d).chain chain in
           to_keeps p _
           (command_kept contents hears p (handed_of p.told d) (device_of d) (device_of e) u z (of_keeps p k) home
           (λ told. command_checks (of_stands (k.stands told home)).beside (λ _ m r l h. h) a runs.entry none runs.is chains r) a (ran_weaker (λ ok h. tt) r))
@@ -189,7 +188,7 @@ module _ {V : Type 0} {G : Ghosts V} where
           (λ told. background_stands (of_stands (k.stands told home)) (λ _ m r l h. h) a none r)
 
       module _ (path : ℕ) (least : 1 ≤ path) (most : path ≤ 4) (runs : is_path_of (device_of d).history.running path ≡ true) where
-        pub command_moves : {a : Option Stepped} → (device_of d).store.half ≡ None → IfSome d.past.running (λ r. IsChain r.chain) →
+        pub command_moves : {a : Option Stepped} → (device_of d).store.half ≡ None → IfSome (device_of d).chain IsChain →
             Came (λ ok. ok ≡ true) (command contents (device_of d)) a → Moves path d e
         command_moves none chain r = record {
           stays = command_stays none (runs_some path (device_of d).history.running runs) chain r;

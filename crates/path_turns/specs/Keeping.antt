@@ -9,9 +9,8 @@ use Rattle.device_defs.specs.Pledge.{Handed, Pledge, is_fresh, pledge, seat_coun
 use Rattle.device_defs.specs.Start.{is_finished}
 use Rattle.device_laws.specs.Handed.{StaysInTurn, allowance_in}
 use Rattle.subsystem_laws.specs.Standing.{Stands}
-use Rattle.device_store.specs.State.{outside}
 use Rattle.device_core.specs.declared.device.Device.{Device}
-use Rattle.device_core.specs.State.{device_of}
+use Rattle.device_core.specs.State.{device_of, around}
 use Rattle.path_turns.specs.declared.promise.Promise.{Promise}
 
 -- a volume tells what it holds
@@ -33,7 +32,7 @@ pub record IsWithin (l most : Losses) : Type 0 where
 module _ {V : Type 0} {G : Ghosts V} where
   -- what a device's volumes tell
   abbrev pub told_of : Device V G → Outside (List ℕ) (Unit {0})
-  told_of d = outside (no_pool 0) d.store tt
+  told_of d = around (no_pool 0) d tt
 
   -- they tell what they hold
   abbrev pub tells_all : Device V G → Bool

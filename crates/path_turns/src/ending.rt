@@ -4,7 +4,7 @@ ghost use Rattle.device_defs.specs.Start.{start_fault};
 ghost use Rattle.device_core.specs.State.{device_of};
 ghost use Rattle.path_turns.specs.Keeping.{IsFinished, StaysKept};
 
-use crate::events::{begin, chain_stands, is_lent};
+use crate::events::{begin, is_lent};
 use ckd_types::{NoMemory, PathNo};
 use device_core::Device;
 use device_outside::{Port, Volume};
@@ -36,7 +36,7 @@ fn command<V: Volume, P: Port>(device: &mut Device<V>, port: &mut P) -> Result<(
     requires whole { is_some (device_of device.old).store.half ≡ false }
     ensures stays { OnOk result (StaysKept device.old device.new) }
 {
-    chain_stands(device);
+    device.recall_chain();
     match device.command(port) {
         Err(NoMemory) => Err(NoMemory),
         Ok(_) => Ok(()),

@@ -1,5 +1,4 @@
-ghost use Rattle.std.specs.Prelude.{◌≡◌, ◌≤◌, IfOk, IfSome, None, OnErr, OnOk, Some, false, is_some, true};
-ghost use Rattle.ckd_chain.specs.Facts.{IsChain};
+ghost use Rattle.std.specs.Prelude.{◌≡◌, ◌≤◌, IfOk, None, OnErr, OnOk, Some, false, is_some, true};
 ghost use Rattle.plain_defs.specs.History.{is_path_of};
 ghost use Rattle.device_outside.specs.Outside.{PortView, where_ok};
 ghost use Rattle.device_outside.specs.Volume.{counted};
@@ -7,7 +6,7 @@ ghost use Rattle.device_defs.specs.Command.{command};
 ghost use Rattle.device_defs.specs.Contents.{contents};
 ghost use Rattle.device_defs.specs.Events.{second};
 ghost use Rattle.device_defs.specs.Start.{start, start_fault};
-ghost use Rattle.device_core.specs.State.{device_of};
+ghost use Rattle.device_core.specs.State.{device_of, HasSameTracks};
 ghost use Rattle.path_turns.specs.Comes.{Comes};
 ghost use Rattle.path_turns.specs.Keeping.{Moves};
 ghost use Rattle.path_turns.specs.Visits.{half_came, half_event, has_own_half, is_commands, path_came, path_event, start_came, started_by, whatever};
@@ -89,7 +88,7 @@ pub(crate) fn begin<V: Volume>(device: &mut Device<V>, path: PathNo) -> Result<(
     requires free { start_fault (device_of device.old) path ≡ None }
     ensures started { OnOk result (device_of device.new ≡ start (device_of device.old) path) }
     ensures same { OnErr result (device_of device.new ≡ device_of device.old) }
-    ensures store { device.new.store ≡ device.old.store }
+    ensures store { HasSameTracks device.old device.new }
 {
     match device.start(path) {
         Ok(_) => Ok(()),
@@ -113,16 +112,6 @@ pub(crate) fn is_lent<V: Volume>(device: &Device<V>) -> bool
     ensures { result ≡ is_some (device_of device.now).store.lent }
 {
     device.lent_to().is_some()
-}
-
-/// The chain of the program that runs keeps to what chains keep to.
-pub(crate) fn chain_stands<V: Volume>(device: &Device<V>)
-    ensures { IfSome device.now.past.running (λ r. IsChain r.chain) }
-{
-    match &device.past.running {
-        Some(running) => running.chain.stands(),
-        None => (),
-    }
 }
 
 /// The next program of the path starts, where nothing keeps it out.
@@ -164,7 +153,7 @@ fn command<V: Volume, P: Port, G: Gate>(
         (P.view port.old) device.old (P.view port.new) device.new }
     ensures moves { OnOk result (Moves visitor.old.path device.old device.new) }
 {
-    chain_stands(device);
+    device.recall_chain();
     visitor.before(device);
     let outcome = device.command(port);
     visitor.after(device);

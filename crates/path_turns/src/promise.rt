@@ -1,6 +1,5 @@
 ghost use Rattle.std.specs.Prelude.{◌≡◌, ◌<◌, ◌⊎◌, IfSome, None, refl};
 ghost use Rattle.device_defs.specs.Pledge.{command_count, seat_counts};
-ghost use Rattle.device_defs.specs.Start.{started_count};
 ghost use Rattle.device_core.specs.State.{device_of};
 ghost use Rattle.path_turns.specs.Keeping.{KeepsPromise};
 
@@ -34,19 +33,12 @@ fn path_of(seat: u64) -> Option<PathNo>
     PathNo::new(seat as u8)
 }
 
-/// How many programs of a path were started.
-fn started<V: Volume>(device: &Device<V>, path: PathNo) -> u16
-    ensures { result ≡ started_count (device_of device.now).history path }
-{
-    device.past.kept[usize::from(path.get() - 1)].started
-}
-
 /// Twice the programs of a path that are over, and one more while one runs.
 fn count_of<V: Volume>(device: &Device<V>, path: PathNo) -> u64
     ensures { result ≡ command_count (device_of device.now) path }
 {
     let running = if runs_on(device, path) { 1 } else { 0 };
-    let started = u64::from(started(device, path));
+    let started = u64::from(device.started(path));
     2 * started.saturating_sub(running) + running
 }
 

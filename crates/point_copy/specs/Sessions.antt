@@ -4,6 +4,8 @@ use Rattle.track_image.specs.Image.{Image}
 use Rattle.device_outside.specs.declared.volume.Volume.{Ghosts}
 use Rattle.device_defs.specs.Peek.{Peeked}
 use Rattle.device_core.specs.declared.device.Device.{Device}
+use Rattle.device_core.specs.State.{device_of}
+use Rattle.device_defs.specs.Store.{tracks_of}
 use Rattle.subsystem_core.specs.declared.subsystem.Subsystem.{Subsystem}
 use Rattle.subsystem_core.specs.Devices.{device_at}
 use Rattle.subsystem_defs.specs.Subsystem as runs
@@ -30,13 +32,13 @@ module _ {V : Type 0} {G : Ghosts V} where
   pub record IsBegun (sub : Subsystem V G) (d : ℕ) (x : Device V G) (s : Session V G) : Type 0 where
     pub sub_is : s.sub ≡ sub
     pub device : s.device ≡ d
-    pub kept : s.kept ≡ nothing_kept d (x.store.cylinders * 15)
+    pub kept : s.kept ≡ nothing_kept d (tracks_of (device_of x).store)
     pub gone : s.gone ≡ None
 
   -- it was noted whether the device is lent now
   abbrev pub Notes : Session V G → Session V G → Type 0
   Notes old new =
-      (new.device ≡ old.device) × IfSome (device_at new.sub.devices.items old.device) (λ x. new.gone ≡ first_lent old.gone x.store.pair.lent)
+      (new.device ≡ old.device) × IfSome (device_at new.sub.devices.items old.device) (λ x. new.gone ≡ first_lent old.gone (device_of x).store.lent)
 
   -- it stands as one over a run, and what it still has to give are these old images
   pub record IsCopy (s : Session V G) (c : CopyState) (old : ℕ → Image) : Type 0 where

@@ -1,7 +1,5 @@
 ghost use Rattle.std.specs.Prelude.{◌≡◌, IfErr, IfOk, IfSome, Some};
 ghost use Rattle.device_core.specs.State.{device_of};
-ghost use Rattle.device_defs.specs.Store.{is_loose};
-ghost use Rattle.track_table.specs.Tracks.{least};
 ghost use Rattle.subsystem_core.specs.Devices.{device_at};
 ghost use Rattle.subsystem_core.specs.Frames.{HasDevice};
 ghost use Rattle.subsystem_defs.specs.Subsystem as runs;
@@ -11,17 +9,11 @@ ghost use Rattle.point_copy.specs.Copying.{begin_fault};
 ghost use Rattle.point_copy.specs.Sessions.{Begins, IsBegun, IsBegunOver};
 
 use crate::{BeginFault, OldTracks, Session};
-use ckd_types::{DeviceNo, NoMemory, TrackNo};
+use ckd_types::{DeviceNo, NoMemory};
 use device_core::Device;
 use device_outside::Volume;
 use std::alloc::Global;
 use subsystem_core::Subsystem;
-
-fn least_loose<V: Volume>(device: &Device<V>) -> Option<TrackNo>
-    ensures { result ≡ least 960 (is_loose (device_of device.now).store) }
-{
-    device.store.loose.marks().first()
-}
 
 /// Why a device's contents can't be kept as they are.
 fn begin_fault<V: Volume>(device: &Device<V>) -> Option<BeginFault>
@@ -33,7 +25,7 @@ fn begin_fault<V: Volume>(device: &Device<V>) -> Option<BeginFault>
     if device.half_open() {
         return Some(BeginFault::Half);
     }
-    match least_loose(device) {
+    match device.first_loose() {
         Some(track) => Some(BeginFault::Loose { track }),
         None => None,
     }

@@ -1,6 +1,8 @@
 ghost use Rattle.std.specs.Prelude.{◌≡◌, ◌*◌, IfErr, IfOk, IfSome, OnErr, OnOk, IsOk, true, ℕ};
 ghost use Rattle.track_image.specs.Image.{Image};
 ghost use Rattle.device_outside.specs.Keeper.{Heard};
+ghost use Rattle.device_core.specs.State.{device_of};
+ghost use Rattle.device_defs.specs.Store.{tracks_of};
 ghost use Rattle.subsystem_core.specs.Comes.{AreStill, CameKept, Replaced, Unpaired};
 ghost use Rattle.subsystem_core.specs.Devices.{device_at, numbers_of};
 ghost use Rattle.subsystem_core.specs.Ends.{answer_of};
@@ -54,7 +56,7 @@ impl<V: Volume> Session<V> {
     /// A new volume of empty tracks, 15 for each cylinder, in place of a failed side's.
     pub fn replace(&mut self, d: DeviceNo, side: Side, volume: V) -> Result<EventEnd, (NoMemory, V)>
         requires here { HasDevice self.old.sub d }
-        requires size { IfSome (device_at self.old.sub.devices.items d) (λ x. (V.view volume).tracks ≡ x.store.cylinders * 15) }
+        requires size { IfSome (device_at self.old.sub.devices.items d) (λ x. (V.view volume).tracks ≡ tracks_of (device_of x).store) }
         ensures numbers { HasSameDevices self.old.sub self.new.sub }
         ensures had { IsOk result }
         ensures replaced { IfOk result (λ end. Replaced d side volume (device_at self.old.sub.devices.items d) self.old.sub end self.new.sub) }
@@ -71,7 +73,7 @@ impl<V: Volume> Session<V> {
     /// Side B leaves a device, and the one that had lent it gets a volume of empty tracks, 15 for each cylinder.
     pub fn unpair(&mut self, a: DeviceNo, volume: V) -> Result<EventEnd, (NoMemory, V)>
         requires here { HasDevice self.old.sub a }
-        requires size { IfSome (device_at self.old.sub.devices.items a) (λ x. (V.view volume).tracks ≡ x.store.cylinders * 15) }
+        requires size { IfSome (device_at self.old.sub.devices.items a) (λ x. (V.view volume).tracks ≡ tracks_of (device_of x).store) }
         ensures numbers { HasSameDevices self.old.sub self.new.sub }
         ensures unpaired { IfOk result (λ end. Unpaired a volume (device_at self.old.sub.devices.items a) self.old.sub end self.new.sub) }
         ensures lacked { OnErr result ((self.new.sub.pool ≡ self.old.sub.pool) × AreStill self.old.sub.devices.items self.new.sub.devices.items) }

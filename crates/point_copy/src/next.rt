@@ -6,6 +6,8 @@ ghost use Rattle.subsystem_core.specs.Frames.{HasSameDevices};
 ghost use Rattle.subsystem_defs.specs.Looks.{looked};
 ghost use Rattle.point_copy.specs.Copying.{CopyState, look_given, next_given};
 ghost use Rattle.point_copy.specs.Sessions.{GivesAs, GivesLooked, IsCopy, NextBy};
+ghost use Rattle.device_core.specs.State.{device_of};
+ghost use Rattle.device_defs.specs.Store.{tracks_of};
 
 use crate::{Given, Session};
 use ckd_types::{HEADS, NoMemory, TrackNo};
@@ -16,7 +18,7 @@ impl<V: Volume> Session<V> {
     /// The next track, of which nothing is kept, by a look.
     fn look_next(&mut self, t: TrackNo) -> Result<Given, NoMemory>
         requires next { t ≡ self.old.kept.next }
-        requires track { IfSome (device_at self.old.sub.devices.items self.old.device) (λ x. t < x.store.cylinders * 15) }
+        requires track { IfSome (device_at self.old.sub.devices.items self.old.device) (λ x. t < tracks_of (device_of x).store) }
         requires home { self.old.gone ≡ None }
         requires none { entry_at self.old.kept.images t ≡ None }
         ensures numbers { HasSameDevices self.old.sub self.new.sub }
@@ -45,7 +47,7 @@ impl<V: Volume> Session<V> {
         ensures numbers { HasSameDevices self.old.sub self.new.sub }
         ensures given { (c : CopyState) (old : ℕ → Image) → IsCopy self.old c old
             → IfOk result (λ g. GivesAs (next_given c) c.kept old g self.new) }
-        ensures done { IfSome (device_at self.old.sub.devices.items self.old.device) (λ x. NextBy (nat_le (x.store.cylinders * 15) self.old.kept.next)
+        ensures done { IfSome (device_at self.old.sub.devices.items self.old.device) (λ x. NextBy (nat_le (tracks_of (device_of x).store) self.old.kept.next)
             self.old.gone (entry_at self.old.kept.images self.old.kept.next) self.old result self.new) }
     {
         let due = self.kept.next();

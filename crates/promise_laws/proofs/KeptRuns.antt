@@ -26,7 +26,7 @@ module _ (d : MarksDevice) (p : Plainly d) where
   plain = plain_of d.plans (empty_of d) d.history
 
   of : IsOf (plain_of d.plans (empty_of d) d.history) (core_of d.store)
-  of = subst (λ (x : PlainState). IsOf (plain_of d.plans x d.history) (core_of d.store)) p.follows.base p.follows.of
+  of = subst (λ (x : PlainState). IsOf (plain_of d.plans x d.history) (core_of d.store)) p.base p.follows.of
 
   empty_is : length (empty_volume d.store.cylinders) ≡ d.store.cylinders * 15
   empty_is = length-map-range_with_len empty_track 0 (d.store.cylinders * 15)
@@ -59,7 +59,7 @@ module _ (d : MarksDevice) (p : Plainly d) where
   keeps = record {
     firm = firm_is;
     all = history_among d.plans (empty_of d) d.history
-        (subst (λ (x : PlainState). IsPlain d.plans x d.history) p.follows.base p.follows.stands.plain);
+        (subst (λ (x : PlainState). IsPlain d.plans x d.history) p.base p.follows.stands.plain);
     plain = plain_is;
   }
 

@@ -11,8 +11,10 @@ use Rattle.device_defs.specs.Peek.{Peeked}
 use Rattle.device_store.specs.declared.store.Peeked as looks
 use Rattle.device_store.specs.Images.{IsImageOf}
 use Rattle.device_store.specs.Looks.{IsPeeked, peeked_by}
-use Rattle.device_store.specs.State.{had, state_of}
+use Rattle.device_store.specs.State.{had}
 use Rattle.device_core.specs.declared.device.Device.{Device}
+use Rattle.device_core.specs.State.{device_of}
+use Rattle.device_defs.specs.Store.{tracks_of}
 use Rattle.subsystem_core.specs.declared.subsystem.Subsystem.{Subsystem}
 use Rattle.subsystem_defs.specs.Looks.{looked}
 use Rattle.subsystem_defs.specs.Subsystem.{mounted_in}
@@ -70,16 +72,16 @@ module _ {V : Type 0} {G : Ghosts V} where
 
   -- an image that was found there may be put
   pub record MayPut (t : ℕ) (y : Device V G) (found : looks.Peeked) : Type 0 where
-    pub track : t < y.store.cylinders * 15
-    pub there : IsPeeked (state_of y.store) t found
-    pub image : IsImageFound y.store.geometry t (peeked_by (state_of y.store) t found)
+    pub track : t < tracks_of (device_of y).store
+    pub there : IsPeeked (device_of y).store t found
+    pub image : IsImageFound (device_of y).store.geometry t (peeked_by (device_of y).store t found)
 
   -- the device was looked at, with the sender as keeper
   pub record LooksAt (t : ℕ) (old : Subsystem V G) (s : SenderView) (x : Device V G) (r : Result looks.Peeked NoMemory) (new : Subsystem V G) (z : SenderView)
       (y : Device V G) : Type 0 where
-    pub cylinders : y.store.cylinders ≡ x.store.cylinders
+    pub cylinders : (device_of y).store.cylinders ≡ (device_of x).store.cylinders
     pub found : IfOk r (MayPut t y)
-    pub look : LooksKept (Heard hears_sent takes_sent) s.device t (had (peeked_by (state_of y.store) t) r) old s new z
+    pub look : LooksKept (Heard hears_sent takes_sent) s.device t (had (peeked_by (device_of y).store t) r) old s new z
 
   -- a track was looked at, to be copied
   pub record LooksToCopy (tracks t : ℕ) (old : Subsystem V G) (s : SenderView) (r : Result Remote NoMemory) (new : Subsystem V G) (z : SenderView) : Type 0 where

@@ -3,6 +3,8 @@ use Rattle.std.specs.Prelude.{◌≡◌, ◌≤◌, ◌*◌, ℕ, Bool, true, fa
 use Rattle.ckd_outside.specs.Causes.{Rose}
 use Rattle.device_outside.specs.declared.volume.Volume.{Ghosts}
 use Rattle.device_core.specs.declared.device.Device.{Device}
+use Rattle.device_core.specs.State.{device_of}
+use Rattle.device_defs.specs.Store.{tracks_of}
 use Rattle.remote_copy.specs.declared.state.MirrorState.{MirrorState}
 use Rattle.remote_copy.specs.declared.state.MirrorState.TheVariants.{Level, Suspended, Copying}
 use Rattle.remote_copy.specs.Linking.{LinkView}
@@ -10,7 +12,7 @@ use Rattle.remote_copy.specs.Sending.{SenderView, is_suspended}
 
 -- the far volume has the tracks of this device
 abbrev pub IsFarFor : {V : Type 0} {G : Ghosts V} → LinkView → Device V G → Type 0
-IsFarFor v x = (v.geometry ≡ x.store.geometry) × (v.tracks ≡ x.store.cylinders * 15)
+IsFarFor v x = (v.geometry ≡ (device_of x).store.geometry) × (v.tracks ≡ tracks_of (device_of x).store)
 
 -- the next track to be copied is one of so many
 abbrev pub is_within : MirrorState → ℕ → Bool

@@ -2,7 +2,7 @@ ghost use Rattle.std.specs.Prelude.{◌≡◌, ◌<◌, ◌*◌, IfOk, IfSome, O
 ghost use Rattle.ckd_outside.specs.Causes.{Rose};
 ghost use Rattle.device_core.specs.State.{device_of};
 ghost use Rattle.device_store.specs.Looks.{IsPeeked, peeked_by};
-ghost use Rattle.device_store.specs.State.{state_of};
+ghost use Rattle.device_defs.specs.Store.{tracks_of};
 ghost use Rattle.subsystem_laws.specs.Looking.{is_written_at};
 ghost use Rattle.subsystem_core.specs.Devices.{device_at};
 ghost use Rattle.subsystem_core.specs.Frames.{HasSameDevices};
@@ -99,14 +99,14 @@ fn put_found<V: Volume, L: Link>(
     peeked: Peeked,
 ) -> Remote
     requires fits { IsFarFor sender.old.link device.now }
-    requires track { t < device.now.store.cylinders * 15 }
-    requires there { IsPeeked (state_of device.now.store) t peeked }
-    requires image { IsImageFound device.now.store.geometry t (peeked_by (state_of device.now.store) t peeked) }
-    ensures { AnswersBy (device.now.store.cylinders * 15) t (peeked_by (state_of device.now.store) t peeked) sender.old result sender.new }
+    requires track { t < tracks_of (device_of device.now).store }
+    requires there { IsPeeked (device_of device.now).store t peeked }
+    requires image { IsImageFound (device_of device.now).store.geometry t (peeked_by (device_of device.now).store t peeked) }
+    ensures { AnswersBy (tracks_of (device_of device.now).store) t (peeked_by (device_of device.now).store t peeked) sender.old result sender.new }
 {
     let tracks = u16::from(device.cylinders()) * HEADS;
     match peeked {
-        Peeked::Frame => put_copy(sender, tracks, t, device.store.frame_image(t)),
+        Peeked::Frame => put_copy(sender, tracks, t, device.frame_image(t)),
         Peeked::Track(image) => put_copy(sender, tracks, t, &image),
         Peeked::Lost => Remote::Lost(t),
         Peeked::Fault(side) => Remote::Fault(side),
@@ -117,7 +117,7 @@ fn put_found<V: Volume, L: Link>(
 impl<V: Volume, L: Link> Mirror<V, L> {
     /// A look at a track of the device, with the sender as keeper.
     fn look(&mut self, t: TrackNo) -> Result<Peeked, NoMemory>
-        requires track { IfSome (device_at self.old.sub.devices.items self.old.sender.device) (λ x. t < x.store.cylinders * 15) }
+        requires track { IfSome (device_at self.old.sub.devices.items self.old.sender.device) (λ x. t < tracks_of (device_of x).store) }
         ensures numbers { HasSameDevices self.old.sub self.new.sub }
         ensures follows { Follows self.old.sender self.new.sender }
         ensures found { IfSome (device_at self.old.sub.devices.items self.old.sender.device) (λ x. IfSome (device_at self.new.sub.devices.items
@@ -132,8 +132,8 @@ impl<V: Volume, L: Link> Mirror<V, L> {
         requires found { IfSome (device_at self.old.sub.devices.items self.old.sender.device) (λ y. MayPut t y peeked) }
         ensures sub { self.new.sub ≡ self.old.sub }
         ensures follows { Follows self.old.sender self.new.sender }
-        ensures answers { IfSome (device_at self.old.sub.devices.items self.old.sender.device) (λ y. AnswersBy (y.store.cylinders * 15) t
-            (peeked_by (state_of y.store) t peeked) self.old.sender result self.new.sender) }
+        ensures answers { IfSome (device_at self.old.sub.devices.items self.old.sender.device) (λ y. AnswersBy (tracks_of (device_of y).store) t
+            (peeked_by (device_of y).store t peeked) self.old.sender result self.new.sender) }
     {
         let d = self.sender.device();
         put_found(self.sub.device(d), &mut self.sender, t, peeked)
@@ -147,9 +147,9 @@ impl<V: Volume, L: Link> Mirror<V, L> {
 
     /// A track that doesn't wait.
     fn copy_track(&mut self, t: TrackNo) -> Result<Remote, NoMemory>
-        requires track { IfSome (device_at self.old.sub.devices.items self.old.sender.device) (λ x. t < x.store.cylinders * 15) }
+        requires track { IfSome (device_at self.old.sub.devices.items self.old.sender.device) (λ x. t < tracks_of (device_of x).store) }
         ensures numbers { HasSameDevices self.old.sub self.new.sub }
-        ensures looks { IfSome (device_at self.old.sub.devices.items self.old.sender.device) (λ x. LooksToCopy (x.store.cylinders * 15) t
+        ensures looks { IfSome (device_at self.old.sub.devices.items self.old.sender.device) (λ x. LooksToCopy (tracks_of (device_of x).store) t
             self.old.sub self.old.sender result self.new.sub self.new.sender) }
     {
         let before = self.state();
@@ -167,7 +167,7 @@ impl<V: Volume, L: Link> Mirror<V, L> {
     /// The next track, where there is one and it doesn't wait.
     fn copy_next(&mut self) -> Result<Remote, NoMemory>
         ensures numbers { HasSameDevices self.old.sub self.new.sub }
-        ensures copied { IfSome (device_at self.old.sub.devices.items self.old.sender.device) (λ x. CopiedBy (x.store.cylinders * 15)
+        ensures copied { IfSome (device_at self.old.sub.devices.items self.old.sender.device) (λ x. CopiedBy (tracks_of (device_of x).store)
             (next_track self.old.sender.state) (is_waiting (device_of x).store) self.old.sub self.old.sender result self.new.sub self.new.sender) }
     {
         let Some(next) = next_track(self.state()) else {
@@ -185,7 +185,7 @@ impl<V: Volume, L: Link> Mirror<V, L> {
     /// volume is level. At want of memory the puts stay done, and the state that they led to.
     pub fn copy_one(&mut self) -> Result<Remote, NoMemory>
         ensures numbers { HasSameDevices self.old.sub self.new.sub }
-        ensures copied { IfSome (device_at self.old.sub.devices.items self.old.sender.device) (λ x. CopiedBy (x.store.cylinders * 15)
+        ensures copied { IfSome (device_at self.old.sub.devices.items self.old.sender.device) (λ x. CopiedBy (tracks_of (device_of x).store)
             (next_track self.old.sender.state) (is_waiting (device_of x).store) self.old.sub self.old.sender result self.new.sub self.new.sender) }
         ensures follows { Follows self.old.sender self.new.sender }
         ensures fault { result ≡ Ok LinkFault → Rose self.old.sender.link.faults self.new.sender.link.faults

@@ -1,6 +1,8 @@
 ghost use Rattle.std.specs.Prelude.{◌≡◌, ◌*◌, [], IfErr, IfOk, IfSome, IsOk, None, OnErr, OnOk, Some, false, true};
 ghost use Rattle.ckd_types.specs.Volume.{empty_volume};
 ghost use Rattle.device_outside.specs.Keeper.{Heard};
+ghost use Rattle.device_core.specs.State.{device_of};
+ghost use Rattle.device_defs.specs.Store.{tracks_of};
 ghost use Rattle.subsystem_core.specs.Comes.{AreStill, CameKept, Replaced, Unpaired};
 ghost use Rattle.subsystem_core.specs.Devices.{device_at, numbers_of};
 ghost use Rattle.subsystem_core.specs.Ends.{answer_of};
@@ -30,10 +32,10 @@ impl<V: Volume, L: Link> Mirror<V, L> {
     /// From here on the firm tracks of device `d`, of which nothing has happened yet, are put on the link. Takes no memory.
     pub fn new(sub: Subsystem<V>, d: DeviceNo, link: L) -> Mirror<V, L>
         requires here { HasDevice sub d }
-        requires home { IfSome (device_at sub.devices.items d) (λ x. x.store.pair.lent ≡ None) }
-        requires unused { IfSome (device_at sub.devices.items d) (λ x. (x.past.items.items ≡ []) × (x.past.running ≡ None)) }
+        requires home { IfSome (device_at sub.devices.items d) (λ x. (device_of x).store.lent ≡ None) }
+        requires unused { IfSome (device_at sub.devices.items d) (λ x. ((device_of x).history.items ≡ []) × ((device_of x).history.running ≡ None)) }
         requires fits { IfSome (device_at sub.devices.items d) (IsFarFor (L.view link)) }
-        requires empty { IfSome (device_at sub.devices.items d) (λ x. IfSome (L.view link).far (λ far. far ≡ empty_volume x.store.cylinders)) }
+        requires empty { IfSome (device_at sub.devices.items d) (λ x. IfSome (L.view link).far (λ far. far ≡ empty_volume (device_of x).store.cylinders)) }
         ensures sub { result.sub ≡ sub }
         ensures sender { result.sender ≡ record { device = d; sent = 0; state = Level; link = L.view link } }
         ensures begun { (run : runs.Subsystem) (m : runs.Mounted) → StandsAs sub run → AreOwn sub.devices.items → runs.mounted_in run.mounted d ≡ Some m
@@ -64,7 +66,7 @@ impl<V: Volume, L: Link> Mirror<V, L> {
     /// A new volume of empty tracks, 15 for each cylinder, in place of a failed side's. Nothing is put.
     pub fn replace(&mut self, d: DeviceNo, side: Side, volume: V) -> Result<EventEnd, (NoMemory, V)>
         requires here { HasDevice self.old.sub d }
-        requires size { IfSome (device_at self.old.sub.devices.items d) (λ x. (V.view volume).tracks ≡ x.store.cylinders * 15) }
+        requires size { IfSome (device_at self.old.sub.devices.items d) (λ x. (V.view volume).tracks ≡ tracks_of (device_of x).store) }
         ensures numbers { HasSameDevices self.old.sub self.new.sub }
         ensures had { IsOk result }
         ensures replaced { IfOk result (λ end. Replaced d side volume (device_at self.old.sub.devices.items d) self.old.sub end self.new.sub) }
@@ -78,7 +80,7 @@ impl<V: Volume, L: Link> Mirror<V, L> {
     /// Side B leaves a device, and the one that had lent it gets a volume of empty tracks, 15 for each cylinder. Nothing is put.
     pub fn unpair(&mut self, a: DeviceNo, volume: V) -> Result<EventEnd, (NoMemory, V)>
         requires here { HasDevice self.old.sub a }
-        requires size { IfSome (device_at self.old.sub.devices.items a) (λ x. (V.view volume).tracks ≡ x.store.cylinders * 15) }
+        requires size { IfSome (device_at self.old.sub.devices.items a) (λ x. (V.view volume).tracks ≡ tracks_of (device_of x).store) }
         ensures numbers { HasSameDevices self.old.sub self.new.sub }
         ensures unpaired { IfOk result (λ end. Unpaired a volume (device_at self.old.sub.devices.items a) self.old.sub end self.new.sub) }
         ensures lacked { OnErr result ((self.new.sub.pool ≡ self.old.sub.pool) × AreStill self.old.sub.devices.items self.new.sub.devices.items) }

@@ -33,7 +33,7 @@ module _ (deck : DeckLines) (ls : List ReportLine) where
         subst (λ (plans : Plans). IsPlain plans (empty_state l.geometry l.cylinders) p.device.history) is.plans
         (subst (λ (g : Geometry). IsPlain p.device.plans (empty_state g l.cylinders) p.device.history) is.geometry
         (subst (λ (n : ℕ). IsPlain p.device.plans (empty_state p.device.store.geometry n) p.device.history) is.cylinders
-        (subst (λ (x : PlainState). IsPlain p.device.plans x p.device.history) plain.follows.base plain.follows.stands.plain)));
+        (subst (λ (x : PlainState). IsPlain p.device.plans x p.device.history) plain.base plain.follows.stands.plain)));
     shown = subst (λ (n : ℕ). shown_of n ls ≡ history_lines n p.device.history) is.number shown;
   }
 

@@ -280,7 +280,7 @@ module _ (s : Subsystem) (plain : ArePlain s.mounted) where
   plain_at : (n : ℕ) (x : MarksDevice) → D.device_in (devices_of s) n ≡ Some x → IsPlain x.plans (audited x).empty x.history
   plain_at n x at =
       let p = subst (λ (o : Option MarksDevice). IfSome o Plainly) at (device_so Plainly s.mounted n plain) in
-      subst (λ (e : PlainState). IsPlain x.plans e x.history) p.follows.base p.follows.stands.plain
+      subst (λ (e : PlainState). IsPlain x.plans e x.history) p.base p.follows.stands.plain
 
   all_go : (n : ℕ) (b : AuditedDevice) → device_in (map audited (devices_of s)) n ≡ Some b → GoesOn (seen b).past.running
   all_go n b is = by_device (D.device_in (devices_of s) n) refl (sym (found (devices_of s) n) ∙ is) where

@@ -29,11 +29,11 @@ pub record Marked (a : AuditedDevice) (s : MarksStore) : Type 0 where
 pub known : (d : MarksDevice) → Plainly d → Marked (audited d) d.store
 known d p =
     let f = p.follows in
-    let of = subst (λ (e : PlainState). IsOf (plain_of d.plans e d.history) (core_of d.store)) f.base f.of in
+    let of = subst (λ (e : PlainState). IsOf (plain_of d.plans e d.history) (core_of d.store)) p.base f.of in
     record {
       same = of.loose;
-      once = subst (λ (e : PlainState). StandOnce (plain_of d.plans e d.history).loose) f.base
-          (plain_once d.plans p.empty d.history (ap (λ (e : PlainState). e.loose) f.base) f.stands.plain);
+      once = subst (λ (e : PlainState). StandOnce (plain_of d.plans e d.history).loose) p.base
+          (plain_once d.plans p.empty d.history (ap (λ (e : PlainState). e.loose) p.base) f.stands.plain);
       number_is = of.number;
       many = of.looses ∙ of.tracks;
     }

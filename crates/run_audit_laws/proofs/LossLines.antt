@@ -188,7 +188,7 @@ module _ (s : Subsystem) (plain : ArePlain s.mounted) (n : ℕ) (x : MarksDevice
       let b = record a { history = all_acted x.history acts } in
       let first = at xs n side later a (found_one (devices_of s) n x at_n) a in
       let behind = at xs n side later a (found_one (devices_of s) n x at_n) b in
-      let same_base : plainly.empty ≡ a.empty = plainly.follows.base in
+      let same_base : plainly.empty ≡ a.empty = plainly.base in
       let begins : first ≡ stand s (wanted.FailVolume n side ∷ later) =
       ap (λ (l : List AuditedDevice). record { devices = l; events = wanted.FailVolume n side ∷ later; due = (stand s later).due })
       (ap (λ (d : MarksDevice). with_device xs (audited d)) (sym it_is)

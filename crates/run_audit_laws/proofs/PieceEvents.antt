@@ -227,14 +227,14 @@ module _ (s : Subsystem) (x : MarksDevice) (at : device_in (devices_of s) x.stor
         x.store.half ≡ Some h → PieceGoes s x.store.device w asked (happens_by s (seconds by_plain x))
     seconds_go w asked idle p h there =
         asks_goes w asked idle p (E.ends_by ends.Second (second by_plain x))
-        (second_leads q.number q.empty x q.follows h there w idle (piece_works p))
+        (second_leads q.number q.empty x q.follows q.base h there w idle (piece_works p))
 
     command_goes : (w : EventLine) (asked : Asked) (idle : Happened) → Piece x.store.device w asked idle → MayEnd x.store.device w half.Closed →
         (o : OpenEntry) → x.history.running ≡ Some o → x.store.half ≡ None →
         PieceGoes s x.store.device w asked (happens_by s (Asks x (may_end_by ends.Stepped (command by_plain x))))
     command_goes w asked idle p k o running whole =
         asks_goes w asked idle p (may_end_by ends.Stepped (command by_plain x))
-        (command_leads q.number q.empty x q.follows o running whole w idle k)
+        (command_leads q.number q.empty x q.follows q.base o running whole w idle k)
 
     -- where the device is busy
     step_by : (w : EventLine) (asked : Asked) (idle : Happened) → Piece x.store.device w asked idle → MayEnd x.store.device w half.Closed →
@@ -279,7 +279,7 @@ module _ (s : Subsystem) (x : MarksDevice) (at : device_in (devices_of s) x.stor
           PieceGoes s x.store.device w asked (happens_by s (if is_some h then seconds by_plain x else Asks x (may_end_by ends.Back (background by_plain x))))
       back_by w asked idle p k (Some h) there = seconds_go w asked idle p h there
       back_by w asked idle p k None none =
-          asks_goes w asked idle p (may_end_by ends.Back (background by_plain x)) (backs_lead q.number q.empty x q.follows none alone w idle k)
+          asks_goes w asked idle p (may_end_by ends.Back (background by_plain x)) (backs_lead q.number q.empty x q.follows q.base none alone w idle k)
 
       pub back_goes : (w : EventLine) (asked : Asked) (idle : Happened) → Piece x.store.device w asked idle → IsBack x.store.device w →
           PieceGoes s x.store.device w asked (happens s (events.Back x.store.device))

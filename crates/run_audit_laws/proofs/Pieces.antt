@@ -88,16 +88,17 @@ pub record ComesTo (x y : MarksDevice) (end : Option EventEnd) (w : EventLine) (
   pub number : y.store.device ≡ x.store.device
   pub so : PieceSo x y its w idle
 
-module _ (num : ℕ) (empty : PlainState) (x y : MarksDevice) (f : Follows num empty x) (g : Follows num empty y) where
+module _ (num : ℕ) (empty : PlainState) (x y : MarksDevice) (f : Follows num empty x)
+    (base : empty ≡ (audited x).empty) (g : Follows num empty y) where
   abbrev pub a : AuditedDevice
   a = audited x
 
   pub plainly : IsPlain x.plans (audited x).empty x.history
-  plainly = subst (λ (e : PlainState). IsPlain x.plans e x.history) f.base f.stands.plain
+  plainly = subst (λ (e : PlainState). IsPlain x.plans e x.history) base f.stands.plain
 
   pub plain_behind : (h : HalfWrite) → HasParts x y h → IsPlain x.plans (audited x).empty y.history
   plain_behind h p =
-      subst (λ (e : PlainState). IsPlain x.plans e y.history) f.base
+      subst (λ (e : PlainState). IsPlain x.plans e y.history) base
       (subst (λ (l : Plans). IsPlain l empty y.history) p.plans g.stands.plain)
 
   -- it has tracks
@@ -111,7 +112,7 @@ module _ (num : ℕ) (empty : PlainState) (x y : MarksDevice) (f : Follows num e
       let same : chain.fixed.cylinders ≡ (replay x.plans empty x.history.items).cylinders = ap (λ (k : Fixed). k.cylinders) at.fixed
       ∙ part_fixed o.path (program_of x.plans o.path o.ordinal) o.acts (replay x.plans empty x.history.items) (length o.ends) in
       let cylinders = on.1 in
-      subst (λ (e : PlainState). 0 < (replay x.plans e x.history.items).cylinders) f.base (omega (arith, some, same, cylinders))
+      subst (λ (e : PlainState). 0 < (replay x.plans e x.history.items).cylinders) base (omega (arith, some, same, cylinders))
   some_by o None running is = absurd
       (subst (λ (k : Option ChainState). RunsAt x.plans (replay x.plans empty x.history.items) (Some o) k) is
       (subst (λ (r : Option OpenEntry). RunsAt x.plans (replay x.plans empty x.history.items) r f.before) running f.runs))
@@ -200,7 +201,7 @@ pub record CommandSo (num : ℕ) (empty : PlainState) (x y : MarksDevice) (answe
   pub told : StepTold x.history y.history answer
   pub kept : all_losses y.history ≡ all_losses x.history
 
-module _ (num : ℕ) (empty : PlainState) (x : MarksDevice) (f : Follows num empty x) where
+module _ (num : ℕ) (empty : PlainState) (x : MarksDevice) (f : Follows num empty x) (base : empty ≡ (audited x).empty) where
   -- STEP and RUN, where no half write is open and a program runs
   pub command_so : (o : OpenEntry) → x.history.running ≡ Some o → x.store.half ≡ None →
       Had (command by_plain x) (λ y answer. CommandSo num empty x y answer)
@@ -220,7 +221,7 @@ module _ (num : ℕ) (empty : PlainState) (x : MarksDevice) (f : Follows num emp
     is = refl;
     number = c.left.number;
     so = λ xs later has reads writes.
-        ends_told num empty x y f c.follows o running c.kept w half.Closed k (closed_half whole) c.left xs later has reads writes idle (ends.Stepped (stepped.Ended e)) e refl
+        ends_told num empty x y f base c.follows o running c.kept w half.Closed k (closed_half whole) c.left xs later has reads writes idle (ends.Stepped (stepped.Ended e)) e refl
         c.told;
   }
   command_comes o running whole w idle k y (Some (stepped.Half t)) c = record {
@@ -230,7 +231,7 @@ module _ (num : ℕ) (empty : PlainState) (x : MarksDevice) (f : Follows num emp
     so = λ xs later has reads writes.
         subst (λ (r : Option OpenEntry). Does w xs later
         (device_lines (work_told x.store.device (option_map running_program r) idle (ends.Stepped (stepped.Half t))) reads writes x y) (audited y) false) (sym running)
-        (halved_by num empty x y f c.follows o running c.kept w k (closed_half whole) c.left xs later has reads writes t y.history c.told refl);
+        (halved_by num empty x y f base c.follows o running c.kept w k (closed_half whole) c.left xs later has reads writes t y.history c.told refl);
   }
   command_comes o running whole w idle k y None c = absurd c.left
 
@@ -253,7 +254,7 @@ ends_by_command of_run = run_seconds
 ends_by_command of_back = back_seconds
 ends_by_command of_settle = settle_seconds
 
-module _ (num : ℕ) (empty : PlainState) (x : MarksDevice) (f : Follows num empty x) where
+module _ (num : ℕ) (empty : PlainState) (x : MarksDevice) (f : Follows num empty x) (base : empty ≡ (audited x).empty) where
   pub second_so : (h : store.HalfWrite (Unit {0})) → x.store.half ≡ Some h → Had (second by_plain x) (λ y answer. SecondSo num empty x y h.origin answer)
   second_so h there =
       had_weaker
@@ -271,7 +272,7 @@ module _ (num : ℕ) (empty : PlainState) (x : MarksDevice) (f : Follows num emp
     is = refl;
     number = c.left.parts.number;
     so = λ xs later has reads writes.
-        ends_told num empty x y f c.follows o running c.kept w half.OfCommand (ends_by_command k) (ap half_by there ∙ ap half_of origin) c.left.parts xs later
+        ends_told num empty x y f base c.follows o running c.kept w half.OfCommand (ends_by_command k) (ap half_by there ∙ ap half_of origin) c.left.parts xs later
         has reads writes idle (ends.Second (seconds.Ended e)) e refl c.told;
   }
   ended_comes h there bypass edit origin w idle k None running some y e c = absurd (some_none None some refl)
@@ -291,7 +292,7 @@ module _ (num : ℕ) (empty : PlainState) (x : MarksDevice) (f : Follows num emp
     so = λ xs later has reads writes.
         subst (λ (t : Happened). Does w xs later (device_lines t reads writes x y) (audited y) false) (sym (told (option_map running_program x.history.running)))
         (subst (λ (b : Bool). Does w xs later (device_lines (did.Back x.store.device shown) reads writes x y) (audited y) b) not_last
-        (told_by num empty x y f g kept w shown half.OfBackground xs later has (seconds_by k second_is) (ap half_by there ∙ origin)
+        (told_by num empty x y f base g kept w shown half.OfBackground xs later has (seconds_by k second_is) (ap half_by there ∙ origin)
         (subst (HasParts x y) (sym closed) p) reads writes y.history acted refl));
   }
 
@@ -369,7 +370,7 @@ record BackSo (num : ℕ) (empty : PlainState) (x y : MarksDevice) (answer : Opt
   told : HasActed x.history y.history
   kept : all_losses y.history ≡ all_losses x.history
 
-module _ (num : ℕ) (empty : PlainState) (x : MarksDevice) (f : Follows num empty x) (none : x.store.half ≡ None)
+module _ (num : ℕ) (empty : PlainState) (x : MarksDevice) (f : Follows num empty x) (base : empty ≡ (audited x).empty) (none : x.store.half ≡ None)
     (alone : x.store.paired ≡ false → x.store.b.up ≡ false) where
   back_so : Had (background by_plain x) (λ y answer. BackSo num empty x y answer)
   back_so =
@@ -386,7 +387,7 @@ module _ (num : ℕ) (empty : PlainState) (x : MarksDevice) (f : Follows num emp
     number = c.left.number;
     so = λ xs later has reads writes.
         subst (λ (b : Bool). Does w xs later (device_lines (did.Back x.store.device (back_answer d)) reads writes x y) (audited y) b) (last_is d)
-        (told_by num empty x y f c.follows c.kept w (back_answer d) half.Closed xs later has
+        (told_by num empty x y f base c.follows c.kept w (back_answer d) half.Closed xs later has
         (may_tell xs later (audited x) has w (back_answer d) k (back_line x.store.device d)) (ap half_by none) c.left reads writes y.history c.told refl);
   }
   back_comes w idle k y None c = absurd c.left

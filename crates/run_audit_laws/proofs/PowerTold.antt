@@ -206,19 +206,19 @@ module _ (x y : MarksDevice) (p : Plainly x) (f : Follows p.number p.empty y) (g
 
     taken_of : IsOf (taken (audited x).empty) g.cut
     taken_of =
-        subst (λ (e : PlainState). IsOf (taken e) g.cut) p.follows.base
+        subst (λ (e : PlainState). IsOf (taken e) g.cut) p.base
         (subst (λ (r : Option OpenEntry). IsOf (taken_by p.number p.empty x p.follows r (counts_one_by x.store.half)) g.cut) running g.taken)
 
     taken_once : StandOnce (taken (audited x).empty).loose
     taken_once =
-        subst (λ (e : PlainState). StandOnce (taken e).loose) p.follows.base
+        subst (λ (e : PlainState). StandOnce (taken e).loose) p.base
         (let s = replay x.plans p.empty x.history.items in
         let k = counts_one_by x.store.half in
         let is_open = running_is_open x.plans p.empty x.history p.follows.stands.plain p.follows.stands.due o running in
         part_once s o.path (program_of x.plans o.path o.ordinal) o.acts (length o.ends + k)
         (cut_entry x.plans s x.history.items o is_open k (may p.number p.empty x p.follows o running)).acts
         (items_once x.plans p.empty [] x.history.items
-        (subst (λ (e : PlainState). StandOnce e.loose) (sym p.follows.base) tt) p.follows.stands.plain.legal))
+        (subst (λ (e : PlainState). StandOnce e.loose) (sym p.base) tt) p.follows.stands.plain.legal))
 
     marked : Marked cut x.store
     marked = record {

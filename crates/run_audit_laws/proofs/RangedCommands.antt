@@ -118,16 +118,17 @@ check_end_in ccws i sense good index is = record {
 
 -- By a device's history
 
-module _ (num : ℕ) (empty : PlainState) (x y : MarksDevice) (f : Follows num empty x) (g : Follows num empty y) (o : OpenEntry)
+module _ (num : ℕ) (empty : PlainState) (x y : MarksDevice) (f : Follows num empty x) (base : empty ≡ (audited x).empty)
+    (g : Follows num empty y) (o : OpenEntry)
     (running : x.history.running ≡ Some o) (kept : all_losses y.history ≡ all_losses x.history) (p : HasParts x y half.Closed)
     (words : (path ordinal : ℕ) → GoodWords (program_of x.plans path ordinal)) where
   plain_here : (now : History) → y.history ≡ now → IsPlain x.plans (audited x).empty now
-  plain_here now same = subst (λ (l : History). IsPlain x.plans (audited x).empty l) same (plain_behind num empty x y f g half.Closed p)
+  plain_here now same = subst (λ (l : History). IsPlain x.plans (audited x).empty l) same (plain_behind num empty x y f base g half.Closed p)
 
   state_keeps : KeepsBytes (part_of_open (audited x) o).state
   state_keeps =
       subst (λ (r : Option OpenEntry). KeepsBytes (state_by x.plans (replay x.plans (audited x).empty x.history.items) r)) running
-      (history_keeps x.plans (λ path ordinal. (words path ordinal).gives) (audited x).empty x.history (plainly num empty x y f g)
+      (history_keeps x.plans (λ path ordinal. (words path ordinal).gives) (audited x).empty x.history (plainly num empty x y f base g)
       (empty_keeps x.store.geometry x.store.cylinders))
 
   plain_here_in : (e : CommandEnd) → plain_end (audited x) o ≡ Some e → EndIn e
@@ -139,10 +140,10 @@ module _ (num : ℕ) (empty : PlainState) (x y : MarksDevice) (f : Follows num e
   ended_in : (e : CommandEnd) (now : History) → HasEnded x.history e now → y.history ≡ now → EndIn e
   ended_in e now (ended_so acts) same =
       let none = none_lost x.history y.history acts (ap acts_in same ∙ ended_acts (all_acted x.history acts) e ∙ all_acts acts x.history) kept in
-      let so = ends_so (audited x) (plainly num empty x y f g) o running e acts none (plain_here now same) in
+      let so = ends_so (audited x) (plainly num empty x y f base g) o running e acts none (plain_here now same) in
       plain_here_in e (ends_plain (audited x) o e acts so)
   ended_in e now (checked_so acts) same =
-      let so = checks_so (audited x) (plainly num empty x y f g) acts o running e (plain_here now same) in
+      let so = checks_so (audited x) (plainly num empty x y f base g) acts o running e (plain_here now same) in
       subst EndIn (sym so.is_so)
       (check_end_in (words_of_open (audited x) o) so.plain.index so.sense (words o.path o.ordinal) (plain_here_in so.plain so.is_plain).index so.is_check)
 
@@ -155,19 +156,19 @@ module _ (x : MarksDevice) (p : Plainly x) (words : (path ordinal : ℕ) → Goo
   command_so_in : (o : OpenEntry) → x.history.running ≡ Some o → (y : MarksDevice) (answer : Option Stepped) → CommandSo p.number p.empty x y answer →
       AnswerIn (end_with ends.Stepped answer)
   command_so_in o running y (Some (stepped.Ended e)) c =
-      ended_in p.number p.empty x y p.follows c.follows o running c.kept c.left words e y.history c.told refl
+      ended_in p.number p.empty x y p.follows p.base c.follows o running c.kept c.left words e y.history c.told refl
   command_so_in o running y (Some (stepped.Half t)) c = tt
   command_so_in o running y None c = tt
 
   pub command_in : (o : OpenEntry) → x.history.running ≡ Some o → x.store.half ≡ None →
       Had (may_end_by ends.Stepped (command by_plain x)) (λ y end. IfSome end EventIn)
   command_in o running whole =
-      had_then (command_so p.number p.empty x p.follows o running whole) (λ y answer c. had_done (command_so_in o running y answer c))
+      had_then (command_so p.number p.empty x p.follows p.base o running whole) (λ y answer c. had_done (command_so_in o running y answer c))
 
   second_by : (h : store.HalfWrite (Unit {0})) → x.store.half ≡ Some h → (origin : Origin) → h.origin ≡ origin → (r : Option OpenEntry) →
       x.history.running ≡ r → (y : MarksDevice) (answer : SecondEnd) → SecondSo p.number p.empty x y origin answer → EventIn (ends.Second answer)
   second_by h there origin is (Some o) running y (seconds.Ended e) c =
-      ended_in p.number p.empty x y p.follows c.follows o running c.kept c.left.parts words e y.history c.told refl
+      ended_in p.number p.empty x y p.follows p.base c.follows o running c.kept c.left.parts words e y.history c.told refl
   second_by h there (OfCommand bypass edit) is None running y (seconds.Ended e) c =
       let mid = subst (λ (o : Origin). IsMidOf (core_of x.store) h.track o x.history.running p.follows.before x.chain) is
       (subst (λ (m : Option (store.HalfWrite (Unit {0}))). IsMid (core_of x.store) m x.history.running p.follows.before x.chain) there p.follows.mid) in
@@ -180,5 +181,5 @@ module _ (x : MarksDevice) (p : Plainly x) (words : (path ordinal : ℕ) → Goo
   pub second_in : (h : store.HalfWrite (Unit {0})) → x.store.half ≡ Some h →
       Had (ends_by ends.Second (second by_plain x)) (λ y end. IfSome end EventIn)
   second_in h there =
-      had_then (second_so p.number p.empty x p.follows h there)
+      had_then (second_so p.number p.empty x p.follows p.base h there)
       (λ y answer c. had_done (second_by h there h.origin refl x.history.running refl y answer c))

@@ -252,7 +252,7 @@ all_known (t ∷ ts) r f n m a w =
 
 owner_in : (d : MarksDevice) → Sized d → Plainly d → IfSome d.paths.owner IsOwner
 owner_in d s p =
-    let none = subst KeepsBytes (sym p.follows.base) (empty_keeps d.store.geometry d.store.cylinders) in
+    let none = subst KeepsBytes (sym p.base) (empty_keeps d.store.geometry d.store.cylinders) in
     subst (λ (x : PathsState). IfSome x.owner IsOwner) (sym p.follows.keeps)
     (history_keeps d.plans (λ path ordinal. (s.words path ordinal).gives) p.empty d.history p.follows.stands.plain none).paths.named.owner
 
@@ -268,7 +268,7 @@ both_so : (d : MarksDevice) → Fit d → Plainly d → Ranged d
 both_so d f p = record {
   sized = f.sized;
   follows = p;
-  plain = subst (λ (x : PlainState). IsPlain d.plans x d.history) p.follows.base p.follows.stands.plain;
+  plain = subst (λ (x : PlainState). IsPlain d.plans x d.history) p.base p.follows.stands.plain;
   loose = count_short d p f.sized.cylinders;
   number = number_short d p;
   works = f.works;

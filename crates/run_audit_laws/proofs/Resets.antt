@@ -111,7 +111,7 @@ next_legal x p o running one =
     ∙ legal_by (part_of_open (audited x) o) (edit_of (audited x) o)
     (subst (λ (b : PlainState). MayEdit (open_part x.plans (replay x.plans b x.history.items) o).state
     (open_part x.plans (replay x.plans b x.history.items) o).stance
-    (next_edit o.path (program_of x.plans o.path o.ordinal) (open_part x.plans (replay x.plans b x.history.items) o))) p.follows.base
+    (next_edit o.path (program_of x.plans o.path o.ordinal) (open_part x.plans (replay x.plans b x.history.items) o))) p.base
     (subst (λ (k : ℕ). MayTake x.plans (replay x.plans p.empty x.history.items) o k) one (may p.number p.empty x p.follows o running)))
 
 -- Of a history alone

@@ -145,7 +145,7 @@ module _ (x : MarksDevice) (p : Plainly x) where
   -- what is kept of the paths
   paths_are : (state_of (audited x)).paths ≡ x.paths
   paths_are =
-      ap (λ (e : PlainState). (plain_of x.plans e x.history).paths) (sym p.follows.base) ∙ sym p.follows.keeps
+      ap (λ (e : PlainState). (plain_of x.plans e x.history).paths) (sym p.base) ∙ sym p.follows.keeps
 
   module _ (none : x.history.running ≡ None) where
     count_is : (path : ℕ) → started_count x.history path ≡ count_by (is_of_path path) x.history.items

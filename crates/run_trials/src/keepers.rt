@@ -1,4 +1,6 @@
 ghost use Rattle.std.specs.Prelude.{◌≡◌, ◌*◌, nat_lt};
+ghost use Rattle.device_core.specs.State.{device_of};
+ghost use Rattle.device_defs.specs.Store.{tracks_of};
 
 use crate::subsystem::{subsystem, word};
 use ckd_ccw::Program;
@@ -73,7 +75,7 @@ fn happens(sub: &mut Subsystem<MemVolume>, e: &Event, keep: &mut CountedTells) -
 }
 
 fn has_track(device: &Device<MemVolume>, t: TrackNo) -> bool
-    ensures { result ≡ nat_lt t (device.now.store.cylinders * 15) }
+    ensures { result ≡ nat_lt t (tracks_of (device_of device.now).store) }
 {
     t.get() < u16::from(device.cylinders()) * 15
 }

@@ -24,11 +24,9 @@ use Rattle.duplex_pair.specs.Sides.{volume_of}
 use Rattle.device_store.specs.State.{surely}
 use Rattle.device_core.specs.declared.device.Device.{Device}
 use Rattle.device_core.specs.declared.start.NotStarted.{NotStarted}
-use Rattle.device_core.specs.declared.past.Running.{Running}
 use Rattle.device_core.specs.declared.past.Stepped.{Stepped}
 use Rattle.device_core.specs.declared.second.SecondStep.{SecondStep}
-use Rattle.device_core.specs.Kept.{open_of}
-use Rattle.device_core.specs.State.{DefinedDevice, device_of, second_seen, step_had}
+use Rattle.device_core.specs.State.{DefinedDevice, device_of, last_end, second_seen, step_had}
 use Rattle.subsystem_defs.specs.declared.end.EventEnd as ends_of
 use Rattle.subsystem_defs.specs.declared.end.EventEnd.TheVariants as answers
 use Rattle.subsystem_defs.specs.declared.event.Event.{Event}
@@ -62,15 +60,15 @@ use Rattle.subsystem_core.proofs.Found.{changed_into, number_found, some_same}
 
 -- A program that runs, as it is seen
 
-pub open_none : (r : Option Running) → option_map (λ (o : OpenEntry). o.path) (option_map open_of r) ≡ None → is_some (option_map open_of r) ≡ false
+pub open_none : (r : Option OpenEntry) → option_map (λ (o : OpenEntry). o.path) r ≡ None → is_some r ≡ false
 open_none None is = refl
 open_none (Some r) is = absurd (cc)
 
-pub open_some : (r : Option Running) (p : ℕ) → option_map (λ (o : OpenEntry). o.path) (option_map open_of r) ≡ Some p → is_some (option_map open_of r) ≡ true
+pub open_some : (r : Option OpenEntry) (p : ℕ) → option_map (λ (o : OpenEntry). o.path) r ≡ Some p → is_some r ≡ true
 open_some None p is = absurd (cc)
 open_some (Some r) p is = refl
 
-pub runs : (r : Option Running) (p : ℕ) → option_map (λ (o : OpenEntry). o.path) (option_map open_of r) ≡ Some p → IsSome r
+pub runs : (r : Option OpenEntry) (p : ℕ) → option_map (λ (o : OpenEntry). o.path) r ≡ Some p → IsSome r
 runs None p is = absurd (cc)
 runs (Some r) p is = refl
 
@@ -98,12 +96,12 @@ module _ {V : Type 0} {G : Ghosts V} {K : Type 0} {hears : Hearing Image K} {k l
   -- What a device ran, as the event's end
 
   step_ends : (talk : Talk (Option defs.Stepped)) (pool new : Shared) (x y : Device V G) (s : Stepped) →
-      AskedKept hears (where_ok {E = NoMemory} (Ok s)) talk (step_had {E = NoMemory} y.past (Ok s)) pool k x y new l →
-      AskedKept hears surely (may_end_by answers.Stepped talk) (end_had y.past (Some (ends.Stepped s))) pool k x y new l
+      AskedKept hears (where_ok {E = NoMemory} (Ok s)) talk (step_had {E = NoMemory} (last_end y) (Ok s)) pool k x y new l →
+      AskedKept hears surely (may_end_by answers.Stepped talk) (end_had (last_end y) (Some (ends.Stepped s))) pool k x y new l
   step_ends talk pool new x y s ran = joined _ (ran_weaker (λ ok h. h) ran) done
 
   step_lacks : (e : NoMemory) (talk : Talk (Option defs.Stepped)) (pool new : Shared) (x y : Device V G) →
-      AskedKept hears (where_ok {X = Stepped} (Err e)) talk (step_had y.past (Err e)) pool k x y new l →
+      AskedKept hears (where_ok {X = Stepped} (Err e)) talk (step_had (last_end y) (Err e)) pool k x y new l →
       AskedKept hears (λ ok. Unit {0}) (may_end_by answers.Stepped talk) None pool k x y new l
   step_lacks e talk pool new x y ran = joined _ (ran_weaker (λ ok h. tt) ran) done
 
@@ -168,25 +166,25 @@ module _ {V : Type 0} {G : Ghosts V} where
     pub commanded : (n : ℕ) (x : Device V G) (how : DefinedDevice → Talk (Option defs.Stepped)) (s : Stepped) →
         device_at old.devices.items n ≡ Some x →
         deed contents old.pool.pool (devices_of old.devices.items) e ≡ Asks (device_of x) (may_end_by answers.Stepped (how (device_of x))) →
-        Changes n (λ a y. AskedKept hears (where_ok {E = NoMemory} (Ok s)) (how (device_of a)) (step_had {E = NoMemory} y.past (Ok s)) old.pool k a y
+        Changes n (λ a y. AskedKept hears (where_ok {E = NoMemory} (Ok s)) (how (device_of a)) (step_had {E = NoMemory} (last_end y) (Ok s)) old.pool k a y
         new.pool l)
         old.devices.items new.devices.items →
         CameKept hears e old k (Some (ends.Stepped s)) new l
     commanded n x how s found is ch =
         asked_one n x (Some (ends.Stepped s)) (may_end_by answers.Stepped (how (device_of x)))
-        (λ a y. AskedKept hears (where_ok {E = NoMemory} (Ok s)) (how (device_of a)) (step_had {E = NoMemory} y.past (Ok s)) old.pool k a y new.pool l)
+        (λ a y. AskedKept hears (where_ok {E = NoMemory} (Ok s)) (how (device_of a)) (step_had {E = NoMemory} (last_end y) (Ok s)) old.pool k a y new.pool l)
         found is
         (λ y ran. step_ends (how (device_of x)) old.pool new.pool x y s ran) ch
 
     pub command_lacked : (n : ℕ) (x : Device V G) (how : DefinedDevice → Talk (Option defs.Stepped)) (lack : NoMemory) →
         device_at old.devices.items n ≡ Some x →
         deed contents old.pool.pool (devices_of old.devices.items) e ≡ Asks (device_of x) (may_end_by answers.Stepped (how (device_of x))) →
-        Changes n (λ a y. AskedKept hears (where_ok {X = Stepped} (Err lack)) (how (device_of a)) (step_had y.past (Err lack)) old.pool k a y new.pool l)
+        Changes n (λ a y. AskedKept hears (where_ok {X = Stepped} (Err lack)) (how (device_of a)) (step_had (last_end y) (Err lack)) old.pool k a y new.pool l)
         old.devices.items new.devices.items →
         CameKept hears e old k None new l
     command_lacked n x how lack found is ch =
         asked_one n x None (may_end_by answers.Stepped (how (device_of x)))
-        (λ a y. AskedKept hears (where_ok {X = Stepped} (Err lack)) (how (device_of a)) (step_had y.past (Err lack)) old.pool k a y new.pool l) found is
+        (λ a y. AskedKept hears (where_ok {X = Stepped} (Err lack)) (how (device_of a)) (step_had (last_end y) (Err lack)) old.pool k a y new.pool l) found is
         (λ y ran. step_lacks lack (how (device_of x)) old.pool new.pool x y ran) ch
 
     pub worked : (n : ℕ) (x : Device V G) (how : DefinedDevice → Talk (Option Did)) (did : Did) →
@@ -223,15 +221,15 @@ module _ {V : Type 0} {G : Ghosts V} where
 
     pub seconded : (n : ℕ) (x : Device V G) (how : DefinedDevice → Talk SecondEnd) (s : SecondStep) → device_at old.devices.items n ≡ Some x →
         deed contents old.pool.pool (devices_of old.devices.items) e ≡ Asks (device_of x) (ends_by answers.Second (how (device_of x))) →
-        Changes n (λ a y. IsSome (second_seen y.past s) × ((z : SecondEnd) → second_seen y.past s ≡ Some z → AskedKept hears surely (how
+        Changes n (λ a y. IsSome (second_seen (last_end y) s) × ((z : SecondEnd) → second_seen (last_end y) s ≡ Some z → AskedKept hears surely (how
         (device_of a)) z old.pool k a y new.pool l))
         old.devices.items new.devices.items →
         CameKept hears e old k (Some (ends.Second s)) new l
     seconded n x how s found is ch =
         asked_one n x (Some (ends.Second s)) (ends_by answers.Second (how (device_of x)))
-        (λ a y. IsSome (second_seen y.past s) × ((z : SecondEnd) → second_seen y.past s ≡ Some z → AskedKept hears surely (how
+        (λ a y. IsSome (second_seen (last_end y) s) × ((z : SecondEnd) → second_seen (last_end y) s ≡ Some z → AskedKept hears surely (how
         (device_of a)) z old.pool k a y new.pool l))
-        found is (λ y ran. second_by (how (device_of x)) old.pool new.pool x y (second_seen y.past s) ran.0 ran.1) ch
+        found is (λ y ran. second_by (how (device_of x)) old.pool new.pool x y (second_seen (last_end y) s) ran.0 ran.1) ch
 
     -- all devices
     pub all_swept : (p : Pool) (f : DefinedDevice → Talk (Unit {0})) (q : Shared) → deed contents old.pool.pool (devices_of old.devices.items) e ≡ Each p f →

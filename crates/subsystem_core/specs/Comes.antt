@@ -14,10 +14,9 @@ use Rattle.frame_pool.specs.Shared.{Shared, shared_view}
 use Rattle.device_defs.specs.Contents.{contents}
 use Rattle.device_defs.specs.Orders.{join, lend, replace, restore, split}
 use Rattle.device_defs.specs.Start.{start, next_ordinal}
-use Rattle.device_store.specs.State.{on_a, on_b, outside, surely}
-use Rattle.duplex_pair.specs.Sides.{other_of, volume_of}
+use Rattle.device_store.specs.State.{surely}
 use Rattle.device_core.specs.declared.device.Device.{Device}
-use Rattle.device_core.specs.State.{DefinedDevice, device_of}
+use Rattle.device_core.specs.State.{DefinedDevice, around, device_of, last_end, other_volume, own_volumes, side_volume, volume_a, volume_b}
 use Rattle.subsystem_defs.specs.declared.end.EventEnd as defs
 use Rattle.subsystem_defs.specs.declared.end.EventEnd.TheVariants.{Done, Refused}
 use Rattle.subsystem_defs.specs.declared.end.OrderFault.{OrderFault}
@@ -46,7 +45,7 @@ module _ {V : Type 0} {G : Ghosts V} where
   -- a device ran this between what the pool tells, its volumes tell and a keeper hears
   abbrev pub AskedKept : {K A : Type 0} → Hearing Image K → (Bool → Type 0) → Talk A → A → Shared → K → Device V G → Device V G → Shared → K → Type 0
   AskedKept hears had talk answer pool keep before behind new kept =
-      Ran had hears talk (outside (shared_view pool) before.store keep) (device_of behind) answer (outside (shared_view new) behind.store kept)
+      Ran had hears talk (around (shared_view pool) before keep) (device_of behind) answer (around (shared_view new) behind kept)
 
   -- the same with a keeper that keeps nothing
   abbrev pub AskedWith : {A : Type 0} → (Bool → Type 0) → Talk A → A → Shared → Device V G → Device V G → Shared → Type 0
@@ -62,7 +61,7 @@ module _ {V : Type 0} {G : Ghosts V} where
 
   -- it is this device now, on the same volumes
   abbrev pub IsNow : DefinedDevice → Device V G → Device V G → Type 0
-  IsNow d before behind = (device_of behind ≡ d) × (behind.store.pair.volumes ≡ before.store.pair.volumes)
+  IsNow d before behind = (device_of behind ≡ d) × (own_volumes behind ≡ own_volumes before)
 
   abbrev pub IsStill : Device V G → Device V G → Type 0
   IsStill before behind = IsNow (device_of before) before behind
@@ -107,10 +106,10 @@ module _ {V : Type 0} {G : Ghosts V} where
   abbrev pub AskedKeptBy : {K : Type 0} → Hearing Image K → Talk (Option defs.EventEnd) → Subsystem V G → K → Option EventEnd → Subsystem V G → K →
       Device V G → Device V G → Type 0
   AskedKeptBy hears talk old keep a new kept before behind =
-      AskedKept hears (where_some a) talk (end_had behind.past a) old.pool keep before behind new.pool kept
+      AskedKept hears (where_some a) talk (end_had (last_end behind) a) old.pool keep before behind new.pool kept
 
   abbrev pub AskedBy : Talk (Option defs.EventEnd) → Subsystem V G → Option EventEnd → Subsystem V G → Device V G → Device V G → Type 0
-  AskedBy talk old a new before behind = AskedWith (where_some a) talk (end_had behind.past a) old.pool before behind new.pool
+  AskedBy talk old a new before behind = AskedWith (where_some a) talk (end_had (last_end behind) a) old.pool before behind new.pool
 
   -- the device of that number lends its volume, of which no keeper hears, and it becomes side B of the other
   pub record JoinsKept {K : Type 0} (hears : Hearing Image K) (to from : ℕ) (y : DefinedDevice) (old new : Subsystem V G) : Type 0 where
@@ -120,13 +119,13 @@ module _ {V : Type 0} {G : Ghosts V} where
     pub second : Device V G
     pub volume : V
     pub stood : device_at old.devices.items from ≡ Some before
-    pub asked : (k : K) → Ran surely hears (lend contents y to) (outside (shared_view old.pool) before.store k) (device_of behind) tt
-        (record (outside (shared_view new.pool) behind.store k) { a = Some (G.view volume) })
-    pub gone : on_a behind.store ≡ None
+    pub asked : (k : K) → Ran surely hears (lend contents y to) (around (shared_view old.pool) before k) (device_of behind) tt
+        (record (around (shared_view new.pool) behind k) { a = Some (G.view volume) })
+    pub gone : volume_a behind ≡ None
     pub other : device_at (put_at old.devices.items from behind) to ≡ Some first
     pub joined : device_of second ≡ join (device_of first)
-    pub a : on_a second.store ≡ on_a first.store
-    pub b : on_b second.store ≡ Some volume
+    pub a : volume_a second ≡ volume_a first
+    pub b : volume_b second ≡ Some volume
     pub stands : new.devices.items ≡ put_at (put_at old.devices.items from behind) to second
 
   abbrev pub Joins : ℕ → ℕ → DefinedDevice → Subsystem V G → Subsystem V G → Type 0
@@ -161,8 +160,8 @@ module _ {V : Type 0} {G : Ghosts V} where
 
   abbrev pub IsReplaced : Side → V → Device V G → Device V G → Type 0
   IsReplaced side volume before behind =
-      (device_of behind ≡ replace (device_of before) side) × (volume_of behind.store.pair.volumes side ≡ Some volume)
-      × (other_of behind.store.pair.volumes side ≡ other_of before.store.pair.volumes side)
+      (device_of behind ≡ replace (device_of before) side) × (side_volume behind side ≡ Some volume)
+      × (other_volume behind side ≡ other_volume before side)
 
   -- refused, it drops the volume
   abbrev pub ReplacedBy : ℕ → Side → V → Option OrderFault → Subsystem V G → EventEnd → Subsystem V G → Type 0
@@ -182,21 +181,21 @@ module _ {V : Type 0} {G : Ghosts V} where
   -- side B has left
   pub record IsSplit (before behind : Device V G) : Type 0 where
     pub device : device_of behind ≡ split (device_of before)
-    pub a : on_a behind.store ≡ on_a before.store
-    pub b : on_b behind.store ≡ None
+    pub a : volume_a behind ≡ volume_a before
+    pub b : volume_b behind ≡ None
 
   -- a device that was lent has this volume, and is empty
   pub record IsRestored (volume : V) (before behind : Device V G) : Type 0 where
     pub device : device_of behind ≡ restore (device_of before)
-    pub a : on_a behind.store ≡ Some volume
-    pub b : on_b behind.store ≡ on_b before.store
+    pub a : volume_a behind ≡ Some volume
+    pub b : volume_b behind ≡ volume_b before
 
   -- the first device that was lent to this one has the volume; where none was, it is dropped
   pub data Restored (n : ℕ) (volume : V) : List (Device V G) → List (Device V G) → Type 0 where
     none_was_lent : Restored n volume [] []
-    this_was_lent : {x y : Device V G} {xs : List (Device V G)} → is_lent_to x.store.pair.lent n ≡ true → IsRestored volume x y →
+    this_was_lent : {x y : Device V G} {xs : List (Device V G)} → is_lent_to (device_of x).store.lent n ≡ true → IsRestored volume x y →
         Restored n volume (x ∷ xs) (y ∷ xs)
-    another_was_lent : {x : Device V G} {xs ys : List (Device V G)} → is_lent_to x.store.pair.lent n ≡ false → Restored n volume xs ys →
+    another_was_lent : {x : Device V G} {xs ys : List (Device V G)} → is_lent_to (device_of x).store.lent n ≡ false → Restored n volume xs ys →
         Restored n volume (x ∷ xs) (x ∷ ys)
 
   -- side B leaves the one, and the other has a volume again

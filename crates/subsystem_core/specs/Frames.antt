@@ -8,7 +8,7 @@ use Rattle.device_outside.specs.Outside.{where_ok}
 use Rattle.device_defs.specs.Contents.{contents}
 use Rattle.device_defs.specs.Peek.{peek}
 use Rattle.device_store.specs.declared.store.Peeked.{Peeked}
-use Rattle.device_store.specs.State.{had, state_of}
+use Rattle.device_store.specs.State.{had}
 use Rattle.device_store.specs.Looks.{IsPeeked, peeked_by}
 use Rattle.device_core.specs.State.{device_of}
 use Rattle.subsystem_core.specs.declared.subsystem.Subsystem.{Subsystem}
@@ -33,12 +33,12 @@ module _ {V : Type 0} {G : Ghosts V} where
   abbrev pub LooksAt : {K E : Type 0} → Hearing Image K → ℕ → ℕ → Result Peeked E → Subsystem V G → K → Subsystem V G → K → Type 0
   LooksAt hears d t result old before new behind =
       Changes d
-      (λ x y. IfOk result (IsPeeked (state_of y.store) t) × AskedKept hears (where_ok result) (peek contents (device_of x) t)
-      (had (peeked_by (state_of y.store) t) result) old.pool before x y new.pool behind) old.devices.items new.devices.items
+      (λ x y. IfOk result (IsPeeked (device_of y).store t) × AskedKept hears (where_ok result) (peek contents (device_of x) t)
+      (had (peeked_by (device_of y).store t) result) old.pool before x y new.pool behind) old.devices.items new.devices.items
 
   -- the same with a keeper that keeps nothing
   abbrev pub LooksAlone : {E : Type 0} → ℕ → ℕ → Result Peeked E → Subsystem V G → Subsystem V G → Type 0
   LooksAlone d t result old new =
       Changes d
-      (λ x y. IfOk result (IsPeeked (state_of y.store) t) × AskedWith (where_ok result) (peek contents (device_of x) t)
-      (had (peeked_by (state_of y.store) t) result) old.pool x y new.pool) old.devices.items new.devices.items
+      (λ x y. IfOk result (IsPeeked (device_of y).store t) × AskedWith (where_ok result) (peek contents (device_of x) t)
+      (had (peeked_by (device_of y).store t) result) old.pool x y new.pool) old.devices.items new.devices.items

@@ -1,12 +1,12 @@
 -- What a keeper may be told of a subsystem.
-use Rattle.std.specs.Prelude.{◌≡◌, ℕ, ◌*◌, List, map, All}
+use Rattle.std.specs.Prelude.{◌≡◌, ℕ, List, map, All}
 use Rattle.ckd_types.specs.declared.geometry.Geometry.{Geometry}
 use Rattle.track_image.specs.Image.{Image}
 use Rattle.device_outside.specs.declared.keep.NoKeep.{NoKeep}
 use Rattle.device_outside.specs.declared.volume.Volume.{Ghosts}
 use Rattle.device_outside.specs.Keeper.{Hearing, reply}
-use Rattle.device_store.specs.State.{Takes}
 use Rattle.device_core.specs.declared.device.Device.{Device}
+use Rattle.device_core.specs.State.{device_of, TakesItsTracks}
 
 -- a keeper that keeps nothing, and never lacks memory
 abbrev pub hears_none : Hearing Image NoKeep
@@ -20,11 +20,11 @@ pub record Span : Type 0 where
 
 module _ {V : Type 0} {G : Ghosts V} where
   abbrev pub span_of : Device V G → Span
-  span_of d = record { number = d.store.number; geometry = d.store.geometry; cylinders = d.store.cylinders }
+  span_of d = record { number = (device_of d).store.device; geometry = (device_of d).store.geometry; cylinders = (device_of d).store.cylinders }
 
   abbrev pub spans_of : List (Device V G) → List Span
   spans_of ds = map span_of ds
 
   -- a keeper may be told each image of a track of one of these devices that fits there
   abbrev pub TakesAll : {K : Type 0} → (K → ℕ → ℕ → Image → Type 0) → K → List (Device V G) → Type 0
-  TakesAll takes keeper ds = All (λ (d : Device V G). Takes takes keeper d.store.number d.store.geometry (d.store.cylinders * 15)) ds
+  TakesAll takes keeper ds = All (λ (d : Device V G). TakesItsTracks takes keeper d) ds

@@ -2,6 +2,7 @@
 use Rattle.std.specs.Prelude.{◌≡◌, ℕ, ◌==◌, List, [], ◌∷◌, Option, Some, None, map, slice_get, if◌then◌else◌}
 use Rattle.device_outside.specs.declared.volume.Volume.{Ghosts}
 use Rattle.device_core.specs.declared.device.Device.{Device}
+use Rattle.device_core.specs.State.{device_of}
 
 pub record Seat : Type 0 where
   pub number : ℕ
@@ -10,7 +11,7 @@ pub record Seat : Type 0 where
 
 module _ {V : Type 0} {G : Ghosts V} where
   abbrev pub seat_of : Device V G → Seat
-  seat_of d = record { number = d.store.number; cylinders = d.store.cylinders; lent = d.store.pair.lent }
+  seat_of d = record { number = (device_of d).store.device; cylinders = (device_of d).store.cylinders; lent = (device_of d).store.lent }
 
   abbrev pub seats_of : List (Device V G) → List Seat
   seats_of ds = map seat_of ds

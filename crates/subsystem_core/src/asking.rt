@@ -10,7 +10,8 @@ ghost use Rattle.device_defs.specs.Events.{background, lose, second};
 ghost use Rattle.device_defs.specs.Start.{start_fault};
 ghost use Rattle.device_store.specs.State.{had, surely, Takes};
 ghost use Rattle.device_core.specs.Starting.{fault_told};
-ghost use Rattle.device_core.specs.State.{device_of, second_seen, step_had};
+ghost use Rattle.device_core.specs.State.{device_of, last_end, second_seen, step_had, TakesItsTracks};
+ghost use Rattle.device_defs.specs.Store.{tracks_of};
 ghost use Rattle.subsystem_core.specs.Comes.{AskedKept, Changes, StartsBy};
 ghost use Rattle.subsystem_core.specs.Devices.{device_at};
 ghost use Rattle.subsystem_core.specs.Frames.{HasDevice, HasSameSpans, LooksAt};
@@ -58,11 +59,11 @@ impl<V: Volume> Subsystem<V> {
         keep: &mut K,
     ) -> Result<Stepped, NoMemory>
         requires here { HasDevice self.old d }
-        requires running { IfSome (device_at self.old.devices.items d) (λ x. IsSome x.past.running) }
+        requires running { IfSome (device_at self.old.devices.items d) (λ x. IsSome (device_of x).history.running) }
         requires whole { IfSome (device_at self.old.devices.items d) (λ x. is_some (device_of x).store.half ≡ false) }
-        requires takes { IfSome (device_at self.old.devices.items d) (λ x. Takes K.takes keep.old x.store.number x.store.geometry (x.store.cylinders * 15)) }
+        requires takes { IfSome (device_at self.old.devices.items d) (λ x. TakesItsTracks K.takes keep.old x) }
         ensures spans { HasSameSpans self.old self.new }
-        ensures asked { Changes d (λ x y. AskedKept (Heard K.hears K.takes) (where_ok result) (command contents (device_of x)) (step_had y.past result)
+        ensures asked { Changes d (λ x y. AskedKept (Heard K.hears K.takes) (where_ok result) (command contents (device_of x)) (step_had (last_end y) result)
             self.old.pool keep.old x y self.new.pool keep.new) self.old.devices.items self.new.devices.items }
     {
         let at = self.place(d);
@@ -71,10 +72,10 @@ impl<V: Volume> Subsystem<V> {
 
     pub(crate) fn second_at<K: Keep<TrackImage>>(&mut self, d: DeviceNo, keep: &mut K) -> SecondStep
         requires here { HasDevice self.old d }
-        requires takes { IfSome (device_at self.old.devices.items d) (λ x. Takes K.takes keep.old x.store.number x.store.geometry (x.store.cylinders * 15)) }
+        requires takes { IfSome (device_at self.old.devices.items d) (λ x. TakesItsTracks K.takes keep.old x) }
         ensures spans { HasSameSpans self.old self.new }
-        ensures asked { Changes d (λ x y. IsSome (second_seen y.past result)
-            × ((e : SecondEnd) → second_seen y.past result ≡ Some e
+        ensures asked { Changes d (λ x y. IsSome (second_seen (last_end y) result)
+            × ((e : SecondEnd) → second_seen (last_end y) result ≡ Some e
             → AskedKept (Heard K.hears K.takes) surely (second contents (device_of x)) e self.old.pool keep.old x y self.new.pool keep.new))
             self.old.devices.items self.new.devices.items }
     {
@@ -89,7 +90,7 @@ impl<V: Volume> Subsystem<V> {
     ) -> Result<Did, NoMemory>
         requires whole { IfSome (device_at self.old.devices.items d) (λ x. is_some (device_of x).store.half ≡ false) }
         requires here { HasDevice self.old d }
-        requires takes { IfSome (device_at self.old.devices.items d) (λ x. Takes K.takes keep.old x.store.number x.store.geometry (x.store.cylinders * 15)) }
+        requires takes { IfSome (device_at self.old.devices.items d) (λ x. TakesItsTracks K.takes keep.old x) }
         ensures spans { HasSameSpans self.old self.new }
         ensures asked { Changes d (λ x y. AskedKept (Heard K.hears K.takes) (where_ok result) (background contents (device_of x)) (had (λ did. did) result)
             self.old.pool keep.old x y self.new.pool keep.new) self.old.devices.items self.new.devices.items }
@@ -100,7 +101,7 @@ impl<V: Volume> Subsystem<V> {
 
     pub(crate) fn reset_at<K: Keep<TrackImage>>(&mut self, path: PathNo, d: DeviceNo, keep: &mut K)
         requires here { HasDevice self.old d }
-        requires takes { IfSome (device_at self.old.devices.items d) (λ x. Takes K.takes keep.old x.store.number x.store.geometry (x.store.cylinders * 15)) }
+        requires takes { IfSome (device_at self.old.devices.items d) (λ x. TakesItsTracks K.takes keep.old x) }
         ensures spans { HasSameSpans self.old self.new }
         ensures asked { Changes d (λ x y. AskedKept (Heard K.hears K.takes) surely (reset contents (device_of x) path) tt self.old.pool keep.old x y
             self.new.pool keep.new) self.old.devices.items self.new.devices.items }
@@ -111,7 +112,7 @@ impl<V: Volume> Subsystem<V> {
 
     pub(crate) fn lose_at<K: Keep<TrackImage>>(&mut self, d: DeviceNo, loss: Loss, keep: &mut K)
         requires here { HasDevice self.old d }
-        requires takes { IfSome (device_at self.old.devices.items d) (λ x. Takes K.takes keep.old x.store.number x.store.geometry (x.store.cylinders * 15)) }
+        requires takes { IfSome (device_at self.old.devices.items d) (λ x. TakesItsTracks K.takes keep.old x) }
         ensures spans { HasSameSpans self.old self.new }
         ensures asked { Changes d (λ x y. AskedKept (Heard K.hears K.takes) surely (lose contents (device_of x) loss) tt self.old.pool keep.old x y
             self.new.pool keep.new) self.old.devices.items self.new.devices.items }
@@ -127,8 +128,8 @@ impl<V: Volume> Subsystem<V> {
         keep: &mut K,
     ) -> Result<Peeked, NoMemory>
         requires here { HasDevice self.old d }
-        requires track { IfSome (device_at self.old.devices.items d) (λ x. t < x.store.cylinders * 15) }
-        requires takes { IfSome (device_at self.old.devices.items d) (λ x. Takes K.takes keep.old x.store.number x.store.geometry (x.store.cylinders * 15)) }
+        requires track { IfSome (device_at self.old.devices.items d) (λ x. t < tracks_of (device_of x).store) }
+        requires takes { IfSome (device_at self.old.devices.items d) (λ x. TakesItsTracks K.takes keep.old x) }
         ensures spans { HasSameSpans self.old self.new }
         ensures asked { LooksAt (Heard K.hears K.takes) d t result self.old keep.old self.new keep.new }
     {

@@ -2,7 +2,7 @@ ghost use Rattle.std.specs.Prelude.{◌≡◌, ◌*◌, IfSome, Some};
 ghost use Rattle.plain_defs.specs.History.{is_path_of};
 ghost use Rattle.device_outside.specs.Keeper.{Heard};
 ghost use Rattle.device_store.specs.State.{Takes};
-ghost use Rattle.device_core.specs.State.{device_of};
+ghost use Rattle.device_core.specs.State.{device_of, TakesItsTracks};
 ghost use Rattle.subsystem_core.specs.Comes.{CameKept};
 ghost use Rattle.subsystem_core.specs.Devices.{device_at};
 ghost use Rattle.subsystem_core.specs.Ends.{answer_of};
@@ -60,7 +60,7 @@ impl<V: Volume> Subsystem<V> {
         keep: &mut K,
     ) -> Result<EventEnd, NoMemory>
         requires here { HasDevice self.old d }
-        requires takes { IfSome (device_at self.old.devices.items d) (λ x. Takes K.takes keep.old x.store.number x.store.geometry (x.store.cylinders * 15)) }
+        requires takes { IfSome (device_at self.old.devices.items d) (λ x. TakesItsTracks K.takes keep.old x) }
         ensures spans { HasSameSpans self.old self.new }
         ensures came { CameKept (Heard K.hears K.takes) (Event.Step d) self.old keep.old (answer_of result) self.new keep.new }
     {
@@ -85,7 +85,7 @@ impl<V: Volume> Subsystem<V> {
         keep: &mut K,
     ) -> Result<EventEnd, NoMemory>
         requires here { HasDevice self.old d }
-        requires takes { IfSome (device_at self.old.devices.items d) (λ x. Takes K.takes keep.old x.store.number x.store.geometry (x.store.cylinders * 15)) }
+        requires takes { IfSome (device_at self.old.devices.items d) (λ x. TakesItsTracks K.takes keep.old x) }
         ensures spans { HasSameSpans self.old self.new }
         ensures came { CameKept (Heard K.hears K.takes) (Event.Back d) self.old keep.old (answer_of result) self.new keep.new }
     {
@@ -106,7 +106,7 @@ impl<V: Volume> Subsystem<V> {
         keep: &mut K,
     ) -> EventEnd
         requires here { HasDevice self.old d }
-        requires takes { IfSome (device_at self.old.devices.items d) (λ x. Takes K.takes keep.old x.store.number x.store.geometry (x.store.cylinders * 15)) }
+        requires takes { IfSome (device_at self.old.devices.items d) (λ x. TakesItsTracks K.takes keep.old x) }
         ensures spans { HasSameSpans self.old self.new }
         ensures came { CameKept (Heard K.hears K.takes) (Event.Reset path d) self.old keep.old (Some result) self.new keep.new }
     {
@@ -122,7 +122,7 @@ impl<V: Volume> Subsystem<V> {
         keep: &mut K,
     ) -> EventEnd
         requires here { HasDevice self.old d }
-        requires takes { IfSome (device_at self.old.devices.items d) (λ x. Takes K.takes keep.old x.store.number x.store.geometry (x.store.cylinders * 15)) }
+        requires takes { IfSome (device_at self.old.devices.items d) (λ x. TakesItsTracks K.takes keep.old x) }
         ensures spans { HasSameSpans self.old self.new }
         ensures came { CameKept (Heard K.hears K.takes) (Event.FailVolume d side) self.old keep.old (Some result) self.new keep.new }
     {

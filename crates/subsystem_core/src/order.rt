@@ -1,6 +1,7 @@
 ghost use Rattle.std.specs.Prelude.{◌≡◌, ◌*◌, IfOk, IfSome, IsOk, None};
 ghost use Rattle.device_defs.specs.Orders.{hold_side, resume};
 ghost use Rattle.device_core.specs.State.{device_of};
+ghost use Rattle.device_defs.specs.Store.{tracks_of};
 ghost use Rattle.subsystem_defs.specs.Refusals.{replace_fault};
 ghost use Rattle.subsystem_core.specs.Comes.{Changes, IsNow, IsReplaced, Replaced};
 ghost use Rattle.subsystem_core.specs.Devices.{device_at};
@@ -16,7 +17,7 @@ impl<V: Volume> Subsystem<V> {
     fn replace_at(&mut self, d: DeviceNo, side: Side, volume: V)
         requires here { HasDevice self.old d }
         requires fine { IfSome (device_at self.old.devices.items d) (λ x. replace_fault (device_of x) side ≡ None) }
-        requires size { IfSome (device_at self.old.devices.items d) (λ x. (V.view volume).tracks ≡ x.store.cylinders * 15) }
+        requires size { IfSome (device_at self.old.devices.items d) (λ x. (V.view volume).tracks ≡ tracks_of (device_of x).store) }
         ensures numbers { HasSameDevices self.old self.new }
         ensures pool { self.new.pool ≡ self.old.pool }
         ensures replaced { Changes d (IsReplaced side volume) self.old.devices.items self.new.devices.items }
@@ -50,7 +51,7 @@ impl<V: Volume> Subsystem<V> {
     /// A new volume of empty tracks, 15 for each cylinder, in place of a failed side's. Takes no memory, so that it is always had.
     pub fn replace(&mut self, d: DeviceNo, side: Side, volume: V) -> Result<EventEnd, (NoMemory, V)>
         requires here { HasDevice self.old d }
-        requires size { IfSome (device_at self.old.devices.items d) (λ x. (V.view volume).tracks ≡ x.store.cylinders * 15) }
+        requires size { IfSome (device_at self.old.devices.items d) (λ x. (V.view volume).tracks ≡ tracks_of (device_of x).store) }
         ensures numbers { HasSameDevices self.old self.new }
         ensures had { IsOk result }
         ensures replaced { IfOk result (λ end. Replaced d side volume (device_at self.old.devices.items d) self.old end self.new) }

@@ -1,6 +1,7 @@
 ghost use Rattle.std.specs.Prelude.{◌≡◌, ◌*◌, IfErr, IfOk, IfSome, None, OnErr, OnOk, Some, false, is_some};
 ghost use Rattle.device_outside.specs.Keeper.{Heard};
 ghost use Rattle.device_core.specs.State.{device_of};
+ghost use Rattle.device_defs.specs.Store.{tracks_of};
 ghost use Rattle.subsystem_defs.specs.Happening.{is_lent_to};
 ghost use Rattle.subsystem_core.specs.Comes.{AreStill, CameKept, Changes, IsSplit, JoinsKept, Restored, Unpaired};
 ghost use Rattle.subsystem_core.specs.Devices.{device_at};
@@ -17,7 +18,7 @@ use subsystem_defs::{Event, OrderFault};
 use track_image::TrackImage;
 
 fn is_lent_to<V: Volume>(device: &Device<V>, a: DeviceNo) -> bool
-    ensures { result ≡ is_lent_to device.now.store.pair.lent a }
+    ensures { result ≡ is_lent_to (device_of device.now).store.lent a }
 {
     match device.lent_to() {
         Some(to) => to == a,
@@ -64,7 +65,7 @@ impl<V: Volume> Subsystem<V> {
     fn join_at(&mut self, d: DeviceNo, volume: V)
         requires here { HasDevice self.old d }
         requires free { IfSome (device_at self.old.devices.items d) (λ x. is_some (device_of x).store.lent ≡ false) }
-        requires size { IfSome (device_at self.old.devices.items d) (λ x. (V.view volume).tracks ≡ x.store.cylinders * 15) }
+        requires size { IfSome (device_at self.old.devices.items d) (λ x. (V.view volume).tracks ≡ tracks_of (device_of x).store) }
         ensures spans { HasSameSpans self.old self.new }
         ensures pool { self.new.pool ≡ self.old.pool }
         ensures joined { Changes d (IsJoined volume) self.old.devices.items self.new.devices.items }
@@ -153,7 +154,7 @@ impl<V: Volume> Subsystem<V> {
     /// cylinder, and is empty. Refused, it drops the volume; where memory is lacking, nothing is changed and the volume comes back.
     pub fn unpair(&mut self, a: DeviceNo, volume: V) -> Result<EventEnd, (NoMemory, V)>
         requires here { HasDevice self.old a }
-        requires size { IfSome (device_at self.old.devices.items a) (λ x. (V.view volume).tracks ≡ x.store.cylinders * 15) }
+        requires size { IfSome (device_at self.old.devices.items a) (λ x. (V.view volume).tracks ≡ tracks_of (device_of x).store) }
         ensures numbers { HasSameDevices self.old self.new }
         ensures unpaired { IfOk result (λ end. Unpaired a volume (device_at self.old.devices.items a) self.old end self.new) }
         ensures lacked { OnErr result ((self.new.pool ≡ self.old.pool) × AreStill self.old.devices.items self.new.devices.items) }

@@ -1,5 +1,7 @@
 ghost use Rattle.std.specs.Prelude.{◌<◌, ◌*◌, IfSome};
 ghost use Rattle.device_outside.specs.Keeper.{Heard};
+ghost use Rattle.device_core.specs.State.{device_of};
+ghost use Rattle.device_defs.specs.Store.{tracks_of};
 ghost use Rattle.subsystem_core.specs.Devices.{device_at};
 ghost use Rattle.subsystem_core.specs.Keepers.{TakesAll};
 ghost use Rattle.subsystem_core.specs.Frames.{HasDevice, HasSameDevices, LooksAlone, LooksAt};
@@ -20,7 +22,7 @@ impl<V: Volume> Subsystem<V> {
         keep: &mut K,
     ) -> Result<Peeked, NoMemory>
         requires here { HasDevice self.old d }
-        requires track { IfSome (device_at self.old.devices.items d) (λ x. t < x.store.cylinders * 15) }
+        requires track { IfSome (device_at self.old.devices.items d) (λ x. t < tracks_of (device_of x).store) }
         requires takes { TakesAll K.takes keep.old self.old.devices.items }
         ensures numbers { HasSameDevices self.old self.new }
         ensures takes { TakesAll K.takes keep.new self.new.devices.items }
@@ -32,7 +34,7 @@ impl<V: Volume> Subsystem<V> {
     /// The same, with a keeper that keeps nothing.
     pub fn peek_track(&mut self, d: DeviceNo, t: TrackNo) -> Result<Peeked, NoMemory>
         requires here { HasDevice self.old d }
-        requires track { IfSome (device_at self.old.devices.items d) (λ x. t < x.store.cylinders * 15) }
+        requires track { IfSome (device_at self.old.devices.items d) (λ x. t < tracks_of (device_of x).store) }
         ensures numbers { HasSameDevices self.old self.new }
         ensures looked { LooksAlone d t result self.old self.new }
     {

@@ -1,5 +1,7 @@
 -- What is promised of the run of a deck.
-use Rattle.std.specs.Prelude.{◌≡◌, ◌-◌, ◌==◌, ◌&&◌, ◌||◌, not, Bool, true, List, [], ◌∷◌, All}
+use Rattle.std.specs.Prelude.{◌≡◌, ℕ, ◌-◌, ◌==◌, ◌&&◌, ◌||◌, not, Bool, true, List, [], ◌∷◌, All}
+use Rattle.ckd_types.specs.declared.record.Track.{Track}
+use Rattle.ckd_types.specs.Volume.{empty_volume}
 use Rattle.plain_defs.specs.declared.journal.Item.{Item}
 use Rattle.plain_defs.specs.declared.journal.Item.TheVariants as items
 use Rattle.plain_defs.specs.Entry.{ProgramEntry}
@@ -22,6 +24,10 @@ use Rattle.subsystem_defs.specs.Subsystem.{Subsystem, devices_of}
 abbrev pub empty_of : MarksDevice → PlainState
 empty_of d = empty_state d.store.geometry d.store.cylinders
 
+-- on a volume that held these tracks first, where it has so many cylinders
+abbrev pub first_of : (ℕ → List Track) → MarksDevice → PlainState
+first_of first d = record (empty_of d) { volume = first d.store.cylinders }
+
 abbrev pub HasPlainHistory : MarksDevice → Type 0
 HasPlainHistory d = IsPlain d.plans (empty_of d) d.history
 
@@ -39,19 +45,23 @@ explains before behind e c =
     has_lost behind.store.lost c.touched || not (behind.store.counts.failed - before.store.counts.failed == 0)
     || (c.writes && not (some_up before.store)) || has_loss e.acts
 
-abbrev pub is_explained : MarksDevice → MarksDevice → ProgramEntry → Bool
-is_explained before behind e =
+abbrev pub is_explained_by : (ℕ → List Track) → MarksDevice → MarksDevice → ProgramEntry → Bool
+is_explained_by first before behind e =
     not (is_checked e.how && is_equipment_check (last_sense e.ends))
-    || explains before behind e (last_command before.plans (replay before.plans (empty_of before) before.history.items) e)
+    || explains before behind e (last_command before.plans (replay before.plans (first_of first before) before.history.items) e)
 
 -- a program that ended in the event is the first item that came
-abbrev pub explained_first : MarksDevice → MarksDevice → List Item → Bool
-explained_first before behind [] = true
-explained_first before behind (items.Program e ∷ xs) = is_explained before behind e
-explained_first before behind (x ∷ xs) = true
+abbrev pub explained_first_by : (ℕ → List Track) → MarksDevice → MarksDevice → List Item → Bool
+explained_first_by first before behind [] = true
+explained_first_by first before behind (items.Program e ∷ xs) = is_explained_by first before behind e
+explained_first_by first before behind (x ∷ xs) = true
 
+abbrev pub explained_on_by : (ℕ → List Track) → MarksDevice → MarksDevice → Bool
+explained_on_by first before behind = explained_first_by first before behind (new_items before.history behind.history)
+
+-- in a run, whose devices begin on empty volumes
 abbrev pub explained_on : MarksDevice → MarksDevice → Bool
-explained_on before behind = explained_first before behind (new_items before.history behind.history)
+explained_on before behind = explained_on_by empty_volume before behind
 
 abbrev pub all_explained_on : List MarksDevice → List MarksDevice → Bool
 all_explained_on (x ∷ xs) (y ∷ ys) = explained_on x y && all_explained_on xs ys

@@ -51,6 +51,8 @@ use Rattle.device_defs.specs.Orders as O
 use Rattle.device_defs.specs.Orders.{with_tracks, lent_to, given_up, lend}
 use Rattle.device_defs.specs.Outcomes.{Turn, ends_with, settles, checks, wrote_turn, usage_of, sense_kept, program_over, turned_by}
 use Rattle.device_defs.specs.Owed.{hear, waiting_count, noted_end}
+use Rattle.device_defs.specs.Peek as Y
+use Rattle.device_defs.specs.Peek.{Peeked, peek_track, peek}
 use Rattle.device_defs.specs.Second.{second_part}
 use Rattle.device_defs.specs.Store.{Origin, OfCommand, OfCut, OfBackground, HalfWrite, Store, tracks_of, is_lost}
 use Rattle.device_laws.proofs.Always.{Always, always_done, always_try, always_then}
@@ -214,6 +216,12 @@ module _ {F P H R : Type 0} (c : Contents F P H R) (k : ℕ) (some : 0 < k) wher
   background_on d on =
       event_on d (λ z. and_then (work c z.store) (λ s did. Done (with_store z s) did))
       (λ s. always_then (always_any (work c s)) (λ y (did : Option Did) _. always_done on))
+
+  pub peek_on : (d : Device F P H) (t : ℕ) → HasChainOn k d.chain → Leaves (peek c d t)
+  unfolding Y.peek
+  peek_on d t on =
+      quiet_on d (λ z. and_then (peek_track c z.store t) (λ s found. Done (with_store z s) found))
+      (always_then (always_any (peek_track c (event_begun d).store t)) (λ s (found : Option Peeked) _. always_done on))
 
   pub lose_on : (d : Device F P H) (loss : Loss) → HasChainOn k d.chain → Leaves (lose c d loss)
   unfolding E.lose

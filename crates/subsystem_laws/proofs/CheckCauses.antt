@@ -46,6 +46,8 @@ use Rattle.device_defs.specs.Events.{second_ended, second_of, second, lose, back
 use Rattle.device_defs.specs.Marks.{MarksDevice, MarksStore}
 use Rattle.device_defs.specs.Orders.{restore, replace, lend}
 use Rattle.device_defs.specs.Owed.{hear, waiting_count, noted_end}
+use Rattle.device_defs.specs.Peek as Y
+use Rattle.device_defs.specs.Peek.{Peeked, peek_track, peek}
 use Rattle.device_defs.specs.Start as S
 use Rattle.device_defs.specs.Start.{start}
 use Rattle.device_defs.specs.Store.{HalfWrite, takes_b, has_level, stale_at, level_at}
@@ -206,6 +208,16 @@ module _ (d : MarksDevice) where
 
   pub loss_same : (loss : Loss) (t : CameTo (lose by_plain d loss)) → checks_of t.state ≡ checks_of d
   loss_same loss t = at (loss_unchecked loss) t
+
+  peek_unchecked : (n : ℕ) → Always (peek by_plain d n) (λ e _. equipment_checks e.history ≡ equipment_checks d.history)
+  unfolding Y.peek
+  peek_unchecked n =
+      always_then {p = λ (y : MarksDevice) _. equipment_checks y.history ≡ equipment_checks d.history}
+      (always_then (always_any (peek_track by_plain (event_begun d).store n)) (λ z (found : Option Peeked) _. always_done (acts_same d.history z.acts)))
+      (λ y a g. always_then (always_any (noted_end by_plain (waiting_count by_plain d.store) y.store)) (λ z _ _. always_done g))
+
+  pub peek_same : (n : ℕ) (t : CameTo (peek by_plain d n)) → checks_of t.state ≡ checks_of d
+  peek_same n t = at (peek_unchecked n) t
 
   pub lend_same : (to : ℕ) (t : CameTo (lend by_plain d to)) → checks_of t.state ≡ checks_of d
   lend_same to t = ap equipment_checks (at (lend_past d to) t)

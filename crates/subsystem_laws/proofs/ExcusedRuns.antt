@@ -29,6 +29,8 @@ use Rattle.std.specs.Prelude.{All}
 use Rattle.ckd_types.specs.declared.geometry.Geometry.{Geometry}
 use Rattle.ckd_types.specs.declared.paths.Side.{Side}
 use Rattle.ckd_types.specs.declared.paths.Side.TheVariants as sides
+use Rattle.ckd_types.specs.declared.record.Track.{Track}
+use Rattle.ckd_types.specs.Volume.{empty_volume}
 use Rattle.deck_text.specs.declared.line.DeviceLine.{DeviceLine}
 use Rattle.deck_text.specs.DeckLines.{DeckLines}
 use Rattle.loss_model.specs.declared.Loss.{Loss}
@@ -49,13 +51,25 @@ use Rattle.device_defs.specs.Events.{second, lose, background}
 use Rattle.device_defs.specs.Excused.{unexplained_item, unexplained}
 use Rattle.device_defs.specs.Marks.{MarksDevice}
 use Rattle.device_defs.specs.Orders.{hold_side, resume, replace, restore, join, split, lend}
+use Rattle.device_defs.specs.Peek.{peek}
 use Rattle.device_defs.specs.Start as S
 use Rattle.device_defs.specs.Start.{start, next_ordinal}
+use Rattle.device_laws.specs.NewDevice.{first_state}
 use Rattle.device_laws.proofs.Always as A
 use Rattle.device_laws.proofs.Always.{Behind, Always}
 use Rattle.device_laws.proofs.Based.{Base, Any, Based, kept, based_any, based_done, based_try, based_ask, based_read, based_write, based_tell}
-use Rattle.device_laws.proofs.BasedEvents.{base_in, with_one_loss, command_based, second_based, background_based, lose_based, power_based, reset_body}
-use Rattle.device_laws.proofs.KeptEvents.{command_goes, second_goes, background_goes, lose_goes}
+use Rattle.device_laws.proofs.BasedEvents.{
+  base_in,
+  with_one_loss,
+  command_based,
+  second_based,
+  background_based,
+  lose_based,
+  peek_based,
+  power_based,
+  reset_body,
+}
+use Rattle.device_laws.proofs.KeptEvents.{command_goes, second_goes, background_goes, lose_goes, peek_goes}
 use Rattle.device_laws.proofs.LossLaws.{some_counted}
 use Rattle.device_laws.proofs.Lucky.{top, never_falls}
 use Rattle.subsystem_defs.specs.declared.end.EventEnd.TheVariants as ends
@@ -64,10 +78,10 @@ use Rattle.subsystem_defs.specs.Decks.{opened_device, opened, run_of}
 use Rattle.subsystem_defs.specs.Deeds.{ends_done, end_of}
 use Rattle.subsystem_defs.specs.Lines.{Logged, asked_by}
 use Rattle.subsystem_defs.specs.Promised as P
-use Rattle.subsystem_defs.specs.Promised.{empty_of, explained_first, explained_on, all_explained_on, explained_in, are_explained}
+use Rattle.subsystem_defs.specs.Promised.{empty_of, explained_first_by, explained_on, explained_on_by, all_explained_on, explained_in, are_explained, first_of}
 use Rattle.subsystem_defs.specs.Subsystem.{Mounted, Subsystem, devices_of}
 use Rattle.subsystem_laws.specs.Causes.{EachPair, CountFailures}
-use Rattle.subsystem_laws.specs.Excused.{has_fresh, WasNeverLent, HasExcusedChecks, HaveExcusedChecks}
+use Rattle.subsystem_laws.specs.Excused.{has_fresh, WasNeverLent, HasExcusedChecks, HasExcusedChecksOn, HaveExcusedChecks}
 use Rattle.subsystem_laws.specs.Served.{IsServedDeck}
 use Rattle.subsystem_laws.specs.Came.{CameTo}
 use Rattle.subsystem_laws.proofs.Came.{at}
@@ -95,6 +109,7 @@ use Rattle.subsystem_laws.proofs.StoreFacts.{
   second_leaves,
   background_leaves,
   lose_leaves,
+  peek_leaves,
   power_leaves,
   reset_leaves,
 }
@@ -102,7 +117,17 @@ use Rattle.subsystem_laws.proofs.LendBase.{stays_still, lend_lends}
 use Rattle.subsystem_laws.proofs.Pairing.{KeepsDeed, deeds_of, IsPairwise, run_pairs, ends_made, becomes_so, started_number}
 use Rattle.subsystem_laws.proofs.PaidSides.{fresh_last, never_before, PaidFor, paid_kept, opened_paid, paid_of}
 use Rattle.subsystem_laws.proofs.RunLinks.{Linked, lines_linked}
-use Rattle.subsystem_laws.proofs.Shapes.{FirstAlone, Shape, command_shape, second_shape, background_shape, lose_shape, reset_shape, power_shape}
+use Rattle.subsystem_laws.proofs.Shapes.{
+  FirstAlone,
+  Shape,
+  command_shape,
+  second_shape,
+  background_shape,
+  lose_shape,
+  peek_shape,
+  reset_shape,
+  power_shape,
+}
 use Rattle.subsystem_laws.proofs.TracksKept.{Fair, fair_kept, opened_fair}
 use Rattle.subsystem_laws.proofs.Walks.{AreSo, run_keeps}
 
@@ -306,6 +331,12 @@ module _ (d : MarksDevice) where
       (at (background_goes by_plain d.plans d.history d (its_own d)) t).plans
       (at (background_leaves by_plain (LostSince since) (lost_bears since) d itself) t) (background_shape d t)
 
+  pub peek_made : (n : ℕ) (t : CameTo (peek by_plain d n)) → Made d t.state
+  peek_made n t f never =
+      event_since d f (peek by_plain d n) (kept d.store) (own_begins d) (peek_based by_plain d n) t
+      (at (peek_goes by_plain d.plans d.history d n (its_own d)) t).plans
+      (at (peek_leaves by_plain (LostSince since) (lost_bears since) d n itself) t) (peek_shape d n t)
+
   lose_lost : (loss : Loss) (t : CameTo (lose by_plain d loss)) → LosesMore since t.state.store.lost
   lose_lost losses.Cache t = at (lose_leaves by_plain (LostSince since) (lost_bears since) d losses.Cache itself (λ x h. h)) t
   lose_lost losses.Store t = at (lose_leaves by_plain (LostSince since) (lost_bears since) d losses.Store itself (λ x h. h)) t
@@ -372,26 +403,26 @@ with_none a b n le none = omega (arith, le, none)
 none_at_all : (a b n : ℕ) → a ≡ 0 → b ≡ 0 → a + b ≤ n
 none_at_all a b n none other = omega (arith, none, other)
 
-none_paid : (x y : MarksDevice) (i : Item) (xs : List Item) → NoProgram xs →
-    unexplained_item x.plans (replay x.plans (empty_of x) x.history.items) y.store.lost y.store.counts i ≡ 0 →
-    unexplained x.plans (replay x.plans (empty_of x) x.history.items) y.store.lost y.store.counts (i ∷ xs) ≤ y.store.counts.failed - x.store.counts.failed
-none_paid x y i xs alone none =
-    let state = replay x.plans (empty_of x) x.history.items in
+none_paid : (first : ℕ → List Track) (x y : MarksDevice) (i : Item) (xs : List Item) → NoProgram xs →
+    unexplained_item x.plans (replay x.plans (first_of first x) x.history.items) y.store.lost y.store.counts i ≡ 0 →
+    unexplained x.plans (replay x.plans (first_of first x) x.history.items) y.store.lost y.store.counts (i ∷ xs) ≤ y.store.counts.failed - x.store.counts.failed
+none_paid first x y i xs alone none =
+    let state = replay x.plans (first_of first x) x.history.items in
     none_at_all (unexplained_item x.plans state y.store.lost y.store.counts i) _ (y.store.counts.failed - x.store.counts.failed) none
     (none_unexplained x.plans y.store.lost y.store.counts (replay_item x.plans state i) xs alone)
 
-first_paid : (x y : MarksDevice) (e : Since x y) → WasNeverLent x → PaidFor x → (xs : List Item) → FirstAlone xs → explained_first x y xs ≡ true →
-    unexplained x.plans (replay x.plans (empty_of x) x.history.items) y.store.lost y.store.counts xs ≤ y.store.counts.failed - x.store.counts.failed
-first_paid x y e never paid [] alone is = omega arith
-first_paid x y e never paid (items.Program entry ∷ xs) alone is =
-    let state = replay x.plans (empty_of x) x.history.items in
+first_paid : (first : ℕ → List Track) (x y : MarksDevice) (e : Since x y) → WasNeverLent x → PaidFor x → (xs : List Item) → FirstAlone xs → explained_first_by first x y xs ≡ true →
+    unexplained x.plans (replay x.plans (first_of first x) x.history.items) y.store.lost y.store.counts xs ≤ y.store.counts.failed - x.store.counts.failed
+first_paid first x y e never paid [] alone is = omega arith
+first_paid first x y e never paid (items.Program entry ∷ xs) alone is =
+    let state = replay x.plans (first_of first x) x.history.items in
     with_none _ _ (y.store.counts.failed - x.store.counts.failed)
     (entry_paid x y e.worse (paid_of x paid never) x.plans state entry is)
     (none_unexplained x.plans y.store.lost y.store.counts _ xs alone)
-first_paid x y e never paid (items.Act act ∷ xs) alone is = none_paid x y (items.Act act) xs alone refl
-first_paid x y e never paid (items.Reset path ∷ xs) alone is = none_paid x y (items.Reset path) xs alone refl
-first_paid x y e never paid (items.Fresh ∷ xs) alone is = none_paid x y items.Fresh xs alone refl
-first_paid x y e never paid (items.Power ∷ xs) alone is = none_paid x y items.Power xs alone refl
+first_paid first x y e never paid (items.Act act ∷ xs) alone is = none_paid first x y (items.Act act) xs alone refl
+first_paid first x y e never paid (items.Reset path ∷ xs) alone is = none_paid first x y (items.Reset path) xs alone refl
+first_paid first x y e never paid (items.Fresh ∷ xs) alone is = none_paid first x y items.Fresh xs alone refl
+first_paid first x y e never paid (items.Power ∷ xs) alone is = none_paid first x y items.Power xs alone refl
 
 in_all : (a b c e n : ℕ) → a ≡ b + c → b ≤ e → c ≤ n - e → e ≤ n → a ≤ n
 in_all a b c e n is le more room = omega (arith, is, le, more, room)
@@ -399,20 +430,21 @@ in_all a b c e n is le more room = omega (arith, is, le, more, room)
 on_less : (a b c : ℕ) → a ≤ b → b ≤ c → a ≤ c
 on_less a b c le more = omega (arith, le, more)
 
-pub excused_on : (x y : MarksDevice) → Made x y → Fair x → explained_on x y ≡ true → PaidFor x → HasExcusedChecks x → HasExcusedChecks y
-excused_on x y made fair is paid excused never =
+pub excused_on : (first : ℕ → List Track) (x y : MarksDevice) → Made x y → Fair x → explained_on_by first x y ≡ true → PaidFor x →
+    HasExcusedChecksOn first x → HasExcusedChecksOn first y
+excused_on first x y made fair is paid excused never =
     let e = made fair never in
     let before = never_before x y e.lent e.shape never in
     let n = y.store.counts in
     let l = y.store.lost in
-    let new = unexplained_on x.plans l n (empty_of x) x.history.items e.shape.more in
-    let first = first_paid x y e before paid e.shape.more e.shape.alone
-    (subst (λ (xs : List Item). explained_first x y xs ≡ true) (new_are x y (record { more = e.shape.more; grown = e.shape.grown })) is) in
-    subst (λ (plans : Plans). unexplained plans (empty_of y) l n y.history.items ≤ n.failed) (sym e.plans)
-    (subst (λ (state : PlainState). unexplained x.plans state l n y.history.items ≤ n.failed) (sym e.empty)
-    (subst (λ (xs : List Item). unexplained x.plans (empty_of x) l n xs ≤ n.failed) (sym e.shape.grown)
+    let new = unexplained_on x.plans l n (first_of first x) x.history.items e.shape.more in
+    let paid_first = first_paid first x y e before paid e.shape.more e.shape.alone
+    (subst (λ (xs : List Item). explained_first_by first x y xs ≡ true) (new_are x y (record { more = e.shape.more; grown = e.shape.grown })) is) in
+    subst (λ (plans : Plans). unexplained plans (first_of first y) l n y.history.items ≤ n.failed) (sym e.plans)
+    (subst (λ (state : PlainState). unexplained x.plans state l n y.history.items ≤ n.failed) (sym (ap (λ (z : PlainState). first_state z.geometry z.cylinders (first z.cylinders)) e.empty))
+    (subst (λ (xs : List Item). unexplained x.plans (first_of first x) l n xs ≤ n.failed) (sym e.shape.grown)
     (in_all _ _ _ x.store.counts.failed n.failed new
-    (on_less _ _ x.store.counts.failed (all_fewer x.store.lost x.store.counts l n e.worse x.plans (empty_of x) x.history.items) (excused before)) first
+    (on_less _ _ x.store.counts.failed (all_fewer x.store.lost x.store.counts l n e.worse x.plans (first_of first x) x.history.items) (excused before)) paid_first
     e.worse.failed)))
 
 -- The run
@@ -429,7 +461,7 @@ all_excused [] (y ∷ ys) h is s f p = absurd h
 all_excused (x ∷ xs) [] h is s f p = absurd h
 all_excused (x ∷ xs) (y ∷ ys) h is s f p =
     let b = both_true (explained_on x y) (all_explained_on xs ys) is in (
-      record { fair = f.0; paid = p.0; excused = excused_on x y h.0 s.0.fair b.0 s.0.paid s.0.excused },
+      record { fair = f.0; paid = p.0; excused = excused_on empty_volume x y h.0 s.0.fair b.0 s.0.paid s.0.excused },
       all_excused xs ys h.1 b.1 s.1 f.1 p.1,
     )
 

@@ -38,7 +38,8 @@ use Rattle.ckd_types.specs.declared.paths.Side.{Side}
 use Rattle.ckd_types.specs.declared.paths.Side.TheVariants as sides
 use Rattle.ckd_types.specs.declared.record.Edit.{Edit}
 use Rattle.ckd_types.specs.Commands.{command_of}
-use Rattle.ckd_types.specs.Volume.{track_in}
+use Rattle.ckd_types.specs.declared.record.Track.{Track}
+use Rattle.ckd_types.specs.Volume.{empty_volume, track_in}
 use Rattle.plain_defs.specs.declared.journal.How.TheVariants.{Cut}
 use Rattle.plain_defs.specs.declared.journal.Item.{Item}
 use Rattle.plain_defs.specs.declared.journal.Item.TheVariants as items
@@ -60,12 +61,13 @@ use Rattle.device_defs.specs.Second.{second_part}
 use Rattle.device_defs.specs.Excused.{LastCommand, is_write, is_checked, is_equipment_check, has_lost, last_command}
 use Rattle.device_defs.specs.Marks.{MarksDevice}
 use Rattle.device_defs.specs.Owed.{noted_begin, waiting_count, noted_end}
+use Rattle.device_defs.specs.Peek.{peek}
 use Rattle.device_defs.specs.Store.{Origin, OfCommand, OfCut, OfBackground, HalfWrite, stale_at, level_at, takes_b, some_up}
 use Rattle.device_laws.specs.Unharmed.{ends_with_equipment_check}
 use Rattle.device_laws.proofs.Always.{Always, always_done, always_then}
 use Rattle.device_laws.proofs.BasedEvents.{command_based, second_based}
 use Rattle.device_laws.proofs.Had.{Had, had_done, had_then}
-use Rattle.device_laws.proofs.KeptEvents.{Continues, always_any, always_if, command_goes, second_goes, background_goes, lose_goes}
+use Rattle.device_laws.proofs.KeptEvents.{Continues, always_any, always_if, command_goes, second_goes, background_goes, lose_goes, peek_goes}
 use Rattle.device_laws.proofs.KeptHistories.{AreNot, same_came, extends_itself}
 use Rattle.device_laws.proofs.LastCommands.{Tells, Adds, its_effect, command_adds, halfway, second_adds}
 use Rattle.device_laws.proofs.Lucky.{top, where_none_failed}
@@ -81,13 +83,13 @@ use Rattle.device_laws.proofs.Unlost.{Fine, core_of}
 use Rattle.device_laws.proofs.invariants.NoTrackIsLost as N
 use Rattle.device_laws.proofs.WriteLooks.{edited_is_write}
 use Rattle.subsystem_defs.specs.Beside.{behind_first, new_items}
-use Rattle.subsystem_defs.specs.Promised.{empty_of, explains, explained_first, explained_on}
+use Rattle.subsystem_defs.specs.Promised.{explains, explained_first_by, explained_on_by, first_of}
 use Rattle.subsystem_laws.specs.Causes.{checks_of, EachPair}
 use Rattle.subsystem_laws.specs.Came.{CameTo}
 use Rattle.subsystem_laws.proofs.Came.{at, came_had, came_served}
-use Rattle.subsystem_laws.proofs.CheckCauses.{by_failed, decided, second_checks, reset_same, power_same, loss_same, background_same, restore_same}
+use Rattle.subsystem_laws.proofs.CheckCauses.{by_failed, decided, second_checks, reset_same, power_same, loss_same, background_same, peek_same, restore_same}
 use Rattle.subsystem_laws.proofs.GoodMarks.{runs_home, half_home, within}
-use Rattle.subsystem_laws.proofs.PlainRuns.{Plainly}
+use Rattle.subsystem_laws.proofs.PlainRuns.{PlainlyOn}
 use Rattle.subsystem_laws.proofs.SteeredRuns.{Steered}
 use Rattle.subsystem_laws.proofs.TracksKept.{Fair}
 use Rattle.std.proofs.Common.{◌≡◌, ◌∙◌}
@@ -174,51 +176,51 @@ behind_all (x ∷ xs) more = behind_all xs more
 pub new_are : (x y : MarksDevice) (g : Grows x.history y.history) → new_items x.history y.history ≡ g.more
 new_are x y g = ap (behind_first (length x.history.items)) g.grown ∙ behind_all x.history.items g.more
 
-none_first : (x y : MarksDevice) (xs : List Item) → AreNot ends_with_equipment_check xs → explained_first x y xs ≡ true
-none_first x y [] h = refl
-none_first x y (items.Program e ∷ xs) h =
-    ap (λ (b : Bool). not b || explains x y e (last_command x.plans (replay x.plans (empty_of x) x.history.items) e)) h.0
-none_first x y (items.Act act ∷ xs) h = refl
-none_first x y (items.Reset path ∷ xs) h = refl
-none_first x y (items.Fresh ∷ xs) h = refl
-none_first x y (items.Power ∷ xs) h = refl
+none_first : (first : ℕ → List Track) (x y : MarksDevice) (xs : List Item) → AreNot ends_with_equipment_check xs → explained_first_by first x y xs ≡ true
+none_first first x y [] h = refl
+none_first first x y (items.Program e ∷ xs) h =
+    ap (λ (b : Bool). not b || explains x y e (last_command x.plans (replay x.plans (first_of first x) x.history.items) e)) h.0
+none_first first x y (items.Act act ∷ xs) h = refl
+none_first first x y (items.Reset path ∷ xs) h = refl
+none_first first x y (items.Fresh ∷ xs) h = refl
+none_first first x y (items.Power ∷ xs) h = refl
 
 -- no check came
-pub explained_same : (x y : MarksDevice) → Grows x.history y.history → checks_of y ≡ checks_of x → explained_on x y ≡ true
-explained_same x y g same =
-    subst (λ (l : List Item). explained_first x y l ≡ true) (sym (new_are x y g))
-    (none_first x y g.more (same_came ends_with_equipment_check x.history.items g.more
+pub explained_same : (first : ℕ → List Track) (x y : MarksDevice) → Grows x.history y.history → checks_of y ≡ checks_of x → explained_on_by first x y ≡ true
+explained_same first x y g same =
+    subst (λ (l : List Item). explained_first_by first x y l ≡ true) (sym (new_are x y g))
+    (none_first first x y g.more (same_came ends_with_equipment_check x.history.items g.more
     (sym (ap (λ (l : List Item). count_by ends_with_equipment_check l) g.grown) ∙ same)))
 
 -- or it has its cause
-abbrev IsCaused : MarksDevice → MarksDevice → Type 0
-IsCaused x y = (e : ProgramEntry) (xs : List Item) → y.history.items ≡ x.history.items ++ items.Program e ∷ xs → is_checked e.how ≡ true →
-    explains x y e (last_command x.plans (replay x.plans (empty_of x) x.history.items) e) ≡ true
+abbrev IsCaused : (ℕ → List Track) → MarksDevice → MarksDevice → Type 0
+IsCaused first x y = (e : ProgramEntry) (xs : List Item) → y.history.items ≡ x.history.items ++ items.Program e ∷ xs → is_checked e.how ≡ true →
+    explains x y e (last_command x.plans (replay x.plans (first_of first x) x.history.items) e) ≡ true
 
 checked_or : (checked equipment cause : Bool) → (checked ≡ true → cause ≡ true) → (not (checked && equipment) || cause) ≡ true
 checked_or false equipment cause h = refl
 checked_or true false cause h = refl
 checked_or true true cause h = h refl
 
-caused_first : (x y : MarksDevice) (xs : List Item) → y.history.items ≡ x.history.items ++ xs → IsCaused x y → explained_first x y xs ≡ true
-caused_first x y [] grown h = refl
-caused_first x y (items.Program e ∷ xs) grown h = checked_or (is_checked e.how) (is_equipment_check (last_sense e.ends)) _ (h e xs grown)
-caused_first x y (items.Act act ∷ xs) grown h = refl
-caused_first x y (items.Reset path ∷ xs) grown h = refl
-caused_first x y (items.Fresh ∷ xs) grown h = refl
-caused_first x y (items.Power ∷ xs) grown h = refl
+caused_first : (first : ℕ → List Track) (x y : MarksDevice) (xs : List Item) → y.history.items ≡ x.history.items ++ xs → IsCaused first x y → explained_first_by first x y xs ≡ true
+caused_first first x y [] grown h = refl
+caused_first first x y (items.Program e ∷ xs) grown h = checked_or (is_checked e.how) (is_equipment_check (last_sense e.ends)) _ (h e xs grown)
+caused_first first x y (items.Act act ∷ xs) grown h = refl
+caused_first first x y (items.Reset path ∷ xs) grown h = refl
+caused_first first x y (items.Fresh ∷ xs) grown h = refl
+caused_first first x y (items.Power ∷ xs) grown h = refl
 
-pub explained_cause : (x y : MarksDevice) → Grows x.history y.history → IsCaused x y → explained_on x y ≡ true
-explained_cause x y g h = subst (λ (l : List Item). explained_first x y l ≡ true) (sym (new_are x y g)) (caused_first x y g.more g.grown h)
+pub explained_cause : (first : ℕ → List Track) (x y : MarksDevice) → Grows x.history y.history → IsCaused first x y → explained_on_by first x y ≡ true
+explained_cause first x y g h = subst (λ (l : List Item). explained_first_by first x y l ≡ true) (sym (new_are x y g)) (caused_first first x y g.more g.grown h)
 
 -- A command
 
-pub plainly_of : (d : MarksDevice) (p : Plainly d) → Follows p.number (empty_of d) d
-plainly_of d p = subst (λ (e : PlainState). Follows p.number e d) p.follows.base p.follows
+pub plainly_of : {first : ℕ → List Track} (d : MarksDevice) (p : PlainlyOn first d) → Follows p.number (first_of first d) d
+plainly_of d p = subst (λ (e : PlainState). Follows p.number e d) p.base p.follows
 
-module _ (d : MarksDevice) (f : Fair d) (p : Plainly d) (s : Steered d) (lt : d.store.counts.failed < top) where
+module _ {first : ℕ → List Track} (d : MarksDevice) (f : Fair d) (p : PlainlyOn first d) (s : Steered d) (lt : d.store.counts.failed < top) where
   abbrev last_of : ProgramEntry → LastCommand
-  last_of e = last_command d.plans (replay d.plans (empty_of d) d.history.items) e
+  last_of e = last_command d.plans (replay d.plans (first_of first d) d.history.items) e
 
   module _ (y : MarksDevice) (e : ProgramEntry) where
     lost_explains : has_lost y.store.lost (last_of e).touched ≡ true → explains d y e (last_of e) ≡ true
@@ -241,16 +243,16 @@ module _ (d : MarksDevice) (f : Fair d) (p : Plainly d) (s : Steered d) (lt : d.
         or_fourth (has_lost y.store.lost (last_of e).touched) (not (y.store.counts.failed - d.store.counts.failed == 0))
         ((last_of e).writes && not (some_up d.store)) (has_loss e.acts)
 
-  rose_explains : (y : MarksDevice) → Grows d.history y.history → d.store.counts.failed < y.store.counts.failed → explained_on d y ≡ true
+  rose_explains : (y : MarksDevice) → Grows d.history y.history → d.store.counts.failed < y.store.counts.failed → explained_on_by first d y ≡ true
   rose_explains y g rose =
-      explained_cause d y g (λ e xs grown how. failed_explains y e (differ d.store.counts.failed y.store.counts.failed rose))
+      explained_cause first d y g (λ e xs grown how. failed_explains y e (differ d.store.counts.failed y.store.counts.failed rose))
 
   not_full : {X : Type 0} → d.store.counts.failed ≡ top → X
   not_full full = absurd (omega (arith, full, lt))
 
   module _ (o : OpenEntry) (running : d.history.running ≡ Some o) (whole : d.store.half ≡ None) (chain : ChainState)
       (is : (plainly_of d p).before ≡ Some chain) where
-    abbrev fol : Follows p.number (empty_of d) d
+    abbrev fol : Follows p.number (first_of first d) d
     fol = plainly_of d p
 
     now : d.chain ≡ Some chain
@@ -259,20 +261,20 @@ module _ (d : MarksDevice) (f : Fair d) (p : Plainly d) (s : Steered d) (lt : d.
     abbrev writes : Bool
     writes = is_write (command_of (word_of chain).command)
 
-    adds : (t : CameTo (command by_plain d)) → Adds p.number (empty_of d) d (plainly_of d p) o running chain is t.state.history
-    adds t = came_had (command_adds p.number (empty_of d) d (plainly_of d p) o running chain is now whole) t
+    adds : (t : CameTo (command by_plain d)) → Adds p.number (first_of first d) d (plainly_of d p) o running chain is t.state.history
+    adds t = came_had (command_adds p.number (first_of first d) d (plainly_of d p) o running chain is now whole) t
 
     -- each of the causes
-    told_cause : (y : MarksDevice) → Grows d.history y.history → Adds p.number (empty_of d) d (plainly_of d p) o running chain is y.history →
-        ((e : ProgramEntry) → Tells p.number (empty_of d) d (plainly_of d p) o running chain is e →
-        explains d y e (last_command d.plans (replay d.plans (empty_of d) d.history.items) e) ≡ true) → explained_on d y ≡ true
-    told_cause y g a h = explained_cause d y g (λ e xs grown how. h e (a e xs grown how))
+    told_cause : (y : MarksDevice) → Grows d.history y.history → Adds p.number (first_of first d) d (plainly_of d p) o running chain is y.history →
+        ((e : ProgramEntry) → Tells p.number (first_of first d) d (plainly_of d p) o running chain is e →
+        explains d y e (last_command d.plans (replay d.plans (first_of first d) d.history.items) e) ≡ true) → explained_on_by first d y ≡ true
+    told_cause y g a h = explained_cause first d y g (λ e xs grown how. h e (a e xs grown how))
 
     pub command_explained : (t : CameTo (command by_plain d)) → Grows d.history t.state.history →
-        explained_on d t.state ≡ true
+        explained_on_by first d t.state ≡ true
     command_explained t g =
         let y = t.state in
-        let touched = (its_effect p.number (empty_of d) d (plainly_of d p) o running chain is).touched in
+        let touched = (its_effect p.number (first_of first d) d (plainly_of d p) o running chain is).touched in
         by_failed d f (command by_plain d) (command_based by_plain d) t not_full (rose_explains y g)
         (λ less same.
         decided (has_loss o.acts)
@@ -282,34 +284,34 @@ module _ (d : MarksDevice) (f : Fair d) (p : Plainly d) (s : Steered d) (lt : d.
         (λ kept. decided (writes && not (some_up d.store))
         (λ none. told_cause y g (adds t) (λ e tells. write_explains y e
         (ap (λ (b : Bool). b && not (some_up d.store)) tells.writes ∙ none)))
-        (λ some. explained_same d y g
+        (λ some. explained_same first d y g
         (came_served (λ e _. equipment_checks e.history ≡ equipment_checks d.history) (command_based by_plain d) lt
-        (command_touched p.number (empty_of d) d (plainly_of d p) o running chain is now whole (f.good.well (runs_home d f.good o running))
+        (command_touched p.number (first_of first d) d (plainly_of d p) o running chain is now whole (f.good.well (runs_home d f.good o running))
         (within d f.good chain now) kept
         (λ w. takes_by d.store.a.up d.store.b.up d.store.held (λ e. (s.led e).0) (unless_write writes (some_up d.store) some w)) stays) t same)))))
       where
         lost_behind : (y : MarksDevice) → y.store.counts.failed ≡ d.store.counts.failed → (t : CameTo (command by_plain d)) → t.state ≡ y →
-            (e : ProgramEntry) → Tells p.number (empty_of d) d (plainly_of d p) o running chain is e →
-            has_lost d.store.lost (its_effect p.number (empty_of d) d (plainly_of d p) o running chain is).touched ≡ true →
-            has_lost y.store.lost (last_command d.plans (replay d.plans (empty_of d) d.history.items) e).touched ≡ true
+            (e : ProgramEntry) → Tells p.number (first_of first d) d (plainly_of d p) o running chain is e →
+            has_lost d.store.lost (its_effect p.number (first_of first d) d (plainly_of d p) o running chain is).touched ≡ true →
+            has_lost y.store.lost (last_command d.plans (replay d.plans (first_of first d) d.history.items) e).touched ≡ true
         lost_behind y same t at_y e tells lost =
             let fine = at (where_none_failed (λ z _. Fine (core_of d.store) (core_of z.store)) (command_based by_plain d) lt
             (N.command_goes by_plain marks_are_faithful d (f.good.well (runs_home d f.good o running)))) t
             (ap (λ (z : MarksDevice). z.store.counts.failed) at_y ∙ same) in
             ap (λ (l : List ℕ). has_lost y.store.lost l) tells.touched
-            ∙ ap (λ (l : List Bool). has_lost l (its_effect p.number (empty_of d) d (plainly_of d p) o running chain is).touched)
+            ∙ ap (λ (l : List Bool). has_lost l (its_effect p.number (first_of first d) d (plainly_of d p) o running chain is).touched)
             (ap (λ (z : MarksDevice). z.store.lost) (sym at_y) ∙ fine.lost) ∙ lost
 
   by_before : (o : OpenEntry) → d.history.running ≡ Some o → d.store.half ≡ None → (k : Option ChainState) → (plainly_of d p).before ≡ k →
-      (t : CameTo (command by_plain d)) → Grows d.history t.state.history → explained_on d t.state ≡ true
+      (t : CameTo (command by_plain d)) → Grows d.history t.state.history → explained_on_by first d t.state ≡ true
   by_before o running whole None is t g =
-      absurd (subst (λ (k : Option ChainState). RunsAt d.plans (replay d.plans (empty_of d) d.history.items) (Some o) k) is
-      (subst (λ (r : Option OpenEntry). RunsAt d.plans (replay d.plans (empty_of d) d.history.items) r (plainly_of d p).before) running
+      absurd (subst (λ (k : Option ChainState). RunsAt d.plans (replay d.plans (first_of first d) d.history.items) (Some o) k) is
+      (subst (λ (r : Option OpenEntry). RunsAt d.plans (replay d.plans (first_of first d) d.history.items) r (plainly_of d p).before) running
       (plainly_of d p).runs))
   by_before o running whole (Some chain) is t g = command_explained o running whole chain is t g
 
   pub commands_explained : (o : OpenEntry) → d.history.running ≡ Some o → d.store.half ≡ None → (t : CameTo (command by_plain d)) →
-      Grows d.history t.state.history → explained_on d t.state ≡ true
+      Grows d.history t.state.history → explained_on_by first d t.state ≡ true
   commands_explained o running whole t g = by_before o running whole (plainly_of d p).before refl t g
 
   -- The other part of a write
@@ -322,16 +324,16 @@ module _ (d : MarksDevice) (f : Fair d) (p : Plainly d) (s : Steered d) (lt : d.
 
     of_command : (bypass : Bool) (edit : Edit) → h.origin ≡ OfCommand bypass edit → (o : OpenEntry) → d.history.running ≡ Some o →
         not (some_up d.store) ≡ true → (t : CameTo (second by_plain d)) → Grows d.history t.state.history →
-        explained_on d t.state ≡ true
+        explained_on_by first d t.state ≡ true
     of_command bypass edit origin o running none t g =
         let fol = plainly_of d p in
-        let mid = halfway p.number (empty_of d) d fol h there bypass edit origin o running in
+        let mid = halfway p.number (first_of first d) d fol h there bypass edit origin o running in
         let y = t.state in
         let write = edited_is_write mid.origin.fixed d.paths (track_in d.store.plain) o.path mid.origin.at.stance (word_of mid.origin)
-        (record { track = h.track; edit = edit }) (P.its_edit p.number (empty_of d) d fol o running h.track edit mid) in
-        explained_cause d y g (λ e xs grown how.
-        let tells = came_had (second_adds p.number (empty_of d) d fol h there bypass edit origin o running) t e xs grown how in
-        let last = last_command d.plans (replay d.plans (empty_of d) d.history.items) e in
+        (record { track = h.track; edit = edit }) (P.its_edit p.number (first_of first d) d fol o running h.track edit mid) in
+        explained_cause first d y g (λ e xs grown how.
+        let tells = came_had (second_adds p.number (first_of first d) d fol h there bypass edit origin o running) t e xs grown how in
+        let last = last_command d.plans (replay d.plans (first_of first d) d.history.items) e in
         or_third (has_lost y.store.lost last.touched) (not (y.store.counts.failed - d.store.counts.failed == 0)) (last.writes && not (some_up d.store))
         (has_loss e.acts) (both_true last.writes (not (some_up d.store)) (tells.writes ∙ write) none))
 
@@ -344,7 +346,7 @@ module _ (d : MarksDevice) (f : Fair d) (p : Plainly d) (s : Steered d) (lt : d.
 
     by_running : (bypass : Bool) (edit : Edit) → h.origin ≡ OfCommand bypass edit → (r : Option OpenEntry) → d.history.running ≡ r →
         not (some_up d.store) ≡ true → (t : CameTo (second by_plain d)) → Grows d.history t.state.history →
-        explained_on d t.state ≡ true
+        explained_on_by first d t.state ≡ true
     by_running bypass edit origin (Some o) running none t g = of_command bypass edit origin o running none t g
     by_running bypass edit origin None idle none t g = absurd (some_none d.history.running (its_half bypass edit origin).runs idle)
 
@@ -370,17 +372,17 @@ module _ (d : MarksDevice) (f : Fair d) (p : Plainly d) (s : Steered d) (lt : d.
         (λ y a g. had_then (had_always (always_any (noted_end by_plain (waiting_count by_plain d.store) y.store))) (λ z _ _. had_done g))
 
     by_origin : (origin : Origin) → h.origin ≡ origin → not (some_up d.store) ≡ true → (t : CameTo (second by_plain d)) →
-        Grows d.history t.state.history → explained_on d t.state ≡ true
+        Grows d.history t.state.history → explained_on_by first d t.state ≡ true
     by_origin (OfCommand bypass edit) is none t g = by_running bypass edit is d.history.running refl none t g
     by_origin (OfCut bypass) is none t g =
-        explained_same d t.state g
+        explained_same first d t.state g
         (came_had (other_same (λ b e at. absurd (let both : OfCut bypass ≡ OfCommand b e = sym is ∙ at in cc))) t)
     by_origin OfBackground is none t g =
-        explained_same d t.state g
+        explained_same first d t.state g
         (came_had (other_same (λ b e at. absurd (let both : OfBackground ≡ OfCommand b e = sym is ∙ at in cc))) t)
 
     pub second_explained : (t : CameTo (second by_plain d)) → Grows d.history t.state.history →
-        explained_on d t.state ≡ true
+        explained_on_by first d t.state ≡ true
     second_explained t g =
         let y = t.state in
         by_failed d f (second by_plain d) (second_based by_plain d) t not_full (rose_explains y g)
@@ -390,9 +392,9 @@ module _ (d : MarksDevice) (f : Fair d) (p : Plainly d) (s : Steered d) (lt : d.
         (λ off. by_origin h.origin refl (untried_up none off) t g)))
       where
         by_tried : t.state.store.counts.failed ≡ d.store.counts.failed →
-            ((takes_b d.store ≡ true) ⊎ (level_at d.store.a h.track ≡ true)) → explained_on d t.state ≡ true
+            ((takes_b d.store ≡ true) ⊎ (level_at d.store.a h.track ≡ true)) → explained_on_by first d t.state ≡ true
         by_tried same tried =
-            explained_same d t.state g
+            explained_same first d t.state g
             (at (where_none_failed (λ e _. equipment_checks e.history ≡ equipment_checks d.history) (second_based by_plain d) lt
             (second_checks (equipment_checks d.history) d (f.good.well (half_home d f.good h there)) h there tried refl)) t same)
 
@@ -431,10 +433,10 @@ module _ (d : MarksDevice) where
   reset_grows_by path None =
       always_if (has_used d.history path) (always_done (reset_grows d.history path 0 d.history.running)) (always_done (grows_none d.history d.history refl))
 
-  pub reset_explained : (path : ℕ) (t : CameTo (reset by_plain d path)) → explained_on d t.state ≡ true
+  pub reset_explained : (first : ℕ → List Track) (path : ℕ) (t : CameTo (reset by_plain d path)) → explained_on_by first d t.state ≡ true
   unfolding U.reset
-  reset_explained path t =
-      explained_same d t.state (at (reset_grows_by path d.history.running) t) (reset_same d path t)
+  reset_explained first path t =
+      explained_same first d t.state (at (reset_grows_by path d.history.running) t) (reset_same d path t)
 
   power_growing : Always (power by_plain d) (λ y _. Grows d.history y.history)
   unfolding U.power
@@ -444,8 +446,8 @@ module _ (d : MarksDevice) where
       (λ z _ _. always_done (power_grows d.history (counts_one_by d.store.half) d.history.running)))
       (λ y a g. always_then (always_any (noted_end by_plain (waiting_count by_plain d.store) y.store)) (λ z _ _. always_done g))
 
-  pub power_explained : (t : CameTo (power by_plain d)) → explained_on d t.state ≡ true
-  power_explained t = explained_same d t.state (at power_growing t) (power_same d t)
+  pub power_explained : (first : ℕ → List Track) (t : CameTo (power by_plain d)) → explained_on_by first d t.state ≡ true
+  power_explained first t = explained_same first d t.state (at power_growing t) (power_same d t)
 
   grows_of : (y : MarksDevice) → Continues d.plans d.history y → Grows d.history y.history
   grows_of y k = record { more = k.history.more; grown = k.history.grown }
@@ -453,15 +455,20 @@ module _ (d : MarksDevice) where
   pub its_own : Continues d.plans d.history d
   its_own = record { plans = refl; history = extends_itself d.history }
 
-  pub lose_explained : (loss : Loss) (t : CameTo (lose by_plain d loss)) → explained_on d t.state ≡ true
-  lose_explained loss t =
+  pub lose_explained : (first : ℕ → List Track) (loss : Loss) (t : CameTo (lose by_plain d loss)) → explained_on_by first d t.state ≡ true
+  lose_explained first loss t =
       let y = t.state in
-      explained_same d y (grows_of y (at (lose_goes by_plain d.plans d.history d loss its_own) t)) (loss_same d loss t)
+      explained_same first d y (grows_of y (at (lose_goes by_plain d.plans d.history d loss its_own) t)) (loss_same d loss t)
 
-  pub background_explained : (t : CameTo (background by_plain d)) → explained_on d t.state ≡ true
-  background_explained t =
+  pub background_explained : (first : ℕ → List Track) (t : CameTo (background by_plain d)) → explained_on_by first d t.state ≡ true
+  background_explained first t =
       let y = t.state in
-      explained_same d y (grows_of y (at (background_goes by_plain d.plans d.history d its_own) t)) (background_same d t)
+      explained_same first d y (grows_of y (at (background_goes by_plain d.plans d.history d its_own) t)) (background_same d t)
+
+  pub peek_explained : (first : ℕ → List Track) (n : ℕ) (t : CameTo (peek by_plain d n)) → explained_on_by first d t.state ≡ true
+  peek_explained first n t =
+      let y = t.state in
+      explained_same first d y (grows_of y (at (peek_goes by_plain d.plans d.history d n its_own) t)) (peek_same d n t)
 
   pub command_grows : (t : CameTo (command by_plain d)) → Grows d.history t.state.history
   command_grows t = grows_of _ (at (command_goes by_plain d.plans d.history d its_own) t)
@@ -476,8 +483,11 @@ abbrev pub AddsNone : MarksDevice → MarksDevice → Type 0
 AddsNone x y = Grows x.history y.history × (checks_of y ≡ checks_of x)
 
 -- of a device with a plain history, whose failed calls are counted
+abbrev pub ExplainsOn : (ℕ → List Track) → MarksDevice → MarksDevice → Type 0
+ExplainsOn first x y = PlainlyOn first x → Steered x → x.store.counts.failed < top → explained_on_by first x y ≡ true
+
 abbrev pub Explains : MarksDevice → MarksDevice → Type 0
-Explains x y = Plainly x → Steered x → x.store.counts.failed < top → explained_on x y ≡ true
+Explains x y = ExplainsOn empty_volume x y
 
 grows_on : (x y z : History) → Grows x y → Grows y z → Grows x z
 grows_on x y z f g = record {
@@ -514,15 +524,15 @@ deeds_explain s q = record {
     ends_made AddsNone Explains d (command by_plain d) (end_of ends.Stepped)
         (λ t p k lt. commands_explained d (fair_of s q d x) p k lt o running whole t (command_grows d t)),
   );
-  worked = λ d x whole. (seat_of s d x, ends_made AddsNone Explains d (background by_plain d) (end_of ends.Back) (λ t p k lt. background_explained d t));
-  cut = λ d x path. (seat_of s d x, ends_made AddsNone Explains d (reset by_plain d path) (λ a. Some (ends_done a)) (λ t p k lt. reset_explained d path t));
-  lost_cache = λ d t. λ p k lt. lose_explained d losses.Cache t;
-  lost_store = λ d t. λ p k lt. lose_explained d losses.Store t;
+  worked = λ d x whole. (seat_of s d x, ends_made AddsNone Explains d (background by_plain d) (end_of ends.Back) (λ t p k lt. background_explained d empty_volume t));
+  cut = λ d x path. (seat_of s d x, ends_made AddsNone Explains d (reset by_plain d path) (λ a. Some (ends_done a)) (λ t p k lt. reset_explained d empty_volume path t));
+  lost_cache = λ d t. λ p k lt. lose_explained d empty_volume losses.Cache t;
+  lost_store = λ d t. λ p k lt. lose_explained d empty_volume losses.Store t;
   lost_side = λ d x side fault. (
     seat_of s d x,
-    ends_made AddsNone Explains d (lose by_plain d (losses.Side side)) (λ a. Some (ends_done a)) (λ t p k lt. lose_explained d (losses.Side side) t),
+    ends_made AddsNone Explains d (lose by_plain d (losses.Side side)) (λ a. Some (ends_done a)) (λ t p k lt. lose_explained d empty_volume (losses.Side side) t),
   );
-  lost_power = λ d t. λ p k lt. power_explained d t;
+  lost_power = λ d t. λ p k lt. power_explained d empty_volume t;
   repaired_cache = tt;
   repaired_store = tt;
   lent = λ x y z w fault. (seat_of s y w, lend_adds y x.store.device);
@@ -534,7 +544,7 @@ pub explained_pairwise : IsPairwise AddsNone (λ lossy alone. Explains)
 explained_pairwise = record {
   own = λ d. same_grows d d refl;
   on = λ x y z f g. (grows_on x.history y.history z.history f.0 g.0, g.1 ∙ f.1);
-  made = λ lossy alone x y f. λ p k lt. explained_same x y f.0 f.1;
+  made = λ lossy alone x y f. λ p k lt. explained_same empty_volume x y f.0 f.1;
   joins = λ d. same_grows d (join d) refl;
   splits = λ d fault. same_grows d (split d) refl;
   replaces = λ d side fault. replace_adds d side;

@@ -4,6 +4,8 @@ use Rattle.std.proofs.lemmas.List.Elements.{All-head, All-tail}
 use Rattle.std.specs.Prelude.{All}
 use Rattle.ckd_types.specs.declared.geometry.Geometry.{Geometry}
 use Rattle.ckd_types.specs.declared.paths.Side.{Side}
+use Rattle.ckd_types.specs.declared.record.Track.{Track}
+use Rattle.ckd_types.specs.Volume.{empty_volume}
 use Rattle.deck_text.specs.declared.line.DeviceLine.{DeviceLine}
 use Rattle.deck_text.specs.DeckLines.{DeckLines}
 use Rattle.loss_model.specs.declared.Loss.{Loss}
@@ -17,14 +19,16 @@ use Rattle.device_defs.specs.Command.{command}
 use Rattle.device_defs.specs.Contents.{by_plain}
 use Rattle.device_defs.specs.Cutting.{reset, power}
 use Rattle.device_defs.specs.Events.{second, lose, background}
-use Rattle.device_defs.specs.Marks.{MarksDevice, new_store, new_device}
+use Rattle.device_defs.specs.Marks.{MarksDevice}
 use Rattle.device_defs.specs.Orders.{restore, replace, lend}
+use Rattle.device_defs.specs.Peek.{peek}
 use Rattle.device_defs.specs.Start as S
 use Rattle.device_defs.specs.Start.{start}
 use Rattle.device_defs.specs.Store.{patch_at, side_of}
+use Rattle.device_laws.specs.NewDevice.{device_on, store_on}
 use Rattle.device_laws.specs.Unharmed.{CacheKept, IsFramed, IsUncached}
 use Rattle.device_laws.proofs.Based.{Base, Any, Based, kept, based_any}
-use Rattle.device_laws.proofs.BasedEvents.{base_in, with_one_loss, command_based, second_based, background_based, lose_based, power_based, reset_body}
+use Rattle.device_laws.proofs.BasedEvents.{base_in, with_one_loss, command_based, second_based, background_based, lose_based, peek_based, power_based, reset_body}
 use Rattle.device_laws.proofs.FramesKept.{plates_of, HasFrames}
 use Rattle.device_laws.proofs.FramesLaws.{
   framed_frames,
@@ -38,13 +42,13 @@ use Rattle.device_laws.proofs.FramesLaws.{
   excused_tracks,
 }
 use Rattle.device_laws.proofs.Harmless.{reset_goes}
-use Rattle.device_laws.proofs.invariants.PatchesHaveFrames.{command_frames, second_event_frames, background_frames, reset_frames}
+use Rattle.device_laws.proofs.invariants.PatchesHaveFrames.{command_frames, second_event_frames, background_frames, peek_frames, reset_frames}
 use Rattle.device_laws.proofs.LossLaws.{some_counted, kept_counts}
 use Rattle.device_laws.proofs.Lucky.{Lucky, top, failed_in, never_falls, where_none_failed}
 use Rattle.device_laws.proofs.TrackMarks.{marks_are_faithful}
 use Rattle.device_laws.proofs.Unchecked.{lucky_both}
 use Rattle.device_laws.proofs.Unlost.{core_of, Fine, steady_tried}
-use Rattle.device_laws.proofs.invariants.NoTrackIsLost.{command_goes, background_goes, second_event_goes}
+use Rattle.device_laws.proofs.invariants.NoTrackIsLost.{command_goes, background_goes, peek_goes, second_event_goes}
 use Rattle.subsystem_defs.specs.Decks as D
 use Rattle.subsystem_defs.specs.Decks.{opened_device, opened, run_of}
 use Rattle.subsystem_defs.specs.Lines.{asked_by}
@@ -136,6 +140,21 @@ module _ (d : MarksDevice) (f : Framed d) where
             let well = f.fair.good.well was in
             uncached_at (background by_plain d) x was
             (λ w g. lucky_both (background_goes by_plain marks_are_faithful d well) (background_frames by_plain marks_are_faithful d none g)) t;
+      }
+
+  pub peek_framed : (n : ℕ) → LeavesSo Fair (peek by_plain d n) → LeavesSo Framed (peek by_plain d n)
+  peek_framed n fair = λ t.
+      let y = t.state in
+      let x = peek_based by_plain d n in
+      record {
+        fair = fair t;
+        un = λ home.
+            let was = home_before d y (at (stays_still x) t).2 false home in
+            let well = f.fair.good.well was in
+            uncached_at (peek by_plain d n) x was
+            (λ w g. let steady = framed_steady by_plain d.store w in
+            lucky_both (peek_goes by_plain marks_are_faithful d n well (steady_tried d.store steady))
+            (peek_frames by_plain marks_are_faithful d n (steady_tried d.store steady) g)) t;
       }
 
   cut_framed : (path : ℕ) → LeavesSo Fair (reset by_plain d path) → LeavesSo Framed (reset by_plain d path)
@@ -234,15 +253,16 @@ framed_kept = record {
 
 -- The run
 
-pub new_framed : (number : ℕ) (on : Geometry) (n : ℕ) (plans : Plans) → Fair (new_device number on n plans) → Framed (new_device number on n plans)
-new_framed number on n plans fair = record {
+pub new_framed : (number : ℕ) (on : Geometry) (n : ℕ) (v : List Track) (plans : Plans) → Fair (device_on number on n v plans) →
+    Framed (device_on number on n v plans)
+new_framed number on n v plans fair = record {
   fair = fair;
   un = λ home none. record {
     up = refl;
     kept = λ t. empty_places (n * 15) t false;
     half = λ h is. absurd (cc);
     framed = λ q other patched.
-        let past : patch_at (new_store number on n) q ≡ None = empty_places (n * 15) q None in
+        let past : patch_at (store_on number on n v) q ≡ None = empty_places (n * 15) q None in
         absurd (let both : false ≡ true = sym (ap (λ (o : Option (Unit {0})). is_some o) past) ∙ patched in cc);
   };
 }
@@ -250,8 +270,8 @@ new_framed number on n plans fair = record {
 opened_framed : (deck : DeckLines) (ds : List DeviceLine) → All (λ (d : DeviceLine). 1 ≤ d.cylinders) ds → AreSo Framed (map (opened_device deck) ds)
 opened_framed deck [] h = tt
 opened_framed deck (d ∷ ds) h = (
-  new_framed d.number d.geometry d.cylinders _
-      (new_fair d.number d.geometry d.cylinders _ (All-head (λ (d : DeviceLine). 1 ≤ d.cylinders) d ds h)),
+  new_framed d.number d.geometry d.cylinders (empty_volume d.cylinders) _
+      (new_fair d.number d.geometry d.cylinders (empty_volume d.cylinders) _ (All-head (λ (d : DeviceLine). 1 ≤ d.cylinders) d ds h)),
   opened_framed deck ds (All-tail (λ (d : DeviceLine). 1 ≤ d.cylinders) d ds h),
 )
 

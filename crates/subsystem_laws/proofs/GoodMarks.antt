@@ -7,6 +7,8 @@ use Rattle.ckd_chain.specs.State.{ChainState}
 use Rattle.ckd_types.specs.declared.geometry.Geometry.{Geometry}
 use Rattle.ckd_types.specs.declared.paths.Side.{Side}
 use Rattle.ckd_types.specs.declared.paths.Side.TheVariants.{A, B}
+use Rattle.ckd_types.specs.declared.record.Track.{Track}
+use Rattle.ckd_types.specs.Volume.{empty_volume}
 use Rattle.deck_text.specs.declared.line.DeviceLine.{DeviceLine}
 use Rattle.deck_text.specs.DeckLines.{DeckLines}
 use Rattle.loss_model.specs.declared.Loss.{Loss}
@@ -19,14 +21,16 @@ use Rattle.device_defs.specs.Command.{command}
 use Rattle.device_defs.specs.Contents.{by_plain}
 use Rattle.device_defs.specs.Cutting.{reset, power}
 use Rattle.device_defs.specs.Events.{second, lose, background}
-use Rattle.device_defs.specs.Marks.{MarksDevice, MarksStore, new_store, new_device}
+use Rattle.device_defs.specs.Marks.{MarksDevice, MarksStore}
 use Rattle.device_defs.specs.Orders.{join, split, restore, hold_side, resume, replace, lend}
+use Rattle.device_defs.specs.Peek.{peek}
 use Rattle.device_defs.specs.Start as S
 use Rattle.device_defs.specs.Start.{fault_by, start_fault, start, next_program}
 use Rattle.device_defs.specs.Store.{HalfWrite, tracks_of, stale_at, is_lost, half_is, side_of, store_fixed}
+use Rattle.device_laws.specs.NewDevice.{device_on, store_on}
 use Rattle.device_laws.specs.Standing.{IsWithin}
 use Rattle.device_laws.specs.Unharmed.{MarksAreGood}
-use Rattle.device_laws.proofs.BasedEvents.{command_based, second_based, background_based, lose_based, power_based, reset_body}
+use Rattle.device_laws.proofs.BasedEvents.{command_based, second_based, background_based, lose_based, peek_based, power_based, reset_body}
 use Rattle.device_laws.proofs.Changes as C
 use Rattle.device_laws.proofs.ChainTracks.{within_stays, whole_cylinders}
 use Rattle.device_laws.proofs.Commands.{command_keeps_good}
@@ -38,7 +42,7 @@ use Rattle.device_laws.proofs.Powers.{power_keeps_good}
 use Rattle.device_laws.proofs.Soundness.{good_is_sound, good_is_nowhere}
 use Rattle.device_laws.proofs.TrackMarks as M
 use Rattle.device_laws.proofs.TrackMarks.{marks_are_faithful, marks, is_good, track_at}
-use Rattle.device_laws.proofs.WholeEvents.{second_keeps_good, background_keeps_good, reset_keeps_good}
+use Rattle.device_laws.proofs.WholeEvents.{second_keeps_good, background_keeps_good, peek_keeps_good, reset_keeps_good}
 use Rattle.subsystem_defs.specs.declared.end.OrderFault.TheVariants.{Same, Paired, Unpaired, Half, Down}
 use Rattle.subsystem_defs.specs.Decks as D
 use Rattle.subsystem_defs.specs.Decks.{opened_device, opened, run_of}
@@ -50,7 +54,7 @@ use Rattle.subsystem_laws.specs.Causes.{HasGoodMarks, HaveGoodMarks}
 use Rattle.subsystem_laws.specs.Served.{IsServedDeck}
 use Rattle.subsystem_laws.proofs.Came.{at}
 use Rattle.subsystem_laws.proofs.ChainPlaces.{on_is_within, begins_on}
-use Rattle.subsystem_laws.proofs.ChainRuns.{HasChainOn, command_on, second_on, background_on, lose_on, power_on, reset_on, lend_on}
+use Rattle.subsystem_laws.proofs.ChainRuns.{HasChainOn, command_on, second_on, background_on, peek_on, lose_on, power_on, reset_on, lend_on}
 use Rattle.subsystem_laws.proofs.LendBase.{stays_still, lend_lends}
 use Rattle.subsystem_laws.proofs.RunLines.{AnyEvent}
 use Rattle.subsystem_laws.proofs.Walks.{IsFree, IsKept, none_lent, AreSo, LeavesSo, run_keeps, behind_weaker}
@@ -138,6 +142,14 @@ module _ (d : MarksDevice) (g : Good d) where
       let b = at (stays_still (background_based by_plain d)) t in
       goes d y b.1 b.2 (at (background_on by_plain d.store.cylinders g.some d g.chain) t)
       (λ w. (at (background_keeps_good by_plain marks_are_faithful d w none) t).well) (λ away x. at (background_away by_plain d x) t) g
+
+  -- a look past the channel
+  pub peek_good : is_some d.store.lent ≡ false → (n : ℕ) → n < tracks_of d.store → LeavesSo Good (peek by_plain d n)
+  peek_good home n lt = λ t.
+      let y = t.state in
+      let b = at (stays_still (peek_based by_plain d n)) t in
+      goes d y b.1 b.2 (at (peek_on by_plain d.store.cylinders g.some d n g.chain) t)
+      (λ w. (at (peek_keeps_good by_plain marks_are_faithful d n lt w) t).well) (λ away x. not_both (is_some d.store.lent) away home) g
 
   loss_good : (loss : Loss) → (is_some d.store.lent ≡ true → (side : Side) → loss ≡ losses.Side side → ⊥) → LeavesSo Good (lose by_plain d loss)
   loss_good loss other = λ t.
@@ -291,9 +303,9 @@ good_kept = record {
 
 -- A new device
 
-module _ (number : ℕ) (on : Geometry) (n : ℕ) where
+module _ (number : ℕ) (on : Geometry) (n : ℕ) (v : List Track) where
   abbrev s : MarksStore
-  s = new_store number on n
+  s = store_on number on n v
 
   new_sizes : HasSizes s
   new_sizes = record {
@@ -325,14 +337,14 @@ module _ (number : ℕ) (on : Geometry) (n : ℕ) where
     kept = λ q lt e. absurd (cc);
   }
 
-pub new_good : (number : ℕ) (on : Geometry) (n : ℕ) (plans : Plans) → 1 ≤ n → Good (new_device number on n plans)
-new_good number on n plans some = record { some = omega (arith, some); chain = tt; well = λ home. new_well number on n; gone = λ away. absurd (cc) }
+pub new_good : (number : ℕ) (on : Geometry) (n : ℕ) (v : List Track) (plans : Plans) → 1 ≤ n → Good (device_on number on n v plans)
+new_good number on n v plans some = record { some = omega (arith, some); chain = tt; well = λ home. new_well number on n v; gone = λ away. absurd (cc) }
 
 pub opened_good : (deck : DeckLines) (ds : List DeviceLine) → All (λ (d : DeviceLine). 1 ≤ d.cylinders) ds → AreSo Good (map (opened_device deck) ds)
 opened_good deck [] h = tt
 opened_good deck (d ∷ ds) h =
     let some = All-head (λ (d : DeviceLine). 1 ≤ d.cylinders) d ds h in (
-      record { some = omega (arith, some); chain = tt; well = λ home. new_well d.number d.geometry d.cylinders; gone = λ away. absurd (cc) },
+      record { some = omega (arith, some); chain = tt; well = λ home. new_well d.number d.geometry d.cylinders (empty_volume d.cylinders); gone = λ away. absurd (cc) },
       opened_good deck ds (All-tail (λ (d : DeviceLine). 1 ≤ d.cylinders) d ds h),
     )
 

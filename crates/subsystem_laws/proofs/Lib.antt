@@ -52,6 +52,7 @@ pub mod ExcusedRuns
 pub mod FramesRuns
 pub mod LooseRuns
 pub mod ExcusedDevices
+pub mod PlannedPrograms
 pub mod Excusable
 pub mod AboutRuns
 pub mod UnfailingRuns

@@ -18,11 +18,12 @@ use Rattle.device_defs.specs.Cutting.{reset, power}
 use Rattle.device_defs.specs.Events.{second, lose, background}
 use Rattle.device_defs.specs.Marks.{MarksDevice}
 use Rattle.device_defs.specs.Orders.{join, split, restore, hold_side, resume, replace, lend}
+use Rattle.device_defs.specs.Peek.{peek}
 use Rattle.device_defs.specs.Start as S
 use Rattle.device_defs.specs.Start.{start, next_ordinal}
 use Rattle.device_laws.specs.Unharmed.{all_losses, running_losses, LossesAreCounted}
-use Rattle.device_laws.proofs.BasedEvents.{command_based, second_based, background_based, lose_based, power_based, reset_body}
-use Rattle.device_laws.proofs.LooseLosses.{most_lost, command_has, second_has, background_has, lose_has, reset_has, power_has}
+use Rattle.device_laws.proofs.BasedEvents.{command_based, second_based, background_based, lose_based, peek_based, power_based, reset_body}
+use Rattle.device_laws.proofs.LooseLosses.{most_lost, command_has, second_has, background_has, lose_has, peek_has, reset_has, power_has}
 use Rattle.device_laws.proofs.LossLaws.{counted_excuse}
 use Rattle.device_laws.proofs.Lucky.{top, counted_rises}
 use Rattle.subsystem_defs.specs.declared.end.EventEnd.TheVariants as ends
@@ -104,6 +105,9 @@ module _ (d : MarksDevice) where
 
   pub background_counts : (t : CameTo (background by_plain d)) → Counted d t.state
   background_counts t = none_counted d _ (at (stays_still (background_based by_plain d)) t).3 (at (background_has by_plain before d refl) t)
+
+  pub peek_counts : (n : ℕ) (t : CameTo (peek by_plain d n)) → Counted d t.state
+  peek_counts n t = none_counted d _ (at (stays_still (peek_based by_plain d n)) t).3 (at (peek_has by_plain before d n refl) t)
 
   pub reset_counts : (path : ℕ) (t : CameTo (reset by_plain d path)) → Counted d t.state
   reset_counts path t = none_counted d _ (at (stays_still (reset_body by_plain d path)) t).3 (at (reset_has by_plain before d path refl) t)

@@ -4,6 +4,7 @@ use Rattle.std.proofs.lemmas.List.Elements.{All-head, All-tail}
 use Rattle.std.specs.Prelude.{All, ◌||◌}
 use Rattle.ckd_types.specs.declared.paths.Side.{Side}
 use Rattle.ckd_types.specs.declared.paths.Side.TheVariants as sides
+use Rattle.ckd_types.specs.Volume.{empty_volume}
 use Rattle.deck_text.specs.declared.line.DeviceLine.{DeviceLine}
 use Rattle.deck_text.specs.DeckLines.{DeckLines}
 use Rattle.plain_defs.specs.declared.journal.Item.{Item}
@@ -262,7 +263,7 @@ quiet_kept = record {
 pub opened_quiet : (deck : DeckLines) (ds : List DeviceLine) → All (λ (d : DeviceLine). 1 ≤ d.cylinders) ds → AreSo Quiet (map (opened_device deck) ds)
 opened_quiet deck [] h = tt
 opened_quiet deck (d ∷ ds) h = (
-  record { fair = new_fair d.number d.geometry d.cylinders _ (All-head (λ (d : DeviceLine). 1 ≤ d.cylinders) d ds h); none = λ n c. (refl, refl) },
+  record { fair = new_fair d.number d.geometry d.cylinders (empty_volume d.cylinders) _ (All-head (λ (d : DeviceLine). 1 ≤ d.cylinders) d ds h); none = λ n c. (refl, refl) },
   opened_quiet deck ds (All-tail (λ (d : DeviceLine). 1 ≤ d.cylinders) d ds h),
 )
 

@@ -31,6 +31,8 @@ use Rattle.std.specs.Prelude.{◌||◌, if◌then◌else◌}
 use Rattle.ckd_types.specs.declared.geometry.Geometry.{Geometry}
 use Rattle.ckd_types.specs.declared.paths.Side.{Side}
 use Rattle.ckd_types.specs.declared.paths.Side.TheVariants as sides
+use Rattle.ckd_types.specs.declared.record.Track.{Track}
+use Rattle.ckd_types.specs.Volume.{empty_volume}
 use Rattle.deck_text.specs.declared.line.DeviceLine.{DeviceLine}
 use Rattle.deck_text.specs.DeckLines.{DeckLines}
 use Rattle.loss_model.specs.declared.Loss.TheVariants as losses
@@ -46,12 +48,14 @@ use Rattle.device_defs.specs.Command.{command}
 use Rattle.device_defs.specs.Contents.{by_plain}
 use Rattle.device_defs.specs.Cutting.{reset, power}
 use Rattle.device_defs.specs.Events.{second, lose, background}
-use Rattle.device_defs.specs.Marks.{MarksDevice, new_device}
+use Rattle.device_defs.specs.Marks.{MarksDevice}
 use Rattle.device_defs.specs.Orders.{restore, replace}
+use Rattle.device_defs.specs.Peek.{peek}
 use Rattle.device_defs.specs.Start as S
 use Rattle.device_defs.specs.Start.{start}
+use Rattle.device_laws.specs.NewDevice.{device_on}
 use Rattle.device_laws.proofs.Based.{Base, Any, Based, kept, based_any}
-use Rattle.device_laws.proofs.BasedEvents.{base_in, with_one_loss, command_based, second_based, background_based, lose_based, power_based, reset_body}
+use Rattle.device_laws.proofs.BasedEvents.{base_in, with_one_loss, command_based, second_based, background_based, lose_based, peek_based, power_based, reset_body}
 use Rattle.device_laws.proofs.LossLaws.{some_counted}
 use Rattle.device_laws.proofs.Lucky.{top}
 use Rattle.subsystem_defs.specs.Decks.{opened_device}
@@ -70,12 +74,13 @@ use Rattle.subsystem_laws.proofs.StoreFacts.{
   second_leaves,
   background_leaves,
   lose_leaves,
+  peek_leaves,
   power_leaves,
   reset_leaves,
 }
 use Rattle.subsystem_laws.proofs.LendBase.{stays_still, lend_lends}
 use Rattle.subsystem_laws.proofs.RunLines.{AnyEvent}
-use Rattle.subsystem_laws.proofs.Shapes.{Shape, command_shape, second_shape, background_shape, lose_shape, reset_shape, power_shape}
+use Rattle.subsystem_laws.proofs.Shapes.{Shape, command_shape, second_shape, background_shape, lose_shape, peek_shape, reset_shape, power_shape}
 use Rattle.subsystem_laws.proofs.Walks.{AreSo, IsKept}
 
 -- Sides that are down
@@ -189,6 +194,11 @@ event_paid d i b lent sides x t leaves s f never none =
     let k = at (stays_still x) t in
     leaves (f (never_before d y (k.2 ∙ lent) s never) (sym sides ∙ ap (λ (l : Losses). l.sides) (sym k.3) ∙ none))
 
+pub peek_paid : (d : MarksDevice) (n : ℕ) (t : CameTo (peek by_plain d n)) → PaidFor d → PaidFor t.state
+peek_paid d n t f =
+    event_paid d (peek by_plain d n) (kept d.store) refl refl (peek_based by_plain d n) t (λ p. at (peek_leaves by_plain Paid paid_bears d n p) t)
+    (peek_shape d n t) f
+
 side_lost_paid : (d : MarksDevice) (side : Side) (t : CameTo (lose by_plain d (losses.Side side))) → PaidFor t.state
 side_lost_paid d side t never none =
     absurd (some_counted d.store.counts.losses.sides
@@ -250,12 +260,12 @@ paid_kept = record {
   restored = λ d a is f. λ never none. not_both (has_fresh (restore d).history.items) (fresh_last d.history.items) never.none;
 }
 
-pub new_paid : (number : ℕ) (on : Geometry) (n : ℕ) (plans : Plans) → PaidFor (new_device number on n plans)
-new_paid number on n plans never none = record { pair = λ e. absurd (cc); alone = λ e. refl }
+pub new_paid : (number : ℕ) (on : Geometry) (n : ℕ) (v : List Track) (plans : Plans) → PaidFor (device_on number on n v plans)
+new_paid number on n v plans never none = record { pair = λ e. absurd (cc); alone = λ e. refl }
 
 pub opened_paid : (deck : DeckLines) (ds : List DeviceLine) → AreSo PaidFor (map (opened_device deck) ds)
 opened_paid deck [] = tt
-opened_paid deck (d ∷ ds) = (new_paid d.number d.geometry d.cylinders _, opened_paid deck ds)
+opened_paid deck (d ∷ ds) = (new_paid d.number d.geometry d.cylinders (empty_volume d.cylinders) _, opened_paid deck ds)
 
 -- So no side is up only where a side was lost, or two calls failed
 

@@ -1,6 +1,29 @@
 -- In the run of a deck each device's history is one of a plain device after every event.
-use Rattle.std.proofs.Common.{◌≡◌, ◌≤◌, ◌==◌, ℕ, Bool, true, List, [], ◌∷◌, map, Option, Some, None, refl, subst, arith}
+use Rattle.std.proofs.Common.{
+  ◌≡◌,
+  ◌≤◌,
+  ◌*◌,
+  ◌==◌,
+  ℕ,
+  Bool,
+  true,
+  List,
+  [],
+  ◌∷◌,
+  length,
+  map,
+  Option,
+  Some,
+  None,
+  refl,
+  sym,
+  ap,
+  subst,
+  ◌∙◌,
+  arith,
+}
 use Rattle.std.specs.Prelude.{not, All}
+use Rattle.std.proofs.lemmas.List.FromFn.{length-map-range_with_len}
 use Rattle.std.proofs.lemmas.List.Elements.{All-nil, All-cons, All-head, All-tail}
 use Rattle.deck_plan.specs.declared.event.EventLine.{EventLine}
 use Rattle.deck_text.specs.declared.line.DeviceLine.{DeviceLine}
@@ -10,16 +33,21 @@ use Rattle.plain_defs.specs.Journal.{Plans}
 use Rattle.plain_defs.specs.PlainState.{PlainState}
 use Rattle.ckd_types.specs.declared.geometry.Geometry as geometries
 use Rattle.ckd_types.specs.declared.paths.Side.{Side}
+use Rattle.ckd_types.specs.declared.record.Track.{Track}
+use Rattle.ckd_types.specs.Track.{empty_track}
+use Rattle.ckd_types.specs.Volume.{empty_volume}
 use Rattle.ckd_types.specs.declared.paths.Side.TheVariants.{A, B}
 use Rattle.loss_model.specs.declared.Loss.TheVariants as losses
 use Rattle.track_image.specs.Image.{Image}
 use Rattle.device_outside.specs.Interaction.{Interaction}
 use Rattle.device_defs.specs.Orders.{join, split, restore, hold_side, resume, replace}
+use Rattle.device_defs.specs.Start.{start}
 use Rattle.device_defs.specs.Marks.{MarksDevice, MarksStore, new_device}
+use Rattle.device_laws.specs.NewDevice.{device_on, first_state}
 use Rattle.device_laws.proofs.Had.{Had}
 use Rattle.device_laws.proofs.PlainCommand.{command_follows, follows_store}
 use Rattle.device_laws.proofs.PlainCuts.{reset_follows}
-use Rattle.device_laws.proofs.PlainEvents.{new_follows, start_follows}
+use Rattle.device_laws.proofs.PlainEvents.{first_follows, start_follows}
 use Rattle.device_laws.proofs.PlainLosses.{loss_follows, background_follows}
 use Rattle.device_laws.proofs.PlainOrders.{lend_follows, restore_follows}
 use Rattle.device_laws.proofs.PlainPower.{power_follows}
@@ -33,7 +61,7 @@ use Rattle.subsystem_defs.specs.Decks as D
 use Rattle.subsystem_defs.specs.Decks.{opened_device, opened, run_of}
 use Rattle.subsystem_defs.specs.Happening.{is_lent_to, happens}
 use Rattle.subsystem_defs.specs.Lines.{Asked, Once, Replace, Unpair, Run, Settle, asked_by, Logged, line_logged, last_behind}
-use Rattle.subsystem_defs.specs.Promised.{HasPlainHistory, IsPlainBehind}
+use Rattle.subsystem_defs.specs.Promised.{HasPlainHistory, IsPlainBehind, first_of}
 use Rattle.subsystem_defs.specs.Subsystem.{Mounted, Subsystem, devices_of}
 use Rattle.subsystem_defs.specs.Refusals as R
 use Rattle.subsystem_defs.specs.Refusals.{first_cause, where_so, lent_by, active_by, is_alike, pair_fault}
@@ -44,38 +72,64 @@ use Rattle.subsystem_laws.proofs.Came.{came_had}
 use Rattle.subsystem_laws.proofs.RunLines.{MayAsk}
 use Rattle.subsystem_laws.proofs.Walks.{HasOwn, IsKept, AreSo, event_so, line_keeps, lines_keep_so, lines_end_so, behind_weaker}
 
--- a device that follows the plain device of its history
-pub record Plainly (d : MarksDevice) : Type 0 where
+-- a device that follows the plain device of its history, on a volume that held these tracks first, where it has so many cylinders
+pub record PlainlyOn (first : ℕ → List Track) (d : MarksDevice) : Type 0 where
   pub number : ℕ
   pub empty : PlainState
   pub follows : Follows number empty d
+  pub base : empty ≡ first_of first d
+
+-- on an empty one
+abbrev pub Plainly : MarksDevice → Type 0
+Plainly d = PlainlyOn empty_volume d
 
 abbrev pub ArePlain : List Mounted → Type 0
 ArePlain ms = AreSo Plainly ms
 
 plain_history : (d : MarksDevice) → Plainly d → HasPlainHistory d
-plain_history d p = subst (λ (x : PlainState). IsPlain d.plans x d.history) p.follows.base p.follows.stands.plain
+plain_history d p = subst (λ (x : PlainState). IsPlain d.plans x d.history) p.base p.follows.stands.plain
+
+-- Another device that follows the same began so too
+
+pub still_first : (first : ℕ → List Track) (num : ℕ) (empty : PlainState) (y : MarksDevice) → Follows num empty y →
+    empty.volume ≡ first empty.cylinders → empty ≡ first_of first y
+still_first first num empty y f held =
+    f.base
+    ∙ ap (first_state y.store.geometry y.store.cylinders) (held ∙ ap (λ (x : PlainState). first x.cylinders) f.base)
+
+pub first_held : (first : ℕ → List Track) (empty : PlainState) (d : MarksDevice) → empty ≡ first_of first d → empty.volume ≡ first empty.cylinders
+first_held first empty d base =
+    ap (λ (x : PlainState). x.volume) base ∙ sym (ap (λ (x : PlainState). first x.cylinders) base)
 
 -- Deeds that leave each device's history plain
 
-leaves : {A : Type 0} {talk : Interaction Bool Image MarksDevice A} (d : MarksDevice) (p : Plainly d) → Had talk (λ y (_ : A). Follows p.number p.empty y) →
-    (t : CameTo talk) → Plainly t.state
-leaves d p h t = record { number = p.number; empty = p.empty; follows = came_had h t }
+module _ {first : ℕ → List Track} where
+  pub follows_on : (d y : MarksDevice) (p : PlainlyOn first d) → Follows p.number p.empty y → PlainlyOn first y
+  follows_on d y p f = record {
+    number = p.number;
+    empty = p.empty;
+    follows = f;
+    base = still_first first p.number p.empty y f (first_held first p.empty d p.base);
+  }
 
--- an order that changes nothing of what a plain device has
-stored : (d : MarksDevice) (z : MarksStore) → core_of z ≡ core_of d.store → Plainly d → Plainly (record d { store = z })
-stored d z e p = record { number = p.number; empty = p.empty; follows = follows_store p.number p.empty d p.follows z e }
+  leaves : {A : Type 0} {talk : Interaction Bool Image MarksDevice A} (d : MarksDevice) (p : PlainlyOn first d) →
+      Had talk (λ y (_ : A). Follows p.number p.empty y) → (t : CameTo talk) → PlainlyOn first t.state
+  leaves d p h t = follows_on d t.state p (came_had h t)
 
-replaced_side : (d : MarksDevice) (side : Side) → Plainly d → Plainly (replace d side)
-replaced_side d A p = stored d (replace d A).store refl p
-replaced_side d B p = stored d (replace d B).store refl p
+  -- an order that changes nothing of what a plain device has
+  stored : (d : MarksDevice) (z : MarksStore) → core_of z ≡ core_of d.store → PlainlyOn first d → PlainlyOn first (record d { store = z })
+  stored d z e p = follows_on d (record d { store = z }) p (follows_store p.number p.empty d p.follows z e)
+
+  replaced_side : (d : MarksDevice) (side : Side) → PlainlyOn first d → PlainlyOn first (replace d side)
+  replaced_side d A p = stored d (replace d A).store refl p
+  replaced_side d B p = stored d (replace d B).store refl p
 
 home_lent : (l : Option ℕ) (a : ℕ) (r : Option OpenEntry) → is_lent_to l a ≡ true → IsAtHome l r → r ≡ None
 home_lent (Some to) a r is home = home
 home_lent None a r is home = absurd (cc)
 
-restored : (d : MarksDevice) → d.history.running ≡ None → Plainly d → Plainly (restore d)
-restored d none p = record { number = p.number; empty = p.empty; follows = restore_follows p.number p.empty d p.follows none }
+restored : {first : ℕ → List Track} (d : MarksDevice) → d.history.running ≡ None → PlainlyOn first d → PlainlyOn first (restore d)
+restored d none p = follows_on d (restore d) p (restore_follows p.number p.empty d p.follows none)
 
 -- a device is lent while it runs nothing
 
@@ -97,13 +151,9 @@ lent_is_idle x y is =
     (where_so y.store.paired Paired) (active_by x.history.running) (active_by y.history.running)
     (where_so (not (is_alike x.store y.store)) Geometry ∷ where_so (not x.store.a.up) Down ∷ where_so (not y.store.a.up) Down ∷ []) is)
 
-pub plain_kept : IsKept Plainly IsServedEvent
-plain_kept = record {
-  started = λ d path n may fault p. record {
-    number = p.number;
-    empty = p.empty;
-    follows = start_follows p.number p.empty d p.follows path may.0 may.1 fault;
-  };
+pub plain_kept_on : (first : ℕ → List Track) → IsKept (PlainlyOn first) IsServedEvent
+plain_kept_on first = record {
+  started = λ d path n may fault p. follows_on d (start d path) p (start_follows p.number p.empty d p.follows path may.0 may.1 fault);
   commanded = λ d o running whole p. leaves d p (command_follows p.number p.empty d p.follows o running whole);
   seconded = λ d h is p. leaves d p (second_follows p.number p.empty d p.follows h is);
   worked = λ d whole p. leaves d p (background_follows p.number p.empty d p.follows whole);
@@ -120,6 +170,9 @@ plain_kept = record {
   splits = λ d fault p. stored d (split d).store refl p;
   restored = λ d a is p. restored d (home_lent d.store.lent a d.history.running is p.follows.home) p;
 }
+
+pub plain_kept : IsKept Plainly IsServedEvent
+plain_kept = plain_kept_on empty_volume
 
 -- Lines
 
@@ -149,8 +202,17 @@ line_plain x s h p = line_keeps Plainly IsServedEvent plain_kept plain_own x s (
 
 -- Decks
 
+pub first_plainly : (first : ℕ → List Track) (number : ℕ) (on : geometries.Geometry) (n : ℕ) (plans : Plans) → length (first n) ≡ n * 15 → 1 ≤ n →
+    PlainlyOn first (device_on number on n (first n) plans)
+first_plainly first number on n plans many some = record {
+  number = number;
+  empty = first_state on n (first n);
+  follows = first_follows number on n (first n) plans many (omega (arith, some));
+  base = refl;
+}
+
 pub new_plainly : (number : ℕ) (on : geometries.Geometry) (n : ℕ) (plans : Plans) → 1 ≤ n → Plainly (new_device number on n plans)
-new_plainly number on n plans some = record { number = _; empty = _; follows = new_follows number on n plans (omega (arith, some)) }
+new_plainly number on n plans some = first_plainly empty_volume number on n plans (length-map-range_with_len empty_track 0 (n * 15)) some
 
 pub opened_plain : (deck : DeckLines) (ds : List DeviceLine) → All (λ (d : DeviceLine). 1 ≤ d.cylinders) ds → ArePlain (map (opened_device deck) ds)
 opened_plain deck [] h = tt

@@ -40,6 +40,7 @@ use Rattle.device_defs.specs.Device.{all_acted, event_begun}
 use Rattle.device_defs.specs.Events.{second, lose, background}
 use Rattle.device_defs.specs.Marks.{MarksDevice}
 use Rattle.device_defs.specs.Owed.{waiting_count, noted_end as event_end}
+use Rattle.device_defs.specs.Peek.{peek}
 use Rattle.device_laws.proofs.Always.{Always, always_done, always_then}
 use Rattle.device_laws.proofs.HistoryTold.{
   HasActed,
@@ -52,6 +53,7 @@ use Rattle.device_laws.proofs.HistoryTold.{
   loss_told,
   background_told,
   command_told,
+  peek_told,
   second_event_told,
 }
 use Rattle.device_laws.proofs.KeptEvents.{always_any, always_if}
@@ -220,6 +222,9 @@ module _ (d : MarksDevice) where
 
   pub background_shape : (t : CameTo (background by_plain d)) → Shape d.history t.state.history
   background_shape t = acted_shape d.history _ (at (background_told by_plain d) t)
+
+  pub peek_shape : (n : ℕ) (t : CameTo (peek by_plain d n)) → Shape d.history t.state.history
+  peek_shape n t = acted_shape d.history _ (at (peek_told by_plain d n) t)
 
   pub lose_shape : (loss : Loss) (t : CameTo (lose by_plain d loss)) → Shape d.history t.state.history
   lose_shape loss t = acted_shape d.history _ (at (loss_told by_plain d loss) t)

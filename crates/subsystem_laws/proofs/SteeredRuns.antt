@@ -4,17 +4,20 @@ use Rattle.std.specs.Prelude.{not, ◌&&◌}
 use Rattle.ckd_types.specs.declared.paths.Side.{Side}
 use Rattle.ckd_types.specs.declared.paths.Side.TheVariants as sides
 use Rattle.ckd_types.specs.declared.geometry.Geometry.{Geometry}
+use Rattle.ckd_types.specs.declared.record.Track.{Track}
+use Rattle.ckd_types.specs.Volume.{empty_volume}
 use Rattle.loss_model.specs.declared.Loss.TheVariants as losses
 use Rattle.plain_defs.specs.Journal.{Plans}
 use Rattle.deck_text.specs.declared.line.DeviceLine.{DeviceLine}
 use Rattle.deck_text.specs.DeckLines.{DeckLines}
 use Rattle.track_table.proofs.Places.{empty_places}
 use Rattle.device_defs.specs.Contents.{by_plain}
-use Rattle.device_defs.specs.Marks.{MarksDevice, new_device}
+use Rattle.device_defs.specs.Marks.{MarksDevice}
 use Rattle.device_defs.specs.Orders.{replace, hold_side}
 use Rattle.device_defs.specs.Start as S
 use Rattle.device_defs.specs.Start.{start}
 use Rattle.device_defs.specs.Store.{HalfWrite, side_of, tracks_of}
+use Rattle.device_laws.specs.NewDevice.{device_on}
 use Rattle.device_laws.proofs.invariants.LedSides.{command_steers, second_steers, background_steers, lose_steers, power_steers, reset_steers, lend_steers}
 use Rattle.device_laws.proofs.invariants.LedSides.{state_of, IsSteered}
 use Rattle.subsystem_defs.specs.declared.end.OrderFault.TheVariants.{Same, Paired, Unpaired, Down, Up, NoSide, Half}
@@ -95,9 +98,9 @@ steered_kept = record {
   restored = λ d a is f. record { led = λ e. (refl, (f.led e).1); half = λ t e up. empty_places (tracks_of d.store) t false };
 }
 
-pub new_steered : (number : ℕ) (on : Geometry) (n : ℕ) (plans : Plans) → Steered (new_device number on n plans)
-new_steered number on n plans = record { led = λ e. absurd (cc); half = λ t e up. absurd (cc) }
+pub new_steered : (number : ℕ) (on : Geometry) (n : ℕ) (v : List Track) (plans : Plans) → Steered (device_on number on n v plans)
+new_steered number on n v plans = record { led = λ e. absurd (cc); half = λ t e up. absurd (cc) }
 
 pub opened_steered : (deck : DeckLines) (ds : List DeviceLine) → AreSo Steered (map (opened_device deck) ds)
 opened_steered deck [] = tt
-opened_steered deck (d ∷ ds) = (new_steered d.number d.geometry d.cylinders (opened_device deck d).device.plans, opened_steered deck ds)
+opened_steered deck (d ∷ ds) = (new_steered d.number d.geometry d.cylinders (empty_volume d.cylinders) (opened_device deck d).device.plans, opened_steered deck ds)

@@ -21,12 +21,22 @@ use Rattle.device_defs.specs.Image.{read_counted}
 use Rattle.device_defs.specs.Losses.{down, over, stale_everywhere}
 use Rattle.device_defs.specs.Orders as O
 use Rattle.device_defs.specs.Orders.{given_up, lend, lent_to, with_tracks}
+use Rattle.device_defs.specs.Peek.{peek}
 use Rattle.device_defs.specs.Store.{Store, tracks_of, is_loose, with_stale, with_frame}
 use Rattle.device_defs.specs.Writing.{write_counted}
 use Rattle.device_laws.proofs.Always.{Always}
 use Rattle.device_laws.proofs.walks.Within.{always, within_always, within_done, within_weaker}
 use Rattle.device_laws.proofs.walks.Moves.{Kind, Shut, Half, Losing, stays, moved, IsKept, moves_keep, IsEnded, ends_keep}
-use Rattle.device_laws.proofs.walks.Events.{quiet_leaves, command_leads, second_leads, background_leads, lose_leads, power_leads, reset_leads}
+use Rattle.device_laws.proofs.walks.Events.{
+  quiet_leaves,
+  command_leads,
+  second_leads,
+  background_leads,
+  lose_leads,
+  peek_leads,
+  power_leads,
+  reset_leads,
+}
 
 -- what is said of a store
 pub record Facts : Type 0 where
@@ -171,6 +181,9 @@ module _ {F P H R : Type 0} (c : Contents F P H R) (Q : Facts → Type 0) (bears
 
   pub second_leaves : (d : Device F P H) → So d.store → Leaves (second c d)
   second_leaves d f = within_always (within_weaker (second_leads always c tt d Half (λ e. absurd (cc))) (λ n e a m. ends_keep half_kept (facts_ended Half) f m))
+
+  pub peek_leaves : (d : Device F P H) (t : ℕ) → So d.store → Leaves (peek c d t)
+  peek_leaves d t f = within_always (within_weaker (peek_leads always c tt d Half t) (λ n e a m. ends_keep half_kept (facts_ended Half) f m))
 
   pub lose_leaves : (d : Device F P H) (loss : Loss) → So d.store → ((x : Facts) → Q x → MayFall loss x) → Leaves (lose c d loss)
   lose_leaves d loss f falls =

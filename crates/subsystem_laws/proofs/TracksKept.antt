@@ -5,6 +5,8 @@ use Rattle.std.specs.Prelude.{All, not, ◌*◌}
 use Rattle.ckd_types.specs.declared.geometry.Geometry.{Geometry}
 use Rattle.ckd_types.specs.declared.paths.Side.{Side}
 use Rattle.ckd_types.specs.declared.paths.Side.TheVariants as sides
+use Rattle.ckd_types.specs.declared.record.Track.{Track}
+use Rattle.ckd_types.specs.Volume.{empty_volume}
 use Rattle.deck_text.specs.declared.line.DeviceLine.{DeviceLine}
 use Rattle.deck_text.specs.DeckLines.{DeckLines}
 use Rattle.loss_model.specs.declared.Loss.{Loss}
@@ -21,24 +23,26 @@ use Rattle.device_defs.specs.Command.{command}
 use Rattle.device_defs.specs.Contents.{by_plain}
 use Rattle.device_defs.specs.Cutting.{reset, power}
 use Rattle.device_defs.specs.Events.{second, lose, background}
-use Rattle.device_defs.specs.Marks.{MarksDevice, new_device}
+use Rattle.device_defs.specs.Marks.{MarksDevice}
 use Rattle.plain_defs.specs.Journal.{Plans}
 use Rattle.device_defs.specs.Orders.{restore, replace, lend}
+use Rattle.device_defs.specs.Peek.{peek}
 use Rattle.device_defs.specs.Start as S
 use Rattle.device_defs.specs.Start.{start}
 use Rattle.device_defs.specs.Store.{tracks_of, level_at, stale_at, side_of}
+use Rattle.device_laws.specs.NewDevice.{device_on}
 use Rattle.device_laws.specs.Unharmed.{NothingLost, IsWholeOnA, IsUnharmed}
 use Rattle.device_laws.proofs.Always as A
 use Rattle.device_laws.proofs.Always.{Behind, Always}
 use Rattle.device_laws.proofs.Based.{Base, Any, Based, kept, based_any, based_done, based_try, based_ask, based_read, based_write, based_tell}
-use Rattle.device_laws.proofs.BasedEvents.{base_in, with_one_loss, command_based, second_based, background_based, lose_based, power_based, reset_body}
+use Rattle.device_laws.proofs.BasedEvents.{base_in, with_one_loss, command_based, second_based, background_based, lose_based, peek_based, power_based, reset_body}
 use Rattle.device_laws.proofs.Harmless.{cache_goes, power_goes, reset_goes}
 use Rattle.device_laws.proofs.LossLaws.{whole_behind, some_counted, kept_counts, unharmed_counts, held_unharmed, joined_unharmed, replaced_unharmed}
 use Rattle.device_laws.proofs.Lucky.{top, failed_in, never_falls, where_none_failed}
 use Rattle.device_laws.proofs.TrackMarks.{marks_are_faithful}
 use Rattle.device_laws.proofs.Unlost.{core_of, Fine, has_a}
 use Rattle.device_laws.proofs.UnlostParts.{DeviceGoes}
-use Rattle.device_laws.proofs.invariants.NoTrackIsLost.{command_goes, background_goes, second_event_goes}
+use Rattle.device_laws.proofs.invariants.NoTrackIsLost.{command_goes, background_goes, peek_goes, second_event_goes}
 use Rattle.subsystem_defs.specs.Decks as D
 use Rattle.subsystem_defs.specs.Decks.{opened_device, opened, run_of}
 use Rattle.subsystem_defs.specs.Lines.{asked_by}
@@ -155,6 +159,21 @@ module _ (d : MarksDevice) (f : Fair d) where
             (λ _. background_goes by_plain marks_are_faithful d (f.good.well was)) (f.un was) t;
       }
 
+  pub peek_fair : (n : ℕ) → LeavesSo Good (peek by_plain d n) → LeavesSo Fair (peek by_plain d n)
+  peek_fair n good = λ t.
+      let y = t.state in
+      let x = peek_based by_plain d n in
+      let b = at (stays_still x) t in
+      record {
+        good = good t;
+        most = at (stays_most x f.most) t;
+        un = λ home.
+            let was = home_before d y b.2 false home in
+            unharmed_at (kept d.store) (peek by_plain d n) refl refl refl x
+            (λ whole. peek_goes by_plain marks_are_faithful d n (f.good.well was)
+            (λ h is. inr (has_a d.store.a.up (stale_at d.store.a h.track) (level_at d.store.b h.track) whole.up (whole.level h.track)))) (f.un was) t;
+      }
+
   reset_fair : (path : ℕ) → LeavesSo Fair (reset by_plain d path)
   reset_fair path = λ t.
       let y = t.state in
@@ -264,9 +283,9 @@ fair_kept = record {
   restored = λ d a is f. restored_fair d f (lent_is d.store.lent a is);
 }
 
-pub new_fair : (number : ℕ) (on : Geometry) (n : ℕ) (plans : Plans) → 1 ≤ n → Fair (new_device number on n plans)
-new_fair number on n plans some = record {
-  good = new_good number on n plans some;
+pub new_fair : (number : ℕ) (on : Geometry) (n : ℕ) (v : List Track) (plans : Plans) → 1 ≤ n → Fair (device_on number on n v plans)
+new_fair number on n v plans some = record {
+  good = new_good number on n v plans some;
   most = omega arith;
   un = λ home none. record { up = refl; level = λ t. empty_places (n * 15) t false; kept = λ t. empty_places (n * 15) t false };
 }
@@ -274,7 +293,7 @@ new_fair number on n plans some = record {
 pub opened_fair : (deck : DeckLines) (ds : List DeviceLine) → All (λ (d : DeviceLine). 1 ≤ d.cylinders) ds → AreSo Fair (map (opened_device deck) ds)
 opened_fair deck [] h = tt
 opened_fair deck (d ∷ ds) h = (
-  new_fair d.number d.geometry d.cylinders _ (All-head (λ (d : DeviceLine). 1 ≤ d.cylinders) d ds h),
+  new_fair d.number d.geometry d.cylinders (empty_volume d.cylinders) _ (All-head (λ (d : DeviceLine). 1 ≤ d.cylinders) d ds h),
   opened_fair deck ds (All-tail (λ (d : DeviceLine). 1 ≤ d.cylinders) d ds h),
 )
 

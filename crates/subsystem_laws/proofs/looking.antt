@@ -8,4 +8,5 @@ pub mod Own
 pub mod Finds
 pub mod Leaves
 pub mod Keeps
+pub mod EitherWay
 mod LookRows

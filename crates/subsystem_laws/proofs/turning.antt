@@ -5,6 +5,7 @@ pub mod Standing
 pub mod Sound
 pub mod NewDevice
 pub mod Orders
+pub mod Planned
 pub mod Lacking
 pub mod Again
 pub mod Wanting

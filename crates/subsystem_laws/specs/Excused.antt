@@ -1,11 +1,13 @@
 -- A device is excused for what it loses, and one that was never lent for its checks too.
-use Rattle.std.specs.Prelude.{◌≡◌, ◌≤◌, Bool, true, false, List, [], ◌∷◌, All, is_some}
+use Rattle.std.specs.Prelude.{◌≡◌, ◌≤◌, ℕ, Bool, true, false, List, [], ◌∷◌, All, is_some}
+use Rattle.ckd_types.specs.declared.record.Track.{Track}
+use Rattle.ckd_types.specs.Volume.{empty_volume}
 use Rattle.plain_defs.specs.declared.journal.Item.{Item}
 use Rattle.plain_defs.specs.declared.journal.Item.TheVariants as items
 use Rattle.device_defs.specs.Excused.{IsExcused, count_lost, loose_losses, may_lose, unexplained}
 use Rattle.device_defs.specs.Marks.{MarksDevice}
 use Rattle.subsystem_defs.specs.Lines.{Logged}
-use Rattle.subsystem_defs.specs.Promised.{empty_of}
+use Rattle.subsystem_defs.specs.Promised.{empty_of, first_of}
 use Rattle.subsystem_defs.specs.Subsystem.{devices_of}
 
 abbrev pub has_fresh : List Item → Bool
@@ -33,9 +35,12 @@ abbrev pub HaveCountedLosses : Logged → Type 0
 HaveCountedLosses x = All HasCountedLosses (devices_of x.happened.behind)
 
 -- no more of its checks are unexplained than calls of it failed
+abbrev pub HasExcusedChecksOn : (ℕ → List Track) → MarksDevice → Type 0
+HasExcusedChecksOn first d =
+    WasNeverLent d → unexplained d.plans (first_of first d) d.store.lost d.store.counts d.history.items ≤ d.store.counts.failed
+
 abbrev pub HasExcusedChecks : MarksDevice → Type 0
-HasExcusedChecks d =
-    WasNeverLent d → unexplained d.plans (empty_of d) d.store.lost d.store.counts d.history.items ≤ d.store.counts.failed
+HasExcusedChecks d = HasExcusedChecksOn empty_volume d
 
 abbrev pub HaveExcusedChecks : Logged → Type 0
 HaveExcusedChecks x = All HasExcusedChecks (devices_of x.happened.behind)

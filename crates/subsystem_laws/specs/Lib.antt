@@ -10,6 +10,7 @@ pub mod Excused
 pub mod SoundHardware
 pub mod Recoveries
 pub mod Came
+pub mod Planning
 pub mod CameAbout
 pub mod Looking
 pub mod Standing

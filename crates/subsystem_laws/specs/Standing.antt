@@ -3,9 +3,9 @@ use Rattle.std.specs.Prelude.{◌≡◌, ◌≤◌, ℕ, false, true, List, Opti
 use Rattle.ckd_chain.specs.Facts.{IsChain}
 use Rattle.ckd_chain.specs.State.{ChainState}
 use Rattle.ckd_types.specs.declared.record.Track.{Track}
+use Rattle.ckd_types.specs.Volume.{empty_volume}
 use Rattle.loss_model.specs.declared.Loss.{Loss}
 use Rattle.plain_defs.specs.History.{OpenEntry}
-use Rattle.plain_defs.specs.PlainState.{empty_state}
 use Rattle.plain_defs.specs.Whole.{GiveBytes}
 use Rattle.track_image.specs.Image.{Image}
 use Rattle.device_outside.specs.declared.keep.NoKeep.{NoKeep}
@@ -22,9 +22,10 @@ use Rattle.device_defs.specs.Start.{start, start_fault}
 use Rattle.device_defs.specs.Store.{HalfWrite}
 use Rattle.device_laws.specs.Agrees.{Held}
 use Rattle.device_laws.specs.InOrder.{IsInOrder}
+use Rattle.device_laws.specs.SoundOn.{begun_as}
 use Rattle.device_laws.specs.Whole.{WholeDevice, marks_device}
 use Rattle.device_laws.proofs.PlainTurns.{Follows}
-use Rattle.subsystem_laws.specs.CameAbout.{CameAbout}
+use Rattle.subsystem_laws.specs.CameAbout.{CameAboutOn}
 use Rattle.subsystem_laws.specs.Excused.{has_fresh}
 
 -- the volumes tell these holdings, and of slots nothing is told
@@ -34,22 +35,29 @@ pub record Untold {R K : Type 0} (w : Outside R K) (h : Holdings R) : Type 0 whe
   pub slots : h.slots ≡ None
 
 -- The device is in order with a plain volume and one without data of cache fast write, its history is a plain device's whose volume that is, and the
--- program that runs goes on as there
-pub record IsBeside {K : Type 0} (d : WholeDevice) (u : Outside (List ℕ) K) : Type 0 where
+-- program that runs goes on as there. That one began with these tracks, where it has so many cylinders
+pub record IsBesideOn (first : ℕ → List Track) {K : Type 0} (d : WholeDevice) (u : Outside (List ℕ) K) : Type 0 where
   pub plain : List Track
   pub firm : List Track
   pub held : Held
   pub untold : Untold u held
   pub order : IsInOrder plain firm d.store held
-  pub follows : Follows d.store.device (empty_state d.store.geometry d.store.cylinders) (marks_device plain firm d)
+  pub follows : Follows d.store.device (begun_as first d) (marks_device plain firm d)
   pub gives : GiveBytes d.plans
 
 -- It is so beside the plain device of its history, and over marks it came about from a new device by its events and by orders that weren't refused, and
 -- never got an empty volume on the way
-pub record Stands {K : Type 0} (d : WholeDevice) (u : Outside (List ℕ) K) : Type 0 where
-  pub beside : IsBeside d u
-  pub about : CameAbout (marks_device beside.plain beside.firm d)
+pub record StandsOn (first : ℕ → List Track) {K : Type 0} (d : WholeDevice) (u : Outside (List ℕ) K) : Type 0 where
+  pub beside : IsBesideOn first d u
+  pub about : CameAboutOn first (marks_device beside.plain beside.firm d)
   pub never : has_fresh d.history.items ≡ false
+
+-- so on an empty volume
+abbrev pub IsBeside : {K : Type 0} → WholeDevice → Outside (List ℕ) K → Type 0
+IsBeside d u = IsBesideOn empty_volume d u
+
+abbrev pub Stands : {K : Type 0} → WholeDevice → Outside (List ℕ) K → Type 0
+Stands d u = StandsOn empty_volume d u
 
 -- what is so of a device and its outside goes on to be so behind each event, whatever the port answers and whichever calls fail, where memory was had
 pub record IsKept (So : WholeDevice → Outside (List ℕ) NoKeep → Type 0) : Type 0 where

@@ -30,7 +30,8 @@ pub use transfers::run_moves_by_table;
 pub use turns::{
     cuts_let_stand, device_beside_is_sound, device_stands_on, events_count_one_path,
     look_finds_plain_track, new_device_stands, orders_leave_it_beside, orders_let_stand,
-    pairs_let_stand, standing_device_is_excused, want_of_memory_leaves_device,
+    pairs_let_stand, planned_program_lets_stand, standing_device_is_excused,
+    want_of_memory_leaves_device,
 };
 pub use waits::{read_repairs_count_waiting, recoveries_lower_waiting, repairs_count_waiting};
 pub use whole::{

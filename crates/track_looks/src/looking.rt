@@ -1,9 +1,10 @@
 ghost use Rattle.std.specs.Prelude.{◌≡◌, ◌<◌, ◌*◌, IfOk, IfSome, is_some, true};
 ghost use Rattle.device_outside.specs.Keeper.{Heard};
 ghost use Rattle.device_defs.specs.Peek as defs;
-ghost use Rattle.device_defs.specs.Store.{frame_at};
+ghost use Rattle.device_defs.specs.Store.{frame_at, tracks_of};
 ghost use Rattle.device_store.specs.Looks.{frame_in, peeked_by, IsPeeked};
-ghost use Rattle.device_store.specs.State.{had, state_of};
+ghost use Rattle.device_store.specs.State.{had};
+ghost use Rattle.device_core.specs.State.{device_of};
 ghost use Rattle.subsystem_core.specs.Devices.{device_at};
 ghost use Rattle.subsystem_core.specs.Keepers.{TakesAll};
 ghost use Rattle.subsystem_core.specs.Frames.{HasDevice, HasSameDevices};
@@ -23,10 +24,10 @@ use track_image::TrackImage;
 
 /// A copy of the image in a track's frame.
 fn frame_copied<V: Volume>(alloc: Global, device: &Device<V>, t: TrackNo) -> Result<Look, NoMemory>
-    requires { is_some (frame_at (state_of device.now.store) t) ≡ true }
-    ensures { IfOk result (λ found. look_seen found ≡ defs.Track (frame_in (state_of device.now.store) t)) }
+    requires { is_some (frame_at (device_of device.now).store t) ≡ true }
+    ensures { IfOk result (λ found. look_seen found ≡ defs.Track (frame_in (device_of device.now).store t)) }
 {
-    let image = device.store.frame_image(t).copy(alloc)?;
+    let image = device.frame_image(t).copy(alloc)?;
     Ok(Look::Track(image))
 }
 
@@ -37,8 +38,8 @@ fn look_of<V: Volume>(
     t: TrackNo,
     peeked: Peeked,
 ) -> Result<Look, NoMemory>
-    requires { IsPeeked (state_of device.now.store) t peeked }
-    ensures { IfOk result (λ found. look_seen found ≡ peeked_by (state_of device.now.store) t peeked) }
+    requires { IsPeeked (device_of device.now).store t peeked }
+    ensures { IfOk result (λ found. look_seen found ≡ peeked_by (device_of device.now).store t peeked) }
 {
     match peeked {
         Peeked::Frame => frame_copied(alloc, device, t),
@@ -59,7 +60,7 @@ pub fn look_with<V: Volume, K: Keep<TrackImage>>(
     keep: &mut K,
 ) -> Result<Look, NoMemory>
     requires here { HasDevice sub.old d }
-    requires track { IfSome (device_at sub.old.devices.items d) (λ x. t < x.store.cylinders * 15) }
+    requires track { IfSome (device_at sub.old.devices.items d) (λ x. t < tracks_of (device_of x).store) }
     requires takes { TakesAll K.takes keep.old sub.old.devices.items }
     ensures numbers { HasSameDevices sub.old sub.new }
     ensures takes { TakesAll K.takes keep.new sub.new.devices.items }
@@ -80,7 +81,7 @@ pub fn look<V: Volume>(
     t: TrackNo,
 ) -> Result<Look, NoMemory>
     requires here { HasDevice sub.old d }
-    requires track { IfSome (device_at sub.old.devices.items d) (λ x. t < x.store.cylinders * 15) }
+    requires track { IfSome (device_at sub.old.devices.items d) (λ x. t < tracks_of (device_of x).store) }
     ensures numbers { HasSameDevices sub.old sub.new }
     ensures own { AreOwn sub.old.devices.items → AreOwn sub.new.devices.items }
     ensures looked { Looks d t (had look_seen result) sub.old sub.new }

@@ -77,7 +77,7 @@ stands_in_run p xs ms n m all there home = found_run p.used [] xs ms n m (find p
 
 of_plainly : (m : Mounted) → Plainly m.device → (plain_device m.device).volume ≡ m.device.store.plain
 of_plainly m p =
-    (subst (λ (x : PlainState). IsOf (plain_of m.device.plans x m.device.history) (core_of m.device.store)) p.follows.base p.follows.of).volume
+    (subst (λ (x : PlainState). IsOf (plain_of m.device.plans x m.device.history) (core_of m.device.store)) p.base p.follows.of).volume
 
 pub plain_after : (deck : DeckLines) (n : ℕ) (m : Mounted) → IsServedDeck deck → mounted_in (run_of deck).behind.mounted n ≡ Some m →
     (plain_device m.device).volume ≡ m.device.store.plain

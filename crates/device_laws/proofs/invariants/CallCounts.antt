@@ -21,6 +21,7 @@ use Rattle.device_defs.specs.Image.{level_bytes, image}
 use Rattle.device_defs.specs.Losses as L
 use Rattle.device_defs.specs.Losses.{over, down, settled, stale_everywhere, without_frame, side_lost, store_lost, all_firm_told}
 use Rattle.device_defs.specs.Owed.{hear, all_told}
+use Rattle.device_defs.specs.Peek.{peek_track}
 use Rattle.device_defs.specs.Second.{second_part}
 use Rattle.device_defs.specs.Store.{HalfWrite, Store, tracks_of, has_loose, is_loose, with_stale}
 use Rattle.device_defs.specs.Writing.{write_counted, taken_a}
@@ -57,6 +58,7 @@ use Rattle.device_laws.proofs.walks.Reads.{
   firm_told_goes,
   level_goes,
   image_goes,
+  track_goes,
 }
 use Rattle.device_laws.proofs.walks.Writes.{write_comes, second_part_goes, work_comes}
 
@@ -207,6 +209,9 @@ module _ {F P H R : Type 0} (c : Contents F P H R) where
 
   pub image_steady : (s : Store F P H) (u : Usage) (t : ℕ) → Steady s (image c s u t)
   image_steady s u t = moves_steady s (image_goes s u t stays)
+
+  pub track_steady : (s : Store F P H) (t : ℕ) → Steady s (peek_track c s t)
+  track_steady s t = moves_steady s (track_goes s t stays)
 
   pub write_steady : (s : Store F P H) (u : Usage) (first t : ℕ) (old : Image) (e : Edit) → Steady s (write c s u first t old e)
   write_steady s u first t old e = ends_steady s (write_comes refl s u first t old e stays)

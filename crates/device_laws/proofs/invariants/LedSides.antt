@@ -21,6 +21,7 @@ use Rattle.device_defs.specs.Losses.{over, down, stale_everywhere, side_lost, wi
 use Rattle.device_defs.specs.Orders as K
 use Rattle.device_defs.specs.Orders.{lent_to, given_up, lend}
 use Rattle.device_defs.specs.Owed.{noted_begin, waiting_count}
+use Rattle.device_defs.specs.Peek.{peek}
 use Rattle.device_defs.specs.Store.{HalfWrite, SideMarks, Store, tracks_of, stale_at, half_is, is_loose, with_stale, with_frame}
 use Rattle.device_defs.specs.Writing.{write_counted}
 use Rattle.device_laws.proofs.Always.{Always, always_done, always_then}
@@ -29,7 +30,7 @@ use Rattle.device_laws.proofs.Unlost.{clear_at}
 use Rattle.device_laws.proofs.walks.Within.{always, within_always, within_weaker}
 use Rattle.device_laws.proofs.walks.Moves.{Kind, Shut, Half, Emptied, Losing, stays, IsKept, moves_keep, IsEnded, ends_keep}
 use Rattle.device_laws.proofs.walks.Reads.{over_moves, unpatched_moves, unframed_moves, side_moves}
-use Rattle.device_laws.proofs.walks.Events.{command_leads, second_leads, background_leads, lose_leads, power_leads, reset_leads}
+use Rattle.device_laws.proofs.walks.Events.{command_leads, second_leads, background_leads, lose_leads, peek_leads, power_leads, reset_leads}
 
 -- what is said of a store
 pub record SideState : Type 0 where
@@ -243,6 +244,9 @@ module _ {F P H R : Type 0} (c : Contents F P H R) where
 
   pub second_steers : (d : Device F P H) → IsSide d.store → Steers (second c d)
   second_steers d f = within_always (within_weaker (second_leads always c tt d Half (λ e. absurd (cc))) (λ n e a m. ends_keep half_kept (steered_ended Half) f m))
+
+  pub peek_steers : (d : Device F P H) (t : ℕ) → IsSide d.store → Steers (peek c d t)
+  peek_steers d t f = within_always (within_weaker (peek_leads always c tt d Half t) (λ n e a m. ends_keep half_kept (steered_ended Half) f m))
 
   pub lose_steers : (d : Device F P H) (loss : Loss) → IsSide d.store → Steers (lose c d loss)
   lose_steers d loss f = within_always (within_weaker (lose_leads always c tt d loss) (λ n e a m. ends_keep (losing_kept loss) (steered_ended (Losing loss)) f m))

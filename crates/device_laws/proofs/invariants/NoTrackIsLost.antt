@@ -51,6 +51,7 @@ use Rattle.device_defs.specs.Image.{Got, Imaged, image}
 use Rattle.device_defs.specs.Losses.{stale_everywhere}
 use Rattle.device_defs.specs.Memory.{had_by}
 use Rattle.device_defs.specs.Owed.{is_modified, noted_begin}
+use Rattle.device_defs.specs.Peek.{peek}
 use Rattle.device_defs.specs.Second.{half_closed}
 use Rattle.device_defs.specs.Store.{HalfWrite, Store, tracks_of, level_at, has_level, frame_at, patch_at, is_lost, is_loose, half_is, with_stale, with_frame, with_lost}
 use Rattle.device_defs.specs.Writing.{write_counted, taken_a}
@@ -119,7 +120,7 @@ use Rattle.device_laws.proofs.walks.Moves.{
 use Rattle.device_laws.proofs.walks.Reads as W
 use Rattle.device_laws.proofs.walks.Reads.{clean_plain}
 use Rattle.device_laws.proofs.walks.Writes.{recovered_bytes_comes}
-use Rattle.device_laws.proofs.walks.Events.{WentTo, looked_looks, look_looks, follow_comes, command_leads, second_leads, background_leads}
+use Rattle.device_laws.proofs.walks.Events.{WentTo, looked_looks, look_looks, follow_comes, command_leads, second_leads, background_leads, peek_leads}
 
 -- Good marks
 
@@ -541,4 +542,9 @@ module _ {F P H R : Type 0} (c : Contents F P H R) where
     pub second_event_goes : (d : Device F P H) → IsWell c d.store → HalfIsTried d.store → DeviceGoes c d.store (second c d)
     second_event_goes d w tried =
         within_lucky (within_weaker (second_leads lucky c tt d Half (λ e. absurd (cc)))
+        (λ n e a m. ends_from Half (λ may. may) d.store w (noted_begin d.store) (begins Half d.store w (λ e. tried)) m))
+
+    pub peek_goes : (d : Device F P H) (t : ℕ) → IsWell c d.store → HalfIsTried d.store → DeviceGoes c d.store (peek c d t)
+    peek_goes d t w tried =
+        within_lucky (within_weaker (peek_leads lucky c tt d Half t)
         (λ n e a m. ends_from Half (λ may. may) d.store w (noted_begin d.store) (begins Half d.store w (λ e. tried)) m))

@@ -18,6 +18,7 @@ use Rattle.device_defs.specs.Effects.{loosened, hardened, with_loose_edit}
 use Rattle.device_defs.specs.Events.{second, background}
 use Rattle.device_defs.specs.Losses.{stale_everywhere}
 use Rattle.device_defs.specs.Second.{half_closed}
+use Rattle.device_defs.specs.Peek.{peek}
 use Rattle.device_defs.specs.Store.{Origin, OfCut, HalfWrite, Store, level_at, has_level, takes_b, frame_at, patch_at, is_loose, half_is, with_stale, with_frame}
 use Rattle.device_defs.specs.Writing.{write_counted, cleaned}
 use Rattle.device_laws.proofs.Bools.{not_true}
@@ -44,7 +45,7 @@ use Rattle.device_laws.proofs.walks.Moves.{
   IsEnded,
   ends_keep,
 }
-use Rattle.device_laws.proofs.walks.Events.{command_leads, second_leads, background_leads, reset_leads}
+use Rattle.device_laws.proofs.walks.Events.{command_leads, second_leads, background_leads, peek_leads, reset_leads}
 
 -- Events that give up no frames
 
@@ -272,4 +273,11 @@ module _ {F P H R : Type 0} (c : Contents F P H R) where
         HasFrames c (plates_of d.store) → DeviceFrames (second c d)
     second_event_frames d tried f =
         within_lucky (within_weaker (second_leads lucky c tt d Half (λ e. absurd (cc)))
+        (λ n e a m. ends_keep (frames_kept Half (λ may. may)) (frames_ended Half) (f, (λ e. absurd (cc), λ e. tried)) m))
+
+    pub peek_frames : (d : Device F P H) (t : ℕ) →
+        ((h : HalfWrite H) → d.store.half ≡ Some h → (takes_b d.store ≡ true) ⊎ (has_level d.store h.track ≡ true)) →
+        HasFrames c (plates_of d.store) → DeviceFrames (peek c d t)
+    peek_frames d t tried f =
+        within_lucky (within_weaker (peek_leads lucky c tt d Half t)
         (λ n e a m. ends_keep (frames_kept Half (λ may. may)) (frames_ended Half) (f, (λ e. absurd (cc), λ e. tried)) m))

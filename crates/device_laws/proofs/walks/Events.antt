@@ -44,6 +44,8 @@ use Rattle.device_defs.specs.Image.{Imaged, Has, NoBytes, BadTrack}
 use Rattle.device_defs.specs.Memory.{had_by}
 use Rattle.device_defs.specs.Outcomes.{Turn, ends_with, settles, checks, usage_of}
 use Rattle.device_defs.specs.Owed.{noted_begin, hear, waiting_count}
+use Rattle.device_defs.specs.Peek as Y
+use Rattle.device_defs.specs.Peek.{Peeked, peek_track, peek}
 use Rattle.device_defs.specs.Store.{Origin, OfCommand, OfCut, OfBackground, HalfWrite, Store, tracks_of, is_lost}
 use Rattle.device_laws.proofs.Based.{Hushed, Any}
 use Rattle.device_laws.proofs.PoolWalks.{ended_asks}
@@ -61,7 +63,7 @@ use Rattle.device_laws.proofs.walks.Within.{
   asks_within,
 }
 use Rattle.device_laws.proofs.walks.Moves.{Kind, Shut, Losing, Moves, stays, notes, Ends, moved, then_pays, Comes}
-use Rattle.device_laws.proofs.walks.Reads.{hear_goes, losing_goes, half_cut_goes, powerless_moves, image_goes}
+use Rattle.device_laws.proofs.walks.Reads.{hear_goes, losing_goes, half_cut_goes, powerless_moves, image_goes, track_goes}
 use Rattle.device_laws.proofs.walks.Writes.{write_comes, second_part_goes, work_comes}
 
 module _ {K F P H R : Type 0} (w : Policy K) (kind : Kind) (c : Contents F P H R) (k : K) (s : Store F P H) where
@@ -237,6 +239,13 @@ module _ {K F P H R : Type 0} (w : Policy K) (c : Contents F P H R) (k : K) (d :
       quiet_leaves d (λ y. and_then (half_cut c y.store y.store.half) (λ z _. Done (powered_off c y z) (tt {0})))
       (within_then (λ z _. Done (powered_off c (event_begun d) z) (tt {0})) (half_cut_goes (noted_begin d.store) stays)
       (λ n z _ g. within_done (moved (powerless_moves tt (with_loss z losses.Cache) (notes g losses.Cache refl)))))
+
+  pub peek_leads : (kind : Kind) (t : ℕ) → Leads kind (peek c d t)
+  unfolding Y.peek
+  peek_leads kind t =
+      quiet_leaves d (λ y. and_then (peek_track c y.store t) (λ z found. Done (with_store y z) found))
+      (within_then (λ z (found : Option Peeked). Done (with_store (event_begun d) z) found) (track_goes (noted_begin d.store) t stays)
+      (λ n z found g. within_done (moved g)))
 
   -- a command that lacks memory for its end leaves the device as it was
   pub command_leads : (g : K → Device F P H → Type 0) → g k d → ((n : K) (e : Device F P H) → Ends w Shut c k (noted_begin d.store) n e.store → g n e) →

@@ -1,4 +1,4 @@
--- One walk of what begins and ends an event, of failed calls and losses, and of the image of a track, into moves.
+-- One walk of what begins and ends an event, of failed calls and losses, of the image of a track and of a look at one, into moves.
 use Rattle.std.proofs.Common.{List, get_or, ◌⊎◌, inl, inr, [], ◌≡◌, ◌+◌, zero, suc, ℕ, Bool, true, false, Option, Some, None, is_some, refl, sym, ap, subst, ◌∙◌, arith}
 use Rattle.std.specs.Prelude.{if◌then◌else◌, ◌||◌, ◌==◌, not, length, nat_le, nat_lt}
 use Rattle.ckd_types.specs.declared.parameters.Mode.{Mode}
@@ -59,7 +59,9 @@ use Rattle.device_defs.specs.Losses.{
   all_firm_told,
   call_failed,
 }
+use Rattle.device_defs.specs.Memory.{had_by}
 use Rattle.device_defs.specs.Owed.{is_modified, is_clean, hear, all_told}
+use Rattle.device_defs.specs.Peek.{peek_usage, peeked, peek_image, is_in_half, peek_half, peek_track}
 use Rattle.device_defs.specs.Store.{
   Origin,
   OfCommand,
@@ -394,3 +396,20 @@ module _ {K F P H R : Type 0} {w : Policy K} {kind : Kind} {c : Contents F P H R
   pub image_goes : {n : K} (z : Store F P H) (u : Usage) (t : ℕ) → Moves w kind c k s n z → Goes w kind c k s n (image c z u t)
   unfolding I.image
   image_goes z u t m = by_frame_goes z u t (frame_at z t) refl m
+
+  -- A look past the channel
+
+  found_goes : {n : K} (z : Store F P H) (o : Option Imaged) → Moves w kind c k s n z →
+      Goes w kind c k s n (had_by (λ y i. Done y (Some (peeked i))) z o)
+  found_goes z None m = within_done m
+  found_goes z (Some i) m = within_done m
+
+  peeked_goes : {n : K} (z : Store F P H) (t : ℕ) → Moves w kind c k s n z → Goes w kind c k s n (peek_image c z t)
+  peeked_goes z t m = within_then (had_by (λ y i. Done y (Some (peeked i)))) (image_goes z peek_usage t m) (λ n y o g. found_goes y o g)
+
+  in_half_goes : {n : K} (z : Store F P H) (t : ℕ) (o : Option (HalfWrite H)) → Moves w kind c k s n z → Goes w kind c k s n (peek_half c z t o)
+  in_half_goes z t (Some h) m = within_if (is_in_half c z t h) (λ _. within_tried z _ m (within_done m)) (λ _. peeked_goes z t m)
+  in_half_goes z t None m = peeked_goes z t m
+
+  pub track_goes : {n : K} (z : Store F P H) (t : ℕ) → Moves w kind c k s n z → Goes w kind c k s n (peek_track c z t)
+  track_goes z t m = within_if (is_lost z t) (λ _. within_done m) (λ _. in_half_goes z t z.half m)

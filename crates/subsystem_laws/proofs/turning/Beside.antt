@@ -10,7 +10,7 @@ use Rattle.ckd_chain.specs.Facts.{IsChain}
 use Rattle.ckd_chain.specs.State.{ChainState}
 use Rattle.plain_defs.specs.History.{OpenEntry, IsOpen}
 use Rattle.plain_defs.specs.Journal.{Plans, replay}
-use Rattle.plain_defs.specs.PlainState.{PlainState, empty_state}
+use Rattle.plain_defs.specs.PlainState.{PlainState}
 use Rattle.plain_defs.specs.Whole.{GiveBytes, GivesBytes}
 use Rattle.track_image.specs.Image.{Image}
 use Rattle.device_outside.specs.Interaction.{Interaction}
@@ -33,6 +33,7 @@ use Rattle.device_defs.specs.Store.{HalfWrite}
 use Rattle.loss_model.specs.declared.Loss.{Loss}
 use Rattle.device_laws.specs.Agrees.{Held}
 use Rattle.device_laws.specs.Standing.{LooksAt, RunsOn}
+use Rattle.device_laws.specs.SoundOn.{begun_as}
 use Rattle.device_laws.specs.Whole.{WholeDevice, WholeTwin, WholeTwins, Leaves, BehindCommand, marks_device}
 use Rattle.device_laws.proofs.Always.{Always}
 use Rattle.device_laws.proofs.ChainFeeds.{chain_feeds, runs_looks}
@@ -51,18 +52,21 @@ use Rattle.device_laws.proofs.PlainTurns.{Follows, RunsAt, ChainOf, none_mid}
 use Rattle.device_laws.proofs.WholeCommand.{command_whole}
 use Rattle.device_laws.proofs.WholeParts.{background_whole, loss_whole, reset_whole, second_whole, start_order, start_fault_same}
 use Rattle.device_laws.proofs.WholePower.{power_whole}
+use Rattle.subsystem_defs.specs.Promised.{first_of}
 use Rattle.subsystem_laws.specs.Came.{CameTo}
 use Rattle.subsystem_laws.proofs.Came.{came_had}
+use Rattle.subsystem_laws.proofs.PlainRuns.{still_first}
 use Rattle.subsystem_laws.proofs.Shapes.{power_shape, reset_shape}
-use Rattle.subsystem_laws.specs.Standing.{IsBeside, Untold}
+use Rattle.subsystem_laws.specs.Standing.{IsBesideOn, Untold}
 use Rattle.subsystem_laws.proofs.turning.Untold.{twinned}
 
 pub itself : (d : WholeDevice) → Continues d.plans d.history d
 itself d = record { plans = refl; history = extends_itself d.history }
 
-pub own_follows : (num : ℕ) (empty : PlainState) (m : MarksDevice) → Follows num empty m → Follows m.store.device (empty_state m.store.geometry m.store.cylinders) m
-own_follows num empty m f =
-    subst (λ (x : PlainState). Follows m.store.device x m) f.base (subst (λ (n : ℕ). Follows n empty m) (sym f.number) f)
+pub own_follows : (first : ℕ → List Track) (num : ℕ) (empty : PlainState) (m : MarksDevice) → Follows num empty m →
+    empty.volume ≡ first empty.cylinders → Follows m.store.device (first_of first m) m
+own_follows first num empty m f held =
+    subst (λ (x : PlainState). Follows m.store.device x m) (still_first first num empty m f held) (subst (λ (n : ℕ). Follows n empty m) (sym f.number) f)
 
 -- the chain of the program that runs, while no write is half done
 runs_by : (plans : Plans) (x : PlainState) (o : OpenEntry) (before : Option ChainState) (g : Geometry) (n : ℕ) (chain : ChainState) → before ≡ Some chain →
@@ -78,17 +82,17 @@ runs_by plans x o (Some origin) g n chain is gives least most at of c =
     }) c
 
 -- a device beside the plain one again, which over marks is what the step came to
-pub record BesideBy {K A : Type 0} (j : Interaction Bool Image MarksDevice A) (e : WholeDevice) (z : Outside (List ℕ) K) : Type 0 where
-  pub beside : IsBeside e z
+pub record BesideBy (first : ℕ → List Track) {K A : Type 0} (j : Interaction Bool Image MarksDevice A) (e : WholeDevice) (z : Outside (List ℕ) K) : Type 0 where
+  pub beside : IsBesideOn first e z
   pub to : CameTo j
   pub is : marks_device beside.plain beside.firm e ≡ to.state
 
-module _ {K : Type 0} {d : WholeDevice} {u : Outside (List ℕ) K} (s : IsBeside d u) where
-  abbrev num : ℕ
+module _ {first : ℕ → List Track} {K : Type 0} {d : WholeDevice} {u : Outside (List ℕ) K} (s : IsBesideOn first d u) where
+  abbrev pub num : ℕ
   num = d.store.device
 
-  abbrev empty : PlainState
-  empty = empty_state d.store.geometry d.store.cylinders
+  abbrev pub empty : PlainState
+  empty = begun_as first d
 
   abbrev pub marks : MarksDevice
   marks = marks_device s.plain s.firm d
@@ -119,7 +123,7 @@ module _ {K : Type 0} {d : WholeDevice} {u : Outside (List ℕ) K} (s : IsBeside
     -- its plans are told by what the step over marks came to
     by_marks : {A : Type 0} {a : A} {p : List Track → Type 0} {i : Interaction (List ℕ) Image WholeDevice A} {j : Interaction Bool Image MarksDevice A} →
         WholeTwins (Leaves p) i j s.held → Had j (λ y _. Follows num empty y) →
-        ((t : CameTo j) (v w : List Track) → marks_device v w e ≡ t.state → e.plans ≡ d.plans) → Ran (λ ok. ok ≡ true) hears i u e a z → BesideBy j e z
+        ((t : CameTo j) (v w : List Track) → marks_device v w e ≡ t.state → e.plans ≡ d.plans) → Ran (λ ok. ok ≡ true) hears i u e a z → BesideBy first j e z
     by_marks {a = a} {p = p} {i = i} {j = j} both had plans r =
         let o = twinned [] (WholeTwin (Leaves p)) heard s.held both s.untold r in
         let t : CameTo j = record { state = o.state; answer = o.answer; is = o.came } in
@@ -130,23 +134,23 @@ module _ {K : Type 0} {d : WholeDevice} {u : Outside (List ℕ) K} (s : IsBeside
             held = o.holdings;
             untold = o.untold;
             order = o.is.is.order;
-            follows = own_follows num empty (marks_device o.is.plain o.is.firm e)
-                (subst (λ (m : MarksDevice). Follows num empty m) (sym o.is.marks) (came_had had t));
+            follows = own_follows first num empty (marks_device o.is.plain o.is.firm e)
+                (subst (λ (m : MarksDevice). Follows num empty m) (sym o.is.marks) (came_had had t)) refl;
             gives = subst GiveBytes (sym (plans t o.is.plain o.is.firm o.is.marks)) s.gives;
           };
           to = t;
           is = o.is.marks;
         }
 
-    behind : {A : Type 0} {a : A} {p : List Track → Type 0} {i : Interaction (List ℕ) Image WholeDevice A} {j : Interaction Bool Image MarksDevice A} →
+    pub behind : {A : Type 0} {a : A} {p : List Track → Type 0} {i : Interaction (List ℕ) Image WholeDevice A} {j : Interaction Bool Image MarksDevice A} →
         WholeTwins (Leaves p) i j s.held → Had j (λ y _. Follows num empty y) → Always i (λ y _. Continues d.plans d.history y) →
-        Ran (λ ok. ok ≡ true) hears i u e a z → BesideBy j e z
+        Ran (λ ok. ok ≡ true) hears i u e a z → BesideBy first j e z
     behind {i = i} both had goes r =
         by_marks both had (λ t v w is. (always_ran i (λ y _. Continues d.plans d.history y) goes.holds r).plans) r
 
     pub command_beside : (a : Option Stepped) (o : OpenEntry) → d.store.half ≡ None → d.history.running ≡ Some o →
         ((chain : ChainState) → d.chain ≡ Some chain → IsChain chain) → Ran (λ ok. ok ≡ true) hears (command contents d) u e a z →
-        BesideBy (command by_plain marks) e z
+        BesideBy first (command by_plain marks) e z
     command_beside a o none runs chains r =
         behind (whole_of o none runs chains) (command_follows num empty marks s.follows o runs (ap (option_map half_mark) none))
         (command_goes contents d.plans d.history d (itself d)) r
@@ -166,51 +170,51 @@ module _ {K : Type 0} {d : WholeDevice} {u : Outside (List ℕ) K} (s : IsBeside
         (second_clean marks) (λ x y f. f) has (ran_weaker (λ ok h. tt) r)
 
     pub second_beside : (a : SecondEnd) (h : HalfWrite Image) → d.store.half ≡ Some h → Ran (λ ok. ok ≡ true) hears (second contents d) u e a z →
-        BesideBy (second by_plain marks) e z
+        BesideBy first (second by_plain marks) e z
     second_beside a h half r =
         behind (second_whole s.plain s.firm d s.held s.order (λ i is. (s.order.opened i is).suits))
         (second_follows num empty marks s.follows (half_mark h) (ap (option_map half_mark) half)) (second_goes contents d.plans d.history d (itself d)) r
 
     pub background_beside : (a : Option Did) → d.store.half ≡ None → Ran (λ ok. ok ≡ true) hears (background contents d) u e a z →
-        BesideBy (background by_plain marks) e z
+        BesideBy first (background by_plain marks) e z
     background_beside a none r =
         behind (background_whole s.plain s.firm d s.held s.order none) (background_follows num empty marks s.follows (ap (option_map half_mark) none))
         (background_goes contents d.plans d.history d (itself d)) r
 
-    pub reset_beside : (path : ℕ) (a : Unit {0}) → Ran (λ ok. ok ≡ true) hears (reset contents d path) u e a z → BesideBy (reset by_plain marks path) e z
+    pub reset_beside : (path : ℕ) (a : Unit {0}) → Ran (λ ok. ok ≡ true) hears (reset contents d path) u e a z → BesideBy first (reset by_plain marks path) e z
     reset_beside path a r =
         by_marks (reset_whole s.plain s.firm d s.held path s.order (λ i is. (s.order.opened i is).suits)) (reset_follows num empty marks s.follows path)
         (λ t v w is. ap (λ (m : MarksDevice). m.plans) is ∙ (reset_shape marks path t).1) r
 
-    pub power_beside : (a : Unit {0}) → Ran (λ ok. ok ≡ true) hears (power contents d) u e a z → BesideBy (power by_plain marks) e z
+    pub power_beside : (a : Unit {0}) → Ran (λ ok. ok ≡ true) hears (power contents d) u e a z → BesideBy first (power by_plain marks) e z
     power_beside a r =
         by_marks (power_whole s.plain s.firm d s.held s.order) (power_follows num empty marks s.follows)
         (λ t v w is. ap (λ (m : MarksDevice). m.plans) is ∙ (power_shape marks t).1) r
 
-    pub loss_beside : (loss : Loss) (a : Unit {0}) → Ran (λ ok. ok ≡ true) hears (lose contents d loss) u e a z → BesideBy (lose by_plain marks loss) e z
+    pub loss_beside : (loss : Loss) (a : Unit {0}) → Ran (λ ok. ok ≡ true) hears (lose contents d loss) u e a z → BesideBy first (lose by_plain marks loss) e z
     loss_beside loss a r =
         behind (loss_whole s.plain s.firm d s.held loss s.order) (loss_follows num empty marks s.follows loss)
         (lose_goes contents d.plans d.history d loss (itself d)) r
 
 -- the start of a program
-unfoldable pub start_beside : {K : Type 0} (d : WholeDevice) (u : Outside (List ℕ) K) (path : ℕ) → IsBeside d u → 1 ≤ path → path ≤ 4 → start_fault d path ≡ None →
-    IsBeside (start d path) u
+unfoldable pub start_beside : {first : ℕ → List Track} {K : Type 0} (d : WholeDevice) (u : Outside (List ℕ) K) (path : ℕ) → IsBesideOn first d u → 1 ≤ path → path ≤ 4 → start_fault d path ≡ None →
+    IsBesideOn first (start d path) u
 unfolding S.start
-start_beside d u path s least most none = record {
+start_beside {first = first} d u path s least most none = record {
   plain = s.plain;
   firm = s.firm;
   held = s.held;
   untold = s.untold;
   order = start_order s.plain s.firm d s.held path s.order;
   follows =
-      start_follows d.store.device (empty_state d.store.geometry d.store.cylinders) (marks_device s.plain s.firm d) s.follows path least most
+      start_follows d.store.device (begun_as first d) (marks_device s.plain s.firm d) s.follows path least most
       (sym (start_fault_same s.plain s.firm d path) ∙ none);
   gives = s.gives;
 }
 
 -- the same device beside another outside of the same volumes, of whose slots nothing is told either
-unfoldable pub beside_there : {K L : Type 0} (d : WholeDevice) (u : Outside (List ℕ) K) (w : Outside (List ℕ) L) → ((h : Held) → Untold u h → Untold w h) →
-    IsBeside d u → IsBeside d w
+unfoldable pub beside_there : {first : ℕ → List Track} {K L : Type 0} (d : WholeDevice) (u : Outside (List ℕ) K) (w : Outside (List ℕ) L) → ((h : Held) → Untold u h → Untold w h) →
+    IsBesideOn first d u → IsBesideOn first d w
 beside_there d u w same s = record {
   plain = s.plain;
   firm = s.firm;

@@ -6,7 +6,7 @@ use Rattle.ckd_types.specs.declared.paths.Side.{Side}
 use Rattle.ckd_types.specs.declared.record.Track.{Track as PlainTrack}
 use Rattle.ckd_types.specs.Parameters.{is_bypass}
 use Rattle.ckd_types.specs.Volume.{track_in}
-use Rattle.plain_defs.specs.PlainState.{PlainState, empty_state}
+use Rattle.plain_defs.specs.PlainState.{PlainState}
 use Rattle.track_image.specs.Image.{Image}
 use Rattle.device_outside.specs.Interaction.{Interaction, Done}
 use Rattle.device_outside.specs.Keeper.{Hearing}
@@ -23,6 +23,7 @@ use Rattle.device_defs.specs.Peek as P
 use Rattle.device_defs.specs.Peek.{Peeked, Track, Lost, Fault, BadBytes, is_in_half, peek, peek_half, peek_image, peek_track, peek_usage, peeked}
 use Rattle.device_defs.specs.Second.{half_image_of, plainly_written}
 use Rattle.device_defs.specs.Store.{Origin, OfCommand, OfCut, OfBackground, HalfWrite, frame_at, is_lost, plain_at, tracks_of, with_frame}
+use Rattle.device_laws.specs.SoundOn.{begun_as}
 use Rattle.device_laws.specs.Whole.{WholeDevice}
 use Rattle.device_laws.proofs.Always.{Always, always_ask, always_done, always_then, always_try}
 use Rattle.device_laws.proofs.CleanParts.{Clean, NotBad, clean_any, clean_done, clean_if, clean_then, clean_try, image_clean}
@@ -34,7 +35,7 @@ use Rattle.subsystem_laws.specs.Looking.{is_written, is_written_at}
 use Rattle.subsystem_laws.proofs.looking.Talks.{by_background, marked_same}
 use Rattle.subsystem_laws.proofs.looking.TwinPeek.{peek_whole}
 use Rattle.subsystem_laws.specs.Found.{FoundPlain}
-use Rattle.subsystem_laws.specs.Standing.{IsBeside}
+use Rattle.subsystem_laws.specs.Standing.{IsBesideOn}
 use Rattle.subsystem_laws.proofs.turning.Beside.{has, marks}
 use Rattle.subsystem_laws.proofs.turning.Finding.{LookTold, always_on, peek_told}
 use Rattle.subsystem_laws.proofs.turning.Lacking.{bytes_keep}
@@ -173,9 +174,9 @@ peek_clean d t =
 
 -- Over contents
 
-module _ {K : Type 0} {d : WholeDevice} {u : Outside (List ℕ) K} (s : IsBeside d u) (t : ℕ) where
-  all_of : (a : Option Peeked) → LookTold d.store t a → LookPlain d.store.device (empty_state d.store.geometry d.store.cylinders) (marks s) s.follows t a →
-      GoodLook a → FoundPlain d t a
+module _ {first : ℕ → List PlainTrack} {K : Type 0} {d : WholeDevice} {u : Outside (List ℕ) K} (s : IsBesideOn first d u) (t : ℕ) where
+  all_of : (a : Option Peeked) → LookTold d.store t a → LookPlain d.store.device (begun_as first d) (marks s) s.follows t a →
+      GoodLook a → FoundPlain first d t a
   all_of None told plain good = tt
   all_of (Some (Track i)) told plain good =
       plain ∙ ap (λ (v : List PlainTrack). record { geometry = d.store.geometry; track = track_in v t }) (sym s.follows.of.volume)
@@ -183,12 +184,12 @@ module _ {K : Type 0} {d : WholeDevice} {u : Outside (List ℕ) K} (s : IsBeside
   all_of (Some (Fault side)) told plain good = told
   all_of (Some (BadBytes side)) told plain good = absurd good
 
-module _ {K : Type 0} {d : WholeDevice} {u : Outside (List ℕ) K} (s : IsBeside d u) {had : Bool → Type 0} {hears : Hearing Image K}
+module _ {first : ℕ → List PlainTrack} {K : Type 0} {d : WholeDevice} {u : Outside (List ℕ) K} (s : IsBesideOn first d u) {had : Bool → Type 0} {hears : Hearing Image K}
     {e : WholeDevice} {z : Outside (List ℕ) K} (t : ℕ) (lt : t < tracks_of d.store) (may : is_written_at d.store.half t ≡ false) where
-  pub peek_finds : {a : Option Peeked} → Ran had hears (peek contents d t) u e a z → FoundPlain d t a
+  pub peek_finds : {a : Option Peeked} → Ran had hears (peek contents d t) u e a z → FoundPlain first d t a
   peek_finds {a = a} r =
       let num = d.store.device in
-      let empty = empty_state d.store.geometry d.store.cylinders in
+      let empty = begun_as first d in
       let both = peek_whole s.plain s.firm d s.held t lt (by_background d.store.half t may) s.order in
       let o = along [] _ (λ y (b : Option Peeked). LookPlain num empty (marks s) s.follows t b) s.held both
       (peek_plain num empty (marks s) s.follows t (marked_same d.store.half t ∙ may)).holds s.untold r in

@@ -1,4 +1,5 @@
--- Want of memory leaves a device's paths, its plans and where its program is as they were, and of a device that is no pair its history and its marks too.
+-- Want of memory, and a look past the channel, leave a device's paths, its plans and where its program is as they were, and of a device that is no pair its
+-- history and its marks too.
 use Rattle.std.proofs.Common.{◌≡◌, ℕ, Bool, true, false, List, [], Option, Some, None, refl, sym, ap, subst, ◌∙◌}
 use Rattle.std.specs.Prelude.{option_map, if◌then◌else◌}
 use Rattle.ckd_types.specs.declared.paths.Side.{Side}
@@ -21,17 +22,20 @@ use Rattle.device_defs.specs.Events.{background}
 use Rattle.device_defs.specs.Image.{ahead}
 use Rattle.device_defs.specs.Losses.{all_firm_told, call_failed, side_lost}
 use Rattle.device_defs.specs.Outcomes.{again}
-use Rattle.device_defs.specs.Owed.{noted_begin}
+use Rattle.device_defs.specs.Owed.{noted_begin, waiting_count}
+use Rattle.device_defs.specs.Peek as Y
+use Rattle.device_defs.specs.Peek.{Peeked, peek}
 use Rattle.device_defs.specs.Sound.{DeviceStore}
 use Rattle.device_defs.specs.Store.{tracks_of}
 use Rattle.device_laws.specs.Whole.{WholeDevice}
-use Rattle.device_laws.proofs.Always.{Always, always_done, always_weaker}
+use Rattle.device_laws.proofs.Always.{Always, always_done, always_then, always_weaker}
 use Rattle.device_laws.proofs.KeepLaws.{always_ran}
 use Rattle.device_laws.proofs.KeptEvents.{always_any}
+use Rattle.device_laws.proofs.PoolWalks.{asks_always, ended_asks}
 use Rattle.device_laws.proofs.WholeImage.{ahead_only}
 use Rattle.subsystem_laws.specs.Again.{HasSameMarks, IsAgain, word_again}
 use Rattle.subsystem_laws.proofs.turning.Again.{background_wants, command_wants}
-use Rattle.subsystem_laws.proofs.turning.Lacking.{Lacks, Quiet}
+use Rattle.subsystem_laws.proofs.turning.Lacking.{Lacks, Quiet, track_keeps}
 
 -- Where it is no pair
 
@@ -133,6 +137,19 @@ module _ (d : WholeDevice) where
     marks = λ none. (f none).marks;
   }
 
+  -- whether memory is had or not
+  looked_again : (t : ℕ) → Always (peek contents d t) (λ y (_ : Option Peeked). IsAgain d y)
+  unfolding Y.peek
+  looked_again t =
+      always_then
+      (always_then (track_keeps contents (WhileAlone d.store) (alone_quiet d.store) (noted_begin d.store) t first_alone)
+      (λ z found f. always_done (worked_again z f)))
+      (λ y a x. always_then
+      (asks_always (ended_asks contents (λ z. IsAgain d (record y { store = z }))
+      (λ z q k. owed_again (record y { store = z }) _ (record { lost = refl; loose = refl; sides = refl; patches = refl; half = refl; number = refl }) k)
+      (waiting_count contents d.store) y.store x))
+      (λ z _ k. always_done k))
+
   module _ {K : Type 0} {had : Bool → Type 0} {hears : Hearing Image K} {e : WholeDevice} {u z : Outside (List ℕ) K} where
     pub command_again : (o : OpenEntry) (chain : ChainState) → d.history.running ≡ Some o → d.chain ≡ Some chain →
         Ran had hears (command contents d) u e None z → IsAgain d e
@@ -148,3 +165,6 @@ module _ (d : WholeDevice) where
         (background_wants contents (WhileAlone d.store) (alone_quiet d.store) (IsAgain d)
         (λ y t x. owed_again y _ (record { lost = refl; loose = refl; sides = refl; patches = refl; half = refl; number = refl }) x) d first_alone
         worked_again).holds r
+
+    pub peek_again : {a : Option Peeked} (t : ℕ) → Ran had hears (peek contents d t) u e a z → IsAgain d e
+    peek_again t r = always_ran (peek contents d t) (λ y (_ : Option Peeked). IsAgain d y) (looked_again t).holds r

@@ -9,7 +9,7 @@ use Rattle.ckd_chain.specs.State.{ChainState}
 use Rattle.ckd_chain.specs.Steps.{again_from, chain_opened, opened_by}
 use Rattle.plain_defs.specs.History.{OpenEntry, plain_of}
 use Rattle.plain_defs.specs.Journal.{Plans, replay}
-use Rattle.plain_defs.specs.PlainState.{PlainState, empty_state}
+use Rattle.plain_defs.specs.PlainState.{PlainState}
 use Rattle.plain_defs.specs.Whole.{GiveBytes}
 use Rattle.track_image.specs.Image.{Image}
 use Rattle.device_outside.specs.Interaction.{Interaction}
@@ -28,8 +28,8 @@ use Rattle.device_defs.specs.Outcomes.{again}
 use Rattle.device_defs.specs.Owed.{noted_begin, waiting_count}
 use Rattle.device_defs.specs.Peek as P
 use Rattle.device_defs.specs.Peek.{Peeked, peek}
-use Rattle.device_defs.specs.Sound.{plain_device}
 use Rattle.device_defs.specs.Store.{owed_at, tracks_of}
+use Rattle.device_laws.specs.SoundOn.{begun_as, plain_on}
 use Rattle.device_laws.specs.Whole.{WholeDevice, WholeTwin, WholeTwins, Leaves, marks_device}
 use Rattle.device_laws.proofs.Always.{Always, always_done, always_tell, always_then}
 use Rattle.device_laws.proofs.KeepLaws.{always_ran}
@@ -46,7 +46,7 @@ use Rattle.subsystem_laws.specs.Looking.{is_written_at}
 use Rattle.subsystem_laws.proofs.looking.Keeps.{peek_keeps_own}
 use Rattle.subsystem_laws.proofs.looking.Talks.{by_background}
 use Rattle.subsystem_laws.proofs.looking.TwinPeek.{peek_whole}
-use Rattle.subsystem_laws.specs.Standing.{IsBeside}
+use Rattle.subsystem_laws.specs.Standing.{IsBesideOn}
 use Rattle.subsystem_laws.proofs.turning.Again.{background_wants, command_wants}
 use Rattle.subsystem_laws.proofs.turning.Beside.{itself, marks, own_follows, whole_of}
 use Rattle.subsystem_laws.proofs.turning.Lacking.{Lacks, Quiet, track_keeps}
@@ -170,24 +170,21 @@ module _ (num : ℕ) (empty : PlainState) where
 -- Over contents
 
 -- beside the plain device of its history, with the plain volume v
-pub record StaysBeside {K : Type 0} (v : List Track) (e : WholeDevice) (z : Outside (List ℕ) K) : Type 0 where
-  pub beside : IsBeside e z
+pub record StaysBeside (first : ℕ → List Track) {K : Type 0} (v : List Track) (e : WholeDevice) (z : Outside (List ℕ) K) : Type 0 where
+  pub beside : IsBesideOn first e z
   pub plain : beside.plain ≡ v
 
-abbrev own_empty : WholeDevice → PlainState
-own_empty d = empty_state d.store.geometry d.store.cylinders
-
-there : (d : WholeDevice) (o : OpenEntry) (k : Option ChainState) → RunsAt d.plans (replay d.plans (own_empty d) d.history.items) (Some o) k →
+there : (first : ℕ → List Track) (d : WholeDevice) (o : OpenEntry) (k : Option ChainState) → RunsAt d.plans (replay d.plans (begun_as first d) d.history.items) (Some o) k →
     (chain : ChainState) × (k ≡ Some chain)
-there d o (Some chain) at = (chain, refl)
-there d o None at = absurd at
+there first d o (Some chain) at = (chain, refl)
+there first d o None at = absurd at
 
-module _ {K : Type 0} {d : WholeDevice} {u : Outside (List ℕ) K} (s : IsBeside d u) {had : Bool → Type 0} {hears : Hearing Image K}
+module _ {first : ℕ → List Track} {K : Type 0} {d : WholeDevice} {u : Outside (List ℕ) K} (s : IsBesideOn first d u) {had : Bool → Type 0} {hears : Hearing Image K}
     {e : WholeDevice} {z : Outside (List ℕ) K} where
   -- its twin over marks leaves that plain volume
   stays_by : {X : Type 0} {a : X} {p : List Track → Type 0} {i : Interaction (List ℕ) Image WholeDevice X} {j : Interaction Bool Image MarksDevice X}
       (T : MarksDevice → X → Type 0) → WholeTwins (Leaves p) i j s.held → Always j (λ y b. T y b) →
-      ((y : MarksDevice) → T y a → Stays d.store.device (own_empty d) s.plain y) → e.plans ≡ d.plans → Ran had hears i u e a z → StaysBeside s.plain e z
+      ((y : MarksDevice) → T y a → Stays d.store.device (begun_as first d) s.plain y) → e.plans ≡ d.plans → Ran had hears i u e a z → StaysBeside first s.plain e z
   stays_by {a = a} {p = p} T both always so plans r =
       let o = along [] (WholeTwin (Leaves p)) (λ y b. T y b) s.held both always.holds s.untold r in
       let x = so o.state (subst (λ (b : _). T o.state b) (sym o.is.is.same) o.so) in
@@ -198,8 +195,8 @@ module _ {K : Type 0} {d : WholeDevice} {u : Outside (List ℕ) K} (s : IsBeside
           held = o.holdings;
           untold = o.untold;
           order = o.is.is.order;
-          follows = own_follows d.store.device (own_empty d) (marks_device o.is.plain o.is.firm e)
-              (subst (λ (m : MarksDevice). Follows d.store.device (own_empty d) m) (sym o.is.marks) x.follows);
+          follows = own_follows first d.store.device (begun_as first d) (marks_device o.is.plain o.is.firm e)
+              (subst (λ (m : MarksDevice). Follows d.store.device (begun_as first d) m) (sym o.is.marks) x.follows) refl;
           gives = subst GiveBytes (sym plans) s.gives;
         };
         plain = ap (λ (m : MarksDevice). m.store.plain) o.is.marks ∙ x.plain;
@@ -207,32 +204,32 @@ module _ {K : Type 0} {d : WholeDevice} {u : Outside (List ℕ) K} (s : IsBeside
 
   -- behind want of memory
   pub command_lacked : (o : OpenEntry) → d.store.half ≡ None → d.history.running ≡ Some o →
-      ((chain : ChainState) → d.chain ≡ Some chain → IsChain chain) → Ran had hears (command contents d) u e None z → StaysBeside s.plain e z
+      ((chain : ChainState) → d.chain ≡ Some chain → IsChain chain) → Ran had hears (command contents d) u e None z → StaysBeside first s.plain e z
   command_lacked o none runs chains r =
       let m = marks s in
       let f = s.follows in
       let half : m.store.half ≡ None = ap (option_map half_mark) none in
-      let t = there d o f.before (subst (λ (x : Option OpenEntry). RunsAt d.plans (replay d.plans (own_empty d) d.history.items) x f.before) runs f.runs) in
+      let t = there first d o f.before (subst (λ (x : Option OpenEntry). RunsAt d.plans (replay d.plans (begun_as first d) d.history.items) x f.before) runs f.runs) in
       let now : d.chain ≡ Some t.0 = none_mid (core_of m.store) m.store.half d.history.running f.before d.chain half f.mid ∙ t.1 in
-      stays_by (λ y (b : Option Stepped). Lacks (Stays d.store.device (own_empty d) s.plain) y b) (whole_of s o none runs chains)
-      (command_stays d.store.device (own_empty d) m f o t.0 runs now half) (λ y x. x)
+      stays_by (λ y (b : Option Stepped). Lacks (Stays d.store.device (begun_as first d) s.plain) y b) (whole_of s o none runs chains)
+      (command_stays d.store.device (begun_as first d) m f o t.0 runs now half) (λ y x. x)
       (always_ran (command contents d) (λ y _. Continues d.plans d.history y) (command_goes contents d.plans d.history d (itself d)).holds r).plans r
 
-  pub background_lacked : d.store.half ≡ None → Ran had hears (background contents d) u e None z → StaysBeside s.plain e z
+  pub background_lacked : d.store.half ≡ None → Ran had hears (background contents d) u e None z → StaysBeside first s.plain e z
   background_lacked none r =
-      stays_by (λ y (b : Option Did). Lacks (Stays d.store.device (own_empty d) s.plain) y b) (background_whole s.plain s.firm d s.held s.order none)
-      (background_stays d.store.device (own_empty d) (marks s) s.follows) (λ y x. x)
+      stays_by (λ y (b : Option Did). Lacks (Stays d.store.device (begun_as first d) s.plain) y b) (background_whole s.plain s.firm d s.held s.order none)
+      (background_stays d.store.device (begun_as first d) (marks s) s.follows) (λ y x. x)
       (always_ran (background contents d) (λ y _. Continues d.plans d.history y) (background_goes contents d.plans d.history d (itself d)).holds r).plans r
 
   -- behind a look at a track on which no half write of a command, or of one that was cut, is open
   pub peek_beside : {a : Option Peeked} (t : ℕ) → t < tracks_of d.store → is_written_at d.store.half t ≡ false →
-      Ran had hears (peek contents d t) u e a z → StaysBeside s.plain e z
+      Ran had hears (peek contents d t) u e a z → StaysBeside first s.plain e z
   peek_beside t lt may r =
-      stays_by (λ y (b : Option Peeked). Stays d.store.device (own_empty d) s.plain y)
-      (peek_whole s.plain s.firm d s.held t lt (by_background d.store.half t may) s.order) (peek_stays d.store.device (own_empty d) (marks s) s.follows t) (λ y x. x)
+      stays_by (λ y (b : Option Peeked). Stays d.store.device (begun_as first d) s.plain y)
+      (peek_whole s.plain s.firm d s.held t lt (by_background d.store.half t may) s.order) (peek_stays d.store.device (begun_as first d) (marks s) s.follows t) (λ y x. x)
       (peek_keeps_own d e t r).plans r
 
 -- so its plain device has that volume
-pub same_volume : {K L : Type 0} {d e : WholeDevice} {u : Outside (List ℕ) K} {z : Outside (List ℕ) L} (s : IsBeside d u) → StaysBeside s.plain e z →
-    (plain_device e).volume ≡ (plain_device d).volume
+pub same_volume : {first : ℕ → List Track} {K L : Type 0} {d e : WholeDevice} {u : Outside (List ℕ) K} {z : Outside (List ℕ) L} (s : IsBesideOn first d u) → StaysBeside first s.plain e z →
+    (plain_on first e).volume ≡ (plain_on first d).volume
 same_volume s x = x.beside.follows.of.volume ∙ x.plain ∙ sym s.follows.of.volume

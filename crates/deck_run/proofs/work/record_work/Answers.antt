@@ -1,4 +1,5 @@
 use Rattle.std.proofs.Common.{◌∙◌, ap, sym}
+use Rattle.device_core.specs.State.{last_end}
 use Rattle.subsystem_defs.specs.Beside.{behind_first}
 use Rattle.deck_run.specs.Seen.{idle_told}
 use Rattle.deck_run.proofs.Events.{ok_so}
@@ -7,7 +8,7 @@ use Rattle.deck_run.proofs.work.record_work.Goals as goal
 
 pub last_end-end-requires : goal.last_end-end-requires
 last_end-end-requires g c =
-    last_stands c.args.device.now.past c.args.passed.now.end (sym c.is_ended.ensures ∙ c.if-is_ended.true) c.requires
+    last_stands (last_end c.args.device.now) c.args.passed.now.end (sym c.is_ended.ensures ∙ c.if-is_ended.true) c.requires
 
 pub returns-then-is_ended : goal.returns-then-is_ended
 returns-then-is_ended g c = λ told seen.

@@ -12,4 +12,4 @@ pub returns-in-Ok-clause-moves : goal.returns-in-Ok-clause-moves
 returns-in-Ok-clause-moves g c =
     let visitor = c.args.visitor.now in
     command_moves c.args.device.now c.command-outcome.new.self (g.P.Port.view c.args.port.now) (g.P.Port.view c.command-outcome.new.port) c.requires.home
-    visitor.path visitor.least visitor.most c.requires.runs (none_of _ c.requires.whole) c.chain_stands.ensures (c.in-Ok.ensures.run no_keep)
+    visitor.path visitor.least visitor.most c.requires.runs (none_of _ c.requires.whole) c.recall_chain.ensures (c.in-Ok.ensures.run no_keep)

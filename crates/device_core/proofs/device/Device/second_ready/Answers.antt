@@ -10,7 +10,7 @@ use Rattle.device_defs.specs.Outcomes.{Turn, turned}
 use Rattle.event_notes.specs.Loose.{loose_count, weight}
 use Rattle.device_store.specs.State.{half_of, origin_of, state_of}
 use Rattle.device_store.proofs.Moves.{from_equal}
-use Rattle.device_core.specs.State.{device_by, device_of}
+use Rattle.device_core.specs.State.{device_by, device_of, last_end_of}
 use Rattle.device_core.proofs.Acting.{less_room}
 use Rattle.device_core.proofs.Commands.{same_running}
 use Rattle.device_core.proofs.Eventful.{acted_device, at_word_same, cylinders_held}
@@ -87,7 +87,7 @@ returns-clause-run g c =
     (ended (sym (acted_device s old.paths old.plans old.past q c.second-part.new.self.loose.acts c.acts.result.now c.note_acts.ensures.history
     c.acts.ensures c.note_acts.ensures.chain))
     (ap (λ (n : ℕ). if part.done then Finished n else Unwritten n) (sym (c.second-part.ensures.track it.0 it.1))
-    ∙ same_told _ _ e (c.told.ensures q) is))))
+    ∙ same_told _ _ e (c.told.ensures (last_end_of q)) is))))
 
 pub invariant_of-self-then-part : goal.invariant_of-self-then-part
 invariant_of-self-then-part g c =

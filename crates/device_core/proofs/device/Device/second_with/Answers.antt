@@ -1,9 +1,10 @@
 use Rattle.std.proofs.Common.{◌∙◌, refl, ap}
+use Rattle.std.specs.Prelude.{option_map}
 use Rattle.device_defs.specs.Contents.{contents}
 use Rattle.device_defs.specs.Events.{second, second_of}
 use Rattle.device_defs.specs.Owed as owed
 use Rattle.device_defs.specs.Owed.{hear}
-use Rattle.device_store.specs.State.{state_of, outside_of}
+use Rattle.device_store.specs.State.{half_of, state_of, outside_of}
 use Rattle.device_store.proofs.Moves.{from_equal}
 use Rattle.device_core.specs.State.{device_of}
 use Rattle.device_core.proofs.Eventful.{event_run}
@@ -13,7 +14,7 @@ use Rattle.device_core.proofs.Promising.{second_excused, second_sound, second_st
 use Rattle.device_core.proofs.device.Device.second_with.Goals as goal
 
 pub returns-clause-whole : goal.returns-clause-whole
-returns-clause-whole g c = c.end_event.ensures.leaves.half ∙ c.second_where-step.ensures.whole
+returns-clause-whole g c = ap (option_map half_of) (c.end_event.ensures.leaves.half ∙ c.second_where-step.ensures.whole)
 
 pub returns-clause-run : goal.returns-clause-run
 unfolding second

@@ -2,6 +2,7 @@ use Rattle.std.proofs.Common.{◌∙◌, Some, ap}
 use Rattle.device_defs.specs.Contents.{contents}
 use Rattle.device_defs.specs.Events.{second_told}
 use Rattle.device_defs.specs.Outcomes.{Turn}
+use Rattle.device_core.specs.State.{last_end_of}
 use Rattle.device_core.proofs.Halves.{told_second}
 use Rattle.device_core.proofs.Parts.{some_chain, written_state}
 use Rattle.device_core.proofs.Pasts.{keeps_same}
@@ -20,7 +21,7 @@ returns-clause-state c =
 pub returns-clause-answer : goal.returns-clause-answer
 returns-clause-answer c =
     λ chain at. let it = some_chain c.end_in-came.new.running c.end_in-came.ensures.running in
-    told_second c.turned-stepped.new.self c.turned-stepped.result c.end_in-came.result c.args.t c.turned-stepped.ensures.answer
+    told_second (last_end_of c.turned-stepped.new.self) c.turned-stepped.result c.end_in-came.result c.args.t c.turned-stepped.ensures.answer
     c.turned-stepped.ensures.half (c.end_in-came.ensures.half ∙ c.requires.whole)
     ∙ ap (λ (x : Turn). Some (second_told contents c.args.t x.came)) (c.end_in-came.ensures.turn chain it.0 at it.1)
 

@@ -15,7 +15,7 @@ command_with-requires-clause-whole g c =
 
 pub command_with-requires-clause-running : goal.command_with-requires-clause-running
 command_with-requires-clause-running g c =
-    held c.args.self.now.devices.items c.args.d c.place-at.result c.index_mut.result.now (λ x. IsSome x.past.running) c.args.self.now.rising
+    held c.args.self.now.devices.items c.args.d c.place-at.result c.index_mut.result.now (λ x. IsSome (device_of x).history.running) c.args.self.now.rising
     c.place-at.ensures.range c.place-at.ensures.found c.index_mut.ensures.value c.requires.running
 
 pub command_with-requires-clause-takes : goal.command_with-requires-clause-takes

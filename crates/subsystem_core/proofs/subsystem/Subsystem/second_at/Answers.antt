@@ -1,6 +1,6 @@
 use Rattle.std.specs.Prelude.{◌*◌}
 use Rattle.device_store.specs.State.{Takes}
-use Rattle.device_core.specs.State.{second_seen}
+use Rattle.device_core.specs.State.{last_end, second_seen}
 use Rattle.subsystem_core.proofs.Found.{changed, held, numbers_kept}
 use Rattle.subsystem_core.proofs.Hearing.{spans_kept}
 use Rattle.subsystem_core.proofs.Seating.{alike_kept, second_lent}
@@ -16,7 +16,7 @@ invariant_of-self g c =
       alike = alike_kept c.args.self.now.devices.items c.place-at.result c.index_mut.result.now c.second_with.new.self c.index_mut.ensures.value (record {
         number = c.second_with.ensures.fixed.0;
         cylinders = c.second_with.ensures.fixed.1;
-        lent = second_lent (second_seen c.second_with.new.self.past c.second_with.result) c.index_mut.result.now c.second_with.new.self _ _
+        lent = second_lent (second_seen (last_end c.second_with.new.self) c.second_with.result) c.index_mut.result.now c.second_with.new.self _ _
             c.second_with.ensures.seen c.second_with.ensures.run;
       }) c.args.self.now.alike;
     }
