@@ -77,7 +77,7 @@ module _ (d : ℕ) (start : List Track) (calls : Option PutCalls) where
   }
 
 run_is : (deck : DeckLines) → last_behind (opened deck) (run_lines (map asked_by deck.events) (opened deck)) ≡ (run_of deck).behind
-unfolding decks.run_asked
+unfolding decks.run_asked_on
 run_is deck = refl
 
 -- a mirror behind the lines of a deck

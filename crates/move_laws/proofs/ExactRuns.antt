@@ -135,7 +135,7 @@ lines_step (x ∷ xs) s =
     All-append IsExact ts (run_lines xs (last_behind s ts)) (line_step x s) (lines_step xs (last_behind s ts))
 
 run_is_exact : (deck : DeckLines) → All IsExact (run_of deck).events
-unfolding D.run_asked
+unfolding D.run_asked_on
 run_is_exact deck = lines_step (map asked_by deck.events) (opened deck)
 
 both : (xs : List Logged) → All MovesByTable xs → All IsExact xs → All MovesExactly xs

@@ -114,5 +114,5 @@ adds_go = record {
 }
 
 pub run_ends_fast_writes : (deck : DeckLines) → All EndsFastWrites (run_of deck).events
-unfolding D.run_asked
+unfolding D.run_asked_on
 run_ends_fast_writes deck = run_shows (λ s. Unit {0}) EndsFastWrites adds_go (map asked_by deck.events) (opened deck) tt

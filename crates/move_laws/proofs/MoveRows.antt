@@ -26,7 +26,7 @@ use Rattle.device_defs.specs.Writing.{write_first, write_second, write_done}
 use Rattle.device_defs.proofs.Stand.{read_zero}
 use Rattle.subsystem_defs.specs.declared.event.Event.{Event}
 use Rattle.subsystem_defs.specs.declared.event.Event.TheVariants as events
-use Rattle.subsystem_defs.specs.Decks.{run_asked}
+use Rattle.subsystem_defs.specs.Decks.{run_asked, run_asked_on}
 use Rattle.subsystem_defs.specs.Deeds.{deed}
 use Rattle.subsystem_defs.specs.Happening.{EventHappened, sweep, happens, replaced, unpaired}
 use Rattle.subsystem_defs.specs.Lines.{Logged, steps, backs, line_logged, run_lines}
@@ -80,7 +80,7 @@ unfolding command_of least count_below is_in with_number less_one answer after c
     command reset power second background lose level_bytes image over settled side_lost cache_lost store_lost
     all_firm_told waits hear all_told lend second_part start_fault start write_first write_second write_done through
     write pair_fault unpair_fault suspend_fault resume_fault fail_fault replace_fault deed sweep happens replaced
-    unpaired steps backs line_logged run_lines run_asked part_of walk walk_tracks
+    unpaired steps backs line_logged run_lines run_asked_on part_of walk walk_tracks
 steps_make = refl
 
 -- a write through to a pair: side A's write, and then side B's
@@ -89,7 +89,7 @@ unfolding command_of least count_below is_in with_number less_one answer after c
     command reset power second background lose level_bytes image over settled side_lost cache_lost store_lost
     all_firm_told waits hear all_told lend second_part start_fault start write_first write_second write_done through
     write pair_fault unpair_fault suspend_fault resume_fault fail_fault replace_fault deed sweep happens replaced
-    unpaired steps backs line_logged run_lines run_asked part_of walk walk_tracks
+    unpaired steps backs line_logged run_lines run_asked_on part_of walk walk_tracks
 pair_makes = refl
 
 -- the sixteenth read of side A of a pair fails, behind the fifteen of the copy: the track is read from side B
@@ -103,7 +103,7 @@ unfolding command_of least count_below is_in with_number less_one answer after c
     command reset power second background lose level_bytes image over settled side_lost cache_lost store_lost
     all_firm_told waits hear all_told lend second_part start_fault start write_first write_second write_done through
     write pair_fault unpair_fault suspend_fault resume_fault fail_fault replace_fault deed sweep happens replaced
-    unpaired steps backs line_logged run_lines run_asked part_of walk walk_tracks
+    unpaired steps backs line_logged run_lines run_asked_on part_of walk walk_tracks
 failed_side_makes = refl
 
 -- a search that isn't met on its track goes on to the next one: a hit, and then a miss
@@ -120,7 +120,7 @@ unfolding command_of least count_below is_in with_number less_one answer after c
     command reset power second background lose level_bytes image over settled side_lost cache_lost store_lost
     all_firm_told waits hear all_told lend second_part start_fault start write_first write_second write_done through
     write pair_fault unpair_fault suspend_fault resume_fault fail_fault replace_fault deed sweep happens replaced
-    unpaired steps backs line_logged run_lines run_asked part_of walk walk_tracks
+    unpaired steps backs line_logged run_lines run_asked_on part_of walk walk_tracks
 search_makes = refl
 
 -- And by itself: a track is destaged, and then there is nothing to do; one is recovered that has no frame
@@ -141,5 +141,5 @@ unfolding command_of least count_below is_in with_number less_one answer after c
     command reset power second background lose level_bytes image over settled side_lost cache_lost store_lost
     all_firm_told waits hear all_told lend second_part start_fault start write_first write_second write_done through
     write pair_fault unpair_fault suspend_fault resume_fault fail_fault replace_fault deed sweep happens replaced
-    unpaired steps backs line_logged run_lines run_asked part_of walk walk_tracks
+    unpaired steps backs line_logged run_lines run_asked_on part_of walk walk_tracks
 works_make = refl

@@ -28,7 +28,7 @@ abbrev shortened : DeckLines → ℕ → DeckLines
 shortened deck n = record deck { events = take n deck.events }
 
 front_is_run : (deck : DeckLines) (n : ℕ) → front_of deck n ≡ run_of (shortened deck n)
-unfolding D.run_asked
+unfolding D.run_asked_on
 front_is_run deck n = refl
 
 shortened_served : (deck : DeckLines) (n : ℕ) → IsServedDeck deck → IsServedDeck (shortened deck n)

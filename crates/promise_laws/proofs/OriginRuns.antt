@@ -383,7 +383,7 @@ origins_go = record {
 }
 
 pub run_has_origins : (deck : DeckLines) → IsServedDeck deck → All HaveOrigins (run_of deck).events
-unfolding D.run_asked
+unfolding D.run_asked_on
 run_has_origins deck h =
     logs_all Sound HaveOrigins (opened deck) (run_lines (map asked_by deck.events) (opened deck))
     (lines_go Sound (λ s. HaveOrigins) IsServedEvent origins_go (map asked_by deck.events) (opened deck) (all_may deck.events h.events)

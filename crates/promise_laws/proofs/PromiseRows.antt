@@ -32,7 +32,7 @@ use Rattle.device_defs.specs.Start.{start_fault, start}
 use Rattle.device_defs.specs.Writing.{write_first, write_second, write_done}
 use Rattle.subsystem_defs.specs.declared.end.EventEnd.TheVariants as ends
 use Rattle.subsystem_defs.specs.declared.event.Event.TheVariants as events
-use Rattle.subsystem_defs.specs.Decks.{run_asked}
+use Rattle.subsystem_defs.specs.Decks.{run_asked, run_asked_on}
 use Rattle.subsystem_defs.specs.Deeds.{deed}
 use Rattle.subsystem_defs.specs.Happening.{sweep, happens, replaced, unpaired}
 use Rattle.subsystem_defs.specs.Lines.{Once, steps, backs, line_logged, run_lines}
@@ -63,7 +63,7 @@ unfolding command_of least count_below is_in with_number less_one answer after c
     command reset power second background lose level_bytes image over settled side_lost cache_lost store_lost
     all_firm_told waits hear all_told lend second_part start_fault start write_first write_second write_done through
     write pair_fault unpair_fault suspend_fault resume_fault fail_fault replace_fault deed sweep happens replaced
-    unpaired steps backs line_logged run_lines run_asked part_of walk
+    unpaired steps backs line_logged run_lines run_asked_on part_of walk
 edits_are_kept = refl
 
 -- the one that was cut wasn't told
@@ -73,7 +73,7 @@ unfolding command_of least count_below is_in with_number less_one answer after c
     command reset power second background lose level_bytes image over settled side_lost cache_lost store_lost
     all_firm_told waits hear all_told lend second_part start_fault start write_first write_second write_done through
     write pair_fault unpair_fault suspend_fault resume_fault fail_fault replace_fault deed sweep happens replaced
-    unpaired steps backs line_logged run_lines run_asked part_of walk
+    unpaired steps backs line_logged run_lines run_asked_on part_of walk
 edits_are_acknowledged = refl
 
 -- A loss of the cache brings no new volume

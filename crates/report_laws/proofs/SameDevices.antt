@@ -238,7 +238,7 @@ stay_on (t ∷ ts) s l p =
     (stay_on ts t.happened.behind l.1 (All-tail Stay t ts p))
 
 pub run_keeps_devices : (deck : DeckLines) → IsServedDeck deck → AreOne (devices_of (opened deck)) (devices_of (run_of deck).behind)
-unfolding D.run_asked
+unfolding D.run_asked_on
 run_keeps_devices deck served =
     stay_on (run_of deck).events (opened deck) (lines_linked (map asked_by deck.events) (opened deck))
     (run_pairs IsOne (λ lossy alone. IsOne) one_pairwise deck served)

@@ -521,7 +521,7 @@ module _ (n : ℕ) where
   pub deck_shown : (deck : DeckLines) → IsServedDeck deck → One n (devices (map (opened_device deck) deck.devices)) →
       (shown_of n (report_lines (run_of deck)) ≡ lines_by_history n (device_in (devices_of (run_of deck).behind) n))
       × At n Anything (devices (map (opened_device deck) deck.devices)) (devices (run_of deck).behind.mounted)
-  unfolding D.run_asked
+  unfolding D.run_asked_on
   deck_shown deck h one =
       let s = opened deck in
       let ts = run_lines (map asked_by deck.events) s in

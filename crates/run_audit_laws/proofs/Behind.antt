@@ -45,7 +45,7 @@ rising numbers s k = subst (RisesFrom 0) (sym (numbers_are numbers s k)) k.rises
 -- Behind the whole run
 
 pub good_behind : (deck : DeckLines) → IsServedDeck deck → AreSo Good (run_of deck).behind.mounted
-unfolding D.run_asked
+unfolding D.run_asked_on
 good_behind deck h =
     lines_end_so Good AnyEvent good_kept (record { step = λ d. tt; back = λ d. tt }) (map asked_by deck.events) (opened deck)
     (all_asked (map asked_by deck.events)) (opened_good deck deck.devices h.devices)

@@ -138,11 +138,11 @@ module _ (text : List ℕ) (deck : DeckLines) (read : parsed text ≡ Ok deck) w
   first_sized = opened_sized deck (parsed_good text deck read).program_count (parsed_good text deck read).programs [] deck.devices (read_numbered text deck read) (read_small text deck read)
 
   pub run_sized : All (λ (x : Logged). All Sized (devices_of x.happened.behind)) (run_of deck).events
-  unfolding D.run_asked
+  unfolding D.run_asked_on
   run_sized = run_keeps Sized sized_kept (map asked_by deck.events) (opened deck) first_sized
 
   pub sized_behind : AreSo Sized (run_of deck).behind.mounted
-  unfolding D.run_asked
+  unfolding D.run_asked_on
   sized_behind =
       lines_end_so Sized AnyEvent sized_kept (record { step = λ d. tt; back = λ d. tt }) (map asked_by deck.events) (opened deck)
       (all_asked (map asked_by deck.events)) first_sized

@@ -42,7 +42,7 @@ read_numbers text deck read =
     omega (arith, same, few)
 
 pub run_has_few : (text : List ℕ) (deck : DeckLines) → parsed text ≡ Ok deck → All (λ (t : Logged). length (devices_of t.happened.before) ≤ 16) (run_of deck).events
-unfolding D.run_asked
+unfolding D.run_asked_on
 run_has_few text deck read =
     let ns = numbers_in deck in
     let most = read_numbers text deck read in

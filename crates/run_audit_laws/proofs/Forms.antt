@@ -258,7 +258,7 @@ ending_formed e =
     (All-append Formed (map frame_line e.frames) (lines.Finish ∷ []) (frames_formed e.frames) (one lines.Finish refl))
 
 pub report_has_form : (deck : DeckLines) → All (λ (line : ReportLine). has_form line ≡ true) (report_lines (run_of deck))
-unfolding D.run_asked
+unfolding D.run_asked_on
 report_has_form deck =
     let ts = run_lines (map asked_by deck.events) (opened deck) in
     let r = run_of deck in

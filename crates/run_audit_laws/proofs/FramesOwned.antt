@@ -325,7 +325,7 @@ module _ (T : ℕ → Type 0) (In : ChainState → Type 0) (comes : Comes T In) 
     }
 
   pub run_so : (deck : DeckLines) → AreSo K (opened deck).mounted → So (numbers_in deck) (run_of deck).behind
-  unfolding D.run_asked
+  unfolding D.run_asked_on
   run_so deck first =
       let ns = numbers_in deck in
       let asked = map asked_by deck.events in

@@ -144,7 +144,7 @@ module _ (devices : List DeviceLine) (small : (n : ℕ) → is_declared devices 
   all_names (e ∷ es) ok n = All-cons Names (asked_by e) (map asked_by es) (event_names e ok.0 n.0) (all_names es ok.1 n.1)
 
 pub run_names : (text : List ℕ) (deck : DeckLines) → parsed text ≡ Ok deck → All (λ (t : Logged). Names t.asked) (run_of deck).events
-unfolding D.run_asked
+unfolding D.run_asked_on
 run_names text deck read =
     lines_of Names (map asked_by deck.events) (opened deck)
     (all_names deck.devices (declared_small [] deck.devices (read_numbered text deck read)) deck.events (parsed_good text deck read).events

@@ -381,7 +381,7 @@ module _ (text : List ℕ) (deck : DeckLines) (read : parsed text ≡ Ok deck) w
       all_so (opened deck).mounted (opened_plain deck deck.devices devices) (first_sized text deck read) (opened_good deck deck.devices devices)
 
   events_known : All IsLine (lines_of_run (run_of deck))
-  unfolding D.run_asked
+  unfolding D.run_asked_on
   events_known =
       let asked = map asked_by deck.events in
       let ts = run_lines asked (opened deck) in

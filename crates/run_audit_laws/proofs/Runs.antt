@@ -187,7 +187,7 @@ new_selves deck (d ∷ ds) = (alike_self (new_device deck.programs d) tt, new_se
 
 pub run_leads : (deck : DeckLines) → AllSo DoesPlainly (opened deck) deck.events → FramesAreDeclared (run_of deck).behind →
     WholeLeads (first_state deck) (report_lines (run_of deck))
-unfolding D.run_asked
+unfolding D.run_asked_on
 run_leads deck does framed =
     subst (λ (s : AuditState). WholeLeads s (report_lines (run_of deck))) (sym (first_stands deck))
     (lines_end deck.events (opened deck)

@@ -29,7 +29,7 @@ opened_fits deck (d ∷ ds) h = (
 )
 
 pub fits_behind : (text : List ℕ) (deck : DeckLines) → parsed text ≡ Ok deck → AreSo Fits (run_of deck).behind.mounted
-unfolding D.run_asked
+unfolding D.run_asked_on
 fits_behind text deck read =
     lines_end_so Fits AnyEvent fits_kept (record { step = λ d. tt; back = λ d. tt }) (map asked_by deck.events) (opened deck)
     (all_asked (map asked_by deck.events)) (opened_fits deck deck.devices (read_small text deck read))

@@ -688,7 +688,7 @@ run_tied deck =
     let ns = numbers_in deck in lines_keep (So ns) (Shown ns) (ties_go ns) (map asked_by deck.events) (opened deck) (opened_tied deck)
 
 pub tied_behind : (deck : DeckLines) → Tied (numbers_in deck) (ties (run_of deck).behind.mounted)
-unfolding D.run_asked
+unfolding D.run_asked_on
 tied_behind deck =
     let ns = numbers_in deck in
     logs_end (So ns) (Shown ns) (opened deck) (run_lines (map asked_by deck.events) (opened deck)) (run_tied deck)

@@ -25,7 +25,7 @@ use Rattle.device_defs.specs.Start.{start_fault, start}
 use Rattle.device_defs.specs.Editing.{through, write}
 use Rattle.device_defs.specs.Writing.{write_first, write_second, write_done}
 use Rattle.report_text.specs.Lines.{text_of}
-use Rattle.subsystem_defs.specs.Decks.{run_asked}
+use Rattle.subsystem_defs.specs.Decks.{run_asked, run_asked_on}
 use Rattle.subsystem_defs.specs.Deeds.{deed}
 use Rattle.subsystem_defs.specs.Happening.{sweep, happens, replaced, unpaired}
 use Rattle.subsystem_defs.specs.Lines.{steps, backs, line_logged, run_lines}
@@ -84,7 +84,7 @@ unfolding command_of least count_below is_in with_number less_one answer after c
     command reset power second background lose level_bytes image over settled side_lost cache_lost store_lost
     all_firm_told waits hear all_told lend second_part start_fault start write_first write_second write_done through
     write pair_fault unpair_fault suspend_fault resume_fault fail_fault replace_fault deed sweep happens replaced
-    unpaired steps backs line_logged run_lines run_asked text_of copied_tracks
+    unpaired steps backs line_logged run_lines run_asked_on text_of copied_tracks
     digits encode_with
 of_one_device = refl
 
@@ -94,7 +94,7 @@ unfolding command_of least count_below is_in with_number less_one answer after c
     command reset power second background lose level_bytes image over settled side_lost cache_lost store_lost
     all_firm_told waits hear all_told lend second_part start_fault start write_first write_second write_done through
     write pair_fault unpair_fault suspend_fault resume_fault fail_fault replace_fault deed sweep happens replaced
-    unpaired steps backs line_logged run_lines run_asked text_of copied_tracks
+    unpaired steps backs line_logged run_lines run_asked_on text_of copied_tracks
     digits encode_with
 of_paths = refl
 
@@ -104,7 +104,7 @@ unfolding command_of least count_below is_in with_number less_one answer after c
     command reset power second background lose level_bytes image over settled side_lost cache_lost store_lost
     all_firm_told waits hear all_told lend second_part start_fault start write_first write_second write_done through
     write pair_fault unpair_fault suspend_fault resume_fault fail_fault replace_fault deed sweep happens replaced
-    unpaired steps backs line_logged run_lines run_asked text_of copied_tracks
+    unpaired steps backs line_logged run_lines run_asked_on text_of copied_tracks
     digits encode_with
 of_losses = refl
 
@@ -114,7 +114,7 @@ unfolding command_of least count_below is_in with_number less_one answer after c
     command reset power second background lose level_bytes image over settled side_lost cache_lost store_lost
     all_firm_told waits hear all_told lend second_part start_fault start write_first write_second write_done through
     write pair_fault unpair_fault suspend_fault resume_fault fail_fault replace_fault deed sweep happens replaced
-    unpaired steps backs line_logged run_lines run_asked text_of copied_tracks
+    unpaired steps backs line_logged run_lines run_asked_on text_of copied_tracks
     digits encode_with
 of_pairs = refl
 
@@ -124,7 +124,7 @@ unfolding command_of least count_below is_in with_number less_one answer after c
     command reset power second background lose level_bytes image over settled side_lost cache_lost store_lost
     all_firm_told waits hear all_told lend second_part start_fault start write_first write_second write_done through
     write pair_fault unpair_fault suspend_fault resume_fault fail_fault replace_fault deed sweep happens replaced
-    unpaired steps backs line_logged run_lines run_asked text_of copied_tracks
+    unpaired steps backs line_logged run_lines run_asked_on text_of copied_tracks
     digits encode_with
 of_loose_data = refl
 
@@ -134,7 +134,7 @@ unfolding command_of least count_below is_in with_number less_one answer after c
     command reset power second background lose level_bytes image over settled side_lost cache_lost store_lost
     all_firm_told waits hear all_told lend second_part start_fault start write_first write_second write_done through
     write pair_fault unpair_fault suspend_fault resume_fault fail_fault replace_fault deed sweep happens replaced
-    unpaired steps backs line_logged run_lines run_asked text_of copied_tracks
+    unpaired steps backs line_logged run_lines run_asked_on text_of copied_tracks
     digits encode_with
 of_power = refl
 
@@ -144,7 +144,7 @@ unfolding command_of least count_below is_in with_number less_one answer after c
     command reset power second background lose level_bytes image over settled side_lost cache_lost store_lost
     all_firm_told waits hear all_told lend second_part start_fault start write_first write_second write_done through
     write pair_fault unpair_fault suspend_fault resume_fault fail_fault replace_fault deed sweep happens replaced
-    unpaired steps backs line_logged run_lines run_asked text_of copied_tracks
+    unpaired steps backs line_logged run_lines run_asked_on text_of copied_tracks
     digits encode_with head_of event_word_of is_one decode_pairs
 of_a_text = refl
 
@@ -155,7 +155,7 @@ unfolding command_of least count_below is_in with_number less_one answer after c
     command reset power second background lose level_bytes image over settled side_lost cache_lost store_lost
     all_firm_told waits hear all_told lend second_part start_fault start write_first write_second write_done through
     write pair_fault unpair_fault suspend_fault resume_fault fail_fault replace_fault deed sweep happens replaced
-    unpaired steps backs line_logged run_lines run_asked text_of copied_tracks
+    unpaired steps backs line_logged run_lines run_asked_on text_of copied_tracks
     digits encode_with
 histories_are_shown = refl
 
@@ -165,6 +165,6 @@ unfolding command_of least count_below is_in with_number less_one answer after c
     command reset power second background lose level_bytes image over settled side_lost cache_lost store_lost
     all_firm_told waits hear all_told lend second_part start_fault start write_first write_second write_done through
     write pair_fault unpair_fault suspend_fault resume_fault fail_fault replace_fault deed sweep happens replaced
-    unpaired steps backs line_logged run_lines run_asked text_of copied_tracks
+    unpaired steps backs line_logged run_lines run_asked_on text_of copied_tracks
     digits encode_with
 of_a_drawn_program = refl

@@ -32,12 +32,12 @@ use Rattle.device_defs.specs.Writing.{write_first, write_second, write_done}
 use Rattle.subsystem_defs.specs.declared.event.Event.TheVariants as events
 use Rattle.subsystem_defs.specs.Beside.{Loosened, Hardened, WentBack}
 use Rattle.subsystem_defs.specs.Closing.{Counted, LentTo, handed_of}
-use Rattle.subsystem_defs.specs.Decks.{run_asked}
+use Rattle.subsystem_defs.specs.Decks.{run_asked, run_asked_on}
 use Rattle.subsystem_defs.specs.Deeds.{deed}
 use Rattle.subsystem_defs.specs.Happening.{sweep, happens, replaced, unpaired}
 use Rattle.subsystem_defs.specs.Lines.{steps, backs, line_logged, run_lines}
 use Rattle.subsystem_defs.specs.Calm.{is_calm}
-use Rattle.subsystem_defs.specs.Promised.{are_explained, miss_nothing}
+use Rattle.subsystem_defs.specs.Promised.{are_explained, are_explained_from, miss_nothing}
 use Rattle.subsystem_defs.specs.Refusals.{pair_fault, unpair_fault, suspend_fault, resume_fault, fail_fault, replace_fault}
 use Rattle.subsystem_defs.proofs.Stand.{
   back,
@@ -113,7 +113,7 @@ unfolding command_of least count_below is_in with_number less_one answer after c
     command reset power second background lose level_bytes image over settled side_lost cache_lost store_lost
     all_firm_told waits hear all_told lend second_part start_fault start write_first write_second write_done through
     write pair_fault unpair_fault suspend_fault resume_fault fail_fault replace_fault deed sweep happens replaced
-    unpaired steps backs line_logged run_lines run_asked copies
+    unpaired steps backs line_logged run_lines run_asked_on copies
 alone_shows = refl
 
 pub losses_show : Show (
@@ -125,7 +125,7 @@ unfolding command_of least count_below is_in with_number less_one answer after c
     command reset power second background lose level_bytes image over settled side_lost cache_lost store_lost
     all_firm_told waits hear all_told lend second_part start_fault start write_first write_second write_done through
     write pair_fault unpair_fault suspend_fault resume_fault fail_fault replace_fault deed sweep happens replaced
-    unpaired steps backs line_logged run_lines run_asked copies
+    unpaired steps backs line_logged run_lines run_asked_on copies
 losses_show = refl
 
 pub pairs_show : Show (
@@ -139,7 +139,7 @@ unfolding command_of least count_below is_in with_number less_one answer after c
     command reset power second background lose level_bytes image over settled side_lost cache_lost store_lost
     all_firm_told waits hear all_told lend second_part start_fault start write_first write_second write_done through
     write pair_fault unpair_fault suspend_fault resume_fault fail_fault replace_fault deed sweep happens replaced
-    unpaired steps backs line_logged run_lines run_asked copies
+    unpaired steps backs line_logged run_lines run_asked_on copies
 pairs_show = refl
 
 pub others_show : Show (
@@ -153,7 +153,7 @@ unfolding command_of least count_below is_in with_number less_one answer after c
     command reset power second background lose level_bytes image over settled side_lost cache_lost store_lost
     all_firm_told waits hear all_told lend second_part start_fault start write_first write_second write_done through
     write pair_fault unpair_fault suspend_fault resume_fault fail_fault replace_fault deed sweep happens replaced
-    unpaired steps backs line_logged run_lines run_asked copies
+    unpaired steps backs line_logged run_lines run_asked_on copies
 others_show = refl
 
 pub provisional_writes_show : Show (
@@ -165,7 +165,7 @@ unfolding command_of least count_below is_in with_number less_one answer after c
     command reset power second background lose level_bytes image over settled side_lost cache_lost store_lost
     all_firm_told waits hear all_told lend second_part start_fault start write_first write_second write_done through
     write pair_fault unpair_fault suspend_fault resume_fault fail_fault replace_fault deed sweep happens replaced
-    unpaired steps backs line_logged run_lines run_asked copies
+    unpaired steps backs line_logged run_lines run_asked_on copies
 provisional_writes_show = refl
 
 pub power_losses_show : Show (
@@ -178,7 +178,7 @@ unfolding command_of least count_below is_in with_number less_one answer after c
     command reset power second background lose level_bytes image over settled side_lost cache_lost store_lost
     all_firm_told waits hear all_told lend second_part start_fault start write_first write_second write_done through
     write pair_fault unpair_fault suspend_fault resume_fault fail_fault replace_fault deed sweep happens replaced
-    unpaired steps backs line_logged run_lines run_asked copies
+    unpaired steps backs line_logged run_lines run_asked_on copies
 power_losses_show = refl
 
 -- more than two hundred events of a pair
@@ -188,7 +188,7 @@ unfolding command_of least count_below is_in with_number less_one answer after c
     command reset power second background lose level_bytes image over settled side_lost cache_lost store_lost
     all_firm_told waits hear all_told lend second_part start_fault start write_first write_second write_done through
     write pair_fault unpair_fault suspend_fault resume_fault fail_fault replace_fault deed sweep happens replaced
-    unpaired steps backs line_logged run_lines run_asked copies goes
+    unpaired steps backs line_logged run_lines run_asked_on copies goes
 many_events = refl
 
 -- what was told of data of cache fast write
@@ -200,7 +200,7 @@ unfolding command_of least count_below is_in with_number less_one answer after c
     command reset power second background lose level_bytes image over settled side_lost cache_lost store_lost
     all_firm_told waits hear all_told lend second_part start_fault start write_first write_second write_done through
     write pair_fault unpair_fault suspend_fault resume_fault fail_fault replace_fault deed sweep happens replaced
-    unpaired steps backs line_logged run_lines run_asked copies
+    unpaired steps backs line_logged run_lines run_asked_on copies
 loose_data_are_told = refl
 
 -- and what came to journals
@@ -211,7 +211,7 @@ unfolding command_of least count_below is_in with_number less_one answer after c
     command reset power second background lose level_bytes image over settled side_lost cache_lost store_lost
     all_firm_told waits hear all_told lend second_part start_fault start write_first write_second write_done through
     write pair_fault unpair_fault suspend_fault resume_fault fail_fault replace_fault deed sweep happens replaced
-    unpaired steps backs line_logged run_lines run_asked copies
+    unpaired steps backs line_logged run_lines run_asked_on copies
 items_are_told = refl
 
 -- what is handed out
@@ -224,7 +224,7 @@ unfolding command_of least count_below is_in with_number less_one answer after c
     command reset power second background lose level_bytes image over settled side_lost cache_lost store_lost
     all_firm_told waits hear all_told lend second_part start_fault start write_first write_second write_done through
     write pair_fault unpair_fault suspend_fault resume_fault fail_fault replace_fault deed sweep happens replaced
-    unpaired steps backs line_logged run_lines run_asked copies handed_of
+    unpaired steps backs line_logged run_lines run_asked_on copies handed_of
 volumes_are_handed_out = refl
 
 -- calm runs miss nothing
@@ -235,7 +235,7 @@ unfolding command_of least count_below is_in with_number less_one answer after c
     command reset power second background lose level_bytes image over settled side_lost cache_lost store_lost
     all_firm_told waits hear all_told lend second_part start_fault start write_first write_second write_done through
     write pair_fault unpair_fault suspend_fault resume_fault fail_fault replace_fault deed sweep happens replaced
-    unpaired steps backs line_logged run_lines run_asked copies is_calm are_explained miss_nothing
+    unpaired steps backs line_logged run_lines run_asked_on copies is_calm are_explained_from miss_nothing
 calm_runs = refl
 
 -- others may
@@ -245,7 +245,7 @@ unfolding command_of least count_below is_in with_number less_one answer after c
     command reset power second background lose level_bytes image over settled side_lost cache_lost store_lost
     all_firm_told waits hear all_told lend second_part start_fault start write_first write_second write_done through
     write pair_fault unpair_fault suspend_fault resume_fault fail_fault replace_fault deed sweep happens replaced
-    unpaired steps backs line_logged run_lines run_asked copies is_calm are_explained miss_nothing part_of walk
+    unpaired steps backs line_logged run_lines run_asked_on copies is_calm are_explained_from miss_nothing part_of walk
 other_runs = refl
 
 -- one loss, before any event of a write to a pair
@@ -255,7 +255,7 @@ unfolding command_of least count_below is_in with_number less_one answer after c
     command reset power second background lose level_bytes image over settled side_lost cache_lost store_lost
     all_firm_told waits hear all_told lend second_part start_fault start write_first write_second write_done through
     write pair_fault unpair_fault suspend_fault resume_fault fail_fault replace_fault deed sweep happens replaced
-    unpaired steps backs line_logged run_lines run_asked copies is_calm are_explained miss_nothing
+    unpaired steps backs line_logged run_lines run_asked_on copies is_calm are_explained_from miss_nothing
 one_loss = refl
 
 -- formats and reads of them; a bypass; and what ends with unit check
@@ -264,7 +264,7 @@ unfolding command_of least count_below is_in with_number less_one answer after c
     command reset power second background lose level_bytes image over settled side_lost cache_lost store_lost
     all_firm_told waits hear all_told lend second_part start_fault start write_first write_second write_done through
     write pair_fault unpair_fault suspend_fault resume_fault fail_fault replace_fault deed sweep happens replaced
-    unpaired steps backs line_logged run_lines run_asked copies formats_from fines
+    unpaired steps backs line_logged run_lines run_asked_on copies formats_from fines
 formats_show = refl
 
 pub checks_show : Show (read_fails ∷ loss_in_its_own_program ∷ end_of_the_cylinder ∷ losses_without_repair ∷ [])
@@ -272,7 +272,7 @@ unfolding command_of least count_below is_in with_number less_one answer after c
     command reset power second background lose level_bytes image over settled side_lost cache_lost store_lost
     all_firm_told waits hear all_told lend second_part start_fault start write_first write_second write_done through
     write pair_fault unpair_fault suspend_fault resume_fault fail_fault replace_fault deed sweep happens replaced
-    unpaired steps backs line_logged run_lines run_asked copies
+    unpaired steps backs line_logged run_lines run_asked_on copies
 checks_show = refl
 
 -- a length that is another is noted, unless that is suppressed
@@ -282,7 +282,7 @@ unfolding command_of least count_below is_in with_number less_one answer after c
     command reset power second background lose level_bytes image over settled side_lost cache_lost store_lost
     all_firm_told waits hear all_told lend second_part start_fault start write_first write_second write_done through
     write pair_fault unpair_fault suspend_fault resume_fault fail_fault replace_fault deed sweep happens replaced
-    unpaired steps backs line_logged run_lines run_asked copies formats_from fines
+    unpaired steps backs line_logged run_lines run_asked_on copies formats_from fines
 lengths_are_noted = refl
 
 -- the senses: equipment check, another number of cache fast write data, the end of the cylinder, file protected
@@ -293,7 +293,7 @@ unfolding command_of least count_below is_in with_number less_one answer after c
     command reset power second background lose level_bytes image over settled side_lost cache_lost store_lost
     all_firm_told waits hear all_told lend second_part start_fault start write_first write_second write_done through
     write pair_fault unpair_fault suspend_fault resume_fault fail_fault replace_fault deed sweep happens replaced
-    unpaired steps backs line_logged run_lines run_asked copies
+    unpaired steps backs line_logged run_lines run_asked_on copies
 senses_are_told = refl
 
 pub checks_are_in_the_journal : map items_by (loss_in_its_own_program ∷ end_of_the_cylinder ∷ [])
@@ -302,7 +302,7 @@ unfolding command_of least count_below is_in with_number less_one answer after c
     command reset power second background lose level_bytes image over settled side_lost cache_lost store_lost
     all_firm_told waits hear all_told lend second_part start_fault start write_first write_second write_done through
     write pair_fault unpair_fault suspend_fault resume_fault fail_fault replace_fault deed sweep happens replaced
-    unpaired steps backs line_logged run_lines run_asked copies
+    unpaired steps backs line_logged run_lines run_asked_on copies
 checks_are_in_the_journal = refl
 
 -- a check behind a loss of the program's own data is explained, and counts as nothing missed; two losses without a repair aren't calm
@@ -312,7 +312,7 @@ unfolding command_of least count_below is_in with_number less_one answer after c
     command reset power second background lose level_bytes image over settled side_lost cache_lost store_lost
     all_firm_told waits hear all_told lend second_part start_fault start write_first write_second write_done through
     write pair_fault unpair_fault suspend_fault resume_fault fail_fault replace_fault deed sweep happens replaced
-    unpaired steps backs line_logged run_lines run_asked copies is_calm are_explained miss_nothing part_of walk
+    unpaired steps backs line_logged run_lines run_asked_on copies is_calm are_explained_from miss_nothing part_of walk
 other_judgements = refl
 
 -- a check behind a failed call is explained; were no call to fail in its event, it wouldn't be
@@ -321,7 +321,7 @@ unfolding command_of least count_below is_in with_number less_one answer after c
     command reset power second background lose level_bytes image over settled side_lost cache_lost store_lost
     all_firm_told waits hear all_told lend second_part start_fault start write_first write_second write_done through
     write pair_fault unpair_fault suspend_fault resume_fault fail_fault replace_fault deed sweep happens replaced
-    unpaired steps backs line_logged run_lines run_asked copies is_calm are_explained miss_nothing part_of walk
+    unpaired steps backs line_logged run_lines run_asked_on copies is_calm are_explained_from miss_nothing part_of walk
 check_without_a_cause = refl
 
 abbrev written : DeckLines
@@ -344,7 +344,7 @@ unfolding command_of least count_below is_in with_number less_one answer after c
     command reset power second background lose level_bytes image over settled side_lost cache_lost store_lost
     all_firm_told waits hear all_told lend second_part start_fault start write_first write_second write_done through
     write pair_fault unpair_fault suspend_fault resume_fault fail_fault replace_fault deed sweep happens replaced
-    unpaired steps backs line_logged run_lines run_asked copies is_calm are_explained miss_nothing
+    unpaired steps backs line_logged run_lines run_asked_on copies is_calm are_explained_from miss_nothing
 whole_volumes = refl
 
 -- of a pair: while it is copied, and level; side B held, and going on; between the two parts of a write; a side lost, and replaced
@@ -360,5 +360,5 @@ unfolding command_of least count_below is_in with_number less_one answer after c
     command reset power second background lose level_bytes image over settled side_lost cache_lost store_lost
     all_firm_told waits hear all_told lend second_part start_fault start write_first write_second write_done through
     write pair_fault unpair_fault suspend_fault resume_fault fail_fault replace_fault deed sweep happens replaced
-    unpaired steps backs line_logged run_lines run_asked copies is_calm are_explained miss_nothing
+    unpaired steps backs line_logged run_lines run_asked_on copies is_calm are_explained_from miss_nothing
 whole_pairs = refl

@@ -15,7 +15,7 @@ use Rattle.device_defs.specs.Marks.{MarksDevice}
 use Rattle.device_defs.specs.Store.{some_up}
 use Rattle.subsystem_defs.specs.Beside.{new_items}
 use Rattle.subsystem_defs.specs.Calm.{is_calm}
-use Rattle.subsystem_defs.specs.Decks.{run_of}
+use Rattle.subsystem_defs.specs.Decks.{Firsts, empty_firsts, run_on}
 use Rattle.subsystem_defs.specs.Lines.{Logged}
 use Rattle.subsystem_defs.specs.Subsystem.{Subsystem, devices_of}
 
@@ -31,11 +31,18 @@ first_of first d = record (empty_of d) { volume = first d.store.cylinders }
 abbrev pub HasPlainHistory : MarksDevice → Type 0
 HasPlainHistory d = IsPlain d.plans (empty_of d) d.history
 
+-- where the volume of the device of its number held these tracks first
+abbrev pub HasPlainHistoryOn : Firsts → MarksDevice → Type 0
+HasPlainHistoryOn firsts d = IsPlain d.plans (first_of (firsts d.store.device) d) d.history
+
 abbrev pub HasPlainHistories : Subsystem → Type 0
 HasPlainHistories s = All HasPlainHistory (devices_of s)
 
 abbrev pub IsPlainBehind : Logged → Type 0
 IsPlainBehind x = HasPlainHistories x.happened.behind
+
+abbrev pub IsPlainBehindOn : Firsts → Logged → Type 0
+IsPlainBehindOn firsts x = All (HasPlainHistoryOn firsts) (devices_of x.happened.behind)
 
 -- Checks: what makes a command end with equipment check
 
@@ -59,20 +66,24 @@ explained_first_by first before behind (x ∷ xs) = true
 abbrev pub explained_on_by : (ℕ → List Track) → MarksDevice → MarksDevice → Bool
 explained_on_by first before behind = explained_first_by first before behind (new_items before.history behind.history)
 
--- in a run, whose devices begin on empty volumes
-abbrev pub explained_on : MarksDevice → MarksDevice → Bool
-explained_on before behind = explained_on_by empty_volume before behind
+-- in a run, whose devices began on volumes that held these tracks
+abbrev pub explained_from : Firsts → MarksDevice → MarksDevice → Bool
+explained_from firsts before behind = explained_on_by (firsts before.store.device) before behind
 
-abbrev pub all_explained_on : List MarksDevice → List MarksDevice → Bool
-all_explained_on (x ∷ xs) (y ∷ ys) = explained_on x y && all_explained_on xs ys
-all_explained_on _ _ = true
+abbrev pub all_explained_from : Firsts → List MarksDevice → List MarksDevice → Bool
+all_explained_from firsts (x ∷ xs) (y ∷ ys) = explained_from firsts x y && all_explained_from firsts xs ys
+all_explained_from firsts _ _ = true
 
-abbrev pub explained_in : Logged → Bool
-explained_in x = all_explained_on (devices_of x.happened.before) (devices_of x.happened.behind)
+abbrev pub explained_in : Firsts → Logged → Bool
+explained_in firsts x = all_explained_from firsts (devices_of x.happened.before) (devices_of x.happened.behind)
 
-unfoldable pub are_explained : List Logged → Bool
-are_explained [] = true
-are_explained (x ∷ xs) = explained_in x && are_explained xs
+unfoldable pub are_explained_from : Firsts → List Logged → Bool
+are_explained_from firsts [] = true
+are_explained_from firsts (x ∷ xs) = explained_in firsts x && are_explained_from firsts xs
+
+-- on empty ones
+abbrev pub are_explained : List Logged → Bool
+are_explained xs = are_explained_from empty_firsts xs
 
 -- While each failure comes after the last one was repaired: no check but behind a loss of the program's own data of cache fast write, and
 -- no lost track
@@ -98,9 +109,13 @@ unfoldable pub miss_nothing : List Logged → Bool
 miss_nothing [] = true
 miss_nothing (x ∷ xs) = all_miss_nothing (devices_of x.happened.behind) && miss_nothing xs
 
--- The whole
+-- The whole, on volumes that held these tracks first
 
-pub record IsPromised (deck : DeckLines) : Type 0 where
-  pub plain : All IsPlainBehind (run_of deck).events
-  pub explained : are_explained (run_of deck).events ≡ true
-  pub calm : is_calm (run_of deck).events ≡ true → miss_nothing (run_of deck).events ≡ true
+pub record IsPromisedOn (firsts : Firsts) (deck : DeckLines) : Type 0 where
+  pub plain : All (IsPlainBehindOn firsts) (run_on firsts deck).events
+  pub explained : are_explained_from firsts (run_on firsts deck).events ≡ true
+  pub calm : is_calm (run_on firsts deck).events ≡ true → miss_nothing (run_on firsts deck).events ≡ true
+
+-- on empty ones
+abbrev pub IsPromised : DeckLines → Type 0
+IsPromised deck = IsPromisedOn empty_firsts deck

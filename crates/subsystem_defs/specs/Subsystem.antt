@@ -7,7 +7,9 @@ use Rattle.plain_defs.specs.Journal.{Plans}
 use Rattle.device_outside.specs.Pool.{Pool}
 use Rattle.device_outside.specs.Told.{Calls}
 use Rattle.device_outside.specs.Volume.{Plan}
-use Rattle.device_defs.specs.Marks.{MarksDevice, new_device}
+use Rattle.ckd_types.specs.declared.record.Track.{Track}
+use Rattle.ckd_types.specs.Volume.{empty_volume}
+use Rattle.device_defs.specs.Marks.{MarksDevice, MarksStore, new_device, new_store}
 
 -- the calls of the volume of each side. Those of a side that isn't there count for nothing
 pub record Mounted : Type 0 where
@@ -29,9 +31,24 @@ no_failing = record { reads = []; writes = [] }
 abbrev pub unfailing : Calls
 unfailing = new_calls no_failing
 
+-- a new device whose volume holds these tracks
+abbrev pub first_store : ℕ → Geometry → ℕ → List Track → MarksStore
+first_store d g cylinders tracks = record (new_store d g cylinders) { plain = tracks; firm = tracks }
+
+abbrev pub first_device : ℕ → Geometry → ℕ → List Track → Plans → MarksDevice
+first_device d g cylinders tracks plans = record (new_device d g cylinders plans) { store = first_store d g cylinders tracks }
+
+-- a device on its one volume, which holds these tracks
+abbrev pub mounted_on : ℕ → Geometry → ℕ → List Track → Plans → Plan → Mounted
+mounted_on d g cylinders tracks plans failing = record {
+  device = first_device d g cylinders tracks plans;
+  a = new_calls failing;
+  b = unfailing;
+}
+
 -- a device on its one empty volume
 abbrev pub newly_mounted : ℕ → Geometry → ℕ → Plans → Plan → Mounted
-newly_mounted d g cylinders plans failing = record { device = new_device d g cylinders plans; a = new_calls failing; b = unfailing }
+newly_mounted d g cylinders plans failing = mounted_on d g cylinders (empty_volume cylinders) plans failing
 
 abbrev pub number_of : Mounted → ℕ
 number_of m = m.device.store.device

@@ -68,7 +68,7 @@ use Rattle.device_laws.proofs.counted.Counting.{Counts, counts_done, counts_try,
 use Rattle.device_laws.proofs.counted.EventCounts.{command_counts, second_counts, background_counts, lose_counts, power_counts, reset_counts}
 use Rattle.subsystem_defs.specs.declared.end.EventEnd.TheVariants as ends
 use Rattle.subsystem_defs.specs.Decks as D
-use Rattle.subsystem_defs.specs.Decks.{opened_device, opened, run_of}
+use Rattle.subsystem_defs.specs.Decks.{Firsts, opened_device_on, opened_on, run_on}
 use Rattle.subsystem_defs.specs.Deeds.{ends_done, end_of}
 use Rattle.subsystem_defs.specs.Lines.{Logged, asked_by, last_behind}
 use Rattle.subsystem_defs.specs.Subsystem.{Mounted, Subsystem, devices_of}
@@ -364,7 +364,7 @@ module _ (count : K.Counts → ℕ) (c : IsCallCount count) where
       (counted_on ts t.happened.behind (k + 1924) l.1 (All-tail Shown t ts p) r.1
       (fits_on k (devices_of t.happened.before) (devices_of t.happened.behind) (All-head Shown t ts p) g))
 
-  opened_fits : (deck : DeckLines) (ds : List DeviceLine) → All IsSmall ds → AllSo (Fits 0) (map (λ (m : Mounted). m.device) (map (opened_device deck) ds))
+  opened_fits : {firsts : Firsts} (deck : DeckLines) (ds : List DeviceLine) → All IsSmall ds → AllSo (Fits 0) (map (λ (m : Mounted). m.device) (map (opened_device_on firsts deck) ds))
   opened_fits deck [] h = tt
   opened_fits deck (d ∷ ds) h = (
     record { small = All-head IsSmall d ds h; most = none_first (count no_counts) c.at_first },
@@ -380,26 +380,26 @@ module _ (count : K.Counts → ℕ) (c : IsCallCount count) where
       (behind_on ts t.happened.behind (k + 1924) l.1 (All-tail Shown t ts p)
       (fits_on k (devices_of t.happened.before) (devices_of t.happened.behind) (All-head Shown t ts p) h))
 
-  run_shown : (text : List ℕ) (deck : DeckLines) → parsed text ≡ Ok deck → All Shown (run_of deck).events
+  run_shown : {firsts : Firsts} (text : List ℕ) (deck : DeckLines) → parsed text ≡ Ok deck → All Shown (run_on firsts deck).events
   run_shown text deck read = run_pairs RisesNone (λ lossy alone. RisesFew) few_pairwise deck (read_served text deck read)
 
   -- in the run of a deck that was read it stays below the greatest number that is counted
-  pub read_run_counts_all : (text : List ℕ) (deck : DeckLines) → parsed text ≡ Ok deck → All AllFewer (run_of deck).events
-  unfolding D.run_asked
-  read_run_counts_all text deck read =
-      counted_on (run_of deck).events (opened deck) 0 (lines_linked (map asked_by deck.events) (opened deck)) (run_shown text deck read)
-      (from_none (length (run_of deck).events) (read_run_has_few text deck read)) (opened_fits deck deck.devices (read_small text deck read))
+  pub read_run_counts_all : {firsts : Firsts} (text : List ℕ) (deck : DeckLines) → parsed text ≡ Ok deck → All AllFewer (run_on firsts deck).events
+  unfolding D.run_asked_on
+  read_run_counts_all {firsts = firsts} text deck read =
+      counted_on (run_on firsts deck).events (opened_on firsts deck) 0 (lines_linked (map asked_by deck.events) (opened_on firsts deck)) (run_shown text deck read)
+      (from_none (length (run_on firsts deck).events) (read_run_has_few text deck read)) (opened_fits deck deck.devices (read_small text deck read))
 
   less_so : (k n : ℕ) → k ≤ n → (ds : List MarksDevice) → AllSo (Fits k) ds → AllSo (λ (d : MarksDevice). count d.store.counts ≤ n) ds
   less_so k n le [] g = tt
   less_so k n le (d ∷ ds) g = (at_most (count d.store.counts) k n g.0.most le, less_so k n le ds g.1)
 
   -- and behind it, it is at most this
-  pub read_run_counts_few : (text : List ℕ) (deck : DeckLines) → parsed text ≡ Ok deck →
-      AllSo (λ (d : MarksDevice). count d.store.counts ≤ 1033065725952) (devices_of (run_of deck).behind)
-  unfolding D.run_asked
-  read_run_counts_few text deck read =
-      less_so (0 + length (run_of deck).events * 1924) 1033065725952 (all_few (length (run_of deck).events) (read_run_has_few text deck read))
-      (devices_of (run_of deck).behind)
-      (behind_on (run_of deck).events (opened deck) 0 (lines_linked (map asked_by deck.events) (opened deck)) (run_shown text deck read)
+  pub read_run_counts_few : {firsts : Firsts} (text : List ℕ) (deck : DeckLines) → parsed text ≡ Ok deck →
+      AllSo (λ (d : MarksDevice). count d.store.counts ≤ 1033065725952) (devices_of (run_on firsts deck).behind)
+  unfolding D.run_asked_on
+  read_run_counts_few {firsts = firsts} text deck read =
+      less_so (0 + length (run_on firsts deck).events * 1924) 1033065725952 (all_few (length (run_on firsts deck).events) (read_run_has_few text deck read))
+      (devices_of (run_on firsts deck).behind)
+      (behind_on (run_on firsts deck).events (opened_on firsts deck) 0 (lines_linked (map asked_by deck.events) (opened_on firsts deck)) (run_shown text deck read)
       (opened_fits deck deck.devices (read_small text deck read)))

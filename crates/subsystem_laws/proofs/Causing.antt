@@ -11,7 +11,7 @@ use Rattle.device_defs.specs.Marks.{MarksDevice}
 use Rattle.device_defs.specs.Orders.{hold_side, resume}
 use Rattle.device_defs.specs.Start.{start, next_ordinal}
 use Rattle.subsystem_defs.specs.declared.end.EventEnd.TheVariants as ends
-use Rattle.subsystem_defs.specs.Decks.{run_of}
+use Rattle.subsystem_defs.specs.Decks.{Firsts, run_on}
 use Rattle.subsystem_defs.specs.Deeds.{ends_done, end_of}
 use Rattle.subsystem_defs.specs.Subsystem.{Subsystem}
 use Rattle.subsystem_laws.specs.Causes.{checks_of, ChecksForCause, CheckForCause}
@@ -78,5 +78,5 @@ checks_pairwise = record {
   deeds = λ s p. deeds_of AddsNone ChecksForCause s (deeds_show s p);
 }
 
-pub run_checks_for_cause : (deck : DeckLines) → IsServedDeck deck → All CheckForCause (run_of deck).events
+pub run_checks_for_cause : {firsts : Firsts} (deck : DeckLines) → IsServedDeck deck → All CheckForCause (run_on firsts deck).events
 run_checks_for_cause = run_pairs AddsNone (λ lossy alone. ChecksForCause) checks_pairwise

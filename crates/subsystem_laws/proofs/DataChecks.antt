@@ -14,7 +14,7 @@ use Rattle.device_laws.proofs.CleanParts.{command_clean, second_clean}
 use Rattle.device_laws.proofs.KeptEvents.{background_holds, lose_holds}
 use Rattle.device_laws.proofs.KeptHistories.{count_more}
 use Rattle.subsystem_defs.specs.Decks as D
-use Rattle.subsystem_defs.specs.Decks.{opened_device, opened, run_of}
+use Rattle.subsystem_defs.specs.Decks.{Firsts, opened_device_on, opened_on, run_on}
 use Rattle.subsystem_defs.specs.Lines.{asked_by}
 use Rattle.subsystem_laws.specs.Causes.{HasNoDataCheck, HaveNoDataCheck}
 use Rattle.subsystem_laws.proofs.Came.{at, came_clean}
@@ -50,10 +50,10 @@ checks_kept = record {
   restored = λ d a is p. count_more ends_with_data_check d.history.items (items.Fresh ∷ []) (refl, tt) ∙ p;
 }
 
-opened_so : (deck : DeckLines) (ds : List DeviceLine) → AreSo HasNoDataCheck (map (opened_device deck) ds)
+opened_so : {firsts : Firsts} (deck : DeckLines) (ds : List DeviceLine) → AreSo HasNoDataCheck (map (opened_device_on firsts deck) ds)
 opened_so deck [] = tt
 opened_so deck (d ∷ ds) = (refl, opened_so deck ds)
 
-pub run_has_no_data_check : (deck : DeckLines) → All HaveNoDataCheck (run_of deck).events
-unfolding D.run_asked
-run_has_no_data_check deck = run_keeps HasNoDataCheck checks_kept (map asked_by deck.events) (opened deck) (opened_so deck deck.devices)
+pub run_has_no_data_check : {firsts : Firsts} (deck : DeckLines) → All HaveNoDataCheck (run_on firsts deck).events
+unfolding D.run_asked_on
+run_has_no_data_check {firsts = firsts} deck = run_keeps HasNoDataCheck checks_kept (map asked_by deck.events) (opened_on firsts deck) (opened_so deck deck.devices)

@@ -74,11 +74,11 @@ use Rattle.device_laws.proofs.LossLaws.{some_counted}
 use Rattle.device_laws.proofs.Lucky.{top, never_falls}
 use Rattle.subsystem_defs.specs.declared.end.EventEnd.TheVariants as ends
 use Rattle.subsystem_defs.specs.Decks as D
-use Rattle.subsystem_defs.specs.Decks.{opened_device, opened, run_of}
+use Rattle.subsystem_defs.specs.Decks.{empty_firsts, opened_device, opened, run_of}
 use Rattle.subsystem_defs.specs.Deeds.{ends_done, end_of}
 use Rattle.subsystem_defs.specs.Lines.{Logged, asked_by}
 use Rattle.subsystem_defs.specs.Promised as P
-use Rattle.subsystem_defs.specs.Promised.{empty_of, explained_first_by, explained_on, explained_on_by, all_explained_on, explained_in, are_explained, first_of}
+use Rattle.subsystem_defs.specs.Promised.{empty_of, explained_first_by, explained_from, explained_on_by, all_explained_from, explained_in, are_explained, first_of}
 use Rattle.subsystem_defs.specs.Subsystem.{Mounted, Subsystem, devices_of}
 use Rattle.subsystem_laws.specs.Causes.{EachPair, CountFailures}
 use Rattle.subsystem_laws.specs.Excused.{has_fresh, WasNeverLent, HasExcusedChecks, HasExcusedChecksOn, HaveExcusedChecks}
@@ -454,13 +454,13 @@ record Stands (d : MarksDevice) : Type 0 where
   paid : PaidFor d
   excused : HasExcusedChecks d
 
-all_excused : (xs ys : List MarksDevice) → EachPair Made xs ys → all_explained_on xs ys ≡ true → AllSo Stands xs → AllSo Fair ys → AllSo PaidFor ys →
+all_excused : (xs ys : List MarksDevice) → EachPair Made xs ys → all_explained_from empty_firsts xs ys ≡ true → AllSo Stands xs → AllSo Fair ys → AllSo PaidFor ys →
     AllSo Stands ys
 all_excused [] [] h is s f p = tt
 all_excused [] (y ∷ ys) h is s f p = absurd h
 all_excused (x ∷ xs) [] h is s f p = absurd h
 all_excused (x ∷ xs) (y ∷ ys) h is s f p =
-    let b = both_true (explained_on x y) (all_explained_on xs ys) is in (
+    let b = both_true (explained_from empty_firsts x y) (all_explained_from empty_firsts xs ys) is in (
       record { fair = f.0; paid = p.0; excused = excused_on empty_volume x y h.0 s.0.fair b.0 s.0.paid s.0.excused },
       all_excused xs ys h.1 b.1 s.1 f.1 p.1,
     )
@@ -480,10 +480,10 @@ behind P t ts h = all_so P (devices_of t.happened.behind) (All-head (AreBehind P
 
 excused_from : (ts : List Logged) (s : Subsystem) → Linked s ts → All PairsMade ts → All (AreBehind Fair) ts → All (AreBehind PaidFor) ts →
     are_explained ts ≡ true → AllSo Stands (devices_of s) → All HaveExcusedChecks ts
-unfolding P.are_explained
+unfolding P.are_explained_from
 excused_from [] s l h f p is z = All-nil HaveExcusedChecks
 excused_from (t ∷ ts) s l h f p is z =
-    let b = both_true (explained_in t) (are_explained ts) is in
+    let b = both_true (explained_in empty_firsts t) (are_explained ts) is in
     let here = subst (λ (x : Subsystem). AllSo Stands (devices_of x)) (sym l.0) z in
     let next = all_excused (devices_of t.happened.before) (devices_of t.happened.behind) (All-head PairsMade t ts h) b.0 here (behind Fair t ts f)
     (behind PaidFor t ts p) in
@@ -498,7 +498,7 @@ opened_stand deck [] f p = tt
 opened_stand deck (d ∷ ds) f p = (record { fair = f.0; paid = p.0; excused = λ never. omega arith }, opened_stand deck ds f.1 p.1)
 
 pub checks_are_excused : (deck : DeckLines) → IsServedDeck deck → All CountFailures (run_of deck).events → All HaveExcusedChecks (run_of deck).events
-unfolding D.run_asked
+unfolding D.run_asked_on
 checks_are_excused deck h n =
     let lines = map asked_by deck.events in
     let fair = opened_fair deck deck.devices h.devices in

@@ -99,7 +99,7 @@ use Rattle.loss_model.specs.declared.Loss.TheVariants as losses
 use Rattle.device_defs.specs.Orders.{hold_side, resume, replace, lend, join, split}
 use Rattle.device_defs.specs.Start.{start, next_ordinal}
 use Rattle.subsystem_defs.specs.declared.end.EventEnd.TheVariants as ends
-use Rattle.subsystem_defs.specs.Decks.{run_of}
+use Rattle.subsystem_defs.specs.Decks.{Firsts, run_on}
 use Rattle.subsystem_defs.specs.Deeds.{ends_done, end_of}
 use Rattle.subsystem_defs.specs.Lines.{Logged}
 use Rattle.subsystem_defs.specs.Subsystem.{Subsystem, devices_of}
@@ -486,8 +486,8 @@ AddsNone x y = Grows x.history y.history × (checks_of y ≡ checks_of x)
 abbrev pub ExplainsOn : (ℕ → List Track) → MarksDevice → MarksDevice → Type 0
 ExplainsOn first x y = PlainlyOn first x → Steered x → x.store.counts.failed < top → explained_on_by first x y ≡ true
 
-abbrev pub Explains : MarksDevice → MarksDevice → Type 0
-Explains x y = ExplainsOn empty_volume x y
+abbrev pub ExplainsFrom : Firsts → MarksDevice → MarksDevice → Type 0
+ExplainsFrom firsts x y = ExplainsOn (firsts x.store.device) x y
 
 grows_on : (x y z : History) → Grows x y → Grows y z → Grows x z
 grows_on x y z f g = record {
@@ -509,50 +509,50 @@ replace_adds d sides.B = same_grows d (replace d sides.B) refl
 pub lend_adds : (d : MarksDevice) (to : ℕ) (t : CameTo (lend by_plain d to)) → AddsNone d t.state
 lend_adds d to t = same_grows d t.state (at (lend_past d to) t)
 
-deeds_explain : (s : Subsystem) → AreSo Fair s.mounted → IsDeedwise s (KeepsDeed AddsNone Explains s)
-deeds_explain s q = record {
+deeds_explain : (firsts : Firsts) (s : Subsystem) → AreSo Fair s.mounted → IsDeedwise s (KeepsDeed AddsNone (ExplainsFrom firsts) s)
+deeds_explain firsts s q = record {
   ended = λ end. tt;
   started = λ d x path fault.
-      becomes_so AddsNone Explains s d x (start d path) (started_number d path) (start_adds d path) (ends.Started (next_ordinal d path));
+      becomes_so AddsNone (ExplainsFrom firsts) s d x (start d path) (started_number d path) (start_adds d path) (ends.Started (next_ordinal d path));
   seconded = λ d x h is. (
     seat_of s d x,
-    ends_made AddsNone Explains d (second by_plain d) (λ a. Some (ends.Second a))
+    ends_made AddsNone (ExplainsFrom firsts) d (second by_plain d) (λ a. Some (ends.Second a))
         (λ t p k lt. second_explained d (fair_of s q d x) p k lt h is t (second_grows d t)),
   );
   commanded = λ d x whole o running. (
     seat_of s d x,
-    ends_made AddsNone Explains d (command by_plain d) (end_of ends.Stepped)
+    ends_made AddsNone (ExplainsFrom firsts) d (command by_plain d) (end_of ends.Stepped)
         (λ t p k lt. commands_explained d (fair_of s q d x) p k lt o running whole t (command_grows d t)),
   );
-  worked = λ d x whole. (seat_of s d x, ends_made AddsNone Explains d (background by_plain d) (end_of ends.Back) (λ t p k lt. background_explained d empty_volume t));
-  cut = λ d x path. (seat_of s d x, ends_made AddsNone Explains d (reset by_plain d path) (λ a. Some (ends_done a)) (λ t p k lt. reset_explained d empty_volume path t));
-  lost_cache = λ d t. λ p k lt. lose_explained d empty_volume losses.Cache t;
-  lost_store = λ d t. λ p k lt. lose_explained d empty_volume losses.Store t;
+  worked = λ d x whole. (seat_of s d x, ends_made AddsNone (ExplainsFrom firsts) d (background by_plain d) (end_of ends.Back) (λ t p k lt. background_explained d (firsts d.store.device) t));
+  cut = λ d x path. (seat_of s d x, ends_made AddsNone (ExplainsFrom firsts) d (reset by_plain d path) (λ a. Some (ends_done a)) (λ t p k lt. reset_explained d (firsts d.store.device) path t));
+  lost_cache = λ d t. λ p k lt. lose_explained d (firsts d.store.device) losses.Cache t;
+  lost_store = λ d t. λ p k lt. lose_explained d (firsts d.store.device) losses.Store t;
   lost_side = λ d x side fault. (
     seat_of s d x,
-    ends_made AddsNone Explains d (lose by_plain d (losses.Side side)) (λ a. Some (ends_done a)) (λ t p k lt. lose_explained d empty_volume (losses.Side side) t),
+    ends_made AddsNone (ExplainsFrom firsts) d (lose by_plain d (losses.Side side)) (λ a. Some (ends_done a)) (λ t p k lt. lose_explained d (firsts d.store.device) (losses.Side side) t),
   );
-  lost_power = λ d t. λ p k lt. power_explained d empty_volume t;
+  lost_power = λ d t. λ p k lt. power_explained d (firsts d.store.device) t;
   repaired_cache = tt;
   repaired_store = tt;
   lent = λ x y z w fault. (seat_of s y w, lend_adds y x.store.device);
-  held = λ d x fault. becomes_so AddsNone Explains s d x (hold_side d) refl (same_grows d (hold_side d) refl) ends.Done;
-  resumed = λ d x fault. becomes_so AddsNone Explains s d x (resume d) refl (same_grows d (resume d) refl) ends.Done;
+  held = λ d x fault. becomes_so AddsNone (ExplainsFrom firsts) s d x (hold_side d) refl (same_grows d (hold_side d) refl) ends.Done;
+  resumed = λ d x fault. becomes_so AddsNone (ExplainsFrom firsts) s d x (resume d) refl (same_grows d (resume d) refl) ends.Done;
 }
 
-pub explained_pairwise : IsPairwise AddsNone (λ lossy alone. Explains)
-explained_pairwise = record {
+pub explained_pairwise : (firsts : Firsts) → IsPairwise AddsNone (λ lossy alone. ExplainsFrom firsts)
+explained_pairwise firsts = record {
   own = λ d. same_grows d d refl;
   on = λ x y z f g. (grows_on x.history y.history z.history f.0 g.0, g.1 ∙ f.1);
-  made = λ lossy alone x y f. λ p k lt. explained_same empty_volume x y f.0 f.1;
+  made = λ lossy alone x y f. λ p k lt. explained_same (firsts x.store.device) x y f.0 f.1;
   joins = λ d. same_grows d (join d) refl;
   splits = λ d fault. same_grows d (split d) refl;
   replaces = λ d side fault. replace_adds d side;
   restores = λ d a is. (record { more = items.Fresh ∷ []; grown = refl }, restore_same d);
-  deeds = λ s q. deeds_of AddsNone Explains s (deeds_explain s q);
+  deeds = λ s q. deeds_of AddsNone (ExplainsFrom firsts) s (deeds_explain firsts s q);
 }
 
 -- each device before an event with a plain history, steered sides, and counted calls has its checks explained behind it
-pub run_explains : (deck : DeckLines) → IsServedDeck deck →
-    All (λ (x : Logged). EachPair Explains (devices_of x.happened.before) (devices_of x.happened.behind)) (run_of deck).events
-run_explains = run_pairs AddsNone (λ lossy alone. Explains) explained_pairwise
+pub run_explains : (firsts : Firsts) (deck : DeckLines) → IsServedDeck deck →
+    All (λ (x : Logged). EachPair (ExplainsFrom firsts) (devices_of x.happened.before) (devices_of x.happened.behind)) (run_on firsts deck).events
+run_explains firsts deck = run_pairs AddsNone (λ lossy alone. ExplainsFrom firsts) (explained_pairwise firsts) deck

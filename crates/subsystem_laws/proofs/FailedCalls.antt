@@ -5,7 +5,7 @@ use Rattle.deck_text.specs.DeckLines.{DeckLines}
 use Rattle.deck_text.specs.Parse.{parsed}
 use Rattle.device_defs.specs.declared.counts.Counts as K
 use Rattle.device_defs.specs.Marks.{MarksDevice}
-use Rattle.subsystem_defs.specs.Decks.{run_of}
+use Rattle.subsystem_defs.specs.Decks.{Firsts, run_on}
 use Rattle.subsystem_defs.specs.Subsystem.{devices_of}
 use Rattle.subsystem_laws.specs.Causes.{CountFailures}
 use Rattle.subsystem_laws.proofs.CallCounts.{IsCallCount, if_few, none_few, one_few, read_run_counts_all, read_run_counts_few}
@@ -35,13 +35,13 @@ write_count = record {
   no_loss = λ c l. refl;
 }
 
-pub read_run_counts_failures : (text : List ℕ) (deck : DeckLines) → parsed text ≡ Ok deck → All CountFailures (run_of deck).events
+pub read_run_counts_failures : {firsts : Firsts} (text : List ℕ) (deck : DeckLines) → parsed text ≡ Ok deck → All CountFailures (run_on firsts deck).events
 read_run_counts_failures text deck read = read_run_counts_all (λ (c : K.Counts). c.failed) failed_count text deck read
 
-pub read_run_reads_few : (text : List ℕ) (deck : DeckLines) → parsed text ≡ Ok deck →
-    AllSo (λ (d : MarksDevice). d.store.counts.reads ≤ 1033065725952) (devices_of (run_of deck).behind)
+pub read_run_reads_few : {firsts : Firsts} (text : List ℕ) (deck : DeckLines) → parsed text ≡ Ok deck →
+    AllSo (λ (d : MarksDevice). d.store.counts.reads ≤ 1033065725952) (devices_of (run_on firsts deck).behind)
 read_run_reads_few text deck read = read_run_counts_few (λ (c : K.Counts). c.reads) read_count text deck read
 
-pub read_run_writes_few : (text : List ℕ) (deck : DeckLines) → parsed text ≡ Ok deck →
-    AllSo (λ (d : MarksDevice). d.store.counts.writes ≤ 1033065725952) (devices_of (run_of deck).behind)
+pub read_run_writes_few : {firsts : Firsts} (text : List ℕ) (deck : DeckLines) → parsed text ≡ Ok deck →
+    AllSo (λ (d : MarksDevice). d.store.counts.writes ≤ 1033065725952) (devices_of (run_on firsts deck).behind)
 read_run_writes_few text deck read = read_run_counts_few (λ (c : K.Counts). c.writes) write_count text deck read

@@ -50,7 +50,7 @@ use Rattle.device_laws.proofs.Unchecked.{lucky_both}
 use Rattle.device_laws.proofs.Unlost.{core_of, Fine, steady_tried}
 use Rattle.device_laws.proofs.invariants.NoTrackIsLost.{command_goes, background_goes, peek_goes, second_event_goes}
 use Rattle.subsystem_defs.specs.Decks as D
-use Rattle.subsystem_defs.specs.Decks.{opened_device, opened, run_of}
+use Rattle.subsystem_defs.specs.Decks.{Firsts, opened_device_on, opened_on, run_on}
 use Rattle.subsystem_defs.specs.Lines.{asked_by}
 use Rattle.subsystem_defs.specs.Refusals as R
 use Rattle.subsystem_defs.specs.Refusals.{replace_fault}
@@ -267,7 +267,7 @@ new_framed number on n v plans fair = record {
   };
 }
 
-opened_framed : (deck : DeckLines) (ds : List DeviceLine) → All (λ (d : DeviceLine). 1 ≤ d.cylinders) ds → AreSo Framed (map (opened_device deck) ds)
+opened_framed : {firsts : Firsts} (deck : DeckLines) (ds : List DeviceLine) → All (λ (d : DeviceLine). 1 ≤ d.cylinders) ds → AreSo Framed (map (opened_device_on firsts deck) ds)
 opened_framed deck [] h = tt
 opened_framed deck (d ∷ ds) h = (
   new_framed d.number d.geometry d.cylinders (empty_volume d.cylinders) _
@@ -280,8 +280,8 @@ pub excuses_tracks : (d : MarksDevice) → Framed d → HasExcusedTracks d
 excuses_tracks d f may =
     by_lent d (λ home. excused_tracks d.store (f.fair.un home) (f.un home) may) (λ away. kept_counts d.store (f.fair.good.gone away).store.lost)
 
-pub run_excuses_tracks : (deck : DeckLines) → IsServedDeck deck → All HaveExcusedTracks (run_of deck).events
-unfolding D.run_asked
-run_excuses_tracks deck h =
-    behind_weaker Framed HasExcusedTracks excuses_tracks (run_of deck).events
-    (run_keeps Framed framed_kept (map asked_by deck.events) (opened deck) (opened_framed deck deck.devices h.devices))
+pub run_excuses_tracks : {firsts : Firsts} (deck : DeckLines) → IsServedDeck deck → All HaveExcusedTracks (run_on firsts deck).events
+unfolding D.run_asked_on
+run_excuses_tracks {firsts = firsts} deck h =
+    behind_weaker Framed HasExcusedTracks excuses_tracks (run_on firsts deck).events
+    (run_keeps Framed framed_kept (map asked_by deck.events) (opened_on firsts deck) (opened_framed deck deck.devices h.devices))

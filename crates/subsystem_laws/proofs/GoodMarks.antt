@@ -45,7 +45,7 @@ use Rattle.device_laws.proofs.TrackMarks.{marks_are_faithful, marks, is_good, tr
 use Rattle.device_laws.proofs.WholeEvents.{second_keeps_good, background_keeps_good, peek_keeps_good, reset_keeps_good}
 use Rattle.subsystem_defs.specs.declared.end.OrderFault.TheVariants.{Same, Paired, Unpaired, Half, Down}
 use Rattle.subsystem_defs.specs.Decks as D
-use Rattle.subsystem_defs.specs.Decks.{opened_device, opened, run_of}
+use Rattle.subsystem_defs.specs.Decks.{Firsts, opened_device_on, opened_on, run_on}
 use Rattle.subsystem_defs.specs.Lines.{asked_by}
 use Rattle.subsystem_defs.specs.Refusals as R
 use Rattle.subsystem_defs.specs.Happening.{is_lent_to}
@@ -340,7 +340,7 @@ module _ (number : ℕ) (on : Geometry) (n : ℕ) (v : List Track) where
 pub new_good : (number : ℕ) (on : Geometry) (n : ℕ) (v : List Track) (plans : Plans) → 1 ≤ n → Good (device_on number on n v plans)
 new_good number on n v plans some = record { some = omega (arith, some); chain = tt; well = λ home. new_well number on n v; gone = λ away. absurd (cc) }
 
-pub opened_good : (deck : DeckLines) (ds : List DeviceLine) → All (λ (d : DeviceLine). 1 ≤ d.cylinders) ds → AreSo Good (map (opened_device deck) ds)
+pub opened_good : {firsts : Firsts} (deck : DeckLines) (ds : List DeviceLine) → All (λ (d : DeviceLine). 1 ≤ d.cylinders) ds → AreSo Good (map (opened_device_on firsts deck) ds)
 opened_good deck [] h = tt
 opened_good deck (d ∷ ds) h =
     let some = All-head (λ (d : DeviceLine). 1 ≤ d.cylinders) d ds h in (
@@ -370,8 +370,8 @@ marks_good s w = record {
   there = λ h is. there_by s h is w (w.here.within h is);
 }
 
-pub run_has_good_marks : (deck : DeckLines) → IsServedDeck deck → All HaveGoodMarks (run_of deck).events
-unfolding D.run_asked
-run_has_good_marks deck h =
-    behind_weaker Good HasGoodMarks (λ d g. λ home. marks_good d.store (g.well home)) (run_of deck).events
-    (run_keeps Good good_kept (map asked_by deck.events) (opened deck) (opened_good deck deck.devices h.devices))
+pub run_has_good_marks : {firsts : Firsts} (deck : DeckLines) → IsServedDeck deck → All HaveGoodMarks (run_on firsts deck).events
+unfolding D.run_asked_on
+run_has_good_marks {firsts = firsts} deck h =
+    behind_weaker Good HasGoodMarks (λ d g. λ home. marks_good d.store (g.well home)) (run_on firsts deck).events
+    (run_keeps Good good_kept (map asked_by deck.events) (opened_on firsts deck) (opened_good deck deck.devices h.devices))

@@ -7,7 +7,7 @@ use Rattle.loss_model.specs.declared.Loss.TheVariants as losses
 use Rattle.track_image.specs.Image.{Image}
 use Rattle.device_outside.specs.Interaction.{Interaction}
 use Rattle.subsystem_defs.specs.declared.end.EventEnd.TheVariants as ends
-use Rattle.subsystem_defs.specs.Decks.{run_of}
+use Rattle.subsystem_defs.specs.Decks.{Firsts, run_on}
 use Rattle.subsystem_defs.specs.Deeds.{ends_done, end_of}
 use Rattle.subsystem_defs.specs.Subsystem.{Subsystem}
 use Rattle.ckd_types.specs.declared.paths.Side.{Side}
@@ -149,5 +149,5 @@ losses_pairwise = record {
   deeds = λ s p. deeds_of LosesNone LosesForCause s (deeds_lose s p);
 }
 
-pub run_loses_for_cause : (deck : DeckLines) → IsServedDeck deck → All LoseForCause (run_of deck).events
+pub run_loses_for_cause : {firsts : Firsts} (deck : DeckLines) → IsServedDeck deck → All LoseForCause (run_on firsts deck).events
 run_loses_for_cause = run_pairs LosesNone (λ lossy alone. LosesForCause) losses_pairwise

@@ -23,7 +23,7 @@ use Rattle.subsystem_defs.specs.declared.end.OrderFault.{OrderFault}
 use Rattle.subsystem_defs.specs.declared.event.Event.{Event}
 use Rattle.subsystem_defs.specs.declared.event.Event.TheVariants as events
 use Rattle.subsystem_defs.specs.Decks as D
-use Rattle.subsystem_defs.specs.Decks.{opened, run_of}
+use Rattle.subsystem_defs.specs.Decks.{Firsts, opened_on, run_on}
 use Rattle.subsystem_defs.specs.Deeds as E
 use Rattle.subsystem_defs.specs.Deeds.{
   Ends,
@@ -277,6 +277,6 @@ lines_move = record {
   unpairs = λ s a q. (tt, unpaired_moves s a);
 }
 
-pub run_moves : (deck : DeckLines) → All MovesByTable (run_of deck).events
-unfolding D.run_asked
-run_moves deck = run_shows Nothing MovesByTable lines_move (map asked_by deck.events) (opened deck) tt
+pub run_moves : {firsts : Firsts} (deck : DeckLines) → All MovesByTable (run_on firsts deck).events
+unfolding D.run_asked_on
+run_moves {firsts = firsts} deck = run_shows Nothing MovesByTable lines_move (map asked_by deck.events) (opened_on firsts deck) tt

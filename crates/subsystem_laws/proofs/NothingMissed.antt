@@ -14,7 +14,7 @@ use Rattle.device_laws.specs.Unharmed.{ends_with_equipment_check}
 use Rattle.device_laws.proofs.KeptHistories.{AreNot, none_came}
 use Rattle.subsystem_defs.specs.declared.event.Event.{Event}
 use Rattle.subsystem_defs.specs.Decks as D
-use Rattle.subsystem_defs.specs.Decks.{opened_device, opened, run_of}
+use Rattle.subsystem_defs.specs.Decks.{Firsts, opened_device_on, opened_on, run_on}
 use Rattle.subsystem_defs.specs.Lines.{asked_by}
 use Rattle.subsystem_defs.specs.Promised.{is_served, are_served}
 use Rattle.subsystem_laws.specs.Causes.{HasNoDataCheck, MissesNothing, MissNothing}
@@ -77,14 +77,14 @@ none_missed d x = λ nothing cache.
     (none_came ends_with_equipment_check 0 0 d.history.items (x.0.none nothing cache).0 (omega arith)))
     (ap (λ (n : ℕ). n == 0) (keeps_tracks d x.0.fair nothing))
 
-opened_both : (deck : DeckLines) (ds : List DeviceLine) → AreSo Quiet (map (opened_device deck) ds) →
-    AreSo (λ d. Quiet d × HasNoDataCheck d) (map (opened_device deck) ds)
+opened_both : {firsts : Firsts} (deck : DeckLines) (ds : List DeviceLine) → AreSo Quiet (map (opened_device_on firsts deck) ds) →
+    AreSo (λ d. Quiet d × HasNoDataCheck d) (map (opened_device_on firsts deck) ds)
 opened_both deck [] h = tt
 opened_both deck (d ∷ ds) h = ((h.0, refl), opened_both deck ds h.1)
 
-pub run_misses_nothing : (deck : DeckLines) → IsServedDeck deck → All MissNothing (run_of deck).events
-unfolding D.run_asked
-run_misses_nothing deck h =
-    behind_weaker (λ d. Quiet d × HasNoDataCheck d) MissesNothing none_missed (run_of deck).events
-    (run_keeps (λ d. Quiet d × HasNoDataCheck d) (both_kept Quiet HasNoDataCheck quiet_kept checks_kept) (map asked_by deck.events) (opened deck)
+pub run_misses_nothing : {firsts : Firsts} (deck : DeckLines) → IsServedDeck deck → All MissNothing (run_on firsts deck).events
+unfolding D.run_asked_on
+run_misses_nothing {firsts = firsts} deck h =
+    behind_weaker (λ d. Quiet d × HasNoDataCheck d) MissesNothing none_missed (run_on firsts deck).events
+    (run_keeps (λ d. Quiet d × HasNoDataCheck d) (both_kept Quiet HasNoDataCheck quiet_kept checks_kept) (map asked_by deck.events) (opened_on firsts deck)
     (opened_both deck deck.devices (opened_quiet deck deck.devices h.devices)))

@@ -58,7 +58,7 @@ use Rattle.device_laws.proofs.Based.{Base, Any, Based, kept, based_any}
 use Rattle.device_laws.proofs.BasedEvents.{base_in, with_one_loss, command_based, second_based, background_based, lose_based, peek_based, power_based, reset_body}
 use Rattle.device_laws.proofs.LossLaws.{some_counted}
 use Rattle.device_laws.proofs.Lucky.{top}
-use Rattle.subsystem_defs.specs.Decks.{opened_device}
+use Rattle.subsystem_defs.specs.Decks.{Firsts, opened_device_on}
 use Rattle.subsystem_defs.proofs.Unrefused.{parts_up}
 use Rattle.subsystem_laws.specs.Excused.{has_fresh, WasNeverLent}
 use Rattle.subsystem_laws.specs.Came.{CameTo}
@@ -263,7 +263,7 @@ paid_kept = record {
 pub new_paid : (number : ℕ) (on : Geometry) (n : ℕ) (v : List Track) (plans : Plans) → PaidFor (device_on number on n v plans)
 new_paid number on n v plans never none = record { pair = λ e. absurd (cc); alone = λ e. refl }
 
-pub opened_paid : (deck : DeckLines) (ds : List DeviceLine) → AreSo PaidFor (map (opened_device deck) ds)
+pub opened_paid : {firsts : Firsts} (deck : DeckLines) (ds : List DeviceLine) → AreSo PaidFor (map (opened_device_on firsts deck) ds)
 opened_paid deck [] = tt
 opened_paid deck (d ∷ ds) = (new_paid d.number d.geometry d.cylinders (empty_volume d.cylinders) _, opened_paid deck ds)
 

@@ -19,7 +19,7 @@ use Rattle.subsystem_defs.specs.declared.event.Event.{Event}
 use Rattle.subsystem_defs.specs.declared.event.Event.TheVariants as events
 use Rattle.subsystem_defs.specs.Calm.{is_loss_event, asks_loss, fails_alone_by, fails_alone_of}
 use Rattle.subsystem_defs.specs.Decks as D
-use Rattle.subsystem_defs.specs.Decks.{opened, run_of}
+use Rattle.subsystem_defs.specs.Decks.{Firsts, opened_on, run_on}
 use Rattle.subsystem_defs.specs.Deeds.{Ends, Becomes, Asks, Each, Repairs, Lends, deed}
 use Rattle.subsystem_defs.specs.Happening as H
 use Rattle.subsystem_defs.specs.Happening.{EventHappened, MarksDeed, Talk, held_with, told_to, mounted_behind, behind_outcome, joined, lends, is_lent_to, restored_in, asks, becomes, happens_by, happens, sweep, replaced_by, replaced_at, replaced, unpaired_by, unpaired_at, unpaired}
@@ -250,9 +250,9 @@ module _ (Still : MarksDevice → MarksDevice → Type 0) (Made : Bool → Bool 
       unpairs = λ s a q. unpair_goes s q a;
     }
 
-    pub run_pairs : (deck : DeckLines) → IsServedDeck deck → All ShowsAll (run_of deck).events
-    unfolding D.run_asked
-    run_pairs deck h = run_shows AreFair ShowsAll pairs_go (map asked_by deck.events) (opened deck) (opened_fair deck deck.devices h.devices)
+    pub run_pairs : {firsts : Firsts} (deck : DeckLines) → IsServedDeck deck → All ShowsAll (run_on firsts deck).events
+    unfolding D.run_asked_on
+    run_pairs {firsts = firsts} deck h = run_shows AreFair ShowsAll pairs_go (map asked_by deck.events) (opened_on firsts deck) (opened_fair deck deck.devices h.devices)
 
 -- whatever event it is of
 module _ (Still Made : MarksDevice → MarksDevice → Type 0) where

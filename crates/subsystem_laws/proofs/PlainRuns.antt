@@ -58,10 +58,10 @@ use Rattle.subsystem_defs.specs.declared.end.OrderFault.{OrderFault}
 use Rattle.subsystem_defs.specs.declared.end.OrderFault.TheVariants.{Same, Paired, Geometry, Down}
 use Rattle.subsystem_defs.specs.declared.event.Event.{Event}
 use Rattle.subsystem_defs.specs.Decks as D
-use Rattle.subsystem_defs.specs.Decks.{opened_device, opened, run_of}
+use Rattle.subsystem_defs.specs.Decks.{Firsts, AreWhole, empty_firsts, opened_device, opened_device_on, opened_on, run_of, run_on}
 use Rattle.subsystem_defs.specs.Happening.{is_lent_to, happens}
 use Rattle.subsystem_defs.specs.Lines.{Asked, Once, Replace, Unpair, Run, Settle, asked_by, Logged, line_logged, last_behind}
-use Rattle.subsystem_defs.specs.Promised.{HasPlainHistory, IsPlainBehind, first_of}
+use Rattle.subsystem_defs.specs.Promised.{HasPlainHistoryOn, IsPlainBehind, IsPlainBehindOn, first_of}
 use Rattle.subsystem_defs.specs.Subsystem.{Mounted, Subsystem, devices_of}
 use Rattle.subsystem_defs.specs.Refusals as R
 use Rattle.subsystem_defs.specs.Refusals.{first_cause, where_so, lent_by, active_by, is_alike, pair_fault}
@@ -79,15 +79,22 @@ pub record PlainlyOn (first : ℕ → List Track) (d : MarksDevice) : Type 0 whe
   pub follows : Follows number empty d
   pub base : empty ≡ first_of first d
 
+-- on what the volume of the device of its number held
+abbrev pub PlainlyFrom : Firsts → MarksDevice → Type 0
+PlainlyFrom firsts d = PlainlyOn (firsts d.store.device) d
+
 -- on an empty one
 abbrev pub Plainly : MarksDevice → Type 0
-Plainly d = PlainlyOn empty_volume d
+Plainly d = PlainlyFrom empty_firsts d
+
+abbrev pub ArePlainOn : Firsts → List Mounted → Type 0
+ArePlainOn firsts ms = AreSo (PlainlyFrom firsts) ms
 
 abbrev pub ArePlain : List Mounted → Type 0
-ArePlain ms = AreSo Plainly ms
+ArePlain ms = ArePlainOn empty_firsts ms
 
-plain_history : (d : MarksDevice) → Plainly d → HasPlainHistory d
-plain_history d p = subst (λ (x : PlainState). IsPlain d.plans x d.history) p.base p.follows.stands.plain
+plain_history : (firsts : Firsts) (d : MarksDevice) → PlainlyFrom firsts d → HasPlainHistoryOn firsts d
+plain_history firsts d p = subst (λ (x : PlainState). IsPlain d.plans x d.history) p.base p.follows.stands.plain
 
 -- Another device that follows the same began so too
 
@@ -103,24 +110,27 @@ first_held first empty d base =
 
 -- Deeds that leave each device's history plain
 
-module _ {first : ℕ → List Track} where
-  pub follows_on : (d y : MarksDevice) (p : PlainlyOn first d) → Follows p.number p.empty y → PlainlyOn first y
-  follows_on d y p f = record {
-    number = p.number;
-    empty = p.empty;
-    follows = f;
-    base = still_first first p.number p.empty y f (first_held first p.empty d p.base);
-  }
+pub follows_on : {first : ℕ → List Track} (d y : MarksDevice) (p : PlainlyOn first d) → Follows p.number p.empty y → PlainlyOn first y
+follows_on {first = first} d y p f = record {
+  number = p.number;
+  empty = p.empty;
+  follows = f;
+  base = still_first first p.number p.empty y f (first_held first p.empty d p.base);
+}
 
-  leaves : {A : Type 0} {talk : Interaction Bool Image MarksDevice A} (d : MarksDevice) (p : PlainlyOn first d) →
-      Had talk (λ y (_ : A). Follows p.number p.empty y) → (t : CameTo talk) → PlainlyOn first t.state
-  leaves d p h t = follows_on d t.state p (came_had h t)
+module _ {firsts : Firsts} where
+  follows_from : (d y : MarksDevice) (p : PlainlyFrom firsts d) → Follows p.number p.empty y → PlainlyFrom firsts y
+  follows_from d y p f = subst (λ (n : ℕ). PlainlyOn (firsts n) y) (p.follows.number ∙ sym f.number) (follows_on d y p f)
+
+  leaves : {A : Type 0} {talk : Interaction Bool Image MarksDevice A} (d : MarksDevice) (p : PlainlyFrom firsts d) →
+      Had talk (λ y (_ : A). Follows p.number p.empty y) → (t : CameTo talk) → PlainlyFrom firsts t.state
+  leaves d p h t = follows_from d t.state p (came_had h t)
 
   -- an order that changes nothing of what a plain device has
-  stored : (d : MarksDevice) (z : MarksStore) → core_of z ≡ core_of d.store → PlainlyOn first d → PlainlyOn first (record d { store = z })
-  stored d z e p = follows_on d (record d { store = z }) p (follows_store p.number p.empty d p.follows z e)
+  stored : (d : MarksDevice) (z : MarksStore) → core_of z ≡ core_of d.store → PlainlyFrom firsts d → PlainlyFrom firsts (record d { store = z })
+  stored d z e p = follows_from d (record d { store = z }) p (follows_store p.number p.empty d p.follows z e)
 
-  replaced_side : (d : MarksDevice) (side : Side) → PlainlyOn first d → PlainlyOn first (replace d side)
+  replaced_side : (d : MarksDevice) (side : Side) → PlainlyFrom firsts d → PlainlyFrom firsts (replace d side)
   replaced_side d A p = stored d (replace d A).store refl p
   replaced_side d B p = stored d (replace d B).store refl p
 
@@ -128,8 +138,8 @@ home_lent : (l : Option ℕ) (a : ℕ) (r : Option OpenEntry) → is_lent_to l a
 home_lent (Some to) a r is home = home
 home_lent None a r is home = absurd (cc)
 
-restored : {first : ℕ → List Track} (d : MarksDevice) → d.history.running ≡ None → PlainlyOn first d → PlainlyOn first (restore d)
-restored d none p = follows_on d (restore d) p (restore_follows p.number p.empty d p.follows none)
+restored : {firsts : Firsts} (d : MarksDevice) → d.history.running ≡ None → PlainlyFrom firsts d → PlainlyFrom firsts (restore d)
+restored d none p = follows_from d (restore d) p (restore_follows p.number p.empty d p.follows none)
 
 -- a device is lent while it runs nothing
 
@@ -151,9 +161,9 @@ lent_is_idle x y is =
     (where_so y.store.paired Paired) (active_by x.history.running) (active_by y.history.running)
     (where_so (not (is_alike x.store y.store)) Geometry ∷ where_so (not x.store.a.up) Down ∷ where_so (not y.store.a.up) Down ∷ []) is)
 
-pub plain_kept_on : (first : ℕ → List Track) → IsKept (PlainlyOn first) IsServedEvent
-plain_kept_on first = record {
-  started = λ d path n may fault p. follows_on d (start d path) p (start_follows p.number p.empty d p.follows path may.0 may.1 fault);
+pub plain_kept_from : (firsts : Firsts) → IsKept (PlainlyFrom firsts) IsServedEvent
+plain_kept_from firsts = record {
+  started = λ d path n may fault p. follows_from d (start d path) p (start_follows p.number p.empty d p.follows path may.0 may.1 fault);
   commanded = λ d o running whole p. leaves d p (command_follows p.number p.empty d p.follows o running whole);
   seconded = λ d h is p. leaves d p (second_follows p.number p.empty d p.follows h is);
   worked = λ d whole p. leaves d p (background_follows p.number p.empty d p.follows whole);
@@ -172,7 +182,10 @@ plain_kept_on first = record {
 }
 
 pub plain_kept : IsKept Plainly IsServedEvent
-plain_kept = plain_kept_on empty_volume
+plain_kept = plain_kept_from empty_firsts
+
+pub plain_kept_on : (first : ℕ → List Track) → IsKept (PlainlyOn first) IsServedEvent
+plain_kept_on first = plain_kept_from (λ number. first)
 
 -- Lines
 
@@ -194,11 +207,16 @@ all_may (line ∷ lines) h =
     (all_may lines (All-tail (λ (l : EventLine). IsServed (asked_by l)) line lines h))
 
 -- one event, and one line
-pub event_plain : (s : Subsystem) → ArePlain s.mounted → (e : Event) → IsServedEvent e → ArePlain (happens s e).behind.mounted
-event_plain s p e h = event_so Plainly IsServedEvent plain_kept s p e h
+pub event_plain_on : (firsts : Firsts) (s : Subsystem) → ArePlainOn firsts s.mounted → (e : Event) → IsServedEvent e →
+    ArePlainOn firsts (happens s e).behind.mounted
+event_plain_on firsts s p e h = event_so (PlainlyFrom firsts) IsServedEvent (plain_kept_from firsts) s p e h
 
-pub line_plain : (x : Asked) (s : Subsystem) → IsServed x → ArePlain s.mounted → ArePlain (last_behind s (line_logged s x)).mounted
-line_plain x s h p = line_keeps Plainly IsServedEvent plain_kept plain_own x s (may_ask x h) p
+pub event_plain : (s : Subsystem) → ArePlain s.mounted → (e : Event) → IsServedEvent e → ArePlain (happens s e).behind.mounted
+event_plain = event_plain_on empty_firsts
+
+pub line_plain : (firsts : Firsts) (x : Asked) (s : Subsystem) → IsServed x → ArePlainOn firsts s.mounted →
+    ArePlainOn firsts (last_behind s (line_logged s x)).mounted
+line_plain firsts x s h p = line_keeps (PlainlyFrom firsts) IsServedEvent (plain_kept_from firsts) plain_own x s (may_ask x h) p
 
 -- Decks
 
@@ -214,25 +232,45 @@ first_plainly first number on n plans many some = record {
 pub new_plainly : (number : ℕ) (on : geometries.Geometry) (n : ℕ) (plans : Plans) → 1 ≤ n → Plainly (new_device number on n plans)
 new_plainly number on n plans some = first_plainly empty_volume number on n plans (length-map-range_with_len empty_track 0 (n * 15)) some
 
-pub opened_plain : (deck : DeckLines) (ds : List DeviceLine) → All (λ (d : DeviceLine). 1 ≤ d.cylinders) ds → ArePlain (map (opened_device deck) ds)
-opened_plain deck [] h = tt
-opened_plain deck (d ∷ ds) h = (
-  new_plainly d.number d.geometry d.cylinders _ (All-head (λ (d : DeviceLine). 1 ≤ d.cylinders) d ds h),
-  opened_plain deck ds (All-tail (λ (d : DeviceLine). 1 ≤ d.cylinders) d ds h),
+pub empty_whole : AreWhole empty_firsts
+empty_whole d n = length-map-range_with_len empty_track 0 (n * 15)
+
+pub opened_plain_on : (firsts : Firsts) → AreWhole firsts → (deck : DeckLines) (ds : List DeviceLine) → All (λ (d : DeviceLine). 1 ≤ d.cylinders) ds →
+    ArePlainOn firsts (map (opened_device_on firsts deck) ds)
+opened_plain_on firsts whole deck [] h = tt
+opened_plain_on firsts whole deck (d ∷ ds) h = (
+  first_plainly (firsts d.number) d.number d.geometry d.cylinders _ (whole d.number d.cylinders)
+      (All-head (λ (d : DeviceLine). 1 ≤ d.cylinders) d ds h),
+  opened_plain_on firsts whole deck ds (All-tail (λ (d : DeviceLine). 1 ≤ d.cylinders) d ds h),
 )
 
+pub opened_plain : (deck : DeckLines) (ds : List DeviceLine) → All (λ (d : DeviceLine). 1 ≤ d.cylinders) ds →
+    ArePlain (map (opened_device deck) ds)
+opened_plain = opened_plain_on empty_firsts empty_whole
+
+module _ (firsts : Firsts) (whole : AreWhole firsts) (deck : DeckLines) (h : IsServedDeck deck) where
+  pub run_stays_plain_on : All (λ (x : Logged). All (PlainlyFrom firsts) (devices_of x.happened.behind)) (run_on firsts deck).events
+  unfolding D.run_asked_on
+  run_stays_plain_on =
+      lines_keep_so (PlainlyFrom firsts) IsServedEvent (plain_kept_from firsts) plain_own (map asked_by deck.events) (opened_on firsts deck)
+      (all_may deck.events h.events) (opened_plain_on firsts whole deck deck.devices h.devices)
+
+  pub run_plainly_on : All (IsPlainBehindOn firsts) (run_on firsts deck).events
+  run_plainly_on =
+      behind_weaker (PlainlyFrom firsts) (HasPlainHistoryOn firsts) (plain_history firsts) (run_on firsts deck).events run_stays_plain_on
+
+  -- at its end
+  pub plain_behind_on : ArePlainOn firsts (run_on firsts deck).behind.mounted
+  unfolding D.run_asked_on
+  plain_behind_on =
+      lines_end_so (PlainlyFrom firsts) IsServedEvent (plain_kept_from firsts) plain_own (map asked_by deck.events) (opened_on firsts deck)
+      (all_may deck.events h.events) (opened_plain_on firsts whole deck deck.devices h.devices)
+
 pub run_stays_plain : (deck : DeckLines) → IsServedDeck deck → All (λ (x : Logged). All Plainly (devices_of x.happened.behind)) (run_of deck).events
-unfolding D.run_asked
-run_stays_plain deck h =
-    lines_keep_so Plainly IsServedEvent plain_kept plain_own (map asked_by deck.events) (opened deck) (all_may deck.events h.events)
-    (opened_plain deck deck.devices h.devices)
+run_stays_plain = run_stays_plain_on empty_firsts empty_whole
 
 pub run_plainly : (deck : DeckLines) → IsServedDeck deck → All IsPlainBehind (run_of deck).events
-run_plainly deck h = behind_weaker Plainly HasPlainHistory plain_history (run_of deck).events (run_stays_plain deck h)
+run_plainly = run_plainly_on empty_firsts empty_whole
 
--- and behind the last one
 pub plain_behind : (deck : DeckLines) → IsServedDeck deck → ArePlain (run_of deck).behind.mounted
-unfolding D.run_asked
-plain_behind deck h =
-    lines_end_so Plainly IsServedEvent plain_kept plain_own (map asked_by deck.events) (opened deck) (all_may deck.events h.events)
-    (opened_plain deck deck.devices h.devices)
+plain_behind = plain_behind_on empty_firsts empty_whole

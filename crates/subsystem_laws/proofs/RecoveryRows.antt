@@ -21,7 +21,7 @@ use Rattle.device_defs.specs.Start.{start_fault, start}
 use Rattle.device_defs.specs.Editing.{through, write}
 use Rattle.device_defs.specs.Writing.{write_first, write_second, write_done}
 use Rattle.device_defs.proofs.Stand.{write_zero}
-use Rattle.subsystem_defs.specs.Decks.{DeckRun, run_asked}
+use Rattle.subsystem_defs.specs.Decks.{DeckRun, run_asked, run_asked_on}
 use Rattle.subsystem_defs.specs.Deeds.{deed}
 use Rattle.subsystem_defs.specs.Happening.{sweep, happens, replaced, unpaired}
 use Rattle.subsystem_defs.specs.Lines.{Logged, steps, backs, line_logged, run_lines}
@@ -40,7 +40,7 @@ unfolding command_of least count_below is_in with_number less_one answer after c
     command second background lose level_bytes image over settled side_lost cache_lost store_lost
     all_firm_told waits hear all_told lend second_part start_fault start write_first write_second write_done through
     write pair_fault unpair_fault suspend_fault resume_fault fail_fault replace_fault deed sweep happens replaced
-    unpaired steps backs line_logged run_lines run_asked
+    unpaired steps backs line_logged run_lines run_asked_on
 one_part = refl
 
 -- on a level pair, behind 21 events: the loss of the cache, the two parts of a recovery, and the repair
@@ -50,5 +50,5 @@ unfolding command_of least count_below is_in with_number less_one answer after c
     command second background lose level_bytes image over settled side_lost cache_lost store_lost
     all_firm_told waits hear all_told lend second_part start_fault start write_first write_second write_done through
     write pair_fault unpair_fault suspend_fault resume_fault fail_fault replace_fault deed sweep happens replaced
-    unpaired steps backs line_logged run_lines run_asked
+    unpaired steps backs line_logged run_lines run_asked_on
 two_parts = refl

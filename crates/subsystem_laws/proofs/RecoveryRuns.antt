@@ -54,7 +54,7 @@ use Rattle.subsystem_defs.specs.declared.end.EventEnd.TheVariants as ends
 use Rattle.subsystem_defs.specs.declared.event.Event.{Event}
 use Rattle.subsystem_defs.specs.declared.event.Event.TheVariants as events
 use Rattle.subsystem_defs.specs.Decks as D
-use Rattle.subsystem_defs.specs.Decks.{opened, run_of}
+use Rattle.subsystem_defs.specs.Decks.{Firsts, opened_on, run_on}
 use Rattle.subsystem_defs.specs.Deeds as E
 use Rattle.subsystem_defs.specs.Deeds.{Ends, Asks, deed, device_in, on_device, step, back, ends_by, may_end_by, end_of}
 use Rattle.subsystem_defs.specs.Happening as H
@@ -405,9 +405,9 @@ all_counted (t ∷ ts) h n =
     All-cons LowersWaiting t ts (All-head LowersCounted t ts h (All-head CountFailures t ts n))
     (all_counted ts (All-tail LowersCounted t ts h) (All-tail CountFailures t ts n))
 
-run_counted : (deck : DeckLines) → IsServedDeck deck → All LowersCounted (run_of deck).events
-unfolding D.run_asked
-run_counted deck h = run_shows AreGood LowersCounted lines_lower (map asked_by deck.events) (opened deck) (opened_good deck deck.devices h.devices)
+run_counted : {firsts : Firsts} (deck : DeckLines) → IsServedDeck deck → All LowersCounted (run_on firsts deck).events
+unfolding D.run_asked_on
+run_counted {firsts = firsts} deck h = run_shows AreGood LowersCounted lines_lower (map asked_by deck.events) (opened_on firsts deck) (opened_good deck deck.devices h.devices)
 
-pub run_recovers : (deck : DeckLines) → IsServedDeck deck → All CountFailures (run_of deck).events → All LowersWaiting (run_of deck).events
-run_recovers deck h n = all_counted (run_of deck).events (run_counted deck h) n
+pub run_recovers : {firsts : Firsts} (deck : DeckLines) → IsServedDeck deck → All CountFailures (run_on firsts deck).events → All LowersWaiting (run_on firsts deck).events
+run_recovers {firsts = firsts} deck h n = all_counted (run_on firsts deck).events (run_counted deck h) n

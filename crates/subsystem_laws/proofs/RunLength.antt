@@ -9,7 +9,7 @@ use Rattle.deck_text.proofs.Reached.{parsed_good}
 use Rattle.subsystem_defs.specs.declared.end.EventEnd.TheVariants as ends
 use Rattle.subsystem_defs.specs.declared.event.Event.TheVariants as events
 use Rattle.subsystem_defs.specs.Decks as D
-use Rattle.subsystem_defs.specs.Decks.{opened, run_of}
+use Rattle.subsystem_defs.specs.Decks.{Firsts, opened_on, run_on}
 use Rattle.subsystem_defs.specs.Happening.{quietly, happens}
 use Rattle.subsystem_defs.specs.Lines as L
 use Rattle.subsystem_defs.specs.Lines.{
@@ -75,16 +75,16 @@ lines_few (line ∷ lines) s =
     let both : length (ts ++ us) ≡ length ts + length us = length-append ts us in
     omega (arith, here, more, both)
 
-pub read_run_has_few : (text : List ℕ) (deck : DeckLines) → parsed text ≡ Ok deck → length (run_of deck).events ≤ 536936448
-unfolding D.run_asked
-read_run_has_few text deck read =
+pub read_run_has_few : {firsts : Firsts} (text : List ℕ) (deck : DeckLines) → parsed text ≡ Ok deck → length (run_on firsts deck).events ≤ 536936448
+unfolding D.run_asked_on
+read_run_has_few {firsts = firsts} text deck read =
     let most = (parsed_good text deck read).event_count in
-    let le = lines_few (map asked_by deck.events) (opened deck) in
+    let le = lines_few (map asked_by deck.events) (opened_on firsts deck) in
     let same : length (map asked_by deck.events) ≡ length deck.events = length-map deck.events asked_by in
     omega (arith, most, le, same)
 
 below_top : (n : ℕ) → n ≤ 536936448 → n < 2 ^ 64 - 1
 below_top n le = omega (arith, le)
 
-pub read_run_is_short : (text : List ℕ) (deck : DeckLines) → parsed text ≡ Ok deck → length (run_of deck).events < 2 ^ 64 - 1
-read_run_is_short text deck read = below_top (length (run_of deck).events) (read_run_has_few text deck read)
+pub read_run_is_short : {firsts : Firsts} (text : List ℕ) (deck : DeckLines) → parsed text ≡ Ok deck → length (run_on firsts deck).events < 2 ^ 64 - 1
+read_run_is_short {firsts = firsts} text deck read = below_top (length (run_on firsts deck).events) (read_run_has_few text deck read)

@@ -73,7 +73,7 @@ opened_none deck (d ∷ ds) =
     All-cons HasNoFailedCall (opened_device deck d).device (map (λ (m : Mounted). m.device) (map (opened_device deck) ds)) refl (opened_none deck ds)
 
 run_counts_failures : (deck : DeckLines) → deck.faults ≡ [] → All CountFailures (run_of deck).events
-unfolding D.run_asked
+unfolding D.run_asked_on
 run_counts_failures deck none =
     failures_counted (run_of deck).events (opened deck) (lines_linked (map asked_by deck.events) (opened deck)) (no_call_fails deck none)
     (opened_none deck deck.devices)

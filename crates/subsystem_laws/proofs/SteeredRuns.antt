@@ -21,7 +21,7 @@ use Rattle.device_laws.specs.NewDevice.{device_on}
 use Rattle.device_laws.proofs.invariants.LedSides.{command_steers, second_steers, background_steers, lose_steers, power_steers, reset_steers, lend_steers}
 use Rattle.device_laws.proofs.invariants.LedSides.{state_of, IsSteered}
 use Rattle.subsystem_defs.specs.declared.end.OrderFault.TheVariants.{Same, Paired, Unpaired, Down, Up, NoSide, Half}
-use Rattle.subsystem_defs.specs.Decks.{opened_device}
+use Rattle.subsystem_defs.specs.Decks.{Firsts, opened_device_on}
 use Rattle.subsystem_defs.specs.Refusals as R
 use Rattle.subsystem_defs.specs.Refusals.{pair_fault, unpair_fault, suspend_fault, replace_fault}
 use Rattle.subsystem_laws.proofs.Came.{at}
@@ -101,6 +101,6 @@ steered_kept = record {
 pub new_steered : (number : ℕ) (on : Geometry) (n : ℕ) (v : List Track) (plans : Plans) → Steered (device_on number on n v plans)
 new_steered number on n v plans = record { led = λ e. absurd (cc); half = λ t e up. absurd (cc) }
 
-pub opened_steered : (deck : DeckLines) (ds : List DeviceLine) → AreSo Steered (map (opened_device deck) ds)
-opened_steered deck [] = tt
-opened_steered deck (d ∷ ds) = (new_steered d.number d.geometry d.cylinders (empty_volume d.cylinders) (opened_device deck d).device.plans, opened_steered deck ds)
+pub opened_steered : {firsts : Firsts} (deck : DeckLines) (ds : List DeviceLine) → AreSo Steered (map (opened_device_on firsts deck) ds)
+opened_steered {firsts = firsts} deck [] = tt
+opened_steered {firsts = firsts} deck (d ∷ ds) = (new_steered d.number d.geometry d.cylinders (empty_volume d.cylinders) (opened_device_on firsts deck d).device.plans, opened_steered deck ds)

@@ -44,7 +44,7 @@ use Rattle.device_laws.proofs.Unlost.{core_of, Fine, has_a}
 use Rattle.device_laws.proofs.UnlostParts.{DeviceGoes}
 use Rattle.device_laws.proofs.invariants.NoTrackIsLost.{command_goes, background_goes, peek_goes, second_event_goes}
 use Rattle.subsystem_defs.specs.Decks as D
-use Rattle.subsystem_defs.specs.Decks.{opened_device, opened, run_of}
+use Rattle.subsystem_defs.specs.Decks.{Firsts, opened_device_on, opened_on, run_on}
 use Rattle.subsystem_defs.specs.Lines.{asked_by}
 use Rattle.subsystem_defs.specs.Refusals as R
 use Rattle.subsystem_defs.specs.Refusals.{replace_fault, pair_fault, unpair_fault}
@@ -290,7 +290,7 @@ new_fair number on n v plans some = record {
   un = λ home none. record { up = refl; level = λ t. empty_places (n * 15) t false; kept = λ t. empty_places (n * 15) t false };
 }
 
-pub opened_fair : (deck : DeckLines) (ds : List DeviceLine) → All (λ (d : DeviceLine). 1 ≤ d.cylinders) ds → AreSo Fair (map (opened_device deck) ds)
+pub opened_fair : {firsts : Firsts} (deck : DeckLines) (ds : List DeviceLine) → All (λ (d : DeviceLine). 1 ≤ d.cylinders) ds → AreSo Fair (map (opened_device_on firsts deck) ds)
 opened_fair deck [] h = tt
 opened_fair deck (d ∷ ds) h = (
   new_fair d.number d.geometry d.cylinders (empty_volume d.cylinders) _ (All-head (λ (d : DeviceLine). 1 ≤ d.cylinders) d ds h),
@@ -302,8 +302,8 @@ pub keeps_tracks : (d : MarksDevice) → Fair d → KeepsTracks d
 keeps_tracks d f nothing =
     by_lent d (λ home. unharmed_counts d.store (f.un home) nothing) (λ away. kept_counts d.store (f.good.gone away).store.lost)
 
-pub run_loses_no_track : (deck : DeckLines) → IsServedDeck deck → All KeepTracks (run_of deck).events
-unfolding D.run_asked
-run_loses_no_track deck h =
-    behind_weaker Fair KeepsTracks keeps_tracks (run_of deck).events
-    (run_keeps Fair fair_kept (map asked_by deck.events) (opened deck) (opened_fair deck deck.devices h.devices))
+pub run_loses_no_track : {firsts : Firsts} (deck : DeckLines) → IsServedDeck deck → All KeepTracks (run_on firsts deck).events
+unfolding D.run_asked_on
+run_loses_no_track {firsts = firsts} deck h =
+    behind_weaker Fair KeepsTracks keeps_tracks (run_on firsts deck).events
+    (run_keeps Fair fair_kept (map asked_by deck.events) (opened_on firsts deck) (opened_fair deck deck.devices h.devices))

@@ -37,7 +37,7 @@ use Rattle.subsystem_defs.specs.declared.end.OrderFault.{OrderFault}
 use Rattle.subsystem_defs.specs.declared.event.Event.{Event}
 use Rattle.subsystem_defs.specs.declared.event.Event.TheVariants as events
 use Rattle.subsystem_defs.specs.Decks as D
-use Rattle.subsystem_defs.specs.Decks.{plan_for, opened_device, opened, run_of}
+use Rattle.subsystem_defs.specs.Decks.{plan_for, Firsts, opened_device_on, opened_on, run_on}
 use Rattle.subsystem_defs.specs.Deeds.{Ends, Becomes, Asks, Each, Repairs, Lends, deed, ends_done, end_of}
 use Rattle.subsystem_defs.specs.Happening as H
 use Rattle.subsystem_defs.specs.Happening.{
@@ -337,15 +337,15 @@ module _ (so : Losses → Type 0) where
 
     -- The run of a deck
 
-    opened_sound : (deck : DeckLines) → deck.faults ≡ [] → so no_counts.losses → (ds : List DeviceLine) → AreOnSound (map (opened_device deck) ds)
+    opened_sound : {firsts : Firsts} (deck : DeckLines) → deck.faults ≡ [] → so no_counts.losses → (ds : List DeviceLine) → AreOnSound (map (opened_device_on firsts deck) ds)
     opened_sound deck none first [] = tt
     opened_sound deck none first (d ∷ ds) =
         (((refl, first), (ap (λ (fs : List FaultLine). plan_for fs d.number) none, refl)), opened_sound deck none first ds)
 
-    pub stays_intact : (deck : DeckLines) → deck.faults ≡ [] → so no_counts.losses → All (MayAsk May) (map asked_by deck.events) →
-        All AreIntact (run_of deck).events
-    unfolding D.run_asked
-    stays_intact deck none first may =
+    pub stays_intact : {firsts : Firsts} (deck : DeckLines) → deck.faults ≡ [] → so no_counts.losses → All (MayAsk May) (map asked_by deck.events) →
+        All AreIntact (run_on firsts deck).events
+    unfolding D.run_asked_on
+    stays_intact {firsts = firsts} deck none first may =
         let lines = map asked_by deck.events in
-        logs_all (λ s. AreOnSound s.mounted) AreIntact (opened deck) (run_lines lines (opened deck))
-        (lines_go (λ s. AreOnSound s.mounted) (λ s. AreIntact) May lines_sound lines (opened deck) may (opened_sound deck none first deck.devices))
+        logs_all (λ s. AreOnSound s.mounted) AreIntact (opened_on firsts deck) (run_lines lines (opened_on firsts deck))
+        (lines_go (λ s. AreOnSound s.mounted) (λ s. AreIntact) May lines_sound lines (opened_on firsts deck) may (opened_sound deck none first deck.devices))

@@ -76,7 +76,7 @@ use Rattle.subsystem_defs.specs.declared.end.OrderFault.TheVariants.{Up}
 use Rattle.subsystem_defs.specs.declared.event.Event.{Event}
 use Rattle.subsystem_defs.specs.declared.event.Event.TheVariants as events
 use Rattle.subsystem_defs.specs.Decks as D
-use Rattle.subsystem_defs.specs.Decks.{opened_device, opened, run_of}
+use Rattle.subsystem_defs.specs.Decks.{Firsts, opened_device_on, opened_on, run_on}
 use Rattle.subsystem_defs.specs.Deeds as E
 use Rattle.subsystem_defs.specs.Deeds.{
   back,
@@ -517,15 +517,15 @@ new_waits number on n plans =
     (λ t. ap (λ (o : Option Bool). not (is_lost s t) && waits_by by_plain s t o) (empty_places (n * 15) t None)
     ∙ and_off (not (is_lost s t)) (is_some (patch_at s t)) (ap (λ (o : Option (Unit {0})). is_some o) (empty_places (n * 15) t None)))
 
-opened_told : (deck : DeckLines) (seen : List ℕ) (ds : List DeviceLine) → AreNumbered seen ds →
-    AreTold (replicate 16 0) seen (map (opened_device deck) ds)
+opened_told : {firsts : Firsts} (deck : DeckLines) (seen : List ℕ) (ds : List DeviceLine) → AreNumbered seen ds →
+    AreTold (replicate 16 0) seen (map (opened_device_on firsts deck) ds)
 opened_told deck seen [] h = none_told (λ q out. empty_places 16 q 0)
 opened_told deck seen (d ∷ ds) h =
     one_told d.number refl h.0 h.1 (empty_places 16 d.number 0 ∙ sym (new_waits d.number d.geometry d.cylinders (plans_of deck.programs d.number)))
     (opened_told deck (d.number ∷ seen) ds h.2)
 
-pub run_tells_of_waiting : (deck : DeckLines) → IsServedDeck deck → AreNumbered [] deck.devices → All TellsWaiting (run_of deck).events
-unfolding D.run_asked
-run_tells_of_waiting deck h numbered =
-    run_shows Behind TellsWaiting waiting_goes (map asked_by deck.events) (opened deck)
+pub run_tells_of_waiting : {firsts : Firsts} (deck : DeckLines) → IsServedDeck deck → AreNumbered [] deck.devices → All TellsWaiting (run_on firsts deck).events
+unfolding D.run_asked_on
+run_tells_of_waiting {firsts = firsts} deck h numbered =
+    run_shows Behind TellsWaiting waiting_goes (map asked_by deck.events) (opened_on firsts deck)
     (record { good = opened_good deck deck.devices h.devices; told = opened_told deck [] deck.devices numbered })

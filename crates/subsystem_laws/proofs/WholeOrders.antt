@@ -5,8 +5,9 @@ use Rattle.ckd_types.specs.declared.geometry.Geometry.{Geometry}
 use Rattle.ckd_types.specs.declared.paths.Side.{Side}
 use Rattle.ckd_types.specs.declared.paths.Side.TheVariants.{A, B}
 use Rattle.ckd_types.specs.declared.record.Track.{Track}
-use Rattle.ckd_types.specs.Volume.{empty_volume}
+use Rattle.ckd_types.specs.Volume.{IsVolume, empty_volume}
 use Rattle.plain_defs.specs.Journal.{Plans}
+use Rattle.plain_device.proofs.Wholes.{volume_empty}
 use Rattle.track_image.specs.Image.{Image}
 use Rattle.device_outside.specs.Both.{SideIs}
 use Rattle.device_outside.specs.Disk.{empty_contents}
@@ -20,7 +21,8 @@ use Rattle.device_laws.specs.Agrees.{Held}
 use Rattle.device_laws.specs.InOrder.{IsInOrder}
 use Rattle.device_laws.specs.Lent.{Stands, in_order, is_away}
 use Rattle.device_laws.specs.Whole.{WholeDevice, marks_device, holding}
-use Rattle.device_laws.proofs.NewDevices.{new_in_order, new_marks}
+use Rattle.device_laws.specs.NewDevice.{volume_contents}
+use Rattle.device_laws.proofs.NewDevices.{empty_is_contents, in_order_on, marks_on}
 use Rattle.device_laws.proofs.OrdersInOrder.{replace_order, replace_same}
 use Rattle.subsystem_defs.specs.declared.end.EventEnd.TheVariants.{Done}
 use Rattle.subsystem_defs.specs.declared.end.OrderFault.{OrderFault}
@@ -29,7 +31,7 @@ use Rattle.subsystem_defs.specs.Happening as H
 use Rattle.subsystem_defs.specs.Happening.{replaced_by, replaced_at, replaced}
 use Rattle.subsystem_defs.specs.Refusals as R
 use Rattle.subsystem_defs.specs.Refusals.{first_cause, where_so, lent_by, replace_fault}
-use Rattle.subsystem_defs.specs.Subsystem.{Mounted, new_calls, unfailing, newly_mounted, mounted_in, put_in, with_calls}
+use Rattle.subsystem_defs.specs.Subsystem.{Mounted, new_calls, unfailing, mounted_on, newly_mounted, mounted_in, put_in, with_calls}
 use Rattle.subsystem_laws.specs.WholeComes.{subsystem_of, IsWhatCame}
 use Rattle.subsystem_laws.specs.WholeStood.{opened, Stood, stood_in, put_at, with_volume, IsMounted, is_mounted, AreMounted, HaveChains}
 use Rattle.subsystem_laws.proofs.WholeDeeds.{Seat, seat_of}
@@ -40,15 +42,21 @@ some_is x y e = cc
 
 -- A new device has no slot
 
+pub first_mounted : (d : ℕ) (g : Geometry) (n : ℕ) (tracks : List Track) (plans : Plans) (plan : Plan) (volume : VolumeView (List ℕ)) →
+    IsVolume g n tracks → SideIs volume (volume_contents tracks) (new_calls plan) →
+    IsMounted [] (record { device = opened d g n plans; a = Some volume; b = None }) (mounted_on d g n tracks plans plan)
+first_mounted d g n tracks plans plan volume is side =
+    let h : Held = record { a = volume_contents tracks; b = []; slots = Some [] } in
+    subst (λ (m : MarksStore). IsMounted [] (record { device = opened d g n plans; a = Some volume; b = None })
+    (record { device = record (new_device d g n plans) { store = m }; a = new_calls plan; b = unfailing })) (marks_on d g n tracks)
+    (is_mounted (opened d g n plans) tracks tracks h (Some volume) None (new_calls plan) unfailing (in_order (in_order_on d g n tracks h is refl)) refl side tt)
+
 pub new_mounted : (d : ℕ) (g : Geometry) (n : ℕ) (plans : Plans) (plan : Plan) (volume : VolumeView (List ℕ)) → n ≤ 64 →
     SideIs volume (empty_contents (n * 15)) (new_calls plan) →
     IsMounted [] (record { device = opened d g n plans; a = Some volume; b = None }) (newly_mounted d g n plans plan)
 new_mounted d g n plans plan volume most side =
-    let h : Held = record { a = empty_contents (n * 15); b = []; slots = Some [] } in
-    let v = empty_volume n in
-    subst (λ (m : MarksStore). IsMounted [] (record { device = opened d g n plans; a = Some volume; b = None })
-    (record { device = record (new_device d g n plans) { store = m }; a = new_calls plan; b = unfailing })) (new_marks d g n)
-    (is_mounted (opened d g n plans) v v h (Some volume) None (new_calls plan) unfailing (in_order (new_in_order d g n h most refl)) refl side tt)
+    first_mounted d g n (empty_volume n) plans plan volume (volume_empty g n most)
+    (subst (λ (l : List (List ℕ)). SideIs volume l (new_calls plan)) (empty_is_contents n) side)
 
 -- A failed volume is replaced
 

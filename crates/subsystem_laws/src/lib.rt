@@ -24,7 +24,7 @@ pub use looks::{
     look_keeps_own,
 };
 pub use plain::{read_run_is_plain, run_is_plain};
-pub use promised::read_run_is_promised;
+pub use promised::{read_run_is_promised, run_on_volumes_is_promised};
 pub use standing::{devices_are_sound, slots_are_apart};
 pub use transfers::run_moves_by_table;
 pub use turns::{

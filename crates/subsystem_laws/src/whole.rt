@@ -4,6 +4,8 @@
 ghost use Rattle.std.specs.Prelude.{◌≡◌, ◌≤◌, ◌*◌, ◌++◌, ℕ, List, [], ◌∷◌, length, Some, None};
 ghost use Rattle.ckd_types.specs.declared.geometry.Geometry.{Geometry};
 ghost use Rattle.ckd_types.specs.declared.paths.Side.{Side};
+ghost use Rattle.ckd_types.specs.declared.record.Track.{Track};
+ghost use Rattle.ckd_types.specs.Volume.{IsVolume};
 ghost use Rattle.plain_defs.specs.Journal.{Plans};
 ghost use Rattle.device_outside.specs.Both.{SideIs};
 ghost use Rattle.device_outside.specs.Disk.{empty_contents};
@@ -12,12 +14,13 @@ ghost use Rattle.device_outside.specs.Told.{Calls};
 ghost use Rattle.device_outside.specs.Volume.{Plan, VolumeView};
 ghost use Rattle.device_defs.specs.Orders.{replace, split};
 ghost use Rattle.device_defs.specs.Store.{tracks_of};
+ghost use Rattle.device_laws.specs.NewDevice.{volume_contents};
 ghost use Rattle.subsystem_defs.specs.declared.end.EventEnd.{EventEnd};
 ghost use Rattle.subsystem_defs.specs.declared.end.EventEnd.TheVariants.{Done};
 ghost use Rattle.subsystem_defs.specs.declared.event.Event.{Event};
 ghost use Rattle.subsystem_defs.specs.Happening.{happens, replaced, unpaired};
 ghost use Rattle.subsystem_defs.specs.Refusals.{replace_fault, unpair_fault};
-ghost use Rattle.subsystem_defs.specs.Subsystem.{Mounted, new_calls, newly_mounted};
+ghost use Rattle.subsystem_defs.specs.Subsystem.{Mounted, mounted_on, new_calls, newly_mounted};
 ghost use Rattle.subsystem_laws.specs.WholeComes.{subsystem_of, Comes, Runs, IsWhatCame, AreWhatCame};
 ghost use Rattle.subsystem_laws.specs.WholeStood.{opened, Stood, stood_in, put_at, with_volume, lent_in, restored_at, IsMounted, AreMounted, HaveChains};
 
@@ -36,8 +39,12 @@ pub fn whole_events_are_what_happens<K: Keep<TrackImage>>()
         Runs K.hears es p xs ends q ys → AreWhatCame (subsystem_of p ms) es ends q ys }
 {}
 
-/// A new device on a volume of empty tracks is mounted as a run mounts it, with no slot; and it stands behind those that stand.
+/// A new device on a volume of empty tracks is mounted as a run mounts it, with no slot, and so is one on a volume that holds other
+/// tracks; and it stands behind those that stand.
 pub fn whole_device_is_mounted()
+    ensures first { (d : ℕ) (g : Geometry) (n : ℕ) (tracks : List Track) (plans : Plans) (plan : Plan) (volume : VolumeView (List ℕ)) → IsVolume g n tracks →
+        SideIs volume (volume_contents tracks) (new_calls plan) →
+        IsMounted [] (record { device = opened d g n plans; a = Some volume; b = None }) (mounted_on d g n tracks plans plan) }
     ensures mounted { (d : ℕ) (g : Geometry) (n : ℕ) (plans : Plans) (plan : Plan) (volume : VolumeView (List ℕ)) → n ≤ 64 →
         SideIs volume (empty_contents (n * 15)) (new_calls plan) →
         IsMounted [] (record { device = opened d g n plans; a = Some volume; b = None }) (newly_mounted d g n plans plan) }

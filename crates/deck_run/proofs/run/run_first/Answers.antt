@@ -23,13 +23,13 @@ pub do_lines-requires-clause-own : goal.do_lines-requires-clause-own
 do_lines-requires-clause-own c = c.in_ok-sub.ensures.own
 
 pub returns-clause-stands : goal.returns-clause-stands
-unfolding decks.run_asked
+unfolding decks.run_asked_on
 returns-clause-stands c = λ none.
     subst (λ (es : List EventLine). StandsAs c.do_lines.new.sub (last_behind (opened c.args.deck.now) (run_lines (map asked_by es) (opened c.args.deck.now))))
     c.front.ensures (c.in_ok-do_lines.ensures.stands (opened c.args.deck.now) (c.in_ok-sub.ensures.stands none))
 
 pub returns-clause-lines : goal.returns-clause-lines
-unfolding decks.run_asked
+unfolding decks.run_asked_on
 returns-clause-lines c = λ none.
     c.in_ok-do_lines.ensures.lines (opened c.args.deck.now) (c.in_ok-sub.ensures.stands none)
     ∙ ap (λ (l : List ReportLine). l ++ all_lines (run_lines (map asked_by c.front.result.now) (opened c.args.deck.now))) c.new-report.ensures
