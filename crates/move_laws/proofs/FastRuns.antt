@@ -113,6 +113,6 @@ adds_go = record {
   unpairs = λ s a q. (tt, record { unchecked = λ n is. absurd (cc) });
 }
 
-pub run_ends_fast_writes : {firsts : Firsts} (deck : DeckLines) → All EndsFastWrites (run_on firsts deck).events
+pub run_ends_fast_writes : (firsts : Firsts) (deck : DeckLines) → All EndsFastWrites (run_on firsts deck).events
 unfolding D.run_asked_on
-run_ends_fast_writes {firsts = firsts} deck = run_shows (λ s. Unit {0}) EndsFastWrites adds_go (map asked_by deck.events) (opened_on firsts deck) tt
+run_ends_fast_writes firsts deck = run_shows (λ s. Unit {0}) EndsFastWrites adds_go (map asked_by deck.events) (opened_on firsts deck) tt
