@@ -389,7 +389,7 @@ run_has_origins_on firsts whole deck h =
     let first = opened_on firsts deck in
     logs_all (Sound firsts) HaveOrigins first (run_lines (map asked_by deck.events) first)
     (lines_go (Sound firsts) (λ s. HaveOrigins) IsServedEvent (origins_go firsts) (map asked_by deck.events) first (all_may deck.events h.events)
-    (opened_fair empty_firsts deck deck.devices h.devices, opened_plain_on firsts whole deck deck.devices h.devices))
+    (opened_fair firsts deck deck.devices h.devices, opened_plain_on firsts whole deck deck.devices h.devices))
 
 pub run_has_origins : (deck : DeckLines) → IsServedDeck deck → All HaveOrigins (run_of deck).events
 run_has_origins = run_has_origins_on empty_firsts empty_whole
