@@ -6,7 +6,7 @@ use Rattle.ckd_types.specs.declared.geometry.Geometry.{Geometry}
 use Rattle.deck_text.specs.declared.line.DeviceLine.{DeviceLine}
 use Rattle.deck_text.specs.DeckLines.{DeckLines}
 use Rattle.deck_text.specs.Parse.{parsed}
-use Rattle.plain_defs.specs.History.{History, IsPlain}
+use Rattle.plain_defs.specs.History.{IsPlain}
 use Rattle.plain_defs.specs.Journal.{Plans}
 use Rattle.plain_defs.specs.PlainState.{PlainState}
 use Rattle.device_laws.specs.NewDevice.{first_state}
