@@ -70,7 +70,7 @@ opened_is_behind text deck read =
 
 pub line_stays : (numbers : List ℕ) (s : Subsystem) (x : Asked) → IsServed x → IsBehind numbers s → IsBehind numbers (last_behind s (line_logged s x))
 line_stays numbers s x served k = record {
-  plain = line_plain x s served k.plain;
+  plain = line_plain empty_firsts x s served k.plain;
   good = line_keeps Good AnyEvent good_kept (record { step = λ d. tt; back = λ d. tt }) x s (All-head (MayAsk AnyEvent) x [] (all_asked (x ∷ []))) k.good;
   fits = line_keeps Fits AnyEvent fits_kept (record { step = λ d. tt; back = λ d. tt }) x s (All-head (MayAsk AnyEvent) x [] (all_asked (x ∷ []))) k.fits;
   tied = line_tied numbers s x k.tied;
