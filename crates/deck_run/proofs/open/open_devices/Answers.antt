@@ -19,8 +19,8 @@ loop-i-init g c = record {
   count = c.device_count-i-end.ensures;
 }
 
-pub remove-requires : goal.remove-requires
-remove-requires g c =
+pub remove-volume-requires : goal.remove-volume-requires
+remove-volume-requires g c =
     let inside = rw c.loop-i.invariant.count at c.loop-i-test.true in
     let k = c.loop-i.volumes.ok.0 in
     let some = some_left HasTracks g.V.Volume.view c.args.deck.now.devices c.loop-i.i _ c.loop-i.volumes.items inside refl c.loop-i.invariant.tracks in
