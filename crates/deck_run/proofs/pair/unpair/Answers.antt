@@ -7,7 +7,7 @@ pub part-requires-clause-empty : goal.part-requires-clause-empty
 part-requires-clause-empty g c = empty_for _ _ _ c.device.ensures _ c.cylinders-cylinders.ensures c.in_ok-volume.ensures.told
 
 pub part-requires-clause-size : goal.part-requires-clause-size
-part-requires-clause-size g c = tracks_for _ _ _ c.device.ensures _ c.cylinders-cylinders.ensures c.in_ok-volume.ensures.tracks
+part-requires-clause-size g c = tracks_for (g.V.Volume.view c.in_ok-volume.volume) _ _ c.device.ensures _ c.cylinders-cylinders.ensures c.in_ok-volume.ensures.tracks
 
 pub returns-clause-stands : goal.returns-clause-stands
 returns-clause-stands g c = λ run all. (c.in_ok-end.ensures.happened run all).stands
