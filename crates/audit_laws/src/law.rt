@@ -8,6 +8,7 @@ ghost use Rattle.report_auditor.specs.declared.status.AuditStatus.TheVariants.{Y
 ghost use Rattle.report_auditor.specs.declared.status.AuditWhy.{AuditWhy as Why};
 ghost use Rattle.audit_laws.specs.FirstFault.{IsBad, IsGood, LeadsTo};
 ghost use Rattle.audit_laws.specs.Plain.{ArePlain, IsPlainReport};
+ghost use Rattle.audit_laws.specs.Refused.{IsNot};
 
 /// A text reads back as yes exactly where it is a deck and a report of which no line has a fault and the last is FINISH.
 pub fn yes_tells_of_no_fault()
@@ -34,4 +35,10 @@ pub fn good_report_is_plain()
 /// So what an audit says yes to is a deck and a report of plain devices.
 pub fn yes_is_plain()
     ensures { (text : List ℕ) → read_back text ≡ Yes → IsPlainReport text }
+{}
+
+/// And what it says no to isn't: its first line with a fault is no line of a report, or may not stand there; or of one device it shows no past
+/// that a plain device could have, whatever pasts of plain devices the lines before it tell of.
+pub fn no_is_not()
+    ensures { (text : List ℕ) (line : ℕ) (why : Why) → read_back text ≡ No line why → IsNot text line why }
 {}
