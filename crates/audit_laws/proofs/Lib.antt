@@ -10,3 +10,7 @@ mod ShownLines
 mod ShownWork
 mod Telling
 mod Refusals
+mod SoundPasts
+mod GoodLines
+mod GoodTexts
+mod ToldTexts

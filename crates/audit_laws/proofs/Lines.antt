@@ -1,7 +1,7 @@
 -- Each line that is judged well keeps every device's past one that a plain device could have.
 use Rattle.std.proofs.Common.{◌≡◌, ◌≤◌, ℕ, [], ◌∷◌, List, drop, map, length, Option, Some, None, Result}
 use Rattle.std.proofs.Common.{Ok, Err, Bool, true, false, not, cond, refl, sym, ap, subst, ◌∙◌, inl, inr}
-use Rattle.std.specs.Prelude.{◌⊎◌, ◌&&◌, ◌||◌, ◌==◌, ◌+◌, ⊤}
+use Rattle.std.specs.Prelude.{◌⊎◌, ◌&&◌, ◌||◌, ◌==◌, ◌+◌, IsSome, ⊤}
 use Rattle.std.specs.List.{list_any}
 use Rattle.std.proofs.lemmas.Bool.{and_parts}
 use Rattle.ckd_types.specs.declared.channel.CommandEnd.{CommandEnd}
@@ -290,6 +290,7 @@ module _ (programs : List PlannedProgram) (of : List DeviceLine) where
               ends_so : Sound a → Ends e ended_half
               ends_so sound = record {
                 sound = sound;
+                runs = subst IsSome (sym running) refl;
                 plain = λ x x_is. subst (λ (y : OpenEntry). plain_end a y ≡ Some e) (let same : o ≡ x = same_some o x (sym running ∙ x_is) in same) here;
               }
 

@@ -178,6 +178,13 @@ module _ (s u : AuditState) (d : ℕ) (can : CanBePlain u d) (a : AuditedDevice)
 
 -- Cuts
 
+pub reset_is : (a : AuditedDevice) (o : OpenEntry) → a.history.running ≡ Some o → (more : ℕ)
+    → reset_in_history a.history o.path more ≡ cut_as a.history o (length o.ends + more)
+reset_is a o running more =
+    let other = if is_used o.path false a.history.items then record a.history { waiting = put o.path a.history.waiting } else a.history in
+    ap (λ (r : Option OpenEntry). reset_in a.history o.path more r) running
+    ∙ ap (λ (b : Bool). cond b (cut_by a.history o more) other) (eq-eqb o.path o.path refl)
+
 module _ (s u : AuditState) (d : ℕ) (can : CanBePlain u d) (a : AuditedDevice) (found : device_in s.devices d ≡ Some a) where
   module _ (o : OpenEntry) (running : a.history.running ≡ Some o) (k : ℕ) where
     abbrev Took : Type 0
@@ -204,22 +211,16 @@ module _ (s u : AuditState) (d : ℕ) (can : CanBePlain u d) (a : AuditedDevice)
     abbrev reset_at : ℕ → AuditState
     reset_at n = record (changed s (record a { history = cut_as a.history o n; half = cut_half a.half })) { due = ResetOf }
 
-    reset_is : (more : ℕ) → reset_in_history a.history o.path more ≡ cut_as a.history o (length o.ends + more)
-    reset_is more =
-        let other = if is_used o.path false a.history.items then record a.history { waiting = put o.path a.history.waiting } else a.history in
-        ap (λ (r : Option OpenEntry). reset_in a.history o.path more r) running
-        ∙ ap (λ (b : Bool). cond b (cut_by a.history o more) other) (eq-eqb o.path o.path refl)
-
     pub reset_shown : u ≡ reset_at k → made.cut_by s a o k ≡ Some u
     reset_shown is =
         let b : AuditedDevice = record a { history = cut_as a.history o k; half = cut_half a.half } in
         let p : PlainPast b = subst (λ (x : AuditState). CanBePlain x d) is can b (put_found s.devices d a b found refl) in
         ap (λ (h : History). cond (k == length o.ends) (Some (record (changed s (record a { history = h; half = cut_half a.half })) { due = ResetOf }))
         (cond ((k == length o.ends + 1) && is_next_legal a a.history.running)
-        (Some (record (changed s (record a { history = reset_in_history a.history o.path 1; half = cut_half a.half })) { due = ResetOf })) None)) (reset_is 0)
+        (Some (record (changed s (record a { history = reset_in_history a.history o.path 1; half = cut_half a.half })) { due = ResetOf })) None)) (reset_is a o running 0)
         ∙ ap (λ (h : History). cond (k == length o.ends) (Some (reset_at (length o.ends + 0)))
         (cond ((k == length o.ends + 1) && is_next_legal a a.history.running)
-        (Some (record (changed s (record a { history = h; half = cut_half a.half })) { due = ResetOf })) None)) (reset_is 1)
+        (Some (record (changed s (record a { history = h; half = cut_half a.half })) { due = ResetOf })) None)) (reset_is a o running 1)
         ∙ tested reset_at (sym is) (cut_so a o running k (items.Reset o.path ∷ resets_of a.history.waiting) p.legal)
 
     -- or by a loss of power

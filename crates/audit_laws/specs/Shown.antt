@@ -1,4 +1,5 @@
--- What the lines of a report show of a deck's devices, whether or not plain devices do so; and whether plain devices can have done so.
+-- What the lines of a report show of a deck's devices, whether or not plain devices do so; and whether plain devices can have done so. Of which
+-- event, device and piece of work a line is, is known from where it stands (report_places/specs/Place).
 use Rattle.std.specs.Prelude.{◌≡◌, ◌⊎◌, ◌&&◌, ◌++◌, ℕ, not, Bool, true, false, List, [], ◌∷◌, Some, None, Result, Ok, Err, ⊤}
 use Rattle.ckd_types.specs.declared.channel.CommandEnd.{CommandEnd}
 use Rattle.ckd_types.specs.Sense.{equipment_sense}
@@ -52,11 +53,11 @@ NoLoss [] = ⊤
 NoLoss (CfwLost ∷ acts) = ⊥
 NoLoss (act ∷ acts) = NoLoss acts
 
--- with acts that may still be told, and then the work
+-- a plain device can have done the work: its past is one with some acts that may still be told, and then the work
 abbrev pub CanDo : Did → AuditedDevice → Type 0
 CanDo did a = (acts : List Act) × NoLoss acts × PlainPast (worked (record a { history = all_acted a.history acts }) did)
 
--- asked of the device at work alone
+-- while work is told it is asked of the device at work alone
 abbrev pub AtWork : AuditState → AuditedDevice → (AuditedDevice → Type 0) → Type 0
 AtWork s a F = worker s ≡ Some a → F a
 
@@ -76,7 +77,7 @@ CanBePlain s d = (a : AuditedDevice) → device_in s.devices d ≡ Some a → Ca
 abbrev pub CanAllBePlain : AuditState → Type 0
 CanAllBePlain s = (d : ℕ) → CanBePlain s d
 
--- START: an accepted one starts a program, on a device that isn't lent and runs none; else the answer is that of a device with this past
+-- START: an accepted one starts this program, on a device that isn't lent and runs none; any other answer is that of a device with this past
 abbrev pub AnswerShows : AuditState → AuditedDevice → ℕ → StartAnswer → AuditState → Type 0
 AnswerShows s a path (start.Accepted n) t =
     (a.lent ≡ None) × (a.history.running ≡ None) × (t ≡ passed (changed s (record a { history = started a.history path n })))
