@@ -1,5 +1,5 @@
 -- What a device's past, where it is a plain device's, shows of the line that was told last.
-use Rattle.std.proofs.Common.{◌≡◌, ◌<◌, ◌+◌, ◌∷◌, ◌++◌, ℕ, [], List, Option, Some, None, Bool, true, false, cond, length, not}
+use Rattle.std.proofs.Common.{◌≡◌, ◌+◌, ◌∷◌, ◌++◌, ℕ, [], List, Option, Some, None, Bool, true, false, cond, length, not}
 use Rattle.std.proofs.Common.{refl, arith, sym, ap, subst, ◌∙◌, append_assoc, inl, inr}
 use Rattle.std.specs.Prelude.{◌⊎◌, ◌&&◌, ◌||◌, ◌==◌, IfSome}
 use Rattle.std.proofs.lemmas.Bool.{and_from, cases_lt, eq-eqb}
@@ -36,10 +36,6 @@ by_firm false provisional may = refl
 edit_legal : (p : Part) (edit : Option TrackEdit) → MayEdit p.state p.stance edit → is_edit_legal p edit ≡ true
 edit_legal p None may = refl
 edit_legal p (Some e) may = by_firm (is_loose_there p.state e.track) (is_provisional p.stance.extent) may
-
-some_is : (loose : List LooseTrack) → IsSomeLoose loose → (0 < length loose)
-some_is [] some = absurd some
-some_is (l ∷ loose) some = omega arith
 
 -- the first of acts that may come
 abbrev pub First : PlainState → Act → Type 0
