@@ -173,7 +173,7 @@ DueShows s line (Losses d) t = (event : EventLine) × (first_event s.events ≡ 
 DueShows s line (Powers k) t = PowerShows s line t
 DueShows s line due t = due_made s line due ≡ Some t
 
--- behind a piece of work a line is of one of its acts, or the work is done
+-- behind a piece of work a line is of one of its acts, or the work is done before it; then all devices can be plain there, as behind a line
 abbrev pub BehindShows : AuditState → ReportLine → Did → Bool → Bool → AuditState → Type 0
 BehindShows s line did true io t = OfWorker s (λ a. ActShows s line did a t)
 BehindShows s line did false true t = OfWorker s (λ a. t ≡ settled s did)
@@ -192,7 +192,7 @@ abbrev pub TextShows : AuditState → Result ReportLine LineFault → AuditState
 TextShows s (Ok line) t = Shows s line t
 TextShows s (Err fault) t = ⊥
 
--- lines tell of plain devices: each line shows what makes their pasts from those before it, and at each they can be plain
+-- lines tell of plain devices: each line shows what makes their pasts from those before it, and behind each they can all be plain
 abbrev pub TellsOfPlain : AuditState → List (List ℕ) → AuditState → Type 0
 TellsOfPlain s [] t = t ≡ s
 TellsOfPlain s (text ∷ texts) t = (u : AuditState) × TextShows s (line_of text) u × CanAllBePlain u × TellsOfPlain u texts t
