@@ -65,7 +65,7 @@ all_new : (programs : List PlannedProgram) (ls : List DeviceLine) → each.Each 
 all_new programs [] = tt
 all_new programs (line ∷ ls) = ((refl, refl, refl), new_sound programs line, all_new programs ls)
 
-first_sound : (text : List ℕ) (deck : DeckLines) → parsed text ≡ Ok deck → IsSoundState deck.programs deck.devices (first_state deck)
+pub first_sound : (text : List ℕ) (deck : DeckLines) → parsed text ≡ Ok deck → IsSoundState deck.programs deck.devices (first_state deck)
 first_sound text deck parses = record {
   devices = all_new deck.programs deck.devices;
   paths = lines_on_paths deck.devices deck.events (parsed_good text deck parses).events;

@@ -18,7 +18,7 @@ abbrev pub either : Bool → Type 0 → Type 0 → Type 0
 either true here later = here
 either false here later = later
 
-equal_of : (a d : ℕ) → (a == d) ≡ true → a ≡ d
+pub equal_of : (a d : ℕ) → (a == d) ≡ true → a ≡ d
 equal_of a d is = search (nat_tests, rules)
 
 number_by : (d : ℕ) (x a : AuditedDevice) (rest : Option AuditedDevice) (b : Bool) → (x.number == d) ≡ b → cond b (Some x) rest ≡ Some a

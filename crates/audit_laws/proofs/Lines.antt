@@ -1,7 +1,7 @@
 -- Each line that is judged well keeps every device's past one that a plain device could have.
 use Rattle.std.proofs.Common.{◌≡◌, ◌≤◌, ℕ, [], ◌∷◌, List, drop, map, length, Option, Some, None, Result}
 use Rattle.std.proofs.Common.{Ok, Err, Bool, true, false, not, cond, refl, sym, ap, subst, ◌∙◌, inl, inr}
-use Rattle.std.specs.Prelude.{◌⊎◌, ◌&&◌, ◌||◌, ◌==◌, ◌+◌, ⊤}
+use Rattle.std.specs.Prelude.{◌⊎◌, ◌&&◌, ◌||◌, ◌==◌, ◌+◌, IsSome, ⊤}
 use Rattle.std.specs.List.{list_any}
 use Rattle.std.proofs.lemmas.Bool.{and_parts}
 use Rattle.ckd_types.specs.declared.channel.CommandEnd.{CommandEnd}
@@ -52,14 +52,14 @@ use Rattle.audit_laws.proofs.Works.{Checks, DidSo, Ends, IsNextCheck, check_is, 
 
 -- What an answer says
 
-then_some : {S T : Type 0} (x : Option S) (go : S → Option T) (t : T) → then_of x go ≡ Some t → (y : S) × (x ≡ Some y) × (go y ≡ Some t)
+pub then_some : {S T : Type 0} (x : Option S) (go : S → Option T) (t : T) → then_of x go ≡ Some t → (y : S) × (x ≡ Some y) × (go y ≡ Some t)
 then_some None go t is = absurd (cc)
 then_some (Some y) go t is = (y, refl, is)
 
-same_some : {T : Type 0} (x y : T) → Some x ≡ Some y → x ≡ y
+pub same_some : {T : Type 0} (x y : T) → Some x ≡ Some y → x ≡ y
 same_some x y is = cc
 
-if_some : {T : Type 0} (b : Bool) (x t : T) → cond b (Some x) None ≡ Some t → (b ≡ true) × (x ≡ t)
+pub if_some : {T : Type 0} (b : Bool) (x t : T) → cond b (Some x) None ≡ Some t → (b ≡ true) × (x ≡ t)
 if_some true x t is = (refl, same_some x t is)
 if_some false x t is = absurd (cc)
 
@@ -73,7 +73,7 @@ none_left : (b : Bool) → ((b || false) && not b) ≡ true → ⊥
 none_left true is = cc
 none_left false is = cc
 
-no_act : (worker : Option ℕ) (line : ReportLine) → (is_of_work false worker line && not (is_io line)) ≡ true → ⊥
+pub no_act : (worker : Option ℕ) (line : ReportLine) → (is_of_work false worker line && not (is_io line)) ≡ true → ⊥
 no_act None line is = none_left (is_io line) is
 no_act (Some d) line is = none_left (is_io line) is
 
@@ -290,6 +290,7 @@ module _ (programs : List PlannedProgram) (of : List DeviceLine) where
               ends_so : Sound a → Ends e ended_half
               ends_so sound = record {
                 sound = sound;
+                runs = subst IsSome (sym running) refl;
                 plain = λ x x_is. subst (λ (y : OpenEntry). plain_end a y ≡ Some e) (let same : o ≡ x = same_some o x (sym running ∙ x_is) in same) here;
               }
 
@@ -553,7 +554,7 @@ module _ (programs : List PlannedProgram) (of : List DeviceLine) where
           let t = record s { devices = with_device s.devices (worked a did) } in
           behind_tests t paths worked_each (behind_work t (worked a did) did) (is_event_over (first_event s.events) (worked a did) did) refl
 
-    settled_sound : (more : Bool) (did : Did) → But programs Sound (DidSo more did) d of s.devices → holds (worker s) (is_legal did) ≡ true
+    pub settled_sound : (more : Bool) (did : Did) → But programs Sound (DidSo more did) d of s.devices → holds (worker s) (is_legal did) ≡ true
         → IsSoundState (settled s did)
     settled_sound more did but legal = by_worker (worker s) refl legal where
       by_worker : (w : Option AuditedDevice) → worker s ≡ w → holds w (is_legal did) ≡ true → IsSoundState (settled_in s did w)
@@ -626,9 +627,9 @@ module _ (programs : List PlannedProgram) (of : List DeviceLine) where
 
   -- Lines one after another
 
-  text_by : (s t : AuditState) (r : Result ReportLine LineFault) → IsSoundState s → judged_by s r ≡ Ok t → IsSoundState t
-  text_by s t (Err fault) sound is = absurd (cc)
-  text_by s t (Ok line) sound is = by_place (stands s line) is where
+  pub judged_sound : (s t : AuditState) (r : Result ReportLine LineFault) → IsSoundState s → judged_by s r ≡ Ok t → IsSoundState t
+  judged_sound s t (Err fault) sound is = absurd (cc)
+  judged_sound s t (Ok line) sound is = by_place (stands s line) is where
     by_made : (x : Option AuditState) → made s line ≡ x → or_history x ≡ Ok t → IsSoundState t
     by_made None here is = absurd (cc)
     by_made (Some u) here is = made_sound s t line sound (here ∙ (let same : u ≡ t = cc in ap (λ (y : AuditState). Some y) same))
@@ -640,4 +641,4 @@ module _ (programs : List PlannedProgram) (of : List DeviceLine) where
   pub leads_sound : (s t : AuditState) (texts : List (List ℕ)) → IsSoundState s → LeadsTo s texts t → IsSoundState t
   leads_sound s t [] sound leads = subst (λ (u : AuditState). IsSoundState u) (sym leads) sound
   leads_sound s t (text ∷ texts) sound leads =
-      leads_sound leads.0 t texts (text_by s leads.0 (line_of text) sound leads.1) leads.2
+      leads_sound leads.0 t texts (judged_sound s leads.0 (line_of text) sound leads.1) leads.2

@@ -82,7 +82,7 @@ module _ (a : AuditedDevice) (path n : ℕ) where
   idle_by_own true is = absurd (cc)
   idle_by_own false is = idle_by_loan a.lent is
 
-  starts_idle : start_answer a path ≡ start.Accepted n → a.history.running ≡ None
+  pub starts_idle : start_answer a path ≡ start.Accepted n → a.history.running ≡ None
   starts_idle is = idle_by_own (own_runs a.history.running path) is
 
 module _ (a : AuditedDevice) (s : Sound a) where

@@ -1,6 +1,6 @@
 -- A command that comes to its end: the acts behind its END line come before it in the device's past.
 use Rattle.std.proofs.Common.{◌≡◌, ℕ, List, Option, Some, None, Bool, true, false, not, refl, sym, ap, subst, ◌∙◌}
-use Rattle.std.specs.Prelude.{◌⊎◌, ◌&&◌, ◌==◌, IfSome}
+use Rattle.std.specs.Prelude.{◌⊎◌, ◌&&◌, ◌==◌, IfSome, IsSome}
 use Rattle.std.proofs.Common.{rules}
 use Rattle.std.proofs.lemmas.Bool.{and_parts}
 use Rattle.std.proofs.lemmas.Bool.Decides.{nat_tests}
@@ -34,6 +34,7 @@ use Rattle.audit_laws.proofs.Sound.{IsSound, Sound, hardened_sound, legal_of}
 -- its running program's next command ends so on the plain device
 pub record Ends (e : CommandEnd) (a : AuditedDevice) : Type 0 where
   pub sound : Sound a
+  pub runs : IsSome a.history.running
   pub plain : (o : OpenEntry) → a.history.running ≡ Some o → plain_end a o ≡ Some e
 
 -- with that end its past is sound: a track became loose directly before it
@@ -180,14 +181,14 @@ module _ (a : AuditedDevice) (s : Sound a) (t : ℕ) (o : OpenEntry) (running : 
   abbrev hardened : AuditedDevice
   hardened = record a { history = record a.history { running = Some (with_one_act o (Harden t)) } }
 
-  acted_is : acted a.history (Harden t) ≡ record a.history { running = Some (with_one_act o (Harden t)) }
+  pub acted_is : acted a.history (Harden t) ≡ record a.history { running = Some (with_one_act o (Harden t)) }
   acted_is = ap (λ (r : Option OpenEntry). acted_in a.history (Harden t) r) running
 
   going : IsGoing a.plans (replay a.plans a.empty a.history.items) a.history.items o None
   going = going_of_open a.plans (replay a.plans a.empty a.history.items) a.history.items o None
       (subst (λ (r : Option OpenEntry). IfSome r (IsOpen a.plans (replay a.plans a.empty a.history.items) a.history.items)) running s.plain.at)
 
-  part_is : part_of_open hardened later ≡ with_act (part_of_open a o) (Harden t)
+  pub part_is : part_of_open hardened later ≡ with_act (part_of_open a o) (Harden t)
   part_is = part_with_act a.plans (replay a.plans a.empty a.history.items) a.history.items o going (Harden t)
 
   end_is_same : plain_end hardened later ≡ plain_end a o
@@ -219,9 +220,14 @@ module _ (a : AuditedDevice) (t : ℕ) (loose : is_loose_there (state_of a) t �
         (subst (λ (h : History). plain_end (record a { history = h }) (with_one_act o (Harden t)) ≡ Some e)
         (sym (acted_is a ends.sound t o running)) (end_is_same a ends.sound t o running ∙ ends.plain o running))
 
+    runs_by : (r : Option OpenEntry) → IsSome r → IsSome (acted_in a.history (Harden t) r).running
+    runs_by (Some o) some = refl
+    runs_by None some = absurd (cc)
+
     pub ends_hardened : Ends e (record a { history = acted a.history (Harden t) })
     ends_hardened = record {
       sound = hardened_sound a ends.sound t loose;
+      runs = runs_by a.history.running ends.runs;
       plain = λ x is. ends_by x is a.history.running refl;
     }
 

@@ -1,2 +1,4 @@
 pub mod FirstFault
 pub mod Plain
+pub mod Refused
+pub mod Shown

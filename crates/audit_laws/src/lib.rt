@@ -5,6 +5,6 @@
 mod law;
 
 pub use law::{
-    front_is_plain, good_report_is_plain, no_tells_the_first_fault, yes_is_plain,
-    yes_tells_of_no_fault,
+    front_is_plain, good_lines_tell_of_plain, good_report_is_plain, no_is_not,
+    no_tells_the_first_fault, yes_is_plain, yes_tells_of_no_fault,
 };

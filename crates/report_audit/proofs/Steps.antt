@@ -9,7 +9,6 @@ use Rattle.std.proofs.lemmas.List.{append-nil}
 use Rattle.deck_text.specs.DeckLines.{DeckLines}
 use Rattle.deck_text.specs.Parse.{parsed}
 use Rattle.deck_text.specs.declared.line.DeckFault.{DeckFault}
-use Rattle.deck_text.specs.declared.line.DeckFault.TheVariants as deck_faults
 use Rattle.report_auditor.specs.declared.status.AuditStatus.{AuditStatus}
 use Rattle.report_auditor.specs.declared.status.AuditStatus.TheVariants.{No}
 use Rattle.report_auditor.specs.declared.status.AuditWhy.{AuditWhy}

@@ -6,7 +6,6 @@ use Rattle.std.specs.Io.KnownBytes.{Consumes, IsAtEnd, Appends}
 use Rattle.std.proofs.lemmas.Bool.{cases_lt, true≢false}
 use Rattle.std.proofs.lemmas.List.{append-nil}
 use Rattle.ckd_outside.specs.Texts.{AppendsFront}
-use Rattle.deck_text.specs.declared.line.DeckFault.TheVariants as deck_faults
 use Rattle.deck_text.specs.declared.line.Which.TheVariants.{Size}
 use Rattle.report_auditor.specs.declared.status.AuditStatus.{AuditStatus}
 use Rattle.report_auditor.specs.declared.status.AuditStatus.TheVariants.{Yes, No, NoReport, DeckRefused, ReadFault, WriteFault, Limit, NoMemory, Usage}

@@ -9,11 +9,12 @@ ghost use Rattle.report_auditor.specs.Verdict.{read_back};
 ghost use Rattle.report_auditor.specs.declared.status.AuditWhy.{AuditWhy as Why};
 ghost use Rattle.audit_laws.specs.FirstFault.{IsBad, IsGood};
 ghost use Rattle.audit_laws.specs.Plain.{IsPlainReport};
+ghost use Rattle.audit_laws.specs.Refused.{IsNot};
 ghost use Rattle.run_audit_laws.specs.Texts.{IsEnded, IsOwnReport, own_text};
 ghost use Rattle.report_audit.specs.Answers.{HasFailed, IsReadBack, Tells, TellsAudit, TellsUsage, is_audit, status_text};
 
 use crate::reading::read_audit;
-use audit_laws::yes_is_plain;
+use audit_laws::{no_is_not, yes_is_plain};
 use ckd_outside::{Failed, ReadError, Sink, Source};
 use deck_text::{write_limit, write_refused};
 use report_auditor::{AuditStatus, write_no, write_no_report, write_usage, write_yes};
@@ -129,6 +130,11 @@ pub fn audit_top<S: Source, K: Sink>(
     // Yes: of each device of the deck the report tells a history that a plain device could have.
     ensures yes_is_plain { (text : List ℕ) → S.left source.old ≡ Some text → result ≡ AuditStatus.Yes → IsPlainReport text }
 
+    // No: that line is no line of a report, or may not stand there; or of one device it shows no past that a plain device could have,
+    // whatever pasts of plain devices the lines before it tell of.
+    ensures no_is_not { (text : List ℕ) (line : ℕ) (why : Why) → S.left source.old ≡ Some text
+        → result ≡ AuditStatus.No line why → IsNot text line why }
+
     // A deck that was read, REPORT and the report of its own run are answered with yes, unless memory runs out or the outside fails.
     ensures own_report { (text : List ℕ) (deck : DeckLines) → parsed text ≡ Ok deck → IsEnded text
         → S.left source.old ≡ Some (own_text text deck) → length (own_text text deck) ≤ 268435456
@@ -137,6 +143,7 @@ pub fn audit_top<S: Source, K: Sink>(
         → is_audit (map (λ w. w.now) words.now) ≡ true → (result ≡ AuditStatus.Yes) ⊎ HasFailed result }
 {
     yes_is_plain();
+    no_is_not();
     own_report_is_yes();
     own_text_is_yes();
     serve(alloc, words, source, sink)
