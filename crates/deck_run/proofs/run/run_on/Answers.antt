@@ -20,4 +20,4 @@ pub returns-clause-slots : goal.returns-clause-slots
 returns-clause-slots g c = λ firsts all. slots_apart (c.in_ok-ran.ensures.stands firsts all).mounted
 
 pub returns-clause-transfers : goal.returns-clause-transfers
-returns-clause-transfers g c = λ firsts. run_moves {firsts = firsts} c.args.deck.now
+returns-clause-transfers g c = λ firsts. run_moves firsts c.args.deck.now
