@@ -1,5 +1,5 @@
 -- What a piece of work in the background makes of a device beside its history: a half write is open behind it where it says so, and only there.
-use Rattle.std.proofs.Common.{◌≡◌, ℕ, zero, suc, Bool, true, false, List, [], ◌∷◌, Option, Some, None, refl, sym, ap, subst, ◌∙◌, if◌then◌else◌}
+use Rattle.std.proofs.Common.{arith, ◌≡◌, ℕ, zero, suc, Bool, true, false, List, [], ◌∷◌, Option, Some, None, refl, sym, ap, subst, ◌∙◌, if◌then◌else◌}
 use Rattle.std.specs.Prelude.{◌||◌, is_some}
 use Rattle.std.proofs.lemmas.Bool.{and_parts}
 use Rattle.ckd_types.specs.declared.paths.Side.{Side}
@@ -58,8 +58,7 @@ AIsDown z = z.a.up ≡ false
 told_down : (k : ℕ) (s : MarksStore) → AIsDown s → Had (all_firm_told by_plain k s) (λ z (_ : Unit {0}). AIsDown z)
 unfolding L.all_firm_told
 told_down zero s is = had_done is
-told_down (suc k) s is =
-    had_then (told_down k s is) (λ z _ v. had_if (owed_at z k).firm (λ _. had_tell (had_done v)) (λ _. had_done v))
+told_down (suc k) s is = had_then (told_down k s is) (λ z _ v. had_if (owed_at z k).firm (λ _. had_tell (had_done v)) (λ _. had_done v))
 
 lost_down : (s : MarksStore) → AIsDown (side_lost by_plain s A None)
 lost_down s = lost_side_is_down by_plain s None
@@ -76,8 +75,7 @@ ToldDown z k = is_some k.bytes ≡ true → is_some k.fault ≡ true → AIsDown
 second_told : (s : MarksStore) (fault : Option Side) → (is_some fault ≡ true → AIsDown s) → (r : Option Bool) →
     Had (second_read by_plain fault s r) (λ z k. ToldDown z k)
 second_told s fault down (Some r) = had_done (λ some fails. down fails)
-second_told s fault down None =
-    had_then (any_had s B None) (λ z _ _. had_done (λ some fails. absurd (let none : false ≡ true = some in cc)))
+second_told s fault down None = had_then (any_had s B None) (λ z _ _. had_done (λ some fails. absurd (let none : false ≡ true = some in cc)))
 
 b_told : (s : MarksStore) (t : ℕ) (fault : Option Side) → (level_at s.b t ≡ true → is_some fault ≡ true → AIsDown s) →
     Had (read_b by_plain s t fault) (λ z k. ToldDown z k)
@@ -146,19 +144,10 @@ IsNoHalf (dids.Half t) = ⊥
 IsNoHalf d = Unit {0}
 
 said_none : (d : Did) (h : Option (store.HalfWrite (Unit {0}))) → IsNoHalf d → h ≡ None → IsSaid d h
-said_none (dids.Half t) h fine is = absurd fine
-said_none dids.Nothing h fine is = is
-said_none (dids.Recovered t) h fine is = is
-said_none (dids.Copied t) h fine is = is
-said_none (dids.Staged t) h fine is = is
-said_none (dids.Skipped t) h fine is = is
-said_none (dids.Destaged t) h fine is = is
-said_none (dids.Fault side) h fine is = is
-said_none (dids.BadBytes side) h fine is = is
+said_none d h fine is = grind arith
 
 fault_none : (f : Option Side) (d : Did) → IsNoHalf d → IsNoHalf (did f d)
-fault_none (Some side) d fine = tt
-fault_none None d fine = fine
+fault_none f d fine = grind arith
 
 module _ (p : PlainState) (u : List Track) (g : Geometry) (n : ℕ) (lent : Option ℕ × ℕ) where
   abbrev On : MarksStore → Type 0
@@ -180,8 +169,7 @@ module _ (p : PlainState) (u : List Track) (g : Geometry) (n : ℕ) (lent : Opti
       had_then (done_same s t i false)
       (λ z _ e. had_done (none_said (did fault (did failed d)) z (fault_none fault (did failed d) (fault_none failed d fine)) (same_on s z e w.on)))
   saved_said t i d (Some side) was failed s Opened fine w shut = absurd (shut refl)
-  saved_said t i d None was failed s Opened fine w shut =
-      had_then (opened_core s t i OfBackground was) (λ z _ e. had_done (ap (λ (c : Core). c.half) e))
+  saved_said t i d None was failed s Opened fine w shut = had_then (opened_core s t i OfBackground was) (λ z _ e. had_done (ap (λ (c : Core). c.half) e))
   saved_said t i d fault was failed s Unwritten fine w shut =
       had_done (none_said (did fault (did failed dids.Nothing)) s (fault_none fault (did failed dids.Nothing) (fault_none failed dids.Nothing tt)) w)
 
@@ -271,15 +259,7 @@ BackLeft x y None = ⊥
 
 said_half : (x : MarksDevice) → x.store.half ≡ None → (d : Did) (h : Option (store.HalfWrite (Unit {0}))) → IsSaid d h →
     half_by h ≡ back_half (audited x) (back_answer d)
-said_half x none (dids.Half t) h is = ap half_by is
-said_half x none dids.Nothing h is = ap half_by (is ∙ sym none)
-said_half x none (dids.Recovered t) h is = ap half_by (is ∙ sym none)
-said_half x none (dids.Copied t) h is = ap half_by (is ∙ sym none)
-said_half x none (dids.Staged t) h is = ap half_by (is ∙ sym none)
-said_half x none (dids.Skipped t) h is = ap half_by (is ∙ sym none)
-said_half x none (dids.Destaged t) h is = ap half_by (is ∙ sym none)
-said_half x none (dids.Fault side) h is = ap half_by (is ∙ sym none)
-said_half x none (dids.BadBytes side) h is = ap half_by (is ∙ sym none)
+said_half x none d h is = grind arith
 
 module _ (num : ℕ) (empty : PlainState) (x : MarksDevice) (f : Follows num empty x) (none : x.store.half ≡ None)
     (alone : x.store.paired ≡ false → x.store.b.up ≡ false) where
@@ -288,27 +268,21 @@ module _ (num : ℕ) (empty : PlainState) (x : MarksDevice) (f : Follows num emp
     single : s.paired ≡ false → s.b.up ≡ false
 
   fronted : Had (hear by_plain 960 (noted_begin x.store)) (λ s (_ : Unit {0}). Front s)
-  fronted =
-      asks_had (hear_asks by_plain Front (λ z t clean e. record { same = framed_same z t None ∙ e.same; single = e.single }) 960 (noted_begin x.store)
-      (record { same = refl; single = alone }))
+  fronted = asks_had (hear_asks by_plain Front (λ z t clean e. (search (arith, framed_same))) 960 (noted_begin x.store) (search arith))
 
   walks : (s : MarksStore) → core_of s ≡ core_of (noted_begin x.store) →
       Walks (plain_of x.plans empty x.history) x.store.plain x.store.geometry x.store.cylinders (None, (x.store.lent, x.store.device)) (core_of s)
-  walks s e =
-      subst (λ (h : Option (store.HalfWrite (Unit {0}))). Walks (plain_of x.plans empty x.history) x.store.plain x.store.geometry x.store.cylinders
-      (h, (x.store.lent, x.store.device)) (core_of s)) none (walks_first num empty x f s e)
+  walks s e = grind (arith, core_of, walks_first)
 
   abbrev HalfSaid : MarksDevice → Option Did → Type 0
   HalfSaid y (Some d) = half_by y.store.half ≡ back_half (audited x) (back_answer d)
   HalfSaid y None = ⊥
 
   said_by : (y : MarksDevice) (a : Option Did) → WorkIs y.store a → HalfSaid y a
-  said_by y (Some d) said = said_half x none d y.store.half said
-  said_by y None said = said
+  said_by y a said = grind (arith, said_half)
 
   stays_said : (y : MarksDevice) (a : Option Did) (z : MarksStore) → core_of z ≡ core_of y.store → HalfSaid y a → HalfSaid (record y { store = z }) a
-  stays_said y (Some d) z e p = ap (λ (c : Core). half_by c.half) e ∙ p
-  stays_said y None z e p = p
+  stays_said y a z e p = grind arith
 
   half_left : Had (background by_plain x) HalfSaid
   unfolding V.background
@@ -320,8 +294,7 @@ module _ (num : ℕ) (empty : PlainState) (x : MarksDevice) (f : Follows num emp
       (λ y a g. had_then (ended_same (waiting_count by_plain x.store) y.store) (λ z _ e. had_done (stays_said y a z e g)))
 
   left_by : (y : MarksDevice) (a : Option Did) → IsStill (kept x.store) (base_in y) × (y.plans ≡ x.plans) → HalfSaid y a → BackLeft x y a
-  left_by y (Some d) k said = parts_by x y (back_half (audited x) (back_answer d)) k said
-  left_by y None k said = said
+  left_by y a k said = grind (arith, parts_by)
 
   pub back_left : Had (background by_plain x) (BackLeft x)
   back_left =

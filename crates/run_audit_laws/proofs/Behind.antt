@@ -1,5 +1,5 @@
 -- What holds of the devices behind each event line of a deck that was read.
-use Rattle.std.proofs.Common.{◌≡◌, ℕ, true, List, [], ◌∷◌, map, sym, subst, ◌∙◌}
+use Rattle.std.proofs.Common.{arith, ◌≡◌, ℕ, true, List, [], ◌∷◌, map, sym, subst, ◌∙◌}
 use Rattle.std.specs.Prelude.{All, IsSome, Ok}
 use Rattle.std.proofs.lemmas.List.Elements.{All-head, All-tail}
 use Rattle.deck_plan.specs.declared.event.EventLine.{EventLine}
@@ -46,14 +46,10 @@ rising numbers s k = subst (RisesFrom 0) (sym (numbers_are numbers s k)) k.rises
 
 pub good_behind : (deck : DeckLines) → IsServedDeck deck → AreSo Good (run_of deck).behind.mounted
 unfolding D.run_asked
-good_behind deck h =
-    lines_end_so Good AnyEvent good_kept (record { step = λ d. tt; back = λ d. tt }) (map asked_by deck.events) (opened deck)
-    (all_asked (map asked_by deck.events)) (opened_good deck deck.devices h.devices)
+good_behind deck h = search (arith, lines_end_so, good_kept, all_asked, opened_good)
 
 pub run_is_behind : (text : List ℕ) (deck : DeckLines) → parsed text ≡ Ok deck → IsBehind (numbers_in deck) (run_of deck).behind
-run_is_behind text deck read =
-    let served = read_served text deck read in
-    record { plain = plain_behind deck served; good = good_behind deck served; fits = fits_behind text deck read; tied = tied_behind deck; rises = read_rises text deck read }
+run_is_behind text deck read = search (arith, read_served, plain_behind, good_behind, fits_behind, tied_behind, read_rises)
 
 -- Before it, and behind each of its lines
 

@@ -51,13 +51,7 @@ pub record Sized (d : MarksDevice) : Type 0 where
 
 sized_as : (d y : MarksDevice) → y.store.device ≡ d.store.device → y.store.cylinders ≡ d.store.cylinders → y.store.lent ≡ d.store.lent →
     y.plans ≡ d.plans → Sized d → Sized y
-sized_as d y number cylinders lent plans s = record {
-  device = subst (λ (k : ℕ). k < 16) (sym number) s.device;
-  cylinders = subst (λ (k : ℕ). k ≤ 64) (sym cylinders) s.cylinders;
-  lent = subst (λ (o : Option ℕ). IfSome o (λ n. n < 16)) (sym lent) s.lent;
-  plans = λ path. subst (λ (k : Plans). length (planned k path) ≤ 512) (sym plans) (s.plans path);
-  words = λ path ordinal. subst (λ (k : Plans). GoodWords (program_of k path ordinal)) (sym plans) (s.words path ordinal);
-}
+sized_as d y number cylinders lent plans s = search arith
 
 stays : {X : Type 0} (d : MarksDevice) (talk : Interaction Bool Image MarksDevice X) (b : Base) → b.device ≡ d.store.device →
     b.cylinders ≡ d.store.cylinders → b.lent ≡ d.store.lent → Based base_in Any b talk →
@@ -70,8 +64,7 @@ unfolding S.start
 start_sized d path s = sized_as d (start d path) refl refl refl refl s
 
 replace_sized : (d : MarksDevice) (side : Side) → Sized d → Sized (replace d side)
-replace_sized d sides.A s = sized_as d (replace d sides.A) refl refl refl refl s
-replace_sized d sides.B s = sized_as d (replace d sides.B) refl refl refl refl s
+replace_sized d side s = grind (arith, sized_as)
 
 pub sized_kept : IsKept Sized AnyEvent
 sized_kept = record {
@@ -143,6 +136,4 @@ module _ (text : List ℕ) (deck : DeckLines) (read : parsed text ≡ Ok deck) w
 
   pub sized_behind : AreSo Sized (run_of deck).behind.mounted
   unfolding D.run_asked
-  sized_behind =
-      lines_end_so Sized AnyEvent sized_kept (record { step = λ d. tt; back = λ d. tt }) (map asked_by deck.events) (opened deck)
-      (all_asked (map asked_by deck.events)) first_sized
+  sized_behind = search (arith, lines_end_so, sized_kept, all_asked, first_sized)

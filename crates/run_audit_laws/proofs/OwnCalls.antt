@@ -1,6 +1,6 @@
 -- Each frame that a device wants is one of its own tracks, and of those that it comes to: what this says of an interaction, and the calls of how an
 -- event begins and ends, of the choice of a write, of what a write that is done leaves and of what a miss does with its bytes.
-use Rattle.std.proofs.Common.{◌≡◌, ℕ, zero, suc, Bool, true, false, Option, Some, None, is_some}
+use Rattle.std.proofs.Common.{arith, ◌≡◌, ℕ, zero, suc, Bool, true, false, Option, Some, None, is_some}
 use Rattle.std.specs.Prelude.{◌==◌, ◌&&◌, if◌then◌else◌}
 use Rattle.ckd_types.specs.declared.parameters.Mode.{Mode}
 use Rattle.ckd_types.specs.declared.paths.Side.{Side}
@@ -81,8 +81,7 @@ module _ {R S A : Type 0} {T : ℕ → Type 0} {n : ℕ} {q : S → A → Type 0
   own_tell f = record { holds = λ r. (f r).holds }
 
   pub own_if : (b : Bool) {i j : Interaction R Image S A} → Own T n i q → Own T n j q → Own T n (if b then i else j) q
-  own_if true x y = x
-  own_if false x y = y
+  own_if b x y = grind arith
 
   pub own_always : {i : Interaction R Image S A} → Own T n i q → Always i q
   own_always {i = i} x = record { holds = behind_own T n q i x.holds }
@@ -151,14 +150,12 @@ module _ {F P H R : Type 0} (T : ℕ → Type 0) (n : ℕ) (c : Contents F P H R
   told_own (suc l) s k = own_then (told_own l s k) (λ z _ g. own_if (is_owed c (owed_at z l)) (debt_own l z g) (own_done g))
 
   pub ended_own : (before : ℕ) (s : Store F P H) → Is n s → Owns (noted_end c before s)
-  ended_own before s k =
-      own_then (told_own (tracks_of s) s k) (λ z _ g. own_if (waiting_count c z == before) (own_done g) (own_ask tt (λ _. own_done g)))
+  ended_own before s k = own_then (told_own (tracks_of s) s k) (λ z _ g. own_if (waiting_count c z == before) (own_done g) (own_ask tt (λ _. own_done g)))
 
   -- where a write goes
   slot_own : (s : Store F P H) (t : ℕ) (g : SlotGrant) → Is n s → Owns (slot_by c s t g)
   slot_own s t (grants.Given slot) k = own_ask tt (λ listed. own_if listed (own_done k) (own_ask tt (λ _. own_done k)))
-  slot_own s t grants.Denied k = own_done k
-  slot_own s t grants.Down k = own_done k
+  slot_own s t g k = own_done k
 
   fast_own : (s : Store F P H) (t : ℕ) (patched : Bool) → Is n s → Owns (fast_by c s t patched)
   fast_own s t patched k = own_if patched (own_ask tt (λ listed. own_done k)) (own_ask tt (λ g. slot_own s t g k))

@@ -1,5 +1,5 @@
 -- The parts of an event on a device's tracks want frames of its own tracks alone, and leave its queue short.
-use Rattle.std.proofs.Common.{zero, suc, ℕ, Bool, true, false, List, [], ◌∷◌, Option, Some, None, is_some}
+use Rattle.std.proofs.Common.{arith, zero, suc, ℕ, Bool, true, false, List, [], ◌∷◌, Option, Some, None, is_some}
 use Rattle.std.specs.Prelude.{◌||◌}
 use Rattle.ckd_types.specs.declared.paths.Side.{Side}
 use Rattle.ckd_types.specs.declared.paths.Side.TheVariants.{A, B}
@@ -48,13 +48,10 @@ module _ {F P H R : Type 0} (T : ℕ → Type 0) (n : ℕ) (c : Contents F P H R
   told_own : (l : ℕ) (s : Store F P H) → At s → Owns (all_firm_told c l s)
   unfolding L.all_firm_told
   told_own zero s k = own_done k
-  told_own (suc l) s k =
-      own_then (told_own l s k) (λ z _ g. own_if (owed_at z l).firm (own_tell (λ _. own_done g)) (own_done g))
+  told_own (suc l) s k = own_then (told_own l s k) (λ z _ g. own_if (owed_at z l).firm (own_tell (λ _. own_done g)) (own_done g))
 
   failed_own : (s : Store F P H) (side : Side) (w : Option ℕ) → At s → Owns (call_failed c s side w)
-  failed_own s side w k =
-      own_if s.paired (told_own (tracks_of s) (side_lost c s side w) (side_is n c s side w k))
-      (own_done k)
+  failed_own s side w k = own_if s.paired (told_own (tracks_of s) (side_lost c s side w) (side_is n c s side w k)) (own_done k)
 
   -- Reads
 
@@ -90,10 +87,7 @@ module _ {F P H R : Type 0} (T : ℕ → Type 0) (n : ℕ) (c : Contents F P H R
   -- Writes
 
   firm_own : (s : Store F P H) (t : ℕ) → At s → Owns (firm_first c s t)
-  firm_own s t k =
-      own_if (is_loose s t)
-      (own_tell (λ _. own_done (stale_is n (hardened s t) t k)))
-      (own_done k)
+  firm_own s t k = own_if (is_loose s t) (own_tell (λ _. own_done (stale_is n (hardened s t) t k))) (own_done k)
 
   alone_own : (t : ℕ) (fault : Option Side) (first : Side) (s : Store F P H) (ok : Bool) → At s → Owns (alone_b c t fault first s ok)
   alone_own t fault first s true k = own_done k
@@ -158,9 +152,8 @@ module _ {F P H R : Type 0} (T : ℕ → Type 0) (n : ℕ) (c : Contents F P H R
 
   unchosen_own : (s : Store F P H) (t : ℕ) (choice : Choice) → At s → Owns (unchosen c s t choice)
   unchosen_own s t (Fast (Some slot)) k = own_ask tt (λ _. clean_own s t k)
-  unchosen_own s t (Fast None) k = clean_own s t k
-  unchosen_own s t Provisional k = clean_own s t k
   unchosen_own s t Through k = own_done k
+  unchosen_own s t choice k = clean_own s t k
 
   chosen_own : (u : Usage) (first t : ℕ) (old : Image) (e : Edit) (s : Store F P H) (choice : Choice) → At s → Owns (write_chosen c u first t old e s choice)
   chosen_own u first t old e s choice k =
@@ -229,9 +222,7 @@ module _ {F P H R : Type 0} (T : ℕ → Type 0) (n : ℕ) (c : Contents F P H R
   granted_own s t given k = own_if given (own_then (level_own s t k) (λ z g h. staged_bytes_own t z g g.bytes h)) (own_done k)
 
   stage_own : (s : Store F P H) (t : ℕ) → T t → At s → Owns (stage c s t)
-  stage_own s t on k =
-      own_if (is_some (frame_at s t) || is_lost s t) (own_done k)
-      (own_tried s _ k (own_ask (k, on) (λ given. granted_own s t given k)))
+  stage_own s t on k = own_if (is_some (frame_at s t) || is_lost s t) (own_done k) (own_tried s _ k (own_ask (k, on) (λ given. granted_own s t given k)))
 
   destage_own : (s : Store F P H) (o : Option ℕ) → At s → Owns (destage_first c s o)
   destage_own s None k = own_done k
@@ -278,9 +269,7 @@ module _ {F P H R : Type 0} (T : ℕ → Type 0) (n : ℕ) (c : Contents F P H R
 
   cut_by : (s : Store F P H) (h : HalfWrite H) (origin : Origin) → At s → Owns (origin_cut c s h origin)
   cut_by s h (OfCommand bypass e) k = own_tell (λ _. own_done k)
-  cut_by s h (OfCut bypass) k = own_done k
-  cut_by s h OfBackground k = own_done k
+  cut_by s h origin k = own_done k
 
   pub cut_own : (s : Store F P H) (o : Option (HalfWrite H)) → At s → Owns (half_cut c s o)
-  cut_own s (Some h) k = cut_by s h h.origin k
-  cut_own s None k = own_done k
+  cut_own s o k = grind (arith, cut_by, own_done)

@@ -29,21 +29,13 @@ abbrev Few : Facts → Type 0
 Few x = x.queued ≤ 64
 
 few_fallen : (x : Facts) (side : Side) → Few x → Few (fallen side x)
-few_fallen x A few = few
-few_fallen x B few = few
+few_fallen x side few = grind arith
 
 few_bears : Bears Few
-few_bears = record {
-  loses = λ x t few. few;
-  fails = λ x few. few;
-  falls = λ x side pair few. few_fallen (failed_more x) side few;
-  queues = λ x room few. omega (arith, room);
-  dequeues = λ x n less few. omega (arith, less, few);
-}
+few_bears = search arith
 
 replace_fits : (d : MarksDevice) (side : Side) → Fits d → Fits (replace d side)
-replace_fits d A f = record { small = f.small; short = f.short }
-replace_fits d B f = record { small = f.small; short = f.short }
+replace_fits d side f = search arith
 
 start_fits : (d : MarksDevice) (path : ℕ) → Fits d → Fits (start d path)
 unfolding S.start

@@ -73,12 +73,10 @@ check_in s is = subst (λ (x : UnitStatus). x.0 < 256) (sym is) (omega arith)
 -- By the rules
 
 fits_status : (c : Ccw) (e : Ending) (o : Option Sense) → FitsBy c e o → e.status.0 < 256
-fits_status c e (Some sense) h = check_in e.status h.0
-fits_status c e None h = h.0.1
+fits_status c e o h = grind (arith, check_in)
 
 fits_residual : (c : Ccw) (e : Ending) (o : Option Sense) → c.count < 65536 → FitsBy c e o → e.residual < 65536
-fits_residual c e (Some sense) few h = subst (λ (n : ℕ). n < 65536) (sym h.1) few
-fits_residual c e None few h = let less = h.1 in omega (arith, less, few)
+fits_residual c e o few h = grind arith
 
 rule_in : (i : ℕ) (f : Fixed) (state : PlainState) (path : ℕ) (s : Stance) (c : Ccw) → i < 65536 → c.count < 65536 → GivesBytes c → KeepsBytes state →
     EndIn (end_at_word i c (effect_on f state path s c).outcome)
@@ -108,13 +106,7 @@ plain_in path ccws p (Some i) e good keeps index is =
 plain_in path ccws p None e good keeps index is = absurd (cc)
 
 check_end_in : (ccws : List Ccw) (i : ℕ) (sense : Sense) → GoodWords ccws → i < 65536 → IsCheckSense sense → EndIn (check_end ccws i sense)
-check_end_in ccws i sense good index is = record {
-  index = index;
-  residual = good.counts i;
-  status = omega arith;
-  sent = as_bytes [] no_bytes;
-  sense = check_sense_in sense is;
-}
+check_end_in ccws i sense good index is = search (arith, as_bytes, no_bytes, check_sense_in)
 
 -- By a device's history
 

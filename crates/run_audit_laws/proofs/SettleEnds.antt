@@ -30,9 +30,7 @@ opened_fits deck (d ∷ ds) h = (
 
 pub fits_behind : (text : List ℕ) (deck : DeckLines) → parsed text ≡ Ok deck → AreSo Fits (run_of deck).behind.mounted
 unfolding D.run_asked
-fits_behind text deck read =
-    lines_end_so Fits AnyEvent fits_kept (record { step = λ d. tt; back = λ d. tt }) (map asked_by deck.events) (opened deck)
-    (all_asked (map asked_by deck.events)) (opened_fits deck deck.devices (read_small text deck read))
+fits_behind text deck read = search (arith, lines_end_so, fits_kept, all_asked, opened_fits, read_small)
 
 pub settle_over : (s : Subsystem) → AreSo Good s.mounted → AreSo Fits s.mounted → (d : ℕ) → HasDevice s d → SettleIsOver s d
 settle_over s good fits d has =

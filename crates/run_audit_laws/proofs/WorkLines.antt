@@ -73,10 +73,7 @@ pub one_goes : (s : Subsystem) (w : EventLine) (h : EventHappened) → line_logg
     ((later : List EventLine) →
     LeadsTowards (stand s (w ∷ later)) (event_lines (asked_by w) h.end h.reads h.writes (devices_of s) (devices_of h.behind)) (stand h.behind later)) →
     LineGoes s w
-one_goes s w h is before leads later =
-    subst (λ (ts : List Logged). LeadsTowards (stand s (w ∷ later)) (flat_map lines_of ts) (stand (last_behind s ts) later)) (sym is)
-    (subst (λ (l : List ReportLine). LeadsTowards (stand s (w ∷ later)) l (stand h.behind later))
-    (told_from s (asked_by w) h before ∙ sym (append-nil (lines_of (logged (asked_by w) h)))) (leads later))
+one_goes s w h is before leads later = rw (is, ← (told_from s (asked_by w) h before ∙ sym (append-nil (lines_of (logged (asked_by w) h))))) (leads later)
 
 plain_of : (s : Subsystem) → ArePlain s.mounted → (n : ℕ) (x : MarksDevice) → device_in (devices_of s) n ≡ Some x → Plainly x
 plain_of s plain n x at = subst (λ (o : Option MarksDevice). IfSome o Plainly) at (device_so Plainly s.mounted n plain)
