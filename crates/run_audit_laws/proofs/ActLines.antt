@@ -103,11 +103,9 @@ all_same [] = tt
 all_same (h ∷ hs) = (inl refl, all_same hs)
 
 pub nothing_loose : (xs ys : List MarksDevice) → AllSilent (map history_of xs) (map history_of ys) → of_each loose_lines xs ys ≡ []
-nothing_loose [] ys so = refl
-nothing_loose (x ∷ xs) [] so = refl
 nothing_loose (x ∷ xs) (y ∷ ys) so = grind (arith, nothing_loose xs ys so.1, silent_loose)
+nothing_loose xs ys so = refl
 
 pub nothing_over : (xs ys : List MarksDevice) → AllSilent (map history_of xs) (map history_of ys) → of_each over_lines xs ys ≡ []
-nothing_over [] ys so = refl
-nothing_over (x ∷ xs) [] so = refl
 nothing_over (x ∷ xs) (y ∷ ys) so = grind (arith, nothing_over xs ys so.1, silent_over)
+nothing_over xs ys so = refl

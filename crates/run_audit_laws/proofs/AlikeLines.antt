@@ -156,9 +156,7 @@ found_if c d same a b x y one two = grind arith
 
 pub found_alike : (xs ys : List AuditedDevice) → AreAlike xs ys → (n : ℕ) → AlikeFound (device_in xs n) (device_in ys n)
 found_alike [] [] all n = tt
-found_alike (a ∷ xs) (b ∷ ys) all n =
-    found_if (a.number == n) (b.number == n) (ap (λ (m : ℕ). m == n) (number_same a b all.0)) a b (device_in xs n) (device_in ys n) all.0
-    (found_alike xs ys all.1 n)
+found_alike (a ∷ xs) (b ∷ ys) all n = grind (arith, found_alike xs ys all.1 n, found_if, number_same)
 found_alike xs ys all n = absurd all
 
 put_if : (c d : Bool) → c ≡ d → (a b x y : AuditedDevice) (xs ys zs ws : List AuditedDevice) → Alike a b → Alike x y → AreAlike xs ys → AreAlike zs ws →
@@ -167,23 +165,18 @@ put_if c d same a b x y xs ys zs ws one other all more = grind arith
 
 pub put_alike : (xs ys : List AuditedDevice) → AreAlike xs ys → (a b : AuditedDevice) → Alike a b → AreAlike (with_device xs a) (with_device ys b)
 put_alike [] [] all a b is = tt
-put_alike (x ∷ xs) (y ∷ ys) all a b is =
-    put_if (x.number == a.number) (y.number == b.number)
-    (ap (λ (m : ℕ). m == a.number) (number_same x y all.0) ∙ ap (λ (m : ℕ). y.number == m) (number_same a b is)) a b x y xs ys (with_device xs a) (with_device ys b)
-    is all.0 all.1 (put_alike xs ys all.1 a b is)
+put_alike (x ∷ xs) (y ∷ ys) all a b is = grind (arith, put_alike xs ys all.1 a b is, put_if, number_same)
 put_alike xs ys all a b is = absurd all
 
 place_same : (xs ys : List AuditedDevice) → AreAlike xs ys → (n : ℕ) → place_of xs n ≡ place_of ys n
 place_same [] [] all n = refl
 place_same (a ∷ xs) (b ∷ ys) all n = grind (arith, place_same xs ys all.1 n, number_same)
-place_same [] (b ∷ ys) all n = absurd all
-place_same (a ∷ xs) [] all n = absurd all
+place_same xs ys all n = absurd all
 
 outlines_same : (xs ys : List AuditedDevice) → AreAlike xs ys → map outline_of xs ≡ map outline_of ys
 outlines_same [] [] all = refl
 outlines_same (a ∷ xs) (b ∷ ys) all = grind (arith, outlines_same xs ys all.1, outline_same)
-outlines_same [] (b ∷ ys) all = absurd all
-outlines_same (a ∷ xs) [] all = absurd all
+outlines_same xs ys all = absurd all
 
 dark_all : (xs ys : List AuditedDevice) → AreAlike xs ys → AreAlike (map without_power xs) (map without_power ys)
 dark_all [] [] all = tt
@@ -194,13 +187,11 @@ module _ (n : ℕ) where
   any_lent_same : (xs ys : List AuditedDevice) → AreAlike xs ys → list_any (runs_lent n) xs ≡ list_any (runs_lent n) ys
   any_lent_same [] [] all = refl
   any_lent_same (a ∷ xs) (b ∷ ys) all = grind (arith, any_lent_same xs ys all.1, lent_runs_same)
-  any_lent_same [] (b ∷ ys) all = absurd all
-  any_lent_same (a ∷ xs) [] all = absurd all
+  any_lent_same xs ys all = absurd all
 
   back_all : (xs ys : List AuditedDevice) → AreAlike xs ys → list_any (runs_lent n) xs ≡ false → AreAlike (map (given_back n) xs) (map (given_back n) ys)
   back_all [] [] all none = tt
-  back_all (a ∷ xs) (b ∷ ys) all none =
-      let each = or_parts (runs_lent n a) (list_any (runs_lent n) xs) none in (back_alike a b all.0 n each.0, back_all xs ys all.1 each.1)
+  back_all (a ∷ xs) (b ∷ ys) all none = grind (arith, back_all xs ys all.1, or_parts, back_alike)
   back_all xs ys all none = absurd all
 
 pub all_then : (xs ys zs : List AuditedDevice) → AreAlike xs ys → AreAlike ys zs → AreAlike xs zs
@@ -363,11 +354,7 @@ module _ (s u : AuditState) (all : AlikeStates s u) where
   -- Orders
 
   done_alike : (line : ReportLine) (e : EventLine) → AlikeMade (done_order s e) (done_order u e)
-  done_alike line (events.Pair x y) =
-      if_alike (x == y) (x == y) refl _ _ _ _ (passed_alike s u all)
-      (in_device s u all line y (lent_to s x) (lent_to u x) (λ a b is. lend_alike s u all line a b is x))
-  done_alike line (events.Unpair x) = unless_alike _ _ (any_lent_same x s.devices u.devices all.devices_are) _ _ (λ none. (search (arith, back_all)))
-  done_alike line e = passed_alike s u all
+  done_alike line e = grind (arith, if_alike, passed_alike, in_device, lend_alike, unless_alike, any_lent_same, back_all)
 
   order_alike : (line : ReportLine) (e : EventLine) → AlikeMade (order_made s line e) (order_made u line e)
   order_alike (lines.Order order order_answers.Done) e = done_alike (lines.Order order order_answers.Done) e

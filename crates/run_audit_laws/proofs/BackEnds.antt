@@ -1,6 +1,6 @@
 -- A SETTLE comes to its end: of at most 2,946 events the last one says that nothing is left to do, or is stopped.
 use Rattle.std.proofs.Common.{◌≡◌, ◌≤◌, ◌<◌, ℕ, zero, suc, Bool, true, false, List, [], ◌∷◌, length, Option, Some, None, is_some, refl, sym, ap, subst, ◌∙◌, arith}
-use Rattle.std.specs.Prelude.{if◌then◌else◌}
+use Rattle.std.specs.Prelude.{if◌then◌else◌, IfSome}
 use Rattle.device_outside.specs.Interaction.{Done, and_then}
 use Rattle.device_outside.specs.Told as T
 use Rattle.device_outside.specs.Told.{Told}
@@ -34,6 +34,9 @@ use Rattle.run_audit_laws.proofs.Lighter.{Lower, WorkSo}
 use Rattle.run_audit_laws.proofs.PieceEvents.{put_found}
 use Rattle.run_audit_laws.proofs.RunEnds.{device_there}
 use Rattle.run_audit_laws.proofs.Weights.{left, left_most}
+use Rattle.run_audit_laws.proofs.DeviceSizes.{Sized}
+use Rattle.run_audit_laws.proofs.StillLines.{some_device}
+use Rattle.run_audit_laws.specs.Standing.{HasDevice}
 
 abbrev GoesOn : MarksDevice → MarksDevice → Option EventEnd → Type 0
 GoesOn x y a = is_settled (told_end a) ≡ false → Lower x.store y.store
@@ -106,3 +109,8 @@ pub settle_is_over : (s : Subsystem) → AreSo Good s.mounted → (d : ℕ) (x :
     x.store.cylinders ≤ 64 → length x.store.queue ≤ 64 → SettleIsOver s d
 unfolding L.line_logged
 settle_is_over s good d x there small queued = backs_end most_backs s good d x there (omega (arith, left_most x.store small queued))
+
+pub settle_over : (s : Subsystem) → AreSo Good s.mounted → AreSo Sized s.mounted → (d : ℕ) → HasDevice s d → SettleIsOver s d
+settle_over s good sized d has =
+    some_device (device_in (devices_of s) d) has (λ x at.
+    let f = subst (λ (o : Option MarksDevice). IfSome o Sized) at (device_so Sized s.mounted d sized) in settle_is_over s good d x at f.cylinders f.short)

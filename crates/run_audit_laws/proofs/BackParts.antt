@@ -95,9 +95,7 @@ first_told t s alone None = had_then failed (λ z _ v. b_told z t (Some A) v) wh
 
 bytes_told : (s : MarksStore) (t : ℕ) → IsAlone s → Had (level_bytes by_plain s t) (λ z k. ToldDown z k)
 unfolding I.level_bytes
-bytes_told s t alone =
-    had_if (level_at s.a t) (λ _. had_read (λ r. first_told t (I.read_counted s (is_some r)) alone r))
-    (λ _. b_told s t None (λ level fails. absurd (let none : false ≡ true = fails in cc)))
+bytes_told s t alone = search (arith, had_if, had_read, first_told, b_told)
 
 -- A write that begins with side A down opens nothing
 
@@ -170,8 +168,7 @@ module _ (p : PlainState) (u : List Track) (g : Geometry) (n : ℕ) (lent : Opti
       (λ z _ e. had_done (none_said (did fault (did failed d)) z (fault_none fault (did failed d) (fault_none failed d fine)) (same_on s z e w.on)))
   saved_said t i d (Some side) was failed s Opened fine w shut = absurd (shut refl)
   saved_said t i d None was failed s Opened fine w shut = had_then (opened_core s t i OfBackground was) (λ z _ e. had_done (ap (λ (c : Core). c.half) e))
-  saved_said t i d fault was failed s Unwritten fine w shut =
-      had_done (none_said (did fault (did failed dids.Nothing)) s (fault_none fault (did failed dids.Nothing) (fault_none failed dids.Nothing tt)) w)
+  saved_said t i d fault was failed s Unwritten fine w shut = search (arith, had_done, none_said, fault_none)
 
   save_said : (s : MarksStore) (t : ℕ) (i : Image) (d : Did) (fault : Option Side) → IsNoHalf d → On s → (is_some fault ≡ true → AIsDown s) →
       Had (saved by_plain s t i d fault) WorkIs
@@ -184,10 +181,7 @@ module _ (p : PlainState) (u : List Track) (g : Geometry) (n : ℕ) (lent : Opti
 
   recovered_said : (t : ℕ) (s : MarksStore) (k : Got Bool) (b : Option Bool) → k.bytes ≡ b → On s → ToldDown s k →
       Had (recovered_bytes by_plain t s k b) WorkIs
-  recovered_said t s k None is w told = had_done (none_said (did k.fault dids.Nothing) s (fault_none k.fault dids.Nothing tt) w)
-  recovered_said t s k (Some true) is w told = had_try (save_said s t _ (dids.Recovered t) k.fault tt w (told (ap is_some is)))
-  recovered_said t s k (Some false) is w told =
-      had_try (had_done (none_said (did k.fault (dids.BadBytes k.side)) s (fault_none k.fault (dids.BadBytes k.side) tt) w))
+  recovered_said t s k b is w told = search (arith, had_done, none_said, fault_none, had_try, save_said)
 
   recover_said : (s : MarksStore) (t : ℕ) (f : Option Bool) → On s → IsAlone s → Had (recover by_plain s t f) WorkIs
   recover_said s t (Some f) w alone = save_said s t _ (dids.Recovered t) None tt w (λ fails. absurd (let none : false ≡ true = fails in cc))
@@ -208,21 +202,13 @@ module _ (p : PlainState) (u : List Track) (g : Geometry) (n : ℕ) (lent : Opti
   copy_said t side s (Some r) w = had_write (λ ok. copied_said t side (W.write_counted s ok) ok w)
 
   copies_said : (s : MarksStore) (t : ℕ) (o : Option Side) → On s → Had (copy_by by_plain s t o) WorkIs
-  copies_said s t None w = had_done (none_said dids.Nothing s tt w)
-  copies_said s t (Some side) w = had_read (λ r. copy_said t side (I.read_counted s (is_some r)) r w)
+  copies_said s t o w = search (arith, had_done, none_said, had_read, copy_said)
 
   filled_stays : (s : MarksStore) (t : ℕ) (i : Image) → On s → Had (filled by_plain s t i) (λ z (_ : Unit {0}). On z)
-  filled_stays s t i w =
-      had_if (is_some (patch_at s t)) (λ _. had_ask (λ _. had_done (same_on s (with_frame s t (Some true)) (framed_same s t (Some true)) w)))
-      (λ _. had_done (same_on s (with_frame s t (Some false)) (framed_same s t (Some false)) w))
+  filled_stays s t i w = search (arith, had_if, had_ask, had_done, same_on, framed_same)
 
   staged_said : (t : ℕ) (s : MarksStore) (k : Got Bool) (b : Option Bool) → On s → Had (staged_bytes by_plain t s k b) WorkIs
-  staged_said t s k None w = had_ask (λ _. had_done (none_said (did k.fault dids.Nothing) s (fault_none k.fault dids.Nothing tt) w))
-  staged_said t s k (Some true) w =
-      had_try (had_then (filled_stays s t (plain_at s t) w)
-      (λ z _ v. had_done (none_said (did k.fault (dids.Staged t)) z (fault_none k.fault (dids.Staged t) tt) v)))
-  staged_said t s k (Some false) w =
-      had_try (had_ask (λ _. had_done (none_said (did k.fault (dids.BadBytes k.side)) s (fault_none k.fault (dids.BadBytes k.side) tt) w)))
+  staged_said t s k b w = search (arith, had_ask, had_done, none_said, fault_none, had_try, had_then, filled_stays)
 
   stage_said : (s : MarksStore) (t : ℕ) → On s → Had (stage by_plain s t) WorkIs
   stage_said s t w =
@@ -232,16 +218,14 @@ module _ (p : PlainState) (u : List Track) (g : Geometry) (n : ℕ) (lent : Opti
       (λ _. had_done (none_said (dids.Skipped t) s tt w)))))
 
   destage_said : (s : MarksStore) (o : Option ℕ) → On s → Had (destage_first by_plain s o) WorkIs
-  destage_said s None w = had_done (none_said dids.Nothing s tt w)
-  destage_said s (Some t) w = save_said s t _ (dids.Destaged t) None tt w (λ fails. absurd (let none : false ≡ true = fails in cc))
+  destage_said s o w = search (arith, had_done, none_said, save_said)
 
   stages_said : (s : MarksStore) (q : List ℕ) → On s → Had (stage_first by_plain s q) WorkIs
   stages_said s [] w = destage_said s (to_destage by_plain s) w
   stages_said s (t ∷ ts) w = stage_said (record s { queue = ts }) t w
 
   copy_first_said : (s : MarksStore) (o : Option ℕ) → On s → Had (copy_first by_plain s o) WorkIs
-  copy_first_said s None w = stages_said s s.queue w
-  copy_first_said s (Some t) w = copies_said s t (copies_to s t) w
+  copy_first_said s o w = search (arith, stages_said, copies_said)
 
   recover_first_said : (s : MarksStore) (o : Option ℕ) → On s → IsAlone s → Had (recover_first by_plain s o) WorkIs
   recover_first_said s None w alone = copy_first_said s (to_copy s) w

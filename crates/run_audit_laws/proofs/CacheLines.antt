@@ -230,9 +230,7 @@ module _ (later : List EventLine) where
 
   last_leads : (all : List AuditedDevice) (last : Option ℕ) →
       LeadsBy (at all (due_by last)) (lines.Order orders.FailCache answers.Done ∷ []) (record { devices = all; events = later; due = Next })
-  last_leads all None = one_leads (at all Next) (record { devices = all; events = later; due = Next }) (lines.Order orders.FailCache answers.Done) refl
-  last_leads all (Some d) =
-      one_leads (at all (Losses d)) (record { devices = all; events = later; due = Next }) (lines.Order orders.FailCache answers.Done) refl
+  last_leads all last = search (arith, one_leads, devices)
 
   each_leads : (low : ℕ) (done : List AuditedDevice) (last : Option ℕ) (xs ys : List MarksDevice) → IsBelow low done → LastBelow last low →
       RisesFrom low (map (λ (d : MarksDevice). d.store.device) xs) → AllTold xs ys →
@@ -298,6 +296,4 @@ module _ (s : Subsystem) (plain : ArePlain s.mounted) (rises : RisesFrom 0 (map 
 
   pub fail_cache_leads : EventLeads s wanted.FailCache (Once events.FailCache) (happens s events.FailCache)
   unfolding H.happens E.deed
-  fail_cache_leads =
-      down_or s wanted.FailCache orders.FailCache (Once events.FailCache) fails_cache (not s.pool.cache_up)
-      (Each (cache_failed s.pool) (λ x. lose by_plain x losses.Cache)) cache_leads
+  fail_cache_leads = search (arith, down_or, fails_cache, cache_leads)

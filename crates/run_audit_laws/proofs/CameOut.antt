@@ -291,10 +291,7 @@ module _ (a : AuditedDevice) (plainly : IsPlain a.plans a.empty a.history) (acts
 
     -- acts alone
     open_acts : IsPlain a.plans a.empty (all_acted a.history acts) → AreActs (state_of a) None acts
-    open_acts behind =
-        let so : IsPlain a.plans a.empty (record a.history { running = Some (with_acts o acts) }) = rw (← (acts_run acts a.history o running)) behind in
-        let at = so.at in
-        acts_are None at.acts.last
+    open_acts behind = grind (arith, acts_run, acts_are)
 
     -- A command that ended
 
@@ -341,11 +338,7 @@ module _ (a : AuditedDevice) (plainly : IsPlain a.plans a.empty a.history) (acts
         o.ends ++ e ∷ [] ≡ (part_of s o.path ccws (o.acts ++ map (behind_ends n) acts) k).ends ++ last ∷ [] →
         (part_of s o.path ccws (o.acts ++ map (behind_ends n) acts) k).next ≡ Some last.index → IsCheck ccws last →
         HasActs s o.path ccws (o.acts ++ map (behind_ends n) acts) k → HasCheck e
-    check_at e k is last ends next check_is has =
-        let same : e ≡ last = one_end s o.path ccws o.acts n as_many is_open.runs acts e last o.ends (ends ∙ ap (λ (i : ℕ). (part_of s o.path ccws
-        (o.acts ++ map (behind_ends n) acts) i).ends ++ last ∷ []) is ∙ ap (λ (l : List CommandEnd). l ++ last ∷ [])
-        (same_ends s o.path ccws o.acts n as_many is_open.runs acts ∙ sym is_open.ends)) in
-        (search arith)
+    check_at e k is last ends next check_is has = grind (arith, one_end, as_many, same_ends)
 
     has_check : (e : CommandEnd) → IsPlain a.plans a.empty (checked (all_acted a.history acts) e) → HasCheck e
     has_check e behind =

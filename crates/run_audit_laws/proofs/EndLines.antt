@@ -115,13 +115,7 @@ module _ (xs : List AuditedDevice) (w : EventLine) (later : List EventLine) (a :
     -- As on the plain device
 
     data_lead : (l : List ℕ) → p.sent ≡ l → LeadsBy (at (behind_end p l)) (data_lines l ++ []) (at (Behind true (Ended p)))
-    data_lead [] is = refl
-    data_lead (b ∷ bytes) is = (
-      at (Behind true (Ended p)),
-      ap (λ (c : Bool). or_history (if c then Some (at (Behind true (Ended p))) else None))
-          (ap (λ (k : List ℕ). bytes_eq k (b ∷ bytes)) is ∙ same_bytes (b ∷ bytes)),
-      refl,
-    )
+    data_lead l is = search (arith, same_bytes)
 
     plain_by : (sense : Option Sense) → p.sense ≡ sense → TidyBy (ccw_at (words_of_open a o) p.index) p sense →
         LeadsBy before_work (end_told p ∷ (data_lines p.sent ++ sense_lines sense)) (at (Behind true (Ended p)))

@@ -99,11 +99,7 @@ module _ (s : AuditState) (k : ℕ) (d : MarksDevice) (rest : List Outline) (lef
 
   lost_lead : (lost : List ℕ) → d.store.lent ≡ None → LeadsBy (totalled s k) (map (lines.Lost d.store.device) lost) (totalled s k)
   lost_lead [] home = refl
-  lost_lead (t ∷ lost) home = (
-    totalled s k,
-    judged_at (totalled s k) (k + 1) (lines.Lost d.store.device t) (at_more (totalled s k) (k + 1) refl) (lost_stands t home),
-    lost_lead lost home,
-  )
+  lost_lead (t ∷ lost) home = search (arith, lost_lead lost home, judged_at, at_more, lost_stands)
 
   total_stands : (x : DeviceTotals) → is_totals_of (lines.Device d.store.device x) (outline_of (audited d)) d.store.lent ≡ true →
       in_totals (outlines s) (lines.Device d.store.device x) k ≡ true
@@ -115,13 +111,7 @@ module _ (s : AuditState) (k : ℕ) (d : MarksDevice) (rest : List Outline) (lef
     total_judged x is = judged_at s k (lines.Device d.store.device x) at (total_stands x is)
 
     by_lent : (l : Option ℕ) → d.store.lent ≡ l → LeadsBy s (device_lines (device_end_by d.store l)) (totalled s k)
-    by_lent (Some to) is = (
-      totalled s k,
-      total_judged (totals.Lent to)
-          (ap (is_totals_of (lines.Device d.store.device (totals.Lent to)) (outline_of (audited d))) is
-          ∙ and_from (d.store.device == d.store.device) (to == to) (same_number d.store.device) (same_number to)),
-      refl,
-    )
+    by_lent (Some to) is = search (arith, total_judged, and_from, same_number)
     by_lent None is = (
       totalled s k,
       total_judged (totals.Calls d.store.counts.reads d.store.counts.writes (length (lost_tracks d.store)))
@@ -143,9 +133,8 @@ devices_lead : (s : AuditState) (ms : List Mounted) (k : ℕ) → AtTotals s k �
     EndsAt s (flat_map device_lines (map device_end ms))
 devices_lead s [] k at left = record { due = s.due; leads = refl; place = k; at = at; none = left }
 devices_lead s (m ∷ ms) k at left =
-    let rest = map outline_of (map audited (devices ms)) in
-    let next = drop_next (outlines s) k (outline_of (audited m.device)) rest left in
-    let more = devices_lead (totalled s k) ms (k + 1) (at_more (totalled s k) (k + 1) refl) next in
+    let more = devices_lead (totalled s k) ms (k + 1) (at_more (totalled s k) (k + 1) refl) (drop_next (outlines s) k (outline_of (audited m.device))
+    (map outline_of (map audited (devices ms))) left) in
     (search (arith, leads_on, by_lent))
 
 -- The frames, and the last line

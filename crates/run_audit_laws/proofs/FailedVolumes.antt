@@ -75,8 +75,8 @@ module _ (xs : List AuditedDevice) (w : EventLine) (d : ℕ) (side : Side) (late
         is_of_work more (worker_number (waits a more)) line ≡ false → LeadsBy (before ys) (line ∷ ls) t → LeadsBeside (waits a more) (line ∷ ls) t
     other_leads more line ls t other leads =
         let v = waits a more in
-        let all = subst (λ (z : AuditState). AlikeStates z (before ys)) (sym (settled_so more)) (search arith) in
-        let from = leads_alike (line ∷ ls) (settled v did) (before ys) t all leads in (
+        let from = leads_alike (line ∷ ls) (settled v did) (before ys) t (subst (λ (z : AuditState). AlikeStates z (before ys)) (sym (settled_so more))
+        (search arith)) leads in (
           from.0,
           waiting_leads v from.0 line ls more did refl other (ap (λ (x : Option AuditedDevice). holds x (is_legal did))
               (worker_is xs w left n works first has a (Behind more did) k.number) ∙ k.legal) (ap (λ (z : AuditState). z.due) (settled_so more)) from.1,
@@ -161,8 +161,7 @@ module _ (xs : List AuditedDevice) (w : EventLine) (d : ℕ) (side : Side) (late
           subst (λ (c : Bool). LeadsBeside (waits a c) (lines.Loose m (loose.Harden track) ∷ ls) t) (sym so.1)
           (subst (λ (i : ℕ). LeadsBeside (waits a true) (lines.Loose i (loose.Harden track) ∷ ls) t) (sym so.0)
           (firm_leads a ys k track ls t (subst (λ (i : ℕ). LeadsBy (before ys) (lines.Loose i (loose.Harden track) ∷ ls) t) so.0 leads) rest))
-  waits_lead (lines.Order order answer ∷ ls) a ys more k t leads past =
-      other_leads a ys k more (lines.Order order answer) ls t (of_none (lines.Order order answer) refl (λ i. refl) more (worker_of w)) leads
+  waits_lead (lines.Order order answer ∷ ls) a ys more k t leads past = search (arith, other_leads, of_none)
   waits_lead (line ∷ ls) a ys more k t leads past = absurd (cc)
 
 -- Where a piece of work that waits so leads
@@ -219,35 +218,29 @@ module _ (xs : List AuditedDevice) (d : ℕ) (side : Side) (later : List EventLi
         ◌≡◌ {A = AuditState} (if b then record { devices = with_device xs (worked a did); events = rest; due = Next }
         else record { devices = with_device xs (worked a did); events = w ∷ rest; due = Next }) (record { devices = ys; events = events.FailVolume d side ∷ later; due = Next }) →
         LeadsBeside (record { devices = xs; events = w ∷ rest; due = Behind more did }) ls t
-    from_event none true over same = from_over none over (ap (λ (z : AuditState). z.events) same) (ap (λ (z : AuditState). z.devices) same)
-    from_event none false over same =
-        absurd (let never : Some n ≡ None = sym works ∙ (ap (λ (z : AuditState). then_of (first_event z.events) worker_of) same) in cc)
+    from_event none b over same = search (arith, from_over)
 
     from_work : (o : Option ReportLine) → over_by a did a.history.running ≡ o →
         settled_by (record { devices = xs; events = w ∷ rest; due = Behind more did }) a did o ≡ record { devices = ys; events = events.FailVolume d side ∷ later; due = Next } →
         LeadsBeside (record { devices = xs; events = w ∷ rest; due = Behind more did }) ls t
-    from_work None none same = from_event none (is_event_over (Some w) done did) refl same
-    from_work (Some line) is same = absurd (let never : OverOf line ≡ Next = ap (λ (z : AuditState). z.due) same in cc)
+    from_work o none same = search (arith, from_event)
 
   from_worker : (w : EventLine) (rest : List EventLine) (n : ℕ) → worker_of w ≡ Some n → (x : Option AuditedDevice) → device_in xs n ≡ x →
       holds x (is_legal did) ≡ true → settled_in (record { devices = xs; events = w ∷ rest; due = Behind more did }) did x
       ≡ record { devices = ys; events = events.FailVolume d side ∷ later; due = Next } →
       LeadsBeside (record { devices = xs; events = w ∷ rest; due = Behind more did }) ls t
-  from_worker w rest n works (Some a) has legal same = from_work w rest n works a has legal (over_by a did a.history.running) refl same
-  from_worker w rest n works None has legal same = absurd (cc)
+  from_worker w rest n works x has legal same = search (arith, from_work)
 
   from_number : (w : EventLine) (rest : List EventLine) (x : Option ℕ) → worker_of w ≡ x → holds (then_of x (device_in xs)) (is_legal did) ≡ true →
       settled_in (record { devices = xs; events = w ∷ rest; due = Behind more did }) did (then_of x (device_in xs))
       ≡ record { devices = ys; events = events.FailVolume d side ∷ later; due = Next } →
       LeadsBeside (record { devices = xs; events = w ∷ rest; due = Behind more did }) ls t
-  from_number w rest (Some n) works legal same = from_worker w rest n works (device_in xs n) refl legal same
-  from_number w rest None works legal same = absurd (cc)
+  from_number w rest x works legal same = search (arith, from_worker)
 
   from_waiting : (l : List EventLine) → holds (worker (record { devices = xs; events = l; due = Behind more did })) (is_legal did) ≡ true →
       settled (record { devices = xs; events = l; due = Behind more did }) did ≡ record { devices = ys; events = events.FailVolume d side ∷ later; due = Next } →
       LeadsBeside (record { devices = xs; events = l; due = Behind more did }) ls t
-  from_waiting (w ∷ rest) legal same = from_number w rest (worker_of w) refl legal same
-  from_waiting [] legal same = absurd (cc)
+  from_waiting l legal same = search (arith, from_number)
 
 -- Before the failure each device of the run goes on
 

@@ -110,8 +110,6 @@ module _ (reads writes : ℕ) (xs ys : List MarksDevice) where
   -- that isn't a loss of power
   event_formed : (end : EventEnd) (e : Event) → (e ≡ events.Power → ⊥) → All Formed (event_lines (Once e) end reads writes xs ys)
   event_formed end (events.Start path d) other = work_formed (did.Started path d (start_answer end)) (All-nil Formed)
-  event_formed end (events.Step d) other = grind (arith, work_formed, work_well)
-  event_formed end (events.Back d) other = grind (arith, work_formed, work_well)
   event_formed end (events.Reset path d) other = work_formed (did.Reset path d) (one (lines.Reset path d) refl)
   event_formed end events.FailCache other = work_formed (did.Ordered orders.FailCache (order_answer end)) (one (lines.Order orders.FailCache (order_answer end)) refl)
   event_formed end events.FailStore other = work_formed (did.Ordered orders.FailStore (order_answer end)) (one (lines.Order orders.FailStore (order_answer end)) refl)
@@ -122,6 +120,7 @@ module _ (reads writes : ℕ) (xs ys : List MarksDevice) where
   event_formed end (events.Suspend a) other = work_formed (did.Ordered (orders.Suspend a) (order_answer end)) (one (lines.Order (orders.Suspend a) (order_answer end)) refl)
   event_formed end (events.Resume a) other = work_formed (did.Ordered (orders.Resume a) (order_answer end)) (one (lines.Order (orders.Resume a) (order_answer end)) refl)
   event_formed end events.Power other = absurd (other refl)
+  event_formed end e other = grind (arith, work_formed, work_well)
 
   power_all : (end : EventEnd) → order_answer end ≡ order_answer ends.Done → All Formed (event_lines (Once events.Power) end reads writes xs ys)
   power_all end is =
@@ -160,20 +159,9 @@ once_formed s e = by_event e where
       let h = happens s e in event_formed h.reads h.writes (devices_of h.before) (devices_of h.behind) h.end e other
 
   by_event : (e : Event) → All Formed (lines_of (logged (Once e) (happens s e)))
-  by_event (events.Start path d) = plainly (events.Start path d) (λ is. let never : (events.Start path d) ≡ events.Power = is in cc)
-  by_event (events.Step d) = plainly (events.Step d) (λ is. let never : (events.Step d) ≡ events.Power = is in cc)
-  by_event (events.Back d) = plainly (events.Back d) (λ is. let never : (events.Back d) ≡ events.Power = is in cc)
-  by_event (events.Reset path d) = plainly (events.Reset path d) (λ is. let never : (events.Reset path d) ≡ events.Power = is in cc)
-  by_event events.FailCache = plainly events.FailCache (λ is. let never : events.FailCache ≡ events.Power = is in cc)
-  by_event events.FailStore = plainly events.FailStore (λ is. let never : events.FailStore ≡ events.Power = is in cc)
-  by_event (events.FailVolume d side) = plainly (events.FailVolume d side) (λ is. let never : (events.FailVolume d side) ≡ events.Power = is in cc)
-  by_event events.RepairCache = plainly events.RepairCache (λ is. let never : events.RepairCache ≡ events.Power = is in cc)
-  by_event events.RepairStore = plainly events.RepairStore (λ is. let never : events.RepairStore ≡ events.Power = is in cc)
-  by_event (events.Pair a b) = plainly (events.Pair a b) (λ is. let never : (events.Pair a b) ≡ events.Power = is in cc)
-  by_event (events.Suspend a) = plainly (events.Suspend a) (λ is. let never : (events.Suspend a) ≡ events.Power = is in cc)
-  by_event (events.Resume a) = plainly (events.Resume a) (λ is. let never : (events.Resume a) ≡ events.Power = is in cc)
   by_event events.Power =
       let h = happens s events.Power in power_all h.reads h.writes (devices_of h.before) (devices_of h.behind) h.end (ap order_answer (power_end s))
+  by_event e = plainly e (λ is. let never : e ≡ events.Power = is in cc)
 
 forms_go : Goes So (λ s. LineFormed) AnyEvent
 forms_go = record {

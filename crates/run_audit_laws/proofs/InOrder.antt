@@ -79,14 +79,8 @@ module _ (s : MarksStore) (t : ℕ) (ts : List ℕ) (queue : s.queue ≡ t ∷ t
 
   bytes_staged : (z : MarksStore) (g : Got Bool) → GotSo shorter z g.fault → frame_at s t ≡ None → is_lost s t ≡ false → (o : Option Bool) →
       Had (staged_bytes by_plain t z g o) (WorkSo s)
-  bytes_staged z g e bare here None = had_ask (λ _. had_done (nothing_said z g.fault))
-  bytes_staged z g e bare here (Some true) =
-      had_try (had_then {p = λ y (_ : Unit {0}). (g.fault ≡ None → Lower s y)}
-      (had_if (is_some (patch_at z t))
-      (λ patched. had_ask (λ _. had_done (λ fine. filled_lower z (got_same z g.fault e fine) bare here true patched)))
-      (λ patched. had_done (λ fine. filled_lower z (got_same z g.fault e fine) bare here false patched)))
-      (λ y _ h. had_done (staged_answer y g.fault h)))
-  bytes_staged z g e bare here (Some false) = had_try (had_ask (λ _. had_done (bad_stops s z g.fault g.side)))
+  bytes_staged z g e bare here o =
+      search (arith, had_ask, had_done, nothing_said, had_try, had_then, had_if, is_some, filled_lower, got_same, staged_answer, bad_stops)
 
   none_framed : (o : Option Bool) (lost : Bool) → (is_some o || lost) ≡ false → (o ≡ None) × (lost ≡ false)
   none_framed o lost e = grind arith

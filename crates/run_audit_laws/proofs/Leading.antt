@@ -72,8 +72,7 @@ waiting_judged s line more did is other legal = grind (arith, or_parts)
 pub waiting_leads : (s t : AuditState) (line : ReportLine) (lines : List ReportLine) (more : Bool) (did : Did) → s.due ≡ Behind more did →
     is_of_work more (worker_number s) line ≡ false → holds (worker s) (is_legal did) ≡ true → (settled s did).due ≡ Next →
     LeadsBy (settled s did) (line ∷ lines) t → LeadsBy s (line ∷ lines) t
-waiting_leads s t line lines more did is other legal next leads =
-    (leads.0, waiting_judged s line more did is other legal ∙ sym (judged_next (settled s did) line next) ∙ leads.1, leads.2)
+waiting_leads s t line lines more did is other legal next leads = search (arith, waiting_judged, judged_next)
 
 -- Lines of an event that changes no device
 

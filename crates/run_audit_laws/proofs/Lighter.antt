@@ -251,9 +251,7 @@ alone_so s t down is false = had_then (any_had (W.write_counted s false) B (Some
 
 write_so : (s : MarksStore) (t : ℕ) (r : Bool) → Had (write_first by_plain s t r) (Takes s t)
 unfolding W.write_first
-write_so s t r =
-    had_if s.a.up (λ up. had_write (λ ok. first_so s t up r ok))
-    (λ down. had_if (takes_b s) (λ is. had_write (λ ok. alone_so s t down is ok)) (λ _. had_done tt))
+write_so s t r = search (arith, had_if, had_write, first_so, alone_so, had_done)
 
 -- The write is done
 

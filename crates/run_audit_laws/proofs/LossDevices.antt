@@ -119,9 +119,7 @@ hear_keeps n s =
 told_core : (k : ℕ) (s : MarksStore) → Had (all_firm_told by_plain k s) (λ z (_ : Unit {0}). core_of z ≡ core_of s)
 unfolding L.all_firm_told
 told_core zero s = had_done refl
-told_core (suc k) s =
-    had_then {p = λ z _. core_of z ≡ core_of s} (told_core k s)
-    (λ z _ e. had_if (owed_at z k).firm (λ _. had_tell (had_done e)) (λ _. had_done e))
+told_core (suc k) s = search (arith, told_core k s, had_then, core_of, had_if, had_tell, had_done)
 
 -- an event that takes its notes first
 module _ (d : MarksDevice) (body : MarksDevice → Interaction Bool Image MarksDevice (Unit {0})) (q : MarksDevice → Type 0) where

@@ -128,12 +128,7 @@ stands_so b r u is = grind arith
 module _ (s : Subsystem) (later : List EventLine) (n : Option ℕ) (calm : BeginsCalmly later) where
   pub leads_from : (u : AuditState) → Reaches n u (stand s later) → (line : ReportLine) (lines : List ReportLine) (t : AuditState) →
       LeadsBy (stand s later) (line ∷ lines) t → LeadsBy u (line ∷ lines) t
-  leads_from u (is_there same) line lines t leads = subst (λ (z : AuditState). LeadsBy z (line ∷ lines) t) (sym same) leads
-  leads_from u (is_waiting more did is works legal same) line lines t leads =
-      let z = stand s later in
-      let so = stands_so (in_next (outlines z) line later) (or_history (next_made z line later)) leads.0 leads.1 in
-      waiting_leads u t line lines more did is (ap (λ (k : Option ℕ). is_of_work more k line) works ∙ next_is_other
-      (outlines z) later calm more n line so.0) legal (ap (λ (z : AuditState). z.due) same) (rw same leads)
+  leads_from u x2 line lines t leads = search (arith, stands_so, waiting_leads, next_is_other)
 
   -- lines of the same device's work
   pub towards_from : (u : AuditState) → Reaches n u (stand s later) → (ls : List ReportLine) (t : AuditState) →

@@ -61,17 +61,14 @@ IsDone e o = (z : AuditState) → event_made z (lines.Order o answers.Done) e �
 module _ (s : Subsystem) (e : EventLine) (o : Order) (asked : Asked) (is : IsOrder e o asked) where
   order_judged : (later : List EventLine) (answer : OrderAnswer) (t : AuditState) →
       event_made (stand s (e ∷ later)) (lines.Order o answer) e ≡ Some t → LeadsBy (stand s (e ∷ later)) (lines.Order o answer ∷ []) t
-  order_judged later answer t makes =
-      one_leads (stand s (e ∷ later)) t (lines.Order o answer)
-      (first_judged s e later (lines.Order o answer) t (is.stands (outlines (stand s (e ∷ later))) answer) makes)
+  order_judged later answer t makes = search (arith, one_leads, first_judged)
 
   -- where of the devices nothing else is told
   pub told_leads : (z : Subsystem) (end : EventEnd) (later : List EventLine) →
       work_lines (did.Ordered o (order_answer end)) 0 0 (devices_of s) (devices_of z) ≡ lines.Order o (order_answer end) ∷ [] →
       event_made (stand s (e ∷ later)) (lines.Order o (order_answer end)) e ≡ Some (stand z later) →
       LeadsBy (stand s (e ∷ later)) (event_lines asked end 0 0 (devices_of s) (devices_of z)) (stand z later)
-  told_leads z end later told makes =
-      rw (is.lines_are end 0 0 (devices_of s) (devices_of z) ∙ told) (order_judged later (order_answer end) (stand z later) makes)
+  told_leads z end later told makes = search (arith, order_judged)
 
   -- nothing was done
   pub refused_leads : (fault : OrderFault) → EventLeads s e asked (quietly s s (ends.Refused fault))
@@ -96,8 +93,7 @@ module _ (s : Subsystem) (e : EventLine) (o : Order) (asked : Asked) (is : IsOrd
   module _ (done : IsDone e o) where
     -- nothing that a device knows
     pub pool_leads : (pool : Pool) → EventLeads s e asked (quietly s (record s { pool = pool }) ends.Done)
-    pool_leads pool later =
-        told_leads (record s { pool = pool }) ends.Done later (quiet_lines (did.Ordered o answers.Done) (devices_of s)) (done (stand s (e ∷ later)))
+    pool_leads pool = search (arith, told_leads, quiet_lines)
 
     -- a device of which the audit knows the same
     pub put_leads : (n : ℕ) (m z : Mounted) → mounted_in s.mounted n ≡ Some m → z.device.history ≡ m.device.history →
@@ -117,10 +113,7 @@ module _ (s : Subsystem) (e : EventLine) (o : Order) (asked : Asked) (is : IsOrd
 
     becomes_leads : (n : ℕ) (d y : MarksDevice) → device_in (devices_of s) n ≡ Some d → y.history ≡ d.history → audited y ≡ audited d → (k : ℕ) → k ≡ n →
         EventLeads s e asked (quietly s (becomes s k (mounted_in s.mounted k) y) ends.Done)
-    becomes_leads n d y at history same k number =
-        let m = mounted_too s.mounted n d at in
-        rw (number, m.1) (put_leads n m.0 (record m.0 { device = y }) m.1 (history ∙ ap (λ (x : MarksDevice). x.history) (sym m.2)) (same ∙ ap audited
-        (sym m.2)))
+    becomes_leads n d y at history same k number = search (arith, mounted_too, put_leads)
 
     -- a device becomes another of which it knows the same, unless that is refused
     turned : (n : ℕ) (x : MarksDevice) → device_in (devices_of s) n ≡ Some x → (fault : MarksDevice → Option OrderFault) (to : MarksDevice → MarksDevice) →

@@ -64,10 +64,7 @@ module _ {F P H R : Type 0} (T : ℕ → Type 0) (n : ℕ) (c : Contents F P H R
     went_own u first t s i chain p k needs = own_done k
 
     looked_own : (chain : ChainState) (first t : ℕ) (s : Store F P H) (i : Imaged) → At s → In chain → Own T n (looked c chain first t s i) Next
-    looked_own chain first t s (Has i) k is =
-        own_tried s _ k
-        (went_own (usage_of chain) first t s i (stepped chain (Some i)).chain (stepped chain (Some i)).progress k (λ q e. comes.goes chain i q is e))
-    looked_own chain first t s i k is = own_done k
+    looked_own chain first t s i k is = search (arith, own_tried, went_own, own_done)
 
     look_own : (chain : ChainState) (first t : ℕ) (s : Store F P H) → At s → In chain → T t → Own T n (look c chain first t s) Next
     unfolding N.look
@@ -78,8 +75,7 @@ module _ {F P H R : Type 0} (T : ℕ → Type 0) (n : ℕ) (c : Contents F P H R
     further : (next : ChainState → ℕ → Store F P H → Interaction R Image (Store F P H) (Option Turn)) →
         ((chain : ChainState) (t : ℕ) (s : Store F P H) → At s → In chain → T t → Own T n (next chain t s) (λ z _. At z)) → (s : Store F P H)
         (w : Option Went) → Next s w → Own T n (had_by (goes_on c next) s w) (λ z _. At z)
-    further next more s (Some (On chain t)) x = more chain t s x.0 x.1.0 x.1.1
-    further next more s w x = own_done x
+    further next more s w x = search (arith, own_done)
 
     follow_own : (l first : ℕ) (chain : ChainState) (t : ℕ) (s : Store F P H) → At s → In chain → T t →
         Own T n (follow c l first chain t s) (λ z _. At z)
@@ -97,13 +93,11 @@ module _ {F P H R : Type 0} (T : ℕ → Type 0) (n : ℕ) (c : Contents F P H R
   out_own d path turn k = own_done (subst (λ (s : Store F P H). At s) (sym (turned_same d path turn.chain turn.came)) k)
 
   on_own : (d : Device F P H) (path : ℕ) (chain : ChainState) (s : Store F P H) (o : Option Turn) → At s → OwnEvent (on_tracks c d path chain s o)
-  on_own d path chain s (Some turn) k = out_own (with_store d s) path turn k
-  on_own d path chain s None k = own_done k
+  on_own d path chain s o k = search (arith, out_own, own_done)
 
   answered_own : (d : Device F P H) (path : ℕ) (chain : ChainState) (p : Progress) → At d.store → OwnEvent (answered_by c d path chain p)
   answered_own d path chain (progresses.Ended e) k = out_own d path (ends_with chain e) k
-  answered_own d path chain (progresses.Local act) k =
-      out_own (record d { paths = paths_behind d.paths path act }) path (settles chain (settled_act d.store.geometry d.paths path act)) k
+  answered_own d path chain (progresses.Local act) k = search (arith, out_own)
   answered_own d path chain p k = out_own d path (checks chain Equipment) k
 
   module _ (In : ChainState → Type 0) (comes : Comes T In) where

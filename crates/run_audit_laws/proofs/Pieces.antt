@@ -102,18 +102,7 @@ module _ (num : ℕ) (empty : PlainState) (x y : MarksDevice) (f : Follows num e
   -- it has tracks
   some_by : (o : OpenEntry) (before : Option ChainState) → x.history.running ≡ Some o → f.before ≡ before →
       0 < (replay x.plans (audited x).empty x.history.items).cylinders
-  some_by o (Some chain) running is =
-      let at = subst (λ (k : Option ChainState). RunsAt x.plans (replay x.plans empty x.history.items) (Some o) k) is (subst
-      (λ (r : Option OpenEntry). RunsAt x.plans (replay x.plans empty x.history.items) r f.before) running f.runs) in
-      let on = subst (ChainOf x.store.geometry x.store.cylinders) is f.chain in
-      subst (λ (e : PlainState). 0 < (replay x.plans e x.history.items).cylinders) base (omega (
-        arith,
-        f.some,
-        ap (λ (k : Fixed). k.cylinders) at.fixed
-            ∙ part_fixed o.path (program_of x.plans o.path o.ordinal) o.acts (replay x.plans empty x.history.items) (length o.ends),
-        on.1,
-      ))
-  some_by o None running is = grind arith
+  some_by o before running is = grind (arith, part_fixed)
 
   few : (o : OpenEntry) → x.history.running ≡ Some o → (e : CommandEnd) → plain_end (audited x) o ≡ Some e → e.sense ≡ Some equipment_sense → ⊥
   few o running e plain =

@@ -37,13 +37,7 @@ spares_all : (s : MarksStore) → Spares s s
 spares_all s = record { device = refl; geometry = refl; cylinders = refl; lent = refl; number = refl; loose = refl }
 
 half_spares : (s : MarksStore) (h : Option (store.HalfWrite (Unit {0}))) → Had (half_cut by_plain s h) (λ z (_ : Unit {0}). Spares s z)
-half_spares s (Some h) = by_origin h.origin where
-  by_origin : (o : Origin) → Had (origin_cut by_plain s h o) (λ z (_ : Unit {0}). Spares s z)
-  by_origin (OfCommand bypass e) =
-      had_tell (had_done (record { device = refl; geometry = refl; cylinders = refl; lent = refl; number = refl; loose = refl }))
-  by_origin (OfCut bypass) = had_done (spares_all s)
-  by_origin OfBackground = had_done (spares_all s)
-half_spares s None = had_done (spares_all s)
+half_spares s h = search (arith, had_tell, had_done, spares_all)
 
 -- All frames go, and data of cache fast write where there are some
 

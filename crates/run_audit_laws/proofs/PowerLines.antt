@@ -126,11 +126,7 @@ module _ (later : List EventLine) where
 
     ends_lead : LeadsBy (at ((front ++ mid) ++ []) (due_at last)) (lines.Order orders.Power answers.Done ∷ [])
         (record { devices = map without_power (front ++ mid) ++ []; events = later; due = Next })
-    ends_lead =
-        let line = lines.Order orders.Power answers.Done in
-        let t : AuditState = record { devices = map without_power ((front ++ mid) ++ []); events = later; due = Next } in
-        rw (← (ap (map without_power) (append-nil (front ++ mid)) ∙ sym (append-nil (map without_power (front ++ mid))))) (one_leads (at
-        ((front ++ mid) ++ []) (due_at last)) t line (judged_so line [] t refl refl))
+    ends_lead = search (arith, devices, append-nil, one_leads, judged_so)
 
     -- A device at hand
 

@@ -131,9 +131,8 @@ module _ (num : ℕ) (empty : PlainState) (x y : MarksDevice) (f : Follows num e
 
   ended_in : (e : CommandEnd) (now : History) → HasEnded x.history e now → y.history ≡ now → EndIn e
   ended_in e now (ended_so acts) same =
-      let none = none_lost x.history y.history acts (ap acts_in same ∙ ended_acts (all_acted x.history acts) e ∙ all_acts acts x.history) kept in
-      let so = ends_so (audited x) (plainly num empty x y f base g) o running e acts none (plain_here now same) in
-      plain_here_in e (ends_plain (audited x) o e acts so)
+      plain_here_in e (ends_plain (audited x) o e acts (ends_so (audited x) (plainly num empty x y f base g) o running e acts
+      (none_lost x.history y.history acts (ap acts_in same ∙ ended_acts (all_acted x.history acts) e ∙ all_acts acts x.history) kept) (plain_here now same)))
   ended_in e now (checked_so acts) same =
       let so = checks_so (audited x) (plainly num empty x y f base g) acts o running e (plain_here now same) in
       subst EndIn (sym so.is_so)
@@ -149,8 +148,7 @@ module _ (x : MarksDevice) (p : Plainly x) (words : (path ordinal : ℕ) → Goo
       AnswerIn (end_with ends.Stepped answer)
   command_so_in o running y (Some (stepped.Ended e)) c =
       ended_in p.number p.empty x y p.follows p.base c.follows o running c.kept c.left words e y.history c.told refl
-  command_so_in o running y (Some (stepped.Half t)) c = tt
-  command_so_in o running y None c = tt
+  command_so_in o running y answer c = tt
 
   pub command_in : (o : OpenEntry) → x.history.running ≡ Some o → x.store.half ≡ None →
       Had (may_end_by ends.Stepped (command by_plain x)) (λ y end. IfSome end EventIn)

@@ -230,22 +230,7 @@ module _ (reads writes : ℕ) (few : IsLong reads × IsLong writes) (xs ys : Lis
       All IsLine (event_lines asked end reads writes xs ys)
   event_known end asked n a w = by_asked asked (told_names xs before end asked n a w) where
     by_asked : (asked : Asked) → HasNames (told xs end asked) → All IsLine (event_lines asked end reads writes xs ys)
-    by_asked (Once (events.Start path d)) h = work_known (told xs end (Once (events.Start path d))) h
-    by_asked (Once (events.Step d)) h = work_known (told xs end (Once (events.Step d))) h
-    by_asked (Once (events.Back d)) h = work_known (told xs end (Once (events.Back d))) h
-    by_asked (Once (events.Reset path d)) h = work_known (told xs end (Once (events.Reset path d))) h
-    by_asked (Once events.FailCache) h = work_known (told xs end (Once events.FailCache)) h
-    by_asked (Once events.FailStore) h = work_known (told xs end (Once events.FailStore)) h
-    by_asked (Once (events.FailVolume d side)) h = work_known (told xs end (Once (events.FailVolume d side))) h
-    by_asked (Once events.RepairCache) h = work_known (told xs end (Once events.RepairCache)) h
-    by_asked (Once events.RepairStore) h = work_known (told xs end (Once events.RepairStore)) h
-    by_asked (Once (events.Pair a b)) h = work_known (told xs end (Once (events.Pair a b))) h
-    by_asked (Once (events.Suspend a)) h = work_known (told xs end (Once (events.Suspend a))) h
-    by_asked (Once (events.Resume a)) h = work_known (told xs end (Once (events.Resume a))) h
     by_asked (Once events.Power) h =
         All-append IsLine (of_each power_lines xs ys) (lines.Order orders.Power (order_answer end) ∷ []) (each_known power_lines power_known xs ys before behind)
         (one (lines.Order orders.Power (order_answer end)) h)
-    by_asked (Replace d side) h = work_known (told xs end (Replace d side)) h
-    by_asked (Unpair a) h = work_known (told xs end (Unpair a)) h
-    by_asked (Run d) h = work_known (told xs end (Run d)) h
-    by_asked (Settle d) h = work_known (told xs end (Settle d)) h
+    by_asked asked h = work_known (told xs end asked) h

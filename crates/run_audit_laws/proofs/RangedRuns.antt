@@ -194,8 +194,7 @@ all_known (t ∷ ts) r f n m a w =
 owner_in : (d : MarksDevice) → Sized d → Plainly d → IfSome d.paths.owner IsOwner
 owner_in d s p =
     let none = subst KeepsBytes (sym p.base) (empty_keeps d.store.geometry d.store.cylinders) in
-    subst (λ (x : PathsState). IfSome x.owner IsOwner) (sym p.follows.keeps)
-    (history_keeps d.plans (λ path ordinal. (s.words path ordinal).gives) p.empty d.history p.follows.stands.plain none).paths.named.owner
+    rw p.follows.keeps (history_keeps d.plans (λ path ordinal. (s.words path ordinal).gives) p.empty d.history p.follows.stands.plain none).paths.named.owner
 
 record Fit (d : MarksDevice) : Type 0 where
   sized : Sized d
@@ -219,8 +218,7 @@ both_so d f p = record {
 
 all_so : (ms : List Mounted) → AreSo Plainly ms → AreSo Sized ms → AreSo Good ms → All Ranged (map (λ (m : Mounted). m.device) ms)
 all_so [] p s g = All-nil Ranged
-all_so (m ∷ ms) p s g =
-    All-cons Ranged m.device (map (λ (x : Mounted). x.device) ms) (both_so m.device (fits m.device s.0 g.0) p.0) (all_so ms p.1 s.1 g.1)
+all_so (m ∷ ms) p s g = grind (arith, all_so ms p.1 s.1 g.1, both_so, fits)
 
 -- The end
 
@@ -229,21 +227,10 @@ Under n t = t < n
 
 more_track : (f : ℕ → Bool) (a n : ℕ) → All (Under (a + n)) (where_true f (range_with_len a n))
 more_track f a zero = All-nil (Under (a + zero))
-more_track f a (suc n) = by_test (f a) (later (where_true f (range_with_len (a + 1) n)) (more_track f (a + 1) n)) where
-  later : (ts : List ℕ) → All (Under ((a + 1) + n)) ts → All (Under (a + suc n)) ts
-  later [] all = All-nil (Under (a + suc n))
-  later (t ∷ ts) all =
-      let less : t < (a + 1) + n = All-head (Under ((a + 1) + n)) t ts all in
-      All-cons (Under (a + suc n)) t ts (omega (arith, less)) (later ts (All-tail (Under ((a + 1) + n)) t ts all))
-
-  by_test : (b : Bool) → All (Under (a + suc n)) (where_true f (range_with_len (a + 1) n)) →
-      All (Under (a + suc n)) (if b then a ∷ where_true f (range_with_len (a + 1) n) else where_true f (range_with_len (a + 1) n))
-  by_test true rest = All-cons (Under (a + suc n)) a (where_true f (range_with_len (a + 1) n)) (omega arith) rest
-  by_test false rest = rest
+more_track f a (suc n) = grind (arith, more_track f (a + 1) n)
 
 few_if : (b : Bool) (t k : ℕ) (l : List ℕ) → length l ≤ k → length (if b then t ∷ l else l) ≤ suc k
-few_if true t k l few = omega (arith, few)
-few_if false t k l few = omega (arith, few)
+few_if b t k l few = grind arith
 
 few_true : (f : ℕ → Bool) (a n : ℕ) → length (where_true f (range_with_len a n)) ≤ n
 few_true f a zero = omega arith
@@ -252,9 +239,8 @@ few_true f a (suc n) = few_if (f a) a n (where_true f (range_with_len (a + 1) n)
 lost_known : (d : ℕ) → IsDevice d → (k : ℕ) → k ≤ 64 → (ts : List ℕ) → All (Under (0 + k * 15)) ts → All IsLine (map (lines.Lost d) ts)
 lost_known d n k most [] all = All-nil IsLine
 lost_known d n k most (t ∷ ts) all =
-    let less : t < 0 + k * 15 = All-head (Under (0 + k * 15)) t ts all in
-    All-cons IsLine (lines.Lost d t) (map (lines.Lost d) ts) (n, omega (arith, most, less))
-    (lost_known d n k most ts (All-tail (Under (0 + k * 15)) t ts all))
+    All-cons IsLine (lines.Lost d t) (map (lines.Lost d) ts) (n, omega (arith, most, All-head (Under (0 + k * 15)) t ts all)) (lost_known d n k most ts
+    (All-tail (Under (0 + k * 15)) t ts all))
 
 module _ (s : MarksStore) (number : IsDevice s.device) (small : s.cylinders ≤ 64) (reads : s.counts.reads ≤ 1033065725952)
     (writes : s.counts.writes ≤ 1033065725952) where
@@ -262,11 +248,7 @@ module _ (s : MarksStore) (number : IsDevice s.device) (small : s.cylinders ≤ 
   few_lost = let few = few_true (is_lost s) 0 (s.cylinders * 15) in omega (arith, few, small)
 
   end_known : (o : Option ℕ) → IfSome o IsDevice → All IsLine (device_lines (device_end_by s o))
-  end_known (Some to) lent = one (lines.Device s.device (totals.Lent to)) (number, lent)
-  end_known None lent =
-      All-cons IsLine (lines.Device s.device (totals.Calls s.counts.reads s.counts.writes (length (lost_tracks s)))) (map (lines.Lost s.device) (lost_tracks s))
-      (number, (omega (arith, reads), omega (arith, writes), few_lost))
-      (lost_known s.device number s.cylinders small (lost_tracks s) (more_track (is_lost s) 0 (s.cylinders * 15)))
+  end_known o lent = grind (arith, one, few_lost, lost_known, more_track)
 
 abbrev FewReads : MarksDevice → Type 0
 FewReads d = d.store.counts.reads ≤ 1033065725952
@@ -287,15 +269,7 @@ ends_known (m ∷ ms) s r w =
 -- a declared device is one that is mounted
 declared_device : (ms : List Mounted) → AreSo Sized ms → (n : ℕ) → is_declared (map outline_of (map audited (mounted_devices ms))) n ≡ true → IsDevice n
 declared_device [] s n is = absurd (cc)
-declared_device (m ∷ ms) s n is = by_test (m.device.store.device == n) refl is (declared_device ms s.1 n) where
-  rest : List Outline
-  rest = map outline_of (map audited (mounted_devices ms))
-
-  by_test : (b : Bool) → (m.device.store.device == n) ≡ b →
-      holds (if b then Some (outline_of (audited m.device)) else outline_in rest n) (λ (a : Outline). true) ≡ true →
-      (is_declared rest n ≡ true → IsDevice n) → IsDevice n
-  by_test true same is more = subst IsDevice (eqb-true m.device.store.device n same) s.0.device
-  by_test false other is more = more is
+declared_device (m ∷ ms) s n is = grind (arith, declared_device ms s.1 n, eqb-true)
 
 module _ (s : Subsystem) (sized : AreSo Sized s.mounted) where
   abbrev IsDeclared : Frame → Type 0

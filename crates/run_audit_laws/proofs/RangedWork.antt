@@ -83,12 +83,10 @@ done_in b t lt = grind arith
 
 command_ended_in : (d : MarksDevice) (t : ℕ) (o : Option OpenEntry) (c : Option ChainState) (done : Bool) → IsTrack t →
     Had (command_ended by_plain d t o c done) (λ y a. SecondIn a)
-command_ended_in d t (Some o) (Some chain) done lt = had_done (told_in t (second_turn by_plain chain done).came lt)
-command_ended_in d t o c done lt = had_done lt
+command_ended_in d t o c done lt = search (arith, had_done, told_in)
 
 second_ended_in : (d : MarksDevice) (t : ℕ) (origin : Origin) (done : Bool) → IsTrack t → Had (second_ended by_plain d t origin done) (λ y a. SecondIn a)
-second_ended_in d t (OfCommand bypass e) done lt = command_ended_in d t d.history.running d.chain done lt
-second_ended_in d t origin done lt = had_done (done_in done t lt)
+second_ended_in d t origin done lt = search (arith, command_ended_in, had_done, done_in)
 
 second_of_in : (d : MarksDevice) (o : Option (HalfWrite (Unit {0}))) → IfSome o (λ h. IsTrack h.track) → Had (second_of by_plain d o) (λ y a. SecondIn a)
 second_of_in d (Some h) lt = had_then (any_had (second_part by_plain d.store h)) (λ s done _. second_ended_in (with_store d s) h.track h.origin done lt)
@@ -167,8 +165,7 @@ command_at_in d w path chain on None is = had_try (answered_in d path (stepped c
 
 command_by_in : (d : MarksDevice) → WorksOn d → (o : Option OpenEntry) (c : Option ChainState) → IfSome c (IsWithin (tracks_of d.store)) →
     Had (command_by by_plain d o c) (λ y a. MayStepIn a)
-command_by_in d w (Some o) (Some chain) on = had_if (has_loss o.acts) (λ _. had_done tt) (λ _. command_at_in d w o.path chain on (need_of chain) refl)
-command_by_in d w o c on = had_done tt
+command_by_in d w o c on = search (arith, had_if, had_done, command_at_in)
 
 pub command_in : (d : MarksDevice) → WorksOn d → Had (command by_plain d) (λ y a. MayStepIn a)
 unfolding N.command

@@ -44,20 +44,10 @@ same_cut s is = record { number = refl; geometry = refl; cylinders = refl; lent 
 module _ (s : MarksStore) where
   by_origin : (h : store.HalfWrite (Unit {0})) → s.half ≡ Some h → (o : Origin) → h.origin ≡ o →
       Always (origin_cut by_plain s h o) (λ z (_ : Unit {0}). IsCutOf s z)
-  by_origin h kept (OfCommand bypass e) is =
-      always_tell (λ r. always_done (record {
-        number = refl;
-        geometry = refl;
-        cylinders = refl;
-        lent = refl;
-        half_is = sym (ap (λ (k : Option (store.HalfWrite (Unit {0}))). cut_half (half_by k)) kept ∙ ap (λ (k : Origin). cut_half (half_of k)) is);
-      }))
-  by_origin h kept o is =
-      always_done (same_cut s (ap (λ (k : Option (store.HalfWrite (Unit {0}))). cut_half (half_by k)) kept ∙ ap (λ (k : Origin). cut_half (half_of k)) is ∙ sym (ap half_by kept ∙ ap half_of is)))
+  by_origin h kept o is = search (arith, always_tell, always_done, same_cut)
 
   by_half : (h : Option (store.HalfWrite (Unit {0}))) → s.half ≡ h → Always (half_cut by_plain s h) (λ z (_ : Unit {0}). IsCutOf s z)
-  by_half (Some h) kept = by_origin h kept h.origin refl
-  by_half None whole = always_done (same_cut s (ap (λ (k : Option (store.HalfWrite (Unit {0}))). cut_half (half_by k)) whole ∙ sym (ap half_by whole)))
+  by_half h kept = search (arith, by_origin, always_done, same_cut)
 
 abbrev pub reset_half : MarksDevice → ℕ → Option OpenEntry → HalfWrite
 reset_half x path (Some o) = if o.path == path then cut_half (half_by x.store.half) else half_by x.store.half

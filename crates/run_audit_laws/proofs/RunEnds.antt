@@ -181,18 +181,10 @@ module _ (x : MarksDevice) (p : Plainly x) (k : ℕ) where
           ended_enough k o y (ended_more x.history end o runs told) s.parts.half_is
           (subst (λ (h : HalfWrite). Enough (suc k) (Some o) h) half_is
           (subst (λ (r : Option OpenEntry). Enough (suc k) r (half_by x.store.half)) runs enough))
-  second_by w is (OfCut bypass) from y (seconds.Finished t) s told enough =
-      acted_enough k x y told s.parts.half_is x.history.running refl
-      (subst (λ (h : HalfWrite). Enough (suc k) x.history.running h) (ap half_by is ∙ ap half_of from) enough)
-  second_by w is (OfCut bypass) from y (seconds.Unwritten t) s told enough =
-      acted_enough k x y told s.parts.half_is x.history.running refl
-      (subst (λ (h : HalfWrite). Enough (suc k) x.history.running h) (ap half_by is ∙ ap half_of from) enough)
-  second_by w is OfBackground from y (seconds.Finished t) s told enough =
-      acted_enough k x y told s.parts.half_is x.history.running refl
-      (subst (λ (h : HalfWrite). Enough (suc k) x.history.running h) (ap half_by is ∙ ap half_of from) enough)
-  second_by w is OfBackground from y (seconds.Unwritten t) s told enough =
-      acted_enough k x y told s.parts.half_is x.history.running refl
-      (subst (λ (h : HalfWrite). Enough (suc k) x.history.running h) (ap half_by is ∙ ap half_of from) enough)
+  second_by w is (OfCut bypass) from y (seconds.Finished t) s told enough = grind (arith, acted_enough)
+  second_by w is (OfCut bypass) from y (seconds.Unwritten t) s told enough = grind (arith, acted_enough)
+  second_by w is OfBackground from y (seconds.Finished t) s told enough = grind (arith, acted_enough)
+  second_by w is OfBackground from y (seconds.Unwritten t) s told enough = grind (arith, acted_enough)
   second_by w is origin from y a s told enough = absurd s.told
 
   second_goes : (w : store.HalfWrite (Unit {0})) → x.store.half ≡ Some w → Enough (suc k) x.history.running (half_by x.store.half) → (t : Told) →

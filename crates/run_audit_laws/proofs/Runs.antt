@@ -26,7 +26,7 @@ use Rattle.subsystem_laws.proofs.PlainRuns.{ArePlain}
 use Rattle.run_audit_laws.specs.Runs.{LineDoes, LineGoes, WholeLeads, behind_lines, line_behind}
 use Rattle.run_audit_laws.specs.Standing.{FramesAreDeclared, HasDevice, LeadsBy, LineLeads, audited, stand}
 use Rattle.run_audit_laws.specs.Steps.{Reaches, is_there}
-use Rattle.run_audit_laws.proofs.SettleEnds.{settle_over}
+use Rattle.run_audit_laws.proofs.BackEnds.{settle_over}
 use Rattle.run_audit_laws.proofs.Endings.{ending_leads}
 use Rattle.run_audit_laws.proofs.AlikeDevices.{alike_self}
 use Rattle.run_audit_laws.proofs.AlikeLines.{AlikeStates, AreAlike, leads_alike, second_self, states_then}
@@ -182,7 +182,7 @@ module _ (s : Subsystem) (numbers : List ℕ) (k : IsBehind numbers s) where
   line_does (events.Step d) has = step_goes_on s k.plain d has
   line_does (events.Run d) has = run_goes_on s k.plain d has (run_is_over s k.plain d has)
   line_does (events.Back d) has = back_goes_on s k.plain k.good d has
-  line_does (events.Settle d) has = settle_goes_on s k.plain k.good d has (settle_over s k.good k.fits d has)
+  line_does (events.Settle d) has = settle_goes_on s k.plain k.good d has (settle_over s k.good k.sized d has)
   line_does (events.FailVolume d side) has = ordered_leads numbers s k (events.FailVolume d side) has
   line_does (events.Start path d) has = still_leads s k.plain (events.Start path d) has
   line_does (events.Reset path d) has = still_leads s k.plain (events.Reset path d) has

@@ -134,18 +134,11 @@ module _ (num : ℕ) (empty : PlainState) (x : MarksDevice) (f : Follows num emp
         FollowSo (plain_of x.plans empty x.history) x.store.plain x.store.geometry x.store.cylinders (None, (x.store.lent, x.store.device))
         (settled_act chain.fixed.geometry x.paths o.path) chain (on num empty x f o running chain is).0 t (tracks_of s) chain t y a →
         Had (on_tracks by_plain (record (event_begun x) { store = s }) o.path chain y a) (λ z b. HalfLeft z b)
-    by_turn t y None w = absurd w
-    by_turn t y (Some turn) w = had_done (turned_left (with_store started y) o.path turn.chain turn.came (turn_half t _ turn (core_of y) w))
+    by_turn t y a w = search (arith, had_done, turned_left, turn_half, core_of)
 
     -- or at none
     answered_left : (c : ChainState) (k : Progress) → Had (answered_by by_plain (record (event_begun x) { store = s }) o.path c k) (λ z b. HalfLeft z b)
-    answered_left c (progresses.Ended end) =
-        had_done (turned_left started o.path c (came.Ends end) first_half)
-    answered_left c (progresses.Local act) =
-        let w : MarksDevice = record (record (event_begun x) { store = s }) { paths = paths_behind x.paths o.path act } in
-        let turn = settles c (settled_act s.geometry x.paths o.path act) in
-        had_done (turned_left w o.path turn.chain turn.came first_half)
-    answered_left c k = let turn = checks c Equipment in had_done (turned_left started o.path turn.chain turn.came first_half)
+    answered_left c k = search (arith, had_done, turned_left)
 
     by_need : (k : Option ℕ) → need_of chain ≡ k → Had (command_at by_plain (record (event_begun x) { store = s }) o.path chain k) (λ z b. HalfLeft z b)
     by_need (Some t) needs =
@@ -159,16 +152,10 @@ module _ (num : ℕ) (empty : PlainState) (x : MarksDevice) (f : Follows num emp
     by_need None needs = had_try (answered_left (stepped chain None).chain (stepped chain None).progress)
 
     begun_left : Had (command_by by_plain (record (event_begun x) { store = s }) (Some o) (Some chain)) (λ z b. HalfLeft z b)
-    begun_left =
-        let turn = checks chain Equipment in
-        had_if (has_loss o.acts)
-        (λ _. had_done (turned_left started o.path turn.chain turn.came first_half))
-        (λ _. by_need (need_of chain) refl)
+    begun_left = search (arith, had_if, had_done, turned_left, first_half, by_need)
 
     command_by_left : Had (command_by by_plain (record (event_begun x) { store = s }) x.history.running x.chain) (λ z b. HalfLeft z b)
-    command_by_left =
-        subst (λ (r : Option OpenEntry). Had (command_by by_plain (record (event_begun x) { store = s }) r x.chain) (λ z b. HalfLeft z b)) (sym running)
-        (rw now begun_left)
+    command_by_left = search (arith, begun_left)
 
 -- An event: its notes, its work, its end
 
@@ -191,8 +178,7 @@ module _ (num : ℕ) (empty : PlainState) (x : MarksDevice) (f : Follows num emp
   by_chain : (o : OpenEntry) → x.history.running ≡ Some o → x.store.half ≡ None → (k : Option ChainState) → f.before ≡ k →
       Had (command by_plain x) (λ y a. HalfLeft y a)
   unfolding N.command
-  by_chain o running whole None is =
-      absurd (subst (λ (k : Option ChainState). RunsAt x.plans (replay x.plans empty x.history.items) (Some o) k) is (rw (← running) f.runs))
+  by_chain o running whole None is = search arith
   by_chain o running whole (Some chain) is =
       let now = none_mid (core_of x.store) x.store.half x.history.running f.before x.chain whole f.mid ∙ is in
       had_try (event_leaves x HalfLeft (half_ended x) (λ z. command_by by_plain z z.history.running z.chain)

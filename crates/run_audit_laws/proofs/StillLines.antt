@@ -63,10 +63,7 @@ module _ (s : Subsystem) (plain : ArePlain s.mounted) where
       (λ x at. once (wanted.Reset path d) (events.Reset path d) refl (reset_leads s plain path d x at))
   still_leads wanted.RepairCache has = once wanted.RepairCache events.RepairCache refl (repair_cache_leads s)
   still_leads wanted.RepairStore has = once wanted.RepairStore events.RepairStore refl (repair_store_leads s)
-  still_leads (wanted.Replace d side) has =
-      some_device (device_in (devices_of s) d) has
-      (λ x at. one_line s (wanted.Replace d side) (Replace d side) (replaced s d side unfailing) refl (replace_logged s d side) (replaced_before s d side)
-      (replace_leads s d x at side))
+  still_leads (wanted.Replace d side) has = grind (arith, some_device, one_line, replace_logged, replaced_before, replace_leads)
   still_leads (wanted.Suspend d) has =
       some_device (device_in (devices_of s) d) has (λ x at. once (wanted.Suspend d) (events.Suspend d) refl (suspend_leads s d x at))
   still_leads (wanted.Resume d) has =

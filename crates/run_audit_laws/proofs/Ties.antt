@@ -27,6 +27,7 @@ use Rattle.std.proofs.lemmas.Bool.{eq-eqb, eqb-false, eqb-true, ne_eqb}
 use Rattle.std.proofs.lemmas.List.Elements.{All-head}
 use Rattle.ckd_types.specs.declared.paths.Side.{Side}
 use Rattle.ckd_types.specs.declared.paths.Side.TheVariants as sides
+use Rattle.loss_model.specs.declared.Loss.{Loss}
 use Rattle.loss_model.specs.declared.Loss.TheVariants as losses
 use Rattle.deck_text.specs.declared.line.DeviceLine.{DeviceLine}
 use Rattle.deck_text.specs.DeckLines.{DeckLines}
@@ -182,38 +183,15 @@ paired_tied ns ts a b x y o u here free single there home alone number lent none
   here_still = tie_other b y number a far ts ∙ here
 
   counts : (k : ℕ) → lent_count k (put_tie a x (put_tie b y ts)) ≡ lent_count k ts + one_if (a == k)
-  counts k =
-      let one = lent_put a x own k (put_tie b y ts) o here_still in
-      let two = lent_put b y number k ts u there in
-      let c1 : one_if (is_lent_to o.lent k) ≡ 0 = ap (λ (l : Option ℕ). one_if (is_lent_to l k)) free in
-      let c2 : one_if (is_lent_to x.lent k) ≡ 0 = ap (λ (l : Option ℕ). one_if (is_lent_to l k)) held in
-      let c3 : one_if (is_lent_to u.lent k) ≡ 0 = ap (λ (l : Option ℕ). one_if (is_lent_to l k)) home in
-      let c4 : one_if (is_lent_to y.lent k) ≡ one_if (a == k) = ap (λ (l : Option ℕ). one_if (is_lent_to l k)) lent in
-      omega (arith, one, two, c1, c2, c3, c4)
+  counts k = grind (arith, lent_put a x own k (put_tie b y ts) o here_still, lent_put b y number k ts u there)
+
+  by_other : (k : ℕ) → pair_count k (put_tie b y ts) ≡ pair_count k ts
+  by_other k = grind (arith, eqb-true b k, pair_here b y number ts u there, pair_at b ts u there, pair_other b y number k)
 
   by_test : (k : ℕ) (c : Bool) → (a == k) ≡ c → lent_count k (put_tie a x (put_tie b y ts)) ≤ pair_count k (put_tie a x (put_tie b y ts))
-  by_test k true is = subst (λ (i : ℕ). lent_count i (put_tie a x (put_tie b y ts)) ≤ pair_count i (put_tie a x (put_tie b y ts))) (eqb-true a k is)
-      (
-      let many = counts a in
-      let before = t.single a in
-      let none_before : pair_count a ts ≡ 0 = pair_at a ts o here ∙ ap one_if single in
-      let now : pair_count a (put_tie a x (put_tie b y ts)) ≡ 1 = pair_here a x own (put_tie b y ts) o here_still ∙ ap one_if pair in
-      let one : one_if (a == a) ≡ 1 = ap one_if (eq-eqb a a refl) in
-      omega (arith, many, before, none_before, now, one)
-      )
-  by_test k false is =
-      let many = counts k in
-      let before = t.single k in
-      let apart : one_if (a == k) ≡ 0 = ap one_if is in
-      let now : pair_count k (put_tie a x (put_tie b y ts)) ≡ pair_count k (put_tie b y ts) = pair_other a x own k is (put_tie b y ts) in
-      let still : pair_count k (put_tie b y ts) ≡ pair_count k ts = by_other (b == k) refl in
-      omega (arith, many, before, apart, now, still)
-    where
-      by_other : (c : Bool) → (b == k) ≡ c → pair_count k (put_tie b y ts) ≡ pair_count k ts
-      by_other true same =
-          subst (λ (i : ℕ). pair_count i (put_tie b y ts) ≡ pair_count i ts) (eqb-true b k same)
-          (pair_here b y number ts u there ∙ ap one_if none ∙ sym (pair_at b ts u there ∙ ap one_if alone))
-      by_other false other = pair_other b y number k other ts
+  by_test k true is =
+      grind (arith, eqb-true a k is, counts k, t.single k, pair_at a ts o here, pair_here a x own (put_tie b y ts) o here_still)
+  by_test k false is = grind (arith, counts k, t.single k, pair_other a x own k is (put_tie b y ts), by_other k)
 
 -- A pair parts: the first device that was lent to it comes back
 
@@ -294,44 +272,14 @@ module _ (d : MarksDevice) where
   abbrev q : Facts → Type 0
   q = IsPaired d.store.paired
 
-  command_tie : (t : Told) → tie (T.hold true (command by_plain d) t).state ≡ tie d
-  command_tie t =
-      kept_tie d (command by_plain d) (kept d.store) refl refl (command_based by_plain d) (command_leaves by_plain q (pair_bears d.store.paired) d refl) t
+  abbrev IsTied : {A : Type 0} → Talk A → Type 0
+  IsTied talk = (t : Told) → tie (T.hold true talk t).state ≡ tie d
 
-  second_tie : (t : Told) → tie (T.hold true (second by_plain d) t).state ≡ tie d
-  second_tie t =
-      kept_tie d (second by_plain d) (kept d.store) refl refl (second_based by_plain d) (second_leaves by_plain q (pair_bears d.store.paired) d refl) t
+  its_tie : {X : Type 0} (talk : Talk X) → Based base_in Any (kept d.store) talk → Always talk (λ y (_ : X). q (facts_of y.store)) → IsTied talk
+  its_tie talk based pair = kept_tie d talk (kept d.store) refl refl based pair
 
-  background_tie : (t : Told) → tie (T.hold true (background by_plain d) t).state ≡ tie d
-  background_tie t =
-      kept_tie d (background by_plain d) (kept d.store) refl refl (background_based by_plain d)
-      (background_leaves by_plain q (pair_bears d.store.paired) d refl) t
-
-  reset_tie : (path : ℕ) (t : Told) → tie (T.hold true (reset by_plain d path) t).state ≡ tie d
-  reset_tie path t =
-      kept_tie d (reset by_plain d path) (kept d.store) refl refl (based_any (reset_body by_plain d path))
-      (reset_leaves by_plain q (pair_bears d.store.paired) d path refl) t
-
-  cache_tie : (t : Told) → tie (T.hold true (lose by_plain d losses.Cache) t).state ≡ tie d
-  cache_tie t =
-      kept_tie d (lose by_plain d losses.Cache) (with_one_loss losses.Cache (kept d.store)) refl refl (lose_based by_plain d losses.Cache)
-      (lose_leaves by_plain q (pair_bears d.store.paired) d losses.Cache refl (λ x is. is)) t
-
-  store_tie : (t : Told) → tie (T.hold true (lose by_plain d losses.Store) t).state ≡ tie d
-  store_tie t =
-      kept_tie d (lose by_plain d losses.Store) (with_one_loss losses.Store (kept d.store)) refl refl (lose_based by_plain d losses.Store)
-      (lose_leaves by_plain q (pair_bears d.store.paired) d losses.Store refl (λ x is. is)) t
-
-  side_tie : (side : Side) (t : Told) → tie (T.hold true (lose by_plain d (losses.Side side)) t).state ≡ tie d
-  side_tie side t =
-      kept_tie d (lose by_plain d (losses.Side side)) (with_one_loss (losses.Side side) (kept d.store)) refl refl
-      (lose_based by_plain d (losses.Side side))
-      (lose_leaves by_plain q (pair_bears d.store.paired) d (losses.Side side) refl (λ x is. fallen_pair d.store.paired x side is)) t
-
-  power_tie : (t : Told) → tie (T.hold true (power by_plain d) t).state ≡ tie d
-  power_tie t =
-      kept_tie d (power by_plain d) (with_one_loss losses.Cache (kept d.store)) refl refl (power_based by_plain d)
-      (power_leaves by_plain q (pair_bears d.store.paired) d refl) t
+  lost_tie : (loss : Loss) → Always (lose by_plain d loss) (λ y (_ : Unit {0}). q (facts_of y.store)) → IsTied (lose by_plain d loss)
+  lost_tie loss pair = kept_tie d (lose by_plain d loss) (with_one_loss loss (kept d.store)) refl refl (lose_based by_plain d loss) pair
 
   start_tie : (path : ℕ) → tie (start d path) ≡ tie d
   unfolding S.start
@@ -474,14 +422,35 @@ ties_keep : (s : Subsystem) → IsDeedwise s (KeepsTies s)
 ties_keep s = record {
   ended = λ end. tt;
   started = λ d x path fault. becomes_so s d (start d path) x (start_tie d path);
-  seconded = λ d x h is. (seat_of s d x, answered d (second by_plain d) (λ a. Some (ends.Second a)) (second_tie d));
-  commanded = λ d x whole o running. (seat_of s d x, answered d (command by_plain d) (end_of ends.Stepped) (command_tie d));
-  worked = λ d x whole. (seat_of s d x, answered d (background by_plain d) (end_of ends.Back) (background_tie d));
-  cut = λ d x path. (seat_of s d x, answered d (reset by_plain d path) (λ a. Some (ends_done a)) (reset_tie d path));
-  lost_cache = λ d t. cache_tie d t;
-  lost_store = λ d t. store_tie d t;
-  lost_side = λ d x side fault. (seat_of s d x, answered d (lose by_plain d (losses.Side side)) (λ a. Some (ends_done a)) (side_tie d side));
-  lost_power = λ d t. power_tie d t;
+  seconded = λ d x h is. (
+    seat_of s d x,
+    answered d (second by_plain d) (λ a. Some (ends.Second a))
+        (its_tie d (second by_plain d) (second_based by_plain d) (second_leaves by_plain (q d) (pair_bears d.store.paired) d refl)),
+  );
+  commanded = λ d x whole o running. (
+    seat_of s d x,
+    answered d (command by_plain d) (end_of ends.Stepped)
+        (its_tie d (command by_plain d) (command_based by_plain d) (command_leaves by_plain (q d) (pair_bears d.store.paired) d refl)),
+  );
+  worked = λ d x whole. (
+    seat_of s d x,
+    answered d (background by_plain d) (end_of ends.Back)
+        (its_tie d (background by_plain d) (background_based by_plain d) (background_leaves by_plain (q d) (pair_bears d.store.paired) d refl)),
+  );
+  cut = λ d x path. (
+    seat_of s d x,
+    answered d (reset by_plain d path) (λ a. Some (ends_done a))
+        (its_tie d (reset by_plain d path) (based_any (reset_body by_plain d path)) (reset_leaves by_plain (q d) (pair_bears d.store.paired) d path refl)),
+  );
+  lost_cache = λ d. lost_tie d losses.Cache (lose_leaves by_plain (q d) (pair_bears d.store.paired) d losses.Cache refl (λ x is. is));
+  lost_store = λ d. lost_tie d losses.Store (lose_leaves by_plain (q d) (pair_bears d.store.paired) d losses.Store refl (λ x is. is));
+  lost_side = λ d x side fault. (
+    seat_of s d x,
+    answered d (lose by_plain d (losses.Side side)) (λ a. Some (ends_done a)) (lost_tie d (losses.Side side)
+        (lose_leaves by_plain (q d) (pair_bears d.store.paired) d (losses.Side side) refl (λ x is. fallen_pair d.store.paired x side is))),
+  );
+  lost_power = λ d. kept_tie d (power by_plain d) (with_one_loss losses.Cache (kept d.store)) refl refl (power_based by_plain d)
+      (power_leaves by_plain (q d) (pair_bears d.store.paired) d refl);
   repaired_cache = tt;
   repaired_store = tt;
   lent = λ x y z w fault. (fault, z, w);

@@ -56,7 +56,8 @@ use Rattle.run_audit_laws.proofs.NextLines.{towards_then}
 use Rattle.run_audit_laws.proofs.PieceEvents.{PieceGoes, back_goes, back_piece, run_idle_leads, run_step_goes, settle_piece, step_line_goes}
 use Rattle.run_audit_laws.proofs.Pieces.{by_back, by_settle}
 use Rattle.run_audit_laws.proofs.RunEnds.{run_is_over, device_there}
-use Rattle.run_audit_laws.proofs.SettleEnds.{fits_behind, settle_over}
+use Rattle.run_audit_laws.proofs.BackEnds.{settle_over}
+use Rattle.run_audit_laws.proofs.DeviceSizes.{sized_behind}
 use Rattle.run_audit_laws.proofs.StillLines.{some_device}
 use Rattle.run_audit_laws.proofs.WorkEnds.{left_by}
 use Rattle.run_audit_laws.proofs.Behind.{good_behind}
@@ -331,7 +332,7 @@ back_line_leads text deck read d has =
 
 pub settles_end : (text : List ℕ) (deck : DeckLines) → parsed text ≡ Ok deck → (d : ℕ) → HasDevice (run_of deck).behind d → SettleIsOver (run_of deck).behind d
 settles_end text deck read d has =
-    settle_over (run_of deck).behind (good_behind deck (read_served text deck read)) (fits_behind text deck read) d has
+    settle_over (run_of deck).behind (good_behind deck (read_served text deck read)) (sized_behind text deck read) d has
 
 pub settle_line_leads : (text : List ℕ) (deck : DeckLines) → parsed text ≡ Ok deck → (d : ℕ) → HasDevice (run_of deck).behind d →
     LineGoes (run_of deck).behind (wanted.Settle d)
