@@ -1,5 +1,5 @@
 -- What is told of devices to which only acts came, or nothing, or an empty volume.
-use Rattle.std.proofs.Common.{◌≡◌, ◌⊎◌, ◌++◌, ℕ, Bool, true, false, List, [], ◌∷◌, map, Option, Some, None, length, refl, sym, ap, ◌∙◌, append_assoc, inl, inr}
+use Rattle.std.proofs.Common.{arith, ◌≡◌, ◌⊎◌, ◌++◌, ℕ, Bool, true, false, List, [], ◌∷◌, map, Option, Some, None, length, refl, sym, ap, ◌∙◌, append_assoc, inl, inr}
 use Rattle.std.proofs.lemmas.List.{append-nil, map-append}
 use Rattle.plain_defs.specs.declared.journal.Act.{Act}
 use Rattle.plain_defs.specs.declared.journal.Act.TheVariants.{Loosen, Harden, CfwLost}
@@ -52,25 +52,14 @@ module _ (x y : MarksDevice) (acts : List Act) (is : y.history ≡ all_acted x.h
   n = x.store.device
 
   items_are : new_items x.history y.history ≡ map (λ (a : Act). items.Act a) (act_items acts x.history).acts
-  items_are =
-      ap (λ (h : History). new_items x.history h) is
-      ∙ ap (λ (l : List Item). behind_first (length x.history.items) l) (act_items acts x.history).are
-      ∙ behind_more x.history.items (map (λ (a : Act). items.Act a) (act_items acts x.history).acts)
+  items_are = grind (arith, act_items, behind_more)
 
   pub acts_over : over_lines x y ≡ []
-  acts_over =
-      ap (λ (l : List Item). program_over_lines (over_of x.store.device l)) items_are
-      ∙ ap program_over_lines (no_over x.store.device (act_items acts x.history).acts)
+  acts_over = grind (arith, items_are, no_over, act_items)
 
   -- each act is told
   pub acts_told : loose_lines x y ≡ map loosed_line (map (loosed x.store.device) (map (told_act x.store y.store) acts))
-  acts_told =
-      ap (λ (b : Bool). map loosed_line (map (loosed x.store.device)
-      (map (told_act x.store y.store) (new_acts x.history y.history) ++ power_told x.store y.store b)))
-      (ap has_power items_are ∙ acts_no_power (act_items acts x.history).acts)
-      ∙ ap (λ (l : List Act). map loosed_line (map (loosed x.store.device) (map (told_act x.store y.store) l ++ [])))
-      (ap (λ (h : History). new_acts x.history h) is ∙ acts_come x.history acts)
-      ∙ ap (λ (l : List _). map loosed_line (map (loosed x.store.device) l)) (append-nil (map (told_act x.store y.store) acts))
+  acts_told = grind (arith, items_are, acts_no_power, act_items, acts_come, append-nil)
 
   pub acts_lines : NoLoss acts → loose_lines x y ≡ map (act_line x.store.device) acts
   acts_lines none = acts_told ∙ each acts none where
@@ -87,20 +76,11 @@ abbrev pub Silent : History → History → Type 0
 Silent h k = (k ≡ h) ⊎ (k ≡ emptied h)
 
 fresh_acts : (h : History) → acts_in (emptied h) ≡ acts_in h
-fresh_acts h =
-    ap (λ (l : List Act). l ++ acts_running h.running) (acts_both h.items (items.Fresh ∷ []) ∙ append-nil (acts_of_items h.items))
+fresh_acts h = grind (arith, acts_both, append-nil)
 
 silent_items : (h k : History) → Silent h k → (xs : List Item) × (new_items h k ≡ xs) × (has_power xs ≡ false) × ((n : ℕ) → over_of n xs ≡ None)
     × (acts_in k ≡ acts_in h)
-silent_items h k (inl same) =
-    ([], ap (λ (z : History). new_items h z) same ∙ none_behind h.items, refl, (λ n. refl), ap acts_in same)
-silent_items h k (inr fresh) = (
-  items.Fresh ∷ [],
-  ap (λ (z : History). new_items h z) fresh ∙ behind_more h.items (items.Fresh ∷ []),
-  refl,
-  (λ n. refl),
-  ap acts_in fresh ∙ fresh_acts h,
-)
+silent_items h k x3 = grind (arith, none_behind, behind_more, fresh_acts)
 
 silent_loose : (x y : MarksDevice) → Silent x.history y.history → loose_lines x y ≡ []
 silent_loose x y so = let s = silent_items x.history y.history so in none_loose x y s.0 s.1 s.2 s.4
@@ -123,13 +103,9 @@ all_same [] = tt
 all_same (h ∷ hs) = (inl refl, all_same hs)
 
 pub nothing_loose : (xs ys : List MarksDevice) → AllSilent (map history_of xs) (map history_of ys) → of_each loose_lines xs ys ≡ []
-nothing_loose [] ys so = refl
-nothing_loose (x ∷ xs) [] so = refl
-nothing_loose (x ∷ xs) (y ∷ ys) so =
-    ap (λ (l : List ReportLine). l ++ of_each loose_lines xs ys) (silent_loose x y so.0) ∙ nothing_loose xs ys so.1
+nothing_loose (x ∷ xs) (y ∷ ys) so = grind (arith, nothing_loose xs ys so.1, silent_loose)
+nothing_loose xs ys so = refl
 
 pub nothing_over : (xs ys : List MarksDevice) → AllSilent (map history_of xs) (map history_of ys) → of_each over_lines xs ys ≡ []
-nothing_over [] ys so = refl
-nothing_over (x ∷ xs) [] so = refl
-nothing_over (x ∷ xs) (y ∷ ys) so =
-    ap (λ (l : List ReportLine). l ++ of_each over_lines xs ys) (silent_over x y so.0) ∙ nothing_over xs ys so.1
+nothing_over (x ∷ xs) (y ∷ ys) so = grind (arith, nothing_over xs ys so.1, silent_over)
+nothing_over xs ys so = refl

@@ -1,5 +1,5 @@
 -- Devices of an audit that differ at most in behind which ends of commands the acts of a program stand: every line finds both the same.
-use Rattle.std.proofs.Common.{◌≡◌, ◌+◌, ◌/◌, ◌%◌, ◌==◌, ◌++◌, ℕ, Bool, true, false, List, [], ◌∷◌, map, length, Option, Some, None, cond, refl, sym, ap, subst, ◌∙◌, if◌then◌else◌}
+use Rattle.std.proofs.Common.{arith, ◌≡◌, ◌+◌, ◌/◌, ◌%◌, ◌==◌, ◌++◌, ℕ, Bool, true, false, List, [], ◌∷◌, map, length, Option, Some, None, cond, refl, sym, ap, subst, ◌∙◌, if◌then◌else◌}
 use Rattle.std.specs.Prelude.{option_map, count_by, fold, nat_le, nat_lt, ◌||◌, ◌&&◌, not}
 use Rattle.std.specs.List.{list_any}
 use Rattle.ckd_types.specs.declared.channel.Ccw.{Ccw}
@@ -78,43 +78,32 @@ program_in None = None
 
 module _ (plans : Plans) (s : PlainState) where
   pub state_is : (r : Option OpenEntry) → state_by plans s r ≡ state_in s (option_map (going_of plans s) r)
-  state_is (Some o) = refl
-  state_is None = refl
+  state_is r = grind arith
 
   program_is : (r : Option OpenEntry) → open_program r ≡ program_in (option_map (going_of plans s) r)
-  program_is (Some o) = refl
-  program_is None = refl
+  program_is r = grind arith
 
 path_bare : (path : ℕ) (item : Item) → is_of_path path item ≡ is_of_path path (bare item)
-path_bare path (items.Program e) = refl
-path_bare path (items.Reset p) = refl
-path_bare path items.Fresh = refl
-path_bare path (items.Act act) = refl
-path_bare path items.Power = refl
+path_bare path item = grind arith
 
 abbrev one_more : ℕ → ℕ → Item → ℕ
 one_more path n item = n + cond (is_of_path path item) 1 0
 
 count_bare : (path : ℕ) (l : List Item) (n : ℕ) → fold (one_more path) n l ≡ fold (one_more path) n (map bare l)
 count_bare path [] n = refl
-count_bare path (item ∷ l) n =
-    count_bare path l (one_more path n item) ∙ ap (λ (b : Bool). fold (one_more path) (n + cond b 1 0) (map bare l)) (path_bare path item)
+count_bare path (item ∷ l) n = grind (arith, count_bare path l, path_bare)
 
 end_untold : (path : ℕ) (ccws : List Ccw) (p : Part) (next : Option ℕ) → plain_end_at path ccws p next ≡ plain_end_at path ccws (untold p) next
-end_untold path ccws p (Some i) = refl
-end_untold path ccws p None = refl
+end_untold path ccws p next = grind arith
 
 edit_untold : (path : ℕ) (ccws : List Ccw) (p : Part) (next : Option ℕ) → edit_at path ccws p next ≡ edit_at path ccws (untold p) next
-edit_untold path ccws p (Some i) = refl
-edit_untold path ccws p None = refl
+edit_untold path ccws p next = grind arith
 
 legal_untold : (p : Part) (e : Option TrackEdit) → is_edit_legal p e ≡ is_edit_legal (untold p) e
-legal_untold p (Some e) = refl
-legal_untold p None = refl
+legal_untold p e = grind arith
 
 loosens_untold : (p : Part) (e : Option TrackEdit) (t : ℕ) → loosens p e t ≡ loosens (untold p) e t
-loosens_untold p (Some e) t = refl
-loosens_untold p None t = refl
+loosens_untold p e t = grind arith
 
 abbrev pub words_in : Plans → Going → List Ccw
 words_in plans g = program_of plans g.path g.ordinal
@@ -139,8 +128,7 @@ module _ (a : AuditedDevice) (o : OpenEntry) where
 
   loosens_in : (t : ℕ) → loosens (part_of_open a o) (edit_of a o) t ≡ loosens (untold (part_of_open a o))
       (edit_in a.plans (going_of a.plans (replay a.plans a.empty a.history.items) o)) t
-  loosens_in t =
-      loosens_untold (part_of_open a o) (edit_of a o) t ∙ ap (λ (e : Option TrackEdit). loosens (untold (part_of_open a o)) e t) edit_is
+  loosens_in t = grind (arith, loosens_untold, untold, edit_is)
 
 abbrev pub legal_by : Plans → Option Going → Bool
 legal_by plans (Some g) = is_edit_legal g.part (edit_in plans g)
@@ -148,8 +136,7 @@ legal_by plans None = true
 
 pub legal_is : (a : AuditedDevice) (r : Option OpenEntry) →
     is_next_legal a r ≡ legal_by a.plans (option_map (going_of a.plans (replay a.plans a.empty a.history.items)) r)
-legal_is a (Some o) = legal_in a o
-legal_is a None = refl
+legal_is a r = grind (arith, legal_in)
 
 any_same : (f h : ℕ → Bool) → ((n : ℕ) → f n ≡ h n) → (l : List ℕ) → list_any f l ≡ list_any h l
 any_same f h same [] = refl
@@ -177,9 +164,7 @@ module _ (a b : AuditedDevice) (is : Alike a b) where
   lent_same = ap (λ (x : Seen). x.lent) is.same
 
   pub state_same : state_of a ≡ state_of b
-  state_same =
-      state_is a.plans first a.history.running ∙ ap (λ (x : Seen). state_in x.past.state x.past.running) is.same
-      ∙ sym (state_is b.plans second b.history.running)
+  state_same = grind (arith, state_is)
 
   pub loose_same : has_loose a ≡ has_loose b
   loose_same = ap (λ (s : PlainState). nat_lt 0 (length s.loose)) state_same
@@ -188,23 +173,10 @@ module _ (a b : AuditedDevice) (is : Alike a b) where
   pub both : (P : Option OpenEntry → Option OpenEntry → Type 0) → P None None → ((o p : OpenEntry) → a.history.running ≡ Some o →
       b.history.running ≡ Some p → going_of a.plans (replay a.plans a.empty a.history.items) o
       ≡ going_of b.plans (replay b.plans b.empty b.history.items) p → P (Some o) (Some p)) → P a.history.running b.history.running
-  both P none some = by_cases a.history.running b.history.running refl refl (ap (λ (x : Seen). x.past.running) is.same) where
-    by_cases : (r q : Option OpenEntry) → a.history.running ≡ r → b.history.running ≡ q →
-        option_map (going_of a.plans (replay a.plans a.empty a.history.items)) r ≡ option_map (going_of b.plans (replay b.plans b.empty b.history.items)) q →
-        P r q
-    by_cases None None one two same = none
-    by_cases (Some o) (Some p) one two same = some o p one two (cc)
-    by_cases None (Some p) one two same = absurd (cc)
-    by_cases (Some o) None one two same = absurd (cc)
+  both P none some = grind arith
 
   pub outline_same : outline_of a ≡ outline_of b
-  outline_same =
-      ap (λ (r : Option OpenProgram). record { number = a.number; running = r; half = a.half; lent = a.lent; loose = has_loose a })
-      (program_is a.plans first a.history.running)
-      ∙ ap (λ (l : Bool). record { number = a.number; running = program_in (seen a).past.running; half = a.half; lent = a.lent; loose = l }) loose_same
-      ∙ ap (λ (x : Seen). record { number = x.number; running = program_in x.past.running; half = x.half; lent = x.lent; loose = has_loose b }) is.same
-      ∙ sym (ap (λ (r : Option OpenProgram). record { number = b.number; running = r; half = b.half; lent = b.lent; loose = has_loose b })
-      (program_is b.plans second b.history.running))
+  outline_same = grind (arith, program_is)
 
   pub runs_same : runs a.history.running ≡ runs b.history.running
   runs_same = both (λ r q. runs r ≡ runs q) refl (λ o p one two going. refl)
@@ -213,17 +185,10 @@ module _ (a b : AuditedDevice) (is : Alike a b) where
   idle_same = ap (λ (r : Bool). not r && is_closed a.half) runs_same ∙ ap (λ (h : HalfWrite). not (runs b.history.running) && is_closed h) half_same
 
   pub loss_same : loss_line a ≡ loss_line b
-  loss_same =
-      ap (λ (n : ℕ). lines.Loose n (loose.Lost (length (state_of a).loose)
-      (next_number (state_of a).number / 256 ∷ next_number (state_of a).number % 256 ∷ []))) number_same
-      ∙ ap (λ (s : PlainState). lines.Loose b.number (loose.Lost (length s.loose) (next_number s.number / 256 ∷ next_number s.number % 256 ∷ [])))
-      state_same
+  loss_same = grind (arith, number_same, state_same)
 
   pub event_over_same : (e : Option EventLine) (did : Did) → is_event_over e a did ≡ is_event_over e b did
-  event_over_same (Some (events.Run d)) did = idle_same
-  event_over_same (Some (events.Settle d)) (Worked last) = refl
-  event_over_same (Some (events.Settle d)) did = refl
-  event_over_same e did = refl
+  event_over_same e did = grind (arith, idle_same)
 
   -- START
 
@@ -245,8 +210,7 @@ module _ (a b : AuditedDevice) (is : Alike a b) where
       ∙ ap (λ (l : Plans). has_left b path && is_admitted (state_of b).paths path (program_of l path (next_ordinal b path))) plans_same
 
   held_same : (o : Option Owner) → held_answer a o ≡ held_answer b o
-  held_same (Some owner) =
-      ap (λ (m : Bool). if m then start.Reserved owner else start.Shut owner) (any_same (may_start a) (may_start b) may_same four_paths)
+  held_same (Some owner) = ap (λ (m : Bool). if m then start.Reserved owner else start.Shut owner) (any_same (may_start a) (may_start b) may_same four_paths)
   held_same None = refl
 
   free_same : (path : ℕ) → free_answer a path ≡ free_answer b path
@@ -265,21 +229,16 @@ module _ (a b : AuditedDevice) (is : Alike a b) where
       else w) (held_same (state_of a).paths.owner ∙ ap (λ (s : PlainState). held_answer b s.paths.owner) state_same)
 
   running_same : (path : ℕ) → running_answer a path a.history.running ≡ running_answer b path b.history.running
-  running_same path =
-      both (λ r q. running_answer a path r ≡ running_answer b path q) (free_same path) (λ o p one two going. ap (λ (g : Going). start.Busy g.path) going)
+  running_same path = grind (arith, both, free_same)
 
   lent_by : (path : ℕ) (l : Option ℕ) → lent_answer a path l ≡ lent_answer b path l
-  lent_by path (Some of) = refl
-  lent_by path None = running_same path
+  lent_by path l = grind (arith, running_same)
 
   pub own_same : (path : ℕ) → own_runs a.history.running path ≡ own_runs b.history.running path
   own_same path = both (λ r q. own_runs r path ≡ own_runs q path) refl (λ o p one two going. ap (λ (g : Going). g.path == path) going)
 
   pub start_same : (path : ℕ) → start_answer a path ≡ start_answer b path
-  start_same path =
-      ap (λ (o : Bool). if o then start.Running else lent_answer a path a.lent) (own_same path)
-      ∙ ap (λ (w : StartAnswer). if own_runs b.history.running path then start.Running else w)
-      (lent_by path a.lent ∙ ap (lent_answer b path) lent_same)
+  start_same path = grind (arith, own_same, lent_by, lent_same)
 
   -- The next command
 
@@ -289,119 +248,69 @@ module _ (a b : AuditedDevice) (is : Alike a b) where
     words_same = ap (λ (l : Plans). program_of l o.path o.ordinal) plans_same ∙ ap (words_in b.plans) going
 
     pub end_same : plain_end a o ≡ plain_end b p
-    end_same =
-        end_in a o ∙ ap (λ (l : List Ccw). plain_end_at o.path l (untold (part_of_open a o)) (part_of_open a o).next) words_same
-        ∙ ap (λ (g : Going). plain_end_at g.path (words_of_open b p) g.part g.part.next) going ∙ sym (end_in b p)
+    end_same = grind (arith, end_in, untold, words_same)
 
     loosens_so : (t : ℕ) → loosens (part_of_open a o) (edit_of a o) t ≡ loosens (part_of_open b p) (edit_of b p) t
-    loosens_so t =
-        loosens_in a o t
-        ∙ ap (λ (l : Plans). loosens (untold (part_of_open a o)) (edit_in l (going_of a.plans first o)) t) plans_same
-        ∙ ap (λ (g : Going). loosens g.part (edit_in b.plans g) t) going ∙ sym (loosens_in b p t)
+    loosens_so t = grind (arith, loosens_in, untold, going_of, plans_same)
 
   pub next_legal_same : is_next_legal a a.history.running ≡ is_next_legal b b.history.running
-  next_legal_same =
-      legal_is a a.history.running ∙ ap (λ (x : Seen). legal_by x.plans x.past.running) is.same ∙ sym (legal_is b b.history.running)
+  next_legal_same = grind (arith, legal_is)
 
   pub may_loosen_same : (t : ℕ) → may_loosen a a.history.running t ≡ may_loosen b b.history.running t
   may_loosen_same t = both (λ r q. may_loosen a r t ≡ may_loosen b q t) refl (λ o p one two going. loosens_so o p going t)
 
   pub legal_same : (did : Did) → is_legal did a ≡ is_legal did b
-  legal_same (Ended e) = next_legal_same
-  legal_same (CheckEnded e) = refl
-  legal_same Halved = refl
-  legal_same (Worked last) = refl
+  legal_same did = grind (arith, next_legal_same)
 
   over_line_same : (how : HowOver) (o p : OpenEntry) → going_of a.plans (replay a.plans a.empty a.history.items) o
       ≡ going_of b.plans (replay b.plans b.empty b.history.items) p → over_line a o how ≡ over_line b p how
-  over_line_same how o p going =
-      ap (λ (n : ℕ). lines.Over o.path n o.ordinal how) number_same ∙ ap (λ (g : Going). lines.Over g.path b.number g.ordinal how) going
+  over_line_same how o p going = grind (arith, number_same)
 
   pub over_same : (did : Did) → over_by a did a.history.running ≡ over_by b did b.history.running
-  over_same (Ended e) = both (λ r q. over_by a (Ended e) r ≡ over_by b (Ended e) q) refl
-      (λ o p one two going. ap (λ (l : ReportLine). if e.over then Some l else None) (over_line_same Full o p going))
-  over_same (CheckEnded e) = both (λ r q. over_by a (CheckEnded e) r ≡ over_by b (CheckEnded e) q) refl
-      (λ o p one two going. ap (λ (l : ReportLine). Some l) (over_line_same Checked o p going))
-  over_same Halved = refl
-  over_same (Worked last) = refl
+  over_same did = grind (arith, both, over_line_same)
 
   -- What lines make of both
 
   -- another history, and another half write
   pub with_alike : (f : History → History) (go : Plans → Past → Past) → IsRead f go → (h k : HalfWrite) → h ≡ k →
       Alike (record a { history = f a.history; half = h }) (record b { history = f b.history; half = k })
-  with_alike f go r h k half_is = record {
-    same = ap (λ (x : Past). record (seen a) { past = x; half = h }) (r.past a.plans a.empty a.history is.tidy)
-        ∙ ap (λ (x : Seen). record x { past = go x.plans x.past; half = h }) is.same
-        ∙ ap (λ (y : HalfWrite). record (seen b) { past = go b.plans (seen b).past; half = y }) half_is
-        ∙ sym (ap (λ (x : Past). record (seen b) { past = x; half = k }) (r.past b.plans b.empty b.history is.tidy_too));
-    tidy = r.tidy a.history is.tidy;
-    tidy_too = r.tidy b.history is.tidy_too;
-  }
+  with_alike f go r h k half_is = search arith
 
   pub history_alike : (f : History → History) (go : Plans → Past → Past) → IsRead f go →
       Alike (record a { history = f a.history }) (record b { history = f b.history })
   history_alike f go r = with_alike f go r a.half b.half half_same
 
   pub half_alike : (h k : HalfWrite) → h ≡ k → Alike (record a { half = h }) (record b { half = k })
-  half_alike h k half_is = record {
-    same = ap (λ (x : Seen). record x { half = h }) is.same ∙ ap (λ (y : HalfWrite). record (seen b) { half = y }) half_is;
-    tidy = is.tidy;
-    tidy_too = is.tidy_too;
-  }
+  half_alike h k half_is = search arith
 
   pub lent_alike : (l : Option ℕ) → Alike (record a { lent = l }) (record b { lent = l })
   lent_alike l = record { same = ap (λ (x : Seen). record x { lent = l }) is.same; tidy = is.tidy; tidy_too = is.tidy_too }
 
   pub start_alike : (path : ℕ) (answer : StartAnswer) → Alike (after_start a path answer) (after_start b path answer)
-  start_alike path (start.Accepted n) = history_alike (λ h. started h path n) _ (start_is_read path n)
-  start_alike path (start.Busy p) = is
-  start_alike path start.Done = is
-  start_alike path start.Running = is
-  start_alike path (start.Secondary of) = is
-  start_alike path (start.Reserved owner) = is
-  start_alike path (start.Shut owner) = is
+  start_alike path answer = grind (arith, history_alike, start_is_read)
 
   pub worked_alike : (did : Did) → Alike (worked a did) (worked b did)
   worked_alike (Ended e) = history_alike (λ h. _) _ (end_is_read e)
   worked_alike (CheckEnded e) = history_alike (λ h. _) _ (check_is_read e)
-  worked_alike Halved = is
-  worked_alike (Worked last) = is
+  worked_alike did = is
 
   pub dark_alike : Alike (without_power a) (without_power b)
   dark_alike = with_alike (λ h. _) _ power_is_read _ _ refl
 
   pub lent_runs_same : (n : ℕ) → runs_lent n a ≡ runs_lent n b
-  lent_runs_same n =
-      ap (λ (l : Option ℕ). is_lent_to n l && runs a.history.running) lent_same ∙ ap (λ (r : Bool). is_lent_to n b.lent && r) runs_same
+  lent_runs_same n = grind (arith, lent_same, runs_same)
 
   none_runs : (r : Option OpenEntry) → runs r ≡ false → r ≡ None
-  none_runs (Some o) is = absurd (cc)
-  none_runs None is = refl
+  none_runs r is = grind arith
 
   empty_alike : runs a.history.running ≡ false →
       Alike (record a { history = emptied a.history; lent = None }) (record b { history = emptied b.history; lent = None })
-  empty_alike idle =
-      let one = none_runs a.history.running idle in
-      let two = none_runs b.history.running (sym runs_same ∙ idle) in
-      record {
-        same = ap (λ (x : Past). record (seen a) { past = x; lent = None }) (emptied_alike a.plans a.empty a.history one)
-            ∙ ap (λ (x : Seen). record x {
-              past = record x.past { state = replay_item x.plans x.past.state items.Fresh; items = x.past.items ++ items.Fresh ∷ [] };
-              lent = None;
-            }) is.same
-            ∙ sym (ap (λ (x : Past). record (seen b) { past = x; lent = None }) (emptied_alike b.plans b.empty b.history two));
-        tidy = is.tidy;
-        tidy_too = is.tidy_too;
-      }
+  empty_alike idle = search (arith, none_runs, runs_same, emptied_alike)
 
   back_by : (l : Bool) → (l && runs a.history.running) ≡ false →
       Alike (if l then record a { history = emptied a.history; lent = None } else a) (if l then record b { history = emptied b.history; lent = None } else b)
-  back_by true idle = empty_alike idle
-  back_by false idle = is
+  back_by l idle = grind (arith, empty_alike)
 
   -- a device that comes back empty runs no program
   pub back_alike : (n : ℕ) → runs_lent n a ≡ false → Alike (given_back n a) (given_back n b)
-  back_alike n idle =
-      subst (λ (l : Bool). Alike (given_back n a) (if l then record b { history = emptied b.history; lent = None } else b)) (ap (λ (l : Option ℕ). is_lent_to n l) lent_same)
-      (back_by (is_lent_to n a.lent) idle)
+  back_alike n idle = grind (arith, lent_same, back_by)

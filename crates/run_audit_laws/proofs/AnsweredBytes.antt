@@ -27,66 +27,41 @@ pub record PathsKeep (p : PathsState) : Type 0 where
   pub senses : All SenseIn p.senses
 
 pub sensed_keeps : (p : PathsState) (path : ℕ) (o : Option Sense) → IfSome o SenseIn → PathsKeep p → PathsKeep (with_sense p path o)
-sensed_keeps p path o h k = record {
-  named = record { states = k.named.states; owner = k.named.owner };
-  senses = sense_kept p path o k.senses h;
-}
+sensed_keeps p path o h k = search (arith, sense_kept)
 
 -- The state of a path
 
 member_few : (state : PathState) → member_bits state ≤ 192
-member_few Reset = omega arith
-member_few Ungrouped = omega arith
-member_few (Grouped id multipath) = omega arith
+member_few state = grind arith
 
 reserved_few : (o : Option Owner) (here : Owner) → reserved_bits o here ≤ 48
-reserved_few None here = omega arith
-reserved_few (Some holder) here = by_test (is_same_owner holder here) where
-  by_test : (b : Bool) → (if b then 0x30 else 0x20) ≤ 48
-  by_test true = omega arith
-  by_test false = omega arith
+reserved_few o here = grind arith
 
 mode_few : (state : PathState) → mode_bit state ≤ 8
-mode_few (Grouped id true) = omega arith
-mode_few (Grouped id false) = omega arith
-mode_few Reset = omega arith
-mode_few Ungrouped = omega arith
+mode_few state = grind arith
 
 all_few : (a b c : ℕ) → a ≤ 192 → b ≤ 48 → c ≤ 8 → a + b + c < 256
 all_few a b c h k l = omega (arith, h, k, l)
 
 name_are : (state : PathState) → Named state → All IsByte (group_id_bytes state)
-name_are (Grouped id multipath) n = are_bytes id.bytes n.each
-name_are Reset n = All-replicate IsByte 11 0 (omega arith)
-name_are Ungrouped n = All-replicate IsByte 11 0 (omega arith)
+name_are state n = grind (arith, are_bytes)
 
 group_are : (state : PathState) → Named state → (path : ℕ) (owner : Option Owner) → All IsByte (group_bytes state path owner)
-group_are state n path owner =
-    All-cons IsByte (state_byte state path owner) (group_id_bytes state)
-    (all_few (member_bits state) (reserved_bits owner (owner_by state path)) (mode_bit state) (member_few state)
-    (reserved_few owner (owner_by state path)) (mode_few state)) (name_are state n)
+group_are state n path owner = grind (arith, all_few, member_few, reserved_few, mode_few, name_are)
 
 -- Acts
 
 identity_are : (g : Geometry) → All IsByte (sense_id_bytes g)
-identity_are D3390 =
-    All-from_recursion IsByte (sense_id_bytes D3390)
-    (omega arith, (omega arith, (omega arith, (omega arith, (omega arith, (omega arith, (omega arith, tt)))))))
-identity_are D3380 =
-    All-from_recursion IsByte (sense_id_bytes D3380)
-    (omega arith, (omega arith, (omega arith, (omega arith, (omega arith, (omega arith, (omega arith, tt)))))))
+identity_are g = grind arith
 
 module _ (g : Geometry) (p : PathsState) (path : ℕ) (k : PathsKeep p) where
   sense_are : All IsByte (sense_for p path).bytes
   sense_are = are_bytes (sense_for p path).bytes (at_or SenseIn zero_sense zero_in p.senses (path - 1) k.senses).each
 
   pub act_sends : (s : Stance) (c : Ccw) (act : LocalAct) → All IsByte (act_outcome s c (act_bytes g p path act) act).ending.sent
-  act_sends s c acts.Sense = sent_are c (sense_for p path).bytes sense_are
-  act_sends s c acts.Reserve = sent_are c (sense_for p path).bytes sense_are
-  act_sends s c acts.Release = sent_are c (sense_for p path).bytes sense_are
-  act_sends s c acts.Steal = sent_are c (sense_for p path).bytes sense_are
   act_sends s c acts.SenseId = sent_are c (sense_id_bytes g) (identity_are g)
   act_sends s c (acts.SetGroup function id) = no_bytes
   act_sends s c acts.SenseGroup =
       sent_are c (group_bytes (state_in p.states path) path p.owner)
       (group_are (state_in p.states path) (at_or Named Reset tt p.states (path - 1) k.named.states) path p.owner)
+  act_sends s c act = sent_are c (sense_for p path).bytes sense_are

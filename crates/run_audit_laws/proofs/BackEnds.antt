@@ -1,6 +1,6 @@
 -- A SETTLE comes to its end: of at most 2,946 events the last one says that nothing is left to do, or is stopped.
 use Rattle.std.proofs.Common.{◌≡◌, ◌≤◌, ◌<◌, ℕ, zero, suc, Bool, true, false, List, [], ◌∷◌, length, Option, Some, None, is_some, refl, sym, ap, subst, ◌∙◌, arith}
-use Rattle.std.specs.Prelude.{if◌then◌else◌}
+use Rattle.std.specs.Prelude.{if◌then◌else◌, IfSome}
 use Rattle.device_outside.specs.Interaction.{Done, and_then}
 use Rattle.device_outside.specs.Told as T
 use Rattle.device_outside.specs.Told.{Told}
@@ -34,13 +34,15 @@ use Rattle.run_audit_laws.proofs.Lighter.{Lower, WorkSo}
 use Rattle.run_audit_laws.proofs.PieceEvents.{put_found}
 use Rattle.run_audit_laws.proofs.RunEnds.{device_there}
 use Rattle.run_audit_laws.proofs.Weights.{left, left_most}
+use Rattle.run_audit_laws.proofs.DeviceSizes.{Sized}
+use Rattle.run_audit_laws.proofs.StillLines.{some_device}
+use Rattle.run_audit_laws.specs.Standing.{HasDevice}
 
 abbrev GoesOn : MarksDevice → MarksDevice → Option EventEnd → Type 0
 GoesOn x y a = is_settled (told_end a) ≡ false → Lower x.store y.store
 
 work_goes : (x y : MarksDevice) (a : Option Did) → WorkSo x.store y.store a → GoesOn x y (end_of ends.Back a)
-work_goes x y (Some d) h = h
-work_goes x y None h = absurd h
+work_goes x y a h = grind arith
 
 module _ (s : Subsystem) (good : AreSo Good s.mounted) (d : ℕ) (x : MarksDevice) (there : device_in (devices_of s) d ≡ Some x) where
   good_x : Good x
@@ -79,12 +81,10 @@ module _ (s : Subsystem) (good : AreSo Good s.mounted) (d : ℕ) (x : MarksDevic
 
   back_less : OneLess (happens s (events.Back d))
   unfolding H.happens E.deed
-  back_less =
-      subst (λ (o : Option MarksDevice). OneLess (happens_by s (on_device o (back by_plain)))) (sym there) (back_by x.store.half refl)
+  back_less = grind (arith, back_by)
 
 settled_on : (t : Logged) (ts : List Logged) → is_settled t.happened.end ≡ false → ends_settled ts ≡ true → ends_settled (t ∷ ts) ≡ true
-settled_on t [] is over = absurd (cc)
-settled_on t (u ∷ ts) is over = over
+settled_on t ts is over = grind arith
 
 pub backs_end : (k : ℕ) (s : Subsystem) → AreSo Good s.mounted → (d : ℕ) (x : MarksDevice) → device_in (devices_of s) d ≡ Some x → left x.store < k →
     ends_settled (backs k d s) ≡ true
@@ -108,5 +108,9 @@ backs_end (suc k) s good d x there few = by_end (is_settled (happens s (events.B
 pub settle_is_over : (s : Subsystem) → AreSo Good s.mounted → (d : ℕ) (x : MarksDevice) → device_in (devices_of s) d ≡ Some x →
     x.store.cylinders ≤ 64 → length x.store.queue ≤ 64 → SettleIsOver s d
 unfolding L.line_logged
-settle_is_over s good d x there small queued =
-    backs_end most_backs s good d x there (let most = left_most x.store small queued in omega (arith, most))
+settle_is_over s good d x there small queued = backs_end most_backs s good d x there (omega (arith, left_most x.store small queued))
+
+pub settle_over : (s : Subsystem) → AreSo Good s.mounted → AreSo Sized s.mounted → (d : ℕ) → HasDevice s d → SettleIsOver s d
+settle_over s good sized d has =
+    some_device (device_in (devices_of s) d) has (λ x at.
+    let f = subst (λ (o : Option MarksDevice). IfSome o Sized) at (device_so Sized s.mounted d sized) in settle_is_over s good d x at f.cylinders f.short)

@@ -42,13 +42,10 @@ record Heard (s z : MarksStore) : Type 0 where
   spots : (q : ℕ) → HeardAt (spot_at s q) (spot_at z q)
 
 is_clean_frame : (o : Option Bool) → is_clean by_plain o ≡ true → o ≡ Some false
-is_clean_frame None e = absurd (cc)
-is_clean_frame (Some true) e = absurd (cc)
-is_clean_frame (Some false) e = refl
+is_clean_frame o e = grind arith
 
 dropped_at : (p r : Spot) → r.frame ≡ Some false → HeardAt p r → HeardAt p (record r { frame = None })
-dropped_at p r clean (inl is) = inr (sym (ap (λ (x : Spot). x.frame) is) ∙ clean, ap (λ (x : Spot). record x { frame = None }) is)
-dropped_at p r clean (inr k) = inr (k.0, ap (λ (x : Spot). record x { frame = None }) k.1)
+dropped_at p r clean x4 = grind arith
 
 heard_drops : (s z : MarksStore) (t : ℕ) → is_clean by_plain (frame_at z t) ≡ true → Heard s z → Heard s (with_frame z t None)
 heard_drops s z t clean h = record {
@@ -66,73 +63,30 @@ heard_drops s z t clean h = record {
       (dropped_at (spot_at s t) (spot_at z t) (is_clean_frame (frame_at z t) clean) (h.spots t)))
 
 heard_so : (s : MarksStore) → Had (hear by_plain 960 (noted_begin s)) (λ z (_ : Unit {0}). Heard s z)
-heard_so s =
-    asks_had (hear_asks by_plain (Heard s) (heard_drops s) 960 (noted_begin s)
-    (record { cylinders = refl; queue = refl; half = refl; paired = refl; spots = λ q. inl refl }))
+heard_so s = asks_had (hear_asks by_plain (Heard s) (heard_drops s) 960 (noted_begin s) (search arith))
 
 -- a clean frame is of a track that waits no more without it
 abbrev IsClean : Spot → Type 0
 IsClean p = p.frame ≡ Some false → p.half ≡ false → (p.lost ≡ false) × ((is_level p ≡ true) × (p.patched ≡ false))
 
-bare_works : (lost p l : Bool) → p ≡ false → works_by lost None p l ≡ works_by lost (Some false) p l
-bare_works lost true l e = absurd (cc)
-bare_works true false true e = refl
-bare_works true false false e = refl
-bare_works false false true e = refl
-bare_works false false false e = refl
-
-if_either : (b : Bool) (n m k : ℕ) → (b ≡ false → m ≡ k) → (if b then n else m) ≡ (if b then n else k)
-if_either true n m k f = refl
-if_either false n m k f = f refl
-
 heard_weight : (p r : Spot) → IsClean p → HeardAt p r → weight r ≡ weight p
-heard_weight p r clean (inl is) = ap weight is
-heard_weight p r clean (inr k) =
-    ap weight k.1
-    ∙ if_either p.half _ _ _ (λ whole.
-    ap (λ (b : Bool). weight_if (record p { half = false }) b)
-    (bare_works p.lost p.patched p.loose (clean k.0 whole).1.1
-    ∙ ap (λ (f : Option Bool). works_by p.lost f p.patched p.loose) (sym k.0)))
+heard_weight p r clean x4 = grind arith
 
 heard_least : (s z : MarksStore) → ((q : ℕ) → q < tracks_of s → IsClean (spot_at s q)) → Heard s z → left z ≤ left s
-heard_least s z clean h =
-    let below = sum_least (tracks_of s) (weight_at s) (weight_at z)
-    (λ q lt. as_least (weight_at z q) (weight_at s q) (heard_weight (spot_at s q) (spot_at z q) (clean q lt) (h.spots q))) in
-    let n : sum (tracks_of z) (weight_at z) ≡ sum (tracks_of s) (weight_at z) = ap (λ (k : ℕ). sum (k * 15) (weight_at z)) h.cylinders in
-    let queued = ap length h.queue in
-    let opens = ap (λ (o : Option (store.HalfWrite (Unit {0}))). one (is_some o)) h.half in
-    omega (arith, below, n, queued, opens)
+heard_least s z clean h = grind (arith, sum_least)
 
 -- Good marks
 
 clean_has : (p lost loose level : Bool) → is_good (marks (Some false) p lost loose false level) ≡ true → (lost ≡ false) × ((level ≡ true) × (p ≡ false))
-clean_has p true loose level e = absurd (cc)
-clean_has false false false true e = (refl, (refl, refl))
-clean_has true false loose true e = absurd (cc)
-clean_has false false true true e = absurd (cc)
-clean_has p false loose false e = absurd (cc)
-
-half_firm : (f : Option Bool) (p lost loose level : Bool) → is_good (marks f p lost loose true level) ≡ true → loose ≡ false
-half_firm f p lost false level e = refl
-half_firm f p false true level e = absurd (cc)
-half_firm (Some m) p true true level e = absurd (cc)
-half_firm None true true true level e = absurd (cc)
-half_firm None false true true level e = absurd (cc)
+clean_has p lost loose level e = grind arith
 
 well_clean : (s : MarksStore) → IsWell by_plain s → (q : ℕ) → q < tracks_of s → IsClean (spot_at s q)
 unfolding M.track_at
-well_clean s w q lt framed whole =
-    clean_has (is_some (patch_at s q)) (is_lost s q) (is_loose s q) (has_level s q)
-    (ap (λ (f : Option Bool). is_good (marks (M.frame_mark by_plain f) (is_some (patch_at s q)) (is_lost s q) (is_loose s q) false (has_level s q))) (sym framed)
-    ∙ ap (λ (h : Bool). is_good (marks (M.frame_mark by_plain (frame_at s q)) (is_some (patch_at s q)) (is_lost s q) (is_loose s q) h (has_level s q))) (sym whole)
-    ∙ w.good q lt)
+well_clean s w q lt = grind (arith, clean_has, is_some, is_good, marks)
 
 well_firm : (s : MarksStore) → IsWell by_plain s → (q : ℕ) → q < tracks_of s → half_is s.half q ≡ true → is_loose s q ≡ false
 unfolding M.track_at
-well_firm s w q lt mine =
-    half_firm (M.frame_mark by_plain (frame_at s q)) (is_some (patch_at s q)) (is_lost s q) (is_loose s q) (has_level s q)
-    (ap (λ (h : Bool). is_good (marks (M.frame_mark by_plain (frame_at s q)) (is_some (patch_at s q)) (is_lost s q) (is_loose s q) h (has_level s q))) (sym mine)
-    ∙ w.good q lt)
+well_firm s w q lt mine = grind (arith, is_good, marks)
 
 good_clean : (x : MarksDevice) → Good x → (q : ℕ) → q < tracks_of x.store → IsClean (spot_at x.store q)
 good_clean x g q lt =
@@ -142,14 +96,12 @@ good_clean x g q lt =
 -- The end of an event
 
 ended_so : (before : ℕ) (s : MarksStore) → Had (noted_end by_plain before s) (λ z (_ : Unit {0}). Same s z)
-ended_so before s =
-    asks_had (ended_asks by_plain (Same s) (λ z t e. record { cylinders = e.cylinders; queue = e.queue; half = e.half; spots = e.spots }) before s (same_self s))
+ended_so before s = asks_had (ended_asks by_plain (Same s) (λ z t e. (search arith)) before s (same_self s))
 
 -- Work
 
 same_work : (s y z : MarksStore) (a : Option Did) → Same y z → WorkSo s y a → WorkSo s z a
-same_work s y z (Some d) e h = λ goes. let lower = h goes in let least = same_least y z e in omega (arith, lower, least)
-same_work s y z None e h = h
+same_work s y z a e h = grind (arith, same_least)
 
 pub background_so : (x : MarksDevice) → Good x → x.store.half ≡ None → Had (background by_plain x) (λ y a. WorkSo x.store y.store a)
 unfolding V.background
@@ -163,28 +115,20 @@ background_so x g whole =
 -- The second part
 
 none_half : (p : Spot) → IsClean p → p.half ≡ false → (r : Spot) → HeardAt p r → IsSafe r
-none_half p clean whole r (inl is) =
-    λ framed firm here off.
-    let k = clean (sym (ap (λ (x : Spot). x.frame) is) ∙ framed) whole in
-    absurd (let both : true ≡ false = sym (k.1.0) ∙ sym (ap is_level is) ∙ off in cc)
-none_half p clean whole r (inr k) = λ framed firm here off. absurd (let both : None ≡ Some false = sym (ap (λ (x : Spot). x.frame) k.1) ∙ framed in cc)
+none_half p clean whole r x5 = grind (arith, is_level)
 
 heard_firm : (p r : Spot) → HeardAt p r → p.loose ≡ false → r.loose ≡ false
-heard_firm p r (inl is) firm = ap (λ (x : Spot). x.loose) is ∙ firm
-heard_firm p r (inr k) firm = ap (λ (x : Spot). x.loose) k.1 ∙ firm
+heard_firm p r x3 firm = grind arith
 
 command_same : (x : MarksDevice) (s : MarksStore) (t : ℕ) (r : Option OpenEntry) (c : Option ChainState) (done : Bool) → Lower s x.store →
     Had (command_ended by_plain x t r c done) (λ y (_ : SecondEnd). Lower s y.store)
-command_same x s t (Some o) (Some chain) done lower =
-    had_done (subst (λ (z : MarksStore). Lower s z) (sym (turned_same x o.path _ _)) lower)
-command_same x s t (Some o) None done lower = had_done lower
-command_same x s t None c done lower = had_done lower
+command_same x s t (Some o) (Some chain) done lower = had_done (rw (turned_same x o.path _ _) lower)
+command_same x s t r c done lower = had_done lower
 
 ended_same : (x : MarksDevice) (s : MarksStore) (t : ℕ) (origin : Origin) (done : Bool) → Lower s x.store →
     Had (second_ended by_plain x t origin done) (λ y (_ : SecondEnd). Lower s y.store)
 ended_same x s t (OfCommand bypass e) done lower = command_same x s t x.history.running x.chain done lower
-ended_same x s t (OfCut bypass) done lower = had_done lower
-ended_same x s t OfBackground done lower = had_done lower
+ended_same x s t origin done lower = had_done lower
 
 module _ (x : MarksDevice) (g : Good x) (h : store.HalfWrite (Unit {0})) (is : x.store.half ≡ Some h) where
   home : IsWell by_plain x.store
@@ -196,8 +140,7 @@ module _ (x : MarksDevice) (g : Good x) (h : store.HalfWrite (Unit {0})) (is : x
 
   paired_by : (b : Bool) → x.store.paired ≡ b → b ≡ true
   unfolding C.rest_of
-  paired_by true e = refl
-  paired_by false e = absurd (let none = home.here.whole e in let both : None ≡ Some h = sym none ∙ is in cc)
+  paired_by b e = grind arith
 
   mine : half_is x.store.half h.track ≡ true
   mine = ap (λ (o : Option (store.HalfWrite (Unit {0}))). half_is o h.track) is ∙ own_is h.track
@@ -208,20 +151,14 @@ module _ (x : MarksDevice) (g : Good x) (h : store.HalfWrite (Unit {0})) (is : x
   half_of s e (Some k) at same =
       let it : k ≡ h = cc in
       let d : MarksDevice = record (event_begun x) { store = s } in
-      had_then (part_so s k at (e.paired ∙ paired_by x.store.paired refl)
-      (λ q lt ne. let below : q < tracks_of x.store = subst (λ (n : ℕ). q < n * 15) e.cylinders lt in
-      none_half (spot_at x.store q) (good_clean x g q below)
-      (ap (λ (o : Option (store.HalfWrite (Unit {0}))). half_is o q) (sym e.half ∙ at) ∙ not_own k.track q ne) (spot_at s q) (e.spots q))
-      (heard_firm (spot_at x.store k.track) (spot_at s k.track) (e.spots k.track)
-      (subst (λ (t : ℕ). is_loose x.store t ≡ false) (sym (ap (λ (w : store.HalfWrite (Unit {0})). w.track) it)) (well_firm x.store home h.track within mine))))
-      (λ z done lower. ended_same (with_store d z) s k.track k.origin done lower)
+      had_then (part_so s k at (e.paired ∙ paired_by x.store.paired refl) (λ q lt ne. let below : q < tracks_of x.store = rw (← e.cylinders) lt in none_half
+      (spot_at x.store q) (good_clean x g q below) (ap (λ (o : Option (store.HalfWrite (Unit {0}))). half_is o q) (sym e.half ∙ at) ∙ not_own k.track q ne)
+      (spot_at s q) (e.spots q)) (heard_firm (spot_at x.store k.track) (spot_at s k.track) (e.spots k.track) (rw (ap (λ (w : store.HalfWrite
+      (Unit {0})). w.track) it) (well_firm x.store home h.track within mine)))) (λ z done lower. ended_same (with_store d z) s k.track k.origin done lower)
 
   pub second_lower : Had (second by_plain x) (λ y (_ : SecondEnd). Lower x.store y.store)
   unfolding V.second
   second_lower =
-      had_then {p = λ (y : MarksDevice) (_ : SecondEnd). Lower x.store y.store}
-      (had_then (heard_so x.store)
-      (λ s _ e. had_weaker (half_of s e s.half refl (e.half ∙ is))
-      (λ y a lower. lower_on x.store s y.store (heard_least x.store s (good_clean x g) e) lower)))
-      (λ y a lower. had_then (ended_so (waiting_count by_plain x.store) y.store)
-      (λ z _ e. had_done (let least = same_least y.store z e in omega (arith, lower, least))))
+      had_then {p = λ (y : MarksDevice) (_ : SecondEnd). Lower x.store y.store} (had_then (heard_so x.store) (λ s _ e. had_weaker (half_of s e s.half refl
+      (e.half ∙ is)) (λ y a lower. lower_on x.store s y.store (heard_least x.store s (good_clean x g) e) lower))) (λ y a lower. had_then (ended_so
+      (waiting_count by_plain x.store) y.store) (λ z _ e. had_done (omega (arith, lower, same_least y.store z e))))

@@ -1,5 +1,5 @@
 -- What a piece of work in the background makes of a device beside its history: a half write is open behind it where it says so, and only there.
-use Rattle.std.proofs.Common.{◌≡◌, ℕ, zero, suc, Bool, true, false, List, [], ◌∷◌, Option, Some, None, refl, sym, ap, subst, ◌∙◌, if◌then◌else◌}
+use Rattle.std.proofs.Common.{arith, ◌≡◌, ℕ, zero, suc, Bool, true, false, List, [], ◌∷◌, Option, Some, None, refl, sym, ap, subst, ◌∙◌, if◌then◌else◌}
 use Rattle.std.specs.Prelude.{◌||◌, is_some}
 use Rattle.std.proofs.lemmas.Bool.{and_parts}
 use Rattle.ckd_types.specs.declared.paths.Side.{Side}
@@ -58,8 +58,7 @@ AIsDown z = z.a.up ≡ false
 told_down : (k : ℕ) (s : MarksStore) → AIsDown s → Had (all_firm_told by_plain k s) (λ z (_ : Unit {0}). AIsDown z)
 unfolding L.all_firm_told
 told_down zero s is = had_done is
-told_down (suc k) s is =
-    had_then (told_down k s is) (λ z _ v. had_if (owed_at z k).firm (λ _. had_tell (had_done v)) (λ _. had_done v))
+told_down (suc k) s is = had_then (told_down k s is) (λ z _ v. had_if (owed_at z k).firm (λ _. had_tell (had_done v)) (λ _. had_done v))
 
 lost_down : (s : MarksStore) → AIsDown (side_lost by_plain s A None)
 lost_down s = lost_side_is_down by_plain s None
@@ -76,8 +75,7 @@ ToldDown z k = is_some k.bytes ≡ true → is_some k.fault ≡ true → AIsDown
 second_told : (s : MarksStore) (fault : Option Side) → (is_some fault ≡ true → AIsDown s) → (r : Option Bool) →
     Had (second_read by_plain fault s r) (λ z k. ToldDown z k)
 second_told s fault down (Some r) = had_done (λ some fails. down fails)
-second_told s fault down None =
-    had_then (any_had s B None) (λ z _ _. had_done (λ some fails. absurd (let none : false ≡ true = some in cc)))
+second_told s fault down None = had_then (any_had s B None) (λ z _ _. had_done (λ some fails. absurd (let none : false ≡ true = some in cc)))
 
 b_told : (s : MarksStore) (t : ℕ) (fault : Option Side) → (level_at s.b t ≡ true → is_some fault ≡ true → AIsDown s) →
     Had (read_b by_plain s t fault) (λ z k. ToldDown z k)
@@ -97,9 +95,7 @@ first_told t s alone None = had_then failed (λ z _ v. b_told z t (Some A) v) wh
 
 bytes_told : (s : MarksStore) (t : ℕ) → IsAlone s → Had (level_bytes by_plain s t) (λ z k. ToldDown z k)
 unfolding I.level_bytes
-bytes_told s t alone =
-    had_if (level_at s.a t) (λ _. had_read (λ r. first_told t (I.read_counted s (is_some r)) alone r))
-    (λ _. b_told s t None (λ level fails. absurd (let none : false ≡ true = fails in cc)))
+bytes_told s t alone = search (arith, had_if, had_read, first_told, b_told)
 
 -- A write that begins with side A down opens nothing
 
@@ -146,19 +142,10 @@ IsNoHalf (dids.Half t) = ⊥
 IsNoHalf d = Unit {0}
 
 said_none : (d : Did) (h : Option (store.HalfWrite (Unit {0}))) → IsNoHalf d → h ≡ None → IsSaid d h
-said_none (dids.Half t) h fine is = absurd fine
-said_none dids.Nothing h fine is = is
-said_none (dids.Recovered t) h fine is = is
-said_none (dids.Copied t) h fine is = is
-said_none (dids.Staged t) h fine is = is
-said_none (dids.Skipped t) h fine is = is
-said_none (dids.Destaged t) h fine is = is
-said_none (dids.Fault side) h fine is = is
-said_none (dids.BadBytes side) h fine is = is
+said_none d h fine is = grind arith
 
 fault_none : (f : Option Side) (d : Did) → IsNoHalf d → IsNoHalf (did f d)
-fault_none (Some side) d fine = tt
-fault_none None d fine = fine
+fault_none f d fine = grind arith
 
 module _ (p : PlainState) (u : List Track) (g : Geometry) (n : ℕ) (lent : Option ℕ × ℕ) where
   abbrev On : MarksStore → Type 0
@@ -180,10 +167,8 @@ module _ (p : PlainState) (u : List Track) (g : Geometry) (n : ℕ) (lent : Opti
       had_then (done_same s t i false)
       (λ z _ e. had_done (none_said (did fault (did failed d)) z (fault_none fault (did failed d) (fault_none failed d fine)) (same_on s z e w.on)))
   saved_said t i d (Some side) was failed s Opened fine w shut = absurd (shut refl)
-  saved_said t i d None was failed s Opened fine w shut =
-      had_then (opened_core s t i OfBackground was) (λ z _ e. had_done (ap (λ (c : Core). c.half) e))
-  saved_said t i d fault was failed s Unwritten fine w shut =
-      had_done (none_said (did fault (did failed dids.Nothing)) s (fault_none fault (did failed dids.Nothing) (fault_none failed dids.Nothing tt)) w)
+  saved_said t i d None was failed s Opened fine w shut = had_then (opened_core s t i OfBackground was) (λ z _ e. had_done (ap (λ (c : Core). c.half) e))
+  saved_said t i d fault was failed s Unwritten fine w shut = search (arith, had_done, none_said, fault_none)
 
   save_said : (s : MarksStore) (t : ℕ) (i : Image) (d : Did) (fault : Option Side) → IsNoHalf d → On s → (is_some fault ≡ true → AIsDown s) →
       Had (saved by_plain s t i d fault) WorkIs
@@ -196,10 +181,7 @@ module _ (p : PlainState) (u : List Track) (g : Geometry) (n : ℕ) (lent : Opti
 
   recovered_said : (t : ℕ) (s : MarksStore) (k : Got Bool) (b : Option Bool) → k.bytes ≡ b → On s → ToldDown s k →
       Had (recovered_bytes by_plain t s k b) WorkIs
-  recovered_said t s k None is w told = had_done (none_said (did k.fault dids.Nothing) s (fault_none k.fault dids.Nothing tt) w)
-  recovered_said t s k (Some true) is w told = had_try (save_said s t _ (dids.Recovered t) k.fault tt w (told (ap is_some is)))
-  recovered_said t s k (Some false) is w told =
-      had_try (had_done (none_said (did k.fault (dids.BadBytes k.side)) s (fault_none k.fault (dids.BadBytes k.side) tt) w))
+  recovered_said t s k b is w told = search (arith, had_done, none_said, fault_none, had_try, save_said)
 
   recover_said : (s : MarksStore) (t : ℕ) (f : Option Bool) → On s → IsAlone s → Had (recover by_plain s t f) WorkIs
   recover_said s t (Some f) w alone = save_said s t _ (dids.Recovered t) None tt w (λ fails. absurd (let none : false ≡ true = fails in cc))
@@ -220,21 +202,13 @@ module _ (p : PlainState) (u : List Track) (g : Geometry) (n : ℕ) (lent : Opti
   copy_said t side s (Some r) w = had_write (λ ok. copied_said t side (W.write_counted s ok) ok w)
 
   copies_said : (s : MarksStore) (t : ℕ) (o : Option Side) → On s → Had (copy_by by_plain s t o) WorkIs
-  copies_said s t None w = had_done (none_said dids.Nothing s tt w)
-  copies_said s t (Some side) w = had_read (λ r. copy_said t side (I.read_counted s (is_some r)) r w)
+  copies_said s t o w = search (arith, had_done, none_said, had_read, copy_said)
 
   filled_stays : (s : MarksStore) (t : ℕ) (i : Image) → On s → Had (filled by_plain s t i) (λ z (_ : Unit {0}). On z)
-  filled_stays s t i w =
-      had_if (is_some (patch_at s t)) (λ _. had_ask (λ _. had_done (same_on s (with_frame s t (Some true)) (framed_same s t (Some true)) w)))
-      (λ _. had_done (same_on s (with_frame s t (Some false)) (framed_same s t (Some false)) w))
+  filled_stays s t i w = search (arith, had_if, had_ask, had_done, same_on, framed_same)
 
   staged_said : (t : ℕ) (s : MarksStore) (k : Got Bool) (b : Option Bool) → On s → Had (staged_bytes by_plain t s k b) WorkIs
-  staged_said t s k None w = had_ask (λ _. had_done (none_said (did k.fault dids.Nothing) s (fault_none k.fault dids.Nothing tt) w))
-  staged_said t s k (Some true) w =
-      had_try (had_then (filled_stays s t (plain_at s t) w)
-      (λ z _ v. had_done (none_said (did k.fault (dids.Staged t)) z (fault_none k.fault (dids.Staged t) tt) v)))
-  staged_said t s k (Some false) w =
-      had_try (had_ask (λ _. had_done (none_said (did k.fault (dids.BadBytes k.side)) s (fault_none k.fault (dids.BadBytes k.side) tt) w)))
+  staged_said t s k b w = search (arith, had_ask, had_done, none_said, fault_none, had_try, had_then, filled_stays)
 
   stage_said : (s : MarksStore) (t : ℕ) → On s → Had (stage by_plain s t) WorkIs
   stage_said s t w =
@@ -244,16 +218,14 @@ module _ (p : PlainState) (u : List Track) (g : Geometry) (n : ℕ) (lent : Opti
       (λ _. had_done (none_said (dids.Skipped t) s tt w)))))
 
   destage_said : (s : MarksStore) (o : Option ℕ) → On s → Had (destage_first by_plain s o) WorkIs
-  destage_said s None w = had_done (none_said dids.Nothing s tt w)
-  destage_said s (Some t) w = save_said s t _ (dids.Destaged t) None tt w (λ fails. absurd (let none : false ≡ true = fails in cc))
+  destage_said s o w = search (arith, had_done, none_said, save_said)
 
   stages_said : (s : MarksStore) (q : List ℕ) → On s → Had (stage_first by_plain s q) WorkIs
   stages_said s [] w = destage_said s (to_destage by_plain s) w
   stages_said s (t ∷ ts) w = stage_said (record s { queue = ts }) t w
 
   copy_first_said : (s : MarksStore) (o : Option ℕ) → On s → Had (copy_first by_plain s o) WorkIs
-  copy_first_said s None w = stages_said s s.queue w
-  copy_first_said s (Some t) w = copies_said s t (copies_to s t) w
+  copy_first_said s o w = search (arith, stages_said, copies_said)
 
   recover_first_said : (s : MarksStore) (o : Option ℕ) → On s → IsAlone s → Had (recover_first by_plain s o) WorkIs
   recover_first_said s None w alone = copy_first_said s (to_copy s) w
@@ -271,15 +243,7 @@ BackLeft x y None = ⊥
 
 said_half : (x : MarksDevice) → x.store.half ≡ None → (d : Did) (h : Option (store.HalfWrite (Unit {0}))) → IsSaid d h →
     half_by h ≡ back_half (audited x) (back_answer d)
-said_half x none (dids.Half t) h is = ap half_by is
-said_half x none dids.Nothing h is = ap half_by (is ∙ sym none)
-said_half x none (dids.Recovered t) h is = ap half_by (is ∙ sym none)
-said_half x none (dids.Copied t) h is = ap half_by (is ∙ sym none)
-said_half x none (dids.Staged t) h is = ap half_by (is ∙ sym none)
-said_half x none (dids.Skipped t) h is = ap half_by (is ∙ sym none)
-said_half x none (dids.Destaged t) h is = ap half_by (is ∙ sym none)
-said_half x none (dids.Fault side) h is = ap half_by (is ∙ sym none)
-said_half x none (dids.BadBytes side) h is = ap half_by (is ∙ sym none)
+said_half x none d h is = grind arith
 
 module _ (num : ℕ) (empty : PlainState) (x : MarksDevice) (f : Follows num empty x) (none : x.store.half ≡ None)
     (alone : x.store.paired ≡ false → x.store.b.up ≡ false) where
@@ -288,27 +252,21 @@ module _ (num : ℕ) (empty : PlainState) (x : MarksDevice) (f : Follows num emp
     single : s.paired ≡ false → s.b.up ≡ false
 
   fronted : Had (hear by_plain 960 (noted_begin x.store)) (λ s (_ : Unit {0}). Front s)
-  fronted =
-      asks_had (hear_asks by_plain Front (λ z t clean e. record { same = framed_same z t None ∙ e.same; single = e.single }) 960 (noted_begin x.store)
-      (record { same = refl; single = alone }))
+  fronted = asks_had (hear_asks by_plain Front (λ z t clean e. (search (arith, framed_same))) 960 (noted_begin x.store) (search arith))
 
   walks : (s : MarksStore) → core_of s ≡ core_of (noted_begin x.store) →
       Walks (plain_of x.plans empty x.history) x.store.plain x.store.geometry x.store.cylinders (None, (x.store.lent, x.store.device)) (core_of s)
-  walks s e =
-      subst (λ (h : Option (store.HalfWrite (Unit {0}))). Walks (plain_of x.plans empty x.history) x.store.plain x.store.geometry x.store.cylinders
-      (h, (x.store.lent, x.store.device)) (core_of s)) none (walks_first num empty x f s e)
+  walks s e = grind (arith, core_of, walks_first)
 
   abbrev HalfSaid : MarksDevice → Option Did → Type 0
   HalfSaid y (Some d) = half_by y.store.half ≡ back_half (audited x) (back_answer d)
   HalfSaid y None = ⊥
 
   said_by : (y : MarksDevice) (a : Option Did) → WorkIs y.store a → HalfSaid y a
-  said_by y (Some d) said = said_half x none d y.store.half said
-  said_by y None said = said
+  said_by y a said = grind (arith, said_half)
 
   stays_said : (y : MarksDevice) (a : Option Did) (z : MarksStore) → core_of z ≡ core_of y.store → HalfSaid y a → HalfSaid (record y { store = z }) a
-  stays_said y (Some d) z e p = ap (λ (c : Core). half_by c.half) e ∙ p
-  stays_said y None z e p = p
+  stays_said y a z e p = grind arith
 
   half_left : Had (background by_plain x) HalfSaid
   unfolding V.background
@@ -320,8 +278,7 @@ module _ (num : ℕ) (empty : PlainState) (x : MarksDevice) (f : Follows num emp
       (λ y a g. had_then (ended_same (waiting_count by_plain x.store) y.store) (λ z _ e. had_done (stays_said y a z e g)))
 
   left_by : (y : MarksDevice) (a : Option Did) → IsStill (kept x.store) (base_in y) × (y.plans ≡ x.plans) → HalfSaid y a → BackLeft x y a
-  left_by y (Some d) k said = parts_by x y (back_half (audited x) (back_answer d)) k said
-  left_by y None k said = said
+  left_by y a k said = grind (arith, parts_by)
 
   pub back_left : Had (background by_plain x) (BackLeft x)
   back_left =

@@ -1,5 +1,5 @@
 -- The lines of the first part of a command's write, and of work in the background.
-use Rattle.std.proofs.Common.{◌≡◌, ◌==◌, ◌++◌, ℕ, Bool, true, false, List, ◌∷◌, map, Option, Some, None, refl, ap, ◌∙◌, if◌then◌else◌}
+use Rattle.std.proofs.Common.{arith, ◌≡◌, ◌==◌, ◌++◌, ℕ, Bool, true, false, List, ◌∷◌, map, Option, Some, None, refl, ap, ◌∙◌, if◌then◌else◌}
 use Rattle.std.specs.Prelude.{◌&&◌, Ok, Err, option_map}
 use Rattle.std.proofs.lemmas.Bool.{or_right, and_from}
 use Rattle.deck_plan.specs.declared.event.EventLine.{EventLine}
@@ -65,28 +65,16 @@ module _ (xs : List AuditedDevice) (w : EventLine) (later : List EventLine) (a :
       )
 
 pub over_halved : (b : AuditedDevice) (r : Option OpenEntry) → over_by b Halved r ≡ None
-over_halved b (Some o) = refl
-over_halved b None = refl
+over_halved b r = grind arith
 
 pub over_worked : (b : AuditedDevice) (last : Bool) (r : Option OpenEntry) → over_by b (Worked last) r ≡ None
-over_worked b last (Some o) = refl
-over_worked b last None = refl
+over_worked b last r = grind arith
 
 module _ (xs : List AuditedDevice) (later : List EventLine) (a : AuditedDevice) (has : device_in xs a.number ≡ Some a) where
   module _ (closed : a.half ≡ Closed) (o : OpenEntry) (running : a.history.running ≡ Some o) where
     half_judged : (track : ℕ) → judged (record { devices = xs; events = Step a.number ∷ later; due = Next }) (lines.Half o.path a.number track)
         ≡ Ok (at_work xs (Step a.number) later a.number refl a has (record a { half = OfCommand }) (Behind true Halved))
-    half_judged track =
-        let s : AuditState = record { devices = xs; events = Step a.number ∷ later; due = Next } in
-        let line = lines.Half o.path a.number track in
-        ap (λ (b : Bool). if b then or_history (event_made s line (Step a.number)) else Err Place)
-        (ap (λ (k : Option Outline). holds k (λ b. may_step b (lines.StepIdle a.number) line b.half))
-        (outlined xs a.number ∙ ap (λ (k : Option AuditedDevice). option_map outline_of k) has)
-        ∙ ap (may_step (outline_of a) (lines.StepIdle a.number) line) closed
-        ∙ ap (λ (r : Option OpenEntry). in_steps (outline_of a) (lines.StepIdle a.number) line (open_program r)) running
-        ∙ or_right false ((o.path == o.path) && (a.number == a.number)) (and_from (o.path == o.path) (a.number == a.number) (same_number o.path)
-        (same_number a.number)))
-        ∙ ap (λ (k : Option AuditState). or_history k) (then_some (device_in xs a.number) a (work_made s line) has)
+    half_judged track = grind (arith, outlined, or_right, and_from, same_number, then_some)
 
     pub half_leads : HalfLeads xs later a o
     half_leads plainly track acts none are reads writes =
@@ -96,13 +84,7 @@ module _ (xs : List AuditedDevice) (later : List EventLine) (a : AuditedDevice) 
   back_judged : (answer : BackAnswer) → may_back (outline_of a) (lines.Back a.number answer) a.half ≡ true →
       judged (record { devices = xs; events = Back a.number ∷ later; due = Next }) (lines.Back a.number answer)
       ≡ Ok (at_work xs (Back a.number) later a.number refl a has (record a { half = back_half a answer }) (Behind true (Worked (is_last answer))))
-  back_judged answer fits =
-      let s : AuditState = record { devices = xs; events = Back a.number ∷ later; due = Next } in
-      let line = lines.Back a.number answer in
-      ap (λ (b : Bool). if b then or_history (event_made s line (Back a.number)) else Err Place)
-      (ap (λ (k : Option Outline). holds k (λ b. may_back b line b.half))
-      (outlined xs a.number ∙ ap (λ (k : Option AuditedDevice). option_map outline_of k) has) ∙ fits)
-      ∙ ap (λ (k : Option AuditState). or_history k) (then_some (device_in xs a.number) a (work_made s line) has)
+  back_judged answer fits = grind (arith, outlined, then_some)
 
   pub back_leads : BackLeads xs later a
   back_leads plainly answer fits acts none are reads writes =

@@ -1,5 +1,5 @@
 -- What holds of the devices behind each event line of a deck that was read.
-use Rattle.std.proofs.Common.{◌≡◌, ℕ, true, List, [], ◌∷◌, map, sym, subst, ◌∙◌}
+use Rattle.std.proofs.Common.{arith, ◌≡◌, ℕ, true, List, [], ◌∷◌, map, sym, subst, ◌∙◌}
 use Rattle.std.specs.Prelude.{All, IsSome, Ok}
 use Rattle.std.proofs.lemmas.List.Elements.{All-head, All-tail}
 use Rattle.deck_plan.specs.declared.event.EventLine.{EventLine}
@@ -25,14 +25,13 @@ use Rattle.run_audit_laws.specs.Standing.{HasDevice}
 use Rattle.run_audit_laws.proofs.CacheLines.{numbers_same}
 use Rattle.run_audit_laws.proofs.DeckEvents.{OfNamed, declared_has, read_names}
 use Rattle.run_audit_laws.proofs.DeckNumbers.{RisesFrom, read_rises}
-use Rattle.run_audit_laws.proofs.QueueKept.{Fits, fits_kept}
-use Rattle.run_audit_laws.proofs.SettleEnds.{fits_behind, opened_fits}
+use Rattle.run_audit_laws.proofs.DeviceSizes.{Sized, first_sized, sized_behind, sized_kept}
 use Rattle.run_audit_laws.proofs.Ties.{Tied, line_tied, numbers_in, opened_tied, tied_behind, ties}
 
 pub record IsBehind (numbers : List ℕ) (s : Subsystem) : Type 0 where
   pub plain : ArePlain s.mounted
   pub good : AreSo Good s.mounted
-  pub fits : AreSo Fits s.mounted
+  pub sized : AreSo Sized s.mounted
   pub tied : Tied numbers (ties s.mounted)
   pub rises : RisesFrom 0 numbers
 
@@ -46,14 +45,10 @@ rising numbers s k = subst (RisesFrom 0) (sym (numbers_are numbers s k)) k.rises
 
 pub good_behind : (deck : DeckLines) → IsServedDeck deck → AreSo Good (run_of deck).behind.mounted
 unfolding D.run_asked_on
-good_behind deck h =
-    lines_end_so Good AnyEvent good_kept (record { step = λ d. tt; back = λ d. tt }) (map asked_by deck.events) (opened deck)
-    (all_asked (map asked_by deck.events)) (opened_good empty_firsts deck deck.devices h.devices)
+good_behind deck h = search (arith, lines_end_so, good_kept, all_asked, opened_good empty_firsts)
 
 pub run_is_behind : (text : List ℕ) (deck : DeckLines) → parsed text ≡ Ok deck → IsBehind (numbers_in deck) (run_of deck).behind
-run_is_behind text deck read =
-    let served = read_served text deck read in
-    record { plain = plain_behind deck served; good = good_behind deck served; fits = fits_behind text deck read; tied = tied_behind deck; rises = read_rises text deck read }
+run_is_behind text deck read = search (arith, read_served, plain_behind, good_behind, sized_behind, tied_behind, read_rises)
 
 -- Before it, and behind each of its lines
 
@@ -63,7 +58,7 @@ opened_is_behind text deck read =
     record {
       plain = opened_plain deck deck.devices served.devices;
       good = opened_good empty_firsts deck deck.devices served.devices;
-      fits = opened_fits deck deck.devices (read_small text deck read);
+      sized = first_sized text deck read;
       tied = opened_tied deck;
       rises = read_rises text deck read;
     }
@@ -72,7 +67,7 @@ pub line_stays : (numbers : List ℕ) (s : Subsystem) (x : Asked) → IsServed x
 line_stays numbers s x served k = record {
   plain = line_plain empty_firsts x s served k.plain;
   good = line_keeps Good AnyEvent good_kept (record { step = λ d. tt; back = λ d. tt }) x s (All-head (MayAsk AnyEvent) x [] (all_asked (x ∷ []))) k.good;
-  fits = line_keeps Fits AnyEvent fits_kept (record { step = λ d. tt; back = λ d. tt }) x s (All-head (MayAsk AnyEvent) x [] (all_asked (x ∷ []))) k.fits;
+  sized = line_keeps Sized AnyEvent sized_kept (record { step = λ d. tt; back = λ d. tt }) x s (All-head (MayAsk AnyEvent) x [] (all_asked (x ∷ []))) k.sized;
   tied = line_tied numbers s x k.tied;
   rises = k.rises;
 }
@@ -96,17 +91,13 @@ has_named lines s k e named = by_event e named where
   by_event (events.Back d) is = has d is
   by_event (events.Settle d) is = has d is
   by_event (events.Reset path d) is = has d is
-  by_event events.FailCache is = tt
-  by_event events.FailStore is = tt
   by_event (events.FailVolume d side) is = has d is
-  by_event events.RepairCache is = tt
-  by_event events.RepairStore is = tt
   by_event (events.Replace d side) is = has d is
   by_event (events.Pair a b) is = (has a is.0, has b is.1)
   by_event (events.Unpair d) is = has d is
   by_event (events.Suspend d) is = has d is
   by_event (events.Resume d) is = has d is
-  by_event events.Power is = tt
+  by_event e is = tt
 
 module _ (lines : List DeviceLine) (P : Subsystem → EventLine → Type 0)
     (so : (s : Subsystem) (e : EventLine) → IsBehind (map (λ (l : DeviceLine). l.number) lines) s → IsServed (asked_by e) → OfNamed (HasDevice s) e → P s e) where

@@ -104,16 +104,11 @@ IsTold x y = (over_lines x y ≡ []) × (IsQuiet x y ⊎ IsLostNow x y)
 
 pub loss_told : (n c k m : ℕ) → c ≡ k → m ≡ next_number n → (d : ℕ) →
     lines.Loose d (loose.Lost c (id_of m)) ≡ (let id = next_number n in lines.Loose d (loose.Lost k (id / 256 ∷ id % 256 ∷ [])))
-loss_told n c k m count number d =
-    ap (λ (i : ℕ). lines.Loose d (loose.Lost i (id_of m))) count ∙ ap (λ (i : ℕ). lines.Loose d (loose.Lost k (id_of i))) number
+loss_told n c k m count number d = grind arith
 
 module _ (x y : MarksDevice) (p : Plainly x) (g : IsLoss p.empty x y) where
   quiet_device : y.store.acts ≡ [] → IsQuiet x y
-  quiet_device none = record {
-    lines_are = acts_told x y y.store.acts g.history
-        ∙ ap (λ (l : List Act). map loosed_line (map (loosed x.store.device) (map (told_act x.store y.store) l))) none;
-    audits = audited_by x y (half_by x.store.half) x.history g.parts (g.history ∙ ap (λ (l : List Act). all_acted x.history l) none);
-  }
+  quiet_device none = search (arith, acts_told, audited_by)
 
   lost_device : y.store.acts ≡ CfwLost ∷ [] → y.store.number ≡ next_number x.store.number → has_loose x.store ≡ true → IsLostNow x y
   lost_device one number some =
@@ -130,8 +125,7 @@ module _ (x y : MarksDevice) (p : Plainly x) (g : IsLoss p.empty x y) where
       }
 
   cache_told : (b : Bool) → has_loose x.store ≡ b → y.store.acts ≡ lost_acts b → y.store.number ≡ number_behind b x.store.number → IsTold x y
-  cache_told true some acts number = (acts_over x y y.store.acts g.history, inr (lost_device acts number some))
-  cache_told false none acts number = (acts_over x y y.store.acts g.history, inl (quiet_device acts))
+  cache_told b some acts number = grind (arith, acts_over, lost_device, quiet_device)
 
 abbrev AllTold : List MarksDevice → List MarksDevice → Type 0
 AllTold [] [] = Unit {0}
@@ -149,9 +143,8 @@ cache_swept (m ∷ ms) pool p =
     (cache_told d o.state p.0 is.0 (has_loose d.store) refl is.1.0 is.1.1, cache_swept ms o.told.pool p.1)
 
 none_over : (xs ys : List MarksDevice) → AllTold xs ys → of_each over_lines xs ys ≡ []
-none_over [] ys told = refl
-none_over (x ∷ xs) [] told = refl
 none_over (x ∷ xs) (y ∷ ys) told = ap (λ (l : List ReportLine). l ++ of_each over_lines xs ys) told.0.0 ∙ none_over xs ys told.1
+none_over xs ys told = refl
 
 -- A device behind others of lower numbers
 
@@ -169,20 +162,15 @@ module _ (low : ℕ) (a : AuditedDevice) (least_is : low ≤ a.number) (rest : L
 
   pub found_here : (done : List AuditedDevice) → IsBelow low done → A.device_in (done ++ a ∷ rest) a.number ≡ Some a
   found_here [] b = ap (λ (c : Bool). if c then Some a else A.device_in rest a.number) (same_number a.number)
-  found_here (x ∷ done) b =
-      ap (λ (c : Bool). if c then Some x else A.device_in (done ++ a ∷ rest) a.number) (other x b.0) ∙ found_here done b.1
+  found_here (x ∷ done) b = grind (arith, found_here done b.1, same_number, other)
 
   pub put_here : (done : List AuditedDevice) (b : AuditedDevice) → b.number ≡ a.number → IsBelow low done →
       with_device (done ++ a ∷ rest) b ≡ done ++ b ∷ rest
   put_here [] b same low_done = ap (λ (c : Bool). if c then b ∷ rest else a ∷ with_device rest b) (eq-eqb a.number b.number (sym same))
-  put_here (x ∷ done) b same low_done =
-      ap (λ (k : ℕ). if x.number == k then b ∷ (done ++ a ∷ rest) else x ∷ with_device (done ++ a ∷ rest) b) same
-      ∙ ap (λ (c : Bool). if c then b ∷ (done ++ a ∷ rest) else x ∷ with_device (done ++ a ∷ rest) b) (other x low_done.0)
-      ∙ ap (λ (l : List AuditedDevice). x ∷ l) (put_here done b same low_done.1)
+  put_here (x ∷ done) b same low_done = grind (arith, put_here done b same low_done.1, eq-eqb, other)
 
   pub outline_here : (done : List AuditedDevice) → IsBelow low done → outline_in (map outline_of (done ++ a ∷ rest)) a.number ≡ Some (outline_of a)
-  outline_here done b =
-      outlined (done ++ a ∷ rest) a.number ∙ ap (λ (o : Option AuditedDevice). option_map outline_of o) (found_here done b)
+  outline_here done b = grind (arith, outlined, found_here)
 
 -- The lines, one device after another
 
@@ -195,8 +183,7 @@ LastBelow None low = Unit {0}
 LastBelow (Some d) low = d < low
 
 last_more : (last : Option ℕ) (low more : ℕ) → low ≤ more → LastBelow last low → LastBelow last more
-last_more None low more le b = tt
-last_more (Some d) low more le b = omega (arith, le, b)
+last_more last low more le b = grind arith
 
 module _ (later : List EventLine) where
   abbrev at : List AuditedDevice → Due → AuditState
@@ -243,17 +230,13 @@ module _ (later : List EventLine) where
 
   last_leads : (all : List AuditedDevice) (last : Option ℕ) →
       LeadsBy (at all (due_by last)) (lines.Order orders.FailCache answers.Done ∷ []) (record { devices = all; events = later; due = Next })
-  last_leads all None = one_leads (at all Next) (record { devices = all; events = later; due = Next }) (lines.Order orders.FailCache answers.Done) refl
-  last_leads all (Some d) =
-      one_leads (at all (Losses d)) (record { devices = all; events = later; due = Next }) (lines.Order orders.FailCache answers.Done) refl
+  last_leads all last = search (arith, one_leads, devices)
 
   each_leads : (low : ℕ) (done : List AuditedDevice) (last : Option ℕ) (xs ys : List MarksDevice) → IsBelow low done → LastBelow last low →
       RisesFrom low (map (λ (d : MarksDevice). d.store.device) xs) → AllTold xs ys →
       LeadsBy (at (done ++ map audited xs) (due_by last)) (of_each loose_lines xs ys ++ lines.Order orders.FailCache answers.Done ∷ [])
       (record { devices = done ++ map audited ys; events = later; due = Next })
   each_leads low done last [] [] b l rises told = last_leads (done ++ []) last
-  each_leads low done last [] (y ∷ ys) b l rises told = absurd told
-  each_leads low done last (x ∷ xs) [] b l rises told = absurd told
   each_leads low done last (x ∷ xs) (y ∷ ys) b l rises told =
       by_told told.0.1 (λ (next : Option ℕ) (lb : LastBelow next (x.store.device + 1)) (same : (audited y).number ≡ x.store.device).
       subst (λ (all : List AuditedDevice). LeadsBy (at (done ++ audited y ∷ map audited xs) (due_by next))
@@ -292,6 +275,7 @@ module _ (later : List EventLine) where
                 ∙ ap (λ (c : AuditedDevice). Ok (at (done ++ c ∷ map audited xs) (Losses x.store.device))) (sym lost.audits),
             more (Some x.store.device) (omega arith) (ap (λ (c : AuditedDevice). c.number) lost.audits),
           )
+  each_leads low done last xs ys b l rises told = absurd told
 
 -- The event
 
@@ -308,13 +292,8 @@ module _ (s : Subsystem) (plain : ArePlain s.mounted) (rises : RisesFrom 0 (map 
   cache_leads later =
       let behind = swept (sweep (λ x. lose by_plain x losses.Cache) s.mounted (cache_failed s.pool)) in
       let told = cache_swept s.mounted (cache_failed s.pool) plain in
-      subst (λ (ls : List ReportLine). LeadsBy (stand s (wanted.FailCache ∷ later))
-      (of_each loose_lines (devices_of s) (devices_of behind) ++ (ls ++ lines.Order orders.FailCache answers.Done ∷ [])) (stand behind later))
-      (sym (none_over (devices_of s) (devices_of behind) told))
-      (each_leads later 0 [] None (devices_of s) (devices_of behind) tt tt rises told)
+      rw (none_over (devices_of s) (devices_of behind) told) (each_leads later 0 [] None (devices_of s) (devices_of behind) tt tt rises told)
 
   pub fail_cache_leads : EventLeads s wanted.FailCache (Once events.FailCache) (happens s events.FailCache)
   unfolding H.happens E.deed
-  fail_cache_leads =
-      down_or s wanted.FailCache orders.FailCache (Once events.FailCache) fails_cache (not s.pool.cache_up)
-      (Each (cache_failed s.pool) (λ x. lose by_plain x losses.Cache)) cache_leads
+  fail_cache_leads = search (arith, down_or, fails_cache, cache_leads)

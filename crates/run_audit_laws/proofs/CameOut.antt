@@ -66,10 +66,7 @@ with_acts o acts = record o { acts = o.acts ++ map (behind_ends (length o.ends))
 running_acts : (acts : List Act) (h : History) (o : OpenEntry) →
     all_acted (record h { running = Some o }) acts ≡ record h { running = Some (with_acts o acts) }
 running_acts [] h o = ap (λ (l : List Acted). record h { running = Some (record o { acts = l }) }) (sym (append-nil o.acts))
-running_acts (act ∷ acts) h o =
-    running_acts acts h (with_one_act o act)
-    ∙ ap (λ (l : List Acted). record h { running = Some (record o { acts = l }) })
-    (append_assoc o.acts (behind_ends (length o.ends) act ∷ []) (map (behind_ends (length o.ends)) acts))
+running_acts (act ∷ acts) h o = grind (arith, running_acts acts h (with_one_act o act), append_assoc)
 
 -- so they stand in the entry of the program that runs
 pub acts_run : (acts : List Act) (h : History) (o : OpenEntry) → h.running ≡ Some o → all_acted h acts ≡ record h { running = Some (with_acts o acts) }
@@ -77,18 +74,14 @@ acts_run acts h o is = ap (λ (r : Option OpenEntry). all_acted (record h { runn
 
 all_here : (n : ℕ) (acts : List Act) → acts_at (map (behind_ends n) acts) n ≡ acts
 all_here n [] = refl
-all_here n (act ∷ acts) =
-    ap (λ (b : Bool). if b then act ∷ acts_at (map (behind_ends n) acts) n else acts_at (map (behind_ends n) acts) n) (same_number n)
-    ∙ ap (λ (l : List Act). act ∷ l) (all_here n acts)
+all_here n (act ∷ acts) = grind (arith, all_here n acts, same_number)
 
 if_front : (b : Bool) (x : Act) (xs ys : List Act) → (if b then x ∷ (xs ++ ys) else xs ++ ys) ≡ (if b then x ∷ xs else xs) ++ ys
-if_front true x xs ys = refl
-if_front false x xs ys = refl
+if_front b x xs ys = grind arith
 
 at_ends : (n : ℕ) (acts : List Act) (xs : List Acted) → acts_at (xs ++ map (behind_ends n) acts) n ≡ acts_at xs n ++ acts
 at_ends n acts [] = all_here n acts
-at_ends n acts (x ∷ xs) =
-    ap (λ (l : List Act). if x.after == n then x.act ∷ l else l) (at_ends n acts xs) ∙ if_front (x.after == n) x.act (acts_at xs n) acts
+at_ends n acts (x ∷ xs) = grind (arith, at_ends n acts xs, all_here, if_front)
 
 same_bare : (s : PlainState) (path : ℕ) (ccws : List Ccw) (n : ℕ) (acts : List Act) (xs : List Acted) →
     bare_part s path ccws (xs ++ map (behind_ends n) acts) n ≡ bare_part s path ccws xs n
@@ -103,10 +96,9 @@ same_bare s path ccws n (act ∷ acts) xs =
 pub split_acts : (s : PlainState) (edited : Option ℕ) (xs ys : List Act) → AreActs s edited (xs ++ ys) → AreActs (acts_done s xs) edited ys
 split_acts s edited [] ys are = are
 split_acts s edited (Loosen t ∷ []) [] are = tt
-split_acts s edited (Loosen t ∷ []) (y ∷ ys) are = absurd are
-split_acts s edited (Loosen t ∷ x ∷ xs) ys are = absurd are
 split_acts s edited (Harden t ∷ xs) ys are = split_acts (act_done s (Harden t)) edited xs ys are.1
 split_acts s edited (CfwLost ∷ xs) ys are = split_acts (act_done s CfwLost) edited xs ys are.1
+split_acts s edited xs ys are = absurd are
 
 done_both : (s : PlainState) (xs ys : List Act) → acts_done s (xs ++ ys) ≡ acts_done (acts_done s xs) ys
 done_both s [] ys = refl
@@ -127,10 +119,8 @@ pub part_acts : (s : PlainState) (edited : Option ℕ) (acts : List Act) → Are
 part_acts s edited [] are = firm [] tt
 part_acts s edited (Loosen t ∷ []) are = loosens [] t tt are.0 are.1
 part_acts s edited (Loosen t ∷ x ∷ acts) are = absurd are
-part_acts s edited (Harden t ∷ acts) are =
-    let is = are.0 in more_parted s edited (Harden t) acts (λ l rest. (is, rest)) (part_acts (act_done s (Harden t)) edited acts are.1)
-part_acts s edited (CfwLost ∷ acts) are =
-    let is = are.0 in more_parted s edited CfwLost acts (λ l rest. (is, rest)) (part_acts (act_done s CfwLost) edited acts are.1)
+part_acts s edited (Harden t ∷ acts) are = grind (arith, part_acts (act_done s (Harden t)) edited acts are.1, more_parted)
+part_acts s edited (CfwLost ∷ acts) are = grind (arith, part_acts (act_done s CfwLost) edited acts are.1, more_parted)
 
 no_loss_front : (xs ys : List Act) → NoLoss (xs ++ ys) → NoLoss xs
 no_loss_front [] ys none = tt
@@ -142,16 +132,11 @@ record IsUnchanged (s z : PlainState) : Type 0 where
   paths : z.paths ≡ s.paths
 
 unchanged_by : (s : PlainState) (act : Act) → is_loss act ≡ false → IsUnchanged s (act_done s act)
-unchanged_by s (Loosen t) none = record { volume = refl; paths = refl }
-unchanged_by s (Harden t) none = record { volume = refl; paths = refl }
-unchanged_by s CfwLost none = absurd (cc)
+unchanged_by s act none = search arith
 
 unchanged : (acts : List Act) (s : PlainState) → NoLoss acts → IsUnchanged s (acts_done s acts)
 unchanged [] s none = record { volume = refl; paths = refl }
-unchanged (act ∷ acts) s none =
-    let first = unchanged_by s act none.0 in
-    let rest = unchanged acts (act_done s act) none.1 in
-    record { volume = rest.volume ∙ first.volume; paths = rest.paths ∙ first.paths }
+unchanged (act ∷ acts) s none = search (arith, unchanged acts (act_done s act) none.1, unchanged_by)
 
 -- A program with more acts behind its last end
 
@@ -173,9 +158,7 @@ module _ (s : PlainState) (path : ℕ) (ccws : List Ccw) (xs : List Acted) (n : 
   beside_before = subst (λ (p : Part). IsBeside bare p) (sym (part_is_acted path ccws s xs n)) (acted_beside xs bare)
 
   beside_behind : IsBeside bare behind
-  beside_behind =
-      subst (λ (p : Part). IsBeside bare p) (sym (part_is_acted path ccws s more n ∙ ap (λ (p : Part). P.acts_made more p)
-      (same_bare s path ccws n acts xs))) (acted_beside more bare)
+  beside_behind = grind (arith, part_is_acted, same_bare, acted_beside)
 
   same_next : behind.next ≡ before.next
   same_next = beside_behind.next ∙ sym beside_before.next
@@ -190,21 +173,12 @@ module _ (s : PlainState) (path : ℕ) (ccws : List Ccw) (xs : List Acted) (n : 
   same_fixed = beside_behind.fixed ∙ sym beside_before.fixed
 
   state_behind : behind.state ≡ acts_done before.state acts
-  state_behind =
-      state_here path ccws s more n (ap length same_ends ∙ many) (subst (λ (k : Option ℕ). IsSome k) (sym same_next) runs)
-      ∙ ap (λ (p : Part). acts_done p.state (acts_at more n)) (same_bare s path ccws n acts xs)
-      ∙ ap (acts_done bare.state) (at_ends n acts xs)
-      ∙ done_both bare.state (acts_at xs n) acts
-      ∙ ap (λ (z : PlainState). acts_done z acts) (sym (state_here path ccws s xs n many runs))
+  state_behind = grind (arith, state_here, same_ends, same_next, same_bare, at_ends, done_both)
 
   -- the legal acts of a point or of the end
   acts_since : (edited : Option ℕ) → AreActs (bare_part s path ccws (xs ++ map (behind_ends n) acts) n).state edited
       (acts_at (xs ++ map (behind_ends n) acts) n) → AreActs before.state edited acts
-  acts_since edited are =
-      subst (λ (z : PlainState). AreActs z edited acts) (sym (state_here path ccws s xs n many runs))
-      (split_acts bare.state edited (acts_at xs n) acts
-      (subst (λ (l : List Act). AreActs bare.state edited l) (at_ends n acts xs)
-      (subst (λ (p : Part). AreActs p.state edited (acts_at more n)) (same_bare s path ccws n acts xs) are)))
+  acts_since edited are = grind (arith, state_here, split_acts, at_ends, same_bare)
 
   module _ (none : NoLoss acts) where
     same_effect : (c : Ccw) → effect_on behind.fixed behind.state path behind.stance c ≡ effect_on before.fixed before.state path before.stance c
@@ -218,15 +192,13 @@ module _ (s : PlainState) (path : ℕ) (ccws : List Ccw) (xs : List Acted) (n : 
         kept.volume
 
     same_edit_at : (next : Option ℕ) → edit_at path ccws behind next ≡ edit_at path ccws before next
-    same_edit_at (Some i) = ap (λ (e : Effect). e.edit) (same_effect (ccw_at ccws i))
-    same_edit_at None = refl
+    same_edit_at next = grind (arith, same_effect)
 
     same_edit : next_edit path ccws behind ≡ next_edit path ccws before
     same_edit = ap (λ (k : Option ℕ). edit_at path ccws behind k) same_next ∙ same_edit_at before.next
 
     same_plain_end : (next : Option ℕ) → plain_end_at path ccws behind next ≡ plain_end_at path ccws before next
-    same_plain_end (Some i) = ap (λ (e : Effect). Some (end_at_word i (ccw_at ccws i) e.outcome)) (same_effect (ccw_at ccws i))
-    same_plain_end None = refl
+    same_plain_end next = grind (arith, same_effect)
 
   one_end : (e f : CommandEnd) (l : List CommandEnd) → l ++ e ∷ [] ≡ l ++ f ∷ [] → e ≡ f
   one_end e f l same = let tails : e ∷ [] ≡ f ∷ [] = append_cancel_left l (e ∷ []) (f ∷ []) same in cc
@@ -234,16 +206,7 @@ module _ (s : PlainState) (path : ℕ) (ccws : List Ccw) (xs : List Acted) (n : 
   -- the end of one command more is the plain device's
   end_is_plain : (ends : List CommandEnd) (e : CommandEnd) → ends ≡ before.ends → ends ++ e ∷ [] ≡ (part_of s path ccws (xs ++ map (behind_ends n) acts)
       (suc n)).ends → (next : Option ℕ) → behind.next ≡ next → IsSome next → plain_end_at path ccws behind next ≡ Some e
-  end_is_plain ends e are longer None is some = absurd (none_some None refl some) where
-    none_some : (x : Option ℕ) → x ≡ None → IsSome x → ⊥
-    none_some None is_none some_is = cc
-    none_some (Some i) is_none some_is = cc
-  end_is_plain ends e are longer (Some i) is some =
-      let f = end_at_word i (ccw_at ccws i) (effect_on behind.fixed behind.state path behind.stance (ccw_at ccws i)).outcome in
-      ap (λ (x : CommandEnd). Some x) (one_end f e before.ends (sym (ap (λ (l : List CommandEnd). l ++ e ∷ []) (sym are) ∙ longer
-      ∙ ap (λ (p : Part). p.ends) (part_more path ccws more s n)
-      ∙ more_ends path ccws more behind i is
-      ∙ ap (λ (l : List CommandEnd). l ++ f ∷ []) same_ends)))
+  end_is_plain ends e are longer next is some = grind (arith, one_end, part_more, more_ends, same_ends)
 
 -- A legal item of a journal
 
@@ -268,9 +231,7 @@ acts_in_journal plans [] z early acts legal = by_acts acts z early legal where
 pub idle_acts : (acts : List Act) (h : History) → all_acted (record h { running = None }) acts
     ≡ record h { items = h.items ++ map (λ (act : Act). items.Act act) acts; running = None }
 idle_acts [] h = ap (λ (l : List Item). record h { items = l; running = None }) (sym (append-nil h.items))
-idle_acts (act ∷ acts) h =
-    idle_acts acts (record h { items = h.items ++ items.Act act ∷ [] })
-    ∙ ap (λ (l : List Item). record h { items = l; running = None }) (append_assoc h.items (items.Act act ∷ []) (map (λ (a : Act). items.Act a) acts))
+idle_acts (act ∷ acts) h = grind (arith, idle_acts acts (record h { items = h.items ++ items.Act act ∷ [] }), append_assoc)
 
 -- A device of the audit
 
@@ -283,8 +244,7 @@ pub data EndsSo (a : AuditedDevice) (o : OpenEntry) (e : CommandEnd) : List Act 
       is_next_legal (acted_to a (acts ++ Loosen t ∷ [])) (all_acted a.history (acts ++ Loosen t ∷ [])).running ≡ true → EndsSo a o e (acts ++ Loosen t ∷ [])
 
 pub ends_plain : (a : AuditedDevice) (o : OpenEntry) (e : CommandEnd) (acts : List Act) → EndsSo a o e acts → plain_end a o ≡ Some e
-ends_plain a o e acts (firmly bs plain none are legal) = plain
-ends_plain a o e acts (loosely bs t plain none are may legal) = plain
+ends_plain a o e acts x5 = grind arith
 
 -- or a check in its place
 pub record ChecksSo (a : AuditedDevice) (o : OpenEntry) (e : CommandEnd) (acts : List Act) : Type 0 where
@@ -324,19 +284,14 @@ module _ (a : AuditedDevice) (plainly : IsPlain a.plans a.empty a.history) (acts
 
     acts_are : (edited : Option ℕ) → AreActs (bare_part s o.path ccws (o.acts ++ map (behind_ends n) acts) n).state edited
         (acts_at (o.acts ++ map (behind_ends n) acts) n) → AreActs (state_of a) edited acts
-    acts_are edited are =
-        subst (λ (z : PlainState). AreActs z edited acts) (sym state_is) (acts_since s o.path ccws o.acts n as_many is_open.runs acts edited are)
+    acts_are edited are = grind (arith, state_is, acts_since, as_many)
 
     abbrev later : OpenEntry
     later = record o { acts = o.acts ++ map (behind_ends (length o.ends)) acts }
 
     -- acts alone
     open_acts : IsPlain a.plans a.empty (all_acted a.history acts) → AreActs (state_of a) None acts
-    open_acts behind =
-        let so : IsPlain a.plans a.empty (record a.history { running = Some (with_acts o acts) }) =
-        subst (λ (h : History). IsPlain a.plans a.empty h) (acts_run acts a.history o running) behind in
-        let at = so.at in
-        acts_are None at.acts.last
+    open_acts behind = grind (arith, acts_run, acts_are)
 
     -- A command that ended
 
@@ -346,22 +301,14 @@ module _ (a : AuditedDevice) (plainly : IsPlain a.plans a.empty a.history) (acts
 
     one_more : (e : CommandEnd) (k : ℕ) → k ≡ suc n → o.ends ++ e ∷ [] ≡ (part_of s o.path ccws (o.acts ++ map (behind_ends n) acts) k).ends →
         HasActs s o.path ccws (o.acts ++ map (behind_ends n) acts) k → HasOneMore e
-    one_more e k is ends has = record {
-      longer = ends ∙ ap (λ (i : ℕ). (part_of s o.path ccws (o.acts ++ map (behind_ends n) acts) i).ends) is;
-      point = has.points n (omega (arith, is));
-    }
+    one_more e k is ends has = search arith
 
     by_over : (e : CommandEnd) (over : Bool) → IsPlain a.plans a.empty (if over then closed (record a.history { running = Some later }) (with_end later e) Full
         else record a.history { running = Some (with_end later e) }) → HasOneMore e
-    by_over e true behind =
-        let it = item_in a.plans a.history.items a.empty [] (entry_of (with_end later e) Full) (resets_of a.history.waiting) behind.legal in
-        one_more e (length (o.ends ++ e ∷ [])) (one_longer o.ends e) it.1.0.ends.ends_are it.1.0.acts
-    by_over e false behind =
-        let at = behind.at in one_more e (length (o.ends ++ e ∷ [])) (one_longer o.ends e) at.ends at.acts
+    by_over e over behind = grind (arith, item_in, one_more, one_longer)
 
     has_one_more : (e : CommandEnd) → IsPlain a.plans a.empty (ended (all_acted a.history acts) e) → HasOneMore e
-    has_one_more e behind =
-        by_over e e.over (subst (λ (h : History). IsPlain a.plans a.empty (ended h e)) (acts_run acts a.history o running) behind)
+    has_one_more e behind = grind (arith, by_over, acts_run)
 
     module _ (none : NoLoss acts) (e : CommandEnd) (has : HasOneMore e) where
       end_plain : plain_end a o ≡ Some e
@@ -372,16 +319,13 @@ module _ (a : AuditedDevice) (plainly : IsPlain a.plans a.empty a.history) (acts
           (subst (λ (k : Option ℕ). IsSome k) (sym (same_next s o.path ccws o.acts n as_many is_open.runs acts)) is_open.runs)
 
       legal : is_next_legal (acted_to a acts) (all_acted a.history acts).running ≡ true
-      legal =
-          ap (λ (h : History). is_next_legal (record a { history = h }) h.running) (acts_run acts a.history o running)
-          ∙ legal_by q (next_edit o.path ccws q) has.point.edit_is
+      legal = grind (arith, acts_run, legal_by)
 
       edited_is : track_of (next_edit o.path ccws q) ≡ track_of (next_edit o.path ccws p)
       edited_is = ap track_of (same_edit s o.path ccws o.acts n as_many is_open.runs acts none)
 
       parted : Parted (state_of a) (track_of (next_edit o.path ccws p)) acts
-      parted = part_acts (state_of a) (track_of (next_edit o.path ccws p)) acts
-          (subst (λ (t : Option ℕ). AreActs (state_of a) t acts) edited_is (acts_are (track_of (next_edit o.path ccws q)) has.point.acts_are))
+      parted = grind (arith, part_acts, edited_is, acts_are)
 
     -- A check
 
@@ -394,35 +338,18 @@ module _ (a : AuditedDevice) (plainly : IsPlain a.plans a.empty a.history) (acts
         o.ends ++ e ∷ [] ≡ (part_of s o.path ccws (o.acts ++ map (behind_ends n) acts) k).ends ++ last ∷ [] →
         (part_of s o.path ccws (o.acts ++ map (behind_ends n) acts) k).next ≡ Some last.index → IsCheck ccws last →
         HasActs s o.path ccws (o.acts ++ map (behind_ends n) acts) k → HasCheck e
-    check_at e k is last ends next check_is has =
-        let same : e ≡ last = one_end s o.path ccws o.acts n as_many is_open.runs acts e last o.ends (ends
-        ∙ ap (λ (i : ℕ). (part_of s o.path ccws (o.acts ++ map (behind_ends n) acts) i).ends ++ last ∷ []) is
-        ∙ ap (λ (l : List CommandEnd). l ++ last ∷ []) (same_ends s o.path ccws o.acts n as_many is_open.runs acts ∙ sym is_open.ends)) in
-        record {
-          next = ap (λ (i : ℕ). (part_of s o.path ccws (o.acts ++ map (behind_ends n) acts) i).next) (sym is) ∙ next
-              ∙ ap (λ (x : CommandEnd). Some x.index) (sym same);
-          is_check = subst (λ (x : CommandEnd). IsCheck ccws x) (sym same) check_is;
-          last = subst (λ (i : ℕ). AreActs (bare_part s o.path ccws (o.acts ++ map (behind_ends n) acts) i).state None
-              (acts_at (o.acts ++ map (behind_ends n) acts) i)) is has.last;
-        }
+    check_at e k is last ends next check_is has = grind (arith, one_end, as_many, same_ends)
 
     has_check : (e : CommandEnd) → IsPlain a.plans a.empty (checked (all_acted a.history acts) e) → HasCheck e
     has_check e behind =
-        let so : IsPlain a.plans a.empty (closed (record a.history { running = Some later }) (with_end later e) Checked) =
-        subst (λ (h : History). IsPlain a.plans a.empty (checked h e)) (acts_run acts a.history o running) behind in
+        let so : IsPlain a.plans a.empty (closed (record a.history { running = Some later }) (with_end later e) Checked) = subst
+        (λ (h : History). IsPlain a.plans a.empty (checked h e)) (acts_run acts a.history o running) behind in
         let it = item_in a.plans a.history.items a.empty [] (entry_of (with_end later e) Checked) (resets_of a.history.waiting) so.legal in
-        let many = one_longer o.ends e in
         let ends = it.1.0.ends in
-        check_at e (length (o.ends ++ e ∷ []) - 1) (omega (arith, many)) ends.last ends.ends_are ends.next_is ends.checked it.1.0.acts
+        check_at e (length (o.ends ++ e ∷ []) - 1) (omega (arith, one_longer o.ends e)) ends.last ends.ends_are ends.next_is ends.checked it.1.0.acts
 
     as_check : (e : CommandEnd) (sense : Sense) → IsCheck ccws e → e.sense ≡ Some sense → e ≡ check_end ccws e.index sense
-    as_check e sense c is =
-        ap (λ (x : UnitStatus). record e { status = x }) c.status
-        ∙ ap (λ (x : ℕ). record e { status = check; residual = x }) c.residual
-        ∙ ap (λ (x : List ℕ). record e { status = check; residual = (ccw_at ccws e.index).count; sent = x }) c.sent
-        ∙ ap (λ (x : Note). record e { status = check; residual = (ccw_at ccws e.index).count; sent = []; note = x }) c.note
-        ∙ ap (λ (x : Option Sense). record e { status = check; residual = (ccw_at ccws e.index).count; sent = []; note = Plain; sense = x }) is
-        ∙ ap (λ (x : Bool). record (check_end ccws e.index sense) { over = x }) c.over
+    as_check e sense c is = grind arith
 
     plain_at : (next : Option ℕ) (i : ℕ) → next ≡ Some i → (f : CommandEnd) × (plain_end_at o.path ccws p next ≡ Some f) × (f.index ≡ i)
     plain_at (Some j) i is = (_, refl, let same : j ≡ i = cc in same)
@@ -431,14 +358,7 @@ module _ (a : AuditedDevice) (plainly : IsPlain a.plans a.empty a.history) (acts
     checks_by : (e : CommandEnd) (has : HasCheck e) (sense : Sense) → IsCheckSense sense → e.sense ≡ Some sense → ChecksSo a o e acts
     checks_by e has sense is sensed =
         let f = plain_at p.next e.index (sym (same_next s o.path ccws o.acts n as_many is_open.runs acts) ∙ has.next) in
-        record {
-          plain = f.0;
-          is_plain = f.1;
-          sense = sense;
-          is_check = is;
-          is_so = as_check e sense has.is_check sensed ∙ ap (λ (i : ℕ). check_end ccws i sense) (sym f.2);
-          are = acts_are None has.last;
-        }
+        (search (arith, as_check, acts_are))
 
     pub checks_so : (e : CommandEnd) → IsPlain a.plans a.empty (checked (all_acted a.history acts) e) → ChecksSo a o e acts
     checks_so e behind = by_sense (has_check e behind) (has_check e behind).is_check.sense where
@@ -449,16 +369,13 @@ module _ (a : AuditedDevice) (plainly : IsPlain a.plans a.empty a.history) (acts
   -- where no program runs
   idle_so : a.history.running ≡ None → IsPlain a.plans a.empty (all_acted a.history acts) → AreActs (state_of a) None acts
   idle_so none behind =
-      let so : IsPlain a.plans a.empty (record a.history { items = a.history.items ++ map (λ (act : Act). items.Act act) acts; running = None }) =
-      subst (λ (h : History). IsPlain a.plans a.empty h)
-      (ap (λ (r : Option OpenEntry). all_acted (record a.history { running = r }) acts) none ∙ idle_acts acts a.history) behind in
-      subst (λ (z : PlainState). AreActs z None acts)
-      (sym (ap (λ (r : Option OpenEntry). state_by a.plans (replay a.plans a.empty a.history.items) r) none))
+      let so : IsPlain a.plans a.empty (record a.history { items = a.history.items ++ map (λ (act : Act). items.Act act) acts; running = None }) = rw (← (ap
+      (λ (r : Option OpenEntry). all_acted (record a.history { running = r }) acts) none ∙ idle_acts acts a.history)) behind in
+      rw (ap (λ (r : Option OpenEntry). state_by a.plans (replay a.plans a.empty a.history.items) r) none)
       (acts_in_journal a.plans a.history.items a.empty [] acts so.legal)
 
   by_running : (r : Option OpenEntry) → a.history.running ≡ r → IsPlain a.plans a.empty (all_acted a.history acts) → AreActs (state_of a) None acts
-  by_running (Some o) running behind = open_acts o running behind
-  by_running None none behind = idle_so none behind
+  by_running r running behind = grind (arith, open_acts, idle_so)
 
   -- acts alone
   pub acts_so : IsPlain a.plans a.empty (all_acted a.history acts) → AreActs (state_of a) None acts
@@ -468,26 +385,15 @@ module _ (a : AuditedDevice) (plainly : IsPlain a.plans a.empty a.history) (acts
 
 one_loose : (l : List LooseTrack) (t : ℕ) (track : Track) → is_loose_in (l ++ record { track = t; firm = track } ∷ []) t ≡ true
 one_loose [] t track = ap (λ (b : Bool). if b then true else false) (same_number t)
-one_loose (x ∷ l) t track = by_test (x.track == t) (one_loose l t track) where
-  by_test : (b : Bool) → is_loose_in (l ++ record { track = t; firm = track } ∷ []) t ≡ true →
-      (if b then true else is_loose_in (l ++ record { track = t; firm = track } ∷ []) t) ≡ true
-  by_test true rest = refl
-  by_test false rest = rest
+one_loose (x ∷ l) t track = grind (arith, one_loose l t track, same_number)
 
 loosens_by : (p : Part) (edit : Option TrackEdit) (t : ℕ) → track_of edit ≡ Some t → is_provisional p.stance.extent ≡ true → is_loose_there p.state t ≡ false →
     A.loosens p edit t ≡ true
-loosens_by p (Some e) t is provisional not_loose =
-    let same : e.track ≡ t = cc in
-    and_from ((e.track == t) && is_provisional p.stance.extent) (not (is_loose_there p.state t))
-    (and_from (e.track == t) (is_provisional p.stance.extent) (ap (λ (k : ℕ). e.track == k) (sym same) ∙ same_number e.track) provisional)
-    (ap not not_loose)
-loosens_by p None t is provisional not_loose = absurd (cc)
+loosens_by p edit t is provisional not_loose = grind (arith, and_from, same_number)
 
 provisional_by : (z : PlainState) (s : Stance) (edit : Option TrackEdit) (t : ℕ) → track_of edit ≡ Some t → is_loose_there z t ≡ true → MayEdit z s edit →
     is_provisional s.extent ≡ true
-provisional_by z s (Some e) t is loose may =
-    let same : e.track ≡ t = cc in may (ap (is_loose_there z) same ∙ loose)
-provisional_by z s None t is loose may = absurd (cc)
+provisional_by z s edit t is loose may = grind arith
 
 module _ (a : AuditedDevice) (plainly : IsPlain a.plans a.empty a.history) (o : OpenEntry) (running : a.history.running ≡ Some o) where
   loosely_so : (bs : List Act) (t : ℕ) (e : CommandEnd) → NoLoss (bs ++ Loosen t ∷ []) → AreActs (state_of a) None bs →
@@ -505,22 +411,15 @@ module _ (a : AuditedDevice) (plainly : IsPlain a.plans a.empty a.history) (o : 
       let runs = (is_open a plainly bs o running).runs in
       let q = part_of s o.path ccws (o.acts ++ map (behind_ends n) all) n in
       let z = part_of s o.path ccws (o.acts ++ map (behind_ends n) bs) n in
-      let state = state_is a plainly bs o running in
-      let loose : is_loose_there q.state t ≡ true =
-      ap (λ (y : PlainState). is_loose_there y t) (state_behind s o.path ccws o.acts n many runs all ∙ done_both p.state bs (Loosen t ∷ []))
-      ∙ one_loose (acts_done p.state bs).loose t _ in
+      let loose : is_loose_there q.state t ≡ true = ap (λ (y : PlainState). is_loose_there y t) (state_behind s o.path ccws o.acts n many runs all
+      ∙ done_both p.state bs (Loosen t ∷ [])) ∙ one_loose (acts_done p.state bs).loose t _ in
       let edits_q : track_of (next_edit o.path ccws q) ≡ Some t = ap track_of (same_edit s o.path ccws o.acts n many runs all none) ∙ edits in
-      let edits_z : track_of (next_edit o.path ccws z) ≡ Some t = ap track_of (same_edit s o.path ccws o.acts n many runs bs front) ∙ edits in
-      let provisional : is_provisional z.stance.extent ≡ true =
-      ap (λ (y : Stance). is_provisional y.extent) (same_stance s o.path ccws o.acts n many runs bs ∙ sym (same_stance s o.path ccws o.acts n many runs all))
-      ∙ provisional_by q.state q.stance (next_edit o.path ccws q) t edits_q loose has.point.edit_is in
-      let firm_z : is_loose_there z.state t ≡ false =
-      ap (λ (y : PlainState). is_loose_there y t) (state_behind s o.path ccws o.acts n many runs bs ∙ ap (λ (y : PlainState). acts_done y bs) (sym state))
-      ∙ not_loose in
-      loosely bs t (end_plain a plainly all o running none e has) front are
-      (ap (λ (h : History). may_loosen (record a { history = h }) h.running t) (acts_run bs a.history o running)
-      ∙ loosens_by z (next_edit o.path ccws z) t edits_z provisional firm_z)
-      (legal a plainly all o running none e has)
+      loosely bs t (end_plain a plainly all o running none e has) front are (ap (λ (h : History). may_loosen (record a { history = h }) h.running t)
+      (acts_run bs a.history o running) ∙ loosens_by z (next_edit o.path ccws z) t (ap track_of (same_edit s o.path ccws o.acts n many runs bs front)
+      ∙ edits) (ap (λ (y : Stance). is_provisional y.extent) (same_stance s o.path ccws o.acts n many runs bs ∙ sym
+      (same_stance s o.path ccws o.acts n many runs all)) ∙ provisional_by q.state q.stance (next_edit o.path ccws q) t edits_q loose has.point.edit_is) (ap
+      (λ (y : PlainState). is_loose_there y t) (state_behind s o.path ccws o.acts n many runs bs ∙ ap (λ (y : PlainState). acts_done y bs) (sym
+      (state_is a plainly bs o running))) ∙ not_loose)) (legal a plainly all o running none e has)
 
   by_parts : (e : CommandEnd) (acts : List Act) → NoLoss acts → HasOneMore a plainly acts o running e →
       Parted (state_of a) (track_of (next_edit o.path (words_of_open a o) (part_of_open a o))) acts → EndsSo a o e acts

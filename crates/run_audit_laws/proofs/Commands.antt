@@ -1,5 +1,6 @@
 -- All lines of a command that ends: its end, acts of cache fast write, volume calls, the program that is over.
 use Rattle.std.proofs.Common.{
+  arith,
   ◌≡◌,
   ◌==◌,
   ◌++◌,
@@ -97,9 +98,7 @@ pub record StillRuns (o : OpenEntry) (h : History) : Type 0 where
   pub ordinal : entry.ordinal ≡ o.ordinal
 
 one_runs : (o : OpenEntry) (h : History) (act : Act) → StillRuns o h → StillRuns o (acted h act)
-one_runs o h act s =
-    subst (λ (r : Option OpenEntry). StillRuns o (acted_in h act r)) (sym s.running)
-    (record { entry = _; running = refl; path = s.path; ordinal = s.ordinal })
+one_runs o h act s = subst (λ (r : Option OpenEntry). StillRuns o (acted_in h act r)) (sym s.running) (search arith)
 
 pub still_runs : (o : OpenEntry) (acts : List Act) (h : History) → StillRuns o h → StillRuns o (all_acted h acts)
 still_runs o [] h s = s
@@ -120,8 +119,7 @@ module _ (xs : List AuditedDevice) (w : EventLine) (later : List EventLine) (a :
   -- the OVER line
 
   over_is : (acts : List Act) (ended : HowOver) (s : StillRuns o (all_acted a.history acts)) → over_line (behind_acts acts) s.entry ended ≡ over_told a o ended
-  over_is acts ended s =
-      ap (λ (p : ℕ). lines.Over p a.number s.entry.ordinal ended) s.path ∙ ap (λ (i : ℕ). lines.Over o.path a.number i ended) s.ordinal
+  over_is acts ended s = grind arith
 
   -- with the acts so far, and what came of the command
   module _ (acts : List Act) (more : Bool) (did : Did) (legal : is_legal did (record a { history = all_acted a.history acts; half = Closed }) ≡ true)
@@ -188,37 +186,26 @@ module _ (xs : List AuditedDevice) (w : EventLine) (later : List EventLine) (a :
         × (is_of_work true (worker_of w) line ≡ false)
 
     same_place : ((o.path == o.path) && (a.number == a.number) && (o.ordinal == o.ordinal)) ≡ true
-    same_place =
-        and_from ((o.path == o.path) && (a.number == a.number)) (o.ordinal == o.ordinal)
-        (and_from (o.path == o.path) (a.number == a.number) (same_number o.path) (same_number a.number)) (same_number o.ordinal)
+    same_place = grind (arith, and_from, same_number)
 
     not_of_work : (ended : HowOver) → is_of_work true (worker_of w) (over_told a o ended) ≡ false
     not_of_work ended = ap (λ (k : Option ℕ). is_of_work true k (over_told a o ended)) is_work
 
     is_wanted : (ended : HowOver) → is_over (over_told a o ended) (over_told a o ended) ≡ true → is_same_over ended ended ≡ true →
         Wanted (Some (over_told a o ended))
-    is_wanted ended over same_ended line is =
-        let same : over_told a o ended ≡ line = cc in
-        subst (λ (l : ReportLine). ((is_over l l ≡ true) × (says l l ≡ true)) × (is_of_work true (worker_of w) l ≡ false)) same (
-          (over, and_from ((o.path == o.path) && (a.number == a.number) && (o.ordinal == o.ordinal)) (is_same_over ended ended) same_place same_ended),
-          not_of_work ended,
-        )
+    is_wanted ended over same_ended = grind (arith, and_from, same_place, not_of_work)
 
     if_wanted : (over : Bool) → Wanted (over_if over (over_told a o how.Full))
-    if_wanted true = is_wanted how.Full same_place refl
-    if_wanted false = λ line is. absurd (let none_is : None ≡ Some line = is in cc)
+    if_wanted over = grind (arith, is_wanted, same_place)
 
     runs : StillRuns o (all_acted a.history acts)
     runs = still_runs o acts a.history first_runs
 
     full_over : over_by (acted_to a acts) (Ended p) (all_acted a.history acts).running ≡ over_if p.over (over_told a o how.Full)
-    full_over =
-        ap (over_by (acted_to a acts) (Ended p)) runs.running
-        ∙ ap (λ (l : ReportLine). if p.over then Some l else None) (over_is acts how.Full runs)
+    full_over = grind (arith, over_is, runs)
 
     checked_over : (e : CommandEnd) → over_by (acted_to a acts) (CheckEnded e) (all_acted a.history acts).running ≡ Some (over_told a o how.Checked)
-    checked_over e =
-        ap (over_by (acted_to a acts) (CheckEnded e)) runs.running ∙ ap (λ (l : ReportLine). Some l) (over_is acts how.Checked runs)
+    checked_over e = grind (arith, over_is, runs)
 
     -- The whole
 
@@ -251,30 +238,27 @@ module _ (xs : List AuditedDevice) (w : EventLine) (later : List EventLine) (a :
     loosen_acts_lead t may =
         let s = at_work xs w later a.number is_work a has (behind_acts acts) (Behind true (Ended p)) in
         let one = loosen_judged xs w later a.number is_work a has (behind_acts acts) refl p t may in
-        subst (λ (l : List ReportLine). LeadsBy from (ended_lines o.path a.number o.ordinal p ++ l)
-        (at_work xs w later a.number is_work a has (acted_to a (acts ++ Loosen t ∷ [])) (Behind false (Ended p))))
-        (sym (map-append (act_line a.number) acts (Loosen t ∷ [])))
-        (subst (λ (l : List ReportLine). LeadsBy from l
-        (at_work xs w later a.number is_work a has (acted_to a (acts ++ Loosen t ∷ [])) (Behind false (Ended p))))
-        (append_assoc (ended_lines o.path a.number o.ordinal p) act_lines (act_line a.number (Loosen t) ∷ []))
-        (subst (λ (h : History). LeadsBy from ((ended_lines o.path a.number o.ordinal p ++ act_lines) ++ act_line a.number (Loosen t) ∷ [])
-        (at_work xs w later a.number is_work a has (record a { history = h; half = Closed }) (Behind false (Ended p))))
-        (sym (all_acted-append a.history acts (Loosen t)))
-        (leads_on from s (at_work xs w later a.number is_work a has (record a { history = acted (all_acted a.history acts) (Loosen t); half = Closed })
-        (Behind false (Ended p))) (ended_lines o.path a.number o.ordinal p ++ act_lines) (act_line a.number (Loosen t) ∷ []) plain_acts_lead
-        (one_leads s (at_work xs w later a.number is_work a has (record a { history = acted (all_acted a.history acts) (Loosen t); half = Closed })
-        (Behind false (Ended p))) (act_line a.number (Loosen t)) one))))
+        rw (map-append (act_line a.number) acts (Loosen t ∷ [])) (subst (λ (l : List ReportLine). LeadsBy from l (at_work xs w later a.number is_work a has
+        (acted_to a (acts ++ Loosen t ∷ [])) (Behind false (Ended p)))) (append_assoc (ended_lines o.path a.number o.ordinal p) act_lines (act_line a.number
+        (Loosen t) ∷ [])) (subst (λ (h : History). LeadsBy from ((ended_lines o.path a.number o.ordinal p ++ act_lines) ++ act_line a.number (Loosen t) ∷ [])
+        (at_work xs w later a.number is_work a has (record a { history = h; half = Closed }) (Behind false (Ended p)))) (sym (all_acted-append a.history acts
+        (Loosen t))) (leads_on from s (at_work xs w later a.number is_work a has (record a {
+          history = acted (all_acted a.history acts)
+              (Loosen t);
+          half = Closed;
+        }) (Behind false (Ended p))) (ended_lines o.path a.number o.ordinal p ++ act_lines) (act_line a.number
+        (Loosen t) ∷ []) plain_acts_lead (one_leads s (at_work xs w later a.number is_work a has (record a {
+          history = acted (all_acted a.history acts)
+              (Loosen t);
+          half = Closed;
+        }) (Behind false (Ended p))) (act_line a.number (Loosen t)) one))))
 
     loose_not_of_work : (ended : HowOver) → is_of_work false (worker_of w) (over_told a o ended) ≡ false
     loose_not_of_work ended = ap (λ (k : Option ℕ). is_of_work false k (over_told a o ended)) is_work
 
     loose_wanted : (over : Bool) (line : ReportLine) → over_if over (over_told a o how.Full) ≡ Some line →
         ((is_over line line ≡ true) × (says line line ≡ true)) × (is_of_work false (worker_of w) line ≡ false)
-    loose_wanted true line is =
-        let same : over_told a o how.Full ≡ line = cc in
-        subst (λ (l : ReportLine). ((is_over l l ≡ true) × (says l l ≡ true)) × (is_of_work false (worker_of w) l ≡ false)) same
-        ((same_place, and_from ((o.path == o.path) && (a.number == a.number) && (o.ordinal == o.ordinal)) true same_place refl), loose_not_of_work how.Full)
-    loose_wanted false line is = absurd (let none_is : None ≡ Some line = is in cc)
+    loose_wanted over line is = grind (arith, same_place, and_from, loose_not_of_work)
 
     loose_over : (t : ℕ) → over_by (acted_to a (acts ++ Loosen t ∷ [])) (Ended p) (all_acted a.history (acts ++ Loosen t ∷ [])).running
         ≡ over_if p.over (over_told a o how.Full)

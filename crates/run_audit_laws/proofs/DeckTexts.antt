@@ -1,5 +1,5 @@
 -- No line of a deck's text is REPORT.
-use Rattle.std.proofs.Common.{◌≡◌, ◌+◌, ◌==◌, ◌++◌, ℕ, Bool, true, false, not, List, [], ◌∷◌, length, Some, None, refl, sym, ap, subst, ◌∙◌, append_assoc, if◌then◌else◌}
+use Rattle.std.proofs.Common.{arith, ◌≡◌, ◌+◌, ◌==◌, ◌++◌, ℕ, Bool, true, false, not, List, [], ◌∷◌, length, Some, None, refl, sym, ap, subst, ◌∙◌, append_assoc, if◌then◌else◌}
 use Rattle.std.specs.Prelude.{Result, Ok, Err, codes, nat_lt}
 use Rattle.std.specs.Str.{bytes_eq}
 use Rattle.std.specs.List.{flat_map}
@@ -51,13 +51,10 @@ module _ (deck : DeckLines) where
   Reads m bytes = (s : State) × (read_lines m s (text_lines bytes) ≡ Ok deck)
 
   goes_on : (m : ℕ) (rest : List ℕ) (r : Result State DeckFault) → or_stop r (λ t. read_lines (m + 1) t (text_lines rest)) ≡ Ok deck → Reads (m + 1) rest
-  goes_on m rest (Ok t) h = (t, h)
-  goes_on m rest (Err fault) h = absurd (cc)
+  goes_on m rest r h = grind arith
 
   read_behind : (m : ℕ) (x rest : List ℕ) → is_whole x ≡ true → Reads m (x ++ 10 ∷ rest) → Reads (m + 1) rest
-  read_behind m x rest whole g =
-      let at = begins x rest whole in
-      goes_on m rest (take_line m at.0 g.0) (sym (ap (read_lines m g.0) at.1) ∙ g.1)
+  read_behind m x rest whole g = let at = begins x rest whole in goes_on m rest (take_line m at.0 g.0) (sym (ap (read_lines m g.0) at.1) ∙ g.1)
 
   none_by : (n m : ℕ) (x rest : List ℕ) (xs : List (List ℕ)) (b : Bool) → bytes_eq x (codes "REPORT") ≡ b → Reads m (x ++ 10 ∷ rest) →
       report_from (n + 1) xs ≡ None → (if b then Some n else report_from (n + 1) xs) ≡ None
@@ -75,8 +72,7 @@ module _ (deck : DeckLines) where
       none_by n m x rest xs (bytes_eq x (codes "REPORT")) refl h (none_reports (n + 1) (m + 1) xs w.1 (read_behind m x rest w.0 h))
 
 sized : (text : List ℕ) (deck : DeckLines) (b : Bool) → (if b then Err (Limit Size) else read_lines 1 reading_begun (text_lines text)) ≡ Ok deck → read_lines 1 reading_begun (text_lines text) ≡ Ok deck
-sized text deck true h = absurd (cc)
-sized text deck false h = h
+sized text deck b h = grind arith
 
 pub read_has_none : (text : List ℕ) (deck : DeckLines) (xs : List (List ℕ)) → AreWhole xs → flat_map ended_line xs ≡ text → parsed text ≡ Ok deck → report_from 0 xs ≡ None
 read_has_none text deck xs w is read =

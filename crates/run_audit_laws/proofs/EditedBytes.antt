@@ -50,22 +50,11 @@ LookHolds t l = TurnHolds t l.turned
 
 -- a new record
 record_holds : (c : Ccw) → GivesBytes c → HoldsBytes (record_given c)
-record_holds c gives =
-    let area = as_bytes (count_given c) (given_are 0 8 c gives) in
-    let key = area 5 in
-    let long = given_length 8 (key_given c) c in
-    record {
-      number = area 4;
-      few = omega (arith, key, long);
-      key = given_are 8 (key_given c) c gives;
-      body = given_are (8 + key_given c) (body_given c) c gives;
-    }
+record_holds c gives = search (arith, as_bytes, given_are, given_length)
 
 module _ (c : Ccw) (gives : GivesBytes c) (t : Track) (all : TrackHolds t) (s : Stance) where
   search_holds : (area : SearchArea) (k : Sought) → LookHolds t (search_sought t area s c k)
-  search_holds area (Here i passes) = no_bytes
-  search_holds area (Onward u) = tt
-  search_holds area (Nowhere sense) = no_bytes
+  search_holds area k = grind (arith, no_bytes)
 
   read_holds : (area : ReadArea) (k : Sought) → LookHolds t (read_sought t area s c k)
   read_holds area (Here i passes) = sent_are c (read_bytes t area i) (read_are t area i all)
@@ -87,19 +76,19 @@ module _ (c : Ccw) (gives : GivesBytes c) (t : Track) (all : TrackHolds t) (s : 
 
   update_holds : (key d : Bool) (i : ℕ) → LookHolds t (update_record key d s c i (record_at t.records i))
   update_holds true d i =
-      let r = record_at t.records i in
-      let few = (at_holds t.records i all).few in
-      let long = given_length 0 (length r.key) c in (
-        rewritten i (given_at 0 (length r.key) c) (given_at (length r.key) (length r.body) c) (omega (arith, few, long)) (given_are 0 (length r.key) c gives)
-            (given_are (length r.key) (length r.body) c gives),
+      let r = record_at t.records i in (
+        rewritten i (given_at 0 (length r.key) c) (given_at (length r.key) (length r.body) c) (omega (
+          arith,
+          (at_holds t.records i all).few,
+          (given_length 0
+              (length r.key) c),
+        )) (given_are 0 (length r.key) c gives) (given_are (length r.key) (length r.body) c gives),
         no_bytes,
       )
   update_holds false d i = data_holds d i
 
   updates_hold : (key d : Bool) (k : Sought) → LookHolds t (update_sought key d t.records s c k)
-  updates_hold key d (Here i passes) = update_holds key d i
-  updates_hold key d (Onward u) = tt
-  updates_hold key d (Nowhere sense) = no_bytes
+  updates_hold key d k = grind (arith, update_holds, no_bytes)
 
   format_holds : (g : Geometry) (after : After) (i : ℕ) → LookHolds t (format_behind g t.records after s c i)
   format_holds g after i =
@@ -113,9 +102,7 @@ module _ (c : Ccw) (gives : GivesBytes c) (t : Track) (all : TrackHolds t) (s : 
       (λ _. no_bytes)
 
   zero_holds : LookHolds t (zero_on s c)
-  zero_holds =
-      cond_both (is_zero_given c) (edits (ZeroEdit (record_given c)) (format_ended Wrote s c 0 16)) (ends (refused s c track_format_sense))
-      (LookHolds t) (λ _. (All-cons HoldsBytes (record_given c) [] (record_holds c gives) (All-nil HoldsBytes), no_bytes)) (λ _. no_bytes)
+  zero_holds = grind (arith, cond_both, record_holds, no_bytes)
 
   write_holds : (g : Geometry) (w : Write) → LookHolds t (write_on g t s c w)
   write_holds g Data = updates_hold false (is_some s.domain) _
@@ -127,14 +114,10 @@ module _ (c : Ccw) (gives : GivesBytes c) (t : Track) (all : TrackHolds t) (s : 
   write_holds g Zero = zero_holds
 
   finds_holds : (d : Domain) (o : Option ℕ) → LookHolds t (ends (located s c d o))
-  finds_holds d (Some i) = no_bytes
-  finds_holds d None = no_bytes
+  finds_holds d o = grind (arith, no_bytes)
 
   look_holds : (g : Geometry) (look : Look) → LookHolds t (look_on g t s c look)
-  look_holds g (Finds d) = finds_holds d (find_id d.search t.records)
-  look_holds g (Searches x) = search_holds x.area _
-  look_holds g (Reads r) = read_holds r.area _
-  look_holds g (Writes w) = write_holds g w
+  look_holds g look = grind (arith, finds_holds, search_holds, read_holds, write_holds)
 
 -- From track to track
 
@@ -144,14 +127,10 @@ module _ (tracks : ℕ → Track) (hold : (t : ℕ) → TrackHolds (tracks t)) w
 
   walked_holds : (t : ℕ) (on : Stance → Walked) (s : Stance) (k : Turned) → TurnHolds (tracks t) k → ((z : Stance) → WalkHolds (on z)) →
       WalkHolds (walked t on s k)
-  walked_holds t on s (turns.Ended e) h go = (h, tt)
-  walked_holds t on s turns.Onward h go = go s
-  walked_holds t on s (turns.Edits edit e) h go = (h.1, h.0)
+  walked_holds t on s k h go = grind arith
 
   pub walk_holds : (n : ℕ) (g : Geometry) (start : Stance) (c : Ccw) → GivesBytes c → (look : Look) (s : Stance) →
       WalkHolds (walk n g tracks start c look s)
   unfolding W.walk
   walk_holds zero g start c gives look s = (no_bytes, tt)
-  walk_holds (suc n) g start c gives look s =
-      walked_holds s.track (walk n g tracks start c look) (look_on g (tracks s.track) s c look).stance (look_on g (tracks s.track) s c look).turned
-      (look_holds c gives (tracks s.track) (hold s.track) s g look) (walk_holds n g start c gives look)
+  walk_holds (suc n) g start c gives look s = grind (arith, walk_holds n g start c gives look, walked_holds, look_holds)

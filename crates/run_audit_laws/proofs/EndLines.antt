@@ -1,5 +1,6 @@
 -- The lines of a command's end, with what it sent and its sense.
 use Rattle.std.proofs.Common.{
+  arith,
   ◌≡◌,
   ◌==◌,
   ◌++◌,
@@ -58,19 +59,11 @@ use Rattle.run_audit_laws.proofs.Saying.{same_bytes, same_note, same_number}
 use Rattle.run_audit_laws.proofs.Work.{at_work, worker_is}
 
 pub same_end : (e : EndLine) → is_same_end e e ≡ true
-same_end e =
-    and_from _ (is_same_note e.note e.note)
-    (and_from _ (e.residual == e.residual)
-    (and_from _ (e.status.0 == e.status.0)
-    (and_from _ (e.index == e.index)
-    (and_from _ (e.ordinal == e.ordinal)
-    (and_from (e.path == e.path) (e.device == e.device) (same_number e.path) (same_number e.device))
-    (same_number e.ordinal)) (same_number e.index)) (same_number e.status.0)) (same_number e.residual)) (same_note e.note)
+same_end e = grind (arith, and_from, same_number, same_note)
 
 -- one of these isn't so
 in_midst : (a s r n : Bool) → s ≡ false → (((a && s) && r) && n) ≡ false
-in_midst true s r n e = ap (λ (x : Bool). (x && r) && n) e
-in_midst false s r n e = refl
+in_midst a s r n e = grind arith
 
 -- How an end of the plain device is told apart from equipment check and data check: with sense it has the form of such a check, and without
 -- it another status
@@ -102,11 +95,7 @@ module _ (xs : List AuditedDevice) (w : EventLine) (later : List EventLine) (a :
     checked_as = check_end (words_of_open a o) p.index equipment_sense
 
     first_is : (e : CommandEnd) → judged before_work (end_told e) ≡ or_history (end_made_by before_work (end_told e) a o (Some p))
-    first_is e =
-        ap (λ (b : Bool). if b then or_history (event_made before_work (end_told e) w) else Err Place) (stands e)
-        ∙ ap (λ (k : Option AuditState). or_history k) (makes (end_told e))
-        ∙ ap (λ (r : Option OpenEntry). or_history (end_made before_work (end_told e) a r)) running
-        ∙ ap (λ (k : Option CommandEnd). or_history (end_made_by before_work (end_told e) a o k)) plain
+    first_is e = grind arith
 
     -- its form is that of a check
     check_judged : (e : CommandEnd) → end_line o.path a.number o.ordinal checked_as ≡ end_line o.path a.number o.ordinal e →
@@ -126,13 +115,7 @@ module _ (xs : List AuditedDevice) (w : EventLine) (later : List EventLine) (a :
     -- As on the plain device
 
     data_lead : (l : List ℕ) → p.sent ≡ l → LeadsBy (at (behind_end p l)) (data_lines l ++ []) (at (Behind true (Ended p)))
-    data_lead [] is = refl
-    data_lead (b ∷ bytes) is = (
-      at (Behind true (Ended p)),
-      ap (λ (c : Bool). or_history (if c then Some (at (Behind true (Ended p))) else None))
-          (ap (λ (k : List ℕ). bytes_eq k (b ∷ bytes)) is ∙ same_bytes (b ∷ bytes)),
-      refl,
-    )
+    data_lead l is = search (arith, same_bytes)
 
     plain_by : (sense : Option Sense) → p.sense ≡ sense → TidyBy (ccw_at (words_of_open a o) p.index) p sense →
         LeadsBy before_work (end_told p ∷ (data_lines p.sent ++ sense_lines sense)) (at (Behind true (Ended p)))
@@ -168,19 +151,12 @@ module _ (xs : List AuditedDevice) (w : EventLine) (later : List EventLine) (a :
 
     not_its_sense : (s : Option Sense) → TidyBy (ccw_at (words_of_open a o) p.index) p s → (sense : Sense) → IsCheckSense sense →
         has_sense (lines.Sense sense) s ≡ false
-    not_its_sense (Some s) tidy sense (inl is) = ap (λ (k : Sense). bytes_eq s.bytes k.bytes) is ∙ tidy.4
-    not_its_sense (Some s) tidy sense (inr is) = ap (λ (k : Sense). bytes_eq s.bytes k.bytes) is ∙ tidy.5
-    not_its_sense None tidy sense is = refl
+    not_its_sense s tidy sense is = grind arith
 
     check_by : (sense : Sense) → IsCheckSense sense →
         check_made (at (SenseOf p)) (lines.Sense sense) (record a { half = Closed }) p o
         ≡ Some (at (Behind true (CheckEnded (check_end (words_of_open a o) p.index sense))))
-    check_by sense (inl is) =
-        subst (λ (k : Sense). check_made (at (SenseOf p)) (lines.Sense k) (record a { half = Closed }) p o
-        ≡ Some (at (Behind true (CheckEnded (check_end (words_of_open a o) p.index k))))) (sym is) refl
-    check_by sense (inr is) =
-        subst (λ (k : Sense). check_made (at (SenseOf p)) (lines.Sense k) (record a { half = Closed }) p o
-        ≡ Some (at (Behind true (CheckEnded (check_end (words_of_open a o) p.index k))))) (sym is) refl
+    check_by sense x2 = grind arith
 
     pub check_lead : IsTidy (ccw_at (words_of_open a o) p.index) p → (sense : Sense) → IsCheckSense sense →
         LeadsBy before_work (ended_lines o.path a.number o.ordinal (check_end (words_of_open a o) p.index sense))

@@ -63,8 +63,7 @@ at_first : (s : Subsystem) → AtTotals (stand s []) 0
 at_first s line = refl
 
 at_more : (s : AuditState) (k : ℕ) → s.due ≡ Totals k → AtTotals s k
-at_more s k is line =
-    ap (λ (due : Due). if stands_in s line due then or_history (made_in s line due) else Err Place) is
+at_more s k is = grind arith
 
 judged_at : (s : AuditState) (k : ℕ) (line : ReportLine) → AtTotals s k → in_totals (outlines s) line k ≡ true → judged s line ≡ Ok (totals_made s line k)
 judged_at s k line at is = at line ∙ ap (λ (b : Bool). if b then Ok (totals_made s line k) else Err Place) is
@@ -81,9 +80,7 @@ drop_next : (outs : List Outline) (k : ℕ) (a : Outline) (rest : List Outline) 
 drop_next [] zero a rest is = absurd (cc)
 drop_next [] (suc k) a rest is = absurd (cc)
 drop_next (x ∷ outs) zero a rest is = same_tail x a outs rest is
-drop_next (x ∷ outs) (suc k) a rest is =
-    let e : suc k + 1 ≡ suc (k + 1) = omega arith in
-    ap (λ (n : ℕ). drop n (x ∷ outs)) e ∙ drop_next outs k a rest is
+drop_next (x ∷ outs) (suc k) a rest is = grind (arith, drop_next outs k a rest is, same_tail)
 
 get_here : (outs : List Outline) (k : ℕ) (a : Outline) (rest : List Outline) → drop k outs ≡ a ∷ rest → slice_get outs k ≡ Some a
 get_here [] zero a rest is = absurd (cc)
@@ -98,31 +95,15 @@ totalled s k = record s { due = Totals (k + 1) }
 
 module _ (s : AuditState) (k : ℕ) (d : MarksDevice) (rest : List Outline) (left : drop k (outlines s) ≡ outline_of (audited d) ∷ rest) where
   lost_stands : (t : ℕ) → d.store.lent ≡ None → in_totals (outlines s) (lines.Lost d.store.device t) (k + 1) ≡ true
-  lost_stands t home =
-      let some : nat_lt 0 (k + 1) ≡ true = grind (arith, nat_tests) in
-      let place : k + 1 - 1 ≡ k = omega arith in
-      let line = lines.Lost d.store.device t in
-      or_left (nat_lt 0 (k + 1) && holds (slice_get (outlines s) (k + 1 - 1)) (λ a. is_lost_of line a a.lent))
-      (in_totals_of (outlines s) line (drop (k + 1) (outlines s)))
-      (and_from (nat_lt 0 (k + 1)) (holds (slice_get (outlines s) (k + 1 - 1)) (λ a. is_lost_of line a a.lent)) some
-      (ap (λ (n : ℕ). holds (slice_get (outlines s) n) (λ a. is_lost_of line a a.lent)) place
-      ∙ ap (λ (o : Option Outline). holds o (λ a. is_lost_of line a a.lent)) (get_here (outlines s) k (outline_of (audited d)) rest left)
-      ∙ ap (is_lost_of line (outline_of (audited d))) home ∙ same_number d.store.device))
+  lost_stands t home = grind (arith, nat_tests, or_left, and_from, get_here, same_number)
 
   lost_lead : (lost : List ℕ) → d.store.lent ≡ None → LeadsBy (totalled s k) (map (lines.Lost d.store.device) lost) (totalled s k)
   lost_lead [] home = refl
-  lost_lead (t ∷ lost) home = (
-    totalled s k,
-    judged_at (totalled s k) (k + 1) (lines.Lost d.store.device t) (at_more (totalled s k) (k + 1) refl) (lost_stands t home),
-    lost_lead lost home,
-  )
+  lost_lead (t ∷ lost) home = search (arith, lost_lead lost home, judged_at, at_more, lost_stands)
 
   total_stands : (x : DeviceTotals) → is_totals_of (lines.Device d.store.device x) (outline_of (audited d)) d.store.lent ≡ true →
       in_totals (outlines s) (lines.Device d.store.device x) k ≡ true
-  total_stands x is =
-      let line = lines.Device d.store.device x in
-      or_right (nat_lt 0 k && holds (slice_get (outlines s) (k - 1)) (λ a. is_lost_of line a a.lent)) (in_totals_of (outlines s) line (drop k (outlines s)))
-      (ap (in_totals_of (outlines s) line) left ∙ is)
+  total_stands x is = grind (arith, or_right)
 
   module _ (at : AtTotals s k) where
     total_judged : (x : DeviceTotals) → is_totals_of (lines.Device d.store.device x) (outline_of (audited d)) d.store.lent ≡ true →
@@ -130,13 +111,7 @@ module _ (s : AuditState) (k : ℕ) (d : MarksDevice) (rest : List Outline) (lef
     total_judged x is = judged_at s k (lines.Device d.store.device x) at (total_stands x is)
 
     by_lent : (l : Option ℕ) → d.store.lent ≡ l → LeadsBy s (device_lines (device_end_by d.store l)) (totalled s k)
-    by_lent (Some to) is = (
-      totalled s k,
-      total_judged (totals.Lent to)
-          (ap (is_totals_of (lines.Device d.store.device (totals.Lent to)) (outline_of (audited d))) is
-          ∙ and_from (d.store.device == d.store.device) (to == to) (same_number d.store.device) (same_number to)),
-      refl,
-    )
+    by_lent (Some to) is = search (arith, total_judged, and_from, same_number)
     by_lent None is = (
       totalled s k,
       total_judged (totals.Calls d.store.counts.reads d.store.counts.writes (length (lost_tracks d.store)))
@@ -158,17 +133,9 @@ devices_lead : (s : AuditState) (ms : List Mounted) (k : ℕ) → AtTotals s k �
     EndsAt s (flat_map device_lines (map device_end ms))
 devices_lead s [] k at left = record { due = s.due; leads = refl; place = k; at = at; none = left }
 devices_lead s (m ∷ ms) k at left =
-    let rest = map outline_of (map audited (devices ms)) in
-    let next = drop_next (outlines s) k (outline_of (audited m.device)) rest left in
-    let more = devices_lead (totalled s k) ms (k + 1) (at_more (totalled s k) (k + 1) refl) next in
-    record {
-      due = more.due;
-      leads = leads_on s (totalled s k) (record s { due = more.due }) (device_lines (device_end m)) (flat_map device_lines (map device_end ms))
-          (by_lent s k m.device rest left at m.device.store.lent refl) more.leads;
-      place = more.place;
-      at = more.at;
-      none = more.none;
-    }
+    let more = devices_lead (totalled s k) ms (k + 1) (at_more (totalled s k) (k + 1) refl) (drop_next (outlines s) k (outline_of (audited m.device))
+    (map outline_of (map audited (devices ms))) left) in
+    (search (arith, leads_on, by_lent))
 
 -- The frames, and the last line
 
@@ -192,10 +159,7 @@ end_totals s k at none = record {
 }
 
 end_frames : (s : AuditState) → AtEnd (record s { due = Frames })
-end_frames s = record {
-  frame = λ d t modified is. ap (λ (b : Bool). if b then Ok (record s { due = Frames }) else Err Place) (or_left (is_declared (outlines s) d) false is);
-  finish = refl;
-}
+end_frames s = search (arith, or_left)
 
 frames_lead : (s : AuditState) (fs : List Frame) → AtEnd s → All (Declared s) fs →
     LeadsBy s (map frame_line fs ++ lines.Finish ∷ []) (record s { due = Nothing })

@@ -43,11 +43,7 @@ abbrev IsOther : Option Sense → Type 0
 IsOther sense = sense ≡ Some equipment_sense → ⊥
 
 fits_by : (c : Ccw) (e : Ending) (o : Option Sense) → FitsBy c e o → IsOther o
-fits_by c e (Some sense) h =
-    λ is. let same : sense ≡ equipment_sense = cc in
-    let no_such : bytes_eq equipment_sense.bytes equipment_sense.bytes ≡ false = ap (λ (s : Sense). bytes_eq s.bytes equipment_sense.bytes) (sym same) ∙ h.4.0 in
-    let both : true ≡ false = sym (same_bytes equipment_sense.bytes) ∙ no_such in cc
-fits_by c e None h = λ is. cc
+fits_by c e o h = grind (arith, same_bytes)
 
 -- From track to track
 
@@ -58,9 +54,7 @@ record Comes (n : ℕ) (o : Outcome) : Type 0 where
 module _ (n : ℕ) (whole : n % 15 ≡ 0) (g : Geometry) (tracks : ℕ → Track) (start : Stance) (starts : On n start) (c : Ccw) (look : Look) (seeks : SeeksOn n look) where
   turned_comes : (s z : Stance) (x : Turned) (next : Stance → Walked) → TurnFits c x → On n z → FurtherBy n s z x →
       ((y : Stance) → On n y → y.track ≡ s.track + 1 → Comes n (next y).outcome) → Comes n (walked s.track next z x).outcome
-  turned_comes s z (turns.Ended e) next fits on further go = record { other = fits_by c e e.sense fits; on = on }
-  turned_comes s z turns.Onward next fits on further go = go z on further.1.1
-  turned_comes s z (turns.Edits edit e) next fits on further go = record { other = fits_by c e e.sense fits; on = on }
+  turned_comes s z x next fits on further go = search (arith, fits_by)
 
   walk_comes : (k : ℕ) (s : Stance) → On n s → n ≤ k + s.track → Comes n (walk k g tracks start c look s).outcome
   unfolding W.walk
@@ -75,37 +69,23 @@ module _ (n : ℕ) (whole : n % 15 ≡ 0) (g : Geometry) (tracks : ℕ → Track
 -- A command
 
 act_on : (n : ℕ) (s : Stance) (c : Ccw) (bytes : List ℕ) (act : LocalAct) → On n s → On n (act_outcome s c bytes act).stance
-act_on n s c bytes (acts.SetGroup function id) on = record { track = on.track; extent = on.extent }
-act_on n s c bytes acts.Sense on = record { track = on.track; extent = on.extent }
-act_on n s c bytes acts.SenseId on = record { track = on.track; extent = on.extent }
-act_on n s c bytes acts.Reserve on = record { track = on.track; extent = on.extent }
-act_on n s c bytes acts.Release on = record { track = on.track; extent = on.extent }
-act_on n s c bytes acts.Steal on = record { track = on.track; extent = on.extent }
-act_on n s c bytes acts.SenseGroup on = record { track = on.track; extent = on.extent }
+act_on n s c bytes act on = search arith
 
 module _ (f : Fixed) (some : 0 < f.cylinders) (paths : PathsState) (tracks : ℕ → Track) (path : ℕ) (start : Stance) (starts : On (f.cylinders * 15) start)
     (c : Ccw) where
   acted_on : (act : LocalAct) (o : Option GroupFault) → On (f.cylinders * 15) (acted_by f paths path start c act o).outcome.stance
-  acted_on act (Some fault) = record { track = starts.track; extent = starts.extent }
-  acted_on act None = act_on (f.cylinders * 15) start c _ act starts
+  acted_on act o = search (arith, act_on)
 
   effect_comes : (s : Stance) (o : Opening) → OpeningFits c o → Opens (f.cylinders * 15) s o →
       Comes (f.cylinders * 15) (effect_by f paths tracks path start c s o).outcome
   effect_comes s (openings.Over e) fits on = record { other = fits_by c e e.sense fits; on = on }
   effect_comes s (openings.Looks look) fits on =
       walk_comes (f.cylinders * 15) (whole_cylinders f.cylinders) f.geometry tracks start starts c look on.1 (f.cylinders * 15) s on.0 (omega arith)
-  effect_comes s (openings.Asks act) fits on = record {
-    other = fits_by c (acted_by f paths path start c act (act_fault paths path act)).outcome.ending
-        (acted_by f paths path start c act (act_fault paths path act)).outcome.ending.sense
-        (act_fits f paths path start c act (act_fault paths path act));
-    on = acted_on act (act_fault paths path act);
-  }
+  effect_comes s (openings.Asks act) fits on = search (arith, fits_by, act_fits, acted_on)
 
 comes : (f : Fixed) → 0 < f.cylinders → (state : PlainState) (path : ℕ) (s : Stance) (c : Ccw) → On (f.cylinders * 15) s →
     Comes (f.cylinders * 15) (effect_on f state path s c).outcome
-comes f some state path s c on =
-    effect_comes f some state.paths (track_in state.volume) path s on c (opening_of f s c).stance (opening_of f s c).opening (opening_fits f s c)
-    (opening_is_on f s c f.cylinders refl on some)
+comes f some state path s c on = grind (arith, effect_comes, opening_fits, opening_is_on)
 
 -- A program's parts
 
@@ -127,12 +107,7 @@ module _ (path : ℕ) (ccws : List Ccw) (xs : List Acted) (state : PlainState) (
     on : On (state.cylinders * 15) p.stance
 
   acted_stands : (p : Part) → StandsOn p → StandsOn (P.acts_made xs p)
-  acted_stands p h =
-      let b = acted_beside xs p in
-      record {
-        fixed = ap (λ (f : Fixed). f.cylinders) b.fixed ∙ h.fixed;
-        on = subst (λ (s : Stance). On (state.cylinders * 15) s) (sym b.stance) h.on;
-      }
+  acted_stands p h = search (arith, acted_beside)
 
   on_own : (p : Part) → StandsOn p → On (p.fixed.cylinders * 15) p.stance
   on_own p h = subst (λ (k : ℕ). On (k * 15) p.stance) (sym h.fixed) h.on
@@ -141,19 +116,12 @@ module _ (path : ℕ) (ccws : List Ccw) (xs : List Acted) (state : PlainState) (
   some_own p h = subst (λ (k : ℕ). 0 < k) (sym h.fixed) some
 
   stepped_stands : (p : Part) (next : Option ℕ) → StandsOn p → StandsOn (stepped_at path ccws p next)
-  stepped_stands p (Some i) h = record {
-    fixed = h.fixed;
-    on = subst (λ (k : ℕ). On (k * 15) (effect_on p.fixed p.state path p.stance (ccw_at ccws i)).outcome.stance) h.fixed
-        (comes p.fixed (some_own p h) p.state path p.stance (ccw_at ccws i) (on_own p h)).on;
-  }
-  stepped_stands p None h = h
+  stepped_stands p next h = search (arith, comes, some_own, on_own)
 
   part_stands : (k : ℕ) → StandsOn (part_of state path ccws xs k)
   unfolding P.part_of
-  part_stands zero =
-      acted_stands (P.first_part state path ccws) (record { fixed = refl; on = record { track = omega (arith, some); extent = tt } })
-  part_stands (suc k) =
-      let p = part_of state path ccws xs k in acted_stands (command_run path ccws p) (stepped_stands p p.next (part_stands k))
+  part_stands zero = acted_stands (P.first_part state path ccws) (search arith)
+  part_stands (suc k) = grind (arith, part_stands k, acted_stands, stepped_stands)
 
   end_at : (p : Part) → StandsOn p → (next : Option ℕ) (e : CommandEnd) → plain_end_at path ccws p next ≡ Some e → IsOther e.sense
   end_at p h (Some i) e is =

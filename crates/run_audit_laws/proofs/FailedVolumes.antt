@@ -1,5 +1,5 @@
 -- Behind a piece of work the lines of a volume's failure by which tracks become firm read as more of that work: the audit's devices are alike then.
-use Rattle.std.proofs.Common.{◌≡◌, ◌==◌, ℕ, Bool, true, false, List, [], ◌∷◌, map, Option, Some, None, refl, sym, ap, subst, ◌∙◌, if◌then◌else◌}
+use Rattle.std.proofs.Common.{arith, ◌≡◌, ◌==◌, ℕ, Bool, true, false, List, [], ◌∷◌, map, Option, Some, None, refl, sym, ap, subst, ◌∙◌, if◌then◌else◌}
 use Rattle.std.specs.Prelude.{IfSome, Ok, option_map}
 use Rattle.std.specs.List.{flat_map}
 use Rattle.std.proofs.lemmas.Bool.{eqb-true}
@@ -68,23 +68,18 @@ module _ (xs : List AuditedDevice) (w : EventLine) (d : ℕ) (side : Side) (late
   module _ (a : AuditedDevice) (ys : List AuditedDevice) (k : IsDone a ys) where
     settled_so : (more : Bool) → settled (waits a more) did
         ≡ record { devices = with_device xs (worked a did); events = events.FailVolume d side ∷ later; due = Next }
-    settled_so more =
-        settled_plainly xs w left n works first has a k.number more did k.legal (over_none a did a.history.running k.quiet)
-        ∙ ap (λ (b : Bool). if b then before (with_device xs (worked a did))
-        else record { devices = with_device xs (worked a did); events = w ∷ left; due = Next }) k.over
+    settled_so more = grind (arith, settled_plainly, over_none)
 
     -- a line that isn't of the work
     other_leads : (more : Bool) (line : ReportLine) (ls : List ReportLine) (t : AuditState) →
         is_of_work more (worker_number (waits a more)) line ≡ false → LeadsBy (before ys) (line ∷ ls) t → LeadsBeside (waits a more) (line ∷ ls) t
     other_leads more line ls t other leads =
         let v = waits a more in
-        let all = subst (λ (z : AuditState). AlikeStates z (before ys)) (sym (settled_so more))
-        (record { events_are = refl; due_is = refl; devices_are = k.alike }) in
-        let from = leads_alike (line ∷ ls) (settled v did) (before ys) t all leads in (
+        let from = leads_alike (line ∷ ls) (settled v did) (before ys) t (subst (λ (z : AuditState). AlikeStates z (before ys)) (sym (settled_so more))
+        (search arith)) leads in (
           from.0,
-          waiting_leads v from.0 line ls more did refl other
-              (ap (λ (x : Option AuditedDevice). holds x (is_legal did)) (worker_is xs w left n works first has a (Behind more did) k.number) ∙ k.legal)
-              (ap (λ (z : AuditState). z.due) (settled_so more)) from.1,
+          waiting_leads v from.0 line ls more did refl other (ap (λ (x : Option AuditedDevice). holds x (is_legal did))
+              (worker_is xs w left n works first has a (Behind more did) k.number) ∙ k.legal) (ap (λ (z : AuditState). z.due) (settled_so more)) from.1,
           from.2,
         )
 
@@ -129,16 +124,14 @@ module _ (xs : List AuditedDevice) (w : EventLine) (d : ℕ) (side : Side) (late
 
       by_device : (x : Option AuditedDevice) → AlikeFound (Some (worked a did)) x → (u : AuditState) →
           or_history (then_of x (λ b. harden_made (before ys) b track Next)) ≡ Ok u → Firmer u
-      by_device (Some b) is u made = by_test b is u (is_loose_there (state_of b) track) refl made
-      by_device None is u made = absurd is
+      by_device x is u made = grind (arith, by_test)
 
       firm_too : (u : AuditState) → judged (before ys) (lines.Loose n (loose.Harden track)) ≡ Ok u → Firmer u
       firm_too u so =
-          let made = stands_so (in_event (outlines (before ys)) (lines.Loose n (loose.Harden track)) (events.FailVolume d side))
-          (or_history (then_of (device_in ys n) (λ b. harden_made (before ys) b track Next))) u so in
-          by_device (device_in ys n)
-          (subst (λ (x : Option AuditedDevice). AlikeFound x (device_in ys n))
-          (found_put xs n first (worked a did) has (worked_number a did ∙ k.number)) (found_alike (with_device xs (worked a did)) ys k.alike n)) u made.1
+          let made = stands_so (in_event (outlines (before ys)) (lines.Loose n (loose.Harden track)) (events.FailVolume d side)) (or_history (then_of
+          (device_in ys n) (λ b. harden_made (before ys) b track Next))) u so in
+          by_device (device_in ys n) (rw (← (found_put xs n first (worked a did) has (worked_number a did ∙ k.number))) (found_alike (with_device xs
+          (worked a did)) ys k.alike n)) u made.1
 
       firm_leads : (ls : List ReportLine) (t : AuditState) → LeadsBy (before ys) (lines.Loose n (loose.Harden track) ∷ ls) t →
           ((b : AuditedDevice) (zs : List AuditedDevice) → IsDone b zs → LeadsBy (before zs) ls t → LeadsBeside (waits b true) ls t) →
@@ -150,10 +143,7 @@ module _ (xs : List AuditedDevice) (w : EventLine) (d : ℕ) (side : Side) (late
 
   -- no track becomes firm of the work of another device, or once another became loose
   firm_other : (m track : ℕ) (more : Bool) → is_of_work more (worker_of w) (lines.Loose m (loose.Harden track)) ≡ true → (m ≡ n) × (more ≡ true)
-  firm_other m track true is =
-      (eqb-true m n (sym (ap (λ (x : Option ℕ). is_of_work true x (lines.Loose m (loose.Harden track))) works) ∙ is), refl)
-  firm_other m track false is =
-      absurd (let never : false ≡ true = sym (ap (λ (x : Option ℕ). is_of_work false x (lines.Loose m (loose.Harden track))) works) ∙ is in cc)
+  firm_other m track more is = grind (arith, eqb-true)
 
   waits_lead : (ls : List ReportLine) (a : AuditedDevice) (ys : List AuditedDevice) (more : Bool) → IsDone a ys → (t : AuditState) →
       LeadsBy (before ys) ls t → (t.events ≡ events.FailVolume d side ∷ later → ⊥) → LeadsBeside (waits a more) ls t
@@ -171,27 +161,14 @@ module _ (xs : List AuditedDevice) (w : EventLine) (d : ℕ) (side : Side) (late
           subst (λ (c : Bool). LeadsBeside (waits a c) (lines.Loose m (loose.Harden track) ∷ ls) t) (sym so.1)
           (subst (λ (i : ℕ). LeadsBeside (waits a true) (lines.Loose i (loose.Harden track) ∷ ls) t) (sym so.0)
           (firm_leads a ys k track ls t (subst (λ (i : ℕ). LeadsBy (before ys) (lines.Loose i (loose.Harden track) ∷ ls) t) so.0 leads) rest))
-  waits_lead (lines.Order order answer ∷ ls) a ys more k t leads past =
-      other_leads a ys k more (lines.Order order answer) ls t (of_none (lines.Order order answer) refl (λ i. refl) more (worker_of w)) leads
+  waits_lead (lines.Order order answer ∷ ls) a ys more k t leads past = search (arith, other_leads, of_none)
   waits_lead (line ∷ ls) a ys more k t leads past = absurd (cc)
 
 -- Where a piece of work that waits so leads
 
 put_if : (c : Bool) (x a : AuditedDevice) (xs : List AuditedDevice) (n : ℕ) → (x.number == n) ≡ c → (if c then Some x else device_in xs n) ≡ Some a →
     (device_in xs n ≡ Some a → (a.number ≡ n) × (with_device xs a ≡ xs)) → (a.number ≡ n) × (with_device (x ∷ xs) a ≡ x ∷ xs)
-put_if true x a xs n is found go =
-    let same : x ≡ a = cc in
-    let number : a.number ≡ n = eqb-true a.number n (ap (λ (y : AuditedDevice). y.number == n) (sym same) ∙ is) in (
-      number,
-      ap (λ (b : Bool). if b then a ∷ xs else x ∷ with_device xs a) (ap (λ (m : ℕ). x.number == m) number ∙ is)
-          ∙ ap (λ (y : AuditedDevice). y ∷ xs) (sym same),
-    )
-put_if false x a xs n is found go =
-    let rest = go found in (
-      rest.0,
-      ap (λ (b : Bool). if b then a ∷ xs else x ∷ with_device xs a) (ap (λ (m : ℕ). x.number == m) rest.0 ∙ is)
-          ∙ ap (λ (l : List AuditedDevice). x ∷ l) rest.1,
-    )
+put_if c x a xs n is found go = grind (arith, eqb-true)
 
 -- a device in its own place
 put_own : (xs : List AuditedDevice) (n : ℕ) (a : AuditedDevice) → device_in xs n ≡ Some a → (a.number ≡ n) × (with_device xs a ≡ xs)
@@ -199,8 +176,7 @@ put_own [] n a found = absurd (cc)
 put_own (x ∷ xs) n a found = put_if (x.number == n) x a xs n refl found (put_own xs n a)
 
 self_at : (x : Option AuditedDevice) → AlikeFound x x → (a : AuditedDevice) → x ≡ Some a → IsTidy a.history
-self_at (Some b) is a same = let it : b ≡ a = cc in subst (λ (y : AuditedDevice). IsTidy y.history) it is.tidy
-self_at None is a same = absurd (cc)
+self_at x is a same = grind arith
 
 module _ (xs : List AuditedDevice) (d : ℕ) (side : Side) (later : List EventLine) (more : Bool) (did : Did) (selves : AreAlike xs xs) (ys : List AuditedDevice)
     (goes : (n : ℕ) (b : AuditedDevice) → device_in ys n ≡ Some b → GoesOn (seen b).past.running) (ls : List ReportLine) (t : AuditState)
@@ -242,37 +218,29 @@ module _ (xs : List AuditedDevice) (d : ℕ) (side : Side) (later : List EventLi
         ◌≡◌ {A = AuditState} (if b then record { devices = with_device xs (worked a did); events = rest; due = Next }
         else record { devices = with_device xs (worked a did); events = w ∷ rest; due = Next }) (record { devices = ys; events = events.FailVolume d side ∷ later; due = Next }) →
         LeadsBeside (record { devices = xs; events = w ∷ rest; due = Behind more did }) ls t
-    from_event none true over same =
-        from_over none over (ap (λ (z : AuditState). z.events) same) (ap (λ (z : AuditState). z.devices) same)
-    from_event none false over same =
-        let begins = ap (λ (z : AuditState). then_of (first_event z.events) worker_of) same in
-        absurd (let never : Some n ≡ None = sym works ∙ begins in cc)
+    from_event none b over same = search (arith, from_over)
 
     from_work : (o : Option ReportLine) → over_by a did a.history.running ≡ o →
         settled_by (record { devices = xs; events = w ∷ rest; due = Behind more did }) a did o ≡ record { devices = ys; events = events.FailVolume d side ∷ later; due = Next } →
         LeadsBeside (record { devices = xs; events = w ∷ rest; due = Behind more did }) ls t
-    from_work None none same = from_event none (is_event_over (Some w) done did) refl same
-    from_work (Some line) is same = absurd (let never : OverOf line ≡ Next = ap (λ (z : AuditState). z.due) same in cc)
+    from_work o none same = search (arith, from_event)
 
   from_worker : (w : EventLine) (rest : List EventLine) (n : ℕ) → worker_of w ≡ Some n → (x : Option AuditedDevice) → device_in xs n ≡ x →
       holds x (is_legal did) ≡ true → settled_in (record { devices = xs; events = w ∷ rest; due = Behind more did }) did x
       ≡ record { devices = ys; events = events.FailVolume d side ∷ later; due = Next } →
       LeadsBeside (record { devices = xs; events = w ∷ rest; due = Behind more did }) ls t
-  from_worker w rest n works (Some a) has legal same = from_work w rest n works a has legal (over_by a did a.history.running) refl same
-  from_worker w rest n works None has legal same = absurd (cc)
+  from_worker w rest n works x has legal same = search (arith, from_work)
 
   from_number : (w : EventLine) (rest : List EventLine) (x : Option ℕ) → worker_of w ≡ x → holds (then_of x (device_in xs)) (is_legal did) ≡ true →
       settled_in (record { devices = xs; events = w ∷ rest; due = Behind more did }) did (then_of x (device_in xs))
       ≡ record { devices = ys; events = events.FailVolume d side ∷ later; due = Next } →
       LeadsBeside (record { devices = xs; events = w ∷ rest; due = Behind more did }) ls t
-  from_number w rest (Some n) works legal same = from_worker w rest n works (device_in xs n) refl legal same
-  from_number w rest None works legal same = absurd (cc)
+  from_number w rest x works legal same = search (arith, from_worker)
 
   from_waiting : (l : List EventLine) → holds (worker (record { devices = xs; events = l; due = Behind more did })) (is_legal did) ≡ true →
       settled (record { devices = xs; events = l; due = Behind more did }) did ≡ record { devices = ys; events = events.FailVolume d side ∷ later; due = Next } →
       LeadsBeside (record { devices = xs; events = l; due = Behind more did }) ls t
-  from_waiting (w ∷ rest) legal same = from_number w rest (worker_of w) refl legal same
-  from_waiting [] legal same = absurd (cc)
+  from_waiting l legal same = search (arith, from_number)
 
 -- Before the failure each device of the run goes on
 
@@ -294,14 +262,11 @@ module _ (s : Subsystem) (plain : ArePlain s.mounted) where
       (n : Option ℕ) (v : AuditState) → AreAlike v.devices v.devices → Reaches n v (stand s (events.FailVolume d side ∷ later)) →
       LeadsBeside v (flat_map lines_of (line_logged s (asked_by (events.FailVolume d side)))) (stand (line_behind s (events.FailVolume d side)) later)
   failure_leads d side later past leads n v selves (is_there same) =
-      let z = stand s (events.FailVolume d side ∷ later) in
-      let ls = flat_map lines_of (line_logged s (asked_by (events.FailVolume d side))) in
-      leads_alike ls v z (stand (line_behind s (events.FailVolume d side)) later)
-      (subst (AlikeStates v) same (record { events_are = refl; due_is = refl; devices_are = selves })) (leads later)
+      leads_alike (flat_map lines_of (line_logged s (asked_by (events.FailVolume d side)))) v (stand s (events.FailVolume d side ∷ later)) (stand
+      (line_behind s (events.FailVolume d side)) later) (rw (← same) (record { events_are = refl; due_is = refl; devices_are = selves })) (leads later)
   failure_leads d side later past leads n v selves (is_waiting more did is works legal same) =
       let ls = flat_map lines_of (line_logged s (asked_by (events.FailVolume d side))) in
       let t = stand (line_behind s (events.FailVolume d side)) later in
-      subst (λ (q : Due). LeadsBeside (record v { due = q }) ls t) (sym is)
-      (from_waiting v.devices d side later more did selves (map audited (devices_of s)) all_go ls t (leads later) past v.events
-      (subst (λ (q : Due). holds (worker (record v { due = q })) (is_legal did) ≡ true) is legal)
-      (subst (λ (q : Due). settled (record v { due = q }) did ≡ stand s (events.FailVolume d side ∷ later)) is same))
+      rw is (from_waiting v.devices d side later more did selves (map audited (devices_of s)) all_go ls t (leads later) past v.events (subst
+      (λ (q : Due). holds (worker (record v { due = q })) (is_legal did) ≡ true) is legal) (subst (λ (q : Due). settled (record v { due = q }) did ≡ stand s
+      (events.FailVolume d side ∷ later)) is same))

@@ -23,10 +23,7 @@ module _ (ns : List ℕ) (most : length ns ≤ 16) where
   Few s = length (devices_of s) ≤ 16
 
   few : (s : Subsystem) → So ns s → Few s
-  few s t =
-      as_many (length (devices_of s)) (length s.mounted) (length (ties s.mounted)) (length (map (λ (x : Tie). x.number) (ties s.mounted))) (length ns)
-      (length-map s.mounted (λ (m : Mounted). m.device)) (length-map s.mounted _) (length-map (ties s.mounted) (λ (x : Tie). x.number))
-      (ap length t.numbers_are) most
+  few s t = grind (arith, as_many, ties, length-map)
 
   abbrev IsFew : Logged → Type 0
   IsFew t = Few t.happened.before
@@ -36,15 +33,10 @@ module _ (ns : List ℕ) (most : length ns ≤ 16) where
   each_few s (t ∷ ts) l g = All-cons IsFew t ts (subst Few (sym l.0) (few s g.0)) (each_few t.happened.behind ts l.1 g.1)
 
 read_numbers : (text : List ℕ) (deck : DeckLines) → parsed text ≡ Ok deck → length (numbers_in deck) ≤ 16
-read_numbers text deck read =
-    let same = length-map deck.devices (λ (d : DeviceLine). d.number) in
-    let few = read_few_devices text deck read in
-    omega (arith, same, few)
+read_numbers text deck read = grind (arith, length-map, read_few_devices)
 
 pub run_has_few : (text : List ℕ) (deck : DeckLines) → parsed text ≡ Ok deck → All (λ (t : Logged). length (devices_of t.happened.before) ≤ 16) (run_of deck).events
 unfolding D.run_asked_on
 run_has_few text deck read =
-    let ns = numbers_in deck in
-    let most = read_numbers text deck read in
     let asked = map asked_by deck.events in
-    each_few ns most (opened deck) (run_lines asked (opened deck)) (lines_linked asked (opened deck)) (run_tied deck)
+    each_few (numbers_in deck) (read_numbers text deck read) (opened deck) (run_lines asked (opened deck)) (lines_linked asked (opened deck)) (run_tied deck)

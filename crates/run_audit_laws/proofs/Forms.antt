@@ -1,5 +1,5 @@
 -- Each line of a run's report has its form: an IO line tells of a call, and an order POWER is done.
-use Rattle.std.proofs.Common.{◌≡◌, ◌==◌, ◌++◌, ℕ, Bool, true, false, not, List, [], ◌∷◌, length, map, Option, Some, None, refl, ap, if◌then◌else◌}
+use Rattle.std.proofs.Common.{arith, ◌≡◌, ◌==◌, ◌++◌, ℕ, Bool, true, false, not, List, [], ◌∷◌, length, map, Option, Some, None, refl, ap, if◌then◌else◌}
 use Rattle.std.specs.Prelude.{◌&&◌, All}
 use Rattle.std.specs.List.{flat_map}
 use Rattle.std.proofs.lemmas.List.Elements.{All-append, All-cons, All-head, All-nil, All-tail}
@@ -53,51 +53,20 @@ one line is = All-cons Formed line [] is (All-nil Formed)
 -- What an event did
 
 data_formed : (bytes : List ℕ) → All Formed (data_lines bytes)
-data_formed [] = All-nil Formed
-data_formed (b ∷ bytes) = one (lines.Data (b ∷ bytes)) refl
+data_formed bytes = grind (arith, one)
 
 sense_formed : (sense : Option Sense) → All Formed (sense_lines sense)
-sense_formed (Some sense) = one (lines.Sense sense) refl
-sense_formed None = All-nil Formed
+sense_formed sense = grind (arith, one)
 
 first_formed : (h : report.Happened) → All Formed (first_lines h)
-first_formed (did.Started path d a) = one (lines.Start path d a) refl
-first_formed (did.Ended path d n e) =
-    All-append Formed (lines.End (end_line path d n e) ∷ []) (data_lines e.sent ++ sense_lines e.sense) (one (lines.End (end_line path d n e)) refl)
-    (All-append Formed (data_lines e.sent) (sense_lines e.sense) (data_formed e.sent) (sense_formed e.sense))
-first_formed (did.Half path d t) = one (lines.Half path d t) refl
-first_formed (did.Back d a) = one (lines.Back d a) refl
-first_formed (did.StepIdle d) = one (lines.StepIdle d) refl
-first_formed (did.RunIdle d) = one (lines.RunIdle d) refl
-first_formed (did.Reset path d) = All-nil Formed
-first_formed (did.Ordered order a) = All-nil Formed
+first_formed h = grind (arith, one, data_formed, sense_formed)
 
 -- an order with an answer that it may have
 abbrev WellTold : report.Happened → Type 0
 WellTold h = All Formed (line_if (last_line h))
 
-end_well : (d : ℕ) (r : Option RunningProgram) (e : CommandEnd) → WellTold (end_told d r e)
-end_well d (Some r) e = All-nil Formed
-end_well d None e = All-nil Formed
-
-half_well : (d : ℕ) (r : Option RunningProgram) (t : ℕ) → WellTold (half_told d r t)
-half_well d (Some r) t = All-nil Formed
-half_well d None t = All-nil Formed
-
 work_well : (d : ℕ) (r : Option RunningProgram) (idle : report.Happened) → WellTold idle → (end : EventEnd) → WellTold (work_told d r idle end)
-work_well d r idle well (ends.Stepped (stepped.Ended e)) = end_well d r e
-work_well d r idle well (ends.Stepped (stepped.Half t)) = half_well d r t
-work_well d r idle well (ends.Second (seconds.Ended e)) = end_well d r e
-work_well d r idle well (ends.Second (seconds.Finished t)) = All-nil Formed
-work_well d r idle well (ends.Second (seconds.Unwritten t)) = All-nil Formed
-work_well d r idle well (ends.Back x) = All-nil Formed
-work_well d r idle well (ends.Started n) = well
-work_well d r idle well (ends.NotStarted f) = well
-work_well d r idle well ends.Running = well
-work_well d r idle well ends.Idle = well
-work_well d r idle well ends.Done = well
-work_well d r idle well (ends.Pending n) = well
-work_well d r idle well (ends.Refused f) = well
+work_well d r idle well end = grind arith
 
 -- Beside it
 
@@ -109,8 +78,7 @@ loose_formed : (x y : MarksDevice) → All Formed (loose_lines x y)
 loose_formed x y = loosed_formed (map (loosed x.store.device) (loose_told x y))
 
 program_formed : (o : Option ProgramOver) → All Formed (program_over_lines o)
-program_formed None = All-nil Formed
-program_formed (Some o) = one (lines.Over o.path o.device o.ordinal o.how) refl
+program_formed o = grind (arith, one)
 
 over_formed : (x y : MarksDevice) → All Formed (over_lines x y)
 over_formed x y = program_formed (over_of x.store.device (new_items x.history y.history))
@@ -120,15 +88,11 @@ power_formed x y = All-append Formed (over_lines x y) (loose_lines x y) (over_fo
 
 each_formed : (f : MarksDevice → MarksDevice → List ReportLine) → ((x y : MarksDevice) → All Formed (f x y)) → (xs ys : List MarksDevice) →
     All Formed (of_each f xs ys)
-each_formed f formed [] ys = All-nil Formed
-each_formed f formed (x ∷ xs) [] = All-nil Formed
 each_formed f formed (x ∷ xs) (y ∷ ys) = All-append Formed (f x y) (of_each f xs ys) (formed x y) (each_formed f formed xs ys)
+each_formed f formed xs ys = All-nil Formed
 
 io_formed : (reads writes : ℕ) → All Formed (io_lines reads writes)
-io_formed reads writes = by_calls ((reads == 0) && (writes == 0)) refl where
-  by_calls : (b : Bool) → ((reads == 0) && (writes == 0)) ≡ b → All Formed (if b then [] else lines.Io reads writes ∷ [])
-  by_calls true is = All-nil Formed
-  by_calls false is = one (lines.Io reads writes) (ap not is)
+io_formed reads writes = grind (arith, one)
 
 -- An event
 
@@ -146,10 +110,6 @@ module _ (reads writes : ℕ) (xs ys : List MarksDevice) where
   -- that isn't a loss of power
   event_formed : (end : EventEnd) (e : Event) → (e ≡ events.Power → ⊥) → All Formed (event_lines (Once e) end reads writes xs ys)
   event_formed end (events.Start path d) other = work_formed (did.Started path d (start_answer end)) (All-nil Formed)
-  event_formed end (events.Step d) other =
-      work_formed (work_told d (running_in xs d) (did.StepIdle d) end) (work_well d (running_in xs d) (did.StepIdle d) (All-nil Formed) end)
-  event_formed end (events.Back d) other =
-      work_formed (work_told d (running_in xs d) (did.Back d back.Nothing) end) (work_well d (running_in xs d) (did.Back d back.Nothing) (All-nil Formed) end)
   event_formed end (events.Reset path d) other = work_formed (did.Reset path d) (one (lines.Reset path d) refl)
   event_formed end events.FailCache other = work_formed (did.Ordered orders.FailCache (order_answer end)) (one (lines.Order orders.FailCache (order_answer end)) refl)
   event_formed end events.FailStore other = work_formed (did.Ordered orders.FailStore (order_answer end)) (one (lines.Order orders.FailStore (order_answer end)) refl)
@@ -160,6 +120,7 @@ module _ (reads writes : ℕ) (xs ys : List MarksDevice) where
   event_formed end (events.Suspend a) other = work_formed (did.Ordered (orders.Suspend a) (order_answer end)) (one (lines.Order (orders.Suspend a) (order_answer end)) refl)
   event_formed end (events.Resume a) other = work_formed (did.Ordered (orders.Resume a) (order_answer end)) (one (lines.Order (orders.Resume a) (order_answer end)) refl)
   event_formed end events.Power other = absurd (other refl)
+  event_formed end e other = grind (arith, work_formed, work_well)
 
   power_all : (end : EventEnd) → order_answer end ≡ order_answer ends.Done → All Formed (event_lines (Once events.Power) end reads writes xs ys)
   power_all end is =
@@ -167,12 +128,10 @@ module _ (reads writes : ℕ) (xs ys : List MarksDevice) where
       (one (lines.Order orders.Power (order_answer end)) (ap (has_answer orders.Power) is))
 
   run_formed : (end : EventEnd) (d : ℕ) → All Formed (event_lines (Run d) end reads writes xs ys)
-  run_formed end d =
-      work_formed (work_told d (running_in xs d) (did.RunIdle d) end) (work_well d (running_in xs d) (did.RunIdle d) (All-nil Formed) end)
+  run_formed end d = work_formed (work_told d (running_in xs d) (did.RunIdle d) end) (work_well d (running_in xs d) (did.RunIdle d) (All-nil Formed) end)
 
   settle_formed : (end : EventEnd) (d : ℕ) → All Formed (event_lines (Settle d) end reads writes xs ys)
-  settle_formed end d =
-      work_formed (work_told d (running_in xs d) (did.Back d back.Nothing) end) (work_well d (running_in xs d) (did.Back d back.Nothing) (All-nil Formed) end)
+  settle_formed end d = grind (arith, work_formed, work_well)
 
   replace_formed : (end : EventEnd) (d : ℕ) (side : Side) → All Formed (event_lines (Replace d side) end reads writes xs ys)
   replace_formed end d side =
@@ -200,20 +159,9 @@ once_formed s e = by_event e where
       let h = happens s e in event_formed h.reads h.writes (devices_of h.before) (devices_of h.behind) h.end e other
 
   by_event : (e : Event) → All Formed (lines_of (logged (Once e) (happens s e)))
-  by_event (events.Start path d) = plainly (events.Start path d) (λ is. let never : (events.Start path d) ≡ events.Power = is in cc)
-  by_event (events.Step d) = plainly (events.Step d) (λ is. let never : (events.Step d) ≡ events.Power = is in cc)
-  by_event (events.Back d) = plainly (events.Back d) (λ is. let never : (events.Back d) ≡ events.Power = is in cc)
-  by_event (events.Reset path d) = plainly (events.Reset path d) (λ is. let never : (events.Reset path d) ≡ events.Power = is in cc)
-  by_event events.FailCache = plainly events.FailCache (λ is. let never : events.FailCache ≡ events.Power = is in cc)
-  by_event events.FailStore = plainly events.FailStore (λ is. let never : events.FailStore ≡ events.Power = is in cc)
-  by_event (events.FailVolume d side) = plainly (events.FailVolume d side) (λ is. let never : (events.FailVolume d side) ≡ events.Power = is in cc)
-  by_event events.RepairCache = plainly events.RepairCache (λ is. let never : events.RepairCache ≡ events.Power = is in cc)
-  by_event events.RepairStore = plainly events.RepairStore (λ is. let never : events.RepairStore ≡ events.Power = is in cc)
-  by_event (events.Pair a b) = plainly (events.Pair a b) (λ is. let never : (events.Pair a b) ≡ events.Power = is in cc)
-  by_event (events.Suspend a) = plainly (events.Suspend a) (λ is. let never : (events.Suspend a) ≡ events.Power = is in cc)
-  by_event (events.Resume a) = plainly (events.Resume a) (λ is. let never : (events.Resume a) ≡ events.Power = is in cc)
   by_event events.Power =
       let h = happens s events.Power in power_all h.reads h.writes (devices_of h.before) (devices_of h.behind) h.end (ap order_answer (power_end s))
+  by_event e = plainly e (λ is. let never : e ≡ events.Power = is in cc)
 
 forms_go : Goes So (λ s. LineFormed) AnyEvent
 forms_go = record {
@@ -230,8 +178,7 @@ forms_go = record {
 
 all_lines : (ts : List Logged) → All LineFormed ts → All Formed (flat_map lines_of ts)
 all_lines [] all = All-nil Formed
-all_lines (t ∷ ts) all =
-    All-append Formed (lines_of t) (flat_map lines_of ts) (All-head LineFormed t ts all) (all_lines ts (All-tail LineFormed t ts all))
+all_lines (t ∷ ts) all = All-append Formed (lines_of t) (flat_map lines_of ts) (All-head LineFormed t ts all) (all_lines ts (All-tail LineFormed t ts all))
 
 -- The end
 
@@ -240,9 +187,7 @@ lost_formed d [] = All-nil Formed
 lost_formed d (t ∷ lost) = All-cons Formed (lines.Lost d t) (map (lines.Lost d) lost) refl (lost_formed d lost)
 
 device_formed : (e : DeviceEnd) → All Formed (device_lines e)
-device_formed (Counted d reads writes lost) =
-    All-cons Formed (lines.Device d (totals.Calls reads writes (length lost))) (map (lines.Lost d) lost) refl (lost_formed d lost)
-device_formed (LentTo d to) = one (lines.Device d (totals.Lent to)) refl
+device_formed e = grind (arith, lost_formed, one)
 
 devices_formed : (es : List DeviceEnd) → All Formed (flat_map device_lines es)
 devices_formed [] = All-nil Formed

@@ -1,5 +1,5 @@
 -- The devices of a run as the audit has them: by their numbers, and with another one in the place of one.
-use Rattle.std.proofs.Common.{◌≡◌, ◌==◌, ℕ, Bool, true, false, List, [], ◌∷◌, map, Option, Some, refl, ap, ◌∙◌, if◌then◌else◌}
+use Rattle.std.proofs.Common.{arith, ◌≡◌, ◌==◌, ℕ, Bool, true, false, List, [], ◌∷◌, map, Option, Some, refl, ap, ◌∙◌, if◌then◌else◌}
 use Rattle.std.specs.Prelude.{option_map}
 use Rattle.device_defs.specs.Marks.{MarksDevice}
 use Rattle.deck_audit.specs.Device as A
@@ -15,8 +15,7 @@ devices ms = map (λ (m : Mounted). m.device) ms
 
 found_by : (b : Bool) (d : MarksDevice) (x : Option AuditedDevice) (y : Option MarksDevice) → x ≡ option_map audited y →
     (if b then Some (audited d) else x) ≡ option_map audited (if b then Some d else y)
-found_by true d x y e = refl
-found_by false d x y e = e
+found_by b d x y e = grind arith
 
 -- by its number
 pub found : (ds : List MarksDevice) (n : ℕ) → A.device_in (map audited ds) n ≡ option_map audited (device_in ds n)
@@ -28,8 +27,7 @@ found_one ds n d is = found ds n ∙ ap (λ (o : Option MarksDevice). option_map
 
 outline_by : (b : Bool) (a : AuditedDevice) (x : Option Outline) (y : Option AuditedDevice) → x ≡ option_map outline_of y →
     (if b then Some (outline_of a) else x) ≡ option_map outline_of (if b then Some a else y)
-outline_by true a x y e = refl
-outline_by false a x y e = e
+outline_by b a x y e = grind arith
 
 -- and its outline
 pub outlined : (all : List AuditedDevice) (n : ℕ) → outline_in (map outline_of all) n ≡ option_map outline_of (A.device_in all n)
@@ -44,14 +42,12 @@ outline_one ds n d is = outlined (map audited ds) n ∙ ap (λ (o : Option Audit
 
 put_by : (b : Bool) (m x : Mounted) (ms rest : List Mounted) (all : List AuditedDevice) → all ≡ map audited (devices rest) →
     (if b then audited x.device ∷ map audited (devices ms) else audited m.device ∷ all) ≡ map audited (devices (if b then x ∷ ms else m ∷ rest))
-put_by true m x ms rest all e = refl
-put_by false m x ms rest all e = ap (λ (l : List AuditedDevice). audited m.device ∷ l) e
+put_by b m x ms rest all e = grind arith
 
 pub put_there : (ms : List Mounted) (x : Mounted) →
     with_device (map audited (devices ms)) (audited x.device) ≡ map audited (devices (put_in ms (number_of x) x))
 put_there [] x = refl
-put_there (m ∷ ms) x =
-    put_by (number_of m == number_of x) m x ms (put_in ms (number_of x) x) (with_device (map audited (devices ms)) (audited x.device)) (put_there ms x)
+put_there (m ∷ ms) x = grind (arith, put_there ms x, put_by)
 
 pub put_at : (ms : List Mounted) (n : ℕ) (x : Mounted) → number_of x ≡ n →
     with_device (map audited (devices ms)) (audited x.device) ≡ map audited (devices (put_in ms n x))
@@ -61,8 +57,7 @@ same_by : (b : Bool) (m x : Mounted) (ms rest : List Mounted) (o : Option Mounte
     ((y : Mounted) → (if b then Some m else o) ≡ Some y → audited x.device ≡ audited y.device) →
     (((y : Mounted) → o ≡ Some y → audited x.device ≡ audited y.device) → map audited (devices rest) ≡ map audited (devices ms)) →
     map audited (devices (if b then x ∷ ms else m ∷ rest)) ≡ map audited (devices (m ∷ ms))
-same_by true m x ms rest o same go = ap (λ (a : AuditedDevice). a ∷ map audited (devices ms)) (same m refl)
-same_by false m x ms rest o same go = ap (λ (l : List AuditedDevice). audited m.device ∷ l) (go same)
+same_by b m x ms rest o same go = grind arith
 
 -- one of which the audit knows the same
 pub put_same : (ms : List Mounted) (n : ℕ) (x : Mounted) → ((y : Mounted) → mounted_in ms n ≡ Some y → audited x.device ≡ audited y.device) →
@@ -73,12 +68,10 @@ put_same (m ∷ ms) n x same = same_by (number_of m == n) m x ms (put_in ms n x)
 mounted_by : (b : Bool) (m : Mounted) (d : MarksDevice) (o : Option MarksDevice) (q : Option Mounted) →
     (if b then Some m.device else o) ≡ Some d → (o ≡ Some d → (y : Mounted) × (q ≡ Some y) × (y.device ≡ d)) →
     (y : Mounted) × ((if b then Some m else q) ≡ Some y) × (y.device ≡ d)
-mounted_by true m d o q is go = (m, refl, let e : m.device ≡ d = cc in e)
-mounted_by false m d o q is go = go is
+mounted_by b m d o q is go = grind arith
 
 -- a device that is found is mounted
 pub mounted_too : (ms : List Mounted) (n : ℕ) (d : MarksDevice) → device_in (devices ms) n ≡ Some d →
     (y : Mounted) × (mounted_in ms n ≡ Some y) × (y.device ≡ d)
 mounted_too [] n d is = absurd (cc)
-mounted_too (m ∷ ms) n d is =
-    mounted_by (number_of m == n) m d (device_in (devices ms) n) (mounted_in ms n) is (mounted_too ms n d)
+mounted_too (m ∷ ms) n d is = grind (arith, mounted_too ms n d, mounted_by)

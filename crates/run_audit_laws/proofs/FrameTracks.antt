@@ -81,19 +81,10 @@ each_track n (t ∷ ts) few below = (below_few t n below.0 few, each_track n ts 
 
 module _ (d : MarksDevice) (good : Good d) (sized : Sized d) where
   chain_near : (o : Option ChainState) → d.chain ≡ o → IfSome o Near
-  chain_near (Some chain) is = record {
-    tracks = d.store.cylinders * 15;
-    few = few_tracks d.store.cylinders sized.cylinders;
-    whole = whole_cylinders d.store.cylinders;
-    within = within d good chain is;
-  }
-  chain_near None is = tt
+  chain_near o is = search (arith, few_tracks, whole_cylinders, within)
 
   queue_near : Each IsTrack d.store.queue
-  queue_near =
-      by_lent d
-      (λ home. each_track (tracks_of d.store) d.store.queue (few_tracks d.store.cylinders sized.cylinders) (all_queued d.store (good.well home).here))
-      (λ away. subst (λ (queue : List ℕ). Each IsTrack queue) (sym (good.gone away).store.queue) tt)
+  queue_near = grind (arith, by_lent, each_track, few_tracks, all_queued)
 
 abbrev pub OnTrack : Frame → Type 0
 OnTrack f = IsTrack f.0.1
@@ -104,9 +95,7 @@ on_tracks P (f ∷ fs) all = All-cons OnTrack f fs all.0.1 (on_tracks P fs all.1
 
 pub frames_have_tracks : (text : List ℕ) (deck : DeckLines) → parsed text ≡ Ok deck → All OnTrack (run_of deck).behind.pool.frames
 frames_have_tracks text deck read =
-    let first = both_are Good Sized good_kept sized_kept (opened deck).mounted
-    (opened_good empty_firsts deck deck.devices (read_served text deck read).devices) (first_sized text deck read)
-    in
-    on_tracks _ (run_of deck).behind.pool.frames
-    (run_so IsTrack Near near_comes (Both Good Sized good_kept sized_kept) (both_kept Good Sized good_kept sized_kept)
-    (λ d k. (chain_near d k.0 k.1 d.chain refl, queue_near d k.0 k.1)) deck first).2
+    on_tracks _ (run_of deck).behind.pool.frames (run_so IsTrack Near near_comes (Both Good Sized good_kept sized_kept)
+    (both_kept Good Sized good_kept sized_kept) (λ d k. (chain_near d k.0 k.1 d.chain refl, queue_near d k.0 k.1)) deck
+    (both_are Good Sized good_kept sized_kept (opened deck).mounted (opened_good empty_firsts deck deck.devices (read_served text deck read).devices)
+    (first_sized text deck read))).2

@@ -1,5 +1,5 @@
 -- In a run each frame of the pool is of a device of the deck, and of a track that the devices come to.
-use Rattle.std.proofs.Common.{◌≡◌, ◌==◌, ◌⊎◌, ℕ, Bool, true, false, List, [], ◌∷◌, map, Option, Some, None, cond, refl, sym, ap, subst, ◌∙◌, inl, inr}
+use Rattle.std.proofs.Common.{arith, ◌≡◌, ◌==◌, ◌⊎◌, ℕ, Bool, true, false, List, [], ◌∷◌, map, Option, Some, None, cond, refl, sym, ap, subst, ◌∙◌, inl, inr}
 use Rattle.std.specs.Prelude.{All, IfSome, if◌then◌else◌}
 use Rattle.std.specs.Map.{lookup_entry, remove_entry, set_value}
 use Rattle.std.specs.Option.{option_map_or}
@@ -64,64 +64,44 @@ module _ (P T : ℕ → Type 0) where
 
   removed_of : (test : ℕ × ℕ → Bool) (fs : List Frame) → AllOf fs → AllOf (remove_entry test fs)
   removed_of test [] a = tt
-  removed_of test (f ∷ fs) a =
-      cond_both (test f.0) fs (f ∷ remove_entry test fs) AllOf (λ _. a.1) (λ _. (a.0, removed_of test fs a.1))
+  removed_of test (f ∷ fs) a = grind (arith, removed_of test fs a.1, cond_both)
 
   set_of : (test : ℕ × ℕ → Bool) (fs : List Frame) (m : Bool) → AllOf fs → AllOf (set_value test fs m)
   set_of test [] m a = tt
-  set_of test (f ∷ fs) m a =
-      cond_both (test f.0) ((f.0, m) ∷ fs) (f ∷ set_value test fs m) AllOf (λ _. (a.0, a.1)) (λ _. (a.0, set_of test fs m a.1))
+  set_of test (f ∷ fs) m a = grind (arith, set_of test fs m a.1, cond_both)
 
   abbrev IsOf : Frame → Type 0
   IsOf f = P f.0.0 × T f.0.1
 
   found_if : (b : Bool) (f : Frame) (o : Option Frame) → IsOf f → IfSome o IsOf → IfSome (cond b (Some f) o) IsOf
-  found_if true f o p rest = p
-  found_if false f o p rest = rest
+  found_if b f o p rest = grind arith
 
   looked_of : (test : ℕ × ℕ → Bool) (fs : List Frame) → AllOf fs → IfSome (lookup_entry test fs) IsOf
   looked_of test [] a = tt
   looked_of test (f ∷ fs) a = found_if (test f.0) f (lookup_entry test fs) a.0 (looked_of test fs a.1)
 
   front_by : (o : Option Frame) (fs rest : List Frame) → IfSome o IsOf → AllOf fs → AllOf rest → AllOf (option_map_or (λ f. f ∷ rest) o fs)
-  front_by (Some f) fs rest p a b = (p, b)
-  front_by None fs rest p a b = a
+  front_by o fs rest p a b = grind arith
 
   front_of : (fs : List Frame) (d t : ℕ) → AllOf fs → AllOf (in_front fs d t)
-  front_of fs d t a =
-      front_by (lookup_entry (is_of d t) fs) fs (frame_removed fs d t) (looked_of (is_of d t) fs a) a (removed_of (is_of d t) fs a)
+  front_of fs d t a = front_by (lookup_entry (is_of d t) fs) fs (frame_removed fs d t) (looked_of (is_of d t) fs a) a (removed_of (is_of d t) fs a)
 
   less_of : (fs : List Frame) (o : Option (ℕ × ℕ)) → AllOf fs → AllOf (less_frame fs o)
-  less_of fs None a = a
-  less_of fs (Some f) a = removed_of (is_of f.0 f.1) fs a
+  less_of fs o a = grind (arith, removed_of)
 
   wanted_of : (p : Pool) (d t : ℕ) → P d × T t → AllOf p.frames → AllOf (frames_wanted p d t)
-  wanted_of p d t own a =
-      cond_both (is_listed p.frames d t) (in_front p.frames d t) (if grants p then ((d, t), false) ∷ less_frame p.frames (evicted p) else p.frames) AllOf
-      (λ _. front_of p.frames d t a)
-      (λ _. cond_both (grants p) (((d, t), false) ∷ less_frame p.frames (evicted p)) p.frames AllOf
-      (λ _. (own, less_of p.frames (evicted p) a)) (λ _. a))
+  wanted_of p d t own a = grind (arith, cond_both, front_of, less_of)
 
   module _ (n : ℕ) (has : P n) where
     after_of : (p : Pool) (call : Call) (a : AnswerTo call) → IsOwn T n call → AllOf p.frames → AllOf (after p call a).frames
     unfolding O.after
-    after_of p (NextNotice d) a own all = all
-    after_of p (Touch d t) a own all = front_of p.frames d t all
-    after_of p (WantFrame d t) a own all = wanted_of p d t (subst P (sym own.0) has, own.1) all
-    after_of p (SetModified d t) a own all = set_of (is_of d t) p.frames true all
-    after_of p (SetClean d t) a own all = set_of (is_of d t) p.frames false all
-    after_of p (DropFrame d t) a own all = removed_of (is_of d t) p.frames all
-    after_of p WantSlot a own all = all
-    after_of p (FreeSlot k) a own all = all
-    after_of p (TellWaiting d k) a own all = all
+    after_of p call a own all = grind (arith, front_of, wanted_of, set_of, removed_of)
 
     read_of : (w : Told) (side : Side) → AllOf w.pool.frames → AllOf (told_read w side).pool.frames
-    read_of w sides.A all = all
-    read_of w sides.B all = all
+    read_of w side all = grind arith
 
     write_of : (w : Told) (side : Side) → AllOf w.pool.frames → AllOf (told_write w side).pool.frames
-    write_of w sides.A all = all
-    write_of w sides.B all = all
+    write_of w side all = grind arith
 
     -- behind a device's own event
     wants_of : {S A : Type 0} (i : Interaction Bool Image S A) (q : S → A → Type 0) → Wants T n i q → (w : Told) → AllOf w.pool.frames →
@@ -171,27 +151,17 @@ module _ (P T : ℕ → Type 0) where
 
   some_at : (ms : List Mounted) (n : ℕ) (m : Mounted) → mounted_in ms n ≡ Some m → AreSome ms → (P n) × (number_of m ≡ n)
   some_at [] n m is has = absurd (cc)
-  some_at (k ∷ ms) n m is has = by_test (number_of k == n) refl is (λ found. some_at ms n m found has.1) where
-    by_test : (b : Bool) → (number_of k == n) ≡ b → (if b then Some k else mounted_in ms n) ≡ Some m →
-        (mounted_in ms n ≡ Some m → (P n) × (number_of m ≡ n)) → (P n) × (number_of m ≡ n)
-    by_test true test found more =
-        let same : number_of k ≡ n = eqb-true (number_of k) n test in
-        let it : k ≡ m = cc in
-        (subst P same has.0, ap (λ (x : Mounted). number_of x) (sym it) ∙ same)
-    by_test false test found more = more found
+  some_at (k ∷ ms) n m is has = grind (arith, some_at ms n m, eqb-true)
 
   becomes_of : (s : Subsystem) (n : ℕ) (d : MarksDevice) (o : Option Mounted) → (becomes s n o d).pool ≡ s.pool
-  becomes_of s n d (Some m) = refl
-  becomes_of s n d None = refl
+  becomes_of s n d o = grind arith
 
   joined_of : (s : Subsystem) (n : ℕ) (volume : Calls) (o : Option Mounted) → (joined s n volume o).pool ≡ s.pool
-  joined_of s n volume (Some m) = refl
-  joined_of s n volume None = refl
+  joined_of s n volume o = grind arith
 
   asks_of : (s : Subsystem) (d : MarksDevice) (talk : Talk (Option EventEnd)) → OwnTalk d talk → AreSome s.mounted → AllOf P T s.pool.frames →
       (o : Option Mounted) → mounted_in s.mounted d.store.device ≡ o → AllOf P T (asks s d.store.device o talk).behind.pool.frames
-  asks_of s d talk own has all (Some m) there =
-      held_of P T d.store.device (some_at s.mounted d.store.device m there has).0 own (told_to s.pool m) all
+  asks_of s d talk own has all (Some m) there = held_of P T d.store.device (some_at s.mounted d.store.device m there has).0 own (told_to s.pool m) all
   asks_of s d talk own has all None there = all
 
   lends_of : (s : Subsystem) (a b : ℕ) → AreSome s.mounted → AllOf P T s.pool.frames → (o : Option Mounted) → mounted_in s.mounted b ≡ o →
@@ -206,21 +176,14 @@ module _ (P T : ℕ → Type 0) where
 
   happens_of : (s : Subsystem) (x : MarksDeed) → KeepsFrames s x → AreSome s.mounted → AllOf P T s.pool.frames →
       AllOf P T (happens_by s x).behind.pool.frames
-  happens_of s (Ends end) h has all = all
-  happens_of s (Becomes d end) h has all =
-      subst (λ (p : Pool). AllOf P T p.frames) (sym (becomes_of s d.store.device d (mounted_in s.mounted d.store.device))) all
-  happens_of s (Asks d talk) h has all = asks_of s d talk h has all (mounted_in s.mounted d.store.device) refl
-  happens_of s (Each pool f) h has all = swept_of f h.1 s.mounted has pool (h.0 all)
-  happens_of s (Repairs pool) h has all = h all
-  happens_of s (Lends a b) h has all = lends_of s a.store.device b.store.device has all (mounted_in s.mounted b.store.device) refl
+  happens_of s x h has all = grind (arith, becomes_of, asks_of, swept_of, lends_of)
 
   -- an answer asks nothing
   answered : {X Y : Type 0} (d : MarksDevice) (talk : Talk X) (f : X → Y) → OwnTalk d talk → OwnTalk d (and_then talk (λ z a. Done z (f a)))
   answered d talk f own = own_then own (λ z a g. own_done g)
 
   repaired_of : (p q : Pool) (b : Bool) → q.frames ≡ p.frames → AllOf P T p.frames → AllOf P T (if b then q else p).frames
-  repaired_of p q true same all = subst (AllOf P T) (sym same) all
-  repaired_of p q false same all = all
+  repaired_of p q b same all = grind arith
 
   -- of devices of which this is so, whose commands and queues come to these tracks
   module _ (In : ChainState → Type 0) (comes : Comes T In) (K : MarksDevice → Type 0)
@@ -256,10 +219,7 @@ all_some : (ns : List ℕ) (ms : List Mounted) (P T : ℕ → Type 0) → map (�
     AreSome P T ms
 all_some ns [] P T are has = tt
 all_some [] (m ∷ ms) P T are has = absurd (cc)
-all_some (n ∷ ns) (m ∷ ms) P T are has =
-    let first : number_of m ≡ n = cc in
-    let rest : map (λ (t : Tie). t.number) (ties ms) ≡ ns = cc in
-    (has (number_of m) (inl (sym first)), all_some ns ms P T rest (λ k is. has k (inr is)))
+all_some (n ∷ ns) (m ∷ ms) P T are has = grind (arith, all_some ns ms P T)
 
 module _ (T : ℕ → Type 0) (In : ChainState → Type 0) (comes : Comes T In) (K : MarksDevice → Type 0) (kept : IsKept K AnyEvent)
     (near : (d : MarksDevice) → K d → IfSome d.chain In × EachIs T d.store.queue) where
@@ -283,18 +243,10 @@ module _ (T : ℕ → Type 0) (In : ChainState → Type 0) (comes : Comes T In) 
     )
 
     replaced_pool : (s : Subsystem) (n : ℕ) (side : Side) (o : Option Mounted) → (replaced_at s n side unfailing o).behind.pool ≡ s.pool
-    replaced_pool s n side None = refl
-    replaced_pool s n side (Some m) = by_fault (replace_fault m.device side) where
-      by_fault : (f : Option OrderFault) → (replaced_by s n side unfailing m f).behind.pool ≡ s.pool
-      by_fault (Some fault) = refl
-      by_fault None = refl
+    replaced_pool s n side o = grind arith
 
     unpaired_pool : (s : Subsystem) (n : ℕ) (o : Option Mounted) → (unpaired_at s n unfailing o).behind.pool ≡ s.pool
-    unpaired_pool s n None = refl
-    unpaired_pool s n (Some m) = by_fault (unpair_fault m.device) where
-      by_fault : (f : Option OrderFault) → (unpaired_by s n unfailing m f).behind.pool ≡ s.pool
-      by_fault (Some fault) = refl
-      by_fault None = refl
+    unpaired_pool s n o = grind arith
 
     same_frames : (p q : Pool) → p ≡ q → AllOf (IsOneOf ns) T q.frames → AllOf (IsOneOf ns) T p.frames
     same_frames p q same all = subst (λ (x : Pool). AllOf (IsOneOf ns) T x.frames) (sym same) all
@@ -362,19 +314,13 @@ any_kept = record {
 
 declared_if : (b : Bool) (o : Option Outline) (x : Outline) → holds o (λ (a : Outline). true) ≡ true →
     holds (if b then Some x else o) (λ (a : Outline). true) ≡ true
-declared_if true o x is = refl
-declared_if false o x is = is
+declared_if b o x is = grind arith
 
 declared_at : (ms : List Mounted) (n : ℕ) → IsOneOf (map (λ (t : Tie). t.number) (ties ms)) n →
     is_declared (map outline_of (map audited (map (λ (m : Mounted). m.device) ms))) n ≡ true
 declared_at [] n is = absurd is
-declared_at (m ∷ ms) n (inl same) =
-    ap (λ (b : Bool). holds (if b then Some (outline_of (audited m.device))
-    else outline_in (map outline_of (map audited (map (λ (x : Mounted). x.device) ms))) n) (λ (a : Outline). true))
-    (eq-eqb m.device.store.device n same)
-declared_at (m ∷ ms) n (inr more) =
-    declared_if (m.device.store.device == n) (outline_in (map outline_of (map audited (map (λ (x : Mounted). x.device) ms))) n)
-    (outline_of (audited m.device)) (declared_at ms n more)
+declared_at (m ∷ ms) n (inl same) = grind (arith, eq-eqb)
+declared_at (m ∷ ms) n (inr more) = grind (arith, declared_at ms n more, declared_if)
 
 all_declared : (s : Subsystem) (fs : List Frame) → AllOf (IsOneOf (map (λ (t : Tie). t.number) (ties s.mounted))) Any fs →
     All (λ (f : Frame). is_declared (outlines (stand s [])) f.0.0 ≡ true) fs

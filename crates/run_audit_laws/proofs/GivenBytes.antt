@@ -31,10 +31,7 @@ at_or P d h (x ∷ xs) zero all = All-head P x xs all
 at_or P d h (x ∷ xs) (suc i) all = at_or P d h xs i (All-tail P x xs all)
 
 pub padded_length : (n : ℕ) (bytes : List ℕ) → length (padded n bytes) ≡ n
-padded_length n bytes =
-    let sum = length-append (take n bytes) (replicate (n - length bytes) 0) in
-    let front = length-take n bytes in
-    let zeros = length-replicate {A = ℕ} (n - length bytes) 0 in omega (arith, sum, front, zeros)
+padded_length n bytes = grind (arith, length-append, length-take, length-replicate)
 
 pub padded_are : (n : ℕ) (bytes : List ℕ) → All IsByte bytes → All IsByte (padded n bytes)
 padded_are n bytes all =
@@ -42,8 +39,7 @@ padded_are n bytes all =
     (All-replicate IsByte (n - length bytes) 0 (omega arith))
 
 pub given_are : (from n : ℕ) (c : Ccw) → GivesBytes c → All IsByte (given_at from n c)
-given_are from n c gives =
-    padded_are n (drop from (given_taken c)) (All-drop IsByte from (given_taken c) (All-take IsByte c.count c.given gives))
+given_are from n c gives = padded_are n (drop from (given_taken c)) (All-drop IsByte from (given_taken c) (All-take IsByte c.count c.given gives))
 
 pub given_length : (from n : ℕ) (c : Ccw) → length (given_at from n c) ≡ n
 given_length from n c = padded_length n (drop from (given_taken c))

@@ -1,5 +1,5 @@
 -- A track that becomes firm behind the end of a command reads as one that became so before it.
-use Rattle.std.proofs.Common.{◌≡◌, ◌++◌, ℕ, Bool, true, false, not, List, [], ◌∷◌, Option, Some, None, refl, sym, ap, subst, ◌∙◌, if◌then◌else◌}
+use Rattle.std.proofs.Common.{arith, ◌≡◌, ◌++◌, ℕ, Bool, true, false, not, List, [], ◌∷◌, Option, Some, None, refl, sym, ap, subst, ◌∙◌, if◌then◌else◌}
 use Rattle.std.specs.Prelude.{is_some, IfSome, option_map, ◌||◌, ◌&&◌}
 use Rattle.std.proofs.lemmas.Bool.{or_right}
 use Rattle.ckd_types.specs.declared.channel.CommandEnd.{CommandEnd}
@@ -56,14 +56,7 @@ firmed k None = None
 
 legal_fewer : (p q : Part) (e : Option TrackEdit) → q.stance ≡ p.stance → ((t : ℕ) → is_loose_there p.state t ≡ false → is_loose_there q.state t ≡ false) →
     is_edit_legal p e ≡ true → is_edit_legal q e ≡ true
-legal_fewer p q None same fewer legal = refl
-legal_fewer p q (Some e) same fewer legal = by_track (is_loose_there p.state e.track) refl where
-  by_track : (b : Bool) → is_loose_there p.state e.track ≡ b → (not (is_loose_there q.state e.track) || is_provisional q.stance.extent) ≡ true
-  by_track false is = ap (λ (c : Bool). not c || is_provisional q.stance.extent) (fewer e.track is)
-  by_track true is =
-      let own : is_provisional p.stance.extent ≡ true = sym (ap (λ (c : Bool). not c || is_provisional p.stance.extent) is) ∙ legal in
-      ap (λ (z : Stance). not (is_loose_there q.state e.track) || is_provisional z.extent) same
-      ∙ ap (λ (c : Bool). not (is_loose_there q.state e.track) || c) own ∙ or_right (not (is_loose_there q.state e.track)) true refl
+legal_fewer p q e same fewer legal = grind (arith, or_right)
 
 -- Where the program then is
 
@@ -79,25 +72,16 @@ module _ (plans : Plans) (k path ordinal : ℕ) (ends : List CommandEnd) (fixed 
 
   firm_first : (next : Option ℕ) → is_some (next_part plans (at next)).next ≡ true →
       next_part plans (record (at next) { part = firm_part k (at next).part }) ≡ firm_part k (next_part plans (at next))
-  firm_first None more = absurd (cc)
-  firm_first (Some i) more = by_next (next_part plans (at (Some i))).next refl more where
-    by_next : (n : Option ℕ) → (next_part plans (at (Some i))).next ≡ n → is_some n ≡ true →
-        next_part plans (record (at (Some i)) { part = firm_part k (at (Some i)).part }) ≡ firm_part k (next_part plans (at (Some i)))
-    by_next None is some = absurd (cc)
-    by_next (Some j) is some = sym (ap (λ (n : Option ℕ). untold (act_by (Harden k) (next_part plans (at (Some i))) n)) is)
+  firm_first next more = grind (arith, untold, act_by)
 
   firm_goes_on : (next : Option ℕ) → (firm_part k (at next).part).next ≡ next
-  firm_goes_on None = refl
-  firm_goes_on (Some i) = refl
+  firm_goes_on next = grind arith
 
   loose_stays : (next : Option ℕ) → (next_part plans (at next)).state.loose ≡ state.loose
-  loose_stays None = refl
-  loose_stays (Some i) = refl
+  loose_stays next = grind arith
 
   legal_firmed : (next : Option ℕ) → legal_by plans (Some (at next)) ≡ true → legal_by plans (Some (record (at next) { part = firm_part k (at next).part })) ≡ true
-  legal_firmed None legal = refl
-  legal_firmed (Some i) legal =
-      legal_fewer (at (Some i)).part (firm_part k (at (Some i)).part) (edit_in plans (at (Some i))) refl (λ t none. fewer_loose k state.loose t none) legal
+  legal_firmed next legal = grind (arith, legal_fewer, edit_in, fewer_loose)
 
 -- The same of any program
 
@@ -127,56 +111,27 @@ legal_did (Worked last) plans r = true
 
 module _ (plans : Plans) (k : ℕ) where
   ended_on : (e : CommandEnd) (x : Past) (g : Going) → e.over ≡ false → ended_by e plans x (Some g) ≡ goes_on x g e (next_part plans g)
-  ended_on e x g more =
-      ap (λ (c : Bool). if c then over_past plans x g Full (g.ends ++ e ∷ []) (next_part plans g).state else goes_on x g e (next_part plans g)) more
+  ended_on e x g more = grind (arith, over_past, next_part, goes_on)
 
   commutes : (did : Did) (x : Past) (r : Option Going) → IsQuiet did r → GoesOn (done_past did plans (with_going x r)).running →
       done_past did plans (acted_past (Harden k) plans (with_going x r)) ≡ acted_past (Harden k) plans (done_past did plans (with_going x r))
-  commutes (Ended e) x None quiet goes = refl
-  commutes (Ended e) x (Some g) quiet goes =
-      let y = with_going x (Some g) in
-      let h = record g { part = firm_part k g.part } in
-      let more = subst (λ (z : Past). GoesOn z.running) (ended_on e y g quiet) goes in
-      ended_on e (with_going x (Some h)) h quiet
-      ∙ ap (λ (p : Part). with_going x (Some (record g { ends = g.ends ++ e ∷ []; part = p }))) (first_firm plans k g more)
-      ∙ sym (ap (acted_past (Harden k) plans) (ended_on e y g quiet))
-  commutes (CheckEnded e) x None quiet goes = refl
-  commutes (CheckEnded e) x (Some g) quiet goes = absurd quiet
-  commutes Halved x r quiet goes = refl
-  commutes (Worked last) x r quiet goes = refl
+  commutes did x r quiet goes = grind (arith, first_firm, acted_past)
 
   running_firmed : (x : Past) (r : Option Going) → (acted_past (Harden k) plans (with_going x r)).running ≡ firmed k r
-  running_firmed x None = refl
-  running_firmed x (Some g) = refl
+  running_firmed x r = grind arith
 
   loose_done : (did : Did) (x : Past) (r : Option Going) → IsQuiet did r →
       (state_in (done_past did plans (with_going x r)).state (done_past did plans (with_going x r)).running).loose ≡ (state_in x.state r).loose
-  loose_done (Ended e) x None quiet = refl
-  loose_done (Ended e) x (Some g) quiet =
-      ap (λ (z : Past). (state_in z.state z.running).loose) (ended_on e (with_going x (Some g)) g quiet) ∙ loose_kept plans k g
-  loose_done (CheckEnded e) x None quiet = refl
-  loose_done (CheckEnded e) x (Some g) quiet = absurd quiet
-  loose_done Halved x r quiet = refl
-  loose_done (Worked last) x r quiet = refl
+  loose_done did x r quiet = grind (arith, state_in, ended_on, loose_kept)
 
   still_quiet : (did : Did) (r : Option Going) → IsQuiet did r → IsQuiet did (firmed k r)
-  still_quiet (Ended e) None quiet = tt
-  still_quiet (Ended e) (Some g) quiet = quiet
-  still_quiet (CheckEnded e) None quiet = tt
-  still_quiet (CheckEnded e) (Some g) quiet = absurd quiet
-  still_quiet Halved r quiet = tt
-  still_quiet (Worked last) r quiet = tt
+  still_quiet did r quiet = grind arith
 
   still_goes : (r : Option Going) → GoesOn r → GoesOn (firmed k r)
-  still_goes None goes = tt
-  still_goes (Some g) goes = ap (λ (n : Option ℕ). is_some n) (next_stays plans k g) ∙ goes
+  still_goes r goes = grind (arith, next_stays)
 
   still_legal : (did : Did) (r : Option Going) → legal_did did plans r ≡ true → legal_did did plans (firmed k r) ≡ true
-  still_legal (Ended e) None legal = refl
-  still_legal (Ended e) (Some g) legal = legal_kept plans k g legal
-  still_legal (CheckEnded e) r legal = refl
-  still_legal Halved r legal = refl
-  still_legal (Worked last) r legal = refl
+  still_legal did r legal = grind (arith, legal_kept)
 
 -- Devices
 
@@ -186,51 +141,31 @@ firmer k a = record a { history = acted a.history (Harden k) }
 pub done_tidy : (a : AuditedDevice) (did : Did) → IsTidy a.history → IsTidy (worked a did).history
 done_tidy a (Ended e) tidy = (end_is_read e).tidy a.history tidy
 done_tidy a (CheckEnded e) tidy = (check_is_read e).tidy a.history tidy
-done_tidy a Halved tidy = tidy
-done_tidy a (Worked last) tidy = tidy
+done_tidy a did tidy = tidy
 
 seen_done : (a : AuditedDevice) (did : Did) → IsTidy a.history → seen (worked a did) ≡ record (seen a) { past = done_past did a.plans (seen a).past }
 seen_done a (Ended e) tidy = ap (λ (x : Past). record (seen a) { past = x }) ((end_is_read e).past a.plans a.empty a.history tidy)
 seen_done a (CheckEnded e) tidy = ap (λ (x : Past). record (seen a) { past = x }) ((check_is_read e).past a.plans a.empty a.history tidy)
-seen_done a Halved tidy = refl
-seen_done a (Worked last) tidy = refl
+seen_done a did tidy = refl
 
 legal_seen : (a : AuditedDevice) (did : Did) → is_legal did a ≡ legal_did did a.plans (seen a).past.running
-legal_seen a (Ended e) = legal_is a a.history.running
-legal_seen a (CheckEnded e) = refl
-legal_seen a Halved = refl
-legal_seen a (Worked last) = refl
+legal_seen a did = grind (arith, legal_is)
 
 module _ (a : AuditedDevice) where
   over_if : (e : CommandEnd) (line : ReportLine) (b : Bool) → e.over ≡ b → (if e.over then Some line else None) ≡ None → e.over ≡ false
-  over_if e line false is none = is
-  over_if e line true is none = absurd (let never : Some line ≡ None = sym (ap (λ (c : Bool). if c then Some line else None) is) ∙ none in cc)
+  over_if e line b is none = grind arith
 
   pub quiet_of : (did : Did) (r : Option OpenEntry) → over_by a did r ≡ None →
       IsQuiet did (option_map (going_of a.plans (replay a.plans a.empty a.history.items)) r)
-  quiet_of (Ended e) None none = tt
-  quiet_of (Ended e) (Some o) none = over_if e (over_line a o how.Full) e.over refl none
-  quiet_of (CheckEnded e) None none = tt
-  quiet_of (CheckEnded e) (Some o) none = absurd (cc)
-  quiet_of Halved r none = tt
-  quiet_of (Worked last) r none = tt
+  quiet_of did r none = grind (arith, over_if)
 
   pub over_none : (did : Did) (r : Option OpenEntry) → IsQuiet did (option_map (going_of a.plans (replay a.plans a.empty a.history.items)) r) →
       over_by a did r ≡ None
-  over_none (Ended e) None quiet = refl
-  over_none (Ended e) (Some o) quiet = ap (λ (c : Bool). if c then Some (over_line a o how.Full) else None) quiet
-  over_none (CheckEnded e) None quiet = refl
-  over_none (CheckEnded e) (Some o) quiet = absurd quiet
-  over_none Halved r quiet = refl
-  over_none (Worked last) r quiet = refl
+  over_none did r quiet = grind arith
 
   -- the program of a plain device that isn't over goes on
   pub plain_goes : IsPlain a.plans a.empty a.history → GoesOn (seen a).past.running
-  plain_goes plain = by_program a.history.running plain.at where
-    by_program : (r : Option OpenEntry) → IfSome r (IsOpen a.plans (replay a.plans a.empty a.history.items) a.history.items) →
-        GoesOn (option_map (going_of a.plans (replay a.plans a.empty a.history.items)) r)
-    by_program None at = tt
-    by_program (Some o) at = at.runs
+  plain_goes plain = grind arith
 
   module _ (k : ℕ) where
     seen_firm : IsTidy a.history → seen (firmer k a) ≡ record (seen a) { past = acted_past (Harden k) a.plans (seen a).past }
@@ -247,35 +182,24 @@ module _ (a : AuditedDevice) where
 
     -- neither idle nor at work because of it
     firm_runs : (r : Option OpenEntry) → a.history.running ≡ r → runs (acted_in a.history (Harden k) r).running ≡ runs a.history.running
-    firm_runs (Some o) is = sym (ap runs is)
-    firm_runs None is = refl
+    firm_runs r is = grind arith
 
     firm_idle : is_idle (firmer k a) ≡ is_idle a
     firm_idle = ap (λ (b : Bool). not b && is_closed a.half) (firm_runs a.history.running refl)
 
     pub firm_over : (e : Option EventLine) (did : Did) → is_event_over e (firmer k a) did ≡ is_event_over e a did
-    firm_over (Some (events.Run d)) did = firm_idle
-    firm_over (Some (events.Settle d)) (Worked last) = refl
-    firm_over (Some (events.Settle d)) did = refl
-    firm_over e did = refl
+    firm_over e did = grind (arith, firm_idle)
 
     module _ (did : Did) (tidy : IsTidy a.history) (quiet : IsQuiet did (seen a).past.running) where
       pub firm_quiet : IsQuiet did (seen (firmer k a)).past.running
       firm_quiet = subst (IsQuiet did) (sym (firm_program tidy)) (still_quiet a.plans k did (seen a).past.running quiet)
 
       pub firm_legal : is_legal did a ≡ true → is_legal did (firmer k a) ≡ true
-      firm_legal legal =
-          legal_seen (firmer k a) did ∙ ap (legal_did did a.plans) (firm_program tidy)
-          ∙ still_legal a.plans k did (seen a).past.running (sym (legal_seen a did) ∙ legal)
+      firm_legal legal = grind (arith, legal_seen, firm_program, still_legal, seen)
 
       -- which tracks are loose
       pub loose_behind : (t : ℕ) → is_loose_there (state_of (worked a did)) t ≡ is_loose_there (state_of a) t
-      loose_behind t =
-          let b = worked a did in
-          ap (λ (s : PlainState). is_loose_there s t) (state_is b.plans (replay b.plans b.empty b.history.items) b.history.running)
-          ∙ ap (λ (x : Seen). is_loose_there (state_in x.past.state x.past.running) t) (seen_done a did tidy)
-          ∙ ap (λ (l : List LooseTrack). is_loose_in l t) (loose_done a.plans k did (seen a).past (seen a).past.running quiet)
-          ∙ sym (ap (λ (s : PlainState). is_loose_there s t) (state_is a.plans (replay a.plans a.empty a.history.items) a.history.running))
+      loose_behind t = grind (arith, state_is, state_in, seen_done, loose_done, seen)
 
       -- before the end as behind it
       pub firm_either : GoesOn (seen (worked a did)).past.running → Alike (worked (firmer k a) did) (firmer k (worked a did))

@@ -30,11 +30,7 @@ abbrev pub works_by : Bool → Option Bool → Bool → Bool → Bool
 works_by lost f p l = (not lost && due_by f p l) || (l || (modified_by f && p))
 
 filled_works : (lost p l : Bool) → lost ≡ false → works_by lost (Some p) p l ≡ works_by lost None p l
-filled_works true p l e = absurd (cc)
-filled_works false true true e = refl
-filled_works false true false e = refl
-filled_works false false true e = refl
-filled_works false false false e = refl
+filled_works lost p l e = grind arith
 
 -- the weight by whether there is work
 abbrev pub weight_if : Spot → Bool → ℕ
@@ -66,46 +62,28 @@ module _ (s : MarksStore) (t : ℕ) (ts : List ℕ) (queue : s.queue ≡ t ∷ t
   shorter = record s { queue = ts }
 
   one_shorter : Lower s shorter
-  one_shorter =
-      let longer = ap length queue in
-      lower_all s shorter refl (λ q _. as_least (weight_at s q) (weight_at s q) refl) (omega (arith, longer))
+  one_shorter = lower_all s shorter refl (λ q _. as_least (weight_at s q) (weight_at s q) refl) (omega (arith, ap length queue))
 
   filled_lower : (z : MarksStore) → Same shorter z → frame_at s t ≡ None → is_lost s t ≡ false → (m : Bool) → is_some (patch_at z t) ≡ m →
       Lower s (with_frame z t (Some m))
-  filled_lower z e bare here m patched =
-      let v = with_frame z t (Some m) in
-      let first = one_shorter in
-      let second = same_least shorter z e in
-      let below = sum_least (tracks_of z) (weight_at z) (weight_at v)
-      (λ q _. framed_least z t m patched (ap (λ (p : Spot). p.frame) (e.spots t) ∙ bare) (ap (λ (p : Spot). p.lost) (e.spots t) ∙ here) q) in
-      omega (arith, first, second, below)
+  filled_lower z e bare here m patched = grind (arith, one_shorter, same_least, sum_least, weight_at, framed_least)
 
   staged_answer : (z : MarksStore) (f : Option Side) → (f ≡ None → Lower s z) → stops (did f (dids.Staged t)) ≡ false → Lower s z
-  staged_answer z (Some side) lower e = absurd (cc)
-  staged_answer z None lower e = lower refl
+  staged_answer z f lower e = grind arith
 
   got_same : (z : MarksStore) (f : Option Side) → GotSo shorter z f → f ≡ None → Same shorter z
-  got_same z (Some side) e is = absurd (cc)
-  got_same z None e is = e
+  got_same z f e is = grind arith
 
   nothing_said : (z : MarksStore) (f : Option Side) → stops (did f dids.Nothing) ≡ false → Lower s z
-  nothing_said z (Some side) e = absurd (cc)
-  nothing_said z None e = absurd (cc)
+  nothing_said z f e = grind arith
 
   bytes_staged : (z : MarksStore) (g : Got Bool) → GotSo shorter z g.fault → frame_at s t ≡ None → is_lost s t ≡ false → (o : Option Bool) →
       Had (staged_bytes by_plain t z g o) (WorkSo s)
-  bytes_staged z g e bare here None = had_ask (λ _. had_done (nothing_said z g.fault))
-  bytes_staged z g e bare here (Some true) =
-      had_try (had_then {p = λ y (_ : Unit {0}). (g.fault ≡ None → Lower s y)}
-      (had_if (is_some (patch_at z t))
-      (λ patched. had_ask (λ _. had_done (λ fine. filled_lower z (got_same z g.fault e fine) bare here true patched)))
-      (λ patched. had_done (λ fine. filled_lower z (got_same z g.fault e fine) bare here false patched)))
-      (λ y _ h. had_done (staged_answer y g.fault h)))
-  bytes_staged z g e bare here (Some false) = had_try (had_ask (λ _. had_done (bad_stops s z g.fault g.side)))
+  bytes_staged z g e bare here o =
+      search (arith, had_ask, had_done, nothing_said, had_try, had_then, had_if, is_some, filled_lower, got_same, staged_answer, bad_stops)
 
   none_framed : (o : Option Bool) (lost : Bool) → (is_some o || lost) ≡ false → (o ≡ None) × (lost ≡ false)
-  none_framed None lost e = (refl, e)
-  none_framed (Some f) lost e = absurd (cc)
+  none_framed o lost e = grind arith
 
   stage_so : Had (stage by_plain shorter t) (WorkSo s)
   stage_so =
@@ -117,28 +95,15 @@ module _ (s : MarksStore) (t : ℕ) (ts : List ℕ) (queue : s.queue ≡ t ∷ t
 
 -- The order
 
-waits_due : (s : MarksStore) (t : ℕ) (o : Option Bool) → waits_by by_plain s t o ≡ due_by o (is_some (patch_at s t)) (is_loose s t)
-waits_due s t None = refl
-waits_due s t (Some m) = refl
-
 waits_works : (s : MarksStore) (t : ℕ) → waits by_plain s t ≡ true → works (spot_at s t) ≡ true
 unfolding O.waits
-waits_works s t e =
-    or_left (not (is_lost s t) && due_by (frame_at s t) (is_some (patch_at s t)) (is_loose s t)) _
-    (ap (λ (b : Bool). not (is_lost s t) && b) (sym (waits_due s t (frame_at s t))) ∙ e)
-
-modified_is : (o : Option Bool) → O.is_modified by_plain o ≡ modified_by o
-modified_is None = refl
-modified_is (Some m) = refl
+waits_works s t e = grind (arith, or_left)
 
 destaged_works : (s : MarksStore) (t : ℕ) → is_destaged by_plain s t ≡ true → works (spot_at s t) ≡ true
-destaged_works s t e =
-    or_right _ (is_loose s t || (modified_by (frame_at s t) && is_some (patch_at s t)))
-    (ap (λ (b : Bool). is_loose s t || (b && is_some (patch_at s t))) (sym (modified_is (frame_at s t))) ∙ e)
+destaged_works s t e = grind (arith, or_right)
 
 found_if : (n : ℕ) (p : ℕ → Bool) (b : Bool) (t : ℕ) → (if b then least n p else None) ≡ Some t → (t < n) × (p t ≡ true)
-found_if n p true t e = least_found n p t e
-found_if n p false t e = absurd (cc)
+found_if n p b t e = grind (arith, least_found)
 
 destage_so : (s : MarksStore) → s.half ≡ None → (o : Option ℕ) → to_destage by_plain s ≡ o → Had (destage_first by_plain s o) (WorkSo s)
 destage_so s whole None is = had_done (λ e. absurd (cc))

@@ -1,6 +1,6 @@
 -- A plain device whose programs give bytes keeps bytes: on its volume, on the tracks that loose ones go back to, and of its paths. So each of their
 -- commands sends bytes.
-use Rattle.std.proofs.Common.{◌≡◌, ◌-◌, ◌==◌, ◌++◌, ◌∙◌, ◌*◌, zero, suc, ℕ, Bool, true, false, List, [], ◌∷◌, length, map, Option, Some, None, refl, sym, ap, subst, inl, inr, if◌then◌else◌}
+use Rattle.std.proofs.Common.{arith, ◌≡◌, ◌-◌, ◌==◌, ◌++◌, ◌∙◌, ◌*◌, zero, suc, ℕ, Bool, true, false, List, [], ◌∷◌, length, map, Option, Some, None, refl, sym, ap, subst, inl, inr, if◌then◌else◌}
 use Rattle.std.specs.Prelude.{◌⊎◌, All, IfSome, not}
 use Rattle.std.specs.List.{range_with_len}
 use Rattle.std.proofs.lemmas.List.Elements.{All-cons, All-filter, All-head, All-nil, All-push, All-replicate, All-set, All-tail}
@@ -64,10 +64,7 @@ pub record KeepsBytes (state : PlainState) : Type 0 where
 -- An empty device
 
 fresh_keeps : PathsKeep fresh_paths
-fresh_keeps = record {
-  named = record { states = All-replicate Named 4 Reset tt; owner = tt };
-  senses = All-replicate SenseIn 4 zero_sense zero_in;
-}
+fresh_keeps = search (arith, zero_in)
 
 all_empty : (ts : List ℕ) → All TrackHolds (map empty_track ts)
 all_empty [] = All-nil TrackHolds
@@ -90,8 +87,7 @@ EffectHolds tracks e = All IsByte e.outcome.ending.sent × IfSome e.edit (λ x. 
 module _ (f : Fixed) (p : PathsState) (k : PathsKeep p) (tracks : ℕ → Track) (hold : (t : ℕ) → TrackHolds (tracks t)) (path : ℕ) (start : Stance) (c : Ccw)
     (gives : GivesBytes c) (s : Stance) where
   acted_holds : (act : LocalAct) (o : Option GroupFault) → EffectHolds tracks (acted_by f p path start c act o)
-  acted_holds act (Some fault) = (no_bytes, tt)
-  acted_holds act None = (act_sends f.geometry p path k start c act, tt)
+  acted_holds act o = grind (arith, no_bytes, act_sends)
 
   effect_holds : (o : Opening) → OpeningIn o → EffectHolds tracks (effect_by f p tracks path start c s o)
   effect_holds (openings.Over e) h = (subst (All IsByte) (sym h) no_bytes, tt)
@@ -156,8 +152,7 @@ lost_keeps state [] k = k
 lost_keeps state (l ∷ loose) k = act_keeps state CfwLost k
 
 power_keeps : (state : PlainState) → KeepsBytes state → KeepsBytes (power_off state)
-power_keeps state k =
-    let lost = lost_keeps state state.loose k in record { paths = fresh_keeps; volume = lost.volume; loose = lost.loose }
+power_keeps state k = let lost = lost_keeps state state.loose k in (search (arith, fresh_keeps))
 
 -- Programs
 
@@ -167,8 +162,7 @@ module _ (path : ℕ) (is : IsPath path) (ccws : List Ccw) (gives : (i : ℕ) �
   begun_if false p k = sensed_keeps p path (Some zero_sense) zero_in k
 
   at_acts : (acts : List Acted) (p : Part) (o : Option ℕ) → KeepsBytes p.state → KeepsBytes (acted_at acts p o).state
-  at_acts acts p (Some i) k = acts_keep (acts_at acts (length p.ends)) p k
-  at_acts acts p None k = k
+  at_acts acts p o k = grind (arith, acts_keep)
 
   stepped_keeps : (p : Part) (o : Option ℕ) → KeepsBytes p.state → KeepsBytes (stepped_at path ccws p o).state
   stepped_keeps p (Some i) k = command_keeps p.fixed p.state path p.stance (ccw_at ccws i) (gives i) k is
@@ -176,9 +170,7 @@ module _ (path : ℕ) (is : IsPath path) (ccws : List Ccw) (gives : (i : ℕ) �
 
   part_keeps : (state : PlainState) (acts : List Acted) (n : ℕ) → KeepsBytes state → KeepsBytes (part_of state path ccws acts n).state
   unfolding R.part_of
-  part_keeps state acts zero k =
-      at_acts acts (first_part state path ccws) (Some 0)
-      (record { paths = begun_if (starts_with_sense ccws) state.paths k.paths; volume = k.volume; loose = k.loose })
+  part_keeps state acts zero k = search (arith, at_acts, begun_if)
   part_keeps state acts (suc n) k =
       let p = part_of state path ccws acts n in
       at_acts acts (command_run path ccws p) (command_run path ccws p).next (stepped_keeps p p.next (part_keeps state acts n k))
@@ -191,17 +183,14 @@ module _ (plans : Plans) (gives : (path ordinal i : ℕ) → GivesBytes (ccw_at 
   check_in o (inr is) = subst (λ (x : Option Sense). IfSome x SenseIn) (sym is) (check_sense_in data_check_sense (inr refl))
 
   last_in : (p : Part) (ccws : List Ccw) (ends : List CommandEnd) → EndsChecked p ccws ends → IfSome (last_sense ends) SenseIn
-  last_in p ccws ends h =
-      subst (λ (x : Option Sense). IfSome x SenseIn) (sym (ap last_sense h.ends_are ∙ last_is p.ends h.last))
-      (check_in h.last.sense h.checked.sense)
+  last_in p ccws ends h = grind (arith, last_is, check_in)
 
   checked_keeps : (state : PlainState) (p : PathsState) (e : ProgramEntry) (how : How) → HasEnds plans state e how → PathsKeep p →
       PathsKeep (checked_paths p e how)
-  checked_keeps state p e hows.Full h k = k
-  checked_keeps state p e (hows.Cut effect) h k = k
   checked_keeps state p e hows.Checked h k =
       sensed_keeps p e.path (last_sense e.ends)
       (last_in (entry_part plans state e (length e.ends - 1)) (program_of plans e.path e.ordinal) e.ends h) k
+  checked_keeps state p e how h k = k
 
   item_keeps : (state : PlainState) (earlier : List Item) (x : Item) (later : List Item) → IsLegalItem plans state earlier x later →
       KeepsBytes state → KeepsBytes (replay_item plans state x)
@@ -224,16 +213,11 @@ module _ (plans : Plans) (gives : (path ordinal i : ℕ) → GivesBytes (ccw_at 
 
   items_keep : (state : PlainState) (earlier xs : List Item) → IsLegalFrom plans state earlier xs → KeepsBytes state → KeepsBytes (replay plans state xs)
   items_keep state earlier [] l k = k
-  items_keep state earlier (x ∷ xs) l k =
-      items_keep (replay_item plans state x) (earlier ++ x ∷ []) xs l.1 (item_keeps state earlier x xs l.0 k)
+  items_keep state earlier (x ∷ xs) l k = items_keep (replay_item plans state x) (earlier ++ x ∷ []) xs l.1 (item_keeps state earlier x xs l.0 k)
 
   running_keeps : (state : PlainState) (xs : List Item) (o : Option OpenEntry) → IfSome o (IsOpen plans state xs) → KeepsBytes state →
       KeepsBytes (state_by plans state o)
-  running_keeps state xs (Some o) runs k =
-      part_keeps o.path (record { least = runs.start.least; most = runs.start.most }) (program_of plans o.path o.ordinal) (gives o.path o.ordinal)
-      state o.acts (length o.ends) k
-  running_keeps state xs None runs k = k
+  running_keeps state xs o runs k = search (arith, part_keeps)
 
   pub history_keeps : (empty : PlainState) (h : History) → IsPlain plans empty h → KeepsBytes empty → KeepsBytes (plain_of plans empty h)
-  history_keeps empty h plain k =
-      running_keeps (replay plans empty h.items) h.items h.running plain.at (items_keep empty [] h.items plain.legal k)
+  history_keeps empty h plain k = grind (arith, running_keeps, items_keep)

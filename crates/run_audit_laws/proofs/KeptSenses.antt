@@ -35,18 +35,15 @@ data_check_in : SenseIn data_check_sense
 data_check_in = sense_bytes 8 0 0 (omega arith) (omega arith) (omega arith)
 
 pub check_sense_in : (sense : Sense) → IsCheckSense sense → SenseIn sense
-check_sense_in sense (inl is) = subst SenseIn (sym is) equipment_in
-check_sense_in sense (inr is) = subst SenseIn (sym is) data_check_in
+check_sense_in sense x2 = grind (arith, equipment_in, data_check_in)
 
 -- By the rules
 
 fits_sense : (c : Ccw) (e : Ending) (o : Option Sense) → FitsBy c e o → IfSome o SenseIn
-fits_sense c e (Some sense) h = h.4.2
-fits_sense c e None h = tt
+fits_sense c e o h = grind arith
 
 pub walk_sense : (c : Ccw) (o : Outcome) → WalkFits c o → IfSome o.ending.sense SenseIn
-walk_sense c o (inl h) = fits_sense c o.ending o.ending.sense h
-walk_sense c o (inr h) = subst (λ (x : Option Sense). IfSome x SenseIn) (sym h.0) equipment_in
+walk_sense c o x3 = grind (arith, fits_sense, equipment_in)
 
 -- What a command leaves of them
 
@@ -60,9 +57,7 @@ module _ (p : PathsState) (path : ℕ) (all : All SenseIn p.senses) where
   act_senses acts.Reserve = sense_kept (reserved p path) path (Some zero_sense) all zero_in
   act_senses acts.Release = sense_kept (record p { owner = None }) path (Some zero_sense) all zero_in
   act_senses acts.Steal = sense_kept (reserved p path) path (Some zero_sense) all zero_in
-  act_senses acts.SenseId = all
-  act_senses (acts.SetGroup function id) = all
-  act_senses acts.SenseGroup = all
+  act_senses act = all
 
   module _ (f : Fixed) (tracks : ℕ → Track) (start : Stance) (c : Ccw) (s : Stance) where
     acted_senses : (act : LocalAct) (o : Option GroupFault) → IfSome (acted_by f p path start c act o).outcome.ending.sense SenseIn →

@@ -53,20 +53,17 @@ some_long [] t is = absurd (cc)
 some_long (x ∷ l) t is = positive (length l)
 
 long_count : (l : List LooseTrack) → nat_lt 0 (length l) ≡ true → (length l == 0) ≡ false
-long_count [] is = absurd (cc)
-long_count (x ∷ l) is = not_zero (length l)
+long_count l is = grind (arith, not_zero)
 
 no_count : (l : List LooseTrack) → nat_lt 0 (length l) ≡ false → (length l == 0) ≡ true
-no_count [] is = refl
-no_count (x ∷ l) is = absurd (true≢false (sym (positive (length l)) ∙ is))
+no_count l is = grind (arith, positive)
 
 module _ (a : AuditedDevice) (s : MarksStore) (k : Marked a s) where
   pub count_is : loose_count s ≡ length (state_of a).loose
   count_is = marked_count (state_of a).loose s.loose k.once k.same
 
   has_by : (o : Option ℕ) → least (tracks_of s) (is_loose s) ≡ o → is_some o ≡ A.has_loose a
-  has_by None is =
-      sym (ap (λ (l : List LooseTrack). nat_lt 0 (length l)) (all_firm (state_of a).loose (λ t. k.same t ∙ none_at s k.many None is refl t)))
+  has_by None is = sym (ap (λ (l : List LooseTrack). nat_lt 0 (length l)) (all_firm (state_of a).loose (λ t. k.same t ∙ none_at s k.many None is refl t)))
   has_by (Some t) is = sym (some_long (state_of a).loose t (k.same t ∙ (least_found (tracks_of s) (is_loose s) t is).1))
 
   pub has_is : has_loose s ≡ A.has_loose a

@@ -1,5 +1,5 @@
 -- How lines lead on: one after another, at an event's first line, and behind a piece of work that is taken as done.
-use Rattle.std.proofs.Common.{◌≡◌, ◌++◌, Bool, true, false, not, List, [], ◌∷◌, Option, Some, None, refl, sym, ap, subst, ◌∙◌, if◌then◌else◌}
+use Rattle.std.proofs.Common.{arith, ◌≡◌, ◌++◌, Bool, true, false, not, List, [], ◌∷◌, Option, Some, None, refl, sym, ap, subst, ◌∙◌, if◌then◌else◌}
 use Rattle.std.specs.Prelude.{◌||◌, ◌&&◌, Result, Ok, Err}
 use Rattle.std.proofs.lemmas.Bool.{or_parts}
 use Rattle.deck_plan.specs.declared.event.EventLine.{EventLine}
@@ -46,8 +46,7 @@ module _ (s : Subsystem) (e : EventLine) (later : List EventLine) (line : Report
 
   pub first_judged : (t : AuditState) → in_event (outlines (stand s (e ∷ later))) line e ≡ true → event_made (stand s (e ∷ later)) line e ≡ Some t →
       judged (stand s (e ∷ later)) line ≡ Ok t
-  first_judged t fits makes =
-      ap (λ (b : Bool). if b then or_history (event_made from line e) else Err Place) fits ∙ ap (λ (o : Option AuditState). or_history o) makes
+  first_judged t fits makes = grind arith
 
 pub then_some : {S T : Type 0} (o : Option S) (x : S) (go : S → Option T) → o ≡ Some x → then_of o go ≡ go x
 then_some o x go is = ap (λ (y : Option _). then_of y go) is
@@ -58,48 +57,24 @@ abbrev pub judged_due : AuditState → ReportLine → Due → Result AuditState 
 judged_due s line due = if in_due (outlines s) s.events line due then or_history (due_made s line due) else Err Place
 
 pub judged_next : (s : AuditState) (line : ReportLine) → s.due ≡ Next → judged s line ≡ judged_due s line s.due
-judged_next s line is =
-    ap (λ (due : Due). if stands_in s line due then or_history (made_in s line due) else Err Place) is
-    ∙ sym (ap (judged_due s line) is)
+judged_next s line is = grind arith
 
 pub judged_over : (s : AuditState) (line wanted : ReportLine) → s.due ≡ OverOf wanted → judged s line ≡ judged_due s line s.due
-judged_over s line wanted is =
-    ap (λ (due : Due). if stands_in s line due then or_history (made_in s line due) else Err Place) is
-    ∙ sym (ap (judged_due s line) is)
+judged_over s line wanted is = grind arith
 
 -- a line that isn't of the work is judged where the work is done, once it is known that it may be
 pub waiting_judged : (s : AuditState) (line : ReportLine) (more : Bool) (did : Did) → s.due ≡ Behind more did →
     is_of_work more (worker_number s) line ≡ false → holds (worker s) (is_legal did) ≡ true →
     judged s line ≡ judged_due (settled s did) line (settled s did).due
-waiting_judged s line more did is other legal =
-    let z = settled s did in
-    let acts = then_of (worker s) (act_of_work s line did) in
-    let io = (or_parts (is_io line) _ other).0 in
-    ap (λ (due : Due). if stands_in s line due then or_history (made_in s line due) else Err Place) is
-    ∙ ap (λ (w : Bool). if w || in_due (outlines z) z.events line z.due then or_history (
-    if w && not (is_io line) then acts
-    else if not (holds (worker s) (is_legal did)) then None
-    else if is_io line then Some z
-    else due_made z line z.due) else Err Place) other
-    ∙ ap (λ (l : Bool). if in_due (outlines z) z.events line z.due then or_history (
-    if not l then None
-    else if is_io line then Some z
-    else due_made z line z.due) else Err Place) legal
-    ∙ ap (λ (i : Bool). if in_due (outlines z) z.events line z.due then or_history (
-    if i then Some z
-    else due_made z line z.due) else Err Place) io
+waiting_judged s line more did is other legal = grind (arith, or_parts)
 
 -- so lines lead from there on as from where it is done
 pub waiting_leads : (s t : AuditState) (line : ReportLine) (lines : List ReportLine) (more : Bool) (did : Did) → s.due ≡ Behind more did →
     is_of_work more (worker_number s) line ≡ false → holds (worker s) (is_legal did) ≡ true → (settled s did).due ≡ Next →
     LeadsBy (settled s did) (line ∷ lines) t → LeadsBy s (line ∷ lines) t
-waiting_leads s t line lines more did is other legal next leads =
-    (leads.0, waiting_judged s line more did is other legal ∙ sym (judged_next (settled s did) line next) ∙ leads.1, leads.2)
+waiting_leads s t line lines more did is other legal next leads = search (arith, waiting_judged, judged_next)
 
 -- Lines of an event that changes no device
 
 pub quiet_lines : (h : Happened) (ds : List MarksDevice) → work_lines h 0 0 ds ds ≡ first_lines h ++ line_if (last_line h)
-quiet_lines h ds =
-    ap (λ (l : List ReportLine). first_lines h ++ (l ++ (io_lines 0 0 ++ (of_each over_lines ds ds ++ line_if (last_line h)))))
-    (of_same loose_lines quiet_loose ds)
-    ∙ ap (λ (l : List ReportLine). first_lines h ++ (l ++ line_if (last_line h))) (of_same over_lines quiet_over ds)
+quiet_lines h ds = grind (arith, of_same, quiet_loose, quiet_over)

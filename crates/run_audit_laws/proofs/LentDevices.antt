@@ -1,5 +1,5 @@
 -- What an order makes of a device that is lent.
-use Rattle.std.proofs.Common.{◌≡◌, ℕ, zero, suc, true, Option, Some, None, is_some, set, refl, ap, ◌∙◌}
+use Rattle.std.proofs.Common.{arith, ◌≡◌, ℕ, zero, suc, true, Option, Some, None, is_some, set, refl, ap, ◌∙◌}
 use Rattle.std.proofs.lemmas.Bool.{cond_both}
 use Rattle.device_defs.specs.Contents.{by_plain}
 use Rattle.device_defs.specs.Device.{event_begun, event_ended}
@@ -35,60 +35,31 @@ kept_on : (s z y : MarksStore) → Kept s z → Kept z y → Kept s y
 kept_on s z y f g = record { core = g.core ∙ f.core; paired = g.paired ∙ f.paired }
 
 unframed_kept : (t : ℕ) (s : MarksStore) → Kept s (without_frame s t)
-unframed_kept t s =
-    cond_both (is_some (frame_at s t)) (record (with_frame s t None) { owed = set s.owed t (record (owed_at s t) { dropped = true }) }) s
-    (Kept s) (λ _. record { core = framed_same s t None; paired = refl }) (λ _. record { core = refl; paired = refl })
+unframed_kept t s = search (arith, cond_both, is_some, framed_same)
 
 slot_kept : (s : MarksStore) (t : ℕ) (o : Option ℕ) → Kept s (gives_up s t o)
-slot_kept s t None = record { core = refl; paired = refl }
-slot_kept s t (Some slot) = record { core = patch_same s t (Some slot); paired = refl }
+slot_kept s t o = search (arith, patch_same)
 
 given_kept : (t : ℕ) (s : MarksStore) → Kept s (given_up by_plain t s)
-given_kept t s =
-    let z = without_frame s t in
-    kept_on s z (given_up by_plain t s) (unframed_kept t s) (slot_kept z t (slot_in by_plain (patch_at z t)))
+given_kept t s = grind (arith, kept_on, unframed_kept, slot_kept)
 
 over_kept : (k : ℕ) (s : MarksStore) → Kept s (over k (given_up by_plain) s)
 unfolding L.over
 over_kept zero s = record { core = refl; paired = refl }
-over_kept (suc k) s =
-    kept_on s (over k (given_up by_plain) s) (given_up by_plain k (over k (given_up by_plain) s)) (over_kept k s)
-    (given_kept k (over k (given_up by_plain) s))
+over_kept (suc k) s = grind (arith, over_kept k s, kept_on, given_kept)
 
 ended_kept : (before : ℕ) (s : MarksStore) → Had (noted_end by_plain before s) (λ y (_ : Unit {0}). Kept s y)
-ended_kept before s =
-    asks_had (ended_asks by_plain (Kept s) (λ z t e. record { core = e.core; paired = e.paired }) before s (record { core = refl; paired = refl }))
+ended_kept before s = asks_had (ended_asks by_plain (Kept s) (λ z t e. (search arith)) before s (search arith))
 
 module _ (x : MarksDevice) (to : ℕ) where
   lent_same : (y : MarksDevice) (z : MarksStore) → Kept y.store z → IsLent to x y → IsLent to x (record y { store = z })
-  lent_same y z k g = record {
-    number = ap (λ (c : Core). c.device) k.core ∙ g.number;
-    geometry = ap (λ (c : Core). c.geometry) k.core ∙ g.geometry;
-    cylinders = ap (λ (c : Core). c.cylinders) k.core ∙ g.cylinders;
-    plans = g.plans;
-    half = ap (λ (c : Core). half_by c.half) k.core ∙ g.half;
-    lent = ap (λ (c : Core). c.lent) k.core ∙ g.lent;
-    paired = k.paired ∙ g.paired;
-    history = g.history;
-  }
+  lent_same y z k g = search arith
 
   abbrev lent_now : MarksDevice
   lent_now = let z = event_begun x in with_tracks z (lent_to (over (tracks_of z.store) (given_up by_plain) z.store) to)
 
   lent_first : IsLent to x lent_now
-  lent_first =
-      let z = event_begun x in
-      let k = over_kept (tracks_of z.store) z.store in
-      record {
-        number = ap (λ (c : Core). c.device) k.core;
-        geometry = ap (λ (c : Core). c.geometry) k.core;
-        cylinders = ap (λ (c : Core). c.cylinders) k.core;
-        plans = refl;
-        half = ap (λ (c : Core). half_by c.half) k.core;
-        lent = refl;
-        paired = k.paired;
-        history = refl;
-      }
+  lent_first = search (arith, over_kept)
 
   pub lend_makes : Had (lend by_plain x to) (λ y (_ : Unit {0}). IsLent to x y)
   unfolding O.lend

@@ -81,8 +81,6 @@ mod SecondLighter
 mod SecondWork
 mod BackEvents
 mod BackEnds
-mod QueueKept
-mod SettleEnds
 mod InOrder
 mod RangedSteps
 mod RangedWork

@@ -39,17 +39,12 @@ abbrev pub rest_of : MarksStore → ℕ
 rest_of s = length s.queue + one (is_some s.half)
 
 pub lower_all : (s z : MarksStore) → z.cylinders ≡ s.cylinders → ((q : ℕ) → q < tracks_of s → weight_at z q ≤ weight_at s q) → rest_of z + 1 ≤ rest_of s → Lower s z
-lower_all s z same less rest =
-    let below = sum_least (tracks_of s) (weight_at s) (weight_at z) less in
-    let n : sum (tracks_of z) (weight_at z) ≡ sum (tracks_of s) (weight_at z) = ap (λ (k : ℕ). sum (k * 15) (weight_at z)) same in
-    omega (arith, below, rest, n)
+lower_all s z same less rest = grind (arith, sum_least, weight_at, sum)
 
 pub lower_at : (s z : MarksStore) (t : ℕ) → t < tracks_of s → z.cylinders ≡ s.cylinders →
     ((q : ℕ) → q ≢ t → weight_at z q ≤ weight_at s q) → weight_at z t + rest_of z + 1 ≤ weight_at s t + rest_of s → Lower s z
 lower_at s z t lt same less here =
-    let below = sum_less (tracks_of s) (weight_at s) (weight_at z) t lt (λ q _. less q) in
-    let n : sum (tracks_of z) (weight_at z) ≡ sum (tracks_of s) (weight_at z) = ap (λ (k : ℕ). sum (k * 15) (weight_at z)) same in
-    omega (arith, below, here, n)
+    omega (arith, sum_less (tracks_of s) (weight_at s) (weight_at z) t lt (λ q _. less q), here, (ap (λ (k : ℕ). sum (k * 15) (weight_at z)) same))
 
 -- Nothing is changed that counts
 
@@ -84,33 +79,16 @@ around s = (s.cylinders, (s.queue, (s.half, (s.a.up, (s.b.up, s.held)))))
 
 -- nothing but tracks
 pub near_by : {s z : MarksStore} {t : ℕ} → around z ≡ around s → ((q : ℕ) → q ≢ t → spot_at z q ≡ spot_at s q) → Near s z t
-near_by same others = record {
-  cylinders = ap (λ (k : Around). k.0) same;
-  queue = ap (λ (k : Around). k.1.0) same;
-  half = ap (λ (k : Around). k.1.1.0) same;
-  a = ap (λ (k : Around). k.1.1.1.0) same;
-  b = ap (λ (k : Around). k.1.1.1.1.0) same;
-  held = ap (λ (k : Around). k.1.1.1.1.1) same;
-  others = others;
-}
+near_by same others = search arith
 
 pub near_self : (s : MarksStore) (t : ℕ) → Near s s t
 near_self s t = near_by refl (λ q ne. refl)
 
 pub near_on : (s z y : MarksStore) (t : ℕ) → Near s z t → Near z y t → Near s y t
-near_on s z y t f g = record {
-  cylinders = g.cylinders ∙ f.cylinders;
-  queue = g.queue ∙ f.queue;
-  half = g.half ∙ f.half;
-  a = g.a ∙ f.a;
-  b = g.b ∙ f.b;
-  held = g.held ∙ f.held;
-  others = λ q ne. g.others q ne ∙ f.others q ne;
-}
+near_on s z y t f g = search arith
 
 pub near_if : (s z y : MarksStore) (t : ℕ) (b : Bool) → Near s z t → Near s y t → Near s (if b then z else y) t
-near_if s z y t true f g = f
-near_if s z y t false f g = g
+near_if s z y t b f g = grind arith
 
 near_stale_a : (s : MarksStore) (t : ℕ) (v : Bool) → Near s (with_stale s A t v) t
 near_stale_a s t v = near_by refl (λ q ne. ap (λ (x : Bool). record (spot_at s q) { a_stale = x }) (get_or-set_other s.a.stale t q v false ne))
@@ -145,26 +123,14 @@ some_at (y ∷ l) (suc t) x e = some_at l t x e
 -- Tests
 
 no_copies : (a stale c k d e : Bool) → stale ≡ false → k ≡ false → ((a && stale && c) || (k && d && e)) ≡ false
-no_copies a true c k d e is none = absurd (cc)
-no_copies a false c true d e is none = absurd (cc)
-no_copies true false c false d e is none = refl
-no_copies false false c false d e is none = refl
+no_copies a stale c k d e is none = grind arith
 
 no_copies_b : (a stale c k d e : Bool) → a ≡ false → d ≡ false → ((a && stale && c) || (k && d && e)) ≡ false
-no_copies_b true stale c k d e is none = absurd (cc)
-no_copies_b false stale c k true e is none = absurd (cc)
-no_copies_b false stale c true false e is none = refl
-no_copies_b false stale c false false e is none = refl
+no_copies_b a stale c k d e is none = grind arith
 
 pub idle : (lost : Bool) (f : Option Bool) (p l : Bool) → modified_by f ≡ false → p ≡ false → l ≡ false →
     ((not lost && due_by f p l) || (l || (modified_by f && p))) ≡ false
-idle lost f true l clean bare firm = absurd (cc)
-idle lost f false true clean bare firm = absurd (cc)
-idle lost (Some true) false false clean bare firm = absurd (cc)
-idle true (Some false) false false clean bare firm = refl
-idle false (Some false) false false clean bare firm = refl
-idle true None false false clean bare firm = refl
-idle false None false false clean bare firm = refl
+idle lost f p l clean bare firm = grind arith
 
 -- A track is written
 
@@ -172,10 +138,7 @@ abbrev FirmSo : MarksStore → ℕ → MarksStore → Type 0
 FirmSo s t z = Near s z t × (is_loose z t ≡ false)
 
 everywhere_loose : (s : MarksStore) (t : ℕ) → (stale_everywhere s t).loose ≡ s.loose
-everywhere_loose s t = by_pair s.paired where
-  by_pair : (b : Bool) → (if b then with_stale (with_stale s A t true) B t true else with_stale s A t true).loose ≡ s.loose
-  by_pair true = refl
-  by_pair false = refl
+everywhere_loose s t = grind arith
 
 firm_so : (s : MarksStore) (t : ℕ) → Had (firm_first by_plain s t) (λ z (_ : Bool). FirmSo s t z)
 firm_so s t =
@@ -206,32 +169,20 @@ TookSo s t z Unwritten fault = Unit {0}
 abbrev Takes : MarksStore → ℕ → MarksStore → W.Wrote → Type 0
 Takes s t z w = TookSo s t z w.took w.fault
 
-taken_if : (s y z : MarksStore) (t : ℕ) (b : Bool) → stale_at y.a t ≡ false → stale_at z.a t ≡ false → stale_at (if b then y else z).a t ≡ false
-taken_if s y z t true f g = f
-taken_if s y z t false f g = g
-
 taken_level : (s : MarksStore) (t : ℕ) → stale_at (taken_a s t).a t ≡ false
-taken_level s t =
-    let z = with_stale s A t false in taken_if s (with_stale z B t true) z t s.b.up (clear s.a.stale t) (clear s.a.stale t)
+taken_level s t = grind (arith, clear)
 
 taken_loose : (s : MarksStore) (t : ℕ) → (taken_a s t).loose ≡ s.loose
-taken_loose s t = by_up s.b.up where
-  by_up : (b : Bool) → (if b then with_stale (with_stale s A t false) B t true else with_stale s A t false).loose ≡ s.loose
-  by_up true = refl
-  by_up false = refl
+taken_loose s t = grind arith
 
 some_sides : (a k : Bool) → a ≡ true → 1 ≤ one a + one k
-some_sides true k e = omega arith
-some_sides false k e = absurd (cc)
+some_sides a k e = grind arith
 
 some_sides_b : (a k : Bool) → k ≡ true → 1 ≤ one a + one k
-some_sides_b a true e = omega arith
-some_sides_b a false e = absurd (cc)
+some_sides_b a k e = grind arith
 
 both_sides : (a k : Bool) → a ≡ true → k ≡ true → one a + one k ≡ 2
-both_sides true true e f = refl
-both_sides true false e f = absurd (cc)
-both_sides false k e f = absurd (cc)
+both_sides a k e f = grind arith
 
 pub takes_same : (s z : MarksStore) (t : ℕ) → Near s z t → takes_b z ≡ takes_b s
 takes_same s z t n = ap (λ (x : Bool). x && not z.held) n.b ∙ ap (λ (x : Bool). s.b.up && not x) n.held
@@ -288,12 +239,11 @@ first_so s t up r false =
 
 alone_so : (s : MarksStore) (t : ℕ) → s.a.up ≡ false → takes_b s ≡ true → (ok : Bool) → Had (alone_b by_plain t None B (W.write_counted s ok) ok) (Takes s t)
 alone_so s t down is true =
-    let y = W.write_counted s true in
-    let z = taken_b y t in
+    let z = taken_b (W.write_counted s true) t in
     had_done (record {
       near = near_by refl (near_stale_b s t false).others;
-      none = no_copies_b z.a.up (stale_at z.a t) (z.b.up && not (stale_at z.b t)) (takes_b z) (stale_at z.b t) (z.a.up && not (stale_at z.a t)) down
-          (clear s.b.stale t);
+      none = no_copies_b z.a.up (stale_at z.a t) (z.b.up && not (stale_at z.b t))
+          (takes_b z) (stale_at z.b t) (z.a.up && not (stale_at z.a t)) down (clear s.b.stale t);
       some = some_sides_b s.a.up (takes_b s) is;
       loose = refl;
     })
@@ -301,9 +251,7 @@ alone_so s t down is false = had_then (any_had (W.write_counted s false) B (Some
 
 write_so : (s : MarksStore) (t : ℕ) (r : Bool) → Had (write_first by_plain s t r) (Takes s t)
 unfolding W.write_first
-write_so s t r =
-    had_if s.a.up (λ up. had_write (λ ok. first_so s t up r ok))
-    (λ down. had_if (takes_b s) (λ is. had_write (λ ok. alone_so s t down is ok)) (λ _. had_done tt))
+write_so s t r = search (arith, had_if, had_write, first_so, alone_so, had_done)
 
 -- The write is done
 
@@ -318,14 +266,7 @@ pub record Bared (s z : MarksStore) (t : ℕ) : Type 0 where
 pub freed_so : (s : MarksStore) (t : ℕ) (o : Option (Unit {0})) → patch_at s t ≡ o →
     Had (slot_freed by_plain s t (slot_in by_plain o)) (λ z (_ : Unit {0}). Bared s z t)
 freed_so s t None e = had_done (record { near = near_self s t; a = refl; b = refl; loose = refl; frame = refl; bare = ap (λ (x : Option (Unit {0})). is_some x) e })
-freed_so s t (Some p) e = had_ask (λ _. had_done (record {
-  near = near_bare s t;
-  a = refl;
-  b = refl;
-  loose = refl;
-  frame = refl;
-  bare = ap (λ (x : Option (Unit {0})). is_some x) (none_at s.patches t);
-}))
+freed_so s t (Some p) e = had_ask (λ _. had_done (search (arith, near_bare, none_at)))
 
 record DoneSo (s z : MarksStore) (t : ℕ) : Type 0 where
   near : Near s z t
@@ -334,17 +275,10 @@ record DoneSo (s z : MarksStore) (t : ℕ) : Type 0 where
   off : is_loose s t ≡ false → works (spot_at z t) ≡ false
 
 pub clean_off : (o : Option Bool) → is_some o ≡ false → modified_by o ≡ false
-clean_off None e = refl
-clean_off (Some m) e = absurd (cc)
+clean_off o e = grind arith
 
 done_by : (s x z : MarksStore) (t : ℕ) → Near s x t → x.a ≡ s.a → x.b ≡ s.b → x.loose ≡ s.loose → modified_by (frame_at x t) ≡ false → Bared x z t → DoneSo s z t
-done_by s x z t n a b loose clean k = record {
-  near = near_on s x z t n k.near;
-  a = k.a ∙ a;
-  b = k.b ∙ b;
-  off = λ firm. idle (is_lost z t) (frame_at z t) (is_some (patch_at z t)) (is_loose z t) (ap modified_by k.frame ∙ clean) k.bare
-      (ap (λ (l : List Bool). get_or l t false) (k.loose ∙ loose) ∙ firm);
-}
+done_by s x z t n a b loose clean k = search (arith, near_on, idle, is_some, modified_by, get_or)
 
 done_so : (s : MarksStore) (t : ℕ) (i : Image) → Had (write_done by_plain s t i false) (λ z (_ : Unit {0}). DoneSo s z t)
 unfolding W.write_done
@@ -373,28 +307,20 @@ pub not_own : (t q : ℕ) → q ≢ t → (t == q) ≡ false
 not_own t q ne = ne_eqb t q (λ e. ne (sym e))
 
 opened_spot : (s : MarksStore) (t q : ℕ) → s.half ≡ None → q ≢ t → record (spot_at s q) { half = t == q } ≡ spot_at s q
-opened_spot s t q whole ne =
-    ap (λ (x : Bool). record (spot_at s q) { half = x }) (not_own t q ne ∙ sym (ap (λ (h : Option (store.HalfWrite (Unit {0}))). half_is h q) whole))
+opened_spot s t q whole ne = grind (arith, not_own)
 
 opened_so : (s : MarksStore) (t : ℕ) (i : Image) (was : Bool) → s.half ≡ None → Had (write_opened by_plain s t i OfBackground was) (λ z (_ : Unit {0}). OpenSo s z t)
 opened_so s t i true whole =
-    let y = with_frame s t (cleaned by_plain (frame_at s t)) in
     had_ask (λ _. had_done (record {
       cylinders = refl;
       queue = refl;
       a = refl;
       open_is = refl;
       mine = own_is t;
-      others = λ q ne. opened_spot y t q whole ne ∙ (near_frame s t (cleaned by_plain (frame_at s t))).others q ne;
+      others = λ q ne. opened_spot (with_frame s t
+          (cleaned by_plain (frame_at s t))) t q whole ne ∙ (near_frame s t (cleaned by_plain (frame_at s t))).others q ne;
     }))
-opened_so s t i false whole = had_done (record {
-  cylinders = refl;
-  queue = refl;
-  a = refl;
-  open_is = refl;
-  mine = own_is t;
-  others = λ q ne. opened_spot s t q whole ne;
-})
+opened_so s t i false whole = had_done (search (arith, own_is))
 
 -- Answers
 
@@ -406,23 +332,18 @@ fault_stops : (s z : MarksStore) (side : Side) (d : Did) → stops (did (Some si
 fault_stops s z side d e = absurd (cc)
 
 stopped : (s z : MarksStore) (f g : Option Side) → stops (did f (did g dids.Nothing)) ≡ false → Lower s z
-stopped s z (Some side) g e = absurd (cc)
-stopped s z None (Some side) e = absurd (cc)
-stopped s z None None e = absurd (cc)
+stopped s z f g e = grind arith
 
 pub bad_stops : (s z : MarksStore) (f : Option Side) (side : Side) → stops (did f (dids.BadBytes side)) ≡ false → Lower s z
-bad_stops s z (Some x) side e = absurd (cc)
-bad_stops s z None side e = absurd (cc)
+bad_stops s z f side e = grind arith
 
 -- The weight of a track
 
 pub half_off : (b : Bool) (n m : ℕ) → b ≡ false → (if b then n else m) ≡ m
-half_off true n m e = absurd (cc)
-half_off false n m e = refl
+half_off b n m e = grind arith
 
 pub half_on : (b : Bool) (n m : ℕ) → b ≡ true → (if b then n else m) ≡ n
-half_on true n m e = refl
-half_on false n m e = absurd (cc)
+half_on b n m e = grind arith
 
 pub spot_whole : (s : MarksStore) (q : ℕ) → s.half ≡ None → half_is s.half q ≡ false
 spot_whole s q whole = ap (λ (h : Option (store.HalfWrite (Unit {0}))). half_is h q) whole
@@ -431,17 +352,10 @@ pub whole_at : (s : MarksStore) (q : ℕ) → s.half ≡ None → weight_at s q 
 whole_at s q whole = half_off (half_is s.half q) (one (s.a.up && stale_at s.a q)) (whole_weight (spot_at s q)) (spot_whole s q whole)
 
 works_weigh : (s : MarksStore) (q : ℕ) → s.half ≡ None → works (spot_at s q) ≡ true → sides (spot_at s q) ≤ weight_at s q
-works_weigh s q whole is =
-    let w = whole_at s q whole in
-    let n = half_on (works (spot_at s q)) (sides (spot_at s q)) 0 is in
-    omega (arith, w, n)
+works_weigh s q whole is = grind (arith, whole_at, half_on)
 
 pub light : (s : MarksStore) (q : ℕ) → s.half ≡ None → works (spot_at s q) ≡ false → copies (spot_at s q) ≡ false → weight_at s q ≡ 0
-light s q whole off none =
-    let w = whole_at s q whole in
-    let n = half_off (works (spot_at s q)) (sides (spot_at s q)) 0 off in
-    let m : one (copies (spot_at s q)) ≡ 0 = ap one none in
-    omega (arith, w, n, m)
+light s q whole off none = grind (arith, whole_at, half_off)
 
 pub none_open : (s : MarksStore) → s.half ≡ None → one (is_some s.half) ≡ 0
 none_open s whole = ap (λ (h : Option (store.HalfWrite (Unit {0}))). one (is_some h)) whole
@@ -457,33 +371,36 @@ module _ (s : MarksStore) (whole : s.half ≡ None) (t : ℕ) (lt : t < tracks_o
   written_lower : (x y z : MarksStore) → FirmSo s t x → Took1 x y t → DoneSo y z t → Lower s z
   written_lower x y z f k g =
       let n = near_on s y z t (near_on s x y t f.0 k.near) g.near in
-      let none : copies (spot_at z t) ≡ false =
-      ap (λ (m : store.SideMarks). copies (record (spot_at z t) { a = m.up; a_stale = stale_at m t })) g.a
-      ∙ ap (λ (m : store.SideMarks). copies (record (spot_at z t) { a = y.a.up; a_stale = stale_at y.a t; b = m.up; b_stale = stale_at m t })) g.b
-      ∙ ap (λ (h : Bool). copies (record (spot_at y t) { held = h })) g.near.held
-      ∙ k.none in
-      let off = g.off (ap (λ (l : List Bool). get_or l t false) k.loose ∙ f.1) in
-      let zero_at = light z t (n.half ∙ whole) off none in
-      let before = works_weigh s t whole due in
-      let some = k.some in
-      let as_many = sides_near s x t t f.0 in
-      let shut = none_open z (n.half ∙ whole) in
-      let queued = ap length n.queue in
-      lower_at s z t lt n.cylinders (λ q ne. same_weight s z q (n.others q ne)) (omega (arith, zero_at, before, some, as_many, shut, queued))
+      lower_at s z t lt n.cylinders (λ q ne. same_weight s z q (n.others q ne)) (omega (
+        arith,
+        light z t (n.half ∙ whole) (g.off (ap
+            (λ (l : List Bool). get_or l t false) k.loose ∙ f.1)) (ap (λ (m : store.SideMarks). copies (record
+            (spot_at z t) { a = m.up; a_stale = stale_at m t })) g.a ∙ ap (λ (m : store.SideMarks). copies (record
+            (spot_at z t) { a = y.a.up; a_stale = stale_at y.a t; b = m.up; b_stale = stale_at m t })) g.b ∙ ap (λ (h : Bool). copies (record
+            (spot_at y t) { held = h })) g.near.held ∙ k.none),
+        (works_weigh s t whole due),
+        k.some,
+        (sides_near s x t t f.0),
+        (none_open z (n.half ∙ whole)),
+        (ap length n.queue),
+      ))
 
   -- the first part of two
   opened_lower : (x y z : MarksStore) → FirmSo s t x → Took2 x y t → OpenSo y z t → Lower s z
   opened_lower x y z f k g =
       let n = near_on s x y t f.0 k.near in
-      let level : one (z.a.up && stale_at z.a t) ≡ 0 = ap one (ap (λ (m : store.SideMarks). m.up && stale_at m t) g.a ∙ k.level) in
-      let mine = half_on (half_is z.half t) (one (z.a.up && stale_at z.a t)) (whole_weight (spot_at z t)) g.mine in
-      let before = works_weigh s t whole due in
-      let both = k.both in
-      let as_many = sides_near s x t t f.0 in
-      let opens : one (is_some z.half) ≡ 1 = ap one g.open_is in
-      let queued = ap length (g.queue ∙ n.queue) in
-      lower_at s z t lt (g.cylinders ∙ n.cylinders) (λ q ne. same_weight s z q (g.others q ne ∙ n.others q ne))
-      (omega (arith, level, mine, before, both, as_many, opens, queued))
+      lower_at s z t lt (g.cylinders ∙ n.cylinders) (λ q ne. same_weight s z q (g.others q ne ∙ n.others q ne)) (omega (
+        arith,
+        ap one (ap
+            (λ (m : store.SideMarks). m.up && stale_at m t) g.a ∙ k.level),
+        (half_on (half_is z.half t) (one (z.a.up && stale_at z.a t)) (whole_weight
+            (spot_at z t)) g.mine),
+        (works_weigh s t whole due),
+        k.both,
+        (sides_near s x t t f.0),
+        (ap one g.open_is),
+        (ap length (g.queue ∙ n.queue)),
+      ))
 
   late_by : (i : Image) (d : Did) (side : Side) (was : Bool) (failed : Option Side) (y : MarksStore) (took : Took) →
       Had (saved_by by_plain t i d (Some side) was failed y took) (λ z e. stops e ≡ false → Lower s z)
@@ -545,19 +462,13 @@ level_so s t =
 
 -- what is the same has as much left
 pub same_least : (s z : MarksStore) → Same s z → left z ≤ left s
-same_least s z e =
-    let below = sum_least (tracks_of s) (weight_at s) (weight_at z) (λ q _. as_least (weight_at z q) (weight_at s q) (ap weight (e.spots q))) in
-    let n : sum (tracks_of z) (weight_at z) ≡ sum (tracks_of s) (weight_at z) = ap (λ (k : ℕ). sum (k * 15) (weight_at z)) e.cylinders in
-    let queued = ap length e.queue in
-    let opens = ap (λ (h : Option (store.HalfWrite (Unit {0}))). one (is_some h)) e.half in
-    omega (arith, below, n, queued, opens)
+same_least s z e = grind (arith, sum_least)
 
 pub lower_on : (s z y : MarksStore) → left z ≤ left s → Lower z y → Lower s y
 lower_on s z y least lower = omega (arith, least, lower)
 
 pub work_on : (s z y : MarksStore) (a : Option Did) → left z ≤ left s → WorkSo z y a → WorkSo s y a
-work_on s z y (Some d) least h = λ goes. lower_on s z y least (h goes)
-work_on s z y None least h = h
+work_on s z y a least h = grind (arith, lower_on)
 
 -- Recovery
 
@@ -590,47 +501,27 @@ recover_so s t None whole lt due = had_then (level_so s t) (λ z g e. bytes_so s
 
 copied_a : (a stale b b_stale held : Bool) → (a && stale && (b && not b_stale)) ≡ true →
     ((a && false && (b && not b_stale)) || ((b && not held) && b_stale && (a && true))) ≡ false
-copied_a true true true false held e = off held where
-  off : (h : Bool) → ((true && not h) && false && (true && true)) ≡ false
-  off true = refl
-  off false = refl
-copied_a true true true true held e = absurd (cc)
-copied_a true true false b_stale held e = absurd (cc)
-copied_a true false b b_stale held e = absurd (cc)
-copied_a false stale b b_stale held e = absurd (cc)
+copied_a a stale b b_stale held e = grind arith
 
 copied_b : (a stale b b_stale held : Bool) → ((b && not held) && b_stale && (a && not stale)) ≡ true →
     ((a && stale && (b && true)) || ((b && not held) && false && (a && not stale))) ≡ false
-copied_b true false true true false e = refl
-copied_b true false true true true e = absurd (cc)
-copied_b true false true false true e = absurd (cc)
-copied_b true false true false false e = absurd (cc)
-copied_b true false false b_stale held e = absurd (cc)
-copied_b true true true true true e = absurd (cc)
-copied_b true true true true false e = absurd (cc)
-copied_b true true true false true e = absurd (cc)
-copied_b true true true false false e = absurd (cc)
-copied_b true true false b_stale held e = absurd (cc)
-copied_b false stale true true true e = absurd (cc)
-copied_b false stale true true false e = absurd (cc)
-copied_b false stale true false true e = absurd (cc)
-copied_b false stale true false false e = absurd (cc)
-copied_b false stale false b_stale held e = absurd (cc)
+copied_b a stale b b_stale held e = grind arith
 
 -- the track is as it was but for its copy
 copy_lower : (s z : MarksStore) (t : ℕ) → s.half ≡ None → t < tracks_of s → Near s z t → works (spot_at z t) ≡ works (spot_at s t) → copies (spot_at s t) ≡ true →
     copies (spot_at z t) ≡ false → Lower s z
 copy_lower s z t whole lt n same before behind =
-    let w = whole_at s t whole in
-    let v = whole_at z t (n.half ∙ whole) in
-    let c : one (copies (spot_at s t)) ≡ 1 = ap one before in
-    let d : one (copies (spot_at z t)) ≡ 0 = ap one behind in
-    let as_many = sides_near s z t t n in
-    let work_is : (if works (spot_at z t) then sides (spot_at z t) else 0) ≡ (if works (spot_at s t) then sides (spot_at s t) else 0) =
-    ap (λ (b : Bool). if b then sides (spot_at z t) else 0) same ∙ ap (λ (k : ℕ). if works (spot_at s t) then k else 0) as_many in
-    let opens = ap (λ (h : Option (store.HalfWrite (Unit {0}))). one (is_some h)) n.half in
-    let queued = ap length n.queue in
-    lower_at s z t lt n.cylinders (λ q ne. same_weight s z q (n.others q ne)) (omega (arith, w, v, c, d, work_is, opens, queued))
+    lower_at s z t lt n.cylinders (λ q ne. same_weight s z q (n.others q ne)) (omega (
+      arith,
+      whole_at s t whole,
+      whole_at z t (n.half ∙ whole),
+      (ap one before),
+      (ap one behind),
+      (ap (λ (b : Bool). if b then sides (spot_at z t) else 0) same ∙ ap (λ (k : ℕ). if works (spot_at s t) then k else 0)
+          (sides_near s z t t n)),
+      (ap (λ (h : Option (store.HalfWrite (Unit {0}))). one (is_some h)) n.half),
+      (ap length n.queue),
+    ))
 
 abbrev IsCopied : MarksStore → ℕ → Side → Type 0
 IsCopied s t A = (s.a.up && stale_at s.a t && level_at s.b t) ≡ true
@@ -654,22 +545,17 @@ lower_to s z y e lower = let least = same_least z y e in omega (arith, least, lo
 -- the counts of calls count for nothing here
 stale_counts : (s z : MarksStore) (side : Side) (t : ℕ) → Same s z → z.a ≡ s.a → z.b ≡ s.b → Lower s (with_stale s side t false) →
     ((q : ℕ) → spot_at (with_stale z side t false) q ≡ spot_at (with_stale s side t false) q) → Lower s (with_stale z side t false)
-stale_counts s z A t e a b lower spots =
-    lower_to s (with_stale s A t false) (with_stale z A t false) (record { cylinders = e.cylinders; queue = e.queue; half = e.half; spots = spots }) lower
-stale_counts s z B t e a b lower spots =
-    lower_to s (with_stale s B t false) (with_stale z B t false) (record { cylinders = e.cylinders; queue = e.queue; half = e.half; spots = spots }) lower
+stale_counts s z side t e a b lower spots = search (arith, lower_to)
 
 counted_spots : (s : MarksStore) (side : Side) (t : ℕ) (q : ℕ) →
     spot_at (with_stale (W.write_counted (I.read_counted s true) true) side t false) q ≡ spot_at (with_stale s side t false) q
-counted_spots s A t q = refl
-counted_spots s B t q = refl
+counted_spots s side t q = grind arith
 
 copied_so : (s : MarksStore) (t : ℕ) (side : Side) → s.half ≡ None → t < tracks_of s → IsCopied s t side → (ok : Bool) →
     Had (copied by_plain t side (W.write_counted (I.read_counted s true) ok) ok) (WorkSo s)
 copied_so s t side whole lt is true =
-    let z = W.write_counted (I.read_counted s true) true in
-    had_done (λ _. stale_counts s z side t (record { cylinders = refl; queue = refl; half = refl; spots = λ q. refl }) refl refl (copied_lower s t side whole lt is)
-    (counted_spots s side t))
+    had_done (λ _. stale_counts s (W.write_counted (I.read_counted s true) true) side t
+    (record { cylinders = refl; queue = refl; half = refl; spots = λ q. refl }) refl refl (copied_lower s t side whole lt is) (counted_spots s side t))
 copied_so s t side whole lt is false = had_then (any_had (W.write_counted (I.read_counted s true) false) side None) (λ y _ _. had_done (λ e. absurd (cc)))
 
 copy_read_so : (s : MarksStore) (t : ℕ) (side : Side) → s.half ≡ None → t < tracks_of s → IsCopied s t side → (r : Option Bool) →
@@ -682,16 +568,11 @@ IsOf x y A = x ≡ true
 IsOf x y B = y ≡ true
 
 copies_are : (x y : Bool) (side : Side) → (if x then Some A else if y then Some B else None) ≡ Some side → IsOf x y side
-copies_are true y A e = refl
-copies_are true y B e = absurd (cc)
-copies_are false true A e = absurd (cc)
-copies_are false true B e = refl
-copies_are false false side e = absurd (cc)
+copies_are x y side e = grind arith
 
 side_is : (s : MarksStore) (t : ℕ) (side : Side) →
     IsOf (s.a.up && stale_at s.a t && level_at s.b t) (takes_b s && stale_at s.b t && level_at s.a t) side → IsCopied s t side
-side_is s t A e = e
-side_is s t B e = e
+side_is s t side e = grind arith
 
 pub copy_so : (s : MarksStore) (t : ℕ) → s.half ≡ None → t < tracks_of s → (o : Option Side) → copies_to s t ≡ o → Had (copy_by by_plain s t o) (WorkSo s)
 copy_so s t whole lt None is = had_done (λ e. absurd (cc))

@@ -28,64 +28,44 @@ one_on : (n : ℕ) → n < 65536 → (n ≡ 65535 → ⊥) → n + 1 < 65536
 one_on n less apart = omega (arith, less, apart)
 
 next_small : (n : ℕ) → n < 65536 → next_number n < 65536
-next_small n less = by_test (n == 65535) refl where
-  by_test : (b : Bool) → (n == 65535) ≡ b → (if b then 0 else n + 1) < 65536
-  by_test true is = omega arith
-  by_test false is = one_on n less (eqb-false n 65535 is)
+next_small n less = grind (arith, one_on, eqb-false)
 
 act_small : (s : PlainState) (act : Act) → Small s → Small (act_done s act)
-act_small s (Loosen t) h = h
-act_small s (Harden t) h = h
-act_small s CfwLost h = next_small s.number h
+act_small s act h = grind (arith, next_small)
 
 with_small : (acts : List Act) (p : Part) → Small p.state → Small (with_acts acts p).state
 with_small [] p h = h
 with_small (act ∷ acts) p h = with_small acts (with_act p act) (act_small p.state act h)
 
 acted_small : (acts : List Acted) (p : Part) (o : Option ℕ) → Small p.state → Small (acted_at acts p o).state
-acted_small acts p (Some i) h = with_small (acts_at acts (length p.ends)) p h
-acted_small acts p None h = h
+acted_small acts p o h = grind (arith, with_small)
 
 stepped_small : (path : ℕ) (ccws : List Ccw) (p : Part) (o : Option ℕ) → Small p.state → Small (stepped_at path ccws p o).state
-stepped_small path ccws p (Some i) h = h
-stepped_small path ccws p None h = h
+stepped_small path ccws p o h = grind arith
 
 part_small : (s : PlainState) (path : ℕ) (ccws : List Ccw) (acts : List Acted) (k : ℕ) → Small s → Small (part_of s path ccws acts k).state
 unfolding G.part_of
 part_small s path ccws acts zero h = acted_small acts (first_part s path ccws) (first_part s path ccws).next h
-part_small s path ccws acts (suc k) h =
-    let p = part_of s path ccws acts k in
-    let q = command_run path ccws p in
-    acted_small acts q q.next (stepped_small path ccws p p.next (part_small s path ccws acts k h))
+part_small s path ccws acts (suc k) h = grind (arith, part_small s path ccws acts k h, acted_small, stepped_small)
 
 power_small : (s : PlainState) (l : List LooseTrack) → Small s → Small (lost_by_power s l)
-power_small s [] h = h
-power_small s (x ∷ l) h = next_small s.number h
+power_small s l h = grind (arith, next_small)
 
 item_small : (plans : Plans) (s : PlainState) (x : Item) → Small s → Small (replay_item plans s x)
-item_small plans s (items.Program e) h = part_small s e.path (program_of plans e.path e.ordinal) e.acts (effects_of e.how e.ends) h
-item_small plans s (items.Reset path) h = h
-item_small plans s items.Fresh h = h
-item_small plans s (items.Act act) h = act_small s act h
-item_small plans s items.Power h = power_small s s.loose h
+item_small plans s x h = grind (arith, part_small, act_small, power_small)
 
 replay_small : (plans : Plans) (s : PlainState) (xs : List Item) → Small s → Small (replay plans s xs)
 replay_small plans s [] h = h
 replay_small plans s (x ∷ xs) h = replay_small plans (replay_item plans s x) xs (item_small plans s x h)
 
 state_small : (plans : Plans) (s : PlainState) (o : Option OpenEntry) → Small s → Small (state_by plans s o)
-state_small plans s (Some o) h = part_small s o.path (program_of plans o.path o.ordinal) o.acts (length o.ends) h
-state_small plans s None h = h
+state_small plans s o h = grind (arith, part_small)
 
 pub number_short : (d : MarksDevice) → Plainly d → IsShort d.store.number
-number_short d p =
-    subst IsShort (known d p).number_is
-    (state_small d.plans (replay d.plans (empty_of d) d.history.items) d.history.running
-    (replay_small d.plans (empty_of d) d.history.items (omega arith)))
+number_short d p = grind (arith, known, state_small, replay_small)
 
 few_loose : (n k c : ℕ) → n ≤ k → k ≡ c * 15 → c ≤ 64 → IsShort n
 few_loose n k c le is small = omega (arith, le, is, small)
 
 pub count_short : (d : MarksDevice) → Plainly d → d.store.cylinders ≤ 64 → IsShort (loose_count d.store)
-count_short d p small =
-    few_loose (loose_count d.store) (length d.store.loose) d.store.cylinders (count_by-le-length (λ (x : Bool). x) d.store.loose) (known d p).many small
+count_short d p small = grind (arith, few_loose, count_by-le-length, known)

@@ -27,41 +27,19 @@ StandOnce (x ∷ l) = (is_loose_in l x.track ≡ false) × StandOnce l
 
 more_loose : (l : List LooseTrack) (x : LooseTrack) (q : ℕ) → is_loose_in l q ≡ false → (x.track == q) ≡ false → is_loose_in (l ++ x ∷ []) q ≡ false
 more_loose [] x q none other = ap (λ (b : Bool). cond b true false) other
-more_loose (y ∷ l) x q none other = by_test (y.track == q) none (λ e. more_loose l x q e other) where
-  by_test : (b : Bool) → cond b true (is_loose_in l q) ≡ false → (is_loose_in l q ≡ false → is_loose_in (l ++ x ∷ []) q ≡ false) →
-      cond b true (is_loose_in (l ++ x ∷ []) q) ≡ false
-  by_test true e more = absurd (cc)
-  by_test false e more = more e
+more_loose (y ∷ l) x q none other = grind (arith, more_loose l x q)
 
 once_more : (l : List LooseTrack) (x : LooseTrack) → StandOnce l → is_loose_in l x.track ≡ false → StandOnce (l ++ x ∷ [])
 once_more [] x o none = (refl, tt)
-once_more (y ∷ l) x o none = by_test (y.track == x.track) refl none (λ e. once_more l x o.1 e) where
-  by_test : (b : Bool) → (y.track == x.track) ≡ b → cond b true (is_loose_in l x.track) ≡ false →
-      (is_loose_in l x.track ≡ false → StandOnce (l ++ x ∷ [])) → (is_loose_in (l ++ x ∷ []) y.track ≡ false) × StandOnce (l ++ x ∷ [])
-  by_test true test e more = absurd (cc)
-  by_test false test e more =
-      (more_loose l x y.track o.0 (ne_eqb x.track y.track (λ same. eqb-false y.track x.track test (sym same))), more e)
+once_more (y ∷ l) x o none = grind (arith, once_more l x o.1, more_loose, ne_eqb, eqb-false)
 
 pub fewer_loose : (t : ℕ) (l : List LooseTrack) (q : ℕ) → is_loose_in l q ≡ false → is_loose_in (without t l) q ≡ false
 fewer_loose t [] q none = refl
-fewer_loose t (y ∷ l) q none = by_test (y.track == q) refl none (fewer_loose t l q) where
-  kept : (c : Bool) → (y.track == q) ≡ false → is_loose_in (without t l) q ≡ false →
-      is_loose_in (cond (not c) (y ∷ without t l) (without t l)) q ≡ false
-  kept true other e = e
-  kept false other e = ap (λ (b : Bool). cond b true (is_loose_in (without t l) q)) other ∙ e
-
-  by_test : (b : Bool) → (y.track == q) ≡ b → cond b true (is_loose_in l q) ≡ false →
-      (is_loose_in l q ≡ false → is_loose_in (without t l) q ≡ false) →
-      is_loose_in (cond (not (y.track == t)) (y ∷ without t l) (without t l)) q ≡ false
-  by_test true test e more = absurd (cc)
-  by_test false test e more = kept (y.track == t) test (more e)
+fewer_loose t (y ∷ l) q none = grind (arith, fewer_loose t l q)
 
 once_without : (t : ℕ) (l : List LooseTrack) → StandOnce l → StandOnce (without t l)
 once_without t [] o = tt
-once_without t (y ∷ l) o = by_test (y.track == t) (once_without t l o.1) where
-  by_test : (c : Bool) → StandOnce (without t l) → StandOnce (cond (not c) (y ∷ without t l) (without t l))
-  by_test true more = more
-  by_test false more = (fewer_loose t l y.track o.0, more)
+once_without t (y ∷ l) o = grind (arith, once_without t l o.1, fewer_loose)
 
 acts_once : (acts : List Act) (s : PlainState) (edited : Option ℕ) → StandOnce s.loose → AreActs s edited acts → StandOnce (acts_done s acts).loose
 acts_once [] s edited o are = o
@@ -100,15 +78,11 @@ module _ (state : PlainState) (path : ℕ) (ccws : List Ccw) (acts : List Acted)
           (acts_once (acts_at acts k) b.state a.edited o a.are))
 
   step_once : (p : Part) (n : Option ℕ) → StandOnce p.state.loose → StandOnce (stepped_at path ccws p n).state.loose
-  step_once p None o = o
-  step_once p (Some i) o = o
+  step_once p n o = grind arith
 
   bare_once : (k : ℕ) → ((j : ℕ) → j < k → ActsAt j) → StandOnce state.loose → StandOnce (bare_part state path ccws acts k).state.loose
   bare_once zero a o = o
-  bare_once (suc k) a o =
-      let p = part_of state path ccws acts k in
-      step_once p p.next
-      (acted_once k (a k (omega arith)) (bare_once k (λ j lt. a j (omega (arith, lt))) o))
+  bare_once (suc k) a o = grind (arith, bare_once k, step_once, acted_once)
 
   pub part_once : (k : ℕ) → HasActs state path ccws acts k → StandOnce state.loose → StandOnce (part_of state path ccws acts k).state.loose
   part_once k h o =
@@ -122,33 +96,22 @@ module _ (state : PlainState) (path : ℕ) (ccws : List Ccw) (acts : List Acted)
 
 module _ (plans : Plans) where
   power_once : (s : PlainState) (l : List LooseTrack) → s.loose ≡ l → StandOnce (lost_by_power s l).loose
-  power_once s [] is = subst StandOnce (sym is) tt
-  power_once s (x ∷ l) is = tt
+  power_once s l is = grind arith
 
   pub items_once : (s : PlainState) (earlier xs : List Item) → StandOnce s.loose → IsLegalFrom plans s earlier xs → StandOnce (replay plans s xs).loose
   items_once s earlier [] o legal = o
   items_once s earlier (items.Program e ∷ xs) o legal =
       items_once (replay_item plans s (items.Program e)) (earlier ++ items.Program e ∷ []) xs
       (part_once s e.path (program_of plans e.path e.ordinal) e.acts (effects_of e.how e.ends) legal.0.0.acts o) legal.1
-  items_once s earlier (items.Reset p ∷ xs) o legal =
-      items_once (replay_item plans s (items.Reset p)) (earlier ++ items.Reset p ∷ []) xs o legal.1
-  items_once s earlier (items.Fresh ∷ xs) o legal =
-      items_once (replay_item plans s items.Fresh) (earlier ++ items.Fresh ∷ []) xs tt legal.1
+  items_once s earlier (items.Reset p ∷ xs) o legal = items_once (replay_item plans s (items.Reset p)) (earlier ++ items.Reset p ∷ []) xs o legal.1
+  items_once s earlier (items.Fresh ∷ xs) o legal = items_once (replay_item plans s items.Fresh) (earlier ++ items.Fresh ∷ []) xs tt legal.1
   items_once s earlier (items.Act act ∷ xs) o legal =
       items_once (replay_item plans s (items.Act act)) (earlier ++ items.Act act ∷ []) xs (acts_once (act ∷ []) s None o legal.0) legal.1
   items_once s earlier (items.Power ∷ xs) o legal =
       items_once (replay_item plans s items.Power) (earlier ++ items.Power ∷ []) xs (power_once s s.loose refl) legal.1
 
   pub plain_once : (empty : PlainState) (h : History) → empty.loose ≡ [] → IsPlain plans empty h → StandOnce (plain_of plans empty h).loose
-  plain_once empty h none plain = by_running h.running plain.at where
-    before : StandOnce (replay plans empty h.items).loose
-    before = items_once empty [] h.items (subst StandOnce (sym none) tt) plain.legal
-
-    by_running : (r : Option OpenEntry) → IfSome r (IsOpen plans (replay plans empty h.items) h.items) →
-        StandOnce (state_by plans (replay plans empty h.items) r).loose
-    by_running None at = before
-    by_running (Some o) at =
-        part_once (replay plans empty h.items) o.path (program_of plans o.path o.ordinal) o.acts (length o.ends) at.acts before
+  plain_once empty h none plain = grind (arith, items_once, part_once)
 
 -- Marks
 
@@ -157,17 +120,10 @@ counts b = cond b 1 0
 
 none_counted : (n : ℕ) (l : List Bool) → ((q : ℕ) → get_or l q false ≡ false) → fold (λ (k : ℕ) (x : Bool). k + cond x 1 0) n l ≡ n
 none_counted n [] h = refl
-none_counted n (y ∷ l) h =
-    let first : y ≡ false = h 0 in
-    let none : cond y 1 0 ≡ 0 = ap counts first in
-    let rest = none_counted (n + cond y 1 0) l (λ q. h (suc q)) in
-    omega (arith, none, rest)
+none_counted n (y ∷ l) h = omega (arith, ap counts (h 0), (none_counted (n + cond y 1 0) l (λ q. h (suc q))))
 
 inside : (marks : List Bool) (t : ℕ) → get_or marks t false ≡ true → t < length marks
-inside marks t is = by_place (cases_lt t (length marks)) where
-  by_place : (t < length marks) ⊎ (length marks ≤ t) → t < length marks
-  by_place (inl lt) = lt
-  by_place (inr le) = absurd (true≢false (sym is ∙ get_or_past marks t false le))
+inside marks t is = grind (arith, get_or_past)
 
 -- as many as are marked
 pub marked_count : (l : List LooseTrack) (marks : List Bool) → StandOnce l → ((q : ℕ) → is_loose_in l q ≡ get_or marks q false) →

@@ -119,9 +119,7 @@ hear_keeps n s =
 told_core : (k : ℕ) (s : MarksStore) → Had (all_firm_told by_plain k s) (λ z (_ : Unit {0}). core_of z ≡ core_of s)
 unfolding L.all_firm_told
 told_core zero s = had_done refl
-told_core (suc k) s =
-    had_then {p = λ z _. core_of z ≡ core_of s} (told_core k s)
-    (λ z _ e. had_if (owed_at z k).firm (λ _. had_tell (had_done e)) (λ _. had_done e))
+told_core (suc k) s = search (arith, told_core k s, had_then, core_of, had_if, had_tell, had_done)
 
 -- an event that takes its notes first
 module _ (d : MarksDevice) (body : MarksDevice → Interaction Bool Image MarksDevice (Unit {0})) (q : MarksDevice → Type 0) where
@@ -138,42 +136,16 @@ module _ (num : ℕ) (empty : PlainState) (d : MarksDevice) (f : Follows num emp
   p = plain_of d.plans empty d.history
 
   loss_same : (y : MarksDevice) (z : MarksStore) → core_of z ≡ core_of y.store → IsLoss empty d y → IsLoss empty d (record y { store = z })
-  loss_same y z e g = record {
-    parts = record {
-      number = ap (λ (c : Core). c.device) e ∙ g.parts.number;
-      geometry = ap (λ (c : Core). c.geometry) e ∙ g.parts.geometry;
-      cylinders = ap (λ (c : Core). c.cylinders) e ∙ g.parts.cylinders;
-      plans = g.parts.plans;
-      lent = ap (λ (c : Core). c.lent) e ∙ g.parts.lent;
-      half_is = ap (λ (c : Core). half_by c.half) e ∙ g.parts.half_is;
-    };
-    history = g.history ∙ ap (λ (c : Core). all_acted d.history c.acts) (sym e);
-    are = subst (λ (c : Core). AreActs (plain_of d.plans empty d.history) None c.acts) (sym e) g.are;
-  }
+  loss_same y z e g = search arith
 
   loss_of : (s z : MarksStore) →
       Walked (plain_of d.plans empty d.history) d.store.geometry d.store.cylinders (core_of d.store) (core_of z) →
       IsLoss empty d (with_store (record (event_begun d) { store = s }) z)
-  loss_of s z w = record {
-    parts = record {
-      number = ap (λ (x : Open). x.1.1) w.walks.rest;
-      geometry = w.walks.geometry;
-      cylinders = w.walks.cylinders;
-      plans = refl;
-      lent = ap (λ (x : Open). x.1.0) w.walks.rest;
-      half_is = ap (λ (x : Open). half_by x.0) w.walks.rest;
-    };
-    history = refl;
-    are = w.walks.are;
-  }
+  loss_of s z w = search arith
 
   first_walked : (s : MarksStore) → core_of s ≡ core_of (noted_begin d.store) →
       Walked (plain_of d.plans empty d.history) d.store.geometry d.store.cylinders (core_of d.store) (core_of s)
-  first_walked s e = record {
-    plain = d.store.plain;
-    walks = walks_first num empty d f s e;
-    stays = subst (Stays (core_of d.store)) (sym e) (record { loose = λ q firm. firm; plain = λ q firm. refl });
-  }
+  first_walked s e = search (arith, walks_first, core_of)
 
   -- with what else a loss leaves of the store
   lose_makes : (loss : Loss) (r : MarksStore → Type 0) → ((s z : MarksStore) → core_of z ≡ core_of s → r s → r z) →
@@ -214,9 +186,7 @@ none_hard : (acts : List Act) (n : ℕ) (c : Core) (t : ℕ) → NoneLoose acts 
 none_hard acts n c t w is = absurd (true≢false (sym is ∙ w.0 t))
 
 pub unframed_core : (z : MarksStore) (t : ℕ) → core_of (without_frame z t) ≡ core_of z
-unframed_core z t =
-    cond_both (is_some (frame_at z t)) (record (with_frame z t None) { owed = set z.owed t (record (owed_at z t) { dropped = true }) }) z
-    (λ (y : MarksStore). core_of y ≡ core_of z) (λ _. framed_same z t None) (λ _. refl)
+unframed_core z t = grind (arith, cond_both, is_some, core_of, framed_same)
 
 module _ (s : MarksStore) (many : length s.loose ≡ tracks_of s) where
   pub none_at : (o : Option ℕ) → least (tracks_of s) (is_loose s) ≡ o → is_some o ≡ false → (q : ℕ) → is_loose s q ≡ false
@@ -227,8 +197,7 @@ module _ (s : MarksStore) (many : length s.loose ≡ tracks_of s) where
 
   gone_by : s.acts ≡ [] → (o : Option ℕ) → least (tracks_of s) (is_loose s) ≡ o →
       NoneLoose (lost_acts (is_some o)) (number_behind (is_some o) s.number) (core_of (record (if is_some o then act_noted (gone_back s) CfwLost else s) { queue = [] }))
-  gone_by none (Some t) is = (λ q. empty_places (tracks_of s) q false, (ap (λ (l : List Act). l ++ CfwLost ∷ []) none, refl))
-  gone_by none None is = (none_at None is refl, (none, refl))
+  gone_by none o is = grind (arith, empty_places, none_at)
 
   cache_makes : s.acts ≡ [] →
       NoneLoose (lost_acts (has_loose s)) (number_behind (has_loose s) s.number) (core_of (cache_lost by_plain s))
@@ -247,18 +216,7 @@ loose_of c = is_some (least (c.cylinders * 15) (λ t. get_or c.loose t false))
 -- The store: a track with a patch isn't loose, so none becomes firm
 
 removed : (l : List (Option (Unit {0}))) (t q : ℕ) → is_some (get_or (set l t None) q None) ≡ true → is_some (get_or l q None) ≡ true
-removed l t q is = by_test (q == t) refl where
-  gone : get_or (set l t None) t None ≡ None
-  gone = by_place (cases_lt t (length l)) where
-    by_place : (t < length l) ⊎ (length l ≤ t) → get_or (set l t None) t None ≡ None
-    by_place (inl lt) = get_or-set_same l t None None lt
-    by_place (inr le) = let a = length-set l t None in get_or_past (set l t None) t None (omega (arith, le, a))
-
-  by_test : (b : Bool) → (q == t) ≡ b → is_some (get_or l q None) ≡ true
-  by_test true same =
-      absurd (true≢false (sym (subst (λ (k : ℕ). is_some (get_or (set l t None) k None) ≡ true) (eqb-true q t same) is)
-      ∙ ap (λ (o : Option (Unit {0})). is_some o) gone))
-  by_test false other = ap (λ (o : Option (Unit {0})). is_some o) (sym (get_or-set_other l t q None None (eqb-false q t other))) ∙ is
+removed l t q is = grind (arith, get_or-set_same, length-set, get_or_past, get_or-set_other, eqb-false)
 
 -- no act came, as many are loose, and no more have a patch
 record Fewer (s z : MarksStore) : Type 0 where
@@ -270,50 +228,29 @@ fewer_same : (s : MarksStore) → Fewer s s
 fewer_same s = record { acts = refl; loose = λ q. refl; patches = λ q is. is }
 
 fewer_on : (s z y : MarksStore) → Fewer s z → Fewer z y → Fewer s y
-fewer_on s z y f g = record {
-  acts = g.acts ∙ f.acts;
-  loose = λ q. g.loose q ∙ f.loose q;
-  patches = λ q is. f.patches q (g.patches q is);
-}
+fewer_on s z y f g = search arith
 
 slot_fewer : (s : MarksStore) (t : ℕ) (o : Option ℕ) → Fewer s (gives_up s t o)
-slot_fewer s t None = fewer_same s
-slot_fewer s t (Some slot) = record { acts = refl; loose = λ q. refl; patches = λ q is. removed s.patches t q is }
+slot_fewer s t o = search (arith, fewer_same, removed)
 
 patch_fewer : (s : MarksStore) (t : ℕ) → Fewer s (without_patch by_plain s t)
 patch_fewer s t = slot_fewer s t (slot_in by_plain (patch_at s t))
 
 lost_fewer : (s : MarksStore) (t : ℕ) → Fewer s (lost_now by_plain s t)
-lost_fewer s t =
-    let z = with_lost s t in
-    fewer_on s z (lost_now by_plain s t) (record { acts = refl; loose = λ q. refl; patches = λ q is. is }) (patch_fewer z t)
+lost_fewer s t = let z = with_lost s t in fewer_on s z (lost_now by_plain s t) (search arith) (patch_fewer z t)
 
 kept_fewer : (s : MarksStore) (t : ℕ) (m : Bool) → Fewer s (kept_by_frame by_plain s t m)
-kept_fewer s t m =
-    cond_both m s (owes_modified (with_frame s t (Some true)) t) (Fewer s) (λ _. fewer_same s)
-    (λ _. record { acts = refl; loose = λ q. refl; patches = λ q is. is })
+kept_fewer s t m = search (arith, cond_both, fewer_same)
 
 frame_fewer : (s : MarksStore) (t : ℕ) → is_loose s t ≡ false → (o : Option Bool) → Fewer s (by_frame by_plain s t o)
-frame_fewer s t firm (Some m) =
-    cond_both (is_loose s t) (hardened_by_loss s t) (kept_by_frame by_plain s t m) (Fewer s) (λ is. absurd (true≢false (sym is ∙ firm)))
-    (λ _. kept_fewer s t m)
-frame_fewer s t firm None =
-    cond_both (half_is s.half t) s (lost_now by_plain s t) (Fewer s) (λ _. fewer_same s) (λ _. lost_fewer s t)
+frame_fewer s t firm o = grind (arith, cond_both, kept_fewer, fewer_same, lost_fewer)
 
 settled_fewer : (s : MarksStore) (t : ℕ) → is_loose s t ≡ false → Fewer s (settled by_plain s t)
 unfolding L.settled
-settled_fewer s t firm =
-    cond_both (is_some s.lent) s (if is_lost s t then s else if has_level s t then s else by_frame by_plain s t (frame_at s t)) (Fewer s)
-    (λ _. fewer_same s)
-    (λ _. cond_both (is_lost s t) s (if has_level s t then s else by_frame by_plain s t (frame_at s t)) (Fewer s) (λ _. fewer_same s)
-    (λ _. cond_both (has_level s t) s (by_frame by_plain s t (frame_at s t)) (Fewer s) (λ _. fewer_same s) (λ _. frame_fewer s t firm (frame_at s t))))
+settled_fewer s t firm = grind (arith, cond_both, is_some, fewer_same, frame_fewer)
 
 everywhere_fewer : (s : MarksStore) (t : ℕ) → Fewer s (stale_everywhere s t)
-everywhere_fewer s t = by_pair s.paired where
-  by_pair : (b : Bool) → Fewer s (let z = store.with_stale s sides.A t true in
-      if b then store.with_stale z sides.B t true else z)
-  by_pair true = record { acts = refl; loose = λ q. refl; patches = λ q is. is }
-  by_pair false = record { acts = refl; loose = λ q. refl; patches = λ q is. is }
+everywhere_fewer s t = search arith
 
 -- whatever has a patch isn't loose
 abbrev pub PatchedAreFirm : MarksStore → Type 0
@@ -349,8 +286,7 @@ store_makes s a = all_patches (tracks_of s) s a
 
 module _ (num : ℕ) (empty : PlainState) (d : MarksDevice) (f : Follows num empty d) where
   loose_many : (s : MarksStore) → core_of s ≡ core_of (noted_begin d.store) → length s.loose ≡ tracks_of s
-  loose_many s e =
-      ap (λ (c : Core). length c.loose) e ∙ f.of.looses ∙ f.of.tracks ∙ sym (ap (λ (c : Core). c.cylinders * 15) e)
+  loose_many s e = grind arith
 
   pub side_acts : (side : Side) → Had (lose by_plain d (losses.Side side)) (λ y (_ : Unit {0}). IsLoss empty d y × NoLoss y.store.acts)
   side_acts side =
@@ -364,30 +300,21 @@ module _ (num : ℕ) (empty : PlainState) (d : MarksDevice) (f : Follows num emp
   pub cache_acts : Had (lose by_plain d losses.Cache) (λ y (_ : Unit {0}). IsLoss empty d y
       × ((y.store.acts ≡ lost_acts (has_loose d.store)) × (y.store.number ≡ number_behind (has_loose d.store) d.store.number)))
   cache_acts =
-      lose_makes num empty d f losses.Cache
-      (λ z. (z.acts ≡ lost_acts (has_loose d.store)) × (z.number ≡ number_behind (has_loose d.store) d.store.number))
+      lose_makes num empty d f losses.Cache (λ z. (z.acts ≡ lost_acts (has_loose d.store)) × (z.number ≡ number_behind (has_loose d.store) d.store.number))
       (λ s z e g. (ap (λ (c : Core). c.acts) e ∙ g.0, ap (λ (c : Core). c.number) e ∙ g.1))
-      (λ s e k.
-      let b = has_loose d.store in
-      let counted = with_loss s losses.Cache in
-      let acts = lost_acts (has_loose d.store) in
-      let n = number_behind (has_loose d.store) d.store.number in
-      let same : has_loose s ≡ has_loose d.store = ap loose_of e in
-      let number : number_behind (has_loose s) s.number ≡ n =
-      ap (λ (x : Bool). number_behind x s.number) same ∙ ap (λ (c : Core). number_behind (has_loose d.store) c.number) e in
-      let made = cache_makes counted (loose_many s e) (ap (λ (c : Core). c.acts) e) in
-      had_weaker
-      (told_holds (NoneLoose acts n) (none_hard acts n) (tracks_of s) (cache_lost by_plain counted)
-      (made.0, (made.1.0 ∙ ap lost_acts same, made.1.1 ∙ number)))
-      (λ z a w. w.1))
+      (λ s e k. let b = has_loose d.store in let counted = with_loss s losses.Cache in let acts = lost_acts (has_loose d.store) in let n = number_behind
+      (has_loose d.store) d.store.number in let same : has_loose s ≡ has_loose d.store = ap loose_of e in let made = cache_makes counted (loose_many s e) (ap
+      (λ (c : Core). c.acts) e) in had_weaker (told_holds (NoneLoose acts n) (none_hard acts n) (tracks_of s) (cache_lost by_plain counted) (
+        made.0,
+        (
+          made.1.0 ∙ ap lost_acts same,
+          made.1.1 ∙ (ap (λ (x : Bool). number_behind x s.number) same ∙ ap (λ (c : Core). number_behind
+              (has_loose d.store) c.number) e),
+        ),
+      )) (λ z a w. w.1))
 
   pub store_acts : PatchedAreFirm d.store → Had (lose by_plain d losses.Store) (λ y (_ : Unit {0}). IsLoss empty d y × (y.store.acts ≡ []))
   store_acts firm =
       lose_makes num empty d f losses.Store (λ z. z.acts ≡ []) (λ s z e none. ap (λ (c : Core). c.acts) e ∙ none)
-      (λ s e k.
-      let counted = with_loss s losses.Store in
-      let made = store_makes counted (record {
-        none = ap (λ (c : Core). c.acts) e;
-        firm = λ q there. ap (λ (c : Core). get_or c.loose q false) e ∙ firm q (sym (k q) ∙ there);
-      }) in
-      had_weaker (told_core (tracks_of s) (store_lost by_plain counted)) (λ z _ same. ap (λ (c : Core). c.acts) same ∙ made.none))
+      (λ s e k. let counted = with_loss s losses.Store in let made = store_makes counted (search (arith, get_or)) in had_weaker (told_core (tracks_of s)
+      (store_lost by_plain counted)) (λ z _ same. ap (λ (c : Core). c.acts) same ∙ made.none))

@@ -1,5 +1,5 @@
 -- FAIL STORE, which tells nothing of the devices, and FAIL VOLUME, which tells of each track that becomes firm.
-use Rattle.std.proofs.Common.{◌≡◌, ◌++◌, ℕ, Bool, true, false, not, List, [], ◌∷◌, map, Option, Some, None, refl, sym, ap, subst, ◌∙◌, if◌then◌else◌, inl}
+use Rattle.std.proofs.Common.{arith, ◌≡◌, ◌++◌, ℕ, Bool, true, false, not, List, [], ◌∷◌, map, Option, Some, None, refl, sym, ap, subst, ◌∙◌, if◌then◌else◌, inl}
 use Rattle.std.specs.Prelude.{◌||◌, IfSome, Ok, Err}
 use Rattle.ckd_types.specs.declared.paths.Side.{Side}
 use Rattle.deck_plan.specs.declared.event.EventLine.{EventLine}
@@ -86,12 +86,7 @@ store_swept (m ∷ ms) pool p g =
     let is = held true (store_acts p.0.number p.0.empty d p.0.follows (firm_of d g.0)) (told_to pool m) in
     let rest = store_swept ms o.told.pool p.1 g.1 in
     let same : o.state.history ≡ d.history = is.0.history ∙ ap (λ (acts : List Act). all_acted d.history acts) is.1 in
-    record {
-      audits = ap (λ (a : AuditedDevice). a ∷ map audited (devices (sweep (λ x. lose by_plain x losses.Store) ms o.told.pool).mounted))
-          (audited_by d o.state (half_by d.store.half) d.history is.0.parts same)
-          ∙ ap (λ (l : List AuditedDevice). audited d ∷ l) rest.audits;
-      silent = (inl same, rest.silent);
-    }
+    (search arith)
 
 module _ (s : Subsystem) (plain : ArePlain s.mounted) (good : AreSo Good s.mounted) where
   store_leads : EventLeads s wanted.FailStore (Once events.FailStore)
@@ -113,12 +108,7 @@ module _ (s : Subsystem) (plain : ArePlain s.mounted) (good : AreSo Good s.mount
 -- FAIL VOLUME
 
 fails_volume : (n : ℕ) (side : Side) → IsOrder (wanted.FailVolume n side) (orders.FailVolume n side) (Once (events.FailVolume n side))
-fails_volume n side = record {
-  stands = λ outs answer. same_order (orders.FailVolume n side);
-  refused = λ z fault. refl;
-  pending = λ z k. refl;
-  lines_are = λ end reads writes ds ks. refl;
-}
+fails_volume n side = search arith
 
 -- the acts, one after another
 module _ (xs : List AuditedDevice) (n : ℕ) (side : Side) (later : List EventLine) (first : AuditedDevice) (has : A.device_in xs n ≡ Some first) where
@@ -146,9 +136,8 @@ module _ (xs : List AuditedDevice) (n : ℕ) (side : Side) (later : List EventLi
       let b = record a { history = acted a.history (Harden t) } in (
         at b,
         harden_judged a same t are.0,
-        hardens_lead b same acts (acted_plain a.plans a.empty a.history plain (Harden t) (acts_first (state_of a) (Harden t) acts are)) none.1
-            (subst (λ (s : PlainState). AreActs s None acts) (sym (acted_state a.plans a.empty a.history plain (Harden t)))
-            (acts_rest (state_of a) (Harden t) acts are)),
+        hardens_lead b same acts (acted_plain a.plans a.empty a.history plain (Harden t) (acts_first (state_of a)
+            (Harden t) acts are)) none.1 (rw (acted_state a.plans a.empty a.history plain (Harden t)) (acts_rest (state_of a) (Harden t) acts are)),
       )
   hardens_lead a same (Loosen t ∷ []) plain none are = absurd (let no_edit : None ≡ Some t = are.1 in cc)
   hardens_lead a same (Loosen t ∷ act ∷ acts) plain none are = absurd are
@@ -168,9 +157,7 @@ module _ (s : Subsystem) (plain : ArePlain s.mounted) (n : ℕ) (x : MarksDevice
   number_is = number_found s.mounted n x at_n
 
   side_had : Had (ends_by ends_done (lose by_plain x (losses.Side side))) (λ y end. IsSideLost (plainly).empty x y end)
-  side_had =
-      had_then (side_acts plainly.number plainly.empty x plainly.follows side)
-      (λ y a g. had_done (record { loss = g.0; none = g.1; done = refl }))
+  side_had = had_then (side_acts plainly.number plainly.empty x plainly.follows side) (λ y a g. had_done (search arith))
 
   -- the acts of the device, and the line of the order
   acts_lead : (later : List EventLine) (m : Mounted) → m.device ≡ x → mounted_in s.mounted n ≡ Some m → (z : Mounted) (end : Option EventEnd) →
@@ -186,34 +173,22 @@ module _ (s : Subsystem) (plain : ArePlain s.mounted) (n : ℕ) (x : MarksDevice
       let h = did.Ordered (orders.FailVolume n side) answers.Done in
       let line = lines.Order (orders.FailVolume n side) answers.Done in
       let b = record a { history = all_acted x.history acts } in
-      let first = at xs n side later a (found_one (devices_of s) n x at_n) a in
       let behind = at xs n side later a (found_one (devices_of s) n x at_n) b in
       let same_base : plainly.empty ≡ a.empty = plainly.base in
-      let begins : first ≡ stand s (wanted.FailVolume n side ∷ later) =
-      ap (λ (l : List AuditedDevice). record { devices = l; events = wanted.FailVolume n side ∷ later; due = (stand s later).due })
-      (ap (λ (d : MarksDevice). with_device xs (audited d)) (sym it_is)
-      ∙ put_at s.mounted n m (ap (λ (d : MarksDevice). d.store.device) it_is ∙ number_is)
-      ∙ put_same s.mounted n m (λ k found. let both_are : Some m ≡ Some k = sym there ∙ found in
-      let it : m ≡ k = cc in ap (λ (i : Mounted). audited i.device) it)) in
-      let ends_so : record { devices = with_device xs b; events = later; due = (stand s later).due } ≡ stand (with_mounted s n z) later =
-      ap (λ (l : List AuditedDevice). record { devices = l; events = later; due = (stand s later).due })
-      (ap (with_device xs) (sym (audited_by x y (half_by x.store.half) (all_acted x.history acts) g.loss.parts g.loss.history))
-      ∙ put_at s.mounted n z (g.loss.parts.number ∙ number_is)) in
-      subst (λ (l : List ReportLine). LeadsBy (stand s (wanted.FailVolume n side ∷ later)) l (stand (with_mounted s n z) later))
-      (sym ((tells_alone s n z).tells h 0 0
-      ∙ ap (λ (o : Option Mounted). lines_at h 0 0 o y) there
-      ∙ ap (λ (d : MarksDevice). loose_lines d y ++ (over_lines d y ++ line ∷ [])) it_is
-      ∙ ap (λ (l : List ReportLine). l ++ (over_lines x y ++ line ∷ []))
-      (acts_lines x y acts g.loss.history g.none ∙ ap (λ (k : ℕ). map (act_line k) acts) number_is)
-      ∙ ap (λ (l : List ReportLine). map (act_line n) acts ++ (l ++ line ∷ [])) (acts_over x y acts g.loss.history)))
-      (leads_on (stand s (wanted.FailVolume n side ∷ later)) behind (stand (with_mounted s n z) later) (map (act_line n) acts) (line ∷ [])
-      (subst (λ (u : AuditState). LeadsBy u (map (act_line n) acts) behind) begins
-      (hardens_lead xs n side later a (found_one (devices_of s) n x at_n) a number_is acts
-      (subst (λ (k : PlainState). IsPlain x.plans k x.history) same_base plainly.follows.stands.plain) g.none
-      (subst (λ (k : PlainState). AreActs (plain_of x.plans k x.history) None acts) same_base g.loss.are)))
-      (one_leads behind (stand (with_mounted s n z) later) line
-      (ap (λ (c : Bool). if c then or_history (Some (passed behind)) else Err Place) (same_order (orders.FailVolume n side))
-      ∙ ap (λ (u : AuditState). Ok u) ends_so)))
+      let begins : (at xs n side later a (found_one (devices_of s) n x at_n) a) ≡ stand s (wanted.FailVolume n side ∷ later) = ap
+      (λ (l : List AuditedDevice). record { devices = l; events = wanted.FailVolume n side ∷ later; due = (stand s later).due }) (ap
+      (λ (d : MarksDevice). with_device xs (audited d)) (sym it_is) ∙ put_at s.mounted n m (ap (λ (d : MarksDevice). d.store.device) it_is ∙ number_is)
+      ∙ put_same s.mounted n m (λ k found. let both_are : Some m ≡ Some k = sym there ∙ found in let it : m ≡ k = cc in ap
+      (λ (i : Mounted). audited i.device) it)) in
+      rw ((tells_alone s n z).tells h 0 0 ∙ ap (λ (o : Option Mounted). lines_at h 0 0 o y) there ∙ ap (λ (d : MarksDevice). loose_lines d y ++
+      (over_lines d y ++ line ∷ [])) it_is ∙ ap (λ (l : List ReportLine). l ++ (over_lines x y ++ line ∷ [])) (acts_lines x y acts g.loss.history g.none ∙ ap
+      (λ (k : ℕ). map (act_line k) acts) number_is) ∙ ap (λ (l : List ReportLine). map (act_line n) acts ++ (l ++ line ∷ []))
+      (acts_over x y acts g.loss.history)) (leads_on (stand s (wanted.FailVolume n side ∷ later)) behind (stand (with_mounted s n z) later) (map
+      (act_line n) acts) (line ∷ []) (rw (← begins) (hardens_lead xs n side later a (found_one (devices_of s) n x at_n) a number_is acts (rw
+      (← same_base) plainly.follows.stands.plain) g.none (rw (← same_base) g.loss.are))) (one_leads behind (stand (with_mounted s n z) later) line (ap
+      (λ (c : Bool). if c then or_history (Some (passed behind)) else Err Place) (same_order (orders.FailVolume n side)) ∙ ap (λ (u : AuditState). Ok u) (ap
+      (λ (l : List AuditedDevice). record { devices = l; events = later; due = (stand s later).due }) (ap (with_device xs) (sym (audited_by x y
+      (half_by x.store.half) (all_acted x.history acts) g.loss.parts g.loss.history)) ∙ put_at s.mounted n z (g.loss.parts.number ∙ number_is))))))
 
   abbrev its_lines : EventHappened → List ReportLine
   its_lines h = event_lines (Once (events.FailVolume n side)) h.end h.reads h.writes (devices_of s) (devices_of h.behind)
@@ -222,34 +197,16 @@ module _ (s : Subsystem) (plain : ArePlain s.mounted) (n : ℕ) (x : MarksDevice
       (asks s k (mounted_in s.mounted k) (ends_by ends_done (lose by_plain x (losses.Side side))))
   asked_leads k is later =
       let m = mounted_too s.mounted n x at_n in
-      let talk = ends_by ends_done (lose by_plain x (losses.Side side)) in
-      let o = held_with s.pool m.0 talk in
+      let o = held_with s.pool m.0 (ends_by ends_done (lose by_plain x (losses.Side side))) in
       let z = mounted_behind o in
       let g = held true side_had (told_to s.pool m.0) in
-      let moves = held_moved {q = λ r w (y : MarksDevice) (a : Option EventEnd). (r ≡ 0) × (w ≡ 0)} true
-      (counts_then (λ y a. Done y (Some (ends_done a))) (lose_counts by_plain x (losses.Side side)) (λ r w y a h. counts_done h))
-      (told_to s.pool m.0) refl refl in
+      let moves = held_moved {q = λ r w (y : MarksDevice) (a : Option EventEnd). (r ≡ 0) × (w ≡ 0)} true (counts_then (λ y a. Done y (Some (ends_done a)))
+      (lose_counts by_plain x (losses.Side side)) (λ r w y a h. counts_done h)) (told_to s.pool m.0) refl refl in
       let from_here = stand s (wanted.FailVolume n side ∷ later) in
-      subst (λ (i : ℕ). LeadsBy from_here (its_lines (asks s i (mounted_in s.mounted i) talk))
-      (stand (asks s i (mounted_in s.mounted i) talk).behind later)) (sym is)
-      (subst (λ (q : Option Mounted). LeadsBy from_here (its_lines (asks s n q talk)) (stand (asks s n q talk).behind later)) (sym m.1)
-      (subst (λ (a : Option EventEnd). LeadsBy from_here
-      (work_lines (did.Ordered (orders.FailVolume n side) (order_answer (told_end a))) o.told.reads o.told.writes
-      (devices_of s) (devices_of (with_mounted s n z))) (stand (with_mounted s n z) later)) (sym g.done)
-      (subst (λ (r : ℕ). LeadsBy from_here
-      (work_lines (did.Ordered (orders.FailVolume n side) answers.Done) r o.told.writes (devices_of s) (devices_of (with_mounted s n z)))
-      (stand (with_mounted s n z) later)) (sym moves.0)
-      (subst (λ (w : ℕ). LeadsBy from_here
-      (work_lines (did.Ordered (orders.FailVolume n side) answers.Done) 0 w (devices_of s) (devices_of (with_mounted s n z)))
-      (stand (with_mounted s n z) later)) (sym moves.1)
-      (acts_lead later m.0 m.2 m.1 z o.answer g)))))
+      rw (is, m.1, g.done, moves.0, moves.1) (acts_lead later m.0 m.2 m.1 z o.answer g)
 
   pub fail_volume_leads : EventLeads s (wanted.FailVolume n side) (Once (events.FailVolume n side)) (happens s (events.FailVolume n side))
   unfolding H.happens E.deed
   fail_volume_leads =
-      let e = wanted.FailVolume n side in
-      let asked = Once (events.FailVolume n side) in
-      subst (λ (o : Option MarksDevice). EventLeads s e asked (happens_by s (on_device o
-      (λ d. order (fail_fault d side) (Asks d (ends_by ends_done (lose by_plain d (losses.Side side)))))))) (sym at_n)
-      (ordered s e (orders.FailVolume n side) asked (fails_volume n side) (fail_fault x side)
+      rw at_n (ordered s (wanted.FailVolume n side) (orders.FailVolume n side) (Once (events.FailVolume n side)) (fails_volume n side) (fail_fault x side)
       (Asks x (ends_by ends_done (lose by_plain x (losses.Side side)))) (λ free. asked_leads x.store.device number_is))

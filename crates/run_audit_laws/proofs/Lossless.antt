@@ -32,18 +32,12 @@ item_losses : (x : Item) → losses_of x ≡ losses (acts_of_item x)
 unfolding losses
 item_losses (items.Program e) = let all = acted_losses 0 e.acts in omega (arith, all)
 item_losses (items.Act act) = omega arith
-item_losses (items.Reset path) = refl
-item_losses items.Fresh = refl
-item_losses items.Power = refl
+item_losses x = refl
 
 journal_losses : (xs : List Item) → loose_losses xs ≡ losses (acts_of_items xs)
 unfolding losses
 journal_losses [] = refl
-journal_losses (x ∷ xs) =
-    let first = item_losses x in
-    let rest = journal_losses xs in
-    let all = both_losses (acts_of_item x) (acts_of_items xs) in
-    omega (arith, first, rest, all)
+journal_losses (x ∷ xs) = grind (arith, journal_losses xs, item_losses, both_losses)
 
 open_losses : (r : Option OpenEntry) → running_losses r ≡ losses (acts_running r)
 unfolding losses
@@ -51,11 +45,7 @@ open_losses (Some o) = let all = acted_losses 0 o.acts in omega (arith, all)
 open_losses None = refl
 
 history_losses : (h : History) → all_losses h ≡ losses (acts_in h)
-history_losses h =
-    let first = journal_losses h.items in
-    let rest = open_losses h.running in
-    let all = both_losses (acts_of_items h.items) (acts_running h.running) in
-    omega (arith, first, rest, all)
+history_losses h = grind (arith, journal_losses, open_losses, both_losses)
 
 none_by : (acts : List Act) → losses acts ≡ 0 → NoLoss acts
 unfolding losses
@@ -66,9 +56,4 @@ none_by (CfwLost ∷ acts) is = absurd (omega (arith, is))
 
 -- of the acts that came to it
 pub none_lost : (h k : History) (acts : List Act) → acts_in k ≡ acts_in h ++ acts → all_losses k ≡ all_losses h → NoLoss acts
-none_lost h k acts more same =
-    let one = history_losses h in
-    let two = history_losses k in
-    let all = both_losses (acts_in h) acts in
-    let grown : losses (acts_in k) ≡ losses (acts_in h ++ acts) = ap losses more in
-    none_by acts (omega (arith, one, two, all, grown, same))
+none_lost h k acts more same = grind (arith, history_losses, both_losses, none_by)

@@ -1,5 +1,5 @@
 -- The paths and devices that the events of a deck that was read name are in their ranges.
-use Rattle.std.proofs.Common.{◌≡◌, ◌<◌, ◌==◌, zero, suc, ℕ, Bool, true, false, List, [], ◌∷◌, map, Ok, refl, subst}
+use Rattle.std.proofs.Common.{arith, ◌≡◌, ◌<◌, ◌==◌, zero, suc, ℕ, Bool, true, false, List, [], ◌∷◌, map, Ok, refl, subst}
 use Rattle.std.specs.Prelude.{◌||◌, All, Result}
 use Rattle.std.proofs.lemmas.Bool.{cond_both, eqb-true}
 use Rattle.std.proofs.lemmas.List.Elements.{All-append, All-cons, All-head, All-nil, All-tail}
@@ -59,31 +59,19 @@ module _ (P : Asked → Type 0) where
   steps_of : (n d : ℕ) (s : Subsystem) → P (Run d) → All Of (steps n d s)
   unfolding L.steps
   steps_of zero d s p = All-nil Of
-  steps_of (suc n) d s p =
-      let h = happens s (events.Step d) in
-      cond_both (is_busy (mounted_in s.mounted d)) (step_logged s d (steps n d)) [] (All Of)
-      (λ _. All-cons Of (logged (Run d) h) (steps n d h.behind) p (steps_of n d h.behind p)) (λ _. All-nil Of)
+  steps_of (suc n) d s p = grind (arith, steps_of n d, cond_both)
 
   backs_of : (n d : ℕ) (s : Subsystem) → P (Settle d) → All Of (backs n d s)
   unfolding L.backs
   backs_of zero d s p = All-nil Of
-  backs_of (suc n) d s p =
-      let h = happens s (events.Back d) in
-      All-cons Of (logged (Settle d) h) _ p
-      (cond_both (is_settled h.end) [] (backs n d h.behind) (All Of) (λ _. All-nil Of) (λ _. backs_of n d h.behind p))
+  backs_of (suc n) d s p = grind (arith, backs_of n d, cond_both)
 
   one_of : (t : Logged) → P t.asked → All Of (t ∷ [])
   one_of t p = All-cons Of t [] p (All-nil Of)
 
   line_of : (x : Asked) (s : Subsystem) → P x → All Of (line_logged s x)
   unfolding L.line_logged
-  line_of (Once e) s p = one_of (logged (Once e) _) p
-  line_of (Replace d side) s p = one_of (logged (Replace d side) _) p
-  line_of (Unpair a) s p = one_of (logged (Unpair a) _) p
-  line_of (Run d) s p =
-      cond_both (is_busy (mounted_in s.mounted d)) (steps most_steps d s) (logged (Run d) (quietly s s ends.Idle) ∷ []) (All Of)
-      (λ _. steps_of most_steps d s p) (λ _. one_of (logged (Run d) (quietly s s ends.Idle)) p)
-  line_of (Settle d) s p = backs_of most_backs d s p
+  line_of x s p = grind (arith, cond_both, steps_of, one_of, backs_of)
 
   pub lines_of : (xs : List Asked) (s : Subsystem) → All P xs → All Of (run_lines xs s)
   unfolding L.run_lines
@@ -96,48 +84,19 @@ module _ (P : Asked → Type 0) where
 
 declared_small : (seen : List ℕ) (ds : List DeviceLine) → AreNumbered seen ds → (n : ℕ) → is_declared ds n ≡ true → n < 16
 declared_small seen [] are n is = absurd (cc)
-declared_small seen (d ∷ ds) are n is = by_test (d.number == n) refl is (declared_small (d.number ∷ seen) ds are.2 n) where
-  by_test : (b : Bool) → (d.number == n) ≡ b → (b || is_declared ds n) ≡ true → (is_declared ds n ≡ true → n < 16) → n < 16
-  by_test true same is more = subst (λ (k : ℕ). k < 16) (eqb-true d.number n same) are.1
-  by_test false other is more = more is
+declared_small seen (d ∷ ds) are n is = grind (arith, declared_small (d.number ∷ seen) ds are.2 n)
 
 path_range : (devices : List DeviceLine) (words : List (List ℕ)) (at : ℕ × ℕ) → path_and_device devices words ≡ Ok at → IsPath at.0
-path_range devices words at h =
-    let a = went (needed Words (two_words words)) (λ w. then_read (path_of w.0) (λ p. then_read (device_of devices w.1) (λ d. Ok (p, d)))) at h in
-    let b = went (path_of a.value.0) (λ p. then_read (device_of devices a.value.1) (λ d. Ok (p, d))) at a.second in
-    let c = went (device_of devices a.value.1) (λ d. Ok (b.value, d)) at b.second in
-    let same : (b.value, c.value) ≡ at = if_ok true (b.value, c.value) at Number c.second in
-    let r = number_range 1 4 a.value.0 b.value (needed_is Number (number_in 1 4 a.value.0) b.value b.first) in
-    subst (λ (x : ℕ × ℕ). IsPath x.0) same (record { least = r.low; most = r.high })
+path_range devices words at h = search (arith, went, number_range, needed_is, if_ok)
 
 module _ (f : ℕ → ℕ → EventLine) (same : (p q x y : ℕ) → ◌≡◌ {A = Result EventLine DeckWhy} (Ok (f p x)) (Ok (f q y)) → p ≡ q) where
   path_is : (devices : List DeviceLine) (words : List (List ℕ)) (path d : ℕ) →
       then_read (path_and_device devices words) (λ at. Ok (f at.0 at.1)) ≡ Ok (f path d) → IsPath path
-  path_is devices words path d h =
-      let a = went (path_and_device devices words) (λ at. Ok (f at.0 at.1)) (f path d) h in
-      subst (λ (p : ℕ). IsPath p) (same a.value.0 path a.value.1 d a.second) (path_range devices words a.value a.first)
+  path_is devices words path d h = grind (arith, went, path_range)
 
 module _ (devices : List DeviceLine) (small : (n : ℕ) → is_declared devices n ≡ true → n < 16) where
   event_names : (e : EventLine) → EventOk devices e → OfNamed (λ d. is_declared devices d ≡ true) e → Names (asked_by e)
-  event_names (wanted.Start path d) ok n =
-      (path_is (λ p x. wanted.Start p x) (λ p q x y h. cc) devices (behind_of (wanted.Start path d)) path d ok.again, small d n)
-  event_names (wanted.Step d) ok n = small d n
-  event_names (wanted.Run d) ok n = small d n
-  event_names (wanted.Back d) ok n = small d n
-  event_names (wanted.Settle d) ok n = small d n
-  event_names (wanted.Reset path d) ok n =
-      (path_is (λ p x. wanted.Reset p x) (λ p q x y h. cc) devices (behind_of (wanted.Reset path d)) path d ok.again, small d n)
-  event_names wanted.FailCache ok n = tt
-  event_names wanted.FailStore ok n = tt
-  event_names (wanted.FailVolume d side) ok n = small d n
-  event_names wanted.RepairCache ok n = tt
-  event_names wanted.RepairStore ok n = tt
-  event_names (wanted.Replace d side) ok n = small d n
-  event_names (wanted.Pair a b) ok n = (small a n.0, small b n.1)
-  event_names (wanted.Unpair a) ok n = small a n
-  event_names (wanted.Suspend a) ok n = small a n
-  event_names (wanted.Resume a) ok n = small a n
-  event_names wanted.Power ok n = tt
+  event_names e ok n = grind (arith, path_is, behind_of)
 
   all_names : (es : List EventLine) → Each (EventOk devices) es → Each (OfNamed (λ d. is_declared devices d ≡ true)) es → All Names (map asked_by es)
   all_names [] ok n = All-nil Names

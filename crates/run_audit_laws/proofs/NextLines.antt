@@ -1,5 +1,5 @@
 -- The first line of an event isn't of the work before it, so lines that lead on from where that work is known to be done do so from where it isn't.
-use Rattle.std.proofs.Common.{◌≡◌, ◌==◌, ◌++◌, ℕ, Bool, true, false, not, List, [], ◌∷◌, Option, Some, None, refl, sym, ap, subst, ◌∙◌, if◌then◌else◌}
+use Rattle.std.proofs.Common.{arith, ◌≡◌, ◌==◌, ◌++◌, ℕ, Bool, true, false, not, List, [], ◌∷◌, Option, Some, None, refl, sym, ap, subst, ◌∙◌, if◌then◌else◌}
 use Rattle.std.specs.Prelude.{◌||◌, ◌&&◌, Result, Ok, Err}
 use Rattle.std.proofs.lemmas.Bool.{or_from, and_right}
 use Rattle.deck_plan.specs.declared.event.EventLine.{EventLine}
@@ -51,120 +51,54 @@ record BeginsNothing (line : ReportLine) : Type 0 where
   totals : (s : List Outline) → in_next s line [] ≡ false
 
 never_holds : {T : Type 0} (o : Option T) (f : T → Bool) → ((x : T) → f x ≡ false) → holds o f ≡ false
-never_holds None f no_one = refl
-never_holds (Some x) f no_one = no_one x
+never_holds o f no_one = grind arith
 
 module _ (line : ReportLine) (b : BeginsNothing line) where
   in_no_steps : (a : Outline) (idle : ReportLine) → says idle line ≡ false → (r : Option OpenProgram) → in_steps a idle line r ≡ false
-  in_no_steps a idle no_idle (Some o) = or_from (is_end a.number o line) (is_half a.number o line) (b.ends a.number o) (b.halves a.number o)
-  in_no_steps a idle no_idle None = no_idle
+  in_no_steps a idle no_idle r = grind (arith, or_from)
 
   no_second : (a : Outline) (r : Option OpenProgram) → second_of a line r ≡ false
   no_second a r = never_holds r (λ o. is_end a.number o line) (b.ends a.number)
 
   no_step : (a : Outline) (idle : ReportLine) → says idle line ≡ false → (h : HalfWrite) → may_step a idle line h ≡ false
-  no_step a idle no_idle half.Closed = in_no_steps a idle no_idle a.running
-  no_step a idle no_idle half.OfCommand = no_second a a.running
-  no_step a idle no_idle half.OfBackground = b.seconds a.number
+  no_step a idle no_idle h = grind (arith, in_no_steps, no_second)
 
   no_back : (a : Outline) (h : HalfWrite) → may_back a line h ≡ false
-  no_back a half.Closed = b.backs a.number
-  no_back a half.OfCommand = no_second a a.running
-  no_back a half.OfBackground = b.seconds a.number
+  no_back a h = grind (arith, no_second)
 
   reset_by : (path d : ℕ) (o : OpenProgram) (own : Bool) → (if own then is_cut d o line else is_reset path d line) ≡ false
-  reset_by path d o true = b.cuts d o
-  reset_by path d o false = b.resets path d
+  reset_by path d o own = grind arith
 
   no_reset : (path d : ℕ) (a : Outline) (r : Option OpenProgram) → may_reset path d a line r ≡ false
-  no_reset path d a (Some o) = reset_by path d o (o.path == path)
-  no_reset path d a None = b.resets path d
+  no_reset path d a r = grind (arith, reset_by)
 
   no_power_of : (a : Outline) (below : Bool) → below ≡ false → (r : Option OpenProgram) → in_power_of a line below r ≡ false
-  no_power_of a below none (Some o) = b.cuts a.number o
-  no_power_of a below none None =
-      or_from (is_loss_of a.number line) (not a.loose && below) (b.loss_of a.number) (and_right (not a.loose) below none)
+  no_power_of a below none r = grind (arith, or_from, and_right)
 
   no_power : (s : List Outline) → in_power line s ≡ false
   no_power [] = b.power
   no_power (a ∷ left) = no_power_of a (in_power line left) (no_power left) a.running
 
   begins_none : (s : List Outline) (e : EventLine) → IsCalm e → in_event s line e ≡ false
-  begins_none s (events.Start path d) calm = b.starts path d
-  begins_none s (events.Step d) calm =
-      never_holds (outline_in s d) (λ a. may_step a (lines.StepIdle d) line a.half) (λ a. no_step a (lines.StepIdle d) (b.steps d) a.half)
-  begins_none s (events.Run d) calm =
-      never_holds (outline_in s d) (λ a. may_step a (lines.RunIdle d) line a.half) (λ a. no_step a (lines.RunIdle d) (b.runs d) a.half)
-  begins_none s (events.Back d) calm = never_holds (outline_in s d) (λ a. may_back a line a.half) (λ a. no_back a a.half)
-  begins_none s (events.Settle d) calm = never_holds (outline_in s d) (λ a. may_back a line a.half) (λ a. no_back a a.half)
-  begins_none s (events.Reset path d) calm = never_holds (outline_in s d) (λ a. may_reset path d a line a.running) (λ a. no_reset path d a a.running)
-  begins_none s events.FailCache calm = or_from (is_loss s line) (is_order orders.FailCache line) (b.losses s) (b.orders_are orders.FailCache)
-  begins_none s events.FailStore calm = b.orders_are orders.FailStore
-  begins_none s (events.FailVolume d side) calm = absurd calm
-  begins_none s events.RepairCache calm = b.orders_are orders.RepairCache
-  begins_none s events.RepairStore calm = b.orders_are orders.RepairStore
-  begins_none s (events.Replace d side) calm = b.orders_are (orders.Replace d side)
-  begins_none s (events.Pair x y) calm = b.orders_are (orders.Pair x y)
-  begins_none s (events.Unpair x) calm = b.orders_are (orders.Unpair x)
-  begins_none s (events.Suspend x) calm = b.orders_are (orders.Suspend x)
-  begins_none s (events.Resume x) calm = b.orders_are (orders.Resume x)
-  begins_none s events.Power calm = no_power s
+  begins_none s e calm = grind (arith, never_holds, no_step, no_back, no_reset, or_from, no_power)
 
 -- Lines of work behind its first one
 
 io_begins_none : (reads writes : ℕ) → BeginsNothing (lines.Io reads writes)
-io_begins_none reads writes = record {
-  ends = λ d o. refl;
-  halves = λ d o. refl;
-  seconds = λ d. refl;
-  backs = λ d. refl;
-  steps = λ d. refl;
-  runs = λ d. refl;
-  starts = λ path d. refl;
-  resets = λ path d. refl;
-  cuts = λ d o. refl;
-  orders_are = λ o. refl;
-  losses = λ s. refl;
-  loss_of = λ d. refl;
-  power = refl;
-  totals = by_outlines;
-} where
-  by_outlines : (s : List Outline) → in_next s (lines.Io reads writes) [] ≡ false
-  by_outlines [] = refl
-  by_outlines (a ∷ left) = refl
+io_begins_none reads writes = search arith
 
 loose_begins_none : (n : ℕ) (a : LooseAnswer) → ((s : List Outline) → is_loss s (lines.Loose n a) ≡ false) →
     ((d : ℕ) → is_loss_of d (lines.Loose n a) ≡ false) → BeginsNothing (lines.Loose n a)
-loose_begins_none n a no_loss no_loss_of = record {
-  ends = λ d o. refl;
-  halves = λ d o. refl;
-  seconds = λ d. refl;
-  backs = λ d. refl;
-  steps = λ d. refl;
-  runs = λ d. refl;
-  starts = λ path d. refl;
-  resets = λ path d. refl;
-  cuts = λ d o. refl;
-  orders_are = λ o. refl;
-  losses = no_loss;
-  loss_of = no_loss_of;
-  power = refl;
-  totals = by_outlines;
-} where
-  by_outlines : (s : List Outline) → in_next s (lines.Loose n a) [] ≡ false
-  by_outlines [] = refl
-  by_outlines (x ∷ left) = refl
+loose_begins_none n a no_loss no_loss_of = search arith
 
 -- Every line
 
 no_act : (more : Bool) (d : ℕ) (line : ReportLine) → is_act_of true d line ≡ false → is_act_of more d line ≡ false
-no_act true d line is = is
-no_act false d line is = refl
+no_act more d line is = grind arith
 
 pub of_none : (line : ReportLine) → is_io line ≡ false → ((d : ℕ) → is_act_of true d line ≡ false) → (more : Bool) (w : Option ℕ) →
     is_of_work more w line ≡ false
-of_none line no_io act more None = ap (λ (b : Bool). b || false) no_io
-of_none line no_io act more (Some d) = ap (λ (b : Bool). b || is_act_of more d line) no_io ∙ no_act more d line (act d)
+of_none line no_io act more w = grind (arith, no_act)
 
 -- the first event line that is left, if there is one, is no volume's failure
 abbrev pub BeginsCalmly : List EventLine → Type 0
@@ -173,58 +107,28 @@ BeginsCalmly (e ∷ later) = IsCalm e
 
 module _ (s : List Outline) (left : List EventLine) (calm : BeginsCalmly left) (more : Bool) (w : Option ℕ) where
   refuted_in : (line : ReportLine) → BeginsNothing line → (l : List EventLine) → BeginsCalmly l → in_next s line l ≡ true → is_of_work more w line ≡ false
-  refuted_in line b [] calmly is = absurd (let both : true ≡ false = sym is ∙ b.totals s in cc)
-  refuted_in line b (e ∷ l) calmly is = absurd (let both : true ≡ false = sym is ∙ begins_none line b s e calmly in cc)
+  refuted_in line b l calmly is = grind (arith, begins_none)
 
   refuted : (line : ReportLine) → BeginsNothing line → in_next s line left ≡ true → is_of_work more w line ≡ false
   refuted line b is = refuted_in line b left calm is
 
   loose_by : (n : ℕ) (a : LooseAnswer) → in_next s (lines.Loose n a) left ≡ true → is_of_work more w (lines.Loose n a) ≡ false
-  loose_by n (loose.Harden t) is = refuted (lines.Loose n (loose.Harden t)) (loose_begins_none n (loose.Harden t) (λ s. refl) (λ d. refl)) is
-  loose_by n (loose.Loosen t) is = refuted (lines.Loose n (loose.Loosen t)) (loose_begins_none n (loose.Loosen t) (λ s. refl) (λ d. refl)) is
   loose_by n (loose.Lost count id) is = of_none (lines.Loose n (loose.Lost count id)) refl (λ d. refl) more w
+  loose_by n a is = refuted (lines.Loose n a) (loose_begins_none n a (λ s. refl) (λ d. refl)) is
 
   -- a line that comes next is none of the work before
   next_is_other : (line : ReportLine) → in_next s line left ≡ true → is_of_work more w line ≡ false
-  next_is_other (lines.Loose n a) is = loose_by n a is
-  next_is_other (lines.Io reads writes) is = refuted (lines.Io reads writes) (io_begins_none reads writes) is
-  next_is_other (lines.Start path d a) is = of_none (lines.Start path d a) refl (λ k. refl) more w
-  next_is_other (lines.End e) is = of_none (lines.End e) refl (λ k. refl) more w
-  next_is_other (lines.Data bytes) is = of_none (lines.Data bytes) refl (λ k. refl) more w
-  next_is_other (lines.Sense sense) is = of_none (lines.Sense sense) refl (λ k. refl) more w
-  next_is_other (lines.Half path d t) is = of_none (lines.Half path d t) refl (λ k. refl) more w
-  next_is_other (lines.Back d a) is = of_none (lines.Back d a) refl (λ k. refl) more w
-  next_is_other (lines.StepIdle d) is = of_none (lines.StepIdle d) refl (λ k. refl) more w
-  next_is_other (lines.RunIdle d) is = of_none (lines.RunIdle d) refl (λ k. refl) more w
-  next_is_other (lines.Over path d n how) is = of_none (lines.Over path d n how) refl (λ k. refl) more w
-  next_is_other (lines.Reset path d) is = of_none (lines.Reset path d) refl (λ k. refl) more w
-  next_is_other (lines.Order o a) is = of_none (lines.Order o a) refl (λ k. refl) more w
-  next_is_other (lines.Device d t) is = of_none (lines.Device d t) refl (λ k. refl) more w
-  next_is_other (lines.Lost d t) is = of_none (lines.Lost d t) refl (λ k. refl) more w
-  next_is_other (lines.Frame d t m) is = of_none (lines.Frame d t m) refl (λ k. refl) more w
-  next_is_other (lines.Fresh d) is = of_none (lines.Fresh d) refl (λ k. refl) more w
-  next_is_other (lines.Left path d n) is = of_none (lines.Left path d n) refl (λ k. refl) more w
-  next_is_other (lines.Unused n) is = of_none (lines.Unused n) refl (λ k. refl) more w
-  next_is_other (lines.Sum of n) is = of_none (lines.Sum of n) refl (λ k. refl) more w
-  next_is_other lines.Finish is = of_none lines.Finish refl (λ k. refl) more w
+  next_is_other line is = grind (arith, loose_by, refuted, io_begins_none, of_none)
 
 -- From where a piece of work is known to be done at the next line
 
 pub stands_so : (b : Bool) (r : Result AuditState AuditWhy) (u : AuditState) → (if b then r else Err Place) ≡ Ok u → (b ≡ true) × (r ≡ Ok u)
-stands_so true r u is = (refl, is)
-stands_so false r u is = absurd (cc)
+stands_so b r u is = grind arith
 
 module _ (s : Subsystem) (later : List EventLine) (n : Option ℕ) (calm : BeginsCalmly later) where
   pub leads_from : (u : AuditState) → Reaches n u (stand s later) → (line : ReportLine) (lines : List ReportLine) (t : AuditState) →
       LeadsBy (stand s later) (line ∷ lines) t → LeadsBy u (line ∷ lines) t
-  leads_from u (is_there same) line lines t leads = subst (λ (z : AuditState). LeadsBy z (line ∷ lines) t) (sym same) leads
-  leads_from u (is_waiting more did is works legal same) line lines t leads =
-      let z = stand s later in
-      let so = stands_so (in_next (outlines z) line later) (or_history (next_made z line later)) leads.0 leads.1 in
-      waiting_leads u t line lines more did is
-      (ap (λ (k : Option ℕ). is_of_work more k line) works ∙ next_is_other (outlines z) later calm more n line so.0)
-      legal (ap (λ (z : AuditState). z.due) same)
-      (subst (λ (z : AuditState). LeadsBy z (line ∷ lines) t) (sym same) leads)
+  leads_from u x2 line lines t leads = search (arith, stands_so, waiting_leads, next_is_other)
 
   -- lines of the same device's work
   pub towards_from : (u : AuditState) → Reaches n u (stand s later) → (ls : List ReportLine) (t : AuditState) →
@@ -239,8 +143,7 @@ module _ (s : Subsystem) (later : List EventLine) (n : Option ℕ) (calm : Begin
   -- to the end
   pub to_the_end : (u : AuditState) → Reaches n u (stand s later) → (ls : List ReportLine) (t : AuditState) → t.due ≡ Nothing →
       LeadsBy (stand s later) ls t → LeadsBy u ls t
-  to_the_end u reaches [] t done leads =
-      absurd (let none : Nothing ≡ Next = sym done ∙ ap (λ (z : AuditState). z.due) leads in cc)
+  to_the_end u reaches [] t done leads = absurd (let none : Nothing ≡ Next = sym done ∙ ap (λ (z : AuditState). z.due) leads in cc)
   to_the_end u reaches (line ∷ ls) t done leads = leads_from u reaches line ls t leads
 
   -- to where other events are left
@@ -253,11 +156,7 @@ module _ (s : Subsystem) (later : List EventLine) (n : Option ℕ) (calm : Begin
   pub towards_other : (u : AuditState) → Reaches n u (stand s later) → (z : Subsystem) (rest : List EventLine) → (later ≡ rest → ⊥) → (ls : List ReportLine) →
       (k : Option ℕ) → (leads : (v : AuditState) × LeadsBy (stand s later) ls v × Reaches k v (stand z rest)) →
       (v : AuditState) × LeadsBy u ls v × Reaches k v (stand z rest)
-  towards_other u reaches z rest other [] k leads = absurd (by_way leads.2) where
-    by_way : Reaches k leads.0 (stand z rest) → ⊥
-    by_way (is_there same) = other (ap (λ (y : AuditState). y.events) (sym leads.1 ∙ same))
-    by_way (is_waiting more did is works legal same) =
-        let none : Next ≡ Behind more did = ap (λ (y : AuditState). y.due) (sym leads.1) ∙ is in cc
+  towards_other u reaches z rest other [] k leads = grind arith
   towards_other u reaches z rest other (line ∷ ls) k leads = (leads.0, leads_from u reaches line ls leads.0 leads.1, leads.2)
 
   -- lines lead on behind others

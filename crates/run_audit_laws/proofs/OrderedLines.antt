@@ -32,80 +32,45 @@ unpair_logged s a = refl
 
 unpaired_before : (s : Subsystem) (a : ℕ) → (unpaired s a unfailing).before ≡ s
 unfolding H.unpaired
-unpaired_before s a = by_mounted (mounted_in s.mounted a) where
-  by_fault : (m : Mounted) (f : Option OrderFault) → (unpaired_by s a unfailing m f).before ≡ s
-  by_fault m (Some fault) = refl
-  by_fault m None = refl
-
-  by_mounted : (o : Option Mounted) → (unpaired_at s a unfailing o).before ≡ s
-  by_mounted (Some m) = by_fault m (unpair_fault m.device)
-  by_mounted None = refl
+unpaired_before s a = grind arith
 
 module _ (numbers : List ℕ) (s : Subsystem) (k : IsBehind numbers s) where
   few : (a : ℕ) → lent_count a (ties s.mounted) ≤ 1
   few a = let one = k.tied.single a in let most = pair_most a (ties s.mounted) in omega (arith, one, most)
 
   pub ordered_leads : (e : EventLine) → IsLossOrPair s e → LineLeads s e
-  ordered_leads wanted.FailCache has = once s k.plain wanted.FailCache events.FailCache refl (fail_cache_leads s k.plain (rising numbers s k))
-  ordered_leads wanted.FailStore has = once s k.plain wanted.FailStore events.FailStore refl (fail_store_leads s k.plain k.good)
-  ordered_leads (wanted.FailVolume d side) has =
-      some_device (device_in (devices_of s) d) has
-      (λ x at. once s k.plain (wanted.FailVolume d side) (events.FailVolume d side) refl (fail_volume_leads s k.plain d x at side))
-  ordered_leads (wanted.Pair a b) has =
-      some_device (device_in (devices_of s) a) has.0
-      (λ x at_a. some_device (device_in (devices_of s) b) has.1
-      (λ y at_b. once s k.plain (wanted.Pair a b) (events.Pair a b) refl (pair_leads s a b x y at_a at_b)))
-  ordered_leads (wanted.Unpair a) has =
-      some_device (device_in (devices_of s) a) has
-      (λ x at. one_line s (wanted.Unpair a) (Unpair a) (unpaired s a unfailing) refl (unpair_logged s a) (unpaired_before s a)
-      (unpair_leads s k.plain a (few a) x at))
-  ordered_leads (wanted.Start path d) has = absurd has
-  ordered_leads (wanted.Step d) has = absurd has
-  ordered_leads (wanted.Run d) has = absurd has
-  ordered_leads (wanted.Back d) has = absurd has
-  ordered_leads (wanted.Settle d) has = absurd has
-  ordered_leads (wanted.Reset path d) has = absurd has
-  ordered_leads wanted.RepairCache has = absurd has
-  ordered_leads wanted.RepairStore has = absurd has
-  ordered_leads (wanted.Replace d side) has = absurd has
-  ordered_leads (wanted.Suspend d) has = absurd has
-  ordered_leads (wanted.Resume d) has = absurd has
-  ordered_leads wanted.Power has = once s k.plain wanted.Power events.Power refl (power_leads s k.plain (rising numbers s k))
+  ordered_leads e has =
+      grind (
+        arith,
+        once,
+        fail_cache_leads,
+        rising,
+        fail_store_leads,
+        some_device,
+        fail_volume_leads,
+        pair_leads,
+        one_line,
+        unpair_logged,
+        unpaired_before,
+        unpair_leads,
+        few,
+        power_leads,
+      )
 
 -- Decks
 
 pub ordered_line_leads : (text : List ℕ) (deck : DeckLines) → parsed text ≡ Ok deck → (e : EventLine) → IsLossOrPair (run_of deck).behind e →
     LineLeads (run_of deck).behind e
-ordered_line_leads text deck read e has =
-    ordered_leads (numbers_in deck) (run_of deck).behind (run_is_behind text deck read) e has
+ordered_line_leads text deck read e has = grind (arith, ordered_leads, numbers_in, run_is_behind)
 
 -- Along a whole deck
 
 no_work_leads : (numbers : List ℕ) (s : Subsystem) → IsBehind numbers s → (e : EventLine) → OfNamed (HasDevice s) e → IsNoWork e → LineLeads s e
-no_work_leads numbers s k (wanted.Start path d) has calm = still_leads s k.plain (wanted.Start path d) has
-no_work_leads numbers s k (wanted.Step d) has calm = absurd calm
-no_work_leads numbers s k (wanted.Run d) has calm = absurd calm
-no_work_leads numbers s k (wanted.Back d) has calm = absurd calm
-no_work_leads numbers s k (wanted.Settle d) has calm = absurd calm
-no_work_leads numbers s k (wanted.Reset path d) has calm = still_leads s k.plain (wanted.Reset path d) has
-no_work_leads numbers s k wanted.FailCache has calm = ordered_leads numbers s k wanted.FailCache tt
-no_work_leads numbers s k wanted.FailStore has calm = ordered_leads numbers s k wanted.FailStore tt
-no_work_leads numbers s k (wanted.FailVolume d side) has calm = ordered_leads numbers s k (wanted.FailVolume d side) has
-no_work_leads numbers s k wanted.RepairCache has calm = still_leads s k.plain wanted.RepairCache tt
-no_work_leads numbers s k wanted.RepairStore has calm = still_leads s k.plain wanted.RepairStore tt
-no_work_leads numbers s k (wanted.Replace d side) has calm = still_leads s k.plain (wanted.Replace d side) has
-no_work_leads numbers s k (wanted.Pair a b) has calm = ordered_leads numbers s k (wanted.Pair a b) has
-no_work_leads numbers s k (wanted.Unpair a) has calm = ordered_leads numbers s k (wanted.Unpair a) has
-no_work_leads numbers s k (wanted.Suspend d) has calm = still_leads s k.plain (wanted.Suspend d) has
-no_work_leads numbers s k (wanted.Resume d) has calm = still_leads s k.plain (wanted.Resume d) has
-no_work_leads numbers s k wanted.Power has calm = ordered_leads numbers s k wanted.Power tt
+no_work_leads numbers s k e has calm = grind (arith, still_leads, ordered_leads)
 
 all_lead : (events : List EventLine) (s : Subsystem) → AllSo (λ (z : Subsystem) (e : EventLine). IsNoWork e → LineLeads z e) s events → AllLead s events
 all_lead [] s so = tt
 all_lead (e ∷ later) s so = (so.0, all_lead later (last_behind s (line_logged s (asked_by e))) so.1)
 
 pub each_line_leads : (text : List ℕ) (deck : DeckLines) → parsed text ≡ Ok deck → AllLead (opened deck) deck.events
-each_line_leads text deck read =
-    all_lead deck.events (opened deck)
-    (deck_all_so text deck read (λ (z : Subsystem) (e : EventLine). IsNoWork e → LineLeads z e)
-    (λ s e k served named. no_work_leads (numbers_in deck) s k e named))
+each_line_leads text deck read = grind (arith, all_lead, deck_all_so, no_work_leads, numbers_in)

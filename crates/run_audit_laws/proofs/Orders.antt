@@ -1,5 +1,5 @@
 -- Orders that are refused, that wait, or that change nothing of what the audit knows.
-use Rattle.std.proofs.Common.{◌≡◌, ◌==◌, ◌++◌, ℕ, Bool, true, false, List, [], ◌∷◌, Option, Some, None, refl, sym, ap, subst, ◌∙◌, if◌then◌else◌}
+use Rattle.std.proofs.Common.{arith, ◌≡◌, ◌==◌, ◌++◌, ℕ, Bool, true, false, List, [], ◌∷◌, Option, Some, None, refl, sym, ap, subst, ◌∙◌, if◌then◌else◌}
 use Rattle.ckd_types.specs.declared.paths.Side.{Side}
 use Rattle.ckd_types.specs.declared.paths.Side.TheVariants.{A, B}
 use Rattle.deck_plan.specs.declared.event.EventLine.{EventLine}
@@ -61,18 +61,14 @@ IsDone e o = (z : AuditState) → event_made z (lines.Order o answers.Done) e �
 module _ (s : Subsystem) (e : EventLine) (o : Order) (asked : Asked) (is : IsOrder e o asked) where
   order_judged : (later : List EventLine) (answer : OrderAnswer) (t : AuditState) →
       event_made (stand s (e ∷ later)) (lines.Order o answer) e ≡ Some t → LeadsBy (stand s (e ∷ later)) (lines.Order o answer ∷ []) t
-  order_judged later answer t makes =
-      one_leads (stand s (e ∷ later)) t (lines.Order o answer)
-      (first_judged s e later (lines.Order o answer) t (is.stands (outlines (stand s (e ∷ later))) answer) makes)
+  order_judged later answer t makes = search (arith, one_leads, first_judged)
 
   -- where of the devices nothing else is told
   pub told_leads : (z : Subsystem) (end : EventEnd) (later : List EventLine) →
       work_lines (did.Ordered o (order_answer end)) 0 0 (devices_of s) (devices_of z) ≡ lines.Order o (order_answer end) ∷ [] →
       event_made (stand s (e ∷ later)) (lines.Order o (order_answer end)) e ≡ Some (stand z later) →
       LeadsBy (stand s (e ∷ later)) (event_lines asked end 0 0 (devices_of s) (devices_of z)) (stand z later)
-  told_leads z end later told makes =
-      subst (λ (l : List ReportLine). LeadsBy (stand s (e ∷ later)) l (stand z later)) (sym (is.lines_are end 0 0 (devices_of s) (devices_of z) ∙ told))
-      (order_judged later (order_answer end) (stand z later) makes)
+  told_leads z end later told makes = search (arith, order_judged)
 
   -- nothing was done
   pub refused_leads : (fault : OrderFault) → EventLeads s e asked (quietly s s (ends.Refused fault))
@@ -87,20 +83,17 @@ module _ (s : Subsystem) (e : EventLine) (o : Order) (asked : Asked) (is : IsOrd
   -- it is refused, or this is done
   pub ordered : (fault : Option OrderFault) (x : MarksDeed) → (fault ≡ None → EventLeads s e asked (happens_by s x)) →
       EventLeads s e asked (happens_by s (order fault x))
-  ordered (Some fault) x go = refused_leads fault
-  ordered None x go = go refl
+  ordered fault x go = grind (arith, refused_leads)
 
   -- what is down is not lost
   pub down_or : (down : Bool) (x : MarksDeed) → EventLeads s e asked (happens_by s x) →
       EventLeads s e asked (happens_by s (if down then Ends (ends.Refused faults.Down) else x))
-  down_or true x go = refused_leads faults.Down
-  down_or false x go = go
+  down_or down x go = grind (arith, refused_leads)
 
   module _ (done : IsDone e o) where
     -- nothing that a device knows
     pub pool_leads : (pool : Pool) → EventLeads s e asked (quietly s (record s { pool = pool }) ends.Done)
-    pool_leads pool later =
-        told_leads (record s { pool = pool }) ends.Done later (quiet_lines (did.Ordered o answers.Done) (devices_of s)) (done (stand s (e ∷ later)))
+    pool_leads pool = search (arith, told_leads, quiet_lines)
 
     -- a device of which the audit knows the same
     pub put_leads : (n : ℕ) (m z : Mounted) → mounted_in s.mounted n ≡ Some m → z.device.history ≡ m.device.history →
@@ -120,21 +113,15 @@ module _ (s : Subsystem) (e : EventLine) (o : Order) (asked : Asked) (is : IsOrd
 
     becomes_leads : (n : ℕ) (d y : MarksDevice) → device_in (devices_of s) n ≡ Some d → y.history ≡ d.history → audited y ≡ audited d → (k : ℕ) → k ≡ n →
         EventLeads s e asked (quietly s (becomes s k (mounted_in s.mounted k) y) ends.Done)
-    becomes_leads n d y at history same k number =
-        let m = mounted_too s.mounted n d at in
-        subst (λ (i : ℕ). EventLeads s e asked (quietly s (becomes s i (mounted_in s.mounted i) y) ends.Done)) (sym number)
-        (subst (λ (q : Option Mounted). EventLeads s e asked (quietly s (becomes s n q y) ends.Done)) (sym m.1)
-        (put_leads n m.0 (record m.0 { device = y }) m.1 (history ∙ ap (λ (x : MarksDevice). x.history) (sym m.2))
-        (same ∙ ap audited (sym m.2))))
+    becomes_leads n d y at history same k number = search (arith, mounted_too, put_leads)
 
     -- a device becomes another of which it knows the same, unless that is refused
     turned : (n : ℕ) (x : MarksDevice) → device_in (devices_of s) n ≡ Some x → (fault : MarksDevice → Option OrderFault) (to : MarksDevice → MarksDevice) →
         (to x).store.device ≡ x.store.device → (to x).history ≡ x.history → audited (to x) ≡ audited x →
         EventLeads s e asked (happens_by s (on_device (device_in (devices_of s) n) (λ d. order (fault d) (Becomes (to d) ends.Done))))
     turned n x at fault to number history same =
-        subst (λ (k : Option MarksDevice). EventLeads s e asked (happens_by s (on_device k (λ d. order (fault d) (Becomes (to d) ends.Done))))) (sym at)
-        (ordered (fault x) (Becomes (to x) ends.Done)
-        (λ free. becomes_leads n x (to x) at history same (to x).store.device (number ∙ number_found s.mounted n x at)))
+        rw at (ordered (fault x) (Becomes (to x) ends.Done) (λ free. becomes_leads n x (to x) at history same (to x).store.device (number
+        ∙ number_found s.mounted n x at)))
 
     repaired : (up : Bool) (pool later : Pool) → EventLeads s e asked (happens_by s (repair up pool later))
     repaired true pool later = refused_leads faults.Up
@@ -152,28 +139,13 @@ repairs_store : IsOrder wanted.RepairStore orders.RepairStore (Once events.Repai
 repairs_store = record { stands = λ outs answer. refl; refused = λ z fault. refl; pending = λ z n. refl; lines_are = λ end reads writes ds ks. refl }
 
 suspends : (n : ℕ) → IsOrder (wanted.Suspend n) (orders.Suspend n) (Once (events.Suspend n))
-suspends n = record {
-  stands = λ outs answer. same_order (orders.Suspend n);
-  refused = λ z fault. refl;
-  pending = λ z k. refl;
-  lines_are = λ end reads writes ds ks. refl;
-}
+suspends n = search arith
 
 resumes : (n : ℕ) → IsOrder (wanted.Resume n) (orders.Resume n) (Once (events.Resume n))
-resumes n = record {
-  stands = λ outs answer. same_order (orders.Resume n);
-  refused = λ z fault. refl;
-  pending = λ z k. refl;
-  lines_are = λ end reads writes ds ks. refl;
-}
+resumes n = search arith
 
 replaces : (n : ℕ) (side : Side) → IsOrder (wanted.Replace n side) (orders.Replace n side) (Replace n side)
-replaces n side = record {
-  stands = λ outs answer. same_order (orders.Replace n side);
-  refused = λ z fault. refl;
-  pending = λ z k. refl;
-  lines_are = λ end reads writes ds ks. refl;
-}
+replaces n side = search arith
 
 module _ (s : Subsystem) where
   pub repair_cache_leads : EventLeads s wanted.RepairCache (Once events.RepairCache) (happens s events.RepairCache)
@@ -194,20 +166,17 @@ module _ (s : Subsystem) where
 
     pub resume_leads : EventLeads s (wanted.Resume n) (Once (events.Resume n)) (happens s (events.Resume n))
     unfolding H.happens E.deed
-    resume_leads =
-        turned s (wanted.Resume n) (orders.Resume n) (Once (events.Resume n)) (resumes n) (λ z. refl) n x at resume_fault resume refl refl refl
+    resume_leads = turned s (wanted.Resume n) (orders.Resume n) (Once (events.Resume n)) (resumes n) (λ z. refl) n x at resume_fault resume refl refl refl
 
     -- A new volume
 
     same_replaced : (m : Mounted) (side : Side) (volume : Calls) →
         audited (with_calls (record m { device = replace m.device side }) side volume).device ≡ audited m.device
-    same_replaced m A volume = refl
-    same_replaced m B volume = refl
+    same_replaced m side volume = grind arith
 
     same_history : (m : Mounted) (side : Side) (volume : Calls) →
         (with_calls (record m { device = replace m.device side }) side volume).device.history ≡ m.device.history
-    same_history m A volume = refl
-    same_history m B volume = refl
+    same_history m side volume = grind arith
 
     replaced_leads : (side : Side) (m : Mounted) → mounted_in s.mounted n ≡ Some m → (f : Option OrderFault) →
         EventLeads s (wanted.Replace n side) (Replace n side) (replaced_by s n side unfailing m f)
@@ -218,7 +187,4 @@ module _ (s : Subsystem) where
 
     pub replace_leads : (side : Side) → EventLeads s (wanted.Replace n side) (Replace n side) (replaced s n side unfailing)
     unfolding H.replaced
-    replace_leads side =
-        let m = mounted_too s.mounted n x at in
-        subst (λ (q : Option Mounted). EventLeads s (wanted.Replace n side) (Replace n side) (replaced_at s n side unfailing q)) (sym m.1)
-        (replaced_leads side m.0 m.1 (replace_fault m.0.device side))
+    replace_leads side = let m = mounted_too s.mounted n x at in rw m.1 (replaced_leads side m.0 m.1 (replace_fault m.0.device side))

@@ -1,6 +1,6 @@
 -- Each frame that a device wants is one of its own tracks, and of those that it comes to: what this says of an interaction, and the calls of how an
 -- event begins and ends, of the choice of a write, of what a write that is done leaves and of what a miss does with its bytes.
-use Rattle.std.proofs.Common.{◌≡◌, ℕ, zero, suc, Bool, true, false, Option, Some, None, is_some}
+use Rattle.std.proofs.Common.{arith, ◌≡◌, ℕ, zero, suc, Bool, true, false, Option, Some, None, is_some}
 use Rattle.std.specs.Prelude.{◌==◌, ◌&&◌, if◌then◌else◌}
 use Rattle.ckd_types.specs.declared.parameters.Mode.{Mode}
 use Rattle.ckd_types.specs.declared.paths.Side.{Side}
@@ -81,8 +81,7 @@ module _ {R S A : Type 0} {T : ℕ → Type 0} {n : ℕ} {q : S → A → Type 0
   own_tell f = record { holds = λ r. (f r).holds }
 
   pub own_if : (b : Bool) {i j : Interaction R Image S A} → Own T n i q → Own T n j q → Own T n (if b then i else j) q
-  own_if true x y = x
-  own_if false x y = y
+  own_if b x y = grind arith
 
   pub own_always : {i : Interaction R Image S A} → Own T n i q → Always i q
   own_always {i = i} x = record { holds = behind_own T n q i x.holds }
@@ -123,11 +122,7 @@ module _ {F P H R : Type 0} (T : ℕ → Type 0) (n : ℕ) (c : Contents F P H R
   module _ (Q : Store F P H → Type 0) (drops : (s : Store F P H) (t : ℕ) → Q s → Q (with_frame s t None)) where
     heard_own : (l : ℕ) (s : Store F P H) (note : Option ℕ) → Q s → ((z : Store F P H) → Q z → Own T n (hear c l z) (λ y _. Q y)) →
         Own T n (heard c (hear c l) s note) (λ y _. Q y)
-    heard_own l s None k more = own_done k
-    heard_own l s (Some t) k more = by_clean (is_clean c (frame_at s t)) where
-      by_clean : (b : Bool) → Own T n (hear c l (if b then with_frame s t None else s)) (λ y _. Q y)
-      by_clean true = more (with_frame s t None) (drops s t k)
-      by_clean false = more s k
+    heard_own l s note k more = search (arith, own_done)
 
     pub hear_own : (l : ℕ) (s : Store F P H) → Q s → Own T n (hear c l s) (λ y _. Q y)
     unfolding O.hear
@@ -136,8 +131,7 @@ module _ {F P H R : Type 0} (T : ℕ → Type 0) (n : ℕ) (c : Contents F P H R
 
   -- what is told at the end: a debt is settled
   freed_own : (s : Store F P H) (o : Option ℕ) → Is n s → Owns (freed_told c s o)
-  freed_own s None k = own_done k
-  freed_own s (Some slot) k = own_ask tt (λ _. own_done k)
+  freed_own s o k = search (arith, own_done, own_ask)
 
   debt_own : (t : ℕ) (s : Store F P H) → Is n s → Owns (settles_debt c t s)
   debt_own t s k =
@@ -151,14 +145,11 @@ module _ {F P H R : Type 0} (T : ℕ → Type 0) (n : ℕ) (c : Contents F P H R
   told_own (suc l) s k = own_then (told_own l s k) (λ z _ g. own_if (is_owed c (owed_at z l)) (debt_own l z g) (own_done g))
 
   pub ended_own : (before : ℕ) (s : Store F P H) → Is n s → Owns (noted_end c before s)
-  ended_own before s k =
-      own_then (told_own (tracks_of s) s k) (λ z _ g. own_if (waiting_count c z == before) (own_done g) (own_ask tt (λ _. own_done g)))
+  ended_own before s k = own_then (told_own (tracks_of s) s k) (λ z _ g. own_if (waiting_count c z == before) (own_done g) (own_ask tt (λ _. own_done g)))
 
   -- where a write goes
   slot_own : (s : Store F P H) (t : ℕ) (g : SlotGrant) → Is n s → Owns (slot_by c s t g)
-  slot_own s t (grants.Given slot) k = own_ask tt (λ listed. own_if listed (own_done k) (own_ask tt (λ _. own_done k)))
-  slot_own s t grants.Denied k = own_done k
-  slot_own s t grants.Down k = own_done k
+  slot_own s t g k = search (arith, own_ask, own_if, own_done)
 
   fast_own : (s : Store F P H) (t : ℕ) (patched : Bool) → Is n s → Owns (fast_by c s t patched)
   fast_own s t patched k = own_if patched (own_ask tt (λ listed. own_done k)) (own_ask tt (λ g. slot_own s t g k))
@@ -170,9 +161,7 @@ module _ {F P H R : Type 0} (T : ℕ → Type 0) (n : ℕ) (c : Contents F P H R
   loose_own s u t k = own_if u.provisional (own_ask tt (λ listed. own_done k)) (own_done k)
 
   firm_own : (s : Store F P H) (u : Usage) (t : ℕ) → Is n s → Owns (choose_firm c s u t)
-  firm_own s u t k =
-      own_if (u.provisional && is_clean c (frame_at s t)) (own_ask tt (λ listed. own_if listed (own_done k) (fast_or_own s u t k)))
-      (fast_or_own s u t k)
+  firm_own s u t k = search (arith, own_if, own_ask, own_done, fast_or_own)
 
   pub choose_own : (s : Store F P H) (u : Usage) (t : ℕ) → Is n s → Owns (choose c s u t)
   unfolding G.choose
@@ -180,16 +169,11 @@ module _ {F P H R : Type 0} (T : ℕ → Type 0) (n : ℕ) (c : Contents F P H R
 
   -- a write is done: its frame is clean or gone, and so is its patch
   unpatched_own : (s : Store F P H) (t : ℕ) (o : Option ℕ) → Is n s → Owns (slot_freed c s t o)
-  unpatched_own s t None k = own_done k
-  unpatched_own s t (Some slot) k = own_ask tt (λ _. own_done k)
+  unpatched_own s t o k = search (arith, own_done, own_ask)
 
   pub done_own : (s : Store F P H) (t : ℕ) (i : Image) (bypass : Bool) → Is n s → Owns (write_done c s t i bypass)
   unfolding V.write_done
-  done_own s t i bypass k =
-      own_if (is_some (frame_at s t))
-      (own_if bypass (own_ask tt (λ _. unpatched_own (with_frame s t None) t (slot_in c (patch_at s t)) k))
-      (own_ask tt (λ _. unpatched_own (with_frame s t (Some (c.frame i false))) t (slot_in c (patch_at s t)) k)))
-      (unpatched_own s t (slot_in c (patch_at s t)) k)
+  done_own s t i bypass k = search (arith, own_if, is_some, own_ask, unpatched_own)
 
   -- an image becomes a frame
   pub filled_own : (s : Store F P H) (t : ℕ) (i : Image) → Is n s → Owns (filled c s t i)
@@ -202,9 +186,7 @@ module _ {F P H R : Type 0} (T : ℕ → Type 0) (n : ℕ) (c : Contents F P H R
   loaded_own s t i mode on k = own_if (loads mode) (own_tried s _ k (own_ask (k, on) (λ given. granted_own s t i given k))) (own_done k)
 
   delivered_own : (u : Usage) (t : ℕ) (side : Side) (s : Store F P H) (o : Option Image) → T t → Is n s → Owns (delivered c u t side s o)
-  delivered_own u t side s None on k = own_done k
-  delivered_own u t side s (Some i) on k = loaded_own (ahead u s t) t i u.mode on (ahead_is n u s t k)
+  delivered_own u t side s o on k = search (arith, own_done, loaded_own, ahead_is)
 
   pub missed_own : (u : Usage) (t : ℕ) (s : Store F P H) (g : Got R) (o : Option R) → T t → Is n s → Owns (missed c u t s g o)
-  missed_own u t s g None on k = own_done k
-  missed_own u t s g (Some r) on k = own_tried s _ k (delivered_own u t g.side s (I.image_of c s t r) on k)
+  missed_own u t s g o on k = search (arith, own_done, own_tried, delivered_own)

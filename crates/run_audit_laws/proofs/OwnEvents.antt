@@ -1,5 +1,5 @@
 -- Each event of a device wants frames of its own tracks alone, and of those that its commands and its queue come to, and leaves its queue short.
-use Rattle.std.proofs.Common.{List, ◌∷◌, ◌≡◌, zero, suc, ℕ, Bool, [], Option, Some, None, refl, sym, ap, subst, ◌∙◌, ◌==◌}
+use Rattle.std.proofs.Common.{arith, List, ◌∷◌, ◌≡◌, zero, suc, ℕ, Bool, [], Option, Some, None, refl, sym, ap, subst, ◌∙◌, ◌==◌}
 use Rattle.std.specs.Prelude.{IfSome}
 use Rattle.ckd_chain.specs.declared.progress.Progress.{Progress}
 use Rattle.ckd_chain.specs.declared.progress.Progress.TheVariants as progresses
@@ -59,18 +59,12 @@ module _ {F P H R : Type 0} (T : ℕ → Type 0) (n : ℕ) (c : Contents F P H R
 
     went_own : (u : Usage) (first t : ℕ) (s : Store F P H) (i : Image) (chain : ChainState) (p : Progress) → At s →
         ((q : ℕ) → p ≡ progresses.Need q → In chain × T q) → Own T n (went_by c u first t s i chain p) Next
-    went_own u first t s i chain (progresses.Ended e) k needs = own_done k
     went_own u first t s i chain (progresses.Need q) k needs = own_done (k, needs q refl)
-    went_own u first t s i chain (progresses.Write q e) k needs =
-        own_had {p = At} (write_own T n c s u first t i e k) (λ z took g. own_done g) (λ z g. g)
-    went_own u first t s i chain (progresses.Local act) k needs = own_done k
+    went_own u first t s i chain (progresses.Write q e) k needs = own_had {p = At} (write_own T n c s u first t i e k) (λ z took g. own_done g) (λ z g. g)
+    went_own u first t s i chain p k needs = own_done k
 
     looked_own : (chain : ChainState) (first t : ℕ) (s : Store F P H) (i : Imaged) → At s → In chain → Own T n (looked c chain first t s i) Next
-    looked_own chain first t s (Has i) k is =
-        own_tried s _ k
-        (went_own (usage_of chain) first t s i (stepped chain (Some i)).chain (stepped chain (Some i)).progress k (λ q e. comes.goes chain i q is e))
-    looked_own chain first t s (NoBytes fault) k is = own_done k
-    looked_own chain first t s (BadTrack side) k is = own_done k
+    looked_own chain first t s i k is = search (arith, own_tried, went_own, own_done)
 
     look_own : (chain : ChainState) (first t : ℕ) (s : Store F P H) → At s → In chain → T t → Own T n (look c chain first t s) Next
     unfolding N.look
@@ -81,9 +75,7 @@ module _ {F P H R : Type 0} (T : ℕ → Type 0) (n : ℕ) (c : Contents F P H R
     further : (next : ChainState → ℕ → Store F P H → Interaction R Image (Store F P H) (Option Turn)) →
         ((chain : ChainState) (t : ℕ) (s : Store F P H) → At s → In chain → T t → Own T n (next chain t s) (λ z _. At z)) → (s : Store F P H)
         (w : Option Went) → Next s w → Own T n (had_by (goes_on c next) s w) (λ z _. At z)
-    further next more s None x = own_done x
-    further next more s (Some (Over turn)) x = own_done x
-    further next more s (Some (On chain t)) x = more chain t s x.0 x.1.0 x.1.1
+    further next more s w x = search (arith, own_done)
 
     follow_own : (l first : ℕ) (chain : ChainState) (t : ℕ) (s : Store F P H) → At s → In chain → T t →
         Own T n (follow c l first chain t s) (λ z _. At z)
@@ -101,15 +93,12 @@ module _ {F P H R : Type 0} (T : ℕ → Type 0) (n : ℕ) (c : Contents F P H R
   out_own d path turn k = own_done (subst (λ (s : Store F P H). At s) (sym (turned_same d path turn.chain turn.came)) k)
 
   on_own : (d : Device F P H) (path : ℕ) (chain : ChainState) (s : Store F P H) (o : Option Turn) → At s → OwnEvent (on_tracks c d path chain s o)
-  on_own d path chain s (Some turn) k = out_own (with_store d s) path turn k
-  on_own d path chain s None k = own_done k
+  on_own d path chain s o k = search (arith, out_own, own_done)
 
   answered_own : (d : Device F P H) (path : ℕ) (chain : ChainState) (p : Progress) → At d.store → OwnEvent (answered_by c d path chain p)
   answered_own d path chain (progresses.Ended e) k = out_own d path (ends_with chain e) k
-  answered_own d path chain (progresses.Local act) k =
-      out_own (record d { paths = paths_behind d.paths path act }) path (settles chain (settled_act d.store.geometry d.paths path act)) k
-  answered_own d path chain (progresses.Need q) k = out_own d path (checks chain Equipment) k
-  answered_own d path chain (progresses.Write q e) k = out_own d path (checks chain Equipment) k
+  answered_own d path chain (progresses.Local act) k = search (arith, out_own)
+  answered_own d path chain p k = out_own d path (checks chain Equipment) k
 
   module _ (In : ChainState → Type 0) (comes : Comes T In) where
     at_own : (d : Device F P H) (path : ℕ) (chain : ChainState) (o : Option ℕ) → ((t : ℕ) → o ≡ Some t → T t) → In chain → At d.store →
@@ -123,31 +112,25 @@ module _ {F P H R : Type 0} (T : ℕ → Type 0) (n : ℕ) (c : Contents F P H R
     by_own d (Some o) (Some chain) is k =
         own_if (has_loss o.acts) (out_own d o.path (checks chain Equipment) k)
         (at_own d o.path chain (need_of chain) (λ t e. comes.needs chain t is e) is k)
-    by_own d (Some o) None is k = own_done k
-    by_own d None l is k = own_done k
+    by_own d o l is k = own_done k
 
   command_ended_own : (d : Device F P H) (t : ℕ) (o : Option OpenEntry) (l : Option ChainState) (done : Bool) → At d.store →
       OwnEvent (command_ended c d t o l done)
-  command_ended_own d t (Some o) (Some chain) done k =
-      own_done (subst (λ (s : Store F P H). At s) (sym (turned_same d o.path (second_turn c chain done).chain (second_turn c chain done).came)) k)
-  command_ended_own d t (Some o) None done k = own_done k
-  command_ended_own d t None l done k = own_done k
+  command_ended_own d t (Some o) (Some chain) done k = own_done (rw (turned_same d o.path (second_turn c chain done).chain (second_turn c chain done).came) k)
+  command_ended_own d t o l done k = own_done k
 
   second_ended_own : (d : Device F P H) (t : ℕ) (origin : Origin) (done : Bool) → At d.store → OwnEvent (second_ended c d t origin done)
   second_ended_own d t (OfCommand bypass e) done k = command_ended_own d t d.history.running d.chain done k
-  second_ended_own d t (OfCut bypass) done k = own_done k
-  second_ended_own d t OfBackground done k = own_done k
+  second_ended_own d t origin done k = own_done k
 
   second_of_own : (d : Device F P H) (o : Option (HalfWrite H)) → At d.store → OwnEvent (second_of c d o)
-  second_of_own d (Some h) k =
-      own_then (part_own T n c d.store h k) (λ s done g. second_ended_own (with_store d s) h.track h.origin done g)
+  second_of_own d (Some h) k = own_then (part_own T n c d.store h k) (λ s done g. second_ended_own (with_store d s) h.track h.origin done g)
   second_of_own d None k = own_done k
 
   module _ {A : Type 0} where
     quiet_own : (d : Device F P H) (body : Device F P H → Interaction R Image (Device F P H) A) → OwnEvent (body (event_begun d)) →
         OwnEvent (quiet_event c d body)
-    quiet_own d body x =
-        own_then x (λ y a g. own_then (ended_own T n c (waiting_count c d.store) y.store g) (λ z _ h. own_done h))
+    quiet_own d body x = own_then x (λ y a g. own_then (ended_own T n c (waiting_count c d.store) y.store g) (λ z _ h. own_done h))
 
     -- the notices leave the queue as it is
     event_own : (d : Device F P H) (body : Device F P H → Interaction R Image (Device F P H) A) → At d.store →
@@ -165,8 +148,7 @@ module _ {F P H R : Type 0} (T : ℕ → Type 0) (n : ℕ) (c : Contents F P H R
 
   pub second_own : (d : Device F P H) → At d.store → OwnEvent (second c d)
   unfolding E.second
-  second_own d k =
-      event_own d (λ z. second_of c z z.store.half) k (λ s g. second_of_own (record (event_begun d) { store = s }) s.half g.0)
+  second_own d k = event_own d (λ z. second_of c z z.store.half) k (λ s g. second_of_own (record (event_begun d) { store = s }) s.half g.0)
 
   pub background_own : (d : Device F P H) → Each T d.store.queue → At d.store → OwnEvent (background c d)
   unfolding E.background
@@ -218,5 +200,4 @@ any_queued [] = tt
 any_queued (t ∷ ts) = (tt, any_queued ts)
 
 pub any_chain : (o : Option ChainState) → IfSome o Any
-any_chain (Some chain) = tt
-any_chain None = tt
+any_chain o = grind arith

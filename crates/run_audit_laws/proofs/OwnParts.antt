@@ -1,5 +1,5 @@
 -- The parts of an event on a device's tracks want frames of its own tracks alone, and leave its queue short.
-use Rattle.std.proofs.Common.{zero, suc, ℕ, Bool, true, false, List, [], ◌∷◌, Option, Some, None, is_some}
+use Rattle.std.proofs.Common.{arith, zero, suc, ℕ, Bool, true, false, List, [], ◌∷◌, Option, Some, None, is_some}
 use Rattle.std.specs.Prelude.{◌||◌}
 use Rattle.ckd_types.specs.declared.paths.Side.{Side}
 use Rattle.ckd_types.specs.declared.paths.Side.TheVariants.{A, B}
@@ -48,13 +48,10 @@ module _ {F P H R : Type 0} (T : ℕ → Type 0) (n : ℕ) (c : Contents F P H R
   told_own : (l : ℕ) (s : Store F P H) → At s → Owns (all_firm_told c l s)
   unfolding L.all_firm_told
   told_own zero s k = own_done k
-  told_own (suc l) s k =
-      own_then (told_own l s k) (λ z _ g. own_if (owed_at z l).firm (own_tell (λ _. own_done g)) (own_done g))
+  told_own (suc l) s k = own_then (told_own l s k) (λ z _ g. own_if (owed_at z l).firm (own_tell (λ _. own_done g)) (own_done g))
 
   failed_own : (s : Store F P H) (side : Side) (w : Option ℕ) → At s → Owns (call_failed c s side w)
-  failed_own s side w k =
-      own_if s.paired (told_own (tracks_of s) (side_lost c s side w) (side_is n c s side w k))
-      (own_done k)
+  failed_own s side w k = own_if s.paired (told_own (tracks_of s) (side_lost c s side w) (side_is n c s side w k)) (own_done k)
 
   -- Reads
 
@@ -77,11 +74,7 @@ module _ {F P H R : Type 0} (T : ℕ → Type 0) (n : ℕ) (c : Contents F P H R
   miss_own s u t on k = own_then (level_own s t k) (λ z g h. missed_own T n c u t z g g.bytes on h)
 
   image_by_own : (s : Store F P H) (u : Usage) (t : ℕ) (o : Option F) → T t → At s → Owns (image_by c s u t o)
-  image_by_own s u t None on k = miss_own s u t on k
-  image_by_own s u t (Some f) on k =
-      own_if (c.modified f) (own_done k)
-      (own_if (is_bypass u.mode) (miss_own s u t on k)
-      (own_ask tt (λ listed. own_if listed (own_done k) (miss_own (with_frame s t None) u t on k))))
+  image_by_own s u t o on k = search (arith, miss_own, own_if, own_done, own_ask)
 
   pub image_own : (s : Store F P H) (u : Usage) (t : ℕ) → T t → At s → Owns (image c s u t)
   unfolding I.image
@@ -90,10 +83,7 @@ module _ {F P H R : Type 0} (T : ℕ → Type 0) (n : ℕ) (c : Contents F P H R
   -- Writes
 
   firm_own : (s : Store F P H) (t : ℕ) → At s → Owns (firm_first c s t)
-  firm_own s t k =
-      own_if (is_loose s t)
-      (own_tell (λ _. own_done (stale_is n (hardened s t) t k)))
-      (own_done k)
+  firm_own s t k = own_if (is_loose s t) (own_tell (λ _. own_done (stale_is n (hardened s t) t k))) (own_done k)
 
   alone_own : (t : ℕ) (fault : Option Side) (first : Side) (s : Store F P H) (ok : Bool) → At s → Owns (alone_b c t fault first s ok)
   alone_own t fault first s true k = own_done k
@@ -107,14 +97,10 @@ module _ {F P H R : Type 0} (T : ℕ → Type 0) (n : ℕ) (c : Contents F P H R
 
   first_write_own : (s : Store F P H) (t : ℕ) (r : R) → At s → Owns (write_first c s t r)
   unfolding V.write_first
-  first_write_own s t r k =
-      own_if s.a.up (own_write (λ ok. first_a_own t r (V.write_counted s ok) ok k))
-      (own_if (takes_b s) (own_write (λ ok. alone_own t None B (V.write_counted s ok) ok k))
-      (own_done (settled_is n c s t k)))
+  first_write_own s t r k = search (arith, own_if, own_write, first_a_own, alone_own, own_done, settled_is)
 
   tried_own : (t : ℕ) (s : Store F P H) (ok : Bool) → At s → Owns (tried_b c t s ok)
-  tried_own t s true k = own_done k
-  tried_own t s false k = failed_own s B (Some t) k
+  tried_own t s ok k = search (arith, own_done, failed_own)
 
   second_write_own : (s : Store F P H) (t : ℕ) (r : R) → At s → Owns (write_second c s t r)
   unfolding V.write_second
@@ -146,9 +132,7 @@ module _ {F P H R : Type 0} (T : ℕ → Type 0) (n : ℕ) (c : Contents F P H R
       (λ z was g. own_then (first_write_own z t (c.bytes i) g) (λ y w k. through_by_own t i e bypass opens was y w.took k))
 
   write_by_own : (u : Usage) (first t : ℕ) (i : Image) (e : Edit) (s : Store F P H) (choice : Choice) → At s → Owns (write_by c u first t i e s choice)
-  write_by_own u first t i e s Provisional k = own_done (provisional_is n c s t i e k)
-  write_by_own u first t i e s (Fast slot) k = own_tell (λ _. own_done k)
-  write_by_own u first t i e s Through k = through_own s t i e (is_bypass u.mode) _ k
+  write_by_own u first t i e s choice k = search (arith, own_done, provisional_is, own_tell, through_own)
 
   written_own : (s : Store F P H) (u : Usage) (first t : ℕ) (old : Image) (e : Edit) (choice : Choice) → At s → Owns (written c s u first t old e choice)
   written_own s u first t old e choice k = own_then (write_by_own u first t _ e s choice k) (λ z took g. own_done g)
@@ -157,16 +141,10 @@ module _ {F P H R : Type 0} (T : ℕ → Type 0) (n : ℕ) (c : Contents F P H R
   clean_own s t k = own_if _ (own_ask tt (λ _. own_done k)) (own_done k)
 
   unchosen_own : (s : Store F P H) (t : ℕ) (choice : Choice) → At s → Owns (unchosen c s t choice)
-  unchosen_own s t (Fast (Some slot)) k = own_ask tt (λ _. clean_own s t k)
-  unchosen_own s t (Fast None) k = clean_own s t k
-  unchosen_own s t Provisional k = clean_own s t k
-  unchosen_own s t Through k = own_done k
+  unchosen_own s t choice k = search (arith, own_ask, clean_own, own_done)
 
   chosen_own : (u : Usage) (first t : ℕ) (old : Image) (e : Edit) (s : Store F P H) (choice : Choice) → At s → Owns (write_chosen c u first t old e s choice)
-  chosen_own u first t old e s choice k =
-      own_if _
-      (own_tell (λ ok. own_if ok (written_own s u first t old e choice k) (unchosen_own s t choice k)))
-      (written_own s u first t old e choice k)
+  chosen_own u first t old e s choice k = search (arith, own_if, own_tell, written_own, unchosen_own)
 
   pub write_own : (s : Store F P H) (u : Usage) (first t : ℕ) (old : Image) (e : Edit) → At s → Owns (write c s u first t old e)
   unfolding E.write
@@ -191,12 +169,10 @@ module _ {F P H R : Type 0} (T : ℕ → Type 0) (n : ℕ) (c : Contents F P H R
       (λ z e g. own_done g)) (own_done k))
 
   recovered_own : (t : ℕ) (s : Store F P H) (g : Got R) (o : Option Image) → At s → Owns (recovered_image c t s g o)
-  recovered_own t s g None k = own_done k
-  recovered_own t s g (Some i) k = saved_own s t i (Recovered t) g.fault k
+  recovered_own t s g o k = search (arith, own_done, saved_own)
 
   recovered_bytes_own : (t : ℕ) (s : Store F P H) (g : Got R) (o : Option R) → At s → Owns (recovered_bytes c t s g o)
-  recovered_bytes_own t s g None k = own_done k
-  recovered_bytes_own t s g (Some r) k = own_tried s _ k (recovered_own t s g (image_of c s t r) k)
+  recovered_bytes_own t s g o k = search (arith, own_done, own_tried, recovered_own)
 
   recover_own : (s : Store F P H) (t : ℕ) (f : Option F) → At s → Owns (recover c s t f)
   recover_own s t (Some f) k = saved_own s t _ _ None k
@@ -211,8 +187,7 @@ module _ {F P H R : Type 0} (T : ℕ → Type 0) (n : ℕ) (c : Contents F P H R
   read_own t side s (Some r) k = own_write (λ ok. copied_own t side (V.write_counted s ok) ok k)
 
   copy_own : (s : Store F P H) (t : ℕ) (o : Option Side) → At s → Owns (copy_by c s t o)
-  copy_own s t None k = own_done k
-  copy_own s t (Some side) k = own_read (λ o. read_own t side (I.read_counted s (is_some o)) o k)
+  copy_own s t o k = search (arith, own_done, own_read, read_own, is_some)
 
   unfilled_own : (s : Store F P H) (t : ℕ) (d : Option Did) → At s → Owns (unfilled c s t d)
   unfilled_own s t d k = own_ask tt (λ _. own_done k)
@@ -222,32 +197,26 @@ module _ {F P H R : Type 0} (T : ℕ → Type 0) (n : ℕ) (c : Contents F P H R
   staged_own t s g (Some i) k = own_then (filled_own T n c s t i k) (λ z _ h. own_done h)
 
   staged_bytes_own : (t : ℕ) (s : Store F P H) (g : Got R) (o : Option R) → At s → Owns (staged_bytes c t s g o)
-  staged_bytes_own t s g None k = unfilled_own s t _ k
-  staged_bytes_own t s g (Some r) k = own_try (λ ok. own_if ok (staged_own t s g (image_of c s t r) k) (unfilled_own s t None k))
+  staged_bytes_own t s g o k = search (arith, unfilled_own, own_try, own_if, staged_own)
 
   granted_own : (s : Store F P H) (t : ℕ) (given : Bool) → At s → Owns (B.staging_granted c s t given)
   granted_own s t given k = own_if given (own_then (level_own s t k) (λ z g h. staged_bytes_own t z g g.bytes h)) (own_done k)
 
   stage_own : (s : Store F P H) (t : ℕ) → T t → At s → Owns (stage c s t)
-  stage_own s t on k =
-      own_if (is_some (frame_at s t) || is_lost s t) (own_done k)
-      (own_tried s _ k (own_ask (k, on) (λ given. granted_own s t given k)))
+  stage_own s t on k = own_if (is_some (frame_at s t) || is_lost s t) (own_done k) (own_tried s _ k (own_ask (k, on) (λ given. granted_own s t given k)))
 
   destage_own : (s : Store F P H) (o : Option ℕ) → At s → Owns (destage_first c s o)
-  destage_own s None k = own_done k
-  destage_own s (Some t) k = saved_own s t _ _ None k
+  destage_own s o k = search (arith, own_done, saved_own)
 
   stages_own : (s : Store F P H) (l : List ℕ) → Each T l → At s → Owns (stage_first c s l)
   stages_own s [] on k = destage_own s (to_destage c s) k
   stages_own s (t ∷ ts) on k = stage_own (record s { queue = ts }) t on.0 k
 
   copies_own : (s : Store F P H) (o : Option ℕ) → Each T s.queue → At s → Owns (copy_first c s o)
-  copies_own s None on k = stages_own s s.queue on k
-  copies_own s (Some t) on k = copy_own s t (copies_to s t) k
+  copies_own s o on k = search (arith, stages_own, copy_own)
 
   recovers_own : (s : Store F P H) (o : Option ℕ) → Each T s.queue → At s → Owns (recover_first c s o)
-  recovers_own s None on k = copies_own s (to_copy s) on k
-  recovers_own s (Some t) on k = recover_own s t (frame_at s t) k
+  recovers_own s o on k = search (arith, copies_own, recover_own)
 
   pub work_own : (s : Store F P H) → Each T s.queue → At s → Owns (work c s)
   unfolding B.work
@@ -259,9 +228,7 @@ module _ {F P H R : Type 0} (T : ℕ → Type 0) (n : ℕ) (c : Contents F P H R
   finished_own s t i bypass k = own_then (done_own T n c s t i bypass k) (λ z _ g. own_done g)
 
   second_done_own : (s : Store F P H) (t : ℕ) (i : Image) (origin : Origin) → At s → Owns (second_done c s t i origin)
-  second_done_own s t i (OfCommand bypass e) k = own_tell (λ _. finished_own _ t i bypass k)
-  second_done_own s t i (OfCut bypass) k = finished_own s t i bypass k
-  second_done_own s t i OfBackground k = finished_own s t i false k
+  second_done_own s t i origin k = search (arith, own_tell, finished_own)
 
   pub part_own : (s : Store F P H) (h : HalfWrite H) → At s → Owns (second_part c s h)
   unfolding D.second_part
@@ -277,10 +244,7 @@ module _ {F P H R : Type 0} (T : ℕ → Type 0) (n : ℕ) (c : Contents F P H R
   losing_own s loss k = told_own (tracks_of s) (lost_by c (with_loss s loss) loss) (lost_is n c s loss k)
 
   cut_by : (s : Store F P H) (h : HalfWrite H) (origin : Origin) → At s → Owns (origin_cut c s h origin)
-  cut_by s h (OfCommand bypass e) k = own_tell (λ _. own_done k)
-  cut_by s h (OfCut bypass) k = own_done k
-  cut_by s h OfBackground k = own_done k
+  cut_by s h origin k = search (arith, own_tell, own_done)
 
   pub cut_own : (s : Store F P H) (o : Option (HalfWrite H)) → At s → Owns (half_cut c s o)
-  cut_own s (Some h) k = cut_by s h h.origin k
-  cut_own s None k = own_done k
+  cut_own s o k = grind (arith, cut_by, own_done)

@@ -29,27 +29,19 @@ use Rattle.run_audit_laws.proofs.Texts.{own_report_is_yes}
 
 cut_one : (x rest : List ℕ) → is_whole x ≡ true → cut_lines (x ++ 10 ∷ rest) ≡ x ∷ cut_lines rest
 cut_one [] rest h = refl
-cut_one (b ∷ x) rest h =
-    let p = and_parts (not (b == 10)) (is_whole x) h in
-    ap (λ (c : Bool). if c then [] ∷ cut_lines (x ++ 10 ∷ rest) else onto_first b (cut_lines (x ++ 10 ∷ rest))) (not-true (b == 10) p.0)
-    ∙ ap (onto_first b) (cut_one x rest p.1)
+cut_one (b ∷ x) rest h = grind (arith, cut_one x rest, and_parts, not-true)
 
 -- lines that are ended, and what stands behind them
 cut_ended : (xs : List (List ℕ)) (rest : List ℕ) → AreWhole xs → cut_lines (flat_map ended_line xs ++ rest) ≡ xs ++ cut_lines rest
 cut_ended [] rest h = refl
-cut_ended (x ∷ xs) rest h =
-    ap cut_lines (append_assoc (ended_line x) (flat_map ended_line xs) rest ∙ append_assoc x (codes "\n") (flat_map ended_line xs ++ rest))
-    ∙ cut_one x (flat_map ended_line xs ++ rest) h.0
-    ∙ ap (λ (l : List (List ℕ)). x ∷ l) (cut_ended xs rest h.1)
+cut_ended (x ∷ xs) rest h = grind (arith, cut_ended xs rest h.1, append_assoc, cut_one)
 
 -- the lines of any text have none
 first_whole : (b : ℕ) → not (b == 10) ≡ true → (xs : List (List ℕ)) → AreWhole xs → AreWhole (onto_first b xs)
-first_whole b h [] w = (ap (λ (c : Bool). c && true) h, tt)
-first_whole b h (x ∷ xs) w = (ap (λ (c : Bool). c && is_whole x) h ∙ w.0, w.1)
+first_whole b h xs w = grind (arith, is_whole)
 
 cut_if : (b : ℕ) (c : Bool) → (b == 10) ≡ c → (xs : List (List ℕ)) → AreWhole xs → AreWhole (if c then [] ∷ xs else onto_first b xs)
-cut_if b true is xs w = (refl, w)
-cut_if b false is xs w = first_whole b (ap not is) xs w
+cut_if b c is xs w = grind (arith, first_whole)
 
 cut_whole : (text : List ℕ) → AreWhole (cut_lines text)
 cut_whole [] = tt
@@ -58,14 +50,11 @@ cut_whole (b ∷ text) = cut_if b (b == 10) refl (cut_lines text) (cut_whole tex
 -- Finding REPORT
 
 found_by : (n : ℕ) (b : Bool) (o q : Option ℕ) (k : ℕ) → (if b then Some n else o) ≡ None → (o ≡ None → q ≡ Some k) → (if b then Some n else q) ≡ Some k
-found_by n true o q k none go = absurd (cc)
-found_by n false o q k none go = go none
+found_by n b o q k none go = grind arith
 
 found : (n : ℕ) (xs rest : List (List ℕ)) → report_from n xs ≡ None → report_from n (xs ++ codes "REPORT" ∷ rest) ≡ Some (n + length xs)
 found n [] rest none = ap (λ (k : ℕ). Some k) (omega arith)
-found n (x ∷ xs) rest none =
-    found_by n (bytes_eq x (codes "REPORT")) (report_from (n + 1) xs) (report_from (n + 1) (xs ++ codes "REPORT" ∷ rest)) (n + length (x ∷ xs)) none
-    (λ later. found (n + 1) xs rest later ∙ ap (λ (k : ℕ). Some k) (omega arith))
+found n (x ∷ xs) rest none = grind (arith, found (n + 1) xs rest, found_by)
 
 front : {X : Type 0} (xs ys : List X) → take (length xs) (xs ++ ys) ≡ xs
 front [] ys = refl
@@ -81,8 +70,7 @@ behind {X} (x ∷ xs) y ys =
 
 written_whole : (lines : List ReportLine) → All IsLine lines → AreWhole (map text_of lines)
 written_whole [] w = tt
-written_whole (line ∷ lines) w =
-    (text_whole line (All-head IsLine line lines w), written_whole lines (All-tail IsLine line lines w))
+written_whole (line ∷ lines) w = (text_whole line (All-head IsLine line lines w), written_whole lines (All-tail IsLine line lines w))
 
 lines_ended : (lines : List ReportLine) → lines_text lines ≡ flat_map ended_line (map text_of lines)
 lines_ended [] = refl

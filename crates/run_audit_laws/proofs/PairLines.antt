@@ -69,40 +69,20 @@ use Rattle.run_audit_laws.proofs.Ties.{lent_count, lent_stays, may_pair, one_if,
 
 pub silent_lines : (o : Order) (answer : _) (xs ys : List MarksDevice) → AllSilent (map history_of xs) (map history_of ys) →
     work_lines (did.Ordered o answer) 0 0 xs ys ≡ lines.Order o answer ∷ []
-silent_lines o answer xs ys so =
-    ap (λ (l : List ReportLine). l ++ (of_each over_lines xs ys ++ lines.Order o answer ∷ [])) (nothing_loose xs ys so)
-    ∙ ap (λ (l : List ReportLine). l ++ lines.Order o answer ∷ []) (nothing_over xs ys so)
+silent_lines o answer xs ys so = grind (arith, nothing_loose, nothing_over)
 
 pub history_put : (ms : List Mounted) (n : ℕ) (x m : Mounted) → mounted_in ms n ≡ Some m → x.device.history ≡ m.device.history →
     map history_of (devices (put_in ms n x)) ≡ map history_of (devices ms)
 history_put [] n x m there same = refl
-history_put (k ∷ ms) n x m there same = by_test (number_of k == n) there (λ found. history_put ms n x m found same) where
-  by_test : (b : Bool) → (if b then Some k else mounted_in ms n) ≡ Some m →
-      (mounted_in ms n ≡ Some m → map history_of (devices (put_in ms n x)) ≡ map history_of (devices ms)) →
-      map history_of (devices (if b then x ∷ ms else k ∷ put_in ms n x)) ≡ map history_of (devices (k ∷ ms))
-  by_test true found rest =
-      let it : k ≡ m = cc in ap (λ (h : History). h ∷ map history_of (devices ms)) (same ∙ ap (λ (y : Mounted). y.device.history) (sym it))
-  by_test false found rest = ap (λ (l : List History). k.device.history ∷ l) (rest found)
+history_put (k ∷ ms) n x m there same = grind (arith, history_put ms n x m)
 
 -- PAIR
 
 audited_lent : (to : ℕ) (x y : MarksDevice) → IsLent to x y → audited y ≡ record (audited x) { lent = Some to }
-audited_lent to x y g =
-    ap (λ (n : ℕ). record (audited y) { number = n }) g.number
-    ∙ ap (λ (e : Geometry). record (audited y) { number = x.store.device; empty = empty_state e y.store.cylinders }) g.geometry
-    ∙ ap (λ (n : ℕ). record (audited y) { number = x.store.device; empty = empty_state x.store.geometry n }) g.cylinders
-    ∙ ap (λ (k : Plans). record (audited y) { number = x.store.device; empty = (audited x).empty; plans = k }) g.plans
-    ∙ ap (λ (k : History). record (audited x) { history = k; half = (audited y).half; lent = y.store.lent }) g.history
-    ∙ ap (λ (k : HalfWrite). record (audited x) { half = k; lent = y.store.lent }) g.half
-    ∙ ap (λ (l : Option ℕ). record (audited x) { lent = l }) g.lent
+audited_lent to x y g = grind arith
 
 pairs : (a b : ℕ) → IsOrder (wanted.Pair a b) (orders.Pair a b) (Once (events.Pair a b))
-pairs a b = record {
-  stands = λ outs answer. same_order (orders.Pair a b);
-  refused = λ z fault. refl;
-  pending = λ z k. refl;
-  lines_are = λ end reads writes ds ks. refl;
-}
+pairs a b = search arith
 
 module _ (s : Subsystem) (a b : ℕ) (x y : MarksDevice) (at_a : device_in (devices_of s) a ≡ Some x) (at_b : device_in (devices_of s) b ≡ Some y) where
   module _ (far : (b == a) ≡ false) (apart : (a == b) ≡ false) where
@@ -116,25 +96,17 @@ module _ (s : Subsystem) (a b : ℕ) (x y : MarksDevice) (at_a : device_in (devi
         let here = mounted_too s.mounted b y at_b in
         let behind = with_mounted z a (record m { device = join m.device; b = volume }) in
         let number : number_of w ≡ b = g.number ∙ number_found s.mounted b y at_b in
-        let still : mounted_in z.mounted a ≡ Some m =
-        ap (λ (l : List Mounted). mounted_in l a) are ∙ others_stay s.mounted a b w number far ∙ there in
-        let histories : map history_of (devices behind.mounted) ≡ map history_of (devices_of s) =
-        history_put z.mounted a (record m { device = join m.device; b = volume }) m still refl
-        ∙ ap (λ (l : List Mounted). map history_of (devices l)) are
-        ∙ history_put s.mounted b w here.0 here.1 (g.history ∙ ap (λ (d : MarksDevice). d.history) (sym here.2)) in
-        told_leads s e (orders.Pair a b) (Once (events.Pair a b)) (pairs a b) behind ends.Done later
-        (silent_lines (orders.Pair a b) answers.Done (devices_of s) (devices_of behind)
-        (subst (AllSilent (map history_of (devices_of s))) (sym histories) (all_same (map history_of (devices_of s)))))
-        (ap (λ (t : Bool). if t then Some (passed (stand s (e ∷ later)))
-        else then_of (A.device_in (stand s (e ∷ later)).devices b) (M.lent_to (stand s (e ∷ later)) a)) apart
-        ∙ then_some (A.device_in (map audited (devices_of s)) b) (audited y) (M.lent_to (stand s (e ∷ later)) a) (found_one (devices_of s) b y at_b)
-        ∙ ap (λ (l : List AuditedDevice). Some (record { devices = l; events = later; due = (stand s later).due }))
-        (ap (with_device (map audited (devices_of s))) (sym (audited_lent a y w.device g))
-        ∙ put_at s.mounted b w number
-        ∙ ap (λ (l : List Mounted). map audited (devices l)) (sym are)
-        ∙ sym (put_same z.mounted a (record m { device = join m.device; b = volume }) (λ k found.
-        let both_are : Some m ≡ Some k = sym still ∙ found in
-        let it : m ≡ k = cc in ap (λ (i : Mounted). audited i.device) it))))
+        let still : mounted_in z.mounted a ≡ Some m = ap (λ (l : List Mounted). mounted_in l a) are ∙ others_stay s.mounted a b w number far ∙ there in
+        told_leads s e (orders.Pair a b) (Once (events.Pair a b)) (pairs a b) behind ends.Done later (silent_lines (orders.Pair a b) answers.Done
+        (devices_of s) (devices_of behind) (rw (history_put z.mounted a (record m { device = join m.device; b = volume }) m still refl ∙ ap
+        (λ (l : List Mounted). map history_of (devices l)) are ∙ history_put s.mounted b w here.0 here.1 (g.history ∙ ap (λ (d : MarksDevice). d.history)
+        (sym here.2))) (all_same (map history_of (devices_of s))))) (ap (λ (t : Bool). if t then Some (passed (stand s (e ∷ later))) else then_of
+        (A.device_in (stand s (e ∷ later)).devices b) (M.lent_to (stand s (e ∷ later)) a)) apart ∙ then_some (A.device_in (map audited (devices_of s)) b)
+        (audited y) (M.lent_to (stand s (e ∷ later)) a) (found_one (devices_of s) b y at_b) ∙ ap (λ (l : List AuditedDevice). Some
+        (record { devices = l; events = later; due = (stand s later).due })) (ap (with_device (map audited (devices_of s))) (sym
+        (audited_lent a y w.device g)) ∙ put_at s.mounted b w number ∙ ap (λ (l : List Mounted). map audited (devices l)) (sym are) ∙ sym
+        (put_same z.mounted a (record m { device = join m.device; b = volume }) (λ k found. let both_are : Some m ≡ Some k = sym still
+        ∙ found in let it : m ≡ k = cc in ap (λ (i : Mounted). audited i.device) it))))
 
     lend_leads : (k l : ℕ) → k ≡ a → l ≡ b →
         EventLeads s (wanted.Pair a b) (Once (events.Pair a b)) (quietly s (lends s k l (mounted_in s.mounted l)) ends.Done)
@@ -146,72 +118,42 @@ module _ (s : Subsystem) (a b : ℕ) (x y : MarksDevice) (at_a : device_in (devi
         let o = held_with s.pool here.0 (lend by_plain here.0.device a) in
         let z = behind_outcome s b o in
         let w = mounted_behind o in
-        let g : IsLent a y w.device =
-        subst (λ (d : MarksDevice). IsLent a d w.device) here.2 (held true (lend_makes here.0.device a) (told_to s.pool here.0)) in
-        let still : mounted_in z.mounted a ≡ Some there.0 =
-        others_stay s.mounted a b w (g.number ∙ number_found s.mounted b y at_b) far ∙ there.1 in
-        subst (λ (i : ℕ). EventLeads s e asked (quietly s (lends s i l (mounted_in s.mounted l)) ends.Done)) (sym same_a)
-        (subst (λ (i : ℕ). EventLeads s e asked (quietly s (lends s a i (mounted_in s.mounted i)) ends.Done)) (sym same_b)
-        (subst (λ (q : Option Mounted). EventLeads s e asked (quietly s (lends s a b q) ends.Done)) (sym here.1)
-        (subst (λ (q : Option Mounted). EventLeads s e asked (quietly s (joined z a o.told.a q) ends.Done)) (sym still)
-        (both_lead w there.0 o.told.a z g refl there.1))))
+        let g : IsLent a y w.device = subst (λ (d : MarksDevice). IsLent a d w.device) here.2 (held true (lend_makes here.0.device a)
+        (told_to s.pool here.0)) in
+        subst (λ (i : ℕ). EventLeads s e asked (quietly s (lends s i l (mounted_in s.mounted l)) ends.Done)) (sym same_a) (subst
+        (λ (i : ℕ). EventLeads s e asked (quietly s (lends s a i (mounted_in s.mounted i)) ends.Done)) (sym same_b) (subst
+        (λ (q : Option Mounted). EventLeads s e asked (quietly s (lends s a b q) ends.Done)) (sym here.1) (subst
+        (λ (q : Option Mounted). EventLeads s e asked (quietly s (joined z a o.told.a q) ends.Done)) (sym (others_stay s.mounted a b w (g.number
+        ∙ number_found s.mounted b y at_b) far ∙ there.1)) (both_lead w there.0 o.told.a z g refl there.1))))
 
   pub pair_leads : EventLeads s (wanted.Pair a b) (Once (events.Pair a b)) (happens s (events.Pair a b))
   unfolding H.happens E.deed
   pair_leads =
-      let e = wanted.Pair a b in
-      let asked = Once (events.Pair a b) in
       let is_a = number_found s.mounted a x at_a in
       let is_b = number_found s.mounted b y at_b in
-      subst (λ (o : Option MarksDevice). EventLeads s e asked (happens_by s (on_device o
-      (λ p. on_device (device_in (devices_of s) b) (λ q. order (pair_fault p q) (Lends p q)))))) (sym at_a)
-      (subst (λ (o : Option MarksDevice). EventLeads s e asked (happens_by s (on_device o (λ q. order (pair_fault x q) (Lends x q))))) (sym at_b)
-      (ordered s e (orders.Pair a b) asked (pairs a b) (pair_fault x y) (Lends x y)
-      (λ free. let may = may_pair x y free in
-      let far : (b == a) ≡ false = ap (λ (i : ℕ). i == a) (sym is_b) ∙ ap (λ (i : ℕ). y.store.device == i) (sym is_a) ∙ may.other in
-      lend_leads far (turned b a far) x.store.device y.store.device is_a is_b)))
+      rw (at_a, at_b) (ordered s (wanted.Pair a b) (orders.Pair a b) (Once (events.Pair a b)) (pairs a b) (pair_fault x y) (Lends x y)
+      (λ free. let may = may_pair x y free in let far : (b == a) ≡ false = ap (λ (i : ℕ). i == a) (sym is_b) ∙ ap (λ (i : ℕ). y.store.device == i)
+      (sym is_a) ∙ may.other in lend_leads far (turned b a far) x.store.device y.store.device is_a is_b))
 
 -- UNPAIR
 
 unpairs : (a : ℕ) → IsOrder (wanted.Unpair a) (orders.Unpair a) (Unpair a)
-unpairs a = record {
-  stands = λ outs answer. same_order (orders.Unpair a);
-  refused = λ z fault. refl;
-  pending = λ z k. refl;
-  lines_are = λ end reads writes ds ks. refl;
-}
+unpairs a = search arith
 
 -- a device that is lent runs nothing
 away_is_idle : (a : ℕ) (l : Option ℕ) (r : Option OpenEntry) → IsAtHome l r → (M.is_lent_to a l && runs r) ≡ false
-away_is_idle a (Some to) r home = ap (λ (o : Option OpenEntry). (to == a) && runs o) home ∙ never (to == a) where
-  never : (b : Bool) → (b && false) ≡ false
-  never true = refl
-  never false = refl
-away_is_idle a None r home = refl
+away_is_idle a l r home = grind arith
 
 none_runs : (a : ℕ) (ms : List Mounted) → ArePlain ms → list_any (runs_lent a) (map audited (devices ms)) ≡ false
 none_runs a [] p = refl
-none_runs a (m ∷ ms) p =
-    ap (λ (b : Bool). b || list_any (runs_lent a) (map audited (devices ms)))
-    (away_is_idle a m.device.store.lent m.device.history.running p.0.follows.home)
-    ∙ none_runs a ms p.1
+none_runs a (m ∷ ms) p = grind (arith, none_runs a ms p.1, away_is_idle)
 
 same_test : (a : ℕ) (l : Option ℕ) → M.is_lent_to a l ≡ is_lent_to l a
-same_test a (Some to) = refl
-same_test a None = refl
+same_test a l = grind arith
 
 none_given : (a : ℕ) (ms : List Mounted) → lent_count a (ties ms) ≡ 0 → map (given_back a) (map audited (devices ms)) ≡ map audited (devices ms)
 none_given a [] none = refl
-none_given a (m ∷ ms) none = by_test (is_lent_to m.device.store.lent a) refl (none_given a ms) where
-  by_test : (b : Bool) → is_lent_to m.device.store.lent a ≡ b →
-      (lent_count a (ties ms) ≡ 0 → map (given_back a) (map audited (devices ms)) ≡ map audited (devices ms)) →
-      given_back a (audited m.device) ∷ map (given_back a) (map audited (devices ms)) ≡ audited m.device ∷ map audited (devices ms)
-  by_test true is rest = absurd (let one : one_if (is_lent_to m.device.store.lent a) ≡ 1 = ap one_if is in omega (arith, one, none))
-  by_test false is rest =
-      let zero_is : one_if (is_lent_to m.device.store.lent a) ≡ 0 = ap one_if is in
-      ap (λ (t : Bool). (if t then record (audited m.device) { history = emptied m.device.history; lent = None }
-      else audited m.device) ∷ map (given_back a) (map audited (devices ms))) (same_test a m.device.store.lent ∙ is)
-      ∙ ap (λ (l : List AuditedDevice). audited m.device ∷ l) (rest (omega (arith, zero_is, none)))
+none_given a (m ∷ ms) none = grind (arith, none_given a ms, same_test)
 
 given : (a : ℕ) (volume : Calls) (ms : List Mounted) → lent_count a (ties ms) ≤ 1 →
     map (given_back a) (map audited (devices ms)) ≡ map audited (devices (restored_in ms a volume))
@@ -235,12 +177,7 @@ given a volume (m ∷ ms) most = by_test (is_lent_to m.device.store.lent a) refl
 
 silent_restored : (a : ℕ) (volume : Calls) (ms : List Mounted) → AllSilent (map history_of (devices ms)) (map history_of (devices (restored_in ms a volume)))
 silent_restored a volume [] = tt
-silent_restored a volume (m ∷ ms) = by_test (is_lent_to m.device.store.lent a) (silent_restored a volume ms) where
-  by_test : (b : Bool) → AllSilent (map history_of (devices ms)) (map history_of (devices (restored_in ms a volume))) →
-      AllSilent (map history_of (devices (m ∷ ms)))
-      (map history_of (devices (if b then record m { device = restore m.device; a = volume } ∷ ms else m ∷ restored_in ms a volume)))
-  by_test true rest = (inr refl, all_same (map history_of (devices ms)))
-  by_test false rest = (inl refl, rest)
+silent_restored a volume (m ∷ ms) = grind (arith, silent_restored a volume ms, all_same)
 
 module _ (s : Subsystem) (plain : ArePlain s.mounted) (a : ℕ) (single : lent_count a (ties s.mounted) ≤ 1) where
   parted_leads : (m : Mounted) → mounted_in s.mounted a ≡ Some m →
@@ -250,19 +187,13 @@ module _ (s : Subsystem) (plain : ArePlain s.mounted) (a : ℕ) (single : lent_c
       let x = record m { device = split m.device } in
       let ks = put_in s.mounted a x in
       let behind = unpaired_behind s a unfailing m in
-      let few : lent_count a (ties ks) ≤ 1 =
-      subst (λ (n : ℕ). n ≤ 1) (sym (lent_stays s.mounted a x m there (mounted_number s.mounted a m there) refl a)) single in
-      told_leads s e (orders.Unpair a) (Unpair a) (unpairs a) behind ends.Done later
-      (silent_lines (orders.Unpair a) answers.Done (devices_of s) (devices_of behind)
-      (subst (λ (hs : List History). AllSilent hs (map history_of (devices_of behind))) (history_put s.mounted a x m there refl)
-      (silent_restored a unfailing ks)))
-      (ap (λ (b : Bool). if b then None else Some (passed (record (stand s (e ∷ later)) { devices = map (given_back a) (map audited (devices_of s)) })))
-      (none_runs a s.mounted plain)
-      ∙ ap (λ (l : List AuditedDevice). Some (record { devices = l; events = later; due = (stand s later).due }))
-      (ap (map (given_back a)) (sym (put_same s.mounted a x (λ k found.
-      let both_are : Some m ≡ Some k = sym there ∙ found in
-      let it : m ≡ k = cc in ap (λ (i : Mounted). audited i.device) it)))
-      ∙ given a unfailing ks few))
+      let few : lent_count a (ties ks) ≤ 1 = rw (lent_stays s.mounted a x m there (mounted_number s.mounted a m there) refl a) single in
+      told_leads s e (orders.Unpair a) (Unpair a) (unpairs a) behind ends.Done later (silent_lines (orders.Unpair a) answers.Done (devices_of s)
+      (devices_of behind) (rw (← (history_put s.mounted a x m there refl)) (silent_restored a unfailing ks))) (ap (λ (b : Bool). if b then None else Some
+      (passed (record (stand s (e ∷ later)) { devices = map (given_back a) (map audited (devices_of s)) }))) (none_runs a s.mounted plain) ∙ ap
+      (λ (l : List AuditedDevice). Some (record { devices = l; events = later; due = (stand s later).due })) (ap (map (given_back a)) (sym
+      (put_same s.mounted a x (λ k found. let both_are : Some m ≡ Some k = sym there ∙ found in let it : m ≡ k = cc in ap
+      (λ (i : Mounted). audited i.device) it))) ∙ given a unfailing ks few))
 
   unpaired_leads : (m : Mounted) → mounted_in s.mounted a ≡ Some m → (f : Option OrderFault) →
       EventLeads s (wanted.Unpair a) (Unpair a) (unpaired_by s a unfailing m f)
@@ -271,7 +202,4 @@ module _ (s : Subsystem) (plain : ArePlain s.mounted) (a : ℕ) (single : lent_c
 
   pub unpair_leads : (x : MarksDevice) → device_in (devices_of s) a ≡ Some x → EventLeads s (wanted.Unpair a) (Unpair a) (unpaired s a unfailing)
   unfolding H.unpaired
-  unpair_leads x at =
-      let m = mounted_too s.mounted a x at in
-      subst (λ (q : Option Mounted). EventLeads s (wanted.Unpair a) (Unpair a) (unpaired_at s a unfailing q)) (sym m.1)
-      (unpaired_leads m.0 m.1 (unpair_fault m.0.device))
+  unpair_leads x at = let m = mounted_too s.mounted a x at in rw m.1 (unpaired_leads m.0 m.1 (unpair_fault m.0.device))

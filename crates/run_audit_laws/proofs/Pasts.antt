@@ -83,58 +83,33 @@ module _ (path : ℕ) (ccws : List Ccw) (state : PlainState) (acts : List Acted)
   abbrev at : ℕ → Part
   at n = part_of state path ccws acts n
 
-  over_at : (more : List Acted) (p : Part) → p.next ≡ None → acted_part more p ≡ p
-  over_at more p none = ap (λ (x : Option ℕ). acted_at more p x) none
-
   -- a program that is over has no act any more
   over_still : (act : Act) (n : ℕ) → (part_of state path ccws acts n).next ≡ None →
       part_of state path ccws (acts ++ record { after = n; act = act } ∷ []) n ≡ part_of state path ccws acts n
   over_still act zero none = absurd (let never : Some 0 ≡ None = sym (first_next path ccws acts state) ∙ none in cc)
-  over_still act (suc k) none =
-      let a : Acted = record { after = suc k; act = act } in
-      let q = command_run path ccws (at k) in
-      let over : q.next ≡ None =
-      sym (acted_beside acts q).next ∙ ap (λ (p : Part). p.next) (sym (part_more path ccws acts state k)) ∙ none in
-      part_more path ccws (acts ++ a ∷ []) state k
-      ∙ ap (λ (p : Part). acted_part (acts ++ a ∷ []) (command_run path ccws p)) (part_before path ccws state acts a k (omega arith))
-      ∙ over_at (acts ++ a ∷ []) q over ∙ sym (over_at acts q over) ∙ sym (part_more path ccws acts state k)
+  over_still act (suc k) none = grind (arith, first_next, acted_beside, part_more, part_before)
 
   act_untold : (act : Act) (p : Part) (next : Option ℕ) → untold (act_by act p next) ≡ untold (act_by act (untold p) next)
-  act_untold act p (Some i) = refl
-  act_untold act p None = refl
+  act_untold act p next = grind arith
 
   act_at : (act : Act) (n : ℕ) (next : Option ℕ) → (part_of state path ccws acts n).next ≡ next →
       part_of state path ccws (acts ++ record { after = n; act = act } ∷ []) n ≡ act_by act (part_of state path ccws acts n) next
-  act_at act n None is = over_still act n is
-  act_at act n (Some i) is =
-      let some = ap (λ (x : Option ℕ). is_some x) is in part_here path ccws state acts n ((part_counts path ccws acts state n).all some) some act
+  act_at act n next is = grind (arith, over_still, part_here, part_counts)
 
   pub act_more : (act : Act) (n : ℕ) → untold (part_of state path ccws (acts ++ record { after = n; act = act } ∷ []) n)
       ≡ untold (act_now act (untold (part_of state path ccws acts n)))
   act_more act n = ap untold (act_at act n (at n).next refl) ∙ act_untold act (at n) (at n).next
 
   step_untold : (p : Part) (next : Option ℕ) → untold (stepped_at path ccws p next) ≡ untold (stepped_at path ccws (untold p) next)
-  step_untold p (Some i) = refl
-  step_untold p None = refl
+  step_untold p next = grind arith
 
   -- no act comes behind one more end
   none_there : (n : ℕ) → AreInOrder 0 (n + 1) acts → (q : Part) → (is_some q.next ≡ true → length q.ends ≡ suc n) → acted_part acts q ≡ q
-  none_there n order q many = by_next q.next refl where
-    by_next : (next : Option ℕ) → q.next ≡ next → acted_at acts q next ≡ q
-    by_next None is = refl
-    by_next (Some i) is =
-        let so = many (ap (λ (x : Option ℕ). is_some x) is) in
-        ap (λ (l : List Act). with_acts l q) (no_acts 0 (n + 1) (length q.ends) acts order (omega (arith, so)))
+  none_there n order q many = grind (arith, no_acts)
 
   pub step_more : (n : ℕ) → AreInOrder 0 (n + 1) acts → untold (part_of state path ccws acts (suc n))
       ≡ untold (command_run path ccws (untold (part_of state path ccws acts n)))
-  step_more n order =
-      let q = command_run path ccws (at n) in
-      let beside = acted_beside acts q in
-      ap untold (part_more path ccws acts state n
-      ∙ none_there n order q (λ some. ap length (sym beside.ends) ∙ ap (λ (p : Part). length p.ends) (sym (part_more path ccws acts state n))
-      ∙ (part_counts path ccws acts state (suc n)).all (ap (λ (x : Option ℕ). is_some x) (ap (λ (p : Part). p.next) (part_more path ccws acts state n) ∙ beside.next) ∙ some)))
-      ∙ step_untold (at n) (at n).next
+  step_more n order = grind (arith, acted_beside, part_more, none_there, part_counts, step_untold)
 
 -- the state behind the next command
 abbrev pub next_part : Plans → Going → Part
@@ -184,15 +159,7 @@ behind_items plans x state item later = record {
 items_more : (plans : Plans) (empty : PlainState) (h : History) (item : Item) (later : List Item) →
     past_of plans empty (record { items = h.items ++ item ∷ later; running = None; waiting = [] })
     ≡ behind_items plans (past_of plans empty h) (replay_item plans (replay plans empty h.items) item) (bare item) later
-items_more plans empty h item later =
-    ap (λ (s : PlainState). record { state = s; items = map bare (h.items ++ item ∷ later); running = None; waiting = [] })
-    (replay-append plans empty h.items (item ∷ later))
-    ∙ ap (λ (l : List Item). record {
-      state = replay plans (replay_item plans (replay plans empty h.items) item) later;
-      items = l;
-      running = None;
-      waiting = [];
-    }) (map-append bare h.items (item ∷ later))
+items_more plans empty h item later = grind (arith, replay-append, map-append)
 
 -- the program that ran is over
 abbrev pub entry_past : Going → How → List CommandEnd → Item
@@ -210,18 +177,12 @@ module _ (plans : Plans) (empty : PlainState) (h : History) (o : OpenEntry) (tid
       ≡ record (open_part plans (replay plans empty h.items) o).state {
         paths = with_sense (open_part plans (replay plans empty h.items) o).state.paths o.path (last_sense (o.ends ++ e ∷ []));
       }
-  check_state e =
-      let much = one_longer o.ends e in
-      let same : length (o.ends ++ e ∷ []) - 1 ≡ length o.ends = omega (arith, much) in
-      ap (λ (k : ℕ). let p = part_of s o.path (program_of plans o.path o.ordinal) o.acts k in
-      record p.state { paths = with_sense p.state.paths o.path (last_sense (o.ends ++ e ∷ [])) }) same
+  check_state e = grind (arith, one_longer)
 
   -- of a program that is cut as many commands took effect as ended, or one more
   cut_state : (more : ℕ) → IsFew more → replay_item plans (replay plans empty h.items) (entry_of o (Cut (length o.ends + more)))
       ≡ cut_to plans (going_of plans (replay plans empty h.items) o) more
-  cut_state zero few =
-      let same : length o.ends + 0 ≡ length o.ends = omega arith in
-      ap (λ (k : ℕ). (part_of s o.path (program_of plans o.path o.ordinal) o.acts k).state) same
+  cut_state zero few = grind arith
   cut_state (suc zero) few =
       let same : length o.ends + 1 ≡ suc (length o.ends) = omega arith in
       ap (λ (k : ℕ). (part_of s o.path (program_of plans o.path o.ordinal) o.acts k).state) same
@@ -244,20 +205,12 @@ abbrev with_parts : List Item → Option OpenEntry → List ℕ → History
 with_parts l r w = record { items = l; running = r; waiting = w }
 
 act_tidy : (act : Act) (l : List Item) (r : Option OpenEntry) (w : List ℕ) → IsTidy (with_parts l r w) → IsTidy (acted (with_parts l r w) act)
-act_tidy act l None w tidy = tt
-act_tidy act l (Some o) w tidy = order_more 0 (length o.ends) o.acts act tidy (omega arith)
+act_tidy act l r w tidy = grind (arith, order_more)
 
 act_past : (act : Act) (plans : Plans) (empty : PlainState) (l : List Item) (r : Option OpenEntry) (w : List ℕ) →
     past_of plans empty (acted (with_parts l r w) act) ≡ acted_past act plans (past_of plans empty (with_parts l r w))
-act_past act plans empty l None w =
-    ap (λ (x : Past). record x { waiting = w }) (items_more plans empty (with_parts l None w) (items.Act act) [])
-act_past act plans empty l (Some o) w =
-    ap (λ (p : Part). record {
-      state = replay plans empty l;
-      items = map bare l;
-      running = Some (record { path = o.path; ordinal = o.ordinal; ends = o.ends; part = p });
-      waiting = w;
-    }) (act_more o.path (program_of plans o.path o.ordinal) (replay plans empty l) o.acts act (length o.ends))
+act_past act plans empty l None w = ap (λ (x : Past). record x { waiting = w }) (items_more plans empty (with_parts l None w) (items.Act act) [])
+act_past act plans empty l (Some o) w = grind (arith, act_more)
 
 pub act_is_read : (act : Act) → IsRead (λ h. acted h act) (acted_past act)
 act_is_read act = record {
@@ -287,8 +240,7 @@ module _ (e : CommandEnd) (l : List Item) (o : OpenEntry) (w : List ℕ) (tidy :
 
   ended_tidy : (over : Bool) → IsTidy (if over then closed (with_parts l (Some o) w) (with_end o e) Full
       else record (with_parts l (Some o) w) { running = Some (with_end o e) })
-  ended_tidy true = tt
-  ended_tidy false = order_ended
+  ended_tidy over = grind (arith, order_ended)
 
   module _ (plans : Plans) (empty : PlainState) where
     closed_past : past_of plans empty (closed (with_parts l (Some o) w) (with_end o e) Full)
@@ -305,17 +257,14 @@ module _ (e : CommandEnd) (l : List Item) (o : OpenEntry) (w : List ℕ) (tidy :
         (next_part plans (going_of plans (replay plans empty l) o)).state
         else goes_on (past_of plans empty (with_parts l (Some o) w)) (going_of plans (replay plans empty l) o) e
         (next_part plans (going_of plans (replay plans empty l) o)))
-    ended_is true = closed_past
-    ended_is false = ap (goes_on (past_of plans empty h) (going_of plans (replay plans empty l) o) e) (part_ended plans (replay plans empty l) o tidy e)
+    ended_is over = grind (arith, closed_past, part_ended)
 
 end_tidy : (e : CommandEnd) (l : List Item) (r : Option OpenEntry) (w : List ℕ) → IsTidy (with_parts l r w) → IsTidy (ended (with_parts l r w) e)
-end_tidy e l None w tidy = tt
-end_tidy e l (Some o) w tidy = ended_tidy e l o w tidy e.over
+end_tidy e l r w tidy = grind (arith, ended_tidy)
 
 end_past : (e : CommandEnd) (plans : Plans) (empty : PlainState) (l : List Item) (r : Option OpenEntry) (w : List ℕ) → IsTidy (with_parts l r w) →
     past_of plans empty (ended (with_parts l r w) e) ≡ ended_past e plans (past_of plans empty (with_parts l r w))
-end_past e plans empty l None w tidy = refl
-end_past e plans empty l (Some o) w tidy = ended_is e l o w tidy plans empty e.over
+end_past e plans empty l r w tidy = grind (arith, ended_is)
 
 pub end_is_read : (e : CommandEnd) → IsRead (λ h. ended h e) (ended_past e)
 end_is_read e = record {
@@ -336,8 +285,7 @@ abbrev pub checked_past : CommandEnd → Plans → Past → Past
 checked_past e plans x = checked_by e plans x x.running
 
 check_tidy : (e : CommandEnd) (l : List Item) (r : Option OpenEntry) (w : List ℕ) → IsTidy (checked (with_parts l r w) e)
-check_tidy e l None w = tt
-check_tidy e l (Some o) w = tt
+check_tidy e l r w = grind arith
 
 check_past : (e : CommandEnd) (plans : Plans) (empty : PlainState) (l : List Item) (r : Option OpenEntry) (w : List ℕ) → IsTidy (with_parts l r w) →
     past_of plans empty (checked (with_parts l r w) e) ≡ checked_past e plans (past_of plans empty (with_parts l r w))
@@ -356,29 +304,13 @@ check_is_read e = record {
 
 -- Whether a path was used, and whether any program was started
 
-used_one : (path : ℕ) (used : Bool) (item : Item) → used_by path used (bare item) ≡ used_by path used item
-used_one path used (items.Program e) = refl
-used_one path used (items.Reset p) = refl
-used_one path used items.Fresh = refl
-used_one path used (items.Act act) = refl
-used_one path used items.Power = refl
-
 used_bare : (path : ℕ) (l : List Item) (used : Bool) → is_used path used l ≡ is_used path used (map bare l)
 used_bare path [] used = refl
-used_bare path (item ∷ l) used =
-    used_bare path l (used_by path used item) ∙ ap (λ (b : Bool). is_used path b (map bare l)) (sym (used_one path used item))
-
-started_one : (started : Bool) (item : Item) → started_by started (bare item) ≡ started_by started item
-started_one started (items.Program e) = refl
-started_one started (items.Reset p) = refl
-started_one started items.Fresh = refl
-started_one started (items.Act act) = refl
-started_one started items.Power = refl
+used_bare path (item ∷ l) used = grind (arith, used_bare path l (used_by path used item))
 
 started_bare : (l : List Item) (started : Bool) → is_started started l ≡ is_started started (map bare l)
 started_bare [] started = refl
-started_bare (item ∷ l) started =
-    started_bare l (started_by started item) ∙ ap (λ (b : Bool). is_started b (map bare l)) (sym (started_one started item))
+started_bare (item ∷ l) started = grind (arith, started_bare l (started_by started item))
 
 -- A reset
 
@@ -399,18 +331,12 @@ reset_past path more plans x = reset_by path more plans x x.running
 
 module _ (path more : ℕ) (few : IsFew more) (l : List Item) (w : List ℕ) where
   idle_tidy : (used : Bool) → IsTidy (if used then record (with_parts l None w) { items = l ++ items.Reset path ∷ [] } else with_parts l None w)
-  idle_tidy true = tt
-  idle_tidy false = tt
+  idle_tidy used = grind arith
 
   module _ (o : OpenEntry) (tidy : IsTidyOpen o) where
-    waits_tidy : (used : Bool) → IsTidy (if used then record (with_parts l (Some o) w) { waiting = put path w } else with_parts l (Some o) w)
-    waits_tidy true = tidy
-    waits_tidy false = tidy
-
     resets_tidy : (own used : Bool) → IsTidy (if own then cut_by (with_parts l (Some o) w) o more
         else if used then record (with_parts l (Some o) w) { waiting = put path w } else with_parts l (Some o) w)
-    resets_tidy true used = tt
-    resets_tidy false used = waits_tidy used
+    resets_tidy own used = grind arith
 
     module _ (plans : Plans) (empty : PlainState) where
       abbrev before : Past
@@ -429,16 +355,14 @@ module _ (path more : ℕ) (few : IsFew more) (l : List Item) (w : List ℕ) whe
       waits_past : (used : Bool) →
           past_of plans empty (if used then record (with_parts l (Some o) w) { waiting = put path w } else with_parts l (Some o) w)
           ≡ (if used then record (past_of plans empty (with_parts l (Some o) w)) { waiting = put path w } else past_of plans empty (with_parts l (Some o) w))
-      waits_past true = refl
-      waits_past false = refl
+      waits_past used = grind arith
 
       resets_past : (own used : Bool) → past_of plans empty (if own then cut_by (with_parts l (Some o) w) o more
           else if used then record (with_parts l (Some o) w) { waiting = put path w } else with_parts l (Some o) w)
           ≡ (if own then cut_past more plans (past_of plans empty (with_parts l (Some o) w)) (going_of plans (replay plans empty l) o)
           else if used then record (past_of plans empty (with_parts l (Some o) w)) { waiting = put path w }
           else past_of plans empty (with_parts l (Some o) w))
-      resets_past true used = cuts_past
-      resets_past false used = waits_past used
+      resets_past own used = grind (arith, cuts_past, waits_past)
 
   idle_past : (plans : Plans) (empty : PlainState) (used : Bool) →
       past_of plans empty (if used then record (with_parts l None w) { items = l ++ items.Reset path ∷ [] } else with_parts l None w)
@@ -448,30 +372,16 @@ module _ (path more : ℕ) (few : IsFew more) (l : List Item) (w : List ℕ) whe
         running = None;
         waiting = w;
       } else past_of plans empty (with_parts l None w))
-  idle_past plans empty true =
-      ap (λ (x : Past). record x { waiting = w }) (items_more plans empty (with_parts l None w) (items.Reset path) [])
+  idle_past plans empty true = ap (λ (x : Past). record x { waiting = w }) (items_more plans empty (with_parts l None w) (items.Reset path) [])
   idle_past plans empty false = refl
 
 module _ (path more : ℕ) (few : IsFew more) (l : List Item) where
   reset_tidy : (r : Option OpenEntry) (w : List ℕ) → IsTidy (with_parts l r w) → IsTidy (reset_in_history (with_parts l r w) path more)
-  reset_tidy None w tidy = idle_tidy path more few l w (is_used path false l)
-  reset_tidy (Some o) w tidy = resets_tidy path more few l w o tidy (o.path == path) (is_used path false l)
+  reset_tidy r w tidy = grind (arith, idle_tidy, resets_tidy)
 
   reset_is : (plans : Plans) (empty : PlainState) (r : Option OpenEntry) (w : List ℕ) → IsTidy (with_parts l r w) →
       past_of plans empty (reset_in_history (with_parts l r w) path more) ≡ reset_past path more plans (past_of plans empty (with_parts l r w))
-  reset_is plans empty None w tidy =
-      idle_past path more few l w plans empty (is_used path false l)
-      ∙ ap (λ (used : Bool). if used then record {
-        state = record (replay plans empty l) { paths = reset_path (replay plans empty l).paths path };
-        items = map bare l ++ items.Reset path ∷ [];
-        running = None;
-        waiting = w;
-      } else past_of plans empty (with_parts l None w)) (used_bare path l false)
-  reset_is plans empty (Some o) w tidy =
-      let before = past_of plans empty (with_parts l (Some o) w) in
-      resets_past path more few l w o tidy plans empty (o.path == path) (is_used path false l)
-      ∙ ap (λ (used : Bool). if o.path == path then cut_past more plans before (going_of plans (replay plans empty l) o)
-      else if used then record before { waiting = put path w } else before) (used_bare path l false)
+  reset_is plans empty r w tidy = grind (arith, idle_past, used_bare, resets_past)
 
 pub reset_is_read : (path more : ℕ) → IsFew more → IsRead (λ h. reset_in_history h path more) (reset_past path more)
 reset_is_read path more few = record {
@@ -491,8 +401,7 @@ lost_past plans x = lost_by plans x x.running
 module _ (l : List Item) (w : List ℕ) where
   dark_tidy : (started : Bool) →
       IsTidy (if started then record { items = l ++ items.Power ∷ []; running = None; waiting = [] } else with_parts l None w)
-  dark_tidy true = tt
-  dark_tidy false = tt
+  dark_tidy started = grind arith
 
   dark_past : (plans : Plans) (empty : PlainState) (started : Bool) →
       past_of plans empty (if started then record { items = l ++ items.Power ∷ []; running = None; waiting = [] } else with_parts l None w)
@@ -502,8 +411,7 @@ module _ (l : List Item) (w : List ℕ) where
   dark_past plans empty false = refl
 
   power_tidy : (r : Option OpenEntry) → IsTidy (lost_power (with_parts l r w) 0)
-  power_tidy None = dark_tidy (is_started false l)
-  power_tidy (Some o) = tt
+  power_tidy r = grind (arith, dark_tidy)
 
   power_past : (plans : Plans) (empty : PlainState) (r : Option OpenEntry) → IsTidy (with_parts l r w) →
       past_of plans empty (lost_power (with_parts l r w) 0) ≡ lost_past plans (past_of plans empty (with_parts l r w))
@@ -540,8 +448,7 @@ abbrev pub broken_past : ℕ → Plans → Past → Past
 broken_past more plans x = broken_by more plans x x.running
 
 break_tidy : (more : ℕ) (l : List Item) (r : Option OpenEntry) (w : List ℕ) → IsTidy (cut more (with_parts l r w))
-break_tidy more l None w = tt
-break_tidy more l (Some o) w = tt
+break_tidy more l r w = grind arith
 
 break_past : (more : ℕ) → IsFew more → (plans : Plans) (empty : PlainState) (l : List Item) (r : Option OpenEntry) (w : List ℕ) →
     IsTidy (with_parts l r w) → past_of plans empty (cut more (with_parts l r w)) ≡ broken_past more plans (past_of plans empty (with_parts l r w))
@@ -565,10 +472,4 @@ pub emptied_alike : (plans : Plans) (empty : PlainState) (h : History) → h.run
       state = replay_item plans (past_of plans empty h).state items.Fresh;
       items = (past_of plans empty h).items ++ items.Fresh ∷ [];
     }
-emptied_alike plans empty h idle =
-    ap (λ (r : Option OpenEntry). past_of plans empty (record { items = h.items ++ items.Fresh ∷ []; running = r; waiting = h.waiting })) idle
-    ∙ ap (λ (x : Past). record x { waiting = h.waiting }) (items_more plans empty h items.Fresh [])
-    ∙ ap (λ (r : Option OpenEntry). record (past_of plans empty (record h { running = r })) {
-      state = replay_item plans (replay plans empty h.items) items.Fresh;
-      items = map bare h.items ++ items.Fresh ∷ [];
-    }) (sym idle)
+emptied_alike plans empty h idle = grind (arith, items_more)

@@ -1,5 +1,5 @@
 -- An event of a run that is a piece of work leads the audit on.
-use Rattle.std.proofs.Common.{◌≡◌, ◌==◌, ℕ, Bool, true, false, not, List, [], ◌∷◌, map, Option, Some, None, refl, sym, ap, subst, ◌∙◌, if◌then◌else◌}
+use Rattle.std.proofs.Common.{arith, ◌≡◌, ◌==◌, ℕ, Bool, true, false, not, List, [], ◌∷◌, map, Option, Some, None, refl, sym, ap, subst, ◌∙◌, if◌then◌else◌}
 use Rattle.std.specs.Prelude.{◌||◌, ◌&&◌, is_some, option_map}
 use Rattle.std.proofs.lemmas.Bool.{eq-eqb}
 use Rattle.deck_plan.specs.declared.event.EventLine.{EventLine}
@@ -84,23 +84,12 @@ pub record PieceGoes (s : Subsystem) (n : ℕ) (w : EventLine) (asked : Asked) (
 -- A device that is busy
 
 busy_by : (h : Option (store.HalfWrite (Unit {0}))) (r : Option OpenEntry) → (is_some h || is_some r) ≡ not (not (runs r) && is_closed (half_by h))
-busy_by None None = refl
-busy_by None (Some o) = refl
-busy_by (Some h) r = by_half (half_of h.origin) (not_closed h.origin) (not (runs r)) where
-  not_closed : (o : store.Origin) → is_closed (half_of o) ≡ false
-  not_closed (store.OfCommand bypass e) = refl
-  not_closed (store.OfCut bypass) = refl
-  not_closed store.OfBackground = refl
-
-  by_half : (k : HalfWrite) → is_closed k ≡ false → (b : Bool) → true ≡ not (b && is_closed k)
-  by_half k is true = ap not (sym is)
-  by_half k is false = refl
+busy_by h r = grind arith
 
 put_if : (b : Bool) (k z : Mounted) (ms : List Mounted) (n : ℕ) (m : Mounted) → (number_of k == n) ≡ b → number_of z ≡ n →
     (if b then Some k else mounted_in ms n) ≡ Some m → (mounted_in ms n ≡ Some m → mounted_in (put_in ms n z) n ≡ Some z) →
     mounted_in (if b then z ∷ ms else k ∷ put_in ms n z) n ≡ Some z
-put_if true k z ms n m test number at more = ap (λ (c : Bool). if c then Some z else mounted_in ms n) (eq-eqb (number_of z) n number)
-put_if false k z ms n m test number at more = ap (λ (c : Bool). if c then Some k else mounted_in (put_in ms n z) n) test ∙ more at
+put_if b k z ms n m test number at more = grind (arith, eq-eqb)
 
 pub put_found : (ms : List Mounted) (n : ℕ) (m z : Mounted) → mounted_in ms n ≡ Some m → number_of z ≡ n → mounted_in (put_in ms n z) n ≡ Some z
 put_found [] n m z at number = absurd (cc)
@@ -158,9 +147,7 @@ module _ (s : Subsystem) (x : MarksDevice) (at : device_in (devices_of s) x.stor
                 (c.so (map audited (devices_of s)) later (found_one (devices_of s) n x at) o.told.reads o.told.writes)))
 
       pub asks_goes : PieceGoes s x.store.device w asked (asks s x.store.device (mounted_in s.mounted x.store.device) talk)
-      asks_goes =
-          let m = mounted_too s.mounted n x at in
-          subst (λ (k : Option Mounted). PieceGoes s n w asked (asks s n k talk)) (sym m.1) (with_mounted_goes m.0 m.1 m.2)
+      asks_goes = grind (arith, mounted_too, with_mounted_goes)
 
   -- Nothing to do
 
@@ -175,22 +162,13 @@ module _ (s : Subsystem) (x : MarksDevice) (at : device_in (devices_of s) x.stor
 
   idle_fits : (line : ReportLine) → says line line ≡ true → x.store.half ≡ None → x.history.running ≡ None →
       may_step (outline_of (audited x)) line line (audited x).half ≡ true
-  idle_fits line same whole none =
-      ap (λ (h : Option (store.HalfWrite (Unit {0}))). may_step (outline_of (audited x)) line line (half_by h)) whole
-      ∙ ap (λ (r : Option OpenEntry). in_steps (outline_of (audited x)) line line (open_program r)) none ∙ same
+  idle_fits line same whole none = grind arith
 
   idle_busy : x.store.half ≡ None → x.history.running ≡ None → is_busy (mounted_in s.mounted x.store.device) ≡ false
-  idle_busy whole none =
-      let m = mounted_too s.mounted n x at in
-      ap is_busy m.1
-      ∙ ap (λ (d : MarksDevice). is_some d.store.half || is_some d.history.running) m.2
-      ∙ ap (λ (h : Option (store.HalfWrite (Unit {0}))). is_some h || is_some x.history.running) whole
-      ∙ ap (λ (r : Option OpenEntry). false || is_some r) none
+  idle_busy whole none = grind (arith, mounted_too)
 
   idle_is : x.store.half ≡ None → x.history.running ≡ None → is_idle (audited x) ≡ true
-  idle_is whole none =
-      ap (λ (r : Option OpenEntry). not (runs r) && is_closed (half_by x.store.half)) none
-      ∙ ap (λ (h : Option (store.HalfWrite (Unit {0}))). true && is_closed (half_by h)) whole
+  idle_is whole none = grind arith
 
   step_idle_goes : x.store.half ≡ None → x.history.running ≡ None →
       PieceGoes s x.store.device (wanted.Step x.store.device) (Once (events.Step x.store.device)) (quietly s s ends.Idle)

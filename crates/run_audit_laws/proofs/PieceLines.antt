@@ -1,5 +1,5 @@
 -- What an event of one device tells beside what it did: its acts, and the program that is over.
-use Rattle.std.proofs.Common.{◌≡◌, ◌++◌, ℕ, Bool, true, false, List, [], ◌∷◌, map, Option, Some, None, refl, sym, ap, ◌∙◌, append_assoc, if◌then◌else◌}
+use Rattle.std.proofs.Common.{arith, ◌≡◌, ◌++◌, ℕ, Bool, true, false, List, [], ◌∷◌, map, Option, Some, None, refl, sym, ap, ◌∙◌, append_assoc, if◌then◌else◌}
 use Rattle.std.proofs.lemmas.List.{append-nil}
 use Rattle.ckd_types.specs.declared.channel.CommandEnd.{CommandEnd}
 use Rattle.plain_defs.specs.declared.journal.Act.{Act}
@@ -88,16 +88,11 @@ module _ (x y : MarksDevice) (acts : List Act) (none : NoLoss acts) where
         else record x.history { running = Some (with_end (with_acts o acts) e) }
 
     power_by : (b : Bool) → has_power (new_items x.history (ended_as b)) ≡ false
-    power_by true =
-        ap has_power (behind_more x.history.items (entry_of (with_end later e) Full ∷ resets_of x.history.waiting)) ∙ no_power x.history.waiting
-    power_by false = ap has_power (none_behind x.history.items)
+    power_by b = grind (arith, behind_more, no_power, none_behind)
 
     over_by : (b : Bool) →
         program_over_lines (over_of x.store.device (new_items x.history (ended_as b))) ≡ line_if (over_if b (over_told (audited x) o how.Full))
-    over_by true =
-        ap (λ (l : List Item). program_over_lines (over_of x.store.device l))
-        (behind_more x.history.items (entry_of (with_end later e) Full ∷ resets_of x.history.waiting))
-    over_by false = ap (λ (l : List Item). program_over_lines (over_of x.store.device l)) (none_behind x.history.items)
+    over_by b = grind (arith, behind_more, none_behind)
 
     -- a command that ended
     pub ended_tells : y.history ≡ ended (all_acted x.history acts) e → TellsBeside x y acts (over_if e.over (over_told (audited x) o how.Full))
@@ -110,9 +105,7 @@ module _ (x y : MarksDevice) (acts : List Act) (none : NoLoss acts) where
     -- or was checked
     pub checked_tells : y.history ≡ checked (all_acted x.history acts) e → TellsBeside x y acts (Some (over_told (audited x) o how.Checked))
     checked_tells is =
-        let same : checked (all_acted x.history acts) e ≡ closed now (with_end later e) Checked =
-        ap (λ (h : History). checked h e) (acts_run acts x.history o running) in
-        let came = ap (λ (h : History). new_items x.history h) same
+        let came = ap (λ (h : History). new_items x.history h) (ap (λ (h : History). checked h e) (acts_run acts x.history o running))
         ∙ behind_more x.history.items (entry_of (with_end later e) Checked ∷ resets_of x.history.waiting) in
         tells_by x y acts (Some (over_told (audited x) o how.Checked)) (checked (all_acted x.history acts) e) is none (acts_before_check x.history acts e)
         (ap has_power came ∙ no_power x.history.waiting) (ap (λ (l : List Item). program_over_lines (over_of x.store.device l)) came)
@@ -121,9 +114,4 @@ module _ (x y : MarksDevice) (acts : List Act) (none : NoLoss acts) where
 pub lines_are : (x y : MarksDevice) (acts : List Act) (over : Option ReportLine) (h : Happened) (reads writes : ℕ) → last_line h ≡ None →
     TellsBeside x y acts over →
     device_lines h reads writes x y ≡ (first_lines h ++ map (act_line x.store.device) acts) ++ (io_lines reads writes ++ line_if over)
-lines_are x y acts over h reads writes none t =
-    ap (λ (l : List ReportLine). first_lines h ++ (l ++ (io_lines reads writes ++ (over_lines x y ++ line_if (last_line h))))) t.loose
-    ∙ ap (λ (l : List ReportLine). first_lines h ++ (map (act_line x.store.device) acts ++ (io_lines reads writes ++ (l ++ line_if (last_line h))))) t.over_is
-    ∙ ap (λ (o : Option ReportLine). first_lines h ++ (map (act_line x.store.device) acts ++ (io_lines reads writes ++ (line_if over ++ line_if o)))) none
-    ∙ ap (λ (l : List ReportLine). first_lines h ++ (map (act_line x.store.device) acts ++ (io_lines reads writes ++ l))) (append-nil (line_if over))
-    ∙ sym (append_assoc (first_lines h) (map (act_line x.store.device) acts) (io_lines reads writes ++ line_if over))
+lines_are x y acts over h reads writes none t = grind (arith, append-nil, append_assoc)

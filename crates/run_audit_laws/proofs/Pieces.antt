@@ -97,25 +97,12 @@ module _ (num : ℕ) (empty : PlainState) (x y : MarksDevice) (f : Follows num e
   plainly = subst (λ (e : PlainState). IsPlain x.plans e x.history) base f.stands.plain
 
   pub plain_behind : (h : HalfWrite) → HasParts x y h → IsPlain x.plans (audited x).empty y.history
-  plain_behind h p =
-      subst (λ (e : PlainState). IsPlain x.plans e y.history) base
-      (subst (λ (l : Plans). IsPlain l empty y.history) p.plans g.stands.plain)
+  plain_behind h p = grind arith
 
   -- it has tracks
   some_by : (o : OpenEntry) (before : Option ChainState) → x.history.running ≡ Some o → f.before ≡ before →
       0 < (replay x.plans (audited x).empty x.history.items).cylinders
-  some_by o (Some chain) running is =
-      let at = subst (λ (k : Option ChainState). RunsAt x.plans (replay x.plans empty x.history.items) (Some o) k) is
-      (subst (λ (r : Option OpenEntry). RunsAt x.plans (replay x.plans empty x.history.items) r f.before) running f.runs) in
-      let on = subst (ChainOf x.store.geometry x.store.cylinders) is f.chain in
-      let some = f.some in
-      let same : chain.fixed.cylinders ≡ (replay x.plans empty x.history.items).cylinders = ap (λ (k : Fixed). k.cylinders) at.fixed
-      ∙ part_fixed o.path (program_of x.plans o.path o.ordinal) o.acts (replay x.plans empty x.history.items) (length o.ends) in
-      let cylinders = on.1 in
-      subst (λ (e : PlainState). 0 < (replay x.plans e x.history.items).cylinders) base (omega (arith, some, same, cylinders))
-  some_by o None running is = absurd
-      (subst (λ (k : Option ChainState). RunsAt x.plans (replay x.plans empty x.history.items) (Some o) k) is
-      (subst (λ (r : Option OpenEntry). RunsAt x.plans (replay x.plans empty x.history.items) r f.before) running f.runs))
+  some_by o before running is = grind (arith, part_fixed)
 
   few : (o : OpenEntry) → x.history.running ≡ Some o → (e : CommandEnd) → plain_end (audited x) o ≡ Some e → e.sense ≡ Some equipment_sense → ⊥
   few o running e plain =
@@ -132,30 +119,24 @@ module _ (num : ℕ) (empty : PlainState) (x y : MarksDevice) (f : Follows num e
     ended_by e now (ended_so acts) same =
         let none = none_lost x.history y.history acts (ap acts_in same ∙ ended_acts (all_acted x.history acts) e ∙ all_acts acts x.history) kept in
         let so = ends_so a plainly o running e acts none (subst (λ (l : History). IsPlain x.plans a.empty l) same (plain_behind half.Closed p)) in
-        subst (λ (l : List ReportLine). Does w xs later l (audited y) false)
-        (sym (lines_are x y acts (over_if e.over (over_told a o how.Full)) (did.Ended o.path x.store.device o.ordinal e) reads writes refl
-        (ended_tells x y acts none o running e same)))
-        (subst (λ (b : AuditedDevice). Does w xs later (step_lines a o e acts reads writes (over_if e.over (over_told a o how.Full))) b false)
-        (sym (audited_by x y half.Closed now p same))
-        (ends_lead xs later a has o running w h k is plainly reads writes e acts so (few o running e (ends_plain a o e acts so))))
+        subst (λ (l : List ReportLine). Does w xs later l (audited y) false) (sym (lines_are x y acts (over_if e.over (over_told a o how.Full))
+        (did.Ended o.path x.store.device o.ordinal e) reads writes refl (ended_tells x y acts none o running e same))) (rw
+        (audited_by x y half.Closed now p same) (ends_lead xs later a has o running w h k is plainly reads writes e acts so (few o running e
+        (ends_plain a o e acts so))))
     ended_by e now (checked_so acts) same =
         let none = none_lost x.history y.history acts (ap acts_in same ∙ checked_acts (all_acted x.history acts) e ∙ all_acts acts x.history) kept in
         let so = checks_so a plainly acts o running e (subst (λ (l : History). IsPlain x.plans a.empty l) same (plain_behind half.Closed p)) in
-        subst (λ (l : List ReportLine). Does w xs later l (audited y) false)
-        (sym (lines_are x y acts (Some (over_told a o how.Checked)) (did.Ended o.path x.store.device o.ordinal e) reads writes refl
-        (checked_tells x y acts none o running e same)))
-        (subst (λ (b : AuditedDevice). Does w xs later (step_lines a o e acts reads writes (Some (over_told a o how.Checked))) b false)
-        (sym (audited_by x y half.Closed now p same))
-        (checks_lead xs later a has o running w h k is plainly reads writes e acts none so (few o running so.plain so.is_plain)))
+        subst (λ (l : List ReportLine). Does w xs later l (audited y) false) (sym (lines_are x y acts (Some (over_told a o how.Checked))
+        (did.Ended o.path x.store.device o.ordinal e) reads writes refl (checked_tells x y acts none o running e same))) (rw
+        (audited_by x y half.Closed now p same) (checks_lead xs later a has o running w h k is plainly reads writes e acts none so
+        (few o running so.plain so.is_plain)))
 
     -- as the event tells it
     ends_told : (idle : Happened) (end : EventEnd) (e : CommandEnd) →
         work_told x.store.device (Some (running_program o)) idle end ≡ did.Ended o.path x.store.device o.ordinal e → HasEnded x.history e y.history →
         Does w xs later (device_lines (work_told x.store.device (option_map running_program x.history.running) idle end) reads writes x y) (audited y) false
     ends_told idle end e shows told =
-        subst (λ (h : Happened). Does w xs later (device_lines h reads writes x y) (audited y) false)
-        (sym (ap (λ (r : Option OpenEntry). work_told x.store.device (option_map running_program r) idle end) running ∙ shows))
-        (ended_by e y.history told refl)
+        rw (ap (λ (r : Option OpenEntry). work_told x.store.device (option_map running_program r) idle end) running ∙ shows) (ended_by e y.history told refl)
 
   -- Acts alone
 
@@ -168,13 +149,10 @@ module _ (num : ℕ) (empty : PlainState) (x y : MarksDevice) (f : Follows num e
       Does w xs later (device_lines (did.Half o.path x.store.device track) reads writes x y) (audited y) false
   halved_by o running kept w k is p xs later has reads writes track now (acted_so acts) same =
       let none = acts_lossless kept acts same in
-      subst (λ (l : List ReportLine). Does w xs later l (audited y) false)
-      (sym (lines_are x y acts None (did.Half o.path x.store.device track) reads writes refl (acted_tells x y acts none same)))
-      (subst (λ (b : AuditedDevice). Does w xs later
-      ((lines.Half o.path x.store.device track ∷ map (act_line x.store.device) acts) ++ (io_lines reads writes ++ line_if None)) b false)
-      (sym (audited_by x y half.OfCommand now p same))
-      (halves_lead xs later a has o running w k is plainly track acts none
-      (acts_so a plainly acts (subst (λ (l : History). IsPlain x.plans a.empty l) same (plain_behind half.OfCommand p))) reads writes))
+      subst (λ (l : List ReportLine). Does w xs later l (audited y) false) (sym (lines_are x y acts None
+      (did.Half o.path x.store.device track) reads writes refl (acted_tells x y acts none same))) (rw (audited_by x y half.OfCommand now p same)
+      (halves_lead xs later a has o running w k is plainly track acts none (acts_so a plainly acts (subst (λ (l : History). IsPlain x.plans a.empty l) same
+      (plain_behind half.OfCommand p))) reads writes))
 
   pub told_by : all_losses y.history ≡ all_losses x.history → (w : EventLine) (answer : BackAnswer) (h : HalfWrite)
       (xs : List AuditedDevice) (later : List EventLine) (has : device_in xs x.store.device ≡ Some (audited x)) →
@@ -185,12 +163,8 @@ module _ (num : ℕ) (empty : PlainState) (x y : MarksDevice) (f : Follows num e
       let none = acts_lossless kept acts same in
       let last = is_last answer in
       let behind = back_half a answer in
-      subst (λ (l : List ReportLine). Does w xs later l (audited y) last)
-      (sym (lines_are x y acts None (did.Back x.store.device answer) reads writes refl (acted_tells x y acts none same)))
-      (subst (λ (b : AuditedDevice). Does w xs later
-      ((lines.Back x.store.device answer ∷ map (act_line x.store.device) acts) ++ (io_lines reads writes ++ line_if None)) b last)
-      (sym (audited_by x y behind now p same))
-      (tells_lead xs later a has w answer h k is plainly acts none
+      subst (λ (l : List ReportLine). Does w xs later l (audited y) last) (sym (lines_are x y acts None (did.Back x.store.device answer) reads writes refl
+      (acted_tells x y acts none same))) (rw (audited_by x y behind now p same) (tells_lead xs later a has w answer h k is plainly acts none
       (acts_so a plainly acts (subst (λ (l : History). IsPlain x.plans a.empty l) same (plain_behind behind p))) reads writes))
 
 -- A command
@@ -237,8 +211,7 @@ module _ (num : ℕ) (empty : PlainState) (x : MarksDevice) (f : Follows num emp
 
   pub command_leads : (o : OpenEntry) → x.history.running ≡ Some o → x.store.half ≡ None → (w : EventLine) (idle : Happened) →
       MayEnd x.store.device w half.Closed → Had (may_end_by ends.Stepped (command by_plain x)) (λ y end. ComesTo x y end w idle)
-  command_leads o running whole w idle k =
-      had_then (command_so o running whole) (λ y answer c. had_done (command_comes o running whole w idle k y answer c))
+  command_leads o running whole w idle k = had_then (command_so o running whole) (λ y answer c. had_done (command_comes o running whole w idle k y answer c))
 
 -- The second part of a write
 

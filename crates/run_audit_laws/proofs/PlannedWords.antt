@@ -43,12 +43,7 @@ each_gives (c ∷ ccws) facts zero = are_bytes c.given facts.0.given
 each_gives (c ∷ ccws) facts (suc i) = each_gives ccws facts.1 i
 
 few_words : (ccws : List Ccw) → IsProgram ccws → length ccws ≤ 256
-few_words ccws is = by_empty (length ccws == 0) (nat_lt 256 (length ccws)) refl is where
-  by_empty : (a b : Bool) → nat_lt 256 (length ccws) ≡ b →
-      (if a then Some (0, Empty) else if b then Some (256, TooLong) else fault_from ccws 0 ccws) ≡ None → length ccws ≤ 256
-  by_empty true b long none = absurd (cc)
-  by_empty false true long none = absurd (cc)
-  by_empty false false long none = let few = ltb-false 256 (length ccws) long in omega (arith, few)
+few_words ccws is = grind (arith, ltb-false)
 
 no_words : GoodWords []
 no_words = record { words = omega arith; counts = λ i. omega arith; gives = λ i. no_bytes }
@@ -63,11 +58,9 @@ AllGood plans = (j n : ℕ) → GoodWords (slice_index_or (slice_index_or plans 
 
 good_set : (plans : Plans) (i j : ℕ) (plan : List (List Ccw)) → AreGood plan → AreGood (slice_index_or plans j []) →
     AreGood (slice_index_or (slice_set plans i plan) j [])
-good_set [] i j plan one old = old
 good_set (p ∷ plans) zero zero plan one old = one
-good_set (p ∷ plans) zero (suc j) plan one old = old
-good_set (p ∷ plans) (suc i) zero plan one old = old
 good_set (p ∷ plans) (suc i) (suc j) plan one old = good_set plans i j plan one old
+good_set plans i j plan one old = old
 
 good_more : (plan : List (List Ccw)) (program : List Ccw) → AreGood plan → GoodWords program → AreGood (plan ++ program ∷ [])
 good_more [] program old one zero = one
@@ -76,8 +69,7 @@ good_more (p ∷ plan) program old one zero = old zero
 good_more (p ∷ plan) program old one (suc n) = good_more plan program (λ m. old (suc m)) one n
 
 good_if : (b : Bool) (plans more : Plans) → AllGood plans → AllGood more → AllGood (if b then more else plans)
-good_if true plans more h g = g
-good_if false plans more h g = h
+good_if b plans more h g = grind arith
 
 good_all : (devices : List DeviceLine) (d : ℕ) (plans : Plans) (ps : List PlannedProgram) → AllGood plans → Each (ProgramOk devices) ps →
     AllGood (planned_all d plans ps)
@@ -94,11 +86,7 @@ good_all devices d plans (p ∷ ps) h ok =
     ok.1
 
 good_none : AllGood no_plans
-good_none zero n = no_words
-good_none (suc zero) n = no_words
-good_none (suc (suc zero)) n = no_words
-good_none (suc (suc (suc zero))) n = no_words
-good_none (suc (suc (suc (suc j)))) n = no_words
+good_none = grind (arith, no_words)
 
 pub planned_words : (devices : List DeviceLine) (programs : List PlannedProgram) (d : ℕ) → Each (ProgramOk devices) programs → (path ordinal : ℕ) →
     GoodWords (program_of (plans_of programs d) path ordinal)
@@ -114,10 +102,7 @@ module _ (ccws : List Ccw) (good : GoodWords ccws) where
   among (c ∷ l) (suc i) is = let less = among l i is in omega (arith, less)
 
   target_small : (i : ℕ) → i < 65536 → target ccws i < 65536
-  target_small i less = by_test (is_transfer (ccw_at ccws i)) where
-    by_test : (b : Bool) → (if b then (ccw_at ccws i).count else i) < 65536
-    by_test true = good.counts i
-    by_test false = less
+  target_small i less = grind arith
 
   next_small : (i : ℕ) (modified : Bool) (j : ℕ) → next_ccw ccws i modified ≡ Some j → j < 65536
   next_small i modified j = by_test (is_chained (ccw_at ccws i)) refl modified where
@@ -135,18 +120,13 @@ module _ (ccws : List Ccw) (good : GoodWords ccws) where
     by_test false is m some = absurd (cc)
 
   goes_small : (i : ℕ) (o : Outcome) (j : ℕ) → goes_to ccws i o ≡ Some j → j < 65536
-  goes_small i o j = by_test (is_over (ccw_at ccws i) o) where
-    by_test : (b : Bool) → (if b then None else next_ccw ccws i (has_status_modifier o.ending.status)) ≡ Some j → j < 65536
-    by_test true some = absurd (cc)
-    by_test false some = next_small i (has_status_modifier o.ending.status) j some
+  goes_small i o j x4 = grind (arith, next_small)
 
   module _ (path : ℕ) (acts : List Acted) (state : PlainState) where
     more_small : (p : Part) (n : Option ℕ) → p.next ≡ n → (j : ℕ) → (one_more path ccws acts p).next ≡ Some j → j < 65536
     more_small p (Some i) is j some =
-        let o = (effect_on p.fixed p.state path p.stance (ccw_at ccws i)).outcome in
-        goes_small i o j (sym (more_next path ccws acts p i is) ∙ some)
-    more_small p None is j some =
-        let none : None ≡ Some j = sym (ap (λ (q : Part). q.next) (over_stays path ccws acts p is) ∙ is) ∙ some in absurd (cc)
+        goes_small i (effect_on p.fixed p.state path p.stance (ccw_at ccws i)).outcome j (sym (more_next path ccws acts p i is) ∙ some)
+    more_small p None is j some = let none : None ≡ Some j = sym (ap (λ (q : Part). q.next) (over_stays path ccws acts p is) ∙ is) ∙ some in absurd (cc)
 
     pub part_index : (k j : ℕ) → (part_of state path ccws acts k).next ≡ Some j → j < 65536
     unfolding part_of

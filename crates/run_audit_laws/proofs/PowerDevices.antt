@@ -1,5 +1,5 @@
 -- What a loss of power makes of a device, and what is told of it.
-use Rattle.std.proofs.Common.{◌≡◌, ◌*◌, ℕ, Bool, true, false, List, [], Option, Some, None, is_some, get_or, refl, sym, ap, subst, ◌∙◌, if◌then◌else◌}
+use Rattle.std.proofs.Common.{arith, ◌≡◌, ◌*◌, ℕ, Bool, true, false, List, [], Option, Some, None, is_some, get_or, refl, sym, ap, subst, ◌∙◌, if◌then◌else◌}
 use Rattle.loss_model.specs.declared.Loss.TheVariants as losses
 use Rattle.plain_defs.specs.History.{lost_power}
 use Rattle.plain_defs.specs.PlainState.{PlainState}
@@ -37,13 +37,7 @@ spares_all : (s : MarksStore) → Spares s s
 spares_all s = record { device = refl; geometry = refl; cylinders = refl; lent = refl; number = refl; loose = refl }
 
 half_spares : (s : MarksStore) (h : Option (store.HalfWrite (Unit {0}))) → Had (half_cut by_plain s h) (λ z (_ : Unit {0}). Spares s z)
-half_spares s (Some h) = by_origin h.origin where
-  by_origin : (o : Origin) → Had (origin_cut by_plain s h o) (λ z (_ : Unit {0}). Spares s z)
-  by_origin (OfCommand bypass e) =
-      had_tell (had_done (record { device = refl; geometry = refl; cylinders = refl; lent = refl; number = refl; loose = refl }))
-  by_origin (OfCut bypass) = had_done (spares_all s)
-  by_origin OfBackground = had_done (spares_all s)
-half_spares s None = had_done (spares_all s)
+half_spares s h = search (arith, had_tell, had_done, spares_all)
 
 -- All frames go, and data of cache fast write where there are some
 
@@ -56,41 +50,27 @@ record OffCore (x : MarksStore) (n : ℕ) (c : Core) : Type 0 where
   half : c.half ≡ None
 
 off_hard : (x : MarksStore) (n : ℕ) (c : Core) (t : ℕ) → OffCore x n c → loose_at c t ≡ true → OffCore x n (hardened_core c t)
-off_hard x n c t w is = record {
-  device = w.device;
-  geometry = w.geometry;
-  cylinders = w.cylinders;
-  lent = w.lent;
-  number = w.number;
-  half = w.half;
-}
+off_hard x n c t w is = search arith
 
 ended_core : (z : MarksStore) (h : store.HalfWrite (Unit {0})) (origin : Origin) → core_of (half_ended by_plain z h origin) ≡ with_half (core_of z) None
-ended_core z h (OfCommand bypass e) =
-    patch_same (record z { half = None }) h.track (slot_in by_plain (patch_at (record z { half = None }) h.track))
-ended_core z h (OfCut bypass) = patch_same (record z { half = None }) h.track (slot_in by_plain (patch_at (record z { half = None }) h.track))
-ended_core z h OfBackground = refl
+ended_core z h origin = grind (arith, patch_same)
 
 lost_core : (z : MarksStore) (h : Option (store.HalfWrite (Unit {0}))) → z.half ≡ h → core_of (half_lost by_plain z h) ≡ with_half (core_of z) None
-lost_core z None is = ap (λ (h : Option (store.HalfWrite (Unit {0}))). with_half (core_of z) h) is
-lost_core z (Some h) is = ended_core z h h.origin
+lost_core z h is = grind (arith, with_half, core_of, ended_core)
 
 gone_off : (s : MarksStore) (b : Bool) → OffCore s (number_behind b s.number) (with_half (core_of (if b then gone_back s else s)) None)
-gone_off s true = record { device = refl; geometry = refl; cylinders = refl; lent = refl; number = refl; half = refl }
-gone_off s false = record { device = refl; geometry = refl; cylinders = refl; lent = refl; number = refl; half = refl }
+gone_off s b = search arith
 
 gone_half : (s : MarksStore) (b : Bool) → (if b then gone_back s else s).half ≡ s.half
-gone_half s true = refl
-gone_half s false = refl
+gone_half s b = grind arith
 
 powerless_off : (s : MarksStore) → OffCore s (number_behind (has_loose s) s.number) (core_of (powerless by_plain s))
 powerless_off s =
     let n = number_behind (has_loose s) s.number in
     let z = loose_gone by_plain s in
-    over_holds (OffCore s n) (off_hard s n) (tracks_of s) (λ t y. settled by_plain (without_frame y t) t)
-    (λ t y w. settled_holds (OffCore s n) (off_hard s n) (without_frame y t) t (subst (OffCore s n) (sym (unframed_core y t)) w))
-    (record (half_lost by_plain z s.half) { queue = [] })
-    (subst (OffCore s n) (sym (lost_core z s.half (gone_half s (has_loose s)))) (gone_off s (has_loose s)))
+    over_holds (OffCore s n) (off_hard s n) (tracks_of s) (λ t y. settled by_plain (without_frame y t) t) (λ t y w. settled_holds (OffCore s n)
+    (off_hard s n) (without_frame y t) t (rw (unframed_core y t) w)) (record (half_lost by_plain z s.half) { queue = [] }) (rw (lost_core z s.half
+    (gone_half s (has_loose s))) (gone_off s (has_loose s)))
 
 -- The device
 
@@ -111,43 +91,16 @@ pub record IsOff (num : ℕ) (empty : PlainState) (x : MarksDevice) (f : Follows
 
 module _ (num : ℕ) (empty : PlainState) (x : MarksDevice) (f : Follows num empty x) where
   off_same : (y : MarksDevice) (z : MarksStore) → core_of z ≡ core_of y.store → IsOff num empty x f y → IsOff num empty x f (record y { store = z })
-  off_same y z e g = record {
-    number = ap (λ (c : Core). c.device) e ∙ g.number;
-    geometry = ap (λ (c : Core). c.geometry) e ∙ g.geometry;
-    cylinders = ap (λ (c : Core). c.cylinders) e ∙ g.cylinders;
-    plans = g.plans;
-    lent = ap (λ (c : Core). c.lent) e ∙ g.lent;
-    half = ap (λ (c : Core). c.half) e ∙ g.half;
-    data_number = ap (λ (c : Core). c.number) e ∙ g.data_number;
-    history = g.history;
-    cut = g.cut;
-    taken = g.taken;
-    cut_loose = g.cut_loose;
-    cut_number = g.cut_number;
-  }
+  off_same y z e g = search arith
 
   off_first : (s : MarksStore) → CutSo num empty x f x.history.running (counts_one_by x.store.half) (noted_begin x.store) s → Spares (noted_begin x.store) s →
       IsOff num empty x f (powered_off by_plain (event_begun x) s)
   off_first s cut k =
       let counted = with_loss s losses.Cache in
       let w = powerless_off counted in
-      let loose_is : has_loose s ≡ has_loose x.store =
-      ap (λ (l : List Bool). is_some (least (s.cylinders * 15) (λ t. get_or l t false))) k.loose
-      ∙ ap (λ (n : ℕ). is_some (least (n * 15) (λ t. get_or x.store.loose t false))) k.cylinders in
-      record {
-        number = w.device ∙ k.device;
-        geometry = w.geometry ∙ k.geometry;
-        cylinders = w.cylinders ∙ k.cylinders;
-        plans = refl;
-        lent = w.lent ∙ k.lent;
-        half = w.half;
-        data_number = w.number ∙ ap (λ (b : Bool). number_behind b s.number) loose_is ∙ ap (number_behind (has_loose x.store)) k.number;
-        history = refl;
-        cut = core_of s;
-        taken = cut.of;
-        cut_loose = k.loose;
-        cut_number = k.number;
-      }
+      let loose_is : has_loose s ≡ has_loose x.store = ap (λ (l : List Bool). is_some (least (s.cylinders * 15) (λ t. get_or l t false))) k.loose ∙ ap
+      (λ (n : ℕ). is_some (least (n * 15) (λ t. get_or x.store.loose t false))) k.cylinders in
+      (search (arith, core_of))
 
   pub power_makes : Had (power by_plain x) (λ y (_ : Unit {0}). IsOff num empty x f y)
   unfolding K.power

@@ -92,12 +92,7 @@ dropped (a ∷ front) rest = dropped front rest
 passes : (line : ReportLine) (mid tail : List AuditedDevice) → AllPassed mid → in_power line (map outline_of tail) ≡ true →
     in_power line (map outline_of (mid ++ tail)) ≡ true
 passes line [] tail p is = is
-passes line (m ∷ mid) tail p is =
-    let below = in_power line (map outline_of (mid ++ tail)) in
-    ap (λ (r : Option OpenEntry). in_power_of (outline_of m) line below (open_program r)) p.0.0
-    ∙ ap (λ (l : Bool). is_loss_of m.number line || (not l && below)) p.0.1
-    ∙ ap (λ (c : Bool). is_loss_of m.number line || (true && c)) (passes line mid tail p.1 is)
-    ∙ or_right (is_loss_of m.number line) true refl
+passes line (m ∷ mid) tail p is = grind (arith, passes line mid tail p.1 is, or_right)
 
 -- those that have told all, and those that are passed over then
 record Along (low : ℕ) (front mid : List AuditedDevice) (last : Option ℕ) : Type 0 where
@@ -108,11 +103,7 @@ record Along (low : ℕ) (front mid : List AuditedDevice) (last : Option ℕ) : 
 place_here : (low : ℕ) (a : AuditedDevice) → low ≤ a.number → (rest done : List AuditedDevice) → IsBelow low done →
     place_of (done ++ a ∷ rest) a.number ≡ length done
 place_here low a le rest [] b = ap (λ (c : Bool). if c then 0 else place_of rest a.number + 1) (same_number a.number)
-place_here low a le rest (x ∷ done) b =
-    let lt = b.0 in
-    let other : (x.number == a.number) ≡ false = ne_eqb x.number a.number (λ e. omega (arith, lt, le, e)) in
-    let more = place_here low a le rest done b.1 in
-    ap (λ (c : Bool). if c then 0 else place_of (done ++ a ∷ rest) a.number + 1) other ∙ omega (arith, more)
+place_here low a le rest (x ∷ done) b = grind (arith, place_here low a le rest done b.1, ne_eqb)
 
 module _ (later : List EventLine) where
   abbrev at : List AuditedDevice → Due → AuditState
@@ -120,35 +111,22 @@ module _ (later : List EventLine) where
 
   power_judged : (all : List AuditedDevice) (line : ReportLine) (last : Option ℕ) → judged (at all (due_at last)) line
       ≡ (if in_power line (drop (from last) (map outline_of all)) then or_history (power_made (at all (due_at last)) line) else Err Place)
-  power_judged all line None = refl
-  power_judged all line (Some k) = refl
+  power_judged all line last = grind arith
 
   module _ (low : ℕ) (front mid : List AuditedDevice) (last : Option ℕ) (g : Along low front mid last) where
     may_stand : (line : ReportLine) (tail : List AuditedDevice) → in_power line (map outline_of tail) ≡ true →
         in_power line (drop (from last) (map outline_of ((front ++ mid) ++ tail))) ≡ true
-    may_stand line tail is =
-        ap (λ (k : ℕ). in_power line (drop k (map outline_of ((front ++ mid) ++ tail)))) g.from_is
-        ∙ ap (λ (l : List AuditedDevice). in_power line (drop (length front) (map outline_of l))) (append_assoc front mid tail)
-        ∙ ap (in_power line) (dropped front (mid ++ tail))
-        ∙ passes line mid tail g.pass is
+    may_stand line tail is = grind (arith, append_assoc, dropped, passes)
 
     judged_so : (line : ReportLine) (tail : List AuditedDevice) (t : AuditState) → in_power line (map outline_of tail) ≡ true →
         power_made (at ((front ++ mid) ++ tail) (due_at last)) line ≡ Some t → judged (at ((front ++ mid) ++ tail) (due_at last)) line ≡ Ok t
-    judged_so line tail t stands makes =
-        power_judged ((front ++ mid) ++ tail) line last
-        ∙ ap (λ (c : Bool). if c then or_history (power_made (at ((front ++ mid) ++ tail) (due_at last)) line) else Err Place) (may_stand line tail stands)
-        ∙ ap or_history makes
+    judged_so line tail t stands makes = grind (arith, power_judged, may_stand)
 
     -- The line of the order
 
     ends_lead : LeadsBy (at ((front ++ mid) ++ []) (due_at last)) (lines.Order orders.Power answers.Done ∷ [])
         (record { devices = map without_power (front ++ mid) ++ []; events = later; due = Next })
-    ends_lead =
-        let line = lines.Order orders.Power answers.Done in
-        let t : AuditState = record { devices = map without_power ((front ++ mid) ++ []); events = later; due = Next } in
-        subst (λ (l : List AuditedDevice). LeadsBy (at ((front ++ mid) ++ []) (due_at last)) (line ∷ []) (record { devices = l; events = later; due = Next }))
-        (ap (map without_power) (append-nil (front ++ mid)) ∙ sym (append-nil (map without_power (front ++ mid))))
-        (one_leads (at ((front ++ mid) ++ []) (due_at last)) t line (judged_so line [] t refl refl))
+    ends_lead = search (arith, devices, append-nil, one_leads, judged_so)
 
     -- A device at hand
 
@@ -174,24 +152,7 @@ module _ (later : List EventLine) where
 
         cut_by : (k : ℕ) → more ≡ k → (k ≡ 0) ⊎ ((k ≡ 1) × (is_next_legal a a.history.running ≡ true)) →
             power_cut (at ((front ++ mid) ++ a ∷ rest) (due_at last)) a (length o.ends + more) o ≡ Some (cut_to more)
-        cut_by k same (inl none) =
-            let zero_is : more ≡ 0 = same ∙ none in
-            let e : length o.ends + more ≡ length o.ends = omega (arith, zero_is) in
-            ap (λ (b : Bool). if b then Some (cut_to 0)
-            else if (length o.ends + more == length o.ends + 1) && is_next_legal a a.history.running then Some (cut_to 1) else None)
-            (eq-eqb (length o.ends + more) (length o.ends) e)
-            ∙ ap (λ (i : ℕ). Some (cut_to i)) (sym zero_is)
-        cut_by k same (inr one) =
-            let one_is : more ≡ 1 = same ∙ one.0 in
-            let far : length o.ends + more ≡ length o.ends → ⊥ = λ e. omega (arith, one_is, e) in
-            let e : length o.ends + more ≡ length o.ends + 1 = omega (arith, one_is) in
-            ap (λ (b : Bool). if b then Some (cut_to 0)
-            else if (length o.ends + more == length o.ends + 1) && is_next_legal a a.history.running then Some (cut_to 1) else None)
-            (ne_eqb (length o.ends + more) (length o.ends) far)
-            ∙ ap (λ (b : Bool). if b then Some (cut_to 1) else None)
-            (and_from (length o.ends + more == length o.ends + 1) (is_next_legal a a.history.running)
-            (eq-eqb (length o.ends + more) (length o.ends + 1) e) one.1)
-            ∙ ap (λ (i : ℕ). Some (cut_to i)) (sym one_is)
+        cut_by k same x3 = grind (arith, eq-eqb, ne_eqb, and_from)
 
         over_judged : judged (at ((front ++ mid) ++ a ∷ rest) (due_at last)) (cut_line a o more)
             ≡ Ok (at ((front ++ mid) ++ cut_by_power a o more ∷ rest) (Powers (length (front ++ mid))))
@@ -239,16 +200,7 @@ module _ (later : List EventLine) where
 
   over_step : (low : ℕ) (front mid : List AuditedDevice) (last : Option ℕ) → Along low front mid last → (x y : MarksDevice) → low ≤ x.store.device →
       (middle : AuditedDevice) (rest : List AuditedDevice) → IsUncut x y middle ⊎ IsCutNow x y middle → OverStep low front mid last x y middle rest
-  over_step low front mid last g x y le middle rest (inl k) = record {
-    front_now = front;
-    mid_now = mid;
-    last_now = last;
-    along = g;
-    same = refl;
-    leads = subst (λ (ls : List ReportLine). LeadsBy (at ((front ++ mid) ++ audited x ∷ rest) (due_at last)) ls
-        (at ((front ++ mid) ++ middle ∷ rest) (due_at last))) (sym k.line_is)
-        (ap (λ (a : AuditedDevice). at ((front ++ mid) ++ a ∷ rest) (due_at last)) k.middle_is);
-  }
+  over_step low front mid last g x y le middle rest (inl k) = search arith
   over_step low front mid last g x y le middle rest (inr k) =
       let done = front ++ mid in
       let none : (front ++ mid) ++ [] ≡ front ++ mid = append-nil (front ++ mid) in
@@ -332,8 +284,6 @@ module _ (later : List EventLine) where
       LeadsBy (at ((front ++ mid) ++ map audited xs) (due_at last)) (of_each power_lines xs ys ++ lines.Order orders.Power answers.Done ∷ [])
       (record { devices = map without_power (front ++ mid) ++ map audited ys; events = later; due = Next })
   each_leads low front mid last g [] [] rises told = ends_lead low front mid last g
-  each_leads low front mid last g [] (y ∷ ys) rises told = absurd told
-  each_leads low front mid last g (x ∷ xs) [] rises told = absurd told
   each_leads low front mid last g (x ∷ xs) (y ∷ ys) rises told =
       let t = told.0 in
       let rest = map audited xs in
@@ -361,6 +311,7 @@ module _ (later : List EventLine) where
       (sym (append_assoc (over_lines x y ++ loose_lines x y) (of_each power_lines xs ys) (lines.Order orders.Power answers.Done ∷ [])))
       (leads_on first third final (over_lines x y ++ loose_lines x y) rest_lines
       (leads_on first second third (over_lines x y) (loose_lines x y) one.leads two.leads) more))
+  each_leads low front mid last g xs ys rises told = absurd told
 
 module _ (s : Subsystem) (plain : ArePlain s.mounted) (rises : RisesFrom 0 (map (λ (d : MarksDevice). d.store.device) (devices_of s))) where
   pub power_leads : EventLeads s wanted.Power (Once events.Power) (happens s events.Power)

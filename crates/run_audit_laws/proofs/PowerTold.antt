@@ -110,10 +110,7 @@ pub record IsOffTold (x y : MarksDevice) : Type 0 where
   pub loose : IsKept x y middle ⊎ IsGone x y middle
 
 next_differs : (n : ℕ) → next_number n ≡ n → ⊥
-next_differs n is = by_test (n == 65535) refl is where
-  by_test : (b : Bool) → (n == 65535) ≡ b → (if b then 0 else n + 1) ≡ n → ⊥
-  by_test true test same = let top : n ≡ 65535 = eqb-true n 65535 test in omega (arith, same, top)
-  by_test false test same = omega (arith, same)
+next_differs n is = grind (arith, eqb-true)
 
 module _ (x y : MarksDevice) (p : Plainly x) (f : Follows p.number p.empty y) (g : IsOff p.number p.empty x p.follows y) where
   abbrev more : ℕ
@@ -168,9 +165,7 @@ module _ (x y : MarksDevice) (p : Plainly x) (f : Follows p.number p.empty y) (g
   half_is = ap half_by g.half
 
   as_audited : (k : History) → y.history ≡ k → audited y ≡ record (audited x) { history = k; half = Closed }
-  as_audited k is =
-      audited_by x y Closed k
-      (record { number = g.number; geometry = g.geometry; cylinders = g.cylinders; plans = g.plans; lent = g.lent; half_is = half_is }) is
+  as_audited k is = grind (arith, audited_by, half_is)
 
   -- A program runs
 
@@ -188,12 +183,7 @@ module _ (x y : MarksDevice) (p : Plainly x) (f : Follows p.number p.empty y) (g
     items_are = ap (λ (k : History). new_items x.history k) history_is ∙ behind_more x.history.items (entry ∷ items.Power ∷ [])
 
     acts_are : acts_in y.history ≡ acts_in x.history
-    acts_are =
-        ap acts_in history_is
-        ∙ append-nil (acts_of_items (x.history.items ++ entry ∷ items.Power ∷ []))
-        ∙ acts_both x.history.items (entry ∷ items.Power ∷ [])
-        ∙ ap (λ (l : List Act). acts_of_items x.history.items ++ l) (append-nil (acts_of_entry o.acts))
-        ∙ same_program x.history (Some o) running
+    acts_are = grind (arith, history_is, append-nil, acts_both, same_program)
 
     abbrev cut : AuditedDevice
     cut = cut_by_power (audited x) o (counts_one_by x.store.half)
@@ -205,20 +195,14 @@ module _ (x y : MarksDevice) (p : Plainly x) (f : Follows p.number p.empty y) (g
     state_is = replay-append x.plans (audited x).empty x.history.items (entry ∷ [])
 
     taken_of : IsOf (taken (audited x).empty) g.cut
-    taken_of =
-        subst (λ (e : PlainState). IsOf (taken e) g.cut) p.base
-        (subst (λ (r : Option OpenEntry). IsOf (taken_by p.number p.empty x p.follows r (counts_one_by x.store.half)) g.cut) running g.taken)
+    taken_of = grind (arith, taken_by)
 
     taken_once : StandOnce (taken (audited x).empty).loose
     taken_once =
-        subst (λ (e : PlainState). StandOnce (taken e).loose) p.base
-        (let s = replay x.plans p.empty x.history.items in
-        let k = counts_one_by x.store.half in
-        let is_open = running_is_open x.plans p.empty x.history p.follows.stands.plain p.follows.stands.due o running in
-        part_once s o.path (program_of x.plans o.path o.ordinal) o.acts (length o.ends + k)
-        (cut_entry x.plans s x.history.items o is_open k (may p.number p.empty x p.follows o running)).acts
-        (items_once x.plans p.empty [] x.history.items
-        (subst (λ (e : PlainState). StandOnce e.loose) (sym p.base) tt) p.follows.stands.plain.legal))
+        rw (← p.base) (let s = replay x.plans p.empty x.history.items in let k = counts_one_by x.store.half in part_once s o.path
+        (program_of x.plans o.path o.ordinal) o.acts (length o.ends + k) (cut_entry x.plans s x.history.items o
+        (running_is_open x.plans p.empty x.history p.follows.stands.plain p.follows.stands.due o running) k
+        (may p.number p.empty x p.follows o running)).acts (items_once x.plans p.empty [] x.history.items (rw p.base tt) p.follows.stands.plain.legal))
 
     marked : Marked cut x.store
     marked = record {
@@ -242,15 +226,7 @@ module _ (x y : MarksDevice) (p : Plainly x) (f : Follows p.number p.empty y) (g
     started = started-append false x.history.items (entry ∷ [])
 
     behind_is : without_power cut ≡ audited y
-    behind_is =
-        ap (λ (b : Bool). record (audited x) {
-          history = if b then record { items = (x.history.items ++ entry ∷ []) ++ items.Power ∷ []; running = None; waiting = [] }
-              else cut_open x.history o (counts_one_by x.store.half);
-          half = Closed;
-        }) started
-        ∙ ap (λ (l : List Item). record (audited x) { history = record { items = l; running = None; waiting = [] }; half = Closed })
-        (append_assoc x.history.items (entry ∷ []) (items.Power ∷ []))
-        ∙ sym (as_audited now history_is)
+    behind_is = grind (arith, started, append_assoc, as_audited, history_is)
 
     running_told : IsOffTold x y
     running_told = record {
@@ -280,34 +256,11 @@ module _ (x y : MarksDevice) (p : Plainly x) (f : Follows p.number p.empty y) (g
 
     items_by : (b : Bool) → (over_of x.store.device (new_items x.history (after b)) ≡ None) × (has_power (new_items x.history (after b)) ≡ b)
         × (acts_in (after b) ≡ acts_in x.history)
-    items_by true =
-        let are = behind_more x.history.items (items.Power ∷ []) in (
-          ap (over_of x.store.device) are,
-          ap has_power are,
-          append-nil (acts_of_items (x.history.items ++ items.Power ∷ [])) ∙ acts_both x.history.items (items.Power ∷ [])
-              ∙ same_program x.history None none,
-        )
-    items_by false =
-        let are = none_behind x.history.items in (ap (over_of x.store.device) are, ap has_power are, refl)
+    items_by b = grind (arith, behind_more, append-nil, acts_both, same_program, none_behind)
 
     -- before the first start there are no such data
     firm : is_started false x.history.items ≡ false → has_loose x.store ≡ false
-    firm not_yet = by_loose (has_loose x.store) refl where
-      same_history : y.history ≡ x.history
-      same_history = stopped ∙ ap after not_yet
-
-      same_number : y.store.number ≡ x.store.number
-      same_number =
-          sym f.of.number
-          ∙ ap (λ (k : Plans). (plain_of k p.empty y.history).number) g.plans
-          ∙ ap (λ (k : History). (plain_of x.plans p.empty k).number) same_history
-          ∙ p.follows.of.number
-
-      by_loose : (b : Bool) → has_loose x.store ≡ b → has_loose x.store ≡ false
-      by_loose true some =
-          absurd (next_differs x.store.number
-          (ap (λ (b : Bool). number_behind b x.store.number) (sym some) ∙ sym g.data_number ∙ same_number))
-      by_loose false is = is
+    firm not_yet = grind (arith, stopped, next_differs)
 
     idle_told : IsOffTold x y
     idle_told =
@@ -328,8 +281,7 @@ module _ (x y : MarksDevice) (p : Plainly x) (f : Follows p.number p.empty y) (g
         }
 
   by_running : (r : Option OpenEntry) → x.history.running ≡ r → IsOffTold x y
-  by_running (Some o) is = running_told o is
-  by_running None is = idle_told is
+  by_running r is = grind (arith, running_told, idle_told)
 
   pub power_told_of : IsOffTold x y
   power_told_of = by_running x.history.running refl

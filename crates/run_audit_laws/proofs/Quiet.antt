@@ -1,5 +1,5 @@
 -- What an event tells beside what it did, by the items and the acts that came to a history.
-use Rattle.std.proofs.Common.{◌≡◌, ◌++◌, ◌+◌, ℕ, Bool, false, List, [], ◌∷◌, map, Some, length, refl, ap, ◌∙◌}
+use Rattle.std.proofs.Common.{arith, ◌≡◌, ◌++◌, ◌+◌, ℕ, Bool, false, List, [], ◌∷◌, map, Some, length, refl, ap, ◌∙◌}
 use Rattle.std.proofs.lemmas.List.{append-nil}
 use Rattle.plain_defs.specs.declared.journal.Act.{Act}
 use Rattle.plain_defs.specs.declared.journal.How.TheVariants.{Cut}
@@ -17,11 +17,7 @@ use Rattle.subsystem_defs.specs.Beside.{acts_in, acts_of_entry, acts_of_items, b
 -- no act came, and no loss of power
 pub none_loose : (b a : MarksDevice) (xs : List Item) → new_items b.history a.history ≡ xs → has_power xs ≡ false →
     acts_in a.history ≡ acts_in b.history → loose_lines b a ≡ []
-none_loose b a xs is power acts =
-    ap (λ (l : List Act). map loosed_line (map (loosed b.store.device)
-    (map (told_act b.store a.store) l ++ power_told b.store a.store (has_power (new_items b.history a.history)))))
-    (ap (λ (l : List Act). behind_first (length (acts_in b.history)) l) acts ∙ none_behind (acts_in b.history))
-    ∙ ap (λ (x : Bool). map loosed_line (map (loosed b.store.device) (power_told b.store a.store x))) (ap has_power is ∙ power)
+none_loose b a xs is power acts = grind (arith, none_behind)
 
 pub no_power : (paths : List ℕ) → has_power (resets_of paths) ≡ false
 no_power [] = refl
@@ -34,12 +30,7 @@ module _ (h : History) (o : OpenEntry) (more : ℕ) where
   cut_items = behind_more h.items (entry_of o (Cut (length o.ends + more)) ∷ items.Reset o.path ∷ resets_of h.waiting)
 
   pub cut_acts : h.running ≡ Some o → acts_in (cut_by h o more) ≡ acts_in h
-  cut_acts is =
-      append-nil (acts_of_items (h.items ++ entry_of o (Cut (length o.ends + more)) ∷ items.Reset o.path ∷ resets_of h.waiting))
-      ∙ acts_both h.items (entry_of o (Cut (length o.ends + more)) ∷ items.Reset o.path ∷ resets_of h.waiting)
-      ∙ ap (λ (l : List Act). acts_of_items h.items ++ (acts_of_entry o.acts ++ l)) (no_act h.waiting)
-      ∙ ap (λ (l : List Act). acts_of_items h.items ++ l) (append-nil (acts_of_entry o.acts))
-      ∙ same_program h (Some o) is
+  cut_acts is = grind (arith, append-nil, acts_both, no_act, same_program)
 
 -- a reset between programs
 pub reset_acts : (xs : List Item) (path : ℕ) → acts_of_items (xs ++ items.Reset path ∷ []) ≡ acts_of_items xs

@@ -67,46 +67,30 @@ module _ (k : ℕ) (some : 0 < k) where
   WalksOn w = EditsOn w.outcome.stance w.edit
 
   turned_on : (t : ℕ) → t < n → (on : Stance → Walked) (z : Stance) (turned : Turned) → On n z → WalksOn (on z) → WalksOn (walked t on z turned)
-  turned_on t lt on z (turns.Ended e) f rest = record { at = f; edited = tt }
-  turned_on t lt on z turns.Onward f rest = record { at = rest.at; edited = rest.edited }
-  turned_on t lt on z (turns.Edits edit e) f rest = record { at = f; edited = lt }
+  turned_on t lt on z turned f rest = search arith
 
   walk_on : (m : ℕ) (g : Geometry) (tracks : ℕ → Track) (start : Stance) (c : Ccw) (look : Look) (s : Stance) → On n start → SeeksOn n look → On n s →
       WalksOn (walk m g tracks start c look s)
   unfolding W.walk
   walk_on zero g tracks start c look s first seek on = record { at = record { track = first.track; extent = first.extent }; edited = tt }
-  walk_on (suc m) g tracks start c look s first seek on =
-      let l = look_on g (tracks s.track) s c look in
-      let f = look_leaves_on n s on (whole_cylinders k) g (tracks s.track) c look seek in
-      turned_on s.track on.track (walk m g tracks start c look) l.stance l.turned f (walk_on m g tracks start c look l.stance first seek f)
+  walk_on (suc m) g tracks start c look s first seek on = grind (arith, walk_on m g tracks start c look, look_leaves_on, whole_cylinders, turned_on)
 
   abbrev HasEdit : Effect → Type 0
   HasEdit e = EditsOn e.outcome.stance e.edit
 
   outcome_on : (s : Stance) (c : Ccw) (bytes : List ℕ) (act : LocalAct) → On n s → On n (act_outcome s c bytes act).stance
-  outcome_on s c bytes (acts.SetGroup function id) on = record { track = on.track; extent = on.extent }
-  outcome_on s c bytes acts.Sense on = record { track = on.track; extent = on.extent }
-  outcome_on s c bytes acts.Reserve on = record { track = on.track; extent = on.extent }
-  outcome_on s c bytes acts.Release on = record { track = on.track; extent = on.extent }
-  outcome_on s c bytes acts.Steal on = record { track = on.track; extent = on.extent }
-  outcome_on s c bytes acts.SenseGroup on = record { track = on.track; extent = on.extent }
-  outcome_on s c bytes acts.SenseId on = record { track = on.track; extent = on.extent }
+  outcome_on s c bytes act on = search arith
 
   acted_edits : (f : Fixed) (paths : PathsState) (path : ℕ) (s : Stance) (c : Ccw) (act : LocalAct) (o : Option GroupFault) → On n s →
       HasEdit (acted_by f paths path s c act o)
-  acted_edits f paths path s c act (Some fault) on = record { at = record { track = on.track; extent = on.extent }; edited = tt }
-  acted_edits f paths path s c act None on = record { at = outcome_on s c _ act on; edited = tt }
+  acted_edits f paths path s c act o on = search (arith, outcome_on)
 
   by_opening : (f : Fixed) (paths : PathsState) (tracks : ℕ → Track) (path : ℕ) (start : Stance) (c : Ccw) (z : Stance) (o : Opening) → On n start →
       Opens n z o → HasEdit (effect_by f paths tracks path start c z o)
-  by_opening f paths tracks path start c z (openings.Over e) first on = record { at = on; edited = tt }
-  by_opening f paths tracks path start c z (openings.Looks look) first on =
-      let w = walk_on (f.cylinders * 15) f.geometry tracks start c look z first on.1 on.0 in record { at = w.at; edited = w.edited }
-  by_opening f paths tracks path start c z (openings.Asks act) first on = acted_edits f paths path start c act (act_fault paths path act) first
+  by_opening f paths tracks path start c z o first on = search (arith, walk_on, acted_edits)
 
   effect_edits : (f : Fixed) → f.cylinders ≡ k → (state : PlainState) (path : ℕ) (s : Stance) (c : Ccw) → On n s → HasEdit (effect_on f state path s c)
-  effect_edits f same state path s c on =
-      by_opening f state.paths _ path s c (opening_of f s c).stance (opening_of f s c).opening on (opening_is_on f s c k same on some)
+  effect_edits f same state path s c on = grind (arith, by_opening, opening_is_on)
 
   -- Acts
 
@@ -120,17 +104,11 @@ module _ (k : ℕ) (some : 0 < k) where
 
   loose_below : (l : List LooseTrack) (t : ℕ) → LooseOn l → is_loose_in l t ≡ true → t < n
   loose_below [] t on is = absurd (cc)
-  loose_below (x ∷ l) t on is = by_test (x.track == t) refl is (loose_below l t on.1) where
-    by_test : (b : Bool) → (x.track == t) ≡ b → cond b true (is_loose_in l t) ≡ true → (is_loose_in l t ≡ true → t < n) → t < n
-    by_test true same is more = subst (λ (q : ℕ). q < n) (eqb-true x.track t same) on.0
-    by_test false other is more = more is
+  loose_below (x ∷ l) t on is = grind (arith, loose_below l t on.1)
 
   fewer_loose : (t : ℕ) (l : List LooseTrack) → LooseOn l → LooseOn (without t l)
   fewer_loose t [] on = tt
-  fewer_loose t (x ∷ l) on = by_test (x.track == t) (fewer_loose t l on.1) where
-    by_test : (b : Bool) → LooseOn (without t l) → LooseOn (cond (not b) (x ∷ without t l) (without t l))
-    by_test true more = more
-    by_test false more = (on.0, more)
+  fewer_loose t (x ∷ l) on = grind (arith, fewer_loose t l on.1)
 
   record StateOn (s : PlainState) : Type 0 where
     cylinders : s.cylinders ≡ k
@@ -143,19 +121,10 @@ module _ (k : ℕ) (some : 0 < k) where
   acts_on : (acts : List Act) (s : PlainState) (edited : Option ℕ) → StateOn s → IfSome edited (λ t. t < n) → AreActs s edited acts →
       ActsOn acts (acts_done s acts)
   acts_on [] s edited on at are = record { each = tt; state = on }
-  acts_on (Loosen t ∷ []) s edited on at are =
-      let lt : t < n = subst (λ (o : Option ℕ). IfSome o (λ q. q < n)) are.1 at in
-      record {
-        each = (lt, tt);
-        state = record { cylinders = on.cylinders; loose = each_append (λ (x : LooseTrack). x.track < n) s.loose _ on.loose (lt, tt) };
-      }
+  acts_on (Loosen t ∷ []) s edited on at are = search (arith, each_append)
   acts_on (Loosen t ∷ act ∷ acts) s edited on at are = absurd are
-  acts_on (Harden t ∷ acts) s edited on at are =
-      let rest = acts_on acts (act_done s (Harden t)) edited (record { cylinders = on.cylinders; loose = fewer_loose t s.loose on.loose }) at are.1 in
-      record { each = (loose_below s.loose t on.loose are.0, rest.each); state = rest.state }
-  acts_on (CfwLost ∷ acts) s edited on at are =
-      let rest = acts_on acts (act_done s CfwLost) edited (record { cylinders = on.cylinders; loose = tt }) at are.1 in
-      record { each = (tt, rest.each); state = rest.state }
+  acts_on (Harden t ∷ acts) s edited on at are = search (arith, acts_on acts (act_done s (Harden t)) edited, fewer_loose, loose_below)
+  acts_on (CfwLost ∷ acts) s edited on at are = search (arith, acts_on acts (act_done s CfwLost) edited)
 
   -- A program
 
@@ -165,33 +134,21 @@ module _ (k : ℕ) (some : 0 < k) where
 
   module _ (state : PlainState) (on : StateOn state) (path : ℕ) (ccws : List Ccw) (acts : List Acted) where
     beside_place : (p : Part) → PlaceOn p → PlaceOn (acts_made acts p)
-    beside_place p f =
-        let b = acted_beside acts p in
-        record {
-          fixed = ap (λ (x : Fixed). x.cylinders) b.fixed ∙ f.fixed;
-          at = subst (On n) (sym b.stance) f.at;
-        }
+    beside_place p f = let b = acted_beside acts p in record { fixed = ap (λ (x : Fixed). x.cylinders) b.fixed ∙ f.fixed; at = rw b.stance f.at }
 
     stepped_place : (p : Part) (next : Option ℕ) → PlaceOn p → PlaceOn (stepped_at path ccws p next)
-    stepped_place p (Some i) f =
-        record { fixed = f.fixed; at = (effect_edits p.fixed f.fixed p.state path p.stance (ccw_at ccws i) f.at).at }
-    stepped_place p None f = f
+    stepped_place p next f = search (arith, effect_edits)
 
     part_place : (j : ℕ) → PlaceOn (part_of state path ccws acts j)
     unfolding G.part_of
-    part_place zero =
-        beside_place (first_part state path ccws) (record { fixed = on.cylinders; at = record { track = omega (arith, some); extent = tt } })
-    part_place (suc j) =
-        let p = part_of state path ccws acts j in
-        beside_place (command_run path ccws p) (stepped_place p p.next (part_place j))
+    part_place zero = beside_place (first_part state path ccws) (search arith)
+    part_place (suc j) = let p = part_of state path ccws acts j in beside_place (command_run path ccws p) (stepped_place p p.next (part_place j))
 
     edit_on : (p : Part) (next : Option ℕ) → PlaceOn p → IfSome (edit_at path ccws p next) (λ e. e.track < n)
-    edit_on p (Some i) f = (effect_edits p.fixed f.fixed p.state path p.stance (ccw_at ccws i) f.at).edited
-    edit_on p None f = tt
+    edit_on p next f = grind (arith, effect_edits)
 
     tracked : (o : Option TrackEdit) → IfSome o (λ e. e.track < n) → IfSome (track_of o) (λ t. t < n)
-    tracked (Some e) lt = lt
-    tracked None lt = tt
+    tracked o lt = grind arith
 
     record ActsAt (j : ℕ) : Type 0 where
       edited : Option ℕ
@@ -218,14 +175,11 @@ module _ (k : ℕ) (some : 0 < k) where
             (acts_on (acts_at acts j) b.state a.edited s a.below a.are).state)
 
     stepped_state : (p : Part) (next : Option ℕ) → StateOn p.state → StateOn (stepped_at path ccws p next).state
-    stepped_state p (Some i) s = record { cylinders = s.cylinders; loose = s.loose }
-    stepped_state p None s = s
+    stepped_state p next s = search arith
 
     bare_state : (j : ℕ) → ((i : ℕ) → i < j → ActsAt i) → StateOn (bare_part state path ccws acts j).state
     bare_state zero a = record { cylinders = on.cylinders; loose = on.loose }
-    bare_state (suc j) a =
-        let p = part_of state path ccws acts j in
-        stepped_state p p.next (part_state j (a j (omega arith)) (bare_state j (λ i lt. a i (omega (arith, lt)))))
+    bare_state (suc j) a = grind (arith, bare_state j, stepped_state, part_state)
 
     module _ (m : ℕ) (h : HasActs state path ccws acts m) where
       acts_below : (j : ℕ) → j < m → ActsAt j
@@ -240,8 +194,7 @@ module _ (k : ℕ) (some : 0 < k) where
       last_acts = record { edited = None; below = tt; are = h.last }
 
       at_place : (j : ℕ) → (j < m) ⊎ (m ≤ j) → j ≤ m → ActsAt j
-      at_place j (inl lt) le = acts_below j lt
-      at_place j (inr more) le = let same : m ≡ j = omega (arith, more, le) in subst ActsAt same last_acts
+      at_place j x2 le = grind (arith, acts_below, last_acts)
 
       each_at : (j : ℕ) → j ≤ m → Each ActOn (acts_at acts j)
       each_at j le =
@@ -253,35 +206,25 @@ module _ (k : ℕ) (some : 0 < k) where
       behind_program = part_state m last_acts (bare_state m acts_below)
 
   later_at : (a : Acted) (acts : List Acted) (j : ℕ) → Each ActOn (acts_at (a ∷ acts) j) → Each ActOn (acts_at acts j)
-  later_at a acts j = by_test (a.after == j) where
-    by_test : (b : Bool) → Each ActOn (cond b (a.act ∷ acts_at acts j) (acts_at acts j)) → Each ActOn (acts_at acts j)
-    by_test true all = all.1
-    by_test false all = all
+  later_at a acts j x4 = grind arith
 
   first_at : (a : Acted) (acts : List Acted) → Each ActOn (acts_at (a ∷ acts) a.after) → ActOn a.act
-  first_at a acts all =
-      (subst (λ (b : Bool). Each ActOn (cond b (a.act ∷ acts_at acts a.after) (acts_at acts a.after))) (eq-eqb a.after a.after refl) all).0
+  first_at a acts all = (subst (λ (b : Bool). Each ActOn (cond b (a.act ∷ acts_at acts a.after) (acts_at acts a.after))) (eq-eqb a.after a.after refl) all).0
 
   entry_on : (m from stop : ℕ) (acts : List Acted) → stop ≤ suc m → AreInOrder from stop acts → ((j : ℕ) → j ≤ m → Each ActOn (acts_at acts j)) →
       Each ActOn (acts_of_entry acts)
   entry_on m from stop [] few order all = tt
   entry_on m from stop (a ∷ acts) few order all =
-      let lt = order.1 in (
-        first_at a acts (all a.after (omega (arith, few, lt))),
-        entry_on m a.after stop acts few order.2 (λ j le. later_at a acts j (all j le)),
-      )
+      (first_at a acts (all a.after (omega (arith, few, order.1))), entry_on m a.after stop acts few order.2 (λ j le. later_at a acts j (all j le)))
 
   -- A history
 
   module _ (plans : Plans) where
     few_stops : (s : PlainState) (e : ProgramEntry) (how : How) → HasEnds plans s e how → acts_stop how e.ends ≤ suc (effects_of how e.ends)
-    few_stops s e hows.Full h = omega arith
-    few_stops s e (hows.Cut effect) h = let least = h.least in omega (arith, least)
-    few_stops s e hows.Checked h = omega arith
+    few_stops s e how h = grind arith
 
     power_on : (s : PlainState) (l : List LooseTrack) → StateOn s → StateOn (lost_by_power s l)
-    power_on s [] on = on
-    power_on s (x ∷ l) on = record { cylinders = on.cylinders; loose = tt }
+    power_on s l on = search arith
 
     item_on : (s : PlainState) (earlier : List Item) (x : Item) (later : List Item) → StateOn s → IsLegalItem plans s earlier x later →
         ActsOn (acts_of_item x) (replay_item plans s x)
@@ -296,8 +239,7 @@ module _ (k : ℕ) (some : 0 < k) where
     item_on s earlier (items.Reset path) later on l = record { each = tt; state = record { cylinders = on.cylinders; loose = on.loose } }
     item_on s earlier items.Fresh later on l = record { each = tt; state = record { cylinders = on.cylinders; loose = tt } }
     item_on s earlier (items.Act act) later on l = acts_on (act ∷ []) s None on tt l
-    item_on s earlier items.Power later on l =
-        let behind = power_on s s.loose on in record { each = tt; state = record { cylinders = behind.cylinders; loose = behind.loose } }
+    item_on s earlier items.Power later on l = search (arith, power_on)
 
     items_on : (s : PlainState) (earlier xs : List Item) → StateOn s → IsLegalFrom plans s earlier xs → ActsOn (acts_of_items xs) (replay plans s xs)
     items_on s earlier [] on l = record { each = tt; state = on }
@@ -313,7 +255,4 @@ module _ (k : ℕ) (some : 0 < k) where
     running_on s xs None on at = tt
 
     pub history_on : (empty : PlainState) (h : History) → empty.cylinders ≡ k → empty.loose ≡ [] → IsPlain plans empty h → Each ActOn (acts_in h)
-    history_on empty h same none plain =
-        let first = items_on empty [] h.items (record { cylinders = same; loose = subst LooseOn (sym none) tt }) plain.legal in
-        each_append ActOn (acts_of_items h.items) (acts_running h.running) first.each
-        (running_on (replay plans empty h.items) h.items h.running first.state plain.at)
+    history_on empty h same none plain = search (arith, items_on, each_append, running_on)

@@ -73,12 +73,10 @@ check_in s is = subst (λ (x : UnitStatus). x.0 < 256) (sym is) (omega arith)
 -- By the rules
 
 fits_status : (c : Ccw) (e : Ending) (o : Option Sense) → FitsBy c e o → e.status.0 < 256
-fits_status c e (Some sense) h = check_in e.status h.0
-fits_status c e None h = h.0.1
+fits_status c e o h = grind (arith, check_in)
 
 fits_residual : (c : Ccw) (e : Ending) (o : Option Sense) → c.count < 65536 → FitsBy c e o → e.residual < 65536
-fits_residual c e (Some sense) few h = subst (λ (n : ℕ). n < 65536) (sym h.1) few
-fits_residual c e None few h = let less = h.1 in omega (arith, less, few)
+fits_residual c e o few h = grind arith
 
 rule_in : (i : ℕ) (f : Fixed) (state : PlainState) (path : ℕ) (s : Stance) (c : Ccw) → i < 65536 → c.count < 65536 → GivesBytes c → KeepsBytes state →
     EndIn (end_at_word i c (effect_on f state path s c).outcome)
@@ -108,13 +106,7 @@ plain_in path ccws p (Some i) e good keeps index is =
 plain_in path ccws p None e good keeps index is = absurd (cc)
 
 check_end_in : (ccws : List Ccw) (i : ℕ) (sense : Sense) → GoodWords ccws → i < 65536 → IsCheckSense sense → EndIn (check_end ccws i sense)
-check_end_in ccws i sense good index is = record {
-  index = index;
-  residual = good.counts i;
-  status = omega arith;
-  sent = as_bytes [] no_bytes;
-  sense = check_sense_in sense is;
-}
+check_end_in ccws i sense good index is = search (arith, as_bytes, no_bytes, check_sense_in)
 
 -- By a device's history
 
@@ -139,9 +131,8 @@ module _ (num : ℕ) (empty : PlainState) (x y : MarksDevice) (f : Follows num e
 
   ended_in : (e : CommandEnd) (now : History) → HasEnded x.history e now → y.history ≡ now → EndIn e
   ended_in e now (ended_so acts) same =
-      let none = none_lost x.history y.history acts (ap acts_in same ∙ ended_acts (all_acted x.history acts) e ∙ all_acts acts x.history) kept in
-      let so = ends_so (audited x) (plainly num empty x y f base g) o running e acts none (plain_here now same) in
-      plain_here_in e (ends_plain (audited x) o e acts so)
+      plain_here_in e (ends_plain (audited x) o e acts (ends_so (audited x) (plainly num empty x y f base g) o running e acts
+      (none_lost x.history y.history acts (ap acts_in same ∙ ended_acts (all_acted x.history acts) e ∙ all_acts acts x.history) kept) (plain_here now same)))
   ended_in e now (checked_so acts) same =
       let so = checks_so (audited x) (plainly num empty x y f base g) acts o running e (plain_here now same) in
       subst EndIn (sym so.is_so)
@@ -157,8 +148,7 @@ module _ (x : MarksDevice) (p : Plainly x) (words : (path ordinal : ℕ) → Goo
       AnswerIn (end_with ends.Stepped answer)
   command_so_in o running y (Some (stepped.Ended e)) c =
       ended_in p.number p.empty x y p.follows p.base c.follows o running c.kept c.left words e y.history c.told refl
-  command_so_in o running y (Some (stepped.Half t)) c = tt
-  command_so_in o running y None c = tt
+  command_so_in o running y answer c = tt
 
   pub command_in : (o : OpenEntry) → x.history.running ≡ Some o → x.store.half ≡ None →
       Had (may_end_by ends.Stepped (command by_plain x)) (λ y end. IfSome end EventIn)

@@ -22,8 +22,7 @@ pub record Ranged (d : MarksDevice) : Type 0 where
   pub owner : IfSome d.paths.owner IsOwner
 
 found_ranged : (b : Bool) (d : MarksDevice) (o : Option MarksDevice) → Ranged d → IfSome o Ranged → IfSome (if b then Some d else o) Ranged
-found_ranged true d o r rest = r
-found_ranged false d o r rest = rest
+found_ranged b d o r rest = grind arith
 
 pub device_ranged : (ds : List MarksDevice) (n : ℕ) → All Ranged ds → IfSome (device_in ds n) Ranged
 device_ranged [] n all = tt

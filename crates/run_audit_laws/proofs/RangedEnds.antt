@@ -64,20 +64,13 @@ module _ (P : EventEnd → Type 0) (done : P ends.Done) (idle : P ends.Idle) whe
 
   asks_fine : (s : Subsystem) (n : ℕ) (o : Option Mounted) (talk : Talk (Option EventEnd)) →
       ((t : Told) → P (told_end (T.hold true talk t).answer)) → P (asks s n o talk).end
-  asks_fine s n (Some m) talk h = h _
-  asks_fine s n None talk h = idle
+  asks_fine s n o talk h = grind arith
 
   pub fine_end : (s : Subsystem) (x : MarksDeed) → Fine x → P (happens_by s x).end
-  fine_end s (Ends end) h = h
-  fine_end s (Becomes d end) h = h
-  fine_end s (Asks d talk) h = asks_fine s d.store.device (mounted_in s.mounted d.store.device) talk h
-  fine_end s (Sweeps pool f) h = done
-  fine_end s (Repairs pool) h = done
-  fine_end s (Lends x y) h = done
+  fine_end s x h = grind (arith, asks_fine)
 
   pub on_fine : (o : Option MarksDevice) (f : MarksDevice → MarksDeed) → IfSome o Ranged → ((d : MarksDevice) → Ranged d → Fine (f d)) → Fine (on_device o f)
-  on_fine (Some d) f r h = h d r
-  on_fine None f r h = done
+  on_fine o f r h = grind arith
 
 -- memory is had: an answer is handed on
 handed_on : {X : Type 0} (i : Talk X) (f : X → EventEnd) (t : Told) →
@@ -102,8 +95,7 @@ abbrev CauseIn : Option OrderFault → Type 0
 CauseIn o = IfSome o FaultIn
 
 where_in : (b : Bool) (f : OrderFault) → FaultIn f → CauseIn (where_so b f)
-where_in true f h = h
-where_in false f h = tt
+where_in b f h = grind arith
 
 -- the first of some causes
 record FirstIn (l : List (Option OrderFault)) : Type 0 where
@@ -113,47 +105,32 @@ none_first : FirstIn []
 none_first = record { first = tt }
 
 first_then : {l : List (Option OrderFault)} (o : Option OrderFault) → CauseIn o → FirstIn l → FirstIn (o ∷ l)
-first_then (Some f) h rest = record { first = h }
-first_then None h rest = record { first = rest.first }
+first_then o h rest = search arith
 
 where_first : {l : List (Option OrderFault)} (b : Bool) (f : OrderFault) → FaultIn f → FirstIn l → FirstIn (where_so b f ∷ l)
 where_first b f h rest = first_then (where_so b f) (where_in b f h) rest
 
 lent_in : (o : Option ℕ) → IfSome o (λ n. n < 16) → CauseIn (lent_by o)
-lent_in (Some to) h = h
-lent_in None h = tt
+lent_in o h = grind arith
 
 active_in : (d : MarksDevice) → Ranged d → (r : Option OpenEntry) → IfSome r (IsOpen d.plans (replay d.plans (empty_of d) d.history.items) d.history.items) →
     CauseIn (active_by r)
-active_in d k (Some o) h = record { least = h.start.least; most = h.start.most }
-active_in d k None h = tt
+active_in d k r h = search arith
 
 level_in : (n k : ℕ) → k ≤ 64 → n ≤ k * 15 → CauseIn (not_level_by n)
 level_in n k most few = where_in (not (n == 0)) (faults.NotLevel n) (omega (arith, most, few))
 
 pair_in : (x y : MarksDevice) → Ranged x → Ranged y → CauseIn (pair_fault x y)
 unfolding R.pair_fault
-pair_in x y r s =
-    (where_first (x.store.device == y.store.device) faults.Same tt (first_then (lent_by x.store.lent) (lent_in x.store.lent r.sized.lent)
-    (first_then (lent_by y.store.lent) (lent_in y.store.lent s.sized.lent) (where_first x.store.paired faults.Paired tt
-    (where_first y.store.paired faults.Paired tt (first_then (active_by x.history.running) (active_in x r x.history.running r.plain.at)
-    (first_then (active_by y.history.running) (active_in y s y.history.running s.plain.at)
-    (where_first (not (is_alike x.store y.store)) faults.Geometry tt (where_first (not x.store.a.up) faults.Down tt
-    (where_first (not y.store.a.up) faults.Down tt none_first)))))))))).first
+pair_in x y r s = grind (arith, where_first, first_then, lent_in, active_in, none_first)
 
 unpair_in : (x : MarksDevice) → Ranged x → CauseIn (unpair_fault x)
 unfolding R.unpair_fault
-unpair_in x r =
-    (where_first (not x.store.paired) faults.Unpaired tt (first_then (active_by x.history.running) (active_in x r x.history.running r.plain.at)
-    (where_first (is_some x.store.half) faults.Half tt (where_first (not x.store.a.up) faults.Down tt
-    (first_then (not_level_by (stale_count x.store))
-    (level_in (stale_count x.store) x.store.cylinders r.sized.cylinders (few_marked (tracks_of x.store) (stale_at x.store.a))) none_first))))).first
+unpair_in x r = grind (arith, where_first, first_then, active_in, is_some, level_in, few_marked, none_first)
 
 suspend_in : (x : MarksDevice) → CauseIn (suspend_fault x)
 unfolding R.suspend_fault
-suspend_in x =
-    (where_first (not x.store.paired) faults.Unpaired tt (where_first (is_some x.store.half) faults.Half tt
-    (where_first (not (x.store.a.up && x.store.b.up)) faults.Down tt (where_first x.store.held faults.Held tt none_first)))).first
+suspend_in x = grind (arith, where_first, is_some, none_first)
 
 resume_in : (x : MarksDevice) → CauseIn (resume_fault x)
 unfolding R.resume_fault
@@ -161,31 +138,24 @@ resume_in x = (where_first (not x.store.paired) faults.Unpaired tt (where_first 
 
 fail_in : (x : MarksDevice) (side : Side) → Ranged x → CauseIn (fail_fault x side)
 unfolding R.fail_fault
-fail_in x side r =
-    (first_then (lent_by x.store.lent) (lent_in x.store.lent r.sized.lent) (where_first (not (has_side x.store side)) faults.NoSide tt
-    (where_first (not (side_of x.store side).up) faults.Down tt none_first))).first
+fail_in x side r = grind (arith, first_then, lent_in, where_first, none_first)
 
 replace_in : (x : MarksDevice) (side : Side) → Ranged x → CauseIn (replace_fault x side)
 unfolding R.replace_fault
-replace_in x side r =
-    (first_then (lent_by x.store.lent) (lent_in x.store.lent r.sized.lent) (where_first (not (has_side x.store side)) faults.NoSide tt
-    (where_first (side_of x.store side).up faults.Up tt (where_first (is_some x.store.half) faults.Half tt none_first)))).first
+replace_in x side r = grind (arith, first_then, lent_in, where_first, is_some, none_first)
 
 abbrev FineOrder : MarksDeed → Type 0
 FineOrder x = Fine OrderIn tt tt x
 
 ordered : (o : Option OrderFault) (x : MarksDeed) → CauseIn o → FineOrder x → FineOrder (order o x)
-ordered (Some f) x h k = h
-ordered None x h k = k
+ordered o x h k = grind arith
 
 lost_in : (d : MarksDevice) (side : Side) (t : Told) →
     OrderIn (told_end (T.hold true (and_then (lose by_plain d (losses.Side side)) (λ z a. Done z (Some (ends_done a)))) t).answer)
-lost_in d side t =
-    subst (λ (o : Option EventEnd). OrderIn (told_end o)) (sym (handed_on (lose by_plain d (losses.Side side)) ends_done t)) tt
+lost_in d side t = rw (handed_on (lose by_plain d (losses.Side side)) ends_done t) tt
 
 down_in : (b : Bool) (pool : Pool) (f : MarksDevice → Talk (Unit {0})) → FineOrder (E.order_if_not b faults.Down (Sweeps pool f))
-down_in true pool f = tt
-down_in false pool f = tt
+down_in b pool f = grind arith
 
 -- A start
 
@@ -200,30 +170,17 @@ module _ (d : MarksDevice) (k : Ranged d) (path : ℕ) where
   Refused o = IfSome o (λ f. StartIn (ends.NotStarted f))
 
   reserved_in : (o : Option Owner) → IfSome o IsOwner → Refused (reserved_fault d o)
-  reserved_in (Some owner) h = by_test (is_shut d) where
-    by_test : (b : Bool) → StartIn (ends.NotStarted (if b then refusals.Shut owner else refusals.Reserved owner))
-    by_test true = h
-    by_test false = h
-  reserved_in None h = tt
+  reserved_in o h = grind arith
 
   idle_in : Refused (idle_fault d path)
-  idle_in = by_left (left d path == 0) where
-    by_out : (b : Bool) → Refused (if b then reserved_fault d d.paths.owner else None)
-    by_out true = reserved_in d.paths.owner k.owner
-    by_out false = tt
-
-    by_left : (b : Bool) → Refused (if b then Some refusals.PlanDone else if keeps_out d path then reserved_fault d d.paths.owner else None)
-    by_left true = tt
-    by_left false = by_out (keeps_out d path)
+  idle_in = grind (arith, reserved_in)
 
   running_in : (r : Option OpenEntry) → IfSome r (IsOpen d.plans (replay d.plans (empty_of d) d.history.items) d.history.items) →
       Refused (running_fault d path r)
-  running_in (Some o) h = record { least = h.start.least; most = h.start.most }
-  running_in None h = idle_in
+  running_in r h = search (arith, idle_in)
 
   lent_start : (o : Option ℕ) → IfSome o (λ n. n < 16) → Refused (fault_by d path o)
-  lent_start (Some of) h = h
-  lent_start None h = running_in d.history.running k.plain.at
+  lent_start o h = grind (arith, running_in)
 
   fault_in : Refused (start_fault d path)
   unfolding S.start_fault
@@ -234,30 +191,23 @@ module _ (d : MarksDevice) (k : Ranged d) (path : ℕ) where
 
   left_if : (b : Bool) → (left d path == 0) ≡ b → (if b then Some refusals.PlanDone else if keeps_out d path then reserved_fault d d.paths.owner else None) ≡ None →
       next_ordinal d path ≤ length (planned d.plans path)
-  left_if true is none = absurd (cc)
-  left_if false is none = some_left (length (planned d.plans path)) (started_count d.history path) (eqb-false (left d path) 0 is)
+  left_if b is none = grind (arith, some_left, eqb-false)
 
   running_left : (r : Option OpenEntry) → running_fault d path r ≡ None → next_ordinal d path ≤ length (planned d.plans path)
-  running_left (Some o) none = absurd (cc)
-  running_left None none = left_if (left d path == 0) refl none
+  running_left r none = grind (arith, left_if)
 
   lent_left : (o : Option ℕ) → fault_by d path o ≡ None → next_ordinal d path ≤ length (planned d.plans path)
-  lent_left (Some of) none = absurd (cc)
-  lent_left None none = running_left d.history.running none
+  lent_left o none = grind (arith, running_left)
 
   planned_next : start_fault d path ≡ None → next_ordinal d path ≤ length (planned d.plans path)
   unfolding S.start_fault
   planned_next none = lent_left d.store.lent none
 
   start_by_in : (o : Option StartFault) → start_fault d path ≡ o → Refused o → FineStart (start_by d path o)
-  start_by_in (Some f) is h = h
-  start_by_in None is h = few_programs (next_ordinal d path) (length (planned d.plans path)) (planned_next is) (k.sized.plans path)
+  start_by_in o is h = grind (arith, few_programs, planned_next)
 
   starts_in : FineStart (starts path d)
-  starts_in = by_own (is_path_of d.history.running path) where
-    by_own : (b : Bool) → FineStart (if b then Ends ends.Running else start_by d path (start_fault d path))
-    by_own true = tt
-    by_own false = start_by_in (start_fault d path) refl fault_in
+  starts_in = grind (arith, start_by_in, fault_in)
 
 -- A piece of work
 
@@ -272,12 +222,10 @@ abbrev FineWork : MarksDeed → Type 0
 FineWork x = Fine PieceIn nothing_in nothing_in x
 
 told_in : (o : Option EventEnd) → IfSome o EventIn → IfSome o WorkIn → PieceIn (told_end o)
-told_in (Some end) h g = (h, g)
-told_in None h g = (tt, tt)
+told_in o h g = grind arith
 
 never_ends : (o : Option BackDid) → IfSome (E.end_of ends.Back o) EventIn
-never_ends (Some d) = tt
-never_ends None = tt
+never_ends o = grind arith
 
 had_in : (d : MarksDevice) (talk : Talk (Option EventEnd)) → Had talk (λ y end. IfSome end EventIn) → Had talk (λ y end. IfSome end WorkIn) →
     FineWork (Asks d talk)

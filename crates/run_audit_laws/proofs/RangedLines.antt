@@ -73,8 +73,7 @@ data_known [] i = All-nil IsLine
 data_known (b ∷ bytes) i = one (lines.Data (b ∷ bytes)) i
 
 sense_known : (o : Option Sense) → IfSome o (λ sense. AreBytes 32 sense.bytes) → All IsLine (sense_lines o)
-sense_known (Some sense) i = one (lines.Sense sense) i
-sense_known None i = All-nil IsLine
+sense_known o i = grind (arith, one)
 
 end_known : (path d n : ℕ) (e : CommandEnd) → IsPath path → IsDevice d → IsShort n → EndIn e → IsLine (lines.End (end_line path d n e))
 end_known path d n e p k o i = record { path = p; device = k; ordinal = o; index = i.index; status = i.status; residual = i.residual }
@@ -89,55 +88,28 @@ first_known (did.Half path d t) n = one (lines.Half path d t) n
 first_known (did.Back d a) n = one (lines.Back d a) n
 first_known (did.StepIdle d) n = one (lines.StepIdle d) n
 first_known (did.RunIdle d) n = one (lines.RunIdle d) n
-first_known (did.Reset path d) n = All-nil IsLine
-first_known (did.Ordered order a) n = All-nil IsLine
+first_known h n = All-nil IsLine
 
 last_known : (h : report.Happened) → HasNames h → All IsLine (line_if (last_line h))
-last_known (did.Started path d a) n = All-nil IsLine
-last_known (did.Ended path d n e) k = All-nil IsLine
-last_known (did.Half path d t) n = All-nil IsLine
-last_known (did.Back d a) n = All-nil IsLine
-last_known (did.StepIdle d) n = All-nil IsLine
-last_known (did.RunIdle d) n = All-nil IsLine
-last_known (did.Reset path d) n = one (lines.Reset path d) n
-last_known (did.Ordered order a) n = one (lines.Order order a) n
+last_known h n = grind (arith, one)
 
 module _ (d : ℕ) (k : IsDevice d) where
   end_names : (r : Option RunningProgram) → IfSome r HasPath → (e : CommandEnd) → EndIn e → HasNames (end_told d r e)
-  end_names (Some r) p e i = (p.0, k, p.1, i)
-  end_names None p e i = k
+  end_names r p e i = grind arith
 
   half_names : (r : Option RunningProgram) → IfSome r HasPath → (t : ℕ) → IsTrack t → HasNames (half_told d r t)
-  half_names (Some r) p t lt = (p.0, k, lt)
-  half_names None p t lt = k
+  half_names r p t lt = grind arith
 
   work_names : (r : Option RunningProgram) → IfSome r HasPath → (idle : report.Happened) → HasNames idle → (end : EventEnd) → EventIn end → WorkIn end →
       HasNames (work_told d r idle end)
-  work_names r p idle n (ends.Stepped (stepped.Ended e)) i o = end_names r p e i
-  work_names r p idle n (ends.Stepped (stepped.Half t)) i o = half_names r p t o
-  work_names r p idle n (ends.Second (seconds.Ended e)) i o = end_names r p e i
-  work_names r p idle n (ends.Second (seconds.Finished t)) i o = (k, o)
-  work_names r p idle n (ends.Second (seconds.Unwritten t)) i o = (k, o)
-  work_names r p idle n (ends.Back x) i o = (k, o)
-  work_names r p idle n (ends.Started m) i o = n
-  work_names r p idle n (ends.NotStarted f) i o = n
-  work_names r p idle n ends.Running i o = n
-  work_names r p idle n ends.Idle i o = n
-  work_names r p idle n ends.Done i o = n
-  work_names r p idle n (ends.Pending m) i o = n
-  work_names r p idle n (ends.Refused f) i o = n
+  work_names r p idle n end i o = grind (arith, end_names, half_names)
 
 path_of_open : (d : MarksDevice) → Ranged d → (state : PlainState) (xs : List Item) (r : Option OpenEntry) → IfSome r (IsOpen d.plans state xs) →
     IfSome (option_map running_program r) HasPath
-path_of_open d k state xs (Some o) i = (
-  record { least = i.start.least; most = i.start.most },
-  few_programs o.ordinal (length (planned d.plans o.path)) i.start.in_plan (k.sized.plans o.path),
-)
-path_of_open d k state xs None i = tt
+path_of_open d k state xs r i = search (arith, few_programs)
 
 running_path : (o : Option MarksDevice) → IfSome o Ranged → IfSome (running_by o) HasPath
-running_path (Some d) r = path_of_open d r (replay d.plans (empty_of d) d.history.items) d.history.items d.history.running r.plain.at
-running_path None r = tt
+running_path o r = grind (arith, path_of_open)
 
 abbrev Repairs : Event → EventEnd → Type 0
 Repairs events.RepairCache end = OrderIn end
@@ -154,26 +126,10 @@ module _ (xs : List MarksDevice) (all : All Ranged xs) where
   path_in d = running_path (device_in xs d) (device_ranged xs d all)
 
   once_names : (end : EventEnd) (e : Event) → Names (Once e) → AnswersOnce e end → Repairs e end → HasNames (told xs end (Once e))
-  once_names end (events.Start path d) n a w = (n.0, n.1, a)
-  once_names end (events.Step d) n a w = work_names d n (running_in xs d) (path_in d) (did.StepIdle d) n end a.0 a.1
-  once_names end (events.Back d) n a w = work_names d n (running_in xs d) (path_in d) (did.Back d back.Nothing) (n, tt) end a.0 a.1
-  once_names end (events.Reset path d) n a w = n
-  once_names end events.FailCache n a w = (tt, a)
-  once_names end events.FailStore n a w = (tt, a)
-  once_names end (events.FailVolume d side) n a w = (n, a)
-  once_names end events.RepairCache n a w = (tt, w)
-  once_names end events.RepairStore n a w = (tt, w)
-  once_names end (events.Pair x y) n a w = (n, a)
-  once_names end (events.Suspend x) n a w = (n, a)
-  once_names end (events.Resume x) n a w = (n, a)
-  once_names end events.Power n a w = (tt, a)
+  once_names end e n a w = grind (arith, work_names, path_in)
 
   told_names : (end : EventEnd) (asked : Asked) → Names asked → Answers asked end → RepairsIn asked end → HasNames (told xs end asked)
-  told_names end (Once e) n a w = once_names end e n a w
-  told_names end (Replace d side) n a w = (n, a)
-  told_names end (Unpair x) n a w = (n, a)
-  told_names end (Run d) n a w = work_names d n (running_in xs d) (path_in d) (did.RunIdle d) n end a.0 a.1
-  told_names end (Settle d) n a w = work_names d n (running_in xs d) (path_in d) (did.Back d back.Nothing) (n, tt) end a.0 a.1
+  told_names end asked n a w = grind (arith, once_names, work_names, path_in)
 
 -- Beside it
 
@@ -184,36 +140,24 @@ TellsIn (Hardened t) = IsTrack t
 TellsIn (WentBack count number) = IsShort count × IsShort number
 
 id_bytes : (n : ℕ) → IsShort n → AreBytes 2 (id_of n)
-id_bytes n short = record { count = refl; each = each } where
-  each : IsBytes (id_of n)
-  each zero = omega (arith, short)
-  each (suc zero) = omega arith
-  each (suc (suc i)) = omega arith
+id_bytes n short = search arith
 
 one_loosed : (d : ℕ) → IsDevice d → (l : LooseTold) → TellsIn l → IsLine (loosed_line (loosed d l))
-one_loosed d k (Loosened t) i = (k, i)
-one_loosed d k (Hardened t) i = (k, i)
-one_loosed d k (WentBack count number) i = (k, (i.0, id_bytes number i.1))
+one_loosed d k l i = grind (arith, id_bytes)
 
 loosed_known : (d : ℕ) → IsDevice d → (ls : List LooseTold) → Each TellsIn ls → All IsLine (map loosed_line (map (loosed d) ls))
 loosed_known d k [] i = All-nil IsLine
-loosed_known d k (l ∷ ls) i =
-    All-cons IsLine (loosed_line (loosed d l)) (map loosed_line (map (loosed d) ls)) (one_loosed d k l i.0) (loosed_known d k ls i.1)
+loosed_known d k (l ∷ ls) i = grind (arith, loosed_known d k ls i.1, one_loosed)
 
 module _ (x y : MarksDevice) (r : Ranged x) (s : Ranged y) where
   abbrev OnDevice : Act → Type 0
   OnDevice act = ActOn y.store.cylinders s.some act
 
   act_in : (act : Act) → OnDevice act → TellsIn (told_act x.store y.store act)
-  act_in (Loosen t) lt = track_in_range y.store.cylinders t s.sized.cylinders lt
-  act_in (Harden t) lt = track_in_range y.store.cylinders t s.sized.cylinders lt
-  act_in CfwLost lt = (r.loose, s.number)
+  act_in act lt = grind (arith, track_in_range)
 
   power_in : (lost : Bool) → Each TellsIn (power_told x.store y.store lost)
-  power_in lost = by_test (lost && not (loose_count x.store == 0)) where
-    by_test : (b : Bool) → Each TellsIn (if b then WentBack (loose_count x.store) y.store.number ∷ [] else [])
-    by_test true = ((r.loose, s.number), tt)
-    by_test false = tt
+  power_in lost = grind arith
 
   acts_told : (acts : List Act) → Each OnDevice acts → (rest : List LooseTold) → Each TellsIn rest →
       Each TellsIn (map (told_act x.store y.store) acts ++ rest)
@@ -226,10 +170,7 @@ module _ (x y : MarksDevice) (r : Ranged x) (s : Ranged y) where
       (history_on y.store.cylinders s.some y.plans (empty_of y) y.history refl refl s.plain)
 
   loose_known : All IsLine (loose_lines x y)
-  loose_known =
-      loosed_known x.store.device r.sized.device (loose_told x y)
-      (acts_told (new_acts x.history y.history) new_on (power_told x.store y.store (has_power (new_items x.history y.history)))
-      (power_in (has_power (new_items x.history y.history))))
+  loose_known = grind (arith, loosed_known, acts_told, new_on, power_in)
 
 abbrev ItemHasPath : Item → Type 0
 ItemHasPath (items.Program e) = IsPath e.path × IsShort e.ordinal × IsOver (how_over e.how)
@@ -238,29 +179,14 @@ ItemHasPath _ = Unit {0}
 module _ (plans : Plans) (few : (path : ℕ) → length (planned plans path) ≤ 512) where
   -- a program that ran on behind fewer than 4,096 ends may have the effect of one command more
   how_in : (state : PlainState) (e : ProgramEntry) (how : How) → HasEnds plans state e how → IsOver (how_over how)
-  how_in state e hows.Full h = tt
-  how_in state e (hows.Cut effect) h =
-      let less = (few_of e.path (program_of plans e.path e.ordinal) e.acts state (length e.ends) h.ran_on).few in
-      let most = h.most in
-      omega (arith, less, most)
-  how_in state e hows.Checked h = tt
+  how_in state e how h = grind (arith, few_of)
 
   item_path : (state : PlainState) (earlier : List Item) (x : Item) (later : List Item) → IsLegalItem plans state earlier x later → ItemHasPath x
-  item_path state earlier (items.Program e) later l =
-      let s = l.0.started in (
-        record { least = s.least; most = s.most },
-        few_programs e.ordinal (length (planned plans e.path)) s.in_plan (few e.path),
-        how_in state e e.how l.0.ends,
-      )
-  item_path state earlier (items.Reset path) later l = tt
-  item_path state earlier items.Fresh later l = tt
-  item_path state earlier (items.Act act) later l = tt
-  item_path state earlier items.Power later l = tt
+  item_path state earlier x later l = search (arith, few_programs, how_in)
 
   item_paths : (state : PlainState) (earlier xs : List Item) → IsLegalFrom plans state earlier xs → Each ItemHasPath xs
   item_paths state earlier [] l = tt
-  item_paths state earlier (x ∷ xs) l =
-      (item_path state earlier x xs l.0, item_paths (replay_item plans state x) (earlier ++ x ∷ []) xs l.1)
+  item_paths state earlier (x ∷ xs) l = (item_path state earlier x xs l.0, item_paths (replay_item plans state x) (earlier ++ x ∷ []) xs l.1)
 
 rest_paths : (n : ℕ) (xs : List Item) → Each ItemHasPath xs → Each ItemHasPath (behind_first n xs)
 rest_paths zero xs p = p
@@ -268,37 +194,26 @@ rest_paths (suc n) [] p = tt
 rest_paths (suc n) (x ∷ xs) p = rest_paths n xs p.1
 
 over_known : (d : ℕ) → IsDevice d → (xs : List Item) → Each ItemHasPath xs → All IsLine (program_over_lines (over_of d xs))
-over_known d k [] p = All-nil IsLine
-over_known d k (items.Program e ∷ xs) p = one (lines.Over e.path d e.ordinal (how_over e.how)) (p.0.0, k, p.0.1, p.0.2)
-over_known d k (items.Reset path ∷ xs) p = All-nil IsLine
-over_known d k (items.Fresh ∷ xs) p = All-nil IsLine
-over_known d k (items.Act act ∷ xs) p = All-nil IsLine
-over_known d k (items.Power ∷ xs) p = All-nil IsLine
+over_known d k xs p = grind (arith, one)
 
 overs_known : (x y : MarksDevice) → Ranged x → Ranged y → All IsLine (over_lines x y)
-overs_known x y r s =
-    over_known x.store.device r.sized.device (new_items x.history y.history)
-    (rest_paths _ y.history.items (item_paths y.plans s.sized.plans (empty_of y) [] y.history.items s.plain.legal))
+overs_known x y r s = grind (arith, over_known, rest_paths, item_paths)
 
 power_known : (x y : MarksDevice) → Ranged x → Ranged y → All IsLine (power_lines x y)
 power_known x y r s = All-append IsLine (over_lines x y) (loose_lines x y) (overs_known x y r s) (loose_known x y r s)
 
 each_known : (f : MarksDevice → MarksDevice → List ReportLine) → ((x y : MarksDevice) → Ranged x → Ranged y → All IsLine (f x y)) →
     (xs ys : List MarksDevice) → All Ranged xs → All Ranged ys → All IsLine (of_each f xs ys)
-each_known f known [] ys r s = All-nil IsLine
-each_known f known (x ∷ xs) [] r s = All-nil IsLine
 each_known f known (x ∷ xs) (y ∷ ys) r s =
     All-append IsLine (f x y) (of_each f xs ys) (known x y (All-head Ranged x xs r) (All-head Ranged y ys s))
     (each_known f known xs ys (All-tail Ranged x xs r) (All-tail Ranged y ys s))
+each_known f known xs ys r s = All-nil IsLine
 
 -- An event
 
 module _ (reads writes : ℕ) (few : IsLong reads × IsLong writes) (xs ys : List MarksDevice) (before : All Ranged xs) (behind : All Ranged ys) where
   io_known : All IsLine (io_lines reads writes)
-  io_known = by_calls ((reads == 0) && (writes == 0)) where
-    by_calls : (b : Bool) → All IsLine (if b then [] else lines.Io reads writes ∷ [])
-    by_calls true = All-nil IsLine
-    by_calls false = one (lines.Io reads writes) few
+  io_known = grind (arith, one)
 
   work_known : (h : report.Happened) → HasNames h → All IsLine (work_lines h reads writes xs ys)
   work_known h n =
@@ -315,22 +230,7 @@ module _ (reads writes : ℕ) (few : IsLong reads × IsLong writes) (xs ys : Lis
       All IsLine (event_lines asked end reads writes xs ys)
   event_known end asked n a w = by_asked asked (told_names xs before end asked n a w) where
     by_asked : (asked : Asked) → HasNames (told xs end asked) → All IsLine (event_lines asked end reads writes xs ys)
-    by_asked (Once (events.Start path d)) h = work_known (told xs end (Once (events.Start path d))) h
-    by_asked (Once (events.Step d)) h = work_known (told xs end (Once (events.Step d))) h
-    by_asked (Once (events.Back d)) h = work_known (told xs end (Once (events.Back d))) h
-    by_asked (Once (events.Reset path d)) h = work_known (told xs end (Once (events.Reset path d))) h
-    by_asked (Once events.FailCache) h = work_known (told xs end (Once events.FailCache)) h
-    by_asked (Once events.FailStore) h = work_known (told xs end (Once events.FailStore)) h
-    by_asked (Once (events.FailVolume d side)) h = work_known (told xs end (Once (events.FailVolume d side))) h
-    by_asked (Once events.RepairCache) h = work_known (told xs end (Once events.RepairCache)) h
-    by_asked (Once events.RepairStore) h = work_known (told xs end (Once events.RepairStore)) h
-    by_asked (Once (events.Pair a b)) h = work_known (told xs end (Once (events.Pair a b))) h
-    by_asked (Once (events.Suspend a)) h = work_known (told xs end (Once (events.Suspend a))) h
-    by_asked (Once (events.Resume a)) h = work_known (told xs end (Once (events.Resume a))) h
     by_asked (Once events.Power) h =
         All-append IsLine (of_each power_lines xs ys) (lines.Order orders.Power (order_answer end) ∷ []) (each_known power_lines power_known xs ys before behind)
         (one (lines.Order orders.Power (order_answer end)) h)
-    by_asked (Replace d side) h = work_known (told xs end (Replace d side)) h
-    by_asked (Unpair a) h = work_known (told xs end (Unpair a)) h
-    by_asked (Run d) h = work_known (told xs end (Run d)) h
-    by_asked (Settle d) h = work_known (told xs end (Settle d)) h
+    by_asked asked h = work_known (told xs end asked) h

@@ -71,71 +71,46 @@ no_calls : (r w : ℕ) → NoTransfers r w → Few r w
 no_calls r w n = (let a = n.0 in omega (arith, a), let b = n.1 in omega (arith, b))
 
 commanded : (a b : Bool) (c r w : ℕ) → c ≤ 64 → r ≤ c * 15 * both a b → w ≤ both a b → Few r w
-commanded true true c r w most reads writes = (omega (arith, most, reads), omega (arith, writes))
-commanded true false c r w most reads writes = (omega (arith, most, reads), omega (arith, writes))
-commanded false true c r w most reads writes = (omega (arith, most, reads), omega (arith, writes))
-commanded false false c r w most reads writes = (omega (arith, most, reads), omega (arith, writes))
+commanded a b c r w most reads writes = grind arith
 
 worked : (a b : Bool) (r w : ℕ) → r ≤ both a b → w ≤ both a b → Few r w
-worked true true r w reads writes = (omega (arith, reads), omega (arith, writes))
-worked true false r w reads writes = (omega (arith, reads), omega (arith, writes))
-worked false true r w reads writes = (omega (arith, reads), omega (arith, writes))
-worked false false r w reads writes = (omega (arith, reads), omega (arith, writes))
+worked a b r w reads writes = grind arith
 
 halved : (b : Bool) (r w : ℕ) → r ≡ 0 → w ≡ both b false → Few r w
-halved true r w reads writes = (omega (arith, reads), omega (arith, writes))
-halved false r w reads writes = (omega (arith, reads), omega (arith, writes))
+halved b r w reads writes = grind arith
 
 module _ (r w : ℕ) where
   second_calls : (d : MarksDevice) (h : Option (HalfWrite (Unit {0}))) → SecondTransfers (half_writing d.store h) r w → Few r w
-  second_calls d (Some h) m = halved (takes_b d.store) r w m.0 m.1
-  second_calls d None m = no_calls r w m
+  second_calls d h m = grind (arith, halved, no_calls)
 
   running_calls : (d : MarksDevice) → Ranged d → (b : Bool) → RunningTransfers d b r w → Few r w
-  running_calls d k true m = commanded d.store.a.up d.store.b.up d.store.cylinders r w k.sized.cylinders m.most_reads m.most_writes
-  running_calls d k false m = no_calls r w m
+  running_calls d k b m = grind (arith, commanded, no_calls)
 
   stepped_calls : (d : MarksDevice) → Ranged d → (b : Bool) → StepBy d b r w → Few r w
-  stepped_calls d k true m = second_calls d d.store.half m
-  stepped_calls d k false m = running_calls d k (is_some d.history.running) m
+  stepped_calls d k b m = grind (arith, second_calls, running_calls, is_some)
 
   step_calls : (o : Option MarksDevice) → IfSome o Ranged → StepTransfers o r w → Few r w
-  step_calls (Some d) k m = stepped_calls d k (is_some d.store.half) m
-  step_calls None k m = no_calls r w m
+  step_calls o k m = grind (arith, stepped_calls, is_some, no_calls)
 
   worked_calls : (d : MarksDevice) (b : Bool) (end : EventEnd) → BackBy d b end r w → Few r w
-  worked_calls d true end m = second_calls d d.store.half m
-  worked_calls d false end m = worked d.store.a.up d.store.b.up r w m.most_reads m.most_writes
+  worked_calls d b end m = grind (arith, second_calls, worked)
 
   back_calls : (o : Option MarksDevice) (end : EventEnd) → BackTransfers o end r w → Few r w
-  back_calls (Some d) end m = worked_calls d (is_some d.store.half) end m
-  back_calls None end m = no_calls r w m
+  back_calls o end m = grind (arith, worked_calls, is_some, no_calls)
 
   run_calls : (o : Option MarksDevice) → IfSome o Ranged → (end : EventEnd) → RunTransfers o end r w → Few r w
-  run_calls o k end (inl idle) = no_calls r w idle.1
-  run_calls o k end (inr m) = step_calls o k m
+  run_calls o k end x4 = grind (arith, no_calls, step_calls)
 
   once_calls : (e : Event) (s : Subsystem) (end : EventEnd) → All Ranged (devices_of s) → EventTransfers e s end r w → Few r w
-  once_calls (events.Start path d) s end all m = no_calls r w m
   once_calls (events.Step d) s end all m = step_calls (device_in (devices_of s) d) (device_ranged (devices_of s) d all) m
   once_calls (events.Back d) s end all m = back_calls (device_in (devices_of s) d) end m
-  once_calls (events.Reset path d) s end all m = no_calls r w m
-  once_calls events.FailCache s end all m = no_calls r w m
-  once_calls events.FailStore s end all m = no_calls r w m
-  once_calls (events.FailVolume d side) s end all m = no_calls r w m
-  once_calls events.RepairCache s end all m = no_calls r w m
-  once_calls events.RepairStore s end all m = no_calls r w m
-  once_calls (events.Pair a b) s end all m = no_calls r w m
-  once_calls (events.Suspend a) s end all m = no_calls r w m
-  once_calls (events.Resume a) s end all m = no_calls r w m
-  once_calls events.Power s end all m = no_calls r w m
+  once_calls e s end all m = no_calls r w m
 
   asked_calls : (x : Asked) (s : Subsystem) (end : EventEnd) → All Ranged (devices_of s) → AskedTransfers x s end r w → Few r w
   asked_calls (Once e) s end all m = once_calls e s end all m
-  asked_calls (Replace d side) s end all m = no_calls r w m
-  asked_calls (Unpair a) s end all m = no_calls r w m
   asked_calls (Run d) s end all m = run_calls (device_in (devices_of s) d) (device_ranged (devices_of s) d all) end m
   asked_calls (Settle d) s end all m = back_calls (device_in (devices_of s) d) end m
+  asked_calls x s end all m = no_calls r w m
 
 long_few : (r w : ℕ) → Few r w → IsLong r × IsLong w
 long_few r w f = (let a = f.0 in omega (arith, a), let b = f.1 in omega (arith, b))
@@ -166,8 +141,7 @@ AnswersLogged t = Answers t.asked t.happened.end
 all_answer : (s : Subsystem) (ts : List Logged) → Linked s ts → Logs (λ s. Unit {0}) AnswersSo s ts → All BothRanged ts → All AnswersLogged ts
 all_answer s [] l g r = All-nil AnswersLogged
 all_answer s (t ∷ ts) l g r =
-    All-cons AnswersLogged t ts (g.0 (subst AllRanged l.0 (All-head BothRanged t ts r).0))
-    (all_answer t.happened.behind ts l.1 g.1 (All-tail BothRanged t ts r))
+    All-cons AnswersLogged t ts (g.0 (rw (← l.0) (All-head BothRanged t ts r).0)) (all_answer t.happened.behind ts l.1 g.1 (All-tail BothRanged t ts r))
 
 -- What a repair answers
 
@@ -181,42 +155,13 @@ all_waiting (d ∷ ds) r =
     (few_marked (tracks_of d.store) (waits by_plain d.store)) (all_waiting ds (All-tail Ranged d ds r))
 
 repair_in : (up : Bool) (n k : ℕ) → n ≤ k * 960 → k ≤ 16 → OrderIn (repair_end up n)
-repair_in true n k few most = tt
-repair_in false n k few most = by_test (n == 0) where
-  by_test : (b : Bool) → OrderIn (if b then ends.Done else ends.Pending n)
-  by_test true = tt
-  by_test false = omega (arith, few, most)
+repair_in up n k few most = grind arith
 
 abbrev IsFew : Logged → Type 0
 IsFew t = length (devices_of t.happened.before) ≤ 16
 
 repairs_in : (t : Logged) → AllRanged t.happened.before → IsFew t → TellsWaiting t → RepairsIn t.asked t.happened.end
-repairs_in t r few w = by_asked t.asked w.repairs where
-  by_event : (e : Event) → RepairsBy (Once e) t.happened → RepairsIn (Once e) t.happened.end
-  by_event events.RepairCache is =
-      subst OrderIn (sym is) (repair_in t.happened.before.pool.cache_up (waiting_in (devices_of t.happened.before)) (length (devices_of t.happened.before))
-      (all_waiting (devices_of t.happened.before) r) few)
-  by_event events.RepairStore is =
-      subst OrderIn (sym is) (repair_in t.happened.before.pool.store_up (waiting_in (devices_of t.happened.before)) (length (devices_of t.happened.before))
-      (all_waiting (devices_of t.happened.before) r) few)
-  by_event (events.Start path d) is = tt
-  by_event (events.Step d) is = tt
-  by_event (events.Back d) is = tt
-  by_event (events.Reset path d) is = tt
-  by_event events.FailCache is = tt
-  by_event events.FailStore is = tt
-  by_event (events.FailVolume d side) is = tt
-  by_event (events.Pair a b) is = tt
-  by_event (events.Suspend a) is = tt
-  by_event (events.Resume a) is = tt
-  by_event events.Power is = tt
-
-  by_asked : (x : Asked) → RepairsBy x t.happened → RepairsIn x t.happened.end
-  by_asked (Once e) is = by_event e is
-  by_asked (Replace d side) is = tt
-  by_asked (Unpair a) is = tt
-  by_asked (Run d) is = tt
-  by_asked (Settle d) is = tt
+repairs_in t r few w = grind (arith, repair_in, all_waiting)
 
 -- and of every event all that is known
 pub record Shows (t : Logged) : Type 0 where
@@ -228,11 +173,7 @@ pub record Shows (t : Logged) : Type 0 where
   pub waiting : TellsWaiting t
 
 one_known : (t : Logged) → Shows t → All IsLine (lines_of t)
-one_known t k =
-    let h = t.happened in
-    let r = k.ranged in
-    event_known h.reads h.writes (long_few h.reads h.writes (asked_calls h.reads h.writes t.asked h.before h.end r.0 k.moves)) (devices_of h.before)
-    (devices_of h.behind) r.0 r.1 h.end t.asked k.names k.answers (repairs_in t r.0 k.few k.waiting)
+one_known t k = grind (arith, event_known, long_few, asked_calls, repairs_in)
 
 all_known : (ts : List Logged) → All BothRanged ts → All IsFew ts → All NamesLogged ts → All MovesByTable ts → All AnswersLogged ts →
     All TellsWaiting ts → All IsLine (flat_map lines_of ts)
@@ -253,8 +194,7 @@ all_known (t ∷ ts) r f n m a w =
 owner_in : (d : MarksDevice) → Sized d → Plainly d → IfSome d.paths.owner IsOwner
 owner_in d s p =
     let none = subst KeepsBytes (sym p.base) (empty_keeps d.store.geometry d.store.cylinders) in
-    subst (λ (x : PathsState). IfSome x.owner IsOwner) (sym p.follows.keeps)
-    (history_keeps d.plans (λ path ordinal. (s.words path ordinal).gives) p.empty d.history p.follows.stands.plain none).paths.named.owner
+    rw p.follows.keeps (history_keeps d.plans (λ path ordinal. (s.words path ordinal).gives) p.empty d.history p.follows.stands.plain none).paths.named.owner
 
 record Fit (d : MarksDevice) : Type 0 where
   sized : Sized d
@@ -278,8 +218,7 @@ both_so d f p = record {
 
 all_so : (ms : List Mounted) → AreSo Plainly ms → AreSo Sized ms → AreSo Good ms → All Ranged (map (λ (m : Mounted). m.device) ms)
 all_so [] p s g = All-nil Ranged
-all_so (m ∷ ms) p s g =
-    All-cons Ranged m.device (map (λ (x : Mounted). x.device) ms) (both_so m.device (fits m.device s.0 g.0) p.0) (all_so ms p.1 s.1 g.1)
+all_so (m ∷ ms) p s g = grind (arith, all_so ms p.1 s.1 g.1, both_so, fits)
 
 -- The end
 
@@ -288,21 +227,10 @@ Under n t = t < n
 
 more_track : (f : ℕ → Bool) (a n : ℕ) → All (Under (a + n)) (where_true f (range_with_len a n))
 more_track f a zero = All-nil (Under (a + zero))
-more_track f a (suc n) = by_test (f a) (later (where_true f (range_with_len (a + 1) n)) (more_track f (a + 1) n)) where
-  later : (ts : List ℕ) → All (Under ((a + 1) + n)) ts → All (Under (a + suc n)) ts
-  later [] all = All-nil (Under (a + suc n))
-  later (t ∷ ts) all =
-      let less : t < (a + 1) + n = All-head (Under ((a + 1) + n)) t ts all in
-      All-cons (Under (a + suc n)) t ts (omega (arith, less)) (later ts (All-tail (Under ((a + 1) + n)) t ts all))
-
-  by_test : (b : Bool) → All (Under (a + suc n)) (where_true f (range_with_len (a + 1) n)) →
-      All (Under (a + suc n)) (if b then a ∷ where_true f (range_with_len (a + 1) n) else where_true f (range_with_len (a + 1) n))
-  by_test true rest = All-cons (Under (a + suc n)) a (where_true f (range_with_len (a + 1) n)) (omega arith) rest
-  by_test false rest = rest
+more_track f a (suc n) = grind (arith, more_track f (a + 1) n)
 
 few_if : (b : Bool) (t k : ℕ) (l : List ℕ) → length l ≤ k → length (if b then t ∷ l else l) ≤ suc k
-few_if true t k l few = omega (arith, few)
-few_if false t k l few = omega (arith, few)
+few_if b t k l few = grind arith
 
 few_true : (f : ℕ → Bool) (a n : ℕ) → length (where_true f (range_with_len a n)) ≤ n
 few_true f a zero = omega arith
@@ -311,9 +239,8 @@ few_true f a (suc n) = few_if (f a) a n (where_true f (range_with_len (a + 1) n)
 lost_known : (d : ℕ) → IsDevice d → (k : ℕ) → k ≤ 64 → (ts : List ℕ) → All (Under (0 + k * 15)) ts → All IsLine (map (lines.Lost d) ts)
 lost_known d n k most [] all = All-nil IsLine
 lost_known d n k most (t ∷ ts) all =
-    let less : t < 0 + k * 15 = All-head (Under (0 + k * 15)) t ts all in
-    All-cons IsLine (lines.Lost d t) (map (lines.Lost d) ts) (n, omega (arith, most, less))
-    (lost_known d n k most ts (All-tail (Under (0 + k * 15)) t ts all))
+    All-cons IsLine (lines.Lost d t) (map (lines.Lost d) ts) (n, omega (arith, most, All-head (Under (0 + k * 15)) t ts all)) (lost_known d n k most ts
+    (All-tail (Under (0 + k * 15)) t ts all))
 
 module _ (s : MarksStore) (number : IsDevice s.device) (small : s.cylinders ≤ 64) (reads : s.counts.reads ≤ 1033065725952)
     (writes : s.counts.writes ≤ 1033065725952) where
@@ -321,11 +248,7 @@ module _ (s : MarksStore) (number : IsDevice s.device) (small : s.cylinders ≤ 
   few_lost = let few = few_true (is_lost s) 0 (s.cylinders * 15) in omega (arith, few, small)
 
   end_known : (o : Option ℕ) → IfSome o IsDevice → All IsLine (device_lines (device_end_by s o))
-  end_known (Some to) lent = one (lines.Device s.device (totals.Lent to)) (number, lent)
-  end_known None lent =
-      All-cons IsLine (lines.Device s.device (totals.Calls s.counts.reads s.counts.writes (length (lost_tracks s)))) (map (lines.Lost s.device) (lost_tracks s))
-      (number, (omega (arith, reads), omega (arith, writes), few_lost))
-      (lost_known s.device number s.cylinders small (lost_tracks s) (more_track (is_lost s) 0 (s.cylinders * 15)))
+  end_known o lent = grind (arith, one, few_lost, lost_known, more_track)
 
 abbrev FewReads : MarksDevice → Type 0
 FewReads d = d.store.counts.reads ≤ 1033065725952
@@ -346,15 +269,7 @@ ends_known (m ∷ ms) s r w =
 -- a declared device is one that is mounted
 declared_device : (ms : List Mounted) → AreSo Sized ms → (n : ℕ) → is_declared (map outline_of (map audited (mounted_devices ms))) n ≡ true → IsDevice n
 declared_device [] s n is = absurd (cc)
-declared_device (m ∷ ms) s n is = by_test (m.device.store.device == n) refl is (declared_device ms s.1 n) where
-  rest : List Outline
-  rest = map outline_of (map audited (mounted_devices ms))
-
-  by_test : (b : Bool) → (m.device.store.device == n) ≡ b →
-      holds (if b then Some (outline_of (audited m.device)) else outline_in rest n) (λ (a : Outline). true) ≡ true →
-      (is_declared rest n ≡ true → IsDevice n) → IsDevice n
-  by_test true same is more = subst IsDevice (eqb-true m.device.store.device n same) s.0.device
-  by_test false other is more = more is
+declared_device (m ∷ ms) s n is = grind (arith, declared_device ms s.1 n, eqb-true)
 
 module _ (s : Subsystem) (sized : AreSo Sized s.mounted) where
   abbrev IsDeclared : Frame → Type 0

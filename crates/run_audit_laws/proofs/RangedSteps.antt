@@ -1,5 +1,5 @@
 -- Each track that a step or a piece of work of a run tells of is in its range.
-use Rattle.std.proofs.Common.{◌≡◌, ◌<◌, ◌∙◌, ℕ, List, Option, Some, None, refl, sym, subst}
+use Rattle.std.proofs.Common.{arith, ◌≡◌, ◌<◌, ◌∙◌, ℕ, List, Option, Some, None, refl, sym, subst}
 use Rattle.std.specs.Prelude.{IfSome}
 use Rattle.ckd_chain.specs.State.{ChainState}
 use Rattle.device_defs.specs.declared.answers.Did.{Did}
@@ -25,19 +25,13 @@ use Rattle.run_audit_laws.proofs.RangedWork.{DidIn, MayDidIn, MayStepIn, SecondI
 
 module _ (d : MarksDevice) (g : Good d) where
   half_on : (o : Option (HalfWrite (Unit {0}))) → d.store.half ≡ o → IfSome o (λ h. h.track < tracks_of d.store)
-  half_on (Some h) is =
-      by_lent d (λ home. half_within d.store (g.well home).here h is)
-      (λ away. absurd (let none = (g.gone away).store.none in let both : None ≡ Some h = sym none ∙ is in cc))
-  half_on None is = tt
+  half_on o is = grind (arith, by_lent, half_within)
 
   queue_on : AreBelow (tracks_of d.store) d.store.queue
-  queue_on =
-      by_lent d (λ home. all_queued d.store (g.well home).here)
-      (λ away. subst (λ (l : List ℕ). AreBelow (tracks_of d.store) l) (sym (g.gone away).store.queue) tt)
+  queue_on = grind (arith, by_lent, all_queued)
 
   chain_on : (o : Option ChainState) → d.chain ≡ o → IfSome o (IsWithin (tracks_of d.store))
-  chain_on (Some chain) is = within d g chain is
-  chain_on None is = tt
+  chain_on o is = grind (arith, within)
 
   pub works_on : Sized d → WorksOn d
   works_on s = record { cylinders = s.cylinders; half = half_on d.store.half refl; queued = queue_on; chain = chain_on d.chain refl }
@@ -51,12 +45,10 @@ WorkIn (ends.Back x) = DidIn x
 WorkIn _ = Unit {0}
 
 step_end : (o : Option Stepped) → MayStepIn o → IfSome (end_of ends.Stepped o) WorkIn
-step_end (Some x) h = h
-step_end None h = tt
+step_end o h = grind arith
 
 did_end : (o : Option Did) → MayDidIn o → IfSome (end_of ends.Back o) WorkIn
-did_end (Some x) h = h
-did_end None h = tt
+did_end o h = grind arith
 
 abbrev Tells : Talk (Option EventEnd) → Type 0
 Tells talk = Had talk (λ y end. IfSome end WorkIn)

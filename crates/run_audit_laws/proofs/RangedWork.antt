@@ -56,19 +56,10 @@ record Heard (s z : MarksStore) : Type 0 where
   cylinders : z.cylinders ≡ s.cylinders
 
 heard_had : (s : MarksStore) → Had (hear by_plain 960 (noted_begin s)) (λ y (_ : Unit {0}). Heard s y)
-heard_had s =
-    asks_had (hear_asks by_plain (Heard s) (λ z t clean k. record { half = k.half; queue = k.queue; cylinders = k.cylinders }) 960 (noted_begin s)
-    (record { half = refl; queue = refl; cylinders = refl }))
+heard_had s = asks_had (hear_asks by_plain (Heard s) (λ z t clean k. (search arith)) 960 (noted_begin s) (search arith))
 
 heard_works : (d : MarksDevice) (s : MarksStore) → Heard d.store s → WorksOn d → WorksOn (record (event_begun d) { store = s })
-heard_works d s k w = record {
-  cylinders = subst (λ (c : ℕ). c ≤ 64) (sym k.cylinders) w.cylinders;
-  half = subst (λ (o : Option (HalfWrite (Unit {0}))). IfSome o (λ h. h.track < tracks_of s)) (sym k.half)
-      (subst (λ (c : ℕ). IfSome d.store.half (λ h. h.track < c * 15)) (sym k.cylinders) w.half);
-  queued = subst (λ (l : List ℕ). AreBelow (tracks_of s) l) (sym k.queue)
-      (subst (λ (c : ℕ). AreBelow (c * 15) d.store.queue) (sym k.cylinders) w.queued);
-  chain = subst (λ (c : ℕ). IfSome d.chain (IsWithin (c * 15))) (sym k.cylinders) w.chain;
-}
+heard_works d s k w = search arith
 
 event_had : {A : Type 0} (P : A → Type 0) (d : MarksDevice) (body : MarksDevice → Interaction Bool Image MarksDevice A) → WorksOn d →
     ((z : MarksDevice) → WorksOn z → Had (body z) (λ y a. P a)) → Had (event by_plain d body) (λ y a. P a)
@@ -85,32 +76,24 @@ SecondIn (seconds.Finished t) = IsTrack t
 SecondIn (seconds.Unwritten t) = IsTrack t
 
 told_in : (t : ℕ) (c : Came) → IsTrack t → SecondIn (second_told by_plain t c)
-told_in t (came.Ends e) lt = tt
-told_in t (came.Checks e) lt = tt
-told_in t (came.HalfOpen q) lt = lt
+told_in t c lt = grind arith
 
 done_in : (b : Bool) (t : ℕ) → IsTrack t → SecondIn (if b then seconds.Finished t else seconds.Unwritten t)
-done_in true t lt = lt
-done_in false t lt = lt
+done_in b t lt = grind arith
 
 command_ended_in : (d : MarksDevice) (t : ℕ) (o : Option OpenEntry) (c : Option ChainState) (done : Bool) → IsTrack t →
     Had (command_ended by_plain d t o c done) (λ y a. SecondIn a)
-command_ended_in d t (Some o) (Some chain) done lt = had_done (told_in t (second_turn by_plain chain done).came lt)
-command_ended_in d t (Some o) None done lt = had_done lt
-command_ended_in d t None c done lt = had_done lt
+command_ended_in d t o c done lt = search (arith, had_done, told_in)
 
 second_ended_in : (d : MarksDevice) (t : ℕ) (origin : Origin) (done : Bool) → IsTrack t → Had (second_ended by_plain d t origin done) (λ y a. SecondIn a)
-second_ended_in d t (OfCommand bypass e) done lt = command_ended_in d t d.history.running d.chain done lt
-second_ended_in d t (OfCut bypass) done lt = had_done (done_in done t lt)
-second_ended_in d t OfBackground done lt = had_done (done_in done t lt)
+second_ended_in d t origin done lt = search (arith, command_ended_in, had_done, done_in)
 
 second_of_in : (d : MarksDevice) (o : Option (HalfWrite (Unit {0}))) → IfSome o (λ h. IsTrack h.track) → Had (second_of by_plain d o) (λ y a. SecondIn a)
 second_of_in d (Some h) lt = had_then (any_had (second_part by_plain d.store h)) (λ s done _. second_ended_in (with_store d s) h.track h.origin done lt)
 second_of_in d None lt = had_done (omega arith)
 
 half_track : (d : MarksDevice) → WorksOn d → (o : Option (HalfWrite (Unit {0}))) → IfSome o (λ h. h.track < tracks_of d.store) → IfSome o (λ h. IsTrack h.track)
-half_track d w (Some h) lt = track_in_range d.store.cylinders h.track w.cylinders lt
-half_track d w None lt = tt
+half_track d w o lt = grind (arith, track_in_range)
 
 pub second_in : (d : MarksDevice) → WorksOn d → Had (second by_plain d) (λ y a. SecondIn a)
 unfolding V.second
@@ -125,25 +108,13 @@ abbrev pub MayDidIn : Option Did → Type 0
 MayDidIn o = IfSome o DidIn
 
 did_told : IsTold DidIn IsTrack
-did_told = record {
-  nothing = tt;
-  fault = λ side. tt;
-  bad = λ side. tt;
-  recovered = λ t lt. lt;
-  half = λ t lt. lt;
-  copied = λ t lt. lt;
-  staged = λ t lt. lt;
-  skipped = λ t lt. lt;
-  destaged = λ t lt. lt;
-}
+did_told = search arith
 
 may_did : (o : Option Did) → Says DidIn o → MayDidIn o
-may_did (Some x) h = h
-may_did None h = absurd h
+may_did o h = grind arith
 
 first_in : (k : ℕ) → k ≤ 64 → (l : List ℕ) → AreBelow (k * 15) l → FirstIs IsTrack l
-first_in k small [] below = tt
-first_in k small (t ∷ ts) below = track_in_range k t small below.0
+first_in k small l below = grind (arith, track_in_range)
 
 pub background_in : (d : MarksDevice) → WorksOn d → Had (background by_plain d) (λ y a. MayDidIn a)
 unfolding V.background
@@ -167,9 +138,7 @@ CameIn c = SteppedIn (told_step c)
 
 module _ (k : ℕ) (small : k ≤ 64) where
   wrote_in : (chain : ChainState) (t : ℕ) (took : Took) → t < k * 15 → CameIn (wrote_turn chain t took).came
-  wrote_in chain t Whole lt = tt
-  wrote_in chain t Opened lt = track_in_range k t small lt
-  wrote_in chain t Unwritten lt = tt
+  wrote_in chain t took lt = grind (arith, track_in_range)
 
   along : IsAlong (λ chain t. IsWithin (k * 15) chain × (t < k * 15)) (λ turn. CameIn turn.came)
   along = record {
@@ -182,14 +151,10 @@ module _ (k : ℕ) (small : k ≤ 64) where
 
 on_tracks_in : (d : MarksDevice) (path : ℕ) (chain : ChainState) (s : MarksStore) (o : Option Turn) → Says (λ turn. CameIn turn.came) o →
     Had (on_tracks by_plain d path chain s o) (λ y a. MayStepIn a)
-on_tracks_in d path chain s (Some turn) h = had_done h
-on_tracks_in d path chain s None h = absurd h
+on_tracks_in d path chain s o h = grind (arith, had_done)
 
 answered_in : (d : MarksDevice) (path : ℕ) (chain : ChainState) (p : Progress) → Had (answered_by by_plain d path chain p) (λ y a. MayStepIn a)
-answered_in d path chain (progresses.Ended e) = had_done tt
-answered_in d path chain (progresses.Local act) = had_done tt
-answered_in d path chain (progresses.Need q) = had_done tt
-answered_in d path chain (progresses.Write q e) = had_done tt
+answered_in d path chain p = grind (arith, had_done)
 
 command_at_in : (d : MarksDevice) → WorksOn d → (path : ℕ) (chain : ChainState) → IsWithin (tracks_of d.store) chain → (o : Option ℕ) → need_of chain ≡ o →
     Had (command_at by_plain d path chain o) (λ y a. MayStepIn a)
@@ -200,10 +165,7 @@ command_at_in d w path chain on None is = had_try (answered_in d path (stepped c
 
 command_by_in : (d : MarksDevice) → WorksOn d → (o : Option OpenEntry) (c : Option ChainState) → IfSome c (IsWithin (tracks_of d.store)) →
     Had (command_by by_plain d o c) (λ y a. MayStepIn a)
-command_by_in d w (Some o) (Some chain) on =
-    had_if (has_loss o.acts) (λ _. had_done tt) (λ _. command_at_in d w o.path chain on (need_of chain) refl)
-command_by_in d w (Some o) None on = had_done tt
-command_by_in d w None c on = had_done tt
+command_by_in d w o c on = search (arith, had_if, had_done, command_at_in)
 
 pub command_in : (d : MarksDevice) → WorksOn d → Had (command by_plain d) (λ y a. MayStepIn a)
 unfolding N.command

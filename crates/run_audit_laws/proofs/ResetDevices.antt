@@ -1,5 +1,5 @@
 -- What a reset makes of a device, as the audit has it.
-use Rattle.std.proofs.Common.{◌≡◌, ◌==◌, ℕ, Bool, true, false, Option, Some, None, refl, sym, ap, ◌∙◌, if◌then◌else◌}
+use Rattle.std.proofs.Common.{arith, ◌≡◌, ◌==◌, ℕ, Bool, true, false, Option, Some, None, refl, sym, ap, ◌∙◌, if◌then◌else◌}
 use Rattle.std.proofs.lemmas.Bool.{cond_both}
 use Rattle.ckd_types.specs.declared.geometry.Geometry.{Geometry}
 use Rattle.plain_defs.specs.History.{History, OpenEntry, has_used}
@@ -28,14 +28,7 @@ pub record HasParts (x y : MarksDevice) (half : HalfWrite) : Type 0 where
 
 module _ (x y : MarksDevice) (half : HalfWrite) (h : History) where
   pub audited_by : HasParts x y half → y.history ≡ h → audited y ≡ record (audited x) { history = h; half = half }
-  audited_by p is =
-      ap (λ (n : ℕ). record (audited y) { number = n }) p.number
-      ∙ ap (λ (g : Geometry). record (audited y) { number = x.store.device; empty = empty_state g y.store.cylinders }) p.geometry
-      ∙ ap (λ (n : ℕ). record (audited y) { number = x.store.device; empty = empty_state x.store.geometry n }) p.cylinders
-      ∙ ap (λ (k : Plans). record (audited y) { number = x.store.device; empty = (audited x).empty; plans = k }) p.plans
-      ∙ ap (λ (l : Option ℕ). record (audited x) { history = y.history; half = half_by y.store.half; lent = l }) p.lent
-      ∙ ap (λ (k : HalfWrite). record (audited x) { history = y.history; half = k }) p.half_is
-      ∙ ap (λ (k : History). record (audited x) { history = k; half = half }) is
+  audited_by p is = grind arith
 
 -- the half write of a command that is cut
 record IsCutOf (s z : MarksStore) : Type 0 where
@@ -51,25 +44,10 @@ same_cut s is = record { number = refl; geometry = refl; cylinders = refl; lent 
 module _ (s : MarksStore) where
   by_origin : (h : store.HalfWrite (Unit {0})) → s.half ≡ Some h → (o : Origin) → h.origin ≡ o →
       Always (origin_cut by_plain s h o) (λ z (_ : Unit {0}). IsCutOf s z)
-  by_origin h kept (OfCommand bypass e) is =
-      always_tell (λ r. always_done (record {
-        number = refl;
-        geometry = refl;
-        cylinders = refl;
-        lent = refl;
-        half_is = sym (ap (λ (k : Option (store.HalfWrite (Unit {0}))). cut_half (half_by k)) kept ∙ ap (λ (k : Origin). cut_half (half_of k)) is);
-      }))
-  by_origin h kept (OfCut bypass) is =
-      always_done (same_cut s (ap (λ (k : Option (store.HalfWrite (Unit {0}))). cut_half (half_by k)) kept ∙ ap (λ (k : Origin). cut_half (half_of k)) is
-      ∙ sym (ap half_by kept ∙ ap half_of is)))
-  by_origin h kept OfBackground is =
-      always_done (same_cut s (ap (λ (k : Option (store.HalfWrite (Unit {0}))). cut_half (half_by k)) kept ∙ ap (λ (k : Origin). cut_half (half_of k)) is
-      ∙ sym (ap half_by kept ∙ ap half_of is)))
+  by_origin h kept o is = search (arith, always_tell, always_done, same_cut)
 
   by_half : (h : Option (store.HalfWrite (Unit {0}))) → s.half ≡ h → Always (half_cut by_plain s h) (λ z (_ : Unit {0}). IsCutOf s z)
-  by_half (Some h) kept = by_origin h kept h.origin refl
-  by_half None whole =
-      always_done (same_cut s (ap (λ (k : Option (store.HalfWrite (Unit {0}))). cut_half (half_by k)) whole ∙ sym (ap half_by whole)))
+  by_half h kept = search (arith, by_origin, always_done, same_cut)
 
 abbrev pub reset_half : MarksDevice → ℕ → Option OpenEntry → HalfWrite
 reset_half x path (Some o) = if o.path == path then cut_half (half_by x.store.half) else half_by x.store.half
@@ -77,14 +55,7 @@ reset_half x path None = half_by x.store.half
 
 module _ (x : MarksDevice) (path : ℕ) where
   same_parts : (y : MarksDevice) → y.store ≡ x.store → y.plans ≡ x.plans → HasParts x y (half_by x.store.half)
-  same_parts y is plans = record {
-    number = ap (λ (s : MarksStore). s.device) is;
-    geometry = ap (λ (s : MarksStore). s.geometry) is;
-    cylinders = ap (λ (s : MarksStore). s.cylinders) is;
-    plans = plans;
-    lent = ap (λ (s : MarksStore). s.lent) is;
-    half_is = ap (λ (s : MarksStore). half_by s.half) is;
-  }
+  same_parts y is plans = search arith
 
   by_running : (r : Option OpenEntry) → Always (reset_by by_plain x path r) (λ y (_ : Unit {0}). HasParts x y (reset_half x path r))
   by_running (Some o) = by_test (o.path == path) where

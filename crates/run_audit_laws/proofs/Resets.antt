@@ -96,23 +96,17 @@ use Rattle.run_audit_laws.proofs.Saying.{same_number}
 -- What a command may edit, as the audit tests it
 
 by_loose : (l p : Bool) → (l ≡ true → p ≡ true) → (not l || p) ≡ true
-by_loose true p h = h refl
-by_loose false p h = refl
+by_loose l p h = grind arith
 
 pub legal_by : (p : Part) (edit : Option TrackEdit) → MayEdit p.state p.stance edit → is_edit_legal p edit ≡ true
-legal_by p (Some e) h = by_loose (is_loose_there p.state e.track) (is_provisional p.stance.extent) h
-legal_by p None h = refl
+legal_by p edit h = grind (arith, by_loose)
 
 -- where the cut of a half write counts one command more, that command may be so
 pub next_legal : (x : MarksDevice) (p : Plainly x) (o : OpenEntry) → x.history.running ≡ Some o → counts_one_by x.store.half ≡ 1 →
     is_next_legal (audited x) x.history.running ≡ true
 next_legal x p o running one =
-    ap (λ (r : Option OpenEntry). is_next_legal (audited x) r) running
-    ∙ legal_by (part_of_open (audited x) o) (edit_of (audited x) o)
-    (subst (λ (b : PlainState). MayEdit (open_part x.plans (replay x.plans b x.history.items) o).state
-    (open_part x.plans (replay x.plans b x.history.items) o).stance
-    (next_edit o.path (program_of x.plans o.path o.ordinal) (open_part x.plans (replay x.plans b x.history.items) o))) p.base
-    (subst (λ (k : ℕ). MayTake x.plans (replay x.plans p.empty x.history.items) o k) one (may p.number p.empty x p.follows o running)))
+    ap (λ (r : Option OpenEntry). is_next_legal (audited x) r) running ∙ legal_by (part_of_open (audited x) o) (edit_of (audited x) o) (rw (← p.base) (subst
+    (λ (k : ℕ). MayTake x.plans (replay x.plans p.empty x.history.items) o k) one (may p.number p.empty x p.follows o running)))
 
 -- Of a history alone
 
@@ -123,19 +117,10 @@ module _ (h : History) (path more : ℕ) where
   -- the reset of a path whose program doesn't run comes to the same, whatever it counts
   other_reset : (r : Option OpenEntry) → h.running ≡ r → ((o : OpenEntry) → r ≡ Some o → (o.path == path) ≡ false) →
       history_reset h path more ≡ history_reset h path 0
-  other_reset (Some o) is other =
-      ap (λ (r : Option OpenEntry). reset_in h path more r) is
-      ∙ ap (λ (b : Bool). if b then cut_by h o more else waits) (other o refl)
-      ∙ sym (ap (λ (b : Bool). if b then cut_by h o 0 else waits) (other o refl))
-      ∙ sym (ap (λ (r : Option OpenEntry). reset_in h path 0 r) is)
-  other_reset None is other =
-      ap (λ (r : Option OpenEntry). reset_in h path more r) is ∙ sym (ap (λ (r : Option OpenEntry). reset_in h path 0 r) is)
+  other_reset r is other = grind arith
 
   own_reset : (o : OpenEntry) → h.running ≡ Some o → (o.path == path) ≡ true → history_reset h path more ≡ cut_by h o more
-  own_reset o is own =
-      ap (λ (r : Option OpenEntry). reset_in h path more r) is
-      ∙ ap (λ (b : Bool). if b then cut_by h o more
-      else if is_used path false h.items then record h { waiting = put path h.waiting } else h) own
+  own_reset o is own = grind arith
 
 -- nothing is told then beside the reset
 pub record TellsNoProgram (h k : History) : Type 0 where
@@ -149,28 +134,19 @@ nothing_came : (h : History) → TellsNoProgram h h
 nothing_came h = record { items_are = []; are = none_behind h.items; power = refl; over = λ n. refl; acts = refl }
 
 waits_tells : (h : History) (path : ℕ) (b : Bool) → TellsNoProgram h (if b then record h { waiting = put path h.waiting } else h)
-waits_tells h path true = record { items_are = []; are = none_behind h.items; power = refl; over = λ n. refl; acts = refl }
-waits_tells h path false = nothing_came h
+waits_tells h path b = search (arith, none_behind, nothing_came)
 
 idle_tells : (h : History) (path : ℕ) (b : Bool) → TellsNoProgram h (if b then record h { items = h.items ++ items.Reset path ∷ [] } else h)
-idle_tells h path true = record {
-  items_are = items.Reset path ∷ [];
-  are = behind_more h.items (items.Reset path ∷ []);
-  power = refl;
-  over = λ n. refl;
-  acts = ap (λ (l : List _). l ++ acts_running h.running) (reset_acts h.items path);
-}
+idle_tells h path true = search (arith, behind_more, reset_acts)
 idle_tells h path false = nothing_came h
 
 other_tells : (h : History) (path : ℕ) (r : Option OpenEntry) → h.running ≡ r → ((o : OpenEntry) → r ≡ Some o → (o.path == path) ≡ false) →
     TellsNoProgram h (history_reset h path 0)
 other_tells h path (Some o) is other =
-    subst (TellsNoProgram h)
-    (sym (ap (λ (r : Option OpenEntry). reset_in h path 0 r) is
-    ∙ ap (λ (b : Bool). if b then cut_by h o 0 else if is_used path false h.items then record h { waiting = put path h.waiting } else h) (other o refl)))
+    rw (ap (λ (r : Option OpenEntry). reset_in h path 0 r) is ∙ ap
+    (λ (b : Bool). if b then cut_by h o 0 else if is_used path false h.items then record h { waiting = put path h.waiting } else h) (other o refl))
     (waits_tells h path (is_used path false h.items))
-other_tells h path None is other =
-    subst (TellsNoProgram h) (sym (ap (λ (r : Option OpenEntry). reset_in h path 0 r) is)) (idle_tells h path (is_used path false h.items))
+other_tells h path None is other = rw (ap (λ (r : Option OpenEntry). reset_in h path 0 r) is) (idle_tells h path (is_used path false h.items))
 
 -- The event
 
@@ -181,9 +157,7 @@ pub record IsReset (x y : MarksDevice) (path : ℕ) (end : Option EventEnd) : Ty
   pub done : end ≡ Some ends.Done
 
 reset_had : (x : MarksDevice) (path : ℕ) → Had (ends_by ends_done (reset by_plain x path)) (λ y a. IsReset x y path a)
-reset_had x path =
-    had_then (had_both (had_always (reset_parts x path)) (had_always (reset_tells by_plain x path)))
-    (λ y a g. had_done (record { parts = g.0; history = g.1.history; done = refl }))
+reset_had x path = had_then (had_both (had_always (reset_parts x path)) (had_always (reset_tells by_plain x path))) (λ y a g. had_done (search arith))
 
 abbrev Leads : Subsystem → ℕ → ℕ → MarksDevice → List EventLine → Type 0
 Leads s path n x later =
@@ -210,10 +184,7 @@ module _ (s : Subsystem) (plain : ArePlain s.mounted) (path n : ℕ) (x : MarksD
   -- a line that stands first, and what it makes
   first_is : (line : ReportLine) (t : AuditState) → may_reset path n (outline_of (audited x)) line (outline_of (audited x)).running ≡ true →
       reset_made (stand s (wanted.Reset path n ∷ later)) line path (audited x) ≡ Some t → judged (stand s (wanted.Reset path n ∷ later)) line ≡ Ok t
-  first_is line t fits makes =
-      first_judged s (wanted.Reset path n) later line t
-      (ap (λ (o : Option Outline). holds o (λ a. may_reset path n a line a.running)) (outline_one (devices_of s) n x at) ∙ fits)
-      (then_some _ (audited x) (reset_made from line path) (found_one (devices_of s) n x at) ∙ makes)
+  first_is line t fits makes = grind (arith, first_judged, outline_one, then_some, found_one)
 
   is_reset_line : ((path == path) && (n == n)) ≡ true
   is_reset_line = and_from (path == path) (n == n) (same_number path) (same_number n)
@@ -223,38 +194,26 @@ module _ (s : Subsystem) (plain : ArePlain s.mounted) (path n : ℕ) (x : MarksD
   module _ (other : (o : OpenEntry) → x.history.running ≡ Some o → (o.path == path) ≡ false) where
     may_by : (r : Option OpenEntry) → x.history.running ≡ r →
         may_reset path n (outline_of (audited x)) (lines.Reset path n) (open_program r) ≡ true
-    may_by (Some o) is =
-        ap (λ (b : Bool). if b then is_cut n (record { path = o.path; ordinal = o.ordinal }) (lines.Reset path n) else (path == path) && (n == n)) (other o is)
-        ∙ is_reset_line
-    may_by None is = is_reset_line
+    may_by r is = grind (arith, is_reset_line)
 
     half_by_running : (r : Option OpenEntry) → x.history.running ≡ r → reset_half x path r ≡ half_by x.store.half
-    half_by_running (Some o) is = ap (λ (b : Bool). if b then cut_half (half_by x.store.half) else half_by x.store.half) (other o is)
-    half_by_running None is = refl
+    half_by_running r is = grind arith
 
     pub other_leads : Leads s path n x later
     other_leads m it_is there z end g =
         let y = z.device in
-        let k = history_reset x.history path 0 in
-        let same : y.history ≡ history_reset x.history path 0 =
-        g.history ∙ other_reset x.history path more x.history.running refl (λ o is. other o is) in
+        let same : y.history ≡ history_reset x.history path 0 = g.history ∙ other_reset x.history path more x.history.running refl (λ o is. other o is) in
         let told = other_tells x.history path x.history.running refl (λ o is. other o is) in
         let its = ap (λ (h : History). new_items x.history h) same ∙ told.are in
-        let none = none_loose x y told.items_are its told.power (ap acts_in same ∙ told.acts) in
-        let no_over : over_lines x y ≡ [] =
-        ap (λ (l : List Item). program_over_lines (over_of x.store.device l)) its ∙ ap program_over_lines (told.over x.store.device) in
-        let half : HasParts x y (half_by x.store.half) = subst (HasParts x y) (half_by_running x.history.running refl) g.parts in
-        subst (λ (l : List ReportLine). LeadsBy from l (stand (with_mounted s n z) later))
-        (sym ((tells_alone s n z).tells (did.Reset path n) 0 0
-        ∙ ap (λ (o : Option Mounted). lines_at (did.Reset path n) 0 0 o y) there
-        ∙ ap (λ (d : MarksDevice). loose_lines d y ++ (over_lines d y ++ lines.Reset path n ∷ [])) it_is
-        ∙ ap (λ (l : List ReportLine). l ++ (over_lines x y ++ lines.Reset path n ∷ [])) none
-        ∙ ap (λ (l : List ReportLine). l ++ lines.Reset path n ∷ []) no_over))
-        (one_leads from (stand (with_mounted s n z) later) (lines.Reset path n)
-        (first_is (lines.Reset path n) (stand (with_mounted s n z) later) (may_by x.history.running refl)
-        (ap (λ (l : List AuditedDevice). Some (record { devices = l; events = later; due = (stand s later).due }))
-        (ap (with_device (map audited (devices_of s))) (sym (audited_by x y (half_by x.store.half) k half same))
-        ∙ put_at s.mounted n z (g.parts.number ∙ number_is)))))
+        let half : HasParts x y (half_by x.store.half) = rw (← (half_by_running x.history.running refl)) g.parts in
+        rw ((tells_alone s n z).tells (did.Reset path n) 0 0 ∙ ap (λ (o : Option Mounted). lines_at (did.Reset path n) 0 0 o y) there ∙ ap
+        (λ (d : MarksDevice). loose_lines d y ++ (over_lines d y ++ lines.Reset path n ∷ [])) it_is ∙ ap (λ (l : List ReportLine). l ++
+        (over_lines x y ++ lines.Reset path n ∷ [])) (none_loose x y told.items_are its told.power (ap acts_in same ∙ told.acts)) ∙ ap
+        (λ (l : List ReportLine). l ++ lines.Reset path n ∷ []) (ap (λ (l : List Item). program_over_lines (over_of x.store.device l)) its
+        ∙ ap program_over_lines (told.over x.store.device))) (one_leads from (stand (with_mounted s n z) later) (lines.Reset path n) (first_is
+        (lines.Reset path n) (stand (with_mounted s n z) later) (may_by x.history.running refl) (ap (λ (l : List AuditedDevice). Some
+        (record { devices = l; events = later; due = (stand s later).due })) (ap (with_device (map audited (devices_of s))) (sym (audited_by x y
+        (half_by x.store.half) (history_reset x.history path 0) half same)) ∙ put_at s.mounted n z (g.parts.number ∙ number_is)))))
 
   -- The reset of the running program's path
 
@@ -271,28 +230,14 @@ module _ (s : Subsystem) (plain : ArePlain s.mounted) (path n : ℕ) (x : MarksD
         record (changed from (record (audited x) { history = history_reset x.history o.path k; half = cut_half (half_by x.store.half) })) { due = ResetOf }
 
     cut_zero : M.cut_by (stand s (wanted.Reset path n ∷ later)) (audited x) o (length o.ends + 0) ≡ Some (cut_to 0)
-    cut_zero =
-        let same : length o.ends + 0 ≡ length o.ends = omega arith in
-        ap (λ (b : Bool). if b then Some (cut_to 0)
-        else if (length o.ends + 0 == length o.ends + 1) && is_next_legal (audited x) x.history.running then Some (cut_to 1) else None)
-        (eq-eqb (length o.ends + 0) (length o.ends) same)
+    cut_zero = grind (arith, eq-eqb)
 
     cut_one : is_next_legal (audited x) x.history.running ≡ true →
         M.cut_by (stand s (wanted.Reset path n ∷ later)) (audited x) o (length o.ends + 1) ≡ Some (cut_to 1)
-    cut_one is =
-        let far : length o.ends + 1 ≡ length o.ends → ⊥ = λ e. omega (arith, e) in
-        ap (λ (b : Bool). if b then Some (cut_to 0)
-        else if (length o.ends + 1 == length o.ends + 1) && is_next_legal (audited x) x.history.running then Some (cut_to 1) else None)
-        (ne_eqb (length o.ends + 1) (length o.ends) far)
-        ∙ ap (λ (b : Bool). if b then Some (cut_to 1) else None)
-        (and_from (length o.ends + 1 == length o.ends + 1) (is_next_legal (audited x) x.history.running) (same_number (length o.ends + 1)) is)
+    cut_one is = grind (arith, ne_eqb, and_from, same_number)
 
     few : (h : Option (store.HalfWrite (Unit {0}))) → (counts_one_by h ≡ 0) ⊎ (counts_one_by h ≡ 1)
-    few (Some h) = by_test (is_of_command h.origin) where
-      by_test : (b : Bool) → (◌≡◌ {A = ℕ} (if b then 1 else 0) 0) ⊎ (◌≡◌ {A = ℕ} (if b then 1 else 0) 1)
-      by_test true = inr refl
-      by_test false = inl refl
-    few None = inl refl
+    few h = grind arith
 
     cut_made : M.cut_by (stand s (wanted.Reset path n ∷ later)) (audited x) o (length o.ends + counts_one_by x.store.half)
         ≡ Some (cut_to (counts_one_by x.store.half))
@@ -313,35 +258,29 @@ module _ (s : Subsystem) (plain : ArePlain s.mounted) (path n : ℕ) (x : MarksD
         (then_some x.history.running o (λ (k : OpenEntry). M.cut_by from (audited x) k (length o.ends + more)) running ∙ cut_made)
 
     reset_judged : (t : AuditState) → passed (cut_to more) ≡ t → judged (cut_to more) (lines.Reset path n) ≡ Ok t
-    reset_judged t is =
-        ap (λ (b : Bool). if b then Ok (passed (cut_to more)) else Err Place) is_reset_line ∙ ap (λ (u : AuditState). Ok u) is
+    reset_judged t is = grind (arith, is_reset_line)
 
     pub own_leads : Leads s path n x later
     own_leads m it_is there z end g =
         let y = z.device in
         let cut : y.history ≡ cut_by x.history o more = g.history ∙ own_reset x.history path more o running own in
         let its = ap (λ (h : History). new_items x.history h) cut ∙ cut_items x.history o more in
-        let none = none_loose x y (entry_of o (Cut (length o.ends + more)) ∷ items.Reset o.path ∷ resets_of x.history.waiting) its
-        (no_power x.history.waiting) (ap acts_in cut ∙ cut_acts x.history o more running) in
-        let over : over_lines x y ≡ over_line ∷ [] = ap (λ (l : List Item). program_over_lines (over_of x.store.device l)) its in
-        let half : HasParts x y (cut_half (half_by x.store.half)) =
-        subst (HasParts x y) (ap (λ (r : Option OpenEntry). reset_half x path r) running
-        ∙ ap (λ (b : Bool). if b then cut_half (half_by x.store.half) else half_by x.store.half) own) g.parts in
-        let as_cut = audited_by x y (cut_half (half_by x.store.half)) (history_reset x.history o.path more) half
-        (g.history ∙ ap (λ (p : ℕ). history_reset x.history p more) (sym path_is)) in
-        subst (λ (l : List ReportLine). LeadsBy from l (stand (with_mounted s n z) later))
-        (sym ((tells_alone s n z).tells (did.Reset path n) 0 0
-        ∙ ap (λ (k : Option Mounted). lines_at (did.Reset path n) 0 0 k y) there
-        ∙ ap (λ (d : MarksDevice). loose_lines d y ++ (over_lines d y ++ lines.Reset path n ∷ [])) it_is
-        ∙ ap (λ (l : List ReportLine). l ++ (over_lines x y ++ lines.Reset path n ∷ [])) none
-        ∙ ap (λ (l : List ReportLine). l ++ lines.Reset path n ∷ []) over)) (
+        let half : HasParts x y (cut_half (half_by x.store.half)) = rw (← (ap (λ (r : Option OpenEntry). reset_half x path r) running ∙ ap
+        (λ (b : Bool). if b then cut_half (half_by x.store.half) else half_by x.store.half) own)) g.parts in
+        rw ((tells_alone s n z).tells (did.Reset path n) 0 0 ∙ ap (λ (k : Option Mounted). lines_at (did.Reset path n) 0 0 k y) there ∙ ap
+        (λ (d : MarksDevice). loose_lines d y ++ (over_lines d y ++ lines.Reset path n ∷ [])) it_is ∙ ap (λ (l : List ReportLine). l ++
+        (over_lines x y ++ lines.Reset path n ∷ [])) (none_loose x y (entry_of o (Cut
+        (length o.ends + more)) ∷ items.Reset o.path ∷ resets_of x.history.waiting) its (no_power x.history.waiting) (ap acts_in cut
+        ∙ cut_acts x.history o more running)) ∙ ap (λ (l : List ReportLine). l ++ lines.Reset path n ∷ []) (ap (λ (l : List Item). program_over_lines
+        (over_of x.store.device l)) its)) (
           cut_to more,
           over_judged,
           (
             stand (with_mounted s n z) later,
-            reset_judged (stand (with_mounted s n z) later)
-                (ap (λ (l : List AuditedDevice). record { devices = l; events = later; due = (stand s later).due })
-                (ap (with_device (map audited (devices_of s))) (sym as_cut) ∙ put_at s.mounted n z (g.parts.number ∙ number_is))),
+            reset_judged (stand (with_mounted s n z) later) (ap
+                (λ (l : List AuditedDevice). record { devices = l; events = later; due = (stand s later).due }) (ap (with_device (map audited (devices_of s))) (sym
+                (audited_by x y (cut_half (half_by x.store.half)) (history_reset x.history o.path more) half (g.history ∙ ap
+                (λ (p : ℕ). history_reset x.history p more) (sym path_is)))) ∙ put_at s.mounted n z (g.parts.number ∙ number_is))),
             refl,
           ),
         )
@@ -363,25 +302,12 @@ module _ (s : Subsystem) (plain : ArePlain s.mounted) (path n : ℕ) (x : MarksD
       (asks s k (mounted_in s.mounted k) (ends_by ends_done (reset by_plain x path)))
   asked_leads k is later =
       let m = mounted_too s.mounted n x at in
-      let talk = ends_by ends_done (reset by_plain x path) in
-      let o = held_with s.pool m.0 talk in
+      let o = held_with s.pool m.0 (ends_by ends_done (reset by_plain x path)) in
       let z = mounted_behind o in
-      let moves = held_moved {q = λ r w (y : MarksDevice) (a : Option EventEnd). (r ≡ 0) × (w ≡ 0)} true
-      (counts_then (λ y a. Done y (Some (ends_done a))) (reset_counts by_plain x path) (λ r w y a h. counts_done h))
-      (told_to s.pool m.0) refl refl in
-      subst (λ (i : ℕ). LeadsBy (stand s (wanted.Reset path n ∷ later)) (its_lines (asks s i (mounted_in s.mounted i) talk))
-      (stand (asks s i (mounted_in s.mounted i) talk).behind later)) (sym is)
-      (subst (λ (q : Option Mounted). LeadsBy (stand s (wanted.Reset path n ∷ later)) (its_lines (asks s n q talk)) (stand (asks s n q talk).behind later))
-      (sym m.1)
-      (subst (λ (r : ℕ). LeadsBy (stand s (wanted.Reset path n ∷ later))
-      (work_lines (did.Reset path n) r o.told.writes (devices_of s) (devices_of (with_mounted s n z))) (stand (with_mounted s n z) later)) (sym moves.0)
-      (subst (λ (w : ℕ). LeadsBy (stand s (wanted.Reset path n ∷ later))
-      (work_lines (did.Reset path n) 0 w (devices_of s) (devices_of (with_mounted s n z))) (stand (with_mounted s n z) later)) (sym moves.1)
-      (by_running later x.history.running refl m.0 m.2 m.1 z o.answer (held true (reset_had x path) (told_to s.pool m.0))))))
+      let moves = held_moved {q = λ r w (y : MarksDevice) (a : Option EventEnd). (r ≡ 0) × (w ≡ 0)} true (counts_then (λ y a. Done y (Some (ends_done a)))
+      (reset_counts by_plain x path) (λ r w y a h. counts_done h)) (told_to s.pool m.0) refl refl in
+      rw (is, m.1, moves.0, moves.1) (by_running later x.history.running refl m.0 m.2 m.1 z o.answer (held true (reset_had x path) (told_to s.pool m.0)))
 
   pub reset_leads : EventLeads s (wanted.Reset path n) (Once (events.Reset path n)) (happens s (events.Reset path n))
   unfolding H.happens E.deed
-  reset_leads =
-      subst (λ (o : Option MarksDevice). EventLeads s (wanted.Reset path n) (Once (events.Reset path n))
-      (happens_by s (on_device o (λ d. Asks d (ends_by ends_done (reset by_plain d path)))))) (sym at)
-      (asked_leads x.store.device (number_found s.mounted n x at))
+  reset_leads = rw at (asked_leads x.store.device (number_found s.mounted n x at))

@@ -64,17 +64,13 @@ use Rattle.run_audit_laws.proofs.StepParts.{IsLeft, IsSecond, command_left, seco
 -- A program that runs has fewer ends than may be
 
 none_there : (o : Option ℕ) → o ≡ None → IsSome o → ⊥
-none_there None is some = cc
-none_there (Some x) is some = cc
+none_there o is some = grind arith
 
 not_over : (b : Bool) (o : Option ℕ) → IsSome (if b then None else o) → b ≡ false
-not_over true o some = absurd (none_there None refl some)
-not_over false o some = refl
+not_over b o some = grind (arith, none_there)
 
 below_limit : (c : Ccw) (o : Outcome) → is_over c o ≡ false → o.stance.commands < 4096
-below_limit c o is =
-    leb-false 4096 o.stance.commands
-    (or_parts (nat_le 4096 o.stance.commands) (nat_le 1048576 o.stance.moved) (or_parts (not (would_go_on c o.ending)) (at_limit o.stance) is).1).0
+below_limit c o is = grind (arith, leb-false, or_parts)
 
 pub record Few (k : ℕ) (p : Part) : Type 0 where
   pub counted : p.stance.commands ≡ k
@@ -84,23 +80,7 @@ module _ (path : ℕ) (ccws : List Ccw) (acts : List Acted) (state : PlainState)
   more_few : (k : ℕ) (n : Option ℕ) → (part_of state path ccws acts k).next ≡ n →
       (IsSome (part_of state path ccws acts k).next → Few k (part_of state path ccws acts k)) →
       IsSome (one_more path ccws acts (part_of state path ccws acts k)).next → Few (suc k) (one_more path ccws acts (part_of state path ccws acts k))
-  more_few k None is before some =
-      absurd (none_there (one_more path ccws acts (part_of state path ccws acts k)).next
-      (ap (λ (p : Part). p.next) (over_stays path ccws acts (part_of state path ccws acts k) is) ∙ is) some)
-  more_few k (Some i) is before some =
-      let p = part_of state path ccws acts k in
-      let e = effect_on p.fixed p.state path p.stance (ccw_at ccws i) in
-      let beside = acted_beside acts (command_run path ccws p) in
-      let earlier = before (subst (λ (o : Option ℕ). IsSome o) (sym is) refl) in
-      let next_is : (one_more path ccws acts p).next ≡ goes_to ccws i e.outcome =
-      beside.next ∙ ap (λ (o : Option ℕ). (stepped_at path ccws p o).next) is in
-      let stance_is : (one_more path ccws acts p).stance.commands ≡ e.outcome.stance.commands =
-      ap (λ (s : Stance). s.commands) (beside.stance ∙ ap (λ (o : Option ℕ). (stepped_at path ccws p o).stance) is) in
-      let goes = not_over (is_over (ccw_at ccws i) e.outcome) _ (subst (λ (o : Option ℕ). IsSome o) next_is some) in
-      let less = below_limit (ccw_at ccws i) e.outcome goes in
-      let one = effect_counts p.fixed p.state path p.stance (ccw_at ccws i) in
-      let counted = earlier.counted in
-      record { counted = stance_is ∙ one ∙ omega (arith, counted); few = omega (arith, less, one, counted) }
+  more_few k n is before some = search (arith, none_there, acted_beside, not_over, below_limit, effect_counts)
 
   pub few_of : (k : ℕ) → IsSome (part_of state path ccws acts k).next → Few k (part_of state path ccws acts k)
   unfolding part_of
@@ -108,14 +88,10 @@ module _ (path : ℕ) (ccws : List Ccw) (acts : List Acted) (state : PlainState)
   few_of (suc k) some = more_few k (part_of state path ccws acts k).next refl (few_of k) some
 
 few_ends : (x : MarksDevice) → Plainly x → (o : OpenEntry) → x.history.running ≡ Some o → length o.ends < 4096
-few_ends x p o running =
-    let s = replay x.plans p.empty x.history.items in
-    let is_open = running_is_open x.plans p.empty x.history p.follows.stands.plain p.follows.stands.due o running in
-    (few_of o.path (program_of x.plans o.path o.ordinal) o.acts s (length o.ends) is_open.runs).few
+few_ends x p o running = grind (arith, running_is_open, few_of)
 
 no_program : (r : Option OpenEntry) → r ≡ None → IsSome r → ⊥
-no_program None is some = cc
-no_program (Some o) is some = cc
+no_program r is some = grind arith
 
 -- So many events are enough
 
@@ -128,21 +104,11 @@ Enough k None half.OfCommand = 1 ≤ k
 Enough k None half.OfBackground = 1 ≤ k
 
 at_first : (r : Option OpenEntry) (h : HalfWrite) → Enough most_steps r h
-at_first (Some o) half.Closed = omega arith
-at_first (Some o) half.OfCommand = omega arith
-at_first (Some o) half.OfBackground = omega arith
-at_first None half.Closed = tt
-at_first None half.OfCommand = omega arith
-at_first None half.OfBackground = omega arith
+at_first r h = grind arith
 
 -- with none left nothing is to do
 at_last : (r : Option OpenEntry) (h : HalfWrite) → ((o : OpenEntry) → r ≡ Some o → length o.ends < 4096) → Enough 0 r h → (r ≡ None) × (h ≡ half.Closed)
-at_last (Some o) half.Closed few enough = absurd (let less = few o refl in omega (arith, less, enough))
-at_last (Some o) half.OfCommand few enough = absurd (let less = few o refl in omega (arith, less, enough))
-at_last (Some o) half.OfBackground few enough = absurd (let less = few o refl in omega (arith, less, enough))
-at_last None half.Closed few enough = (refl, refl)
-at_last None half.OfCommand few enough = absurd (omega (arith, enough))
-at_last None half.OfBackground few enough = absurd (omega (arith, enough))
+at_last r h few enough = grind arith
 
 -- What a history is behind an event
 
@@ -152,22 +118,17 @@ OneMore o r = (r ≡ None) ⊎ ((z : OpenEntry) × (r ≡ Some z) × (length z.e
 
 over_by : (h : History) (o : OpenEntry) (e : CommandEnd) (b : Bool) →
     OneMore o (if b then closed h (with_end o e) Full else record h { running = Some (with_end o e) }).running
-over_by h o e true = inl refl
-over_by h o e false = inr (with_end o e, refl, one_longer o.ends e ∙ omega arith)
+over_by h o e b = grind (arith, one_longer)
 
 ended_more : (h : History) (e : CommandEnd) (o : OpenEntry) → h.running ≡ Some o → {k : History} → HasEnded h e k → OneMore o k.running
-ended_more h e o is (ended_so acts) =
-    subst (λ (z : History). OneMore o (Y.ended z e).running) (sym (acts_run acts h o is))
-    (over_by (record h { running = Some (with_acts o acts) }) (with_acts o acts) e e.over)
-ended_more h e o is (checked_so acts) =
-    inl (ap (λ (z : History). (checked z e).running) (acts_run acts h o is))
+ended_more h e o is (ended_so acts) = rw (acts_run acts h o is) (over_by (record h { running = Some (with_acts o acts) }) (with_acts o acts) e e.over)
+ended_more h e o is (checked_so acts) = grind arith
 
 acted_more : (h : History) (o : OpenEntry) → h.running ≡ Some o → {k : History} → HasActed h k → (z : OpenEntry) × (k.running ≡ Some z) × (z.ends ≡ o.ends)
 acted_more h o is (acted_so acts) = (with_acts o acts, ap (λ (z : History). z.running) (acts_run acts h o is), refl)
 
 idle_by : (h : History) (act : Act) (r : Option OpenEntry) → r ≡ None → h.running ≡ None → (acted_in h act r).running ≡ None
-idle_by h act (Some o) is none = absurd (cc)
-idle_by h act None is none = none
+idle_by h act r is none = grind arith
 
 idle_acts : (acts : List Act) (h : History) → h.running ≡ None → (all_acted h acts).running ≡ None
 idle_acts [] h none = none
@@ -180,28 +141,22 @@ acted_none h none (acted_so acts) = idle_acts acts h none
 
 enough_as : (k : ℕ) (y : MarksDevice) (r : Option OpenEntry) (h : HalfWrite) → y.history.running ≡ r → half_by y.store.half ≡ h → Enough k r h →
     Enough k y.history.running (half_by y.store.half)
-enough_as k y r h runs is enough =
-    subst (λ (x : Option OpenEntry). Enough k x (half_by y.store.half)) (sym runs) (subst (λ (z : HalfWrite). Enough k r z) (sym is) enough)
+enough_as k y r h runs is enough = grind arith
 
 ended_enough : (k : ℕ) (o : OpenEntry) (y : MarksDevice) → OneMore o y.history.running → half_by y.store.half ≡ half.Closed →
     8192 ≤ suc k + 1 + 2 * length o.ends → Enough k y.history.running (half_by y.store.half)
-ended_enough k o y (inl none) is enough = enough_as k y None half.Closed none is tt
-ended_enough k o y (inr z) is enough =
-    let more = z.2 in enough_as k y (Some z.0) half.Closed z.1 is (omega (arith, more, enough))
+ended_enough k o y x4 is enough = grind (arith, enough_as)
 
 acted_enough : (k : ℕ) (x y : MarksDevice) → HasActed x.history y.history → half_by y.store.half ≡ half.Closed → (r : Option OpenEntry) →
     x.history.running ≡ r → Enough (suc k) r half.OfBackground → Enough k y.history.running (half_by y.store.half)
 acted_enough k x y acted is (Some o) runs enough =
     let z = acted_more x.history o runs acted in
-    let same : length (z.0).ends ≡ length o.ends = ap length z.2 in
-    enough_as k y (Some z.0) half.Closed z.1 is (omega (arith, same, enough))
+    enough_as k y (Some z.0) half.Closed z.1 is (omega (arith, ap length z.2, enough))
 acted_enough k x y acted is None runs enough = enough_as k y None half.Closed (acted_none x.history runs acted) is tt
 
 halved_enough : (k : ℕ) (o : OpenEntry) (y : MarksDevice) → (z : OpenEntry) × (y.history.running ≡ Some z) × (z.ends ≡ o.ends) →
     half_by y.store.half ≡ half.OfCommand → 8192 ≤ suc k + 2 * length o.ends → Enough k y.history.running (half_by y.store.half)
-halved_enough k o y z is enough =
-    let same : length (z.0).ends ≡ length o.ends = ap length z.2 in
-    enough_as k y (Some z.0) half.OfCommand z.1 is (omega (arith, same, enough))
+halved_enough k o y z is enough = grind (arith, enough_as)
 
 module _ (x : MarksDevice) (p : Plainly x) (k : ℕ) where
   abbrev Goes : MarksDevice → Type 0
@@ -226,22 +181,11 @@ module _ (x : MarksDevice) (p : Plainly x) (k : ℕ) where
           ended_enough k o y (ended_more x.history end o runs told) s.parts.half_is
           (subst (λ (h : HalfWrite). Enough (suc k) (Some o) h) half_is
           (subst (λ (r : Option OpenEntry). Enough (suc k) r (half_by x.store.half)) runs enough))
-  second_by w is (OfCommand bypass e) from y (seconds.Finished t) s told enough = absurd s.told
-  second_by w is (OfCommand bypass e) from y (seconds.Unwritten t) s told enough = absurd s.told
-  second_by w is (OfCut bypass) from y (seconds.Ended end) s told enough = absurd s.told
-  second_by w is (OfCut bypass) from y (seconds.Finished t) s told enough =
-      acted_enough k x y told s.parts.half_is x.history.running refl
-      (subst (λ (h : HalfWrite). Enough (suc k) x.history.running h) (ap half_by is ∙ ap half_of from) enough)
-  second_by w is (OfCut bypass) from y (seconds.Unwritten t) s told enough =
-      acted_enough k x y told s.parts.half_is x.history.running refl
-      (subst (λ (h : HalfWrite). Enough (suc k) x.history.running h) (ap half_by is ∙ ap half_of from) enough)
-  second_by w is OfBackground from y (seconds.Ended end) s told enough = absurd s.told
-  second_by w is OfBackground from y (seconds.Finished t) s told enough =
-      acted_enough k x y told s.parts.half_is x.history.running refl
-      (subst (λ (h : HalfWrite). Enough (suc k) x.history.running h) (ap half_by is ∙ ap half_of from) enough)
-  second_by w is OfBackground from y (seconds.Unwritten t) s told enough =
-      acted_enough k x y told s.parts.half_is x.history.running refl
-      (subst (λ (h : HalfWrite). Enough (suc k) x.history.running h) (ap half_by is ∙ ap half_of from) enough)
+  second_by w is (OfCut bypass) from y (seconds.Finished t) s told enough = grind (arith, acted_enough)
+  second_by w is (OfCut bypass) from y (seconds.Unwritten t) s told enough = grind (arith, acted_enough)
+  second_by w is OfBackground from y (seconds.Finished t) s told enough = grind (arith, acted_enough)
+  second_by w is OfBackground from y (seconds.Unwritten t) s told enough = grind (arith, acted_enough)
+  second_by w is origin from y a s told enough = absurd s.told
 
   second_goes : (w : store.HalfWrite (Unit {0})) → x.store.half ≡ Some w → Enough (suc k) x.history.running (half_by x.store.half) → (t : Told) →
       Goes (T.hold true (second by_plain x) t).state
@@ -263,9 +207,7 @@ module _ (x : MarksDevice) (p : Plainly x) (k : ℕ) where
   command_goes o runs whole enough t =
       let g = held true (had_both (command_left p.number p.empty x p.follows o runs whole) (had_always (command_told by_plain x))) t in
       let z = T.hold true (command by_plain x) t in
-      command_by o runs whole z.state z.answer g.0 g.1
-      (subst (λ (h : HalfWrite). Enough (suc k) (Some o) h) (ap half_by whole)
-      (subst (λ (r : Option OpenEntry). Enough (suc k) r (half_by x.store.half)) runs enough))
+      command_by o runs whole z.state z.answer g.0 g.1 (subst (λ (h : HalfWrite). Enough (suc k) (Some o) h) (ap half_by whole) (rw (← runs) enough))
 
 -- An event of the run
 
@@ -286,13 +228,8 @@ module _ (s : Subsystem) (plain : ArePlain s.mounted) (d : ℕ) (x : MarksDevice
       let t = told_to s.pool m.0 in
       let o = held_with s.pool m.0 (and_then talk (λ y a. Done y (f a))) in
       let g = subst (Goes x plainly k) (sym (hold_answer talk f t)) (goes t) in
-      subst (λ (i : ℕ). OneFewer (asks s i (mounted_in s.mounted i) (and_then talk (λ y a. Done y (f a)))).behind) (sym is)
-      (subst (λ (q : Option Mounted). OneFewer (asks s d q (and_then talk (λ y a. Done y (f a)))).behind) (sym m.1)
-      (record {
-        behind = mounted_behind o;
-        there = put_found s.mounted d m.0 (mounted_behind o) m.1 (g.0 ∙ number_found s.mounted d x at);
-        enough = g.1;
-      }))
+      rw is (subst (λ (q : Option Mounted). OneFewer (asks s d q (and_then talk (λ y a. Done y (f a)))).behind) (sym m.1)
+      (record { behind = mounted_behind o; there = put_found s.mounted d m.0 (mounted_behind o) m.1 (g.0 ∙ number_found s.mounted d x at); enough = g.1 }))
 
   step_by : (h : Option (store.HalfWrite (Unit {0}))) → x.store.half ≡ h → (r : Option OpenEntry) → x.history.running ≡ r → (is_some h || is_some r) ≡ true →
       Enough (suc k) x.history.running (half_by x.store.half) →
@@ -307,41 +244,26 @@ module _ (s : Subsystem) (plain : ArePlain s.mounted) (d : ℕ) (x : MarksDevice
   step_fewer : is_busy (mounted_in s.mounted d) ≡ true → Enough (suc k) x.history.running (half_by x.store.half) →
       OneFewer (happens s (events.Step d)).behind
   unfolding H.happens E.deed
-  step_fewer busy enough =
-      let m = mounted_too s.mounted d x at in
-      subst (λ (o : Option MarksDevice). OneFewer (happens_by s (on_device o (step by_plain))).behind) (sym at)
-      (step_by x.store.half refl x.history.running refl
-      (sym (ap is_busy m.1 ∙ ap (λ (y : MarksDevice). is_some y.store.half || is_some y.history.running) m.2) ∙ busy) enough)
+  step_fewer busy enough = grind (arith, mounted_too, step_by, is_some)
 
 pub device_there : (ms : List Mounted) (n : ℕ) (m : Mounted) → mounted_in ms n ≡ Some m → device_in (map (λ (k : Mounted). k.device) ms) n ≡ Some m.device
 device_there [] n m is = absurd (cc)
-device_there (k ∷ ms) n m is = by_test (number_of k == n) is (device_there ms n m) where
-  by_test : (b : Bool) → (if b then Some k else mounted_in ms n) ≡ Some m →
-      (mounted_in ms n ≡ Some m → device_in (map (λ (z : Mounted). z.device) ms) n ≡ Some m.device) →
-      (if b then Some k.device else device_in (map (λ (z : Mounted). z.device) ms) n) ≡ Some m.device
-  by_test true found more = let it : k ≡ m = cc in ap (λ (z : Mounted). Some z.device) it
-  by_test false found more = more found
+device_there (k ∷ ms) n m is = grind (arith, device_there ms n m)
 
 -- All events
 
 half_none : (h : Option (store.HalfWrite (Unit {0}))) → half_by h ≡ half.Closed → is_some h ≡ false
-half_none (Some w) is = absurd (never w.origin is) where
-  never : (o : Origin) → half_of o ≡ half.Closed → ⊥
-  never (OfCommand bypass e) e2 = cc
-  never (OfCut bypass) e2 = cc
-  never OfBackground e2 = cc
-half_none None is = refl
+half_none h is = grind arith
 
 steps_end : (k : ℕ) (s : Subsystem) → ArePlain s.mounted → (d : ℕ) (x : MarksDevice) → device_in (devices_of s) d ≡ Some x →
     Enough k x.history.running (half_by x.store.half) → is_busy (mounted_in (last_behind s (steps k d s)).mounted d) ≡ false
 unfolding L.steps
 steps_end zero s plain d x at enough =
     let m = mounted_too s.mounted d x at in
-    let p = subst (λ (o : Option MarksDevice). IfSome o Plainly) at (device_so Plainly s.mounted d plain) in
-    let none = at_last x.history.running (half_by x.store.half) (few_ends x p) enough in
-    ap is_busy m.1 ∙ ap (λ (y : MarksDevice). is_some y.store.half || is_some y.history.running) m.2
-    ∙ ap (λ (r : Option OpenEntry). is_some x.store.half || is_some r) none.0
-    ∙ ap (λ (b : Bool). b || false) (half_none x.store.half none.1)
+    let none = at_last x.history.running (half_by x.store.half) (few_ends x (subst (λ (o : Option MarksDevice). IfSome o Plainly) at
+    (device_so Plainly s.mounted d plain))) enough in
+    ap is_busy m.1 ∙ ap (λ (y : MarksDevice). is_some y.store.half || is_some y.history.running) m.2 ∙ ap
+    (λ (r : Option OpenEntry). is_some x.store.half || is_some r) none.0 ∙ ap (λ (b : Bool). b || false) (half_none x.store.half none.1)
 steps_end (suc k) s plain d x at enough = by_busy (is_busy (mounted_in s.mounted d)) refl
     (λ busy. let h = happens s (events.Step d) in
     let z = step_fewer s plain d x at k busy enough in

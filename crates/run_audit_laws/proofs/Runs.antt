@@ -26,7 +26,7 @@ use Rattle.subsystem_laws.proofs.PlainRuns.{ArePlain}
 use Rattle.run_audit_laws.specs.Runs.{LineDoes, LineGoes, WholeLeads, behind_lines, line_behind}
 use Rattle.run_audit_laws.specs.Standing.{FramesAreDeclared, HasDevice, LeadsBy, LineLeads, audited, stand}
 use Rattle.run_audit_laws.specs.Steps.{Reaches, is_there}
-use Rattle.run_audit_laws.proofs.SettleEnds.{settle_over}
+use Rattle.run_audit_laws.proofs.BackEnds.{settle_over}
 use Rattle.run_audit_laws.proofs.Endings.{ending_leads}
 use Rattle.run_audit_laws.proofs.AlikeDevices.{alike_self}
 use Rattle.run_audit_laws.proofs.AlikeLines.{AlikeStates, AreAlike, leads_alike, second_self, states_then}
@@ -46,8 +46,7 @@ use Rattle.run_audit_laws.proofs.WorkLines.{back_goes_on, run_goes_on, settle_go
 
 lines_both : (ts us : List Logged) → flat_map lines_of (ts ++ us) ≡ flat_map lines_of ts ++ flat_map lines_of us
 lines_both [] us = refl
-lines_both (t ∷ ts) us =
-    ap (λ (l : List ReportLine). lines_of t ++ l) (lines_both ts us) ∙ sym (append_assoc (lines_of t) (flat_map lines_of ts) (flat_map lines_of us))
+lines_both (t ∷ ts) us = grind (arith, lines_both ts us, append_assoc)
 
 behind_both : (s : Subsystem) (ts us : List Logged) → last_behind s (ts ++ us) ≡ last_behind (last_behind s ts) us
 behind_both s [] us = refl
@@ -114,18 +113,7 @@ one_line before s later u (events.Run d) near does = towards before s later u (e
 one_line before s later u (events.Back d) near does = towards before s later u (events.Back d) tt near does.0
 one_line before s later u (events.Settle d) near does = towards before s later u (events.Settle d) tt near does.0
 one_line before s later u (events.FailVolume d side) near does = fails before s later u d side near does
-one_line before s later u (events.Start path d) near does = exactly before s later u (events.Start path d) tt near does.0 None
-one_line before s later u (events.Reset path d) near does = exactly before s later u (events.Reset path d) tt near does.0 None
-one_line before s later u events.FailCache near does = exactly before s later u events.FailCache tt near does.0 None
-one_line before s later u events.FailStore near does = exactly before s later u events.FailStore tt near does.0 None
-one_line before s later u events.RepairCache near does = exactly before s later u events.RepairCache tt near does.0 None
-one_line before s later u events.RepairStore near does = exactly before s later u events.RepairStore tt near does.0 None
-one_line before s later u (events.Replace d side) near does = exactly before s later u (events.Replace d side) tt near does.0 None
-one_line before s later u (events.Pair a b) near does = exactly before s later u (events.Pair a b) tt near does.0 None
-one_line before s later u (events.Unpair a) near does = exactly before s later u (events.Unpair a) tt near does.0 None
-one_line before s later u (events.Suspend a) near does = exactly before s later u (events.Suspend a) tt near does.0 None
-one_line before s later u (events.Resume a) near does = exactly before s later u (events.Resume a) tt near does.0 None
-one_line before s later u events.Power near does = exactly before s later u events.Power tt near does.0 None
+one_line before s later u e near does = exactly before s later u e tt near does.0 None
 
 -- The lines of all of them
 
@@ -145,14 +133,8 @@ lines_towards (e ∷ later) before s u does b =
     let us = run_lines (map asked_by later) z in
     let first = one_line before s later u e b does.0 in
     let rest = lines_towards later (worker_of e) z first.to does.1 first.beside in
-    subst (λ (l : List ReportLine). ReachesEnd u l (last_behind s (ts ++ us))) (sym (lines_both ts us))
-    (subst (λ (k : Subsystem). ReachesEnd u (flat_map lines_of ts ++ flat_map lines_of us) k) (sym (behind_both s ts us))
-    (record {
-      to = rest.to;
-      leads = leads_on u first.to rest.to (flat_map lines_of ts) (flat_map lines_of us) first.leads rest.leads;
-      worker = rest.worker;
-      beside = rest.beside;
-    }))
+    subst (λ (l : List ReportLine). ReachesEnd u l (last_behind s (ts ++ us))) (sym (lines_both ts us)) (subst (λ (k : Subsystem). ReachesEnd u
+    (flat_map lines_of ts ++ flat_map lines_of us) k) (sym (behind_both s ts us)) (search (arith, leads_on)))
 
 -- and those at the end
 lines_end : (events : List EventLine) (s : Subsystem) → AreAlike (stand s events).devices (stand s events).devices → AllSo DoesPlainly s events →
@@ -200,7 +182,7 @@ module _ (s : Subsystem) (numbers : List ℕ) (k : IsBehind numbers s) where
   line_does (events.Step d) has = step_goes_on s k.plain d has
   line_does (events.Run d) has = run_goes_on s k.plain d has (run_is_over s k.plain d has)
   line_does (events.Back d) has = back_goes_on s k.plain k.good d has
-  line_does (events.Settle d) has = settle_goes_on s k.plain k.good d has (settle_over s k.good k.fits d has)
+  line_does (events.Settle d) has = settle_goes_on s k.plain k.good d has (settle_over s k.good k.sized d has)
   line_does (events.FailVolume d side) has = ordered_leads numbers s k (events.FailVolume d side) has
   line_does (events.Start path d) has = still_leads s k.plain (events.Start path d) has
   line_does (events.Reset path d) has = still_leads s k.plain (events.Reset path d) has

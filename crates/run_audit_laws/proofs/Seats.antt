@@ -1,5 +1,5 @@
 -- What is done on a device's tracks leaves its number.
-use Rattle.std.proofs.Common.{◌≡◌, ℕ, Bool, true, false, [], Option, Some, None, ap, ◌∙◌}
+use Rattle.std.proofs.Common.{arith, ◌≡◌, ℕ, Bool, true, false, [], Option, Some, None, ap, ◌∙◌}
 use Rattle.std.specs.Prelude.{if◌then◌else◌}
 use Rattle.ckd_types.specs.declared.paths.Side.{Side}
 use Rattle.ckd_types.specs.declared.paths.Side.TheVariants.{A, B}
@@ -33,15 +33,13 @@ module _ {F P H : Type 0} (n : ℕ) where
   Is s = s.device ≡ n
 
   is_if : (b : Bool) (s z : Store F P H) → Is s → Is z → Is (if b then s else z)
-  is_if true s z k l = k
-  is_if false s z k l = l
+  is_if b s z k l = grind arith
 
   pub stale_is : (s : Store F P H) (t : ℕ) → Is s → Is (stale_everywhere s t)
   stale_is s t k = same_is (stale_base s t) k
 
   pub level_is : (s : Store F P H) (side : Side) (t : ℕ) → Is s → Is (with_stale s side t false)
-  level_is s A t k = k
-  level_is s B t k = k
+  level_is s side t k = grind arith
 
   pub taken_is : (s : Store F P H) (t : ℕ) → Is s → Is (taken_a s t)
   taken_is s t k = is_if s.b.up _ _ k k
@@ -60,26 +58,17 @@ module _ {F P H : Type 0} (n : ℕ) where
     provisional_is s t i e k = is_if (is_loose s t) s (loosened s t) k k
 
     cut_is : (s : Store F P H) (t : ℕ) (i : Image) (o : Option F) → Is s → Is (cut_kept c s t i o)
-    cut_is s t i None k = k
-    cut_is s t i (Some f) k =
-        let z = with_frame s t (Some (c.frame i (c.modified f))) in same_is (parts_count c z (unpatched_moves z t stays)) k
+    cut_is s t i o k = grind (arith, same_is, parts_count, unpatched_moves, stays)
 
     pub left_is : (s : Store F P H) (t : ℕ) (i : Image) (origin : Origin) → Is s → Is (left_by c s t i origin)
-    left_is s t i (OfCommand bypass e) k = k
-    left_is s t i (OfCut bypass) k = cut_is s t i (frame_at s t) k
-    left_is s t i OfBackground k = k
+    left_is s t i origin k = grind (arith, cut_is)
 
     pub powerless_is : (s : Store F P H) → Is s → Is (powerless c s)
     powerless_is s k = same_is (parts_count c s (powerless_moves tt s stays)) k
 
     pub lost_is : (s : Store F P H) (loss : Loss) → Is s → Is (lost_by c (with_loss s loss) loss)
     unfolding L.cache_lost
-    lost_is s losses.Cache k =
-        let z = with_loss s losses.Cache in
-        same_is (swept_base c (tracks_of z) (record (loose_lost z) { queue = [] }))
-        (is_if (has_loose z) _ z k k)
-    lost_is s losses.Store k = same_is (store_base c (with_loss s losses.Store)) k
-    lost_is s (losses.Side side) k = side_is (with_loss s (losses.Side side)) side None k
+    lost_is s loss k = grind (arith, same_is, swept_base, is_if, store_base, side_is)
 
   pub ahead_is : (u : Usage) (s : Store F P H) (t : ℕ) → Is s → Is (ahead u s t)
   ahead_is u s t k = ap (λ (z : Store F P H). z.device) (ahead_only u s t) ∙ k

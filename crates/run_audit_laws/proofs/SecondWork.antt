@@ -32,24 +32,7 @@ record Falls (s z : MarksStore) : Type 0 where
   held : z.held ≡ s.held
 
 falls_on : (s z y : MarksStore) → Falls s z → Falls z y → Falls s y
-falls_on s z y f g = record {
-  cylinders = g.cylinders ∙ f.cylinders;
-  queue = g.queue ∙ f.queue;
-  half = g.half ∙ f.half;
-  a = g.a ∙ f.a;
-  b = g.b ∙ f.b;
-  held = g.held ∙ f.held;
-}
-
-settles_falls : (s z : MarksStore) (t : ℕ) → Settles s z t → Falls s z
-settles_falls s z t k = record {
-  cylinders = k.near.cylinders;
-  queue = k.near.queue;
-  half = k.near.half;
-  a = k.a;
-  b = k.b;
-  held = k.near.held;
-}
+falls_on s z y f g = search arith
 
 falls_self : (s : MarksStore) → Falls s s
 falls_self s = record { cylinders = refl; queue = refl; half = refl; a = refl; b = refl; held = refl }
@@ -57,22 +40,18 @@ falls_self s = record { cylinders = refl; queue = refl; half = refl; a = refl; b
 module _ (t : ℕ) where
   each_by : (b : Bool) (k : ℕ) (w : MarksStore) → Falls w (if b then w else settled by_plain w k) ×
       ((q : ℕ) → q ≢ k → spot_at (if b then w else settled by_plain w k) q ≡ spot_at w q)
-  each_by true k w = (falls_self w, λ q ne. refl)
-  each_by false k w = let g = settled_so w k in (settles_falls w (settled by_plain w k) k g.0, λ q ne. g.0.near.others q ne)
+  each_by b k w = grind (arith, falls_self, settled_so)
 
   over_falls : (k : ℕ) (s : MarksStore) → Falls s (over k (settled_but by_plain (Some t)) s)
   unfolding L.over
   over_falls zero s = falls_self s
-  over_falls (suc k) s =
-      let w = over k (settled_but by_plain (Some t)) s in falls_on s w _ (over_falls k s) (each_by (k == t) k w).0
+  over_falls (suc k) s = let w = over k (settled_but by_plain (Some t)) s in falls_on s w _ (over_falls k s) (each_by (k == t) k w).0
 
   -- one that isn't come to yet is as it was
   over_later : (k : ℕ) (s : MarksStore) (q : ℕ) → k ≤ q → spot_at (over k (settled_but by_plain (Some t)) s) q ≡ spot_at s q
   unfolding L.over
   over_later zero s q le = refl
-  over_later (suc k) s q le =
-      let w = over k (settled_but by_plain (Some t)) s in
-      (each_by (k == t) k w).1 q (λ e. absurd (omega (arith, le, e))) ∙ over_later k s q (omega (arith, le))
+  over_later (suc k) s q le = grind (arith, over_later k s q (omega (arith, le)), each_by)
 
   over_own : (k : ℕ) (s : MarksStore) → spot_at (over k (settled_but by_plain (Some t)) s) t ≡ spot_at s t
   unfolding L.over
@@ -136,32 +115,28 @@ module _ (s : MarksStore) (t : ℕ) (paired : s.paired ≡ true) (whole : (q : �
   unfolding L.side_lost
   failed_so n is false e = absurd (cc)
   failed_so n is true e =
-      let y = over (tracks_of s) (settled_but by_plain (Some t)) (down s B) in
       let f = over_falls t (tracks_of s) (down s B) in
-      had_weaker (told_falls n y) (λ z _ g. record {
-        cylinders = g.0.cylinders ∙ f.cylinders;
+      had_weaker (told_falls n (over (tracks_of s) (settled_but by_plain (Some t)) (down s B))) (λ z _ g. record {
+        cylinders = g.0.cylinders
+            ∙ f.cylinders;
         queue = g.0.queue ∙ f.queue;
         half = g.0.half ∙ f.half;
         a = g.0.a ∙ f.a;
-        shut = and_left (takes_b z) (stale_at z.b t) (and_left z.b.up (not z.held) (ap (λ (m : store.SideMarks). m.up) (g.0.b ∙ f.b)));
-        loose = ap (λ (p : Spot). p.loose) (g.1 t ∙ over_own t (tracks_of s) (down s B));
-        others = λ q lt ne.
-            let same = ap weight (g.1 q) in
-            let less = over_least t (tracks_of s) s q ne (whole q ne) (and_parts s.b.up (not s.held) is).0 (safe q lt ne) in
-            omega (arith, same, less);
+        shut = and_left (takes_b z) (stale_at z.b t) (and_left z.b.up
+            (not z.held) (ap (λ (m : store.SideMarks). m.up) (g.0.b ∙ f.b)));
+        loose = ap (λ (p : Spot). p.loose) (g.1 t ∙ over_own t (tracks_of s)
+            (down s B));
+        others = λ q lt ne. omega (
+          arith,
+          ap weight (g.1 q),
+          (over_least t (tracks_of s) s q ne (whole q ne) (and_parts s.b.up (not s.held) is).0
+              (safe q lt ne)),
+        );
       })
 
 -- the counts of calls count for nothing here
 again : (s : MarksStore) (t : ℕ) (z : MarksStore) → Second (W.write_counted s false) z t → Second s z t
-again s t z k = record {
-  cylinders = k.cylinders;
-  queue = k.queue;
-  half = k.half;
-  a = k.a;
-  shut = k.shut;
-  loose = k.loose;
-  others = k.others;
-}
+again s t z k = search arith
 
 module _ (s : MarksStore) (t : ℕ) (paired : s.paired ≡ true) (whole : (q : ℕ) → q ≢ t → half_is s.half q ≡ false)
     (safe : (q : ℕ) → q < tracks_of s → q ≢ t → IsSafe (spot_at s q)) where
@@ -175,22 +150,11 @@ module _ (s : MarksStore) (t : ℕ) (paired : s.paired ≡ true) (whole : (q : �
     loose = refl;
     others = λ q lt ne. same_weight s (with_stale s B t false) q ((near_stale_b s t false).others q ne);
   })
-  tried_so is false =
-      had_weaker (failed_so (W.write_counted s false) t paired whole safe (tracks_of s) is s.paired paired) (λ z _ k. again s t z k)
+  tried_so is false = had_weaker (failed_so (W.write_counted s false) t paired whole safe (tracks_of s) is s.paired paired) (λ z _ k. again s t z k)
 
   second_so : (r : Bool) → Had (write_second by_plain s t r) (λ z (_ : Unit {0}). Second s z t)
   unfolding W.write_second
-  second_so r =
-      had_if (takes_b s) (λ is. had_write (λ ok. tried_so is ok))
-      (λ off. had_done (record {
-        cylinders = refl;
-        queue = refl;
-        half = refl;
-        a = refl;
-        shut = and_left (takes_b s) (stale_at s.b t) off;
-        loose = refl;
-        others = λ q lt ne. as_least (weight_at s q) (weight_at s q) refl;
-      }))
+  second_so r = had_if (takes_b s) (λ is. had_write (λ ok. tried_so is ok)) (λ off. had_done (search (arith, and_left, as_least, weight_at)))
 
 -- The write is done, or no side has it
 
@@ -201,11 +165,7 @@ pub record Written (s z : MarksStore) (t : ℕ) : Type 0 where
 
 written_bared : (s x z : MarksStore) (t : ℕ) → Near s x t → x.a ≡ s.a → x.b ≡ s.b → x.loose ≡ s.loose → modified_by (frame_at x t) ≡ false → is_loose s t ≡ false →
     Bared x z t → Written s z t × (works (spot_at z t) ≡ false)
-written_bared s x z t n a b loose clean firm k = (
-  record { near = near_on s x z t n k.near; a = k.a ∙ a; b = k.b ∙ b },
-  idle (is_lost z t) (frame_at z t) (is_some (patch_at z t)) (is_loose z t) (ap modified_by k.frame ∙ clean) k.bare
-      (ap (λ (l : List Bool). get_or l t false) (k.loose ∙ loose) ∙ firm),
-)
+written_bared s x z t n a b loose clean firm k = grind (arith, near_on, idle)
 
 modified_set : (l : List (Option Bool)) (t : ℕ) (x : Option Bool) → modified_by x ≡ false → is_some (get_or l t None) ≡ true → modified_by (get_or (set l t x) t None) ≡ false
 modified_set [] t x e some = absurd (cc)
@@ -229,45 +189,21 @@ write_is_done s t i bypass firm =
 
 -- at most what a stale side A leaves to copy
 done_copies : (a stale c k d e : Bool) → (k && d) ≡ false → one ((a && stale && c) || (k && d && e)) ≤ one (a && stale)
-done_copies true true true k d e shut = omega arith
-done_copies true true false true false e shut = omega arith
-done_copies true true false true true e shut = absurd (cc)
-done_copies true true false false d e shut = omega arith
-done_copies true false c true false e shut = omega arith
-done_copies true false c true true e shut = absurd (cc)
-done_copies true false c false d e shut = omega arith
-done_copies false stale c true false e shut = omega arith
-done_copies false stale c true true e shut = absurd (cc)
-done_copies false stale c false d e shut = omega arith
+done_copies a stale c k d e shut = grind arith
 
 if_least : (b : Bool) (n : ℕ) → (if b then n else 0) ≤ n
-if_least true n = omega arith
-if_least false n = omega arith
+if_least b n = grind arith
 
 absent_sides : (a stale b held b_stale : Bool) → ((b && not held) && b_stale) ≡ false → ((a && not stale) || (b && not b_stale)) ≡ false →
     one a + one (b && not held) + one ((a && stale && (b && not b_stale)) || ((b && not held) && b_stale && (a && not stale))) ≤ one (a && stale)
-absent_sides true false b held b_stale shut off = absurd (cc)
-absent_sides true true true true true shut off = omega arith
-absent_sides true true true false true shut off = absurd (cc)
-absent_sides true true true held false shut off = absurd (cc)
-absent_sides true true false held b_stale shut off = omega arith
-absent_sides false stale true true true shut off = omega arith
-absent_sides false stale true false true shut off = absurd (cc)
-absent_sides false stale true held false shut off = absurd (cc)
-absent_sides false stale false held b_stale shut off = omega arith
+absent_sides a stale b held b_stale shut off = grind arith
 
 copies_same : (y v : MarksStore) (t : ℕ) → v.a ≡ y.a → v.b ≡ y.b → v.held ≡ y.held →
     sides (spot_at v t) + one (copies (spot_at v t)) ≡ sides (spot_at y t) + one (copies (spot_at y t))
-copies_same y v t a b held =
-    ap (λ (m : store.SideMarks). let p = record (spot_at v t) { a = m.up; a_stale = stale_at m t } in sides p + one (copies p)) a
-    ∙ ap (λ (m : store.SideMarks). let p = record (spot_at v t) { a = y.a.up; a_stale = stale_at y.a t; b = m.up; b_stale = stale_at m t } in sides p + one (copies p)) b
-    ∙ ap (λ (h : Bool). let p = record (spot_at y t) { held = h } in sides p + one (copies p)) held
+copies_same y v t a b held = grind arith
 
 only_copies : (y v : MarksStore) (t : ℕ) → v.a ≡ y.a → v.b ≡ y.b → v.held ≡ y.held → copies (spot_at v t) ≡ copies (spot_at y t)
-only_copies y v t a b held =
-    ap (λ (m : store.SideMarks). copies (record (spot_at v t) { a = m.up; a_stale = stale_at m t })) a
-    ∙ ap (λ (m : store.SideMarks). copies (record (spot_at v t) { a = y.a.up; a_stale = stale_at y.a t; b = m.up; b_stale = stale_at m t })) b
-    ∙ ap (λ (h : Bool). copies (record (spot_at y t) { held = h })) held
+only_copies y v t a b held = grind arith
 
 written_on : (s z y : MarksStore) (t : ℕ) → Written s z t → Written z y t → Written s y t
 written_on s z y t f g = record { near = near_on s z y t f.near g.near; a = g.a ∙ f.a; b = g.b ∙ f.b }
@@ -282,14 +218,10 @@ given_up s t (Some p) = record {
 
 kept_written : (s : MarksStore) (t : ℕ) (i : Image) (o : Option Bool) → Written s (cut_kept by_plain s t i o) t
 kept_written s t i None = record { near = near_self s t; a = refl; b = refl }
-kept_written s t i (Some m) =
-    let z = with_frame s t (Some m) in
-    written_on s z _ t (record { near = near_frame s t (Some m); a = refl; b = refl }) (given_up z t (patch_at z t))
+kept_written s t i (Some m) = let z = with_frame s t (Some m) in written_on s z _ t (search (arith, near_frame)) (given_up z t (patch_at z t))
 
 pub left_written : (s : MarksStore) (t : ℕ) (i : Image) (origin : Origin) → Written s (left_by by_plain s t i origin) t
-left_written s t i (OfCommand bypass e) = record { near = near_self s t; a = refl; b = refl }
-left_written s t i (OfCut bypass) = kept_written s t i (frame_at s t)
-left_written s t i OfBackground = record { near = near_self s t; a = refl; b = refl }
+left_written s t i origin = search (arith, kept_written, near_self)
 
 settled_written : (s : MarksStore) (t : ℕ) → Written s (settled by_plain s t) t
 settled_written s t = let k = (settled_so s t).0 in record { near = k.near; a = k.a; b = k.b }
@@ -325,20 +257,18 @@ module _ (s : MarksStore) (h : store.HalfWrite (Unit {0})) (is : s.half ≡ Some
   done_lower : (y v : MarksStore) → Second s y h.track → Written (half_closed y) v h.track → works (spot_at v h.track) ≡ false → Lower s v
   done_lower y v k g off =
       let t = h.track in
-      let w = whole_at v t g.near.half in
-      let n = half_off (works (spot_at v t)) (sides (spot_at v t)) 0 off in
-      let same = ap one (only_copies (half_closed y) v t g.a g.b g.near.held) in
-      let least = done_copies y.a.up (stale_at y.a t) (y.b.up && not (stale_at y.b t)) (takes_b y) (stale_at y.b t) (y.a.up && not (stale_at y.a t)) k.shut in
-      closing_lower y v k g (omega (arith, w, n, same, least))
+      closing_lower y v k g (omega (
+        arith,
+        whole_at v t g.near.half,
+        half_off (works (spot_at v t)) (sides (spot_at v t)) 0 off,
+        (ap one (only_copies
+            (half_closed y) v t g.a g.b g.near.held)),
+        (done_copies y.a.up (stale_at y.a t) (y.b.up && not (stale_at y.b t)) (takes_b y) (stale_at y.b t)
+            (y.a.up && not (stale_at y.a t)) k.shut),
+      ))
 
   absent_lower : (y v : MarksStore) → Second s y h.track → Written (half_closed y) v h.track → has_level y h.track ≡ false → Lower s v
-  absent_lower y v k g off =
-      let t = h.track in
-      let w = whole_at v t g.near.half in
-      let n = if_least (works (spot_at v t)) (sides (spot_at v t)) in
-      let same = copies_same (half_closed y) v t g.a g.b g.near.held in
-      let least = absent_sides y.a.up (stale_at y.a t) y.b.up y.held (stale_at y.b t) k.shut off in
-      closing_lower y v k g (omega (arith, w, n, same, least))
+  absent_lower y v k g off = grind (arith, closing_lower, whole_at, if_least, works, spot_at, sides, copies_same, absent_sides)
 
   finished_so : (y x : MarksStore) (i : Image) (bypass : Bool) → Second s y h.track → Written (half_closed y) x h.track → is_loose x h.track ≡ false →
       Had (finished by_plain x h.track i bypass) (λ v (_ : Bool). Lower s v)
@@ -348,9 +278,7 @@ module _ (s : MarksStore) (h : store.HalfWrite (Unit {0})) (is : s.half ≡ Some
 
   done_so : (y : MarksStore) (i : Image) (origin : Origin) → Second s y h.track → is_loose y h.track ≡ false →
       Had (D.second_done by_plain (half_closed y) h.track i origin) (λ v (_ : Bool). Lower s v)
-  done_so y i (OfCommand bypass e) k firm =
-      had_tell (finished_so y _ i bypass k
-      (record { near = near_by refl (λ q ne. refl); a = refl; b = refl }) firm)
+  done_so y i (OfCommand bypass e) k firm = had_tell (finished_so y _ i bypass k (search (arith, near_by)) firm)
   done_so y i (OfCut bypass) k firm = finished_so y (half_closed y) i bypass k (record { near = near_self (half_closed y) h.track; a = refl; b = refl }) firm
   done_so y i OfBackground k firm = finished_so y (half_closed y) i false k (record { near = near_self (half_closed y) h.track; a = refl; b = refl }) firm
 
@@ -365,5 +293,4 @@ module _ (s : MarksStore) (h : store.HalfWrite (Unit {0})) (is : s.half ≡ Some
   pub part_so : s.paired ≡ true → ((q : ℕ) → q < tracks_of s → q ≢ h.track → IsSafe (spot_at s q)) → is_loose s h.track ≡ false →
       Had (second_part by_plain s h) (λ v (_ : Bool). Lower s v)
   unfolding D.second_part
-  part_so paired safe firm =
-      had_then (second_so s h.track paired others_off safe true) (λ y _ k. by_level y _ h.origin k (k.loose ∙ firm))
+  part_so paired safe firm = had_then (second_so s h.track paired others_off safe true) (λ y _ k. by_level y _ h.origin k (k.loose ∙ firm))

@@ -31,10 +31,7 @@ cchh_are : (p : Cchh) → All IsByte (cchh_bytes p)
 cchh_are p = All-append IsByte (two_bytes p.cc) (two_bytes p.hh) (two_are p.cc) (two_are p.hh)
 
 count_are : (r : Record) → HoldsBytes r → All IsByte (count_area r)
-count_are r h =
-    All-append IsByte (cchh_bytes r.id.cchh) (r.id.r ∷ length r.key ∷ two_bytes (length r.body)) (cchh_are r.id.cchh)
-    (All-cons IsByte r.id.r (length r.key ∷ two_bytes (length r.body)) h.number
-    (All-cons IsByte (length r.key) (two_bytes (length r.body)) h.few (two_are (length r.body))))
+count_are r h = grind (arith, cchh_are, two_are)
 
 record_are : (r : Record) → HoldsBytes r → All IsByte (record_bytes r)
 record_are r h = All-append IsByte (count_area r) (r.key ++ r.body) (count_are r h) (All-append IsByte r.key r.body h.key h.body)
@@ -61,8 +58,7 @@ read_are t areas.Zero i all =
     All-append IsByte (count_area (record_at t.records i)) (record_at t.records i).body (count_are (record_at t.records i) h) h.body
 read_are t areas.Count i all = count_are (record_at t.records i) (at_holds t.records i all)
 read_are t areas.Data i all = (at_holds t.records i all).body
-read_are t areas.KeyData i all =
-    let h = at_holds t.records i all in All-append IsByte (record_at t.records i).key (record_at t.records i).body h.key h.body
+read_are t areas.KeyData i all = let h = at_holds t.records i all in All-append IsByte (record_at t.records i).key (record_at t.records i).body h.key h.body
 read_are t areas.CountKeyData i all = record_are (record_at t.records i) (at_holds t.records i all)
 read_are t areas.Multiple i all = records_are (drop i t.records) (All-drop HoldsBytes i t.records all)
 read_are t areas.Track i all =

@@ -109,34 +109,25 @@ no_more : (c many : ℕ) → not (nat_le (c + 1) many) ≡ (many - c == 0)
 no_more c many = grind (arith, nat_tests)
 
 both_out : (a b : Bool) → (not a || not b) ≡ not (a && b)
-both_out true b = refl
-both_out false b = refl
+both_out a b = grind arith
 
 all_not : (f g : ℕ → Bool) → ((q : ℕ) → g q ≡ not (f q)) → (l : List ℕ) → list_all g l ≡ not (list_any f l)
 all_not f g h [] = refl
-all_not f g h (q ∷ l) = by_both (f q) (g q) (list_any f l) (list_all g l) (h q) (all_not f g h l) where
-  by_both : (x y z w : Bool) → y ≡ not x → w ≡ not z → (y && w) ≡ not (x || z)
-  by_both true y z w e k = ap (λ (b : Bool). b && w) e
-  by_both false y z w e k = ap (λ (b : Bool). b && w) e ∙ k
+all_not f g h (q ∷ l) = grind (arith, all_not f g h l)
 
 pub choice_not : {X : Type 0} (a b : Bool) (x y : X) → b ≡ not a → (if a then x else y) ≡ (if b then y else x)
-choice_not true b x y e = sym (ap (λ (c : Bool). if c then y else x) e)
-choice_not false b x y e = sym (ap (λ (c : Bool). if c then y else x) e)
+choice_not a b x y e = grind arith
 
 -- who is admitted where nobody holds the device
 free_admits : (p : PathsState) (path : ℕ) (ccws : List Ccw) → p.owner ≡ None → is_admitted p path ccws ≡ true
-free_admits p path ccws free = by_owner p.owner free where
-  by_owner : (o : Option Owner) → o ≡ None → is_admitted (record p { owner = o }) path ccws ≡ true
-  by_owner None is = refl
-  by_owner (Some owner) is = absurd (cc)
+free_admits p path ccws free = grind arith
 
 abbrev answer_by : Option StartFault → ℕ → StartAnswer
 answer_by (Some fault) n = start_refused fault
 answer_by None n = answers.Accepted n
 
 own_same : (r : Option OpenEntry) (path : ℕ) → own_runs r path ≡ is_path_of r path
-own_same (Some o) path = refl
-own_same None path = refl
+own_same r path = grind arith
 
 module _ (x : MarksDevice) (p : Plainly x) where
   abbrev a : AuditedDevice
@@ -144,34 +135,23 @@ module _ (x : MarksDevice) (p : Plainly x) where
 
   -- what is kept of the paths
   paths_are : (state_of (audited x)).paths ≡ x.paths
-  paths_are =
-      ap (λ (e : PlainState). (plain_of x.plans e x.history).paths) (sym p.base) ∙ sym p.follows.keeps
+  paths_are = grind arith
 
   module _ (none : x.history.running ≡ None) where
     count_is : (path : ℕ) → started_count x.history path ≡ count_by (is_of_path path) x.history.items
-    count_is path =
-        let e : started_count x.history path ≡ count_by (is_of_path path) x.history.items + 0 =
-        ap (λ (r : Option OpenEntry). count_by (is_of_path path) x.history.items + (if is_path_of r path then 1 else 0)) none in
-        omega (arith, e)
+    count_is path = grind arith
 
     ordinal_is : (path : ℕ) → S.next_ordinal x path ≡ A.next_ordinal a path
     ordinal_is path = ap (λ (n : ℕ). n + 1) (count_is path)
 
     left_is : (path : ℕ) → (left x path == 0) ≡ not (has_left a path)
-    left_is path =
-        ap (λ (n : ℕ). length (planned x.plans path) - n == 0) (count_is path)
-        ∙ sym (no_more (count_by (is_of_path path) x.history.items) (length (planned x.plans path)))
+    left_is path = grind (arith, count_is, no_more)
 
     keeps_is : (path : ℕ) → keeps_out x path ≡ not (is_admitted (state_of a).paths path (program_of x.plans path (A.next_ordinal a path)))
-    keeps_is path =
-        ap (λ (q : PathsState). not (is_admitted q path (program_of x.plans path (S.next_ordinal x path)))) (sym paths_are)
-        ∙ ap (λ (n : ℕ). not (is_admitted (state_of a).paths path (program_of x.plans path n))) (ordinal_is path)
+    keeps_is path = grind (arith, paths_are, ordinal_is)
 
     out_is : (path : ℕ) → has_none_or_is_out x path ≡ not (may_start a path)
-    out_is path =
-        ap (λ (b : Bool). b || keeps_out x path) (left_is path)
-        ∙ ap (λ (b : Bool). not (has_left a path) || b) (keeps_is path)
-        ∙ both_out (has_left a path) (is_admitted (state_of a).paths path (program_of x.plans path (A.next_ordinal a path)))
+    out_is path = grind (arith, left_is, keeps_is, both_out)
 
     shut_is : is_shut x ≡ not (list_any (may_start a) four_paths)
     shut_is = all_not (may_start a) (has_none_or_is_out x) out_is four_paths
@@ -190,9 +170,7 @@ module _ (x : MarksDevice) (p : Plainly x) where
               ≡ start_refused (if b then faults.Shut owner else faults.Reserved owner)
           by_shut true = refl
           by_shut false = refl
-      held_by None is out =
-          absurd (let yes : admits ≡ true = free_admits (state_of a).paths path (program_of x.plans path (A.next_ordinal a path))
-          (ap (λ (q : PathsState). q.owner) paths_are ∙ is) in let both : true ≡ false = sym yes ∙ out in cc)
+      held_by None is out = grind (arith, free_admits)
 
       owner_is : (state_of a).paths.owner ≡ x.paths.owner
       owner_is = ap (λ (q : PathsState). q.owner) paths_are
@@ -200,26 +178,17 @@ module _ (x : MarksDevice) (p : Plainly x) where
       free_by : (l k : Bool) → has_left a path ≡ l → admits ≡ k → (if not l then answers.Done else if l && k then answers.Accepted (A.next_ordinal a path)
           else held_answer a (state_of a).paths.owner)
           ≡ answer_by (if not l then Some faults.PlanDone else if not k then reserved_fault x x.paths.owner else None) (S.next_ordinal x path)
-      free_by false k is out = refl
-      free_by true true is out = ap (λ (n : ℕ). answers.Accepted n) (sym (ordinal_is path))
-      free_by true false is out = ap (held_answer a) owner_is ∙ held_by x.paths.owner refl out
+      free_by l k is out = grind (arith, ordinal_is, owner_is, held_by)
 
       free_is : free_answer a path ≡ answer_by (idle_fault x path) (S.next_ordinal x path)
-      free_is =
-          free_by (has_left a path) admits refl refl
-          ∙ sym (ap (λ (b : Bool). answer_by (if b then Some faults.PlanDone else if keeps_out x path then reserved_fault x x.paths.owner else None)
-          (S.next_ordinal x path)) (left_is path)
-          ∙ ap (λ (b : Bool). answer_by (if not (has_left a path) then Some faults.PlanDone else if b then reserved_fault x x.paths.owner else None)
-          (S.next_ordinal x path)) (keeps_is path))
+      free_is = grind (arith, free_by, left_is, keeps_is)
 
   running_is : (path : ℕ) (r : Option OpenEntry) → x.history.running ≡ r →
       running_answer a path r ≡ answer_by (running_fault x path r) (S.next_ordinal x path)
-  running_is path (Some o) is = refl
-  running_is path None is = free_is is path
+  running_is path r is = grind (arith, free_is)
 
   lent_is : (path : ℕ) (l : Option ℕ) → lent_answer a path l ≡ answer_by (fault_by x path l) (S.next_ordinal x path)
-  lent_is path (Some of) = refl
-  lent_is path None = running_is path x.history.running refl
+  lent_is path l = grind (arith, running_is)
 
   -- where the path itself runs nothing
   pub answer_is : (path : ℕ) → lent_answer a path x.store.lent ≡ answer_by (start_fault x path) (S.next_ordinal x path)
@@ -229,11 +198,7 @@ module _ (x : MarksDevice) (p : Plainly x) where
 -- The line
 
 refused_same : (a : AuditedDevice) (path : ℕ) (fault : StartFault) → after_start a path (start_refused fault) ≡ a
-refused_same a path (faults.Secondary of) = refl
-refused_same a path (faults.Busy holder) = refl
-refused_same a path faults.PlanDone = refl
-refused_same a path (faults.Shut owner) = refl
-refused_same a path (faults.Reserved owner) = refl
+refused_same a path fault = grind arith
 
 module _ (s : Subsystem) (plain : ArePlain s.mounted) (path n : ℕ) (x : MarksDevice) (at : device_in (devices_of s) n ≡ Some x) where
   number_is : x.store.device ≡ n
@@ -249,36 +214,21 @@ module _ (s : Subsystem) (plain : ArePlain s.mounted) (path n : ℕ) (x : MarksD
   start_judged : (later : List EventLine) (answer : StartAnswer) → start_answer (audited x) path ≡ answer → (z : Subsystem) →
       with_device (map audited (devices_of s)) (after_start (audited x) path answer) ≡ map audited (devices_of z) →
       judged (stand s (wanted.Start path n ∷ later)) (lines.Start path n answer) ≡ Ok (stand z later)
-  start_judged later answer is z behind =
-      let from = stand s (wanted.Start path n ∷ later) in
-      let line = lines.Start path n answer in
-      first_judged s (wanted.Start path n) later line (stand z later)
-      (and_from (path == path) (n == n) (same_number path) (same_number n))
-      (then_some _ (audited x) (start_made from line path) (found_one (devices_of s) n x at)
-      ∙ ap (λ (b : StartAnswer). shown (lines.Start path x.store.device b) line (passed (changed from (after_start (audited x) path b)))) is
-      ∙ ap (λ (k : ℕ). shown (lines.Start path k answer) line (passed (changed from (after_start (audited x) path answer)))) number_is
-      ∙ shown_if true (lines.Start path n answer) line (passed (changed from (after_start (audited x) path answer)))
-      (and_from ((path == path) && (n == n)) (is_same_start answer answer)
-      (and_from (path == path) (n == n) (same_number path) (same_number n)) (same_start answer))
-      ∙ ap (λ (l : List AuditedDevice). Some (record { devices = l; events = later; due = (stand s later).due })) behind)
+  start_judged later answer is z behind = grind (arith, first_judged, and_from, same_number, then_some, found_one, number_is, shown_if, same_start)
 
   -- nothing is changed
   back_there : with_device (map audited (devices_of s)) (audited x) ≡ map audited (devices_of s)
   back_there =
       let m = mounted_too s.mounted n x at in
-      subst (λ (d : MarksDevice). with_device (map audited (devices s.mounted)) (audited d) ≡ map audited (devices s.mounted)) m.2
-      (put_at s.mounted n m.0 (ap (λ (d : MarksDevice). d.store.device) m.2 ∙ number_is)
-      ∙ put_same s.mounted n m.0 (λ y found. let e : Some m.0 ≡ Some y = sym m.1 ∙ found in
-      let same : m.0 ≡ y = cc in ap (λ (k : Mounted). audited k.device) same))
+      rw (← m.2) (put_at s.mounted n m.0 (ap (λ (d : MarksDevice). d.store.device) m.2 ∙ number_is) ∙ put_same s.mounted n m.0
+      (λ y found. let e : Some m.0 ≡ Some y = sym m.1 ∙ found in let same : m.0 ≡ y = cc in ap (λ (k : Mounted). audited k.device) same))
 
   ends_lead : (end : _) (answer : StartAnswer) → R.start_answer end ≡ answer → start_answer (audited x) path ≡ answer →
       after_start (audited x) path answer ≡ audited x →
       EventLeads s (wanted.Start path n) (Once (events.Start path n)) (quietly s s end)
   ends_lead end answer told is same later =
-      subst (λ (l : List ReportLine). LeadsBy (stand s (wanted.Start path n ∷ later)) l (stand s later))
-      (sym (quiet_lines (did.Started path n (R.start_answer end)) (devices_of s)))
-      (subst (λ (b : StartAnswer). LeadsBy (stand s (wanted.Start path n ∷ later)) (lines.Start path n b ∷ []) (stand s later)) (sym told)
-      (one_leads (stand s (wanted.Start path n ∷ later)) (stand s later) (lines.Start path n answer)
+      subst (λ (l : List ReportLine). LeadsBy (stand s (wanted.Start path n ∷ later)) l (stand s later)) (sym (quiet_lines (did.Started path n
+      (R.start_answer end)) (devices_of s))) (rw told (one_leads (stand s (wanted.Start path n ∷ later)) (stand s later) (lines.Start path n answer)
       (start_judged later answer is s (ap (with_device (map audited (devices_of s))) same ∙ back_there))))
 
   -- the path runs already
@@ -289,14 +239,11 @@ module _ (s : Subsystem) (plain : ArePlain s.mounted) (path n : ℕ) (x : MarksD
 
   module _ (other : is_path_of x.history.running path ≡ false) where
     its_answer : (o : Option StartFault) → start_fault x path ≡ o → start_answer (audited x) path ≡ answer_by o (S.next_ordinal x path)
-    its_answer o is =
-        ap (λ (b : Bool). if b then answers.Running else lent_answer (audited x) path x.store.lent) (own_same x.history.running path ∙ other)
-        ∙ answer_is x plainly path ∙ ap (λ (f : Option StartFault). answer_by f (S.next_ordinal x path)) is
+    its_answer o is = grind (arith, own_same, answer_is, plainly)
 
     fault_leads : (fault : StartFault) → start_fault x path ≡ Some fault →
         EventLeads s (wanted.Start path n) (Once (events.Start path n)) (quietly s s (ends.NotStarted fault))
-    fault_leads fault is =
-        ends_lead (ends.NotStarted fault) (start_refused fault) refl (its_answer (Some fault) is) (refused_same (audited x) path fault)
+    fault_leads fault is = ends_lead (ends.NotStarted fault) (start_refused fault) refl (its_answer (Some fault) is) (refused_same (audited x) path fault)
 
     -- It starts
 
@@ -316,8 +263,7 @@ module _ (s : Subsystem) (plain : ArePlain s.mounted) (path n : ℕ) (x : MarksD
       new = record m { device = start x path }
 
       nothing_told : TellsNothing m.device (start x path)
-      nothing_told =
-          subst (λ (d : MarksDevice). TellsNothing d (start x path)) (sym it_is) (start_tells x path (starts_where_idle x path free))
+      nothing_told = rw it_is (start_tells x path (starts_where_idle x path free))
 
       its_lines : work_lines (did.Started path n (answers.Accepted (S.next_ordinal x path))) 0 0 (devices_of s) (devices_of (with_mounted s n new))
           ≡ lines.Start path n (answers.Accepted (S.next_ordinal x path)) ∷ []
@@ -346,19 +292,12 @@ module _ (s : Subsystem) (plain : ArePlain s.mounted) (path n : ℕ) where
       (k : ℕ) → k ≡ n →
       EventLeads s (wanted.Start path n) (Once (events.Start path n))
       (quietly s (becomes s k (mounted_in s.mounted k) (start x path)) (ends.Started (S.next_ordinal x path)))
-  becomes_lead x at other free k is =
-      let m = mounted_too s.mounted n x at in
-      subst (λ (i : ℕ). EventLeads s (wanted.Start path n) (Once (events.Start path n))
-      (quietly s (becomes s i (mounted_in s.mounted i) (start x path)) (ends.Started (S.next_ordinal x path)))) (sym is)
-      (subst (λ (o : Option Mounted). EventLeads s (wanted.Start path n) (Once (events.Start path n))
-      (quietly s (becomes s n o (start x path)) (ends.Started (S.next_ordinal x path)))) (sym m.1)
-      (starts_lead s plain path n x at other free m.0 m.1 m.2))
+  becomes_lead x at other free k is = let m = mounted_too s.mounted n x at in rw (is, m.1) (starts_lead s plain path n x at other free m.0 m.1 m.2)
 
   by_fault : (x : MarksDevice) → device_in (devices_of s) n ≡ Some x → is_path_of x.history.running path ≡ false → (o : Option StartFault) →
       start_fault x path ≡ o → EventLeads s (wanted.Start path n) (Once (events.Start path n)) (happens_by s (start_by x path o))
   by_fault x at other (Some fault) is = fault_leads s plain path n x at other fault is
-  by_fault x at other None is =
-      becomes_lead x at other is (start x path).store.device (start_number s plain path n x at other)
+  by_fault x at other None is = becomes_lead x at other is (start x path).store.device (start_number s plain path n x at other)
 
   by_own : (x : MarksDevice) → device_in (devices_of s) n ≡ Some x → (b : Bool) → is_path_of x.history.running path ≡ b →
       EventLeads s (wanted.Start path n) (Once (events.Start path n))
@@ -369,6 +308,4 @@ module _ (s : Subsystem) (plain : ArePlain s.mounted) (path n : ℕ) where
   pub start_leads : (x : MarksDevice) → device_in (devices_of s) n ≡ Some x →
       EventLeads s (wanted.Start path n) (Once (events.Start path n)) (happens s (events.Start path n))
   unfolding H.happens E.deed
-  start_leads x at =
-      subst (λ (o : Option MarksDevice). EventLeads s (wanted.Start path n) (Once (events.Start path n)) (happens_by s (on_device o (starts path)))) (sym at)
-      (by_own x at (is_path_of x.history.running path) refl)
+  start_leads x at = rw at (by_own x at (is_path_of x.history.running path) refl)

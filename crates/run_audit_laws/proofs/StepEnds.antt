@@ -1,5 +1,5 @@
 -- The lines of a command that ends in a STEP.
-use Rattle.std.proofs.Common.{◌≡◌, ◌==◌, ◌++◌, ℕ, Bool, true, false, List, [], ◌∷◌, Option, Some, refl, ap, subst, ◌∙◌}
+use Rattle.std.proofs.Common.{arith, ◌≡◌, ◌==◌, ◌++◌, ℕ, Bool, true, false, List, [], ◌∷◌, Option, Some, refl, ap, subst, ◌∙◌}
 use Rattle.std.specs.Prelude.{◌&&◌, option_map}
 use Rattle.std.proofs.lemmas.Bool.{or_left, and_from}
 use Rattle.ckd_types.specs.declared.channel.CommandEnd.{CommandEnd}
@@ -36,25 +36,14 @@ module _ (xs : List AuditedDevice) (later : List EventLine) (a : AuditedDevice) 
 
   stands : (e : CommandEnd) → in_event (outlines (record { devices = xs; events = Step a.number ∷ later; due = Next }))
       (lines.End (end_line o.path a.number o.ordinal e)) (Step a.number) ≡ true
-  stands e =
-      let line = lines.End (end_line o.path a.number o.ordinal e) in
-      ap (λ (k : Option Outline). holds k (λ b. may_step b (lines.StepIdle a.number) line b.half))
-      (outlined xs a.number ∙ ap (λ (k : Option AuditedDevice). option_map outline_of k) has)
-      ∙ ap (may_step (outline_of a) (lines.StepIdle a.number) line) closed
-      ∙ ap (λ (r : Option OpenEntry). in_steps (outline_of a) (lines.StepIdle a.number) line (open_program r)) running
-      ∙ or_left ((o.path == o.path) && (a.number == a.number) && (o.ordinal == o.ordinal)) false
-      (and_from ((o.path == o.path) && (a.number == a.number)) (o.ordinal == o.ordinal)
-      (and_from (o.path == o.path) (a.number == a.number) (same_number o.path) (same_number a.number)) (same_number o.ordinal))
+  stands e = grind (arith, outlined, or_left, and_from, same_number)
 
   makes : (line : ReportLine) → event_made (record { devices = xs; events = Step a.number ∷ later; due = Next }) line (Step a.number)
       ≡ work_made (record { devices = xs; events = Step a.number ∷ later; due = Next }) line a
   makes line = then_some (device_in xs a.number) a (work_made from line) has
 
   pub step_ends : StepEnds xs later a o
-  step_ends p plain few = record {
-    plainly = plain_lead xs (Step a.number) later a has refl o running stands makes p plain (plain_end_is_tidy a o p plain few);
-    checked = λ sense is. check_lead xs (Step a.number) later a has refl o running stands makes p plain (plain_end_is_tidy a o p plain few) sense is;
-  }
+  step_ends = search (arith, plain_lead, stands, makes, plain_end_is_tidy, check_lead)
 
   -- all lines of the step
   pub step_leads : WholeStepLeads xs later a o

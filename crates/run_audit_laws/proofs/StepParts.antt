@@ -76,9 +76,7 @@ HalfLeft y None = ⊥
 
 turned_left : (w : MarksDevice) (path : ℕ) (chain : ChainState) (c : Came) → HasHalf w (half_after c) →
     HalfLeft (turned_by w path chain c) (Some (told_step c))
-turned_left w path chain (came.Ends e) p = ap (λ (s : MarksStore). half_by s.half) (turned_same w path chain (came.Ends e)) ∙ p
-turned_left w path chain (came.Checks e) p = p
-turned_left w path chain (came.HalfOpen t) p = p
+turned_left w path chain c p = grind (arith, turned_same)
 
 module _ (x : MarksDevice) where
   abbrev pub On : PlainState → Core → Type 0
@@ -110,9 +108,7 @@ module _ (num : ℕ) (empty : PlainState) (x : MarksDevice) (f : Follows num emp
   edited_half : (provisional : Bool) (t : ℕ) (e : _) (c : Core) →
       IsEdited (plain_of x.plans empty x.history) x.store.plain x.store.geometry x.store.cylinders (None, (x.store.lent, x.store.device)) provisional t e c →
       half_by c.half ≡ half.Closed
-  edited_half provisional t e c (firmly b d w firm how) = ap (λ (k : Core). half_by k.half) how ∙ walked_half x p b w
-  edited_half provisional t e c (loosely b d w loose so how) = ap (λ (k : Core). half_by k.half) how ∙ walked_half x p b w
-  edited_half provisional t e c (loosened b d w firm inside so how) = ap (λ (k : Core). half_by k.half) how ∙ walked_half x p b w
+  edited_half provisional t e c x5 = grind (arith, walked_half)
 
   module _ (now : x.chain ≡ Some chain) (whole : x.store.half ≡ None) (s : MarksStore) (e : core_of s ≡ core_of (noted_begin x.store)) where
     abbrev started : MarksDevice
@@ -126,38 +122,23 @@ module _ (num : ℕ) (empty : PlainState) (x : MarksDevice) (f : Follows num emp
       edit_half : (edit : Option TrackEdit) (c : Core) →
           EditSo (plain_of x.plans empty x.history) x.store.plain x.store.geometry x.store.cylinders (None, (x.store.lent, x.store.device))
           (settled_act chain.fixed.geometry x.paths o.path) chain (on num empty x f o running chain is).0 first edit c → half_by c.half ≡ half.Closed
-      edit_half None c w = walked_half x p c w
-      edit_half (Some k) c w = edited_half _ k.track k.edit c w
+      edit_half edit c w = grind (arith, walked_half, edited_half)
 
       turn_half : (k : List Track → Fed) (turn : Turn) (c : Core) →
           TurnIs (plain_of x.plans empty x.history) x.store.plain x.store.geometry x.store.cylinders (None, (x.store.lent, x.store.device))
           (settled_act chain.fixed.geometry x.paths o.path) chain (on num empty x f o running chain is).0 first k first turn c →
           half_by c.half ≡ half_after turn.came
-      turn_half k turn c (ended_so end after d end_is chain_is edit) = edit_half (k x.store.plain).edit d edit
-      turn_half k turn c (half_open t edit next d word below does half_is) = ap (λ (k : Core). half_by k.half) half_is.is
-      turn_half k turn c (equipment last d word w) = walked_half x p d w
-      turn_half k turn c (data_check last d word w) = walked_half x p d w
+      turn_half k turn c x4 = grind (arith, edit_half, walked_half)
 
     by_turn : (t : ℕ) (y : MarksStore) (a : Option Turn) →
         FollowSo (plain_of x.plans empty x.history) x.store.plain x.store.geometry x.store.cylinders (None, (x.store.lent, x.store.device))
         (settled_act chain.fixed.geometry x.paths o.path) chain (on num empty x f o running chain is).0 t (tracks_of s) chain t y a →
         Had (on_tracks by_plain (record (event_begun x) { store = s }) o.path chain y a) (λ z b. HalfLeft z b)
-    by_turn t y None w = absurd w
-    by_turn t y (Some turn) w =
-        had_done (turned_left (with_store started y) o.path turn.chain turn.came (turn_half t _ turn (core_of y) w))
+    by_turn t y a w = search (arith, had_done, turned_left, turn_half, core_of)
 
     -- or at none
     answered_left : (c : ChainState) (k : Progress) → Had (answered_by by_plain (record (event_begun x) { store = s }) o.path c k) (λ z b. HalfLeft z b)
-    answered_left c (progresses.Ended end) =
-        had_done (turned_left started o.path c (came.Ends end) first_half)
-    answered_left c (progresses.Local act) =
-        let w : MarksDevice = record (record (event_begun x) { store = s }) { paths = paths_behind x.paths o.path act } in
-        let turn = settles c (settled_act s.geometry x.paths o.path act) in
-        had_done (turned_left w o.path turn.chain turn.came first_half)
-    answered_left c (progresses.Need t) =
-        let turn = checks c Equipment in had_done (turned_left started o.path turn.chain turn.came first_half)
-    answered_left c (progresses.Write t edit) =
-        let turn = checks c Equipment in had_done (turned_left started o.path turn.chain turn.came first_half)
+    answered_left c k = search (arith, had_done, turned_left)
 
     by_need : (k : Option ℕ) → need_of chain ≡ k → Had (command_at by_plain (record (event_begun x) { store = s }) o.path chain k) (λ z b. HalfLeft z b)
     by_need (Some t) needs =
@@ -171,30 +152,19 @@ module _ (num : ℕ) (empty : PlainState) (x : MarksDevice) (f : Follows num emp
     by_need None needs = had_try (answered_left (stepped chain None).chain (stepped chain None).progress)
 
     begun_left : Had (command_by by_plain (record (event_begun x) { store = s }) (Some o) (Some chain)) (λ z b. HalfLeft z b)
-    begun_left =
-        let turn = checks chain Equipment in
-        had_if (has_loss o.acts)
-        (λ _. had_done (turned_left started o.path turn.chain turn.came first_half))
-        (λ _. by_need (need_of chain) refl)
+    begun_left = search (arith, had_if, had_done, turned_left, first_half, by_need)
 
     command_by_left : Had (command_by by_plain (record (event_begun x) { store = s }) x.history.running x.chain) (λ z b. HalfLeft z b)
-    command_by_left =
-        subst (λ (r : Option OpenEntry). Had (command_by by_plain (record (event_begun x) { store = s }) r x.chain) (λ z b. HalfLeft z b)) (sym running)
-        (subst (λ (k : Option ChainState). Had (command_by by_plain (record (event_begun x) { store = s }) (Some o) k) (λ z b. HalfLeft z b)) (sym now)
-        begun_left)
+    command_by_left = search (arith, begun_left)
 
 -- An event: its notes, its work, its end
 
 module _ (x : MarksDevice) where
   half_ended : (y : MarksDevice) (a : Option Stepped) (z : MarksStore) → core_of z ≡ core_of y.store → HalfLeft y a → HalfLeft (record y { store = z }) a
-  half_ended y (Some (steps.Ended e)) z is p = ap (λ (c : Core). half_by c.half) is ∙ p
-  half_ended y (Some (steps.Half t)) z is p = ap (λ (c : Core). half_by c.half) is ∙ p
-  half_ended y None z is p = p
+  half_ended y a z is p = grind arith
 
   left_parts : (y : MarksDevice) (a : Option Stepped) → IsStill (kept x.store) (base_in y) × (y.plans ≡ x.plans) → HalfLeft y a → IsLeft x y a
-  left_parts y (Some (steps.Ended e)) k p = parts_by x y half.Closed k p
-  left_parts y (Some (steps.Half t)) k p = parts_by x y half.OfCommand k p
-  left_parts y None k p = p
+  left_parts y a k p = grind (arith, parts_by)
 
   event_leaves : {A : Type 0} (q : MarksDevice → A → Type 0) →
       ((y : MarksDevice) (a : A) (z : MarksStore) → core_of z ≡ core_of y.store → q y a → q (record y { store = z }) a) →
@@ -208,9 +178,7 @@ module _ (num : ℕ) (empty : PlainState) (x : MarksDevice) (f : Follows num emp
   by_chain : (o : OpenEntry) → x.history.running ≡ Some o → x.store.half ≡ None → (k : Option ChainState) → f.before ≡ k →
       Had (command by_plain x) (λ y a. HalfLeft y a)
   unfolding N.command
-  by_chain o running whole None is = absurd
-      (subst (λ (k : Option ChainState). RunsAt x.plans (replay x.plans empty x.history.items) (Some o) k) is
-      (subst (λ (r : Option OpenEntry). RunsAt x.plans (replay x.plans empty x.history.items) r f.before) running f.runs))
+  by_chain o running whole None is = search arith
   by_chain o running whole (Some chain) is =
       let now = none_mid (core_of x.store) x.store.half x.history.running f.before x.chain whole f.mid ∙ is in
       had_try (event_leaves x HalfLeft (half_ended x) (λ z. command_by by_plain z z.history.running z.chain)
@@ -250,29 +218,17 @@ module _ (num : ℕ) (empty : PlainState) (x : MarksDevice) (f : Follows num emp
   second_half : (t : ℕ) (origin : Origin) (z : MarksStore) (done : Bool) →
       SecondSo (plain_of x.plans empty x.history) x.store.plain x.store.geometry x.store.cylinders (x.store.lent, x.store.device) t origin z done →
       half_by z.half ≡ half.Closed
-  second_half t (OfCommand bypass e) z true k = ap (λ (c : Core). half_by c.half) k.is ∙ walked_half x at k.before k.on
-  second_half t (OfCommand bypass e) z false w = walked_half x at (core_of z) w
-  second_half t (OfCut bypass) z done w = walked_half x at (core_of z) w
-  second_half t OfBackground z done w = walked_half x at (core_of z) w
+  second_half t origin z done k = grind (arith, walked_half, core_of)
 
   second_acts : (t : ℕ) (origin : Origin) (z : MarksStore) (done : Bool) →
       SecondSo (plain_of x.plans empty x.history) x.store.plain x.store.geometry x.store.cylinders (x.store.lent, x.store.device) t origin z done →
       AreActs (plain_of x.plans empty x.history) None z.acts
-  second_acts t (OfCommand bypass e) z true k =
-      subst (λ (l : List _). AreActs at None l) (sym (ap (λ (c : Core). c.acts) k.is)) k.on.are
-  second_acts t (OfCommand bypass e) z false w = w.are
-  second_acts t (OfCut bypass) z done w = w.are
-  second_acts t OfBackground z done w = w.are
+  second_acts t origin z done k = grind arith
 
   ended_second : (s z : MarksStore) (t : ℕ) (path : ℕ) (chain : ChainState) (bypass : Bool) (e : _) (done : Bool) → half_by z.half ≡ half.Closed →
       HalfSecond (turned (with_store (record (event_begun x) { store = s }) z) path (second_turn by_plain chain done)) (OfCommand bypass e)
       (V.second_told by_plain t (second_turn by_plain chain done).came)
-  ended_second s z t path chain bypass e true is =
-      let turn = second_turn by_plain chain true in
-      (turned_left (with_store (record (event_begun x) { store = s }) z) path turn.chain turn.came is, tt)
-  ended_second s z t path chain bypass e false is =
-      let turn = second_turn by_plain chain false in
-      (turned_left (with_store (record (event_begun x) { store = s }) z) path turn.chain turn.came is, tt)
+  ended_second s z t path chain bypass e done is = grind (arith, turned_left)
 
   of_command : (s z : MarksStore) (t : ℕ) (bypass : Bool) (edit : _) (done : Bool) → Halfway (core_of x.store) t edit x.history.running f.before x.chain →
       half_by z.half ≡ half.Closed → AreActs (plain_of x.plans empty x.history) None z.acts → (o : OpenEntry) → x.history.running ≡ Some o →
@@ -280,11 +236,9 @@ module _ (num : ℕ) (empty : PlainState) (x : MarksDevice) (f : Follows num emp
       (λ y a. HalfSecond y (OfCommand bypass edit) a)
   of_command s z t bypass edit done mid stored are o running =
       let r = runs_on num empty x f o running mid.origin mid.begins z.acts are in
-      subst (λ (k : Option OpenEntry). Had (command_ended by_plain (with_store (record (event_begun x) { store = s }) z) t k x.chain done)
-      (λ y a. HalfSecond y (OfCommand bypass edit) a)) (sym r.running)
-      (subst (λ (k : Option ChainState). Had (command_ended by_plain (with_store (record (event_begun x) { store = s }) z) t (Some r.entry) k done)
-      (λ y a. HalfSecond y (OfCommand bypass edit) a)) (sym mid.is)
-      (had_done (ended_second s z t r.entry.path mid.chain bypass edit done stored)))
+      rw r.running (subst (λ (k : Option ChainState). Had (command_ended by_plain (with_store (record (event_begun x) { store = s }) z) t
+      (Some r.entry) k done) (λ y a. HalfSecond y (OfCommand bypass edit) a)) (sym mid.is) (had_done
+      (ended_second s z t r.entry.path mid.chain bypass edit done stored)))
 
   by_program : (s z : MarksStore) (t : ℕ) (bypass : Bool) (edit : _) (done : Bool) → Halfway (core_of x.store) t edit x.history.running f.before x.chain →
       half_by z.half ≡ half.Closed → AreActs (plain_of x.plans empty x.history) None z.acts → (r : Option OpenEntry) → x.history.running ≡ r →
@@ -296,15 +250,13 @@ module _ (num : ℕ) (empty : PlainState) (x : MarksDevice) (f : Follows num emp
   unwritten_or : (s z : MarksStore) (t : ℕ) (origin : Origin) (done : Bool) → IsToldBy origin (seconds.Finished t) → IsToldBy origin (seconds.Unwritten t) →
       half_by z.half ≡ half.Closed →
       HalfSecond (with_store (record (event_begun x) { store = s }) z) origin (if done then seconds.Finished t else seconds.Unwritten t)
-  unwritten_or s z t origin true said other stored = (stored, said)
-  unwritten_or s z t origin false said other stored = (stored, other)
+  unwritten_or s z t origin done said other stored = grind arith
 
   by_origin : (s z : MarksStore) (t : ℕ) (origin : Origin) (done : Bool) → IsMidOf (core_of x.store) t origin x.history.running f.before x.chain →
       half_by z.half ≡ half.Closed → AreActs (plain_of x.plans empty x.history) None z.acts →
       Had (second_ended by_plain (with_store (record (event_begun x) { store = s }) z) t origin done) (λ y a. HalfSecond y origin a)
   by_origin s z t (OfCommand bypass e) done mid stored are = by_program s z t bypass e done mid stored are x.history.running refl
-  by_origin s z t (OfCut bypass) done mid stored are = had_done (unwritten_or s z t (OfCut bypass) done tt tt stored)
-  by_origin s z t OfBackground done mid stored are = had_done (unwritten_or s z t OfBackground done tt tt stored)
+  by_origin s z t origin done mid stored are = had_done (unwritten_or s z t origin done tt tt stored)
 
   halves_second : (h : store.HalfWrite (Unit {0})) → x.store.half ≡ Some h → Had (second by_plain x) (λ y a. HalfSecond y h.origin a)
   unfolding V.second

@@ -1,5 +1,5 @@
 -- An event line at which no command runs, behind the run of a deck.
-use Rattle.std.proofs.Common.{◌≡◌, ℕ, List, [], ◌∷◌, Option, Some, None, refl, sym, ap, subst, ◌∙◌}
+use Rattle.std.proofs.Common.{arith, ◌≡◌, ℕ, List, [], ◌∷◌, Option, Some, None, refl, sym, ap, subst, ◌∙◌}
 use Rattle.std.specs.Prelude.{IsSome, Ok}
 use Rattle.std.proofs.lemmas.List.{append-nil}
 use Rattle.std.specs.List.{flat_map}
@@ -32,25 +32,12 @@ use Rattle.subsystem_laws.proofs.RunLinks.{event_from}
 
 replaced_before : (s : Subsystem) (d : ℕ) (side : _) → (replaced s d side unfailing).before ≡ s
 unfolding H.replaced
-replaced_before s d side = by_mounted (mounted_in s.mounted d) where
-  by_fault : (m : Mounted) (f : Option OrderFault) → (replaced_by s d side unfailing m f).before ≡ s
-  by_fault m (Some fault) = refl
-  by_fault m None = refl
-
-  by_mounted : (o : Option Mounted) → (replaced_at s d side unfailing o).before ≡ s
-  by_mounted (Some m) = by_fault m (replace_fault m.device side)
-  by_mounted None = refl
+replaced_before s d side = grind arith
 
 -- of one event
 module _ (s : Subsystem) (e : EventLine) (asked : Asked) (h : EventHappened) where
   pub one_line : asked_by e ≡ asked → line_logged s asked ≡ logged asked h ∷ [] → h.before ≡ s → EventLeads s e asked h → LineLeads s e
-  one_line asks_so is before leads later =
-      subst (λ (ts : List Logged). LeadsBy (stand s (e ∷ later)) (flat_map lines_of ts) (stand (last_behind s ts) later))
-      (sym (ap (line_logged s) asks_so ∙ is))
-      (subst (λ (l : List ReportLine). LeadsBy (stand s (e ∷ later)) l (stand h.behind later))
-      (sym (append-nil (lines_of (logged asked h))
-      ∙ ap (λ (z : Subsystem). event_lines asked h.end h.reads h.writes (devices_of z) (devices_of h.behind)) before))
-      (leads later))
+  one_line asks_so is before leads = grind (arith, append-nil)
 
 once_logged : (s : Subsystem) (e : Event) → line_logged s (Once e) ≡ logged (Once e) (happens s e) ∷ []
 unfolding L.line_logged
@@ -61,11 +48,7 @@ unfolding L.line_logged
 replace_logged s d side = refl
 
 pub some_device : {T : Type 0} (o : Option MarksDevice) → IsSome o → ((x : MarksDevice) → o ≡ Some x → T) → T
-some_device (Some x) some go = go x refl
-some_device None some go = absurd (none_there None refl some) where
-  none_there : (o : Option MarksDevice) → o ≡ None → IsSome o → ⊥
-  none_there None is so = cc
-  none_there (Some x) is so = cc
+some_device o some go = grind arith
 
 module _ (s : Subsystem) (plain : ArePlain s.mounted) where
   pub once : (line : EventLine) (e : Event) → asked_by line ≡ Once e → EventLeads s line (Once e) (happens s e) → LineLeads s line
@@ -80,24 +63,12 @@ module _ (s : Subsystem) (plain : ArePlain s.mounted) where
       (λ x at. once (wanted.Reset path d) (events.Reset path d) refl (reset_leads s plain path d x at))
   still_leads wanted.RepairCache has = once wanted.RepairCache events.RepairCache refl (repair_cache_leads s)
   still_leads wanted.RepairStore has = once wanted.RepairStore events.RepairStore refl (repair_store_leads s)
-  still_leads (wanted.Replace d side) has =
-      some_device (device_in (devices_of s) d) has
-      (λ x at. one_line s (wanted.Replace d side) (Replace d side) (replaced s d side unfailing) refl (replace_logged s d side) (replaced_before s d side)
-      (replace_leads s d x at side))
+  still_leads (wanted.Replace d side) has = grind (arith, some_device, one_line, replace_logged, replaced_before, replace_leads)
   still_leads (wanted.Suspend d) has =
       some_device (device_in (devices_of s) d) has (λ x at. once (wanted.Suspend d) (events.Suspend d) refl (suspend_leads s d x at))
   still_leads (wanted.Resume d) has =
       some_device (device_in (devices_of s) d) has (λ x at. once (wanted.Resume d) (events.Resume d) refl (resume_leads s d x at))
-  still_leads (wanted.Step d) has = absurd has
-  still_leads (wanted.Run d) has = absurd has
-  still_leads (wanted.Back d) has = absurd has
-  still_leads (wanted.Settle d) has = absurd has
-  still_leads wanted.FailCache has = absurd has
-  still_leads wanted.FailStore has = absurd has
-  still_leads (wanted.FailVolume d side) has = absurd has
-  still_leads (wanted.Pair a b) has = absurd has
-  still_leads (wanted.Unpair a) has = absurd has
-  still_leads wanted.Power has = absurd has
+  still_leads e has = absurd has
 
 -- behind the run of a deck that was read
 pub still_line_leads : (text : List ℕ) (deck : DeckLines) → parsed text ≡ Ok deck → (e : EventLine) → IsStill (run_of deck).behind e →

@@ -1,5 +1,5 @@
 -- An audit says yes to a text of which the lines lead it to FINISH.
-use Rattle.std.proofs.Common.{◌≡◌, ◌+◌, ℕ, Bool, true, List, [], ◌∷◌, length, map, Some, sym, ap, ◌∙◌, if◌then◌else◌}
+use Rattle.std.proofs.Common.{arith, ◌≡◌, ◌+◌, ℕ, Bool, true, List, [], ◌∷◌, length, map, Some, sym, ap, ◌∙◌, if◌then◌else◌}
 use Rattle.std.specs.Prelude.{All, Result, Ok, Err}
 use Rattle.std.proofs.lemmas.List.Elements.{All-head, All-tail}
 use Rattle.std.proofs.lemmas.Bool.{le-ltb}
@@ -29,9 +29,7 @@ use Rattle.run_audit_laws.proofs.Runs.{report_leads}
 -- where what is written is read back
 module _ (again : (line : ReportLine) → IsLine line → line_of (text_of line) ≡ (if has_form line then Ok line else Err (form_fault line))) where
   read_again : (line : ReportLine) → IsLine line → has_form line ≡ true → line_of (text_of line) ≡ Ok line
-  read_again line ranges form = again line ranges ∙ ap (λ (b : Bool). by_form b) form where
-    by_form : Bool → Result ReportLine LineFault
-    by_form b = if b then Ok line else Err (form_fault line)
+  read_again line ranges form = grind arith
 
   all_texts : (lines : List ReportLine) (n : ℕ) (s t : AuditState) → All IsLine lines → All Formed lines → LeadsBy s lines t → t.due ≡ Nothing →
       judged_lines n s (map text_of lines) ≡ Yes

@@ -130,35 +130,20 @@ good : IsGood normal
 good = (refl, omega arith)
 
 status_good : (body : List ℕ) → IsGood (status_of body)
-status_good body = by_test (length body == 0) where
-  by_test : (b : Bool) → IsGood (if b then exception else normal)
-  by_test true = (refl, omega arith)
-  by_test false = good
+status_good body = grind (arith, good)
 
 -- at most its count is left
 ended_fits : (c : Ccw) (area : ℕ) (status : UnitStatus) → IsGood status → IsGood status × (c.count - min c.count area ≤ c.count)
-ended_fits c area status is = (is, left c.count (min c.count area)) where
-  left : (n m : ℕ) → n - m ≤ n
-  left n m = omega arith
+ended_fits c area status is = grind arith
 
 immediate_fits : (c : Ccw) → IsGood normal × (c.count ≤ c.count)
-immediate_fits c = (good, all c.count) where
-  all : (n : ℕ) → n ≤ n
-  all n = omega arith
+immediate_fits c = grind (arith, good)
 
 search_good : (met : Bool) → IsGood (search_status met)
-search_good true = (refl, omega arith)
-search_good false = good
+search_good met = grind (arith, good)
 
 read_good : (area : ReadArea) (body : List ℕ) → IsGood (read_status area body)
-read_good reads.Home body = good
-read_good reads.Zero body = good
-read_good reads.Count body = good
-read_good reads.Data body = status_good body
-read_good reads.KeyData body = status_good body
-read_good reads.CountKeyData body = good
-read_good reads.Multiple body = good
-read_good reads.Track body = good
+read_good area body = grind (arith, good, status_good)
 
 -- Where a record isn't found
 
@@ -172,14 +157,7 @@ MoveFits (Ok t) = ⊤
 MoveFits (Err sense) = IsRule sense
 
 after_fits : (e : Option Extent) (t : ℕ) → MoveFits (track_after e t)
-after_fits None t = by_test (t % 15 == 14) where
-  by_test : (b : Bool) → MoveFits (if b then Err end_of_cylinder_sense else Ok (t + 1))
-  by_test true = cylinder_rule
-  by_test false = tt
-after_fits (Some e) t = by_test (nat_le e.last t) where
-  by_test : (b : Bool) → MoveFits (if b then Err file_protected_sense else Ok (t + 1))
-  by_test true = protected_rule
-  by_test false = tt
+after_fits e t = grind (arith, cylinder_rule, protected_rule)
 
 next_fits : (s : Stance) → MoveFits (next_track s)
 next_fits s = by_test _ (after_fits s.extent s.track) where
@@ -188,23 +166,16 @@ next_fits s = by_test _ (after_fits s.extent s.track) where
   by_test false h = h
 
 moves_fits : (r : Result ℕ Sense) → MoveFits r → SoughtFits (moves_on r)
-moves_fits (Ok t) h = tt
-moves_fits (Err sense) h = h
+moves_fits r h = grind arith
 
 index_fits : (passes : ℕ) (o : Option ℕ) → SoughtFits (from_index passes o)
-index_fits passes (Some i) = tt
-index_fits passes None = no_record_rule
+index_fits passes o = grind (arith, no_record_rule)
 
 missed_fits : (b : Bool) (s : Stance) (again : Option ℕ) → SoughtFits (search_missed b s again)
-missed_fits true s again = moves_fits (next_track s) (next_fits s)
-missed_fits false s again = by_test (nat_le 1 s.passes) where
-  by_test : (b : Bool) → SoughtFits (if b then Nowhere no_record_sense else from_index (s.passes + 1) again)
-  by_test true = no_record_rule
-  by_test false = index_fits (s.passes + 1) again
+missed_fits b s again = grind (arith, moves_fits, next_fits, no_record_rule, index_fits)
 
 found_fits : (b : Bool) (s : Stance) (o again : Option ℕ) → SoughtFits (find_from b s o again)
-found_fits b s (Some i) again = tt
-found_fits b s None again = missed_fits b s again
+found_fits b s o again = grind (arith, missed_fits)
 
 -- A look at a track
 
@@ -217,40 +188,25 @@ abbrev pub LookFits : Ccw → Looked → Type 0
 LookFits c l = TurnFits c l.turned
 
 search_fits : (t : Track) (area : SearchArea) (s : Stance) (c : Ccw) (k : Sought) → SoughtFits k → LookFits c (search_sought t area s c k)
-search_fits t area s c (Here i passes) h = ended_fits c _ _ (search_good _)
-search_fits t area s c (Onward u) h = tt
-search_fits t area s c (Nowhere sense) h = refused_fits s c sense h
+search_fits t area s c k h = grind (arith, ended_fits, search_good, refused_fits)
 
 reads_fit : (t : Track) (area : ReadArea) (s : Stance) (c : Ccw) (k : Sought) → SoughtFits k → LookFits c (read_sought t area s c k)
-reads_fit t area s c (Here i passes) h = ended_fits c _ _ (read_good area _)
-reads_fit t area s c (Onward u) h = tt
-reads_fit t area s c (Nowhere sense) h = refused_fits s c sense h
+reads_fit t area s c k h = grind (arith, ended_fits, read_good, refused_fits)
 
 data_fits : (d : Bool) (s : Stance) (c : Ccw) (i : ℕ) (r : Record) → LookFits c (update_data d s c i r)
-data_fits d s c i r =
-    cond_both (length r.body == 0) (ends (update_ended d s c i r.body 0))
-    (edits (Update i r.key (given_at 0 (length r.body) c)) (update_ended d s c i r.body (length r.body))) (LookFits c)
-    (λ _. ended_fits c _ _ (status_good r.body)) (λ _. ended_fits c _ _ (status_good r.body))
+data_fits d s c i r = grind (arith, cond_both, ended_fits, status_good)
 
 record_fits : (key d : Bool) (s : Stance) (c : Ccw) (i : ℕ) (r : Record) → LookFits c (update_record key d s c i r)
-record_fits true d s c i r = ended_fits c _ _ (status_good r.body)
-record_fits false d s c i r = data_fits d s c i r
+record_fits key d s c i r = grind (arith, ended_fits, status_good, data_fits)
 
 updates_fit : (key d : Bool) (records : List Record) (s : Stance) (c : Ccw) (k : Sought) → SoughtFits k → LookFits c (update_sought key d records s c k)
-updates_fit key d records s c (Here i passes) h = record_fits key d s c i (record_at records i)
-updates_fit key d records s c (Onward t) h = tt
-updates_fit key d records s c (Nowhere sense) h = refused_fits s c sense h
+updates_fit key d records s c k h = grind (arith, record_fits, refused_fits)
 
 formats_fit : (g : Geometry) (records : List Record) (after : After) (s : Stance) (c : Ccw) (i : ℕ) → LookFits c (format_behind g records after s c i)
-formats_fit g records after s c i =
-    cond_both (has_room_behind g records i (key_given c) (body_given c))
-    (edits (Format i (record_given c)) (format_ended after s c (i + 1) (8 + key_given c + body_given c)))
-    (ends (refused s c track_format_sense)) (LookFits c) (λ _. ended_fits c _ _ good) (λ _. refused_fits s c track_format_sense format_rule)
+formats_fit g records after s c i = grind (arith, cond_both, ended_fits, good, refused_fits, format_rule)
 
 zeros_fit : (s : Stance) (c : Ccw) → LookFits c (zero_on s c)
-zeros_fit s c =
-    cond_both (is_zero_given c) (edits (ZeroEdit (record_given c)) (format_ended Wrote s c 0 16)) (ends (refused s c track_format_sense)) (LookFits c)
-    (λ _. ended_fits c _ _ good) (λ _. refused_fits s c track_format_sense format_rule)
+zeros_fit s c = grind (arith, cond_both, ended_fits, good, refused_fits, format_rule)
 
 writes_fit : (g : Geometry) (t : Track) (s : Stance) (c : Ccw) (w : Write) → LookFits c (write_on g t s c w)
 writes_fit g t s c Data = updates_fit false (is_some s.domain) t.records s c _ (found_fits (is_some s.domain) s _ _)
@@ -262,14 +218,10 @@ writes_fit g t s c NextTrack = formats_fit g t.records Other s c 0
 writes_fit g t s c Zero = zeros_fit s c
 
 found_record_fits : (s : Stance) (c : Ccw) (d : Domain) (o : Option ℕ) → Fits c (located s c d o).ending
-found_record_fits s c d (Some i) = ended_fits c _ _ good
-found_record_fits s c d None = refused_fits s c no_record_sense no_record_rule
+found_record_fits s c d o = grind (arith, ended_fits, good, refused_fits, no_record_rule)
 
 pub look_fits : (g : Geometry) (t : Track) (s : Stance) (c : Ccw) (look : Look) → LookFits c (look_on g t s c look)
-look_fits g t s c (Finds d) = found_record_fits s c d _
-look_fits g t s c (Searches x) = search_fits t x.area s c _ (found_fits x.multitrack s _ _)
-look_fits g t s c (Reads r) = reads_fit t r.area s c _ (found_fits r.multitrack s _ _)
-look_fits g t s c (Writes w) = writes_fit g t s c w
+look_fits g t s c look = grind (arith, found_record_fits, search_fits, found_fits, reads_fit, writes_fit)
 
 -- From track to track: but for one that looks at more tracks than there are
 
@@ -278,17 +230,13 @@ WalkFits c o = Fits c o.ending ⊎ ((o.ending.sense ≡ Some equipment_sense) ×
 
 turned_fits : (c : Ccw) (t : ℕ) (on : Stance → Walked) (s : Stance) (k : Turned) → TurnFits c k → ((z : Stance) → WalkFits c (on z).outcome) →
     WalkFits c (walked t on s k).outcome
-turned_fits c t on s (turns.Ended e) h go = inl h
-turned_fits c t on s turns.Onward h go = go s
-turned_fits c t on s (turns.Edits edit e) h go = inl h
+turned_fits c t on s k h go = grind arith
 
 walk_fits : (n : ℕ) (g : Geometry) (tracks : ℕ → Track) (start : Stance) (c : Ccw) (look : Look) (s : Stance) →
     WalkFits c (walk n g tracks start c look s).outcome
 unfolding W.walk
 walk_fits zero g tracks start c look s = inr (refl, refl, refl)
-walk_fits (suc n) g tracks start c look s =
-    turned_fits c s.track (walk n g tracks start c look) (look_on g (tracks s.track) s c look).stance (look_on g (tracks s.track) s c look).turned
-    (look_fits g (tracks s.track) s c look) (walk_fits n g tracks start c look)
+walk_fits (suc n) g tracks start c look s = grind (arith, walk_fits n g tracks start c look, turned_fits, look_fits)
 
 -- How a command begins
 
@@ -306,13 +254,10 @@ FaultFits None = ⊤
 mask_fits : (mask : ℕ) (command : Command) → FaultFits (mask_fault mask command)
 mask_fits mask (commands.Control k) = cond_both (permits_seek mask k) None (Some file_protected_sense) FaultFits (λ _. tt) (λ _. protected_rule)
 mask_fits mask (commands.Write w) = cond_both (permits_write mask w) None (Some (reject_sense 2)) FaultFits (λ _. tt) (λ _. rejects 2 (omega arith))
-mask_fits mask (commands.Search x) = tt
-mask_fits mask (commands.Read r) = tt
-mask_fits mask (commands.Device d) = tt
+mask_fits mask command = tt
 
 masked_fits : (s : Stance) (order : CommandOrder) (o : Option Sense) → FaultFits o → OrderFits (masked_order s order o)
-masked_fits s order (Some sense) h = h
-masked_fits s order None h = placed_fits s order
+masked_fits s order o h = grind (arith, placed_fits)
 
 permitted_fits : (s : Stance) (command : Command) (o : Option CommandOrder) → OrderFits (permitted_order s command o)
 permitted_fits s command None = rejects 4 (omega arith)
@@ -333,59 +278,28 @@ OpeningFits c (openings.Looks look) = ⊤
 OpeningFits c (openings.Asks act) = ⊤
 
 moved_fits : (s : Stance) (c : Ccw) (look : Look) (r : Result ℕ Sense) → MoveFits r → OpeningFits c (moved s c look r).opening
-moved_fits s c look (Ok t) h = tt
-moved_fits s c look (Err sense) h = refused_fits s c sense h
+moved_fits s c look r h = grind (arith, refused_fits)
 
 track_from_fits : (s : Stance) (c : Ccw) (r : Read) (place : Place) → OpeningFits c (read_from s c r reads.Track place).opening
-track_from_fits s c r Index = tt
-track_from_fits s c r Home = moved_fits s c (Reads r) (track_after s.extent s.track) (after_fits s.extent s.track)
-track_from_fits s c r (Count i) = moved_fits s c (Reads r) (track_after s.extent s.track) (after_fits s.extent s.track)
-track_from_fits s c r (Key i) = moved_fits s c (Reads r) (track_after s.extent s.track) (after_fits s.extent s.track)
-track_from_fits s c r (Body i) = moved_fits s c (Reads r) (track_after s.extent s.track) (after_fits s.extent s.track)
+track_from_fits s c r place = grind (arith, moved_fits, after_fits)
 
 read_from_fits : (s : Stance) (c : Ccw) (r : Read) (area : ReadArea) (place : Place) → OpeningFits c (read_from s c r area place).opening
-read_from_fits s c r reads.Track place = track_from_fits s c r place
-read_from_fits s c r reads.Home place = tt
-read_from_fits s c r reads.Zero place = tt
-read_from_fits s c r reads.Count place = tt
-read_from_fits s c r reads.Data place = tt
-read_from_fits s c r reads.KeyData place = tt
-read_from_fits s c r reads.CountKeyData place = tt
-read_from_fits s c r reads.Multiple place = tt
+read_from_fits s c r area place = grind (arith, track_from_fits)
 
 write_from_fits : (s : Stance) (c : Ccw) (w : Write) → OpeningFits c (look_from s c (Writes w)).opening
-write_from_fits s c Data = tt
-write_from_fits s c UpdateData = tt
-write_from_fits s c KeyData = tt
-write_from_fits s c UpdateKeyData = tt
-write_from_fits s c CountKeyData = tt
-write_from_fits s c NextTrack = moved_fits s c (Writes NextTrack) (track_after s.extent s.track) (after_fits s.extent s.track)
-write_from_fits s c Zero = tt
+write_from_fits s c w = grind (arith, moved_fits, after_fits)
 
 look_from_fits : (s : Stance) (c : Ccw) (look : Look) → OpeningFits c (look_from s c look).opening
-look_from_fits s c (Finds d) = tt
-look_from_fits s c (Searches x) = tt
-look_from_fits s c (Reads r) = read_from_fits s c r r.area s.place
-look_from_fits s c (Writes w) = write_from_fits s c w
+look_from_fits s c look = grind (arith, read_from_fits, write_from_fits)
 
 locating_fits : (s : Stance) (c : Ccw) (d : Domain) (o : Option Place) → OpeningFits c (locating s c d o).opening
-locating_fits s c d (Some place) = ended_fits c _ _ good
-locating_fits s c d None = tt
+locating_fits s c d o = grind (arith, ended_fits, good)
 
 begun_fits : (s : Stance) (c : Ccw) (order : CommandOrder) → OpeningFits c (begun s c order).opening
-begun_fits s c Nothing = immediate_fits c
-begun_fits s c (Seeks t) = ended_fits c _ _ good
-begun_fits s c Recalibrates = immediate_fits c
-begun_fits s c SetsSector = ended_fits c _ _ good
-begun_fits s c (SetsMask mask) = ended_fits c _ _ good
-begun_fits s c (Defines e) = ended_fits c _ _ good
-begun_fits s c (Locates d) = locating_fits s c d (unseen_place d.orientation)
-begun_fits s c (Looks look) = look_from_fits s c look
-begun_fits s c (Asks act) = tt
+begun_fits s c order = grind (arith, immediate_fits, ended_fits, good, locating_fits, look_from_fits)
 
 opened_fits : (s : Stance) (c : Ccw) (r : Result CommandOrder Sense) → OrderFits r → OpeningFits c (opening_with s c r).opening
-opened_fits s c (Ok order) h = begun_fits s c order
-opened_fits s c (Err sense) h = refused_fits s c sense h
+opened_fits s c r h = grind (arith, begun_fits, refused_fits)
 
 pub opening_fits : (f : Fixed) (s : Stance) (c : Ccw) → OpeningFits c (opening_of f s c).opening
 opening_fits f s c = opened_fits s c (order_of f s c) (order_fits f s c _)
@@ -393,13 +307,7 @@ opening_fits f s c = opened_fits s c (order_of f s c) (order_fits f s c _)
 -- The whole effect
 
 done_fits : (s : Stance) (c : Ccw) (bytes : List ℕ) (act : LocalAct) → Fits c (act_outcome s c bytes act).ending
-done_fits s c bytes (acts.SetGroup function id) = ended_fits c _ _ good
-done_fits s c bytes acts.Sense = ended_fits c _ _ good
-done_fits s c bytes acts.SenseId = ended_fits c _ _ good
-done_fits s c bytes acts.Reserve = ended_fits c _ _ good
-done_fits s c bytes acts.Release = ended_fits c _ _ good
-done_fits s c bytes acts.Steal = ended_fits c _ _ good
-done_fits s c bytes acts.SenseGroup = ended_fits c _ _ good
+done_fits s c bytes act = grind (arith, ended_fits, good)
 
 pub act_fits : (f : Fixed) (paths : PathsState) (path : ℕ) (s : Stance) (c : Ccw) (act : LocalAct) (o : Option GroupFault) →
     Fits c (acted_by f paths path s c act o).outcome.ending
@@ -408,30 +316,22 @@ act_fits f paths path s c act None = done_fits s c _ act
 
 effect_fits : (f : Fixed) (paths : PathsState) (tracks : ℕ → Track) (path : ℕ) (start : Stance) (c : Ccw) (s : Stance) (o : Opening) → OpeningFits c o →
     WalkFits c (effect_by f paths tracks path start c s o).outcome
-effect_fits f paths tracks path start c s (openings.Over e) h = inl h
-effect_fits f paths tracks path start c s (openings.Looks look) h = walk_fits (f.cylinders * 15) f.geometry tracks start c look s
-effect_fits f paths tracks path start c s (openings.Asks act) h = inl (act_fits f paths path start c act (act_fault paths path act))
+effect_fits f paths tracks path start c s o h = grind (arith, walk_fits, act_fits)
 
 pub outcome_fits : (f : Fixed) (state : PlainState) (path : ℕ) (s : Stance) (c : Ccw) → WalkFits c (effect_on f state path s c).outcome
-outcome_fits f state path s c =
-    effect_fits f state.paths _ path s c (opening_of f s c).stance (opening_of f s c).opening (opening_fits f s c)
+outcome_fits f state path s c = grind (arith, effect_fits, opening_fits)
 
 -- Its end
 
 no_more : (a b d : Bool) → (a && false && b && d) ≡ false
-no_more true b d = refl
-no_more false b d = refl
+no_more a b d = grind arith
 
 -- the chain of a command that ends with unit check doesn't go on
 note_is : (i : ℕ) (c : Ccw) (o : Outcome) → o.ending.status ≡ check → note_of c o ≡ o.ending.note
-note_is i c o is =
-    ap (λ (x : Bool). if x && at_limit o.stance then Limit else o.ending.note)
-    (ap (λ (s : UnitStatus). is_chained c && not (has_unit_check s) && not (has_unit_exception s) && is_plain o.ending.note) is
-    ∙ no_more (is_chained c) (not (has_unit_exception check)) (is_plain o.ending.note))
+note_is i c o is = grind (arith, no_more)
 
 tidy_by : (i : ℕ) (c : Ccw) (o : Outcome) (s : Option Sense) → FitsBy c o.ending s → TidyBy c (end_at_word i c o) s
-tidy_by i c o (Some sense) h = (h.0, h.1, note_is i c o h.0 ∙ h.2, h.3, h.4.0, h.4.1)
-tidy_by i c o None h = h.0.0
+tidy_by i c o s h = grind (arith, note_is)
 
 -- an end of the plain device, of a command that ends before it has looked at more tracks than there are
 pub end_is_tidy : (i : ℕ) (f : Fixed) (state : PlainState) (path : ℕ) (s : Stance) (c : Ccw) →

@@ -27,6 +27,7 @@ use Rattle.std.proofs.lemmas.Bool.{eq-eqb, eqb-false, eqb-true, ne_eqb}
 use Rattle.std.proofs.lemmas.List.Elements.{All-head}
 use Rattle.ckd_types.specs.declared.paths.Side.{Side}
 use Rattle.ckd_types.specs.declared.paths.Side.TheVariants as sides
+use Rattle.loss_model.specs.declared.Loss.{Loss}
 use Rattle.loss_model.specs.declared.Loss.TheVariants as losses
 use Rattle.deck_text.specs.declared.line.DeviceLine.{DeviceLine}
 use Rattle.deck_text.specs.DeckLines.{DeckLines}
@@ -125,20 +126,11 @@ put_tie n x (t ∷ ts) = if t.number == n then x ∷ ts else t ∷ put_tie n x t
 
 ties_put : (ms : List Mounted) (n : ℕ) (x : Mounted) → ties (put_in ms n x) ≡ put_tie n (tie x.device) (ties ms)
 ties_put [] n x = refl
-ties_put (m ∷ ms) n x = by_test (number_of m == n) (ties_put ms n x) where
-  by_test : (b : Bool) → ties (put_in ms n x) ≡ put_tie n (tie x.device) (ties ms) →
-      ties (if b then x ∷ ms else m ∷ put_in ms n x)
-      ≡ (if b then tie x.device ∷ ties ms else tie m.device ∷ put_tie n (tie x.device) (ties ms))
-  by_test true rest = refl
-  by_test false rest = ap (λ (l : List Tie). tie m.device ∷ l) rest
+ties_put (m ∷ ms) n x = grind (arith, ties_put ms n x)
 
 tie_found : (ms : List Mounted) (n : ℕ) (m : Mounted) → mounted_in ms n ≡ Some m → tie_at n (ties ms) ≡ Some (tie m.device)
 tie_found [] n m is = absurd (cc)
-tie_found (k ∷ ms) n m is = by_test (number_of k == n) is (tie_found ms n m) where
-  by_test : (b : Bool) → (if b then Some k else mounted_in ms n) ≡ Some m → (mounted_in ms n ≡ Some m → tie_at n (ties ms) ≡ Some (tie m.device)) →
-      (if b then Some (tie k.device) else tie_at n (ties ms)) ≡ Some (tie m.device)
-  by_test true found rest = let same : k ≡ m = cc in ap (λ (x : Mounted). Some (tie x.device)) same
-  by_test false found rest = rest found
+tie_found (k ∷ ms) n m is = grind (arith, tie_found ms n m)
 
 module _ (n : ℕ) (x : Tie) (same : x.number ≡ n) where
   put_own : (ts : List Tie) (o : Tie) → tie_at n ts ≡ Some o → x ≡ o → put_tie n x ts ≡ ts
@@ -151,70 +143,32 @@ module _ (n : ℕ) (x : Tie) (same : x.number ≡ n) where
 
   numbers_put : (ts : List Tie) → map (λ (t : Tie). t.number) (put_tie n x ts) ≡ map (λ (t : Tie). t.number) ts
   numbers_put [] = refl
-  numbers_put (t ∷ ts) = by_test (t.number == n) refl (numbers_put ts) where
-    by_test : (b : Bool) → (t.number == n) ≡ b → map (λ (t : Tie). t.number) (put_tie n x ts) ≡ map (λ (t : Tie). t.number) ts →
-        map (λ (t : Tie). t.number) (if b then x ∷ ts else t ∷ put_tie n x ts) ≡ t.number ∷ map (λ (t : Tie). t.number) ts
-    by_test true is rest = ap (λ (k : ℕ). k ∷ map (λ (t : Tie). t.number) ts) (same ∙ sym (eqb-true t.number n is))
-    by_test false is rest = ap (λ (l : List ℕ). t.number ∷ l) rest
+  numbers_put (t ∷ ts) = grind (arith, numbers_put ts)
 
   lent_put : (a : ℕ) (ts : List Tie) (o : Tie) → tie_at n ts ≡ Some o →
       lent_count a (put_tie n x ts) + one_if (is_lent_to o.lent a) ≡ lent_count a ts + one_if (is_lent_to x.lent a)
   lent_put a [] o is = absurd (cc)
-  lent_put a (t ∷ ts) o is = by_test (t.number == n) is (lent_put a ts o) where
-    by_test : (b : Bool) → (if b then Some t else tie_at n ts) ≡ Some o →
-        (tie_at n ts ≡ Some o → lent_count a (put_tie n x ts) + one_if (is_lent_to o.lent a) ≡ lent_count a ts + one_if (is_lent_to x.lent a)) →
-        lent_count a (if b then x ∷ ts else t ∷ put_tie n x ts) + one_if (is_lent_to o.lent a)
-        ≡ (one_if (is_lent_to t.lent a) + lent_count a ts) + one_if (is_lent_to x.lent a)
-    by_test true found rest =
-        let it : t ≡ o = cc in
-        let lent : one_if (is_lent_to t.lent a) ≡ one_if (is_lent_to o.lent a) = ap (λ (y : Tie). one_if (is_lent_to y.lent a)) it in
-        omega (arith, lent)
-    by_test false found rest = let more = rest found in omega (arith, more)
+  lent_put a (t ∷ ts) o is = grind (arith, lent_put a ts o)
 
   pair_here : (ts : List Tie) (o : Tie) → tie_at n ts ≡ Some o → pair_count n (put_tie n x ts) ≡ one_if x.paired
   pair_here [] o is = absurd (cc)
-  pair_here (t ∷ ts) o is = by_test (t.number == n) refl is (pair_here ts o) where
-    by_test : (b : Bool) → (t.number == n) ≡ b → (if b then Some t else tie_at n ts) ≡ Some o →
-        (tie_at n ts ≡ Some o → pair_count n (put_tie n x ts) ≡ one_if x.paired) →
-        pair_count n (if b then x ∷ ts else t ∷ put_tie n x ts) ≡ one_if x.paired
-    by_test true test found rest = ap (λ (b : Bool). if b then one_if x.paired else pair_count n ts) (eq-eqb x.number n same)
-    by_test false test found rest = ap (λ (b : Bool). if b then one_if t.paired else pair_count n (put_tie n x ts)) test ∙ rest found
+  pair_here (t ∷ ts) o is = grind (arith, pair_here ts o)
 
   pair_other : (a : ℕ) → (n == a) ≡ false → (ts : List Tie) → pair_count a (put_tie n x ts) ≡ pair_count a ts
   pair_other a far [] = refl
-  pair_other a far (t ∷ ts) = by_test (t.number == n) refl (pair_other a far ts) where
-    by_test : (b : Bool) → (t.number == n) ≡ b → pair_count a (put_tie n x ts) ≡ pair_count a ts →
-        pair_count a (if b then x ∷ ts else t ∷ put_tie n x ts) ≡ (if t.number == a then one_if t.paired else pair_count a ts)
-    by_test true test rest =
-        ap (λ (b : Bool). if b then one_if x.paired else pair_count a ts) (ap (λ (k : ℕ). k == a) same ∙ far)
-        ∙ sym (ap (λ (b : Bool). if b then one_if t.paired else pair_count a ts) (ap (λ (k : ℕ). k == a) (eqb-true t.number n test) ∙ far))
-    by_test false test rest = ap (λ (k : ℕ). if t.number == a then one_if t.paired else k) rest
+  pair_other a far (t ∷ ts) = grind (arith, pair_other a far ts, eqb-true)
 
   tie_other : (a : ℕ) → (n == a) ≡ false → (ts : List Tie) → tie_at a (put_tie n x ts) ≡ tie_at a ts
   tie_other a far [] = refl
-  tie_other a far (t ∷ ts) = by_test (t.number == n) refl (tie_other a far ts) where
-    by_test : (b : Bool) → (t.number == n) ≡ b → tie_at a (put_tie n x ts) ≡ tie_at a ts →
-        tie_at a (if b then x ∷ ts else t ∷ put_tie n x ts) ≡ (if t.number == a then Some t else tie_at a ts)
-    by_test true test rest =
-        ap (λ (b : Bool). if b then Some x else tie_at a ts) (ap (λ (k : ℕ). k == a) same ∙ far)
-        ∙ sym (ap (λ (b : Bool). if b then Some t else tie_at a ts) (ap (λ (k : ℕ). k == a) (eqb-true t.number n test) ∙ far))
-    by_test false test rest = ap (λ (k : Option Tie). if t.number == a then Some t else k) rest
+  tie_other a far (t ∷ ts) = grind (arith, tie_other a far ts, eqb-true)
 
 pair_at : (n : ℕ) (ts : List Tie) (o : Tie) → tie_at n ts ≡ Some o → pair_count n ts ≡ one_if o.paired
 pair_at n [] o is = absurd (cc)
-pair_at n (t ∷ ts) o is = by_test (t.number == n) is (pair_at n ts o) where
-  by_test : (b : Bool) → (if b then Some t else tie_at n ts) ≡ Some o → (tie_at n ts ≡ Some o → pair_count n ts ≡ one_if o.paired) →
-      (if b then one_if t.paired else pair_count n ts) ≡ one_if o.paired
-  by_test true found rest = let it : t ≡ o = cc in ap (λ (y : Tie). one_if y.paired) it
-  by_test false found rest = rest found
+pair_at n (t ∷ ts) o is = grind (arith, pair_at n ts o)
 
 pub pair_most : (a : ℕ) (ts : List Tie) → pair_count a ts ≤ 1
 pair_most a [] = omega arith
-pair_most a (t ∷ ts) = by_test (t.number == a) t.paired (pair_most a ts) where
-  by_test : (b c : Bool) → pair_count a ts ≤ 1 → (if b then one_if c else pair_count a ts) ≤ 1
-  by_test true true most = omega arith
-  by_test true false most = omega arith
-  by_test false c most = most
+pair_most a (t ∷ ts) = grind (arith, pair_most a ts)
 
 -- Two devices become a pair
 
@@ -229,38 +183,15 @@ paired_tied ns ts a b x y o u here free single there home alone number lent none
   here_still = tie_other b y number a far ts ∙ here
 
   counts : (k : ℕ) → lent_count k (put_tie a x (put_tie b y ts)) ≡ lent_count k ts + one_if (a == k)
-  counts k =
-      let one = lent_put a x own k (put_tie b y ts) o here_still in
-      let two = lent_put b y number k ts u there in
-      let c1 : one_if (is_lent_to o.lent k) ≡ 0 = ap (λ (l : Option ℕ). one_if (is_lent_to l k)) free in
-      let c2 : one_if (is_lent_to x.lent k) ≡ 0 = ap (λ (l : Option ℕ). one_if (is_lent_to l k)) held in
-      let c3 : one_if (is_lent_to u.lent k) ≡ 0 = ap (λ (l : Option ℕ). one_if (is_lent_to l k)) home in
-      let c4 : one_if (is_lent_to y.lent k) ≡ one_if (a == k) = ap (λ (l : Option ℕ). one_if (is_lent_to l k)) lent in
-      omega (arith, one, two, c1, c2, c3, c4)
+  counts k = grind (arith, lent_put a x own k (put_tie b y ts) o here_still, lent_put b y number k ts u there)
+
+  by_other : (k : ℕ) → pair_count k (put_tie b y ts) ≡ pair_count k ts
+  by_other k = grind (arith, eqb-true b k, pair_here b y number ts u there, pair_at b ts u there, pair_other b y number k)
 
   by_test : (k : ℕ) (c : Bool) → (a == k) ≡ c → lent_count k (put_tie a x (put_tie b y ts)) ≤ pair_count k (put_tie a x (put_tie b y ts))
-  by_test k true is = subst (λ (i : ℕ). lent_count i (put_tie a x (put_tie b y ts)) ≤ pair_count i (put_tie a x (put_tie b y ts))) (eqb-true a k is)
-      (
-      let many = counts a in
-      let before = t.single a in
-      let none_before : pair_count a ts ≡ 0 = pair_at a ts o here ∙ ap one_if single in
-      let now : pair_count a (put_tie a x (put_tie b y ts)) ≡ 1 = pair_here a x own (put_tie b y ts) o here_still ∙ ap one_if pair in
-      let one : one_if (a == a) ≡ 1 = ap one_if (eq-eqb a a refl) in
-      omega (arith, many, before, none_before, now, one)
-      )
-  by_test k false is =
-      let many = counts k in
-      let before = t.single k in
-      let apart : one_if (a == k) ≡ 0 = ap one_if is in
-      let now : pair_count k (put_tie a x (put_tie b y ts)) ≡ pair_count k (put_tie b y ts) = pair_other a x own k is (put_tie b y ts) in
-      let still : pair_count k (put_tie b y ts) ≡ pair_count k ts = by_other (b == k) refl in
-      omega (arith, many, before, apart, now, still)
-    where
-      by_other : (c : Bool) → (b == k) ≡ c → pair_count k (put_tie b y ts) ≡ pair_count k ts
-      by_other true same =
-          subst (λ (i : ℕ). pair_count i (put_tie b y ts) ≡ pair_count i ts) (eqb-true b k same)
-          (pair_here b y number ts u there ∙ ap one_if none ∙ sym (pair_at b ts u there ∙ ap one_if alone))
-      by_other false other = pair_other b y number k other ts
+  by_test k true is =
+      grind (arith, eqb-true a k is, counts k, t.single k, pair_at a ts o here, pair_here a x own (put_tie b y ts) o here_still)
+  by_test k false is = grind (arith, counts k, t.single k, pair_other a x own k is (put_tie b y ts), by_other k)
 
 -- A pair parts: the first device that was lent to it comes back
 
@@ -270,47 +201,23 @@ restored_tie a (t ∷ ts) = if is_lent_to t.lent a then record t { lent = None }
 
 ties_restored : (ms : List Mounted) (a : ℕ) (volume : Calls) → ties (restored_in ms a volume) ≡ restored_tie a (ties ms)
 ties_restored [] a volume = refl
-ties_restored (m ∷ ms) a volume = by_test (is_lent_to m.device.store.lent a) (ties_restored ms a volume) where
-  by_test : (b : Bool) → ties (restored_in ms a volume) ≡ restored_tie a (ties ms) →
-      ties (if b then record m { device = restore m.device; a = volume } ∷ ms else m ∷ restored_in ms a volume)
-      ≡ (if b then record (tie m.device) { lent = None } ∷ ties ms else tie m.device ∷ restored_tie a (ties ms))
-  by_test true rest = refl
-  by_test false rest = ap (λ (l : List Tie). tie m.device ∷ l) rest
+ties_restored (m ∷ ms) a volume = grind (arith, ties_restored ms a volume)
 
 numbers_restored : (a : ℕ) (ts : List Tie) → map (λ (t : Tie). t.number) (restored_tie a ts) ≡ map (λ (t : Tie). t.number) ts
 numbers_restored a [] = refl
-numbers_restored a (t ∷ ts) = by_test (is_lent_to t.lent a) (numbers_restored a ts) where
-  by_test : (b : Bool) → map (λ (t : Tie). t.number) (restored_tie a ts) ≡ map (λ (t : Tie). t.number) ts →
-      map (λ (t : Tie). t.number) (if b then record t { lent = None } ∷ ts else t ∷ restored_tie a ts) ≡ t.number ∷ map (λ (t : Tie). t.number) ts
-  by_test true rest = refl
-  by_test false rest = ap (λ (l : List ℕ). t.number ∷ l) rest
+numbers_restored a (t ∷ ts) = grind (arith, numbers_restored a ts)
 
 pairs_restored : (a k : ℕ) (ts : List Tie) → pair_count k (restored_tie a ts) ≡ pair_count k ts
 pairs_restored a k [] = refl
-pairs_restored a k (t ∷ ts) = by_test (is_lent_to t.lent a) (pairs_restored a k ts) where
-  by_test : (b : Bool) → pair_count k (restored_tie a ts) ≡ pair_count k ts →
-      pair_count k (if b then record t { lent = None } ∷ ts else t ∷ restored_tie a ts) ≡ (if t.number == k then one_if t.paired else pair_count k ts)
-  by_test true rest = refl
-  by_test false rest = ap (λ (n : ℕ). if t.number == k then one_if t.paired else n) rest
+pairs_restored a k (t ∷ ts) = grind (arith, pairs_restored a k ts)
 
 fewer_restored : (a k : ℕ) (ts : List Tie) → lent_count k (restored_tie a ts) ≤ lent_count k ts
 fewer_restored a k [] = omega arith
-fewer_restored a k (t ∷ ts) = by_test (is_lent_to t.lent a) (fewer_restored a k ts) where
-  by_test : (b : Bool) → lent_count k (restored_tie a ts) ≤ lent_count k ts →
-      lent_count k (if b then record t { lent = None } ∷ ts else t ∷ restored_tie a ts) ≤ one_if (is_lent_to t.lent k) + lent_count k ts
-  by_test true rest = omega arith
-  by_test false rest = omega (arith, rest)
+fewer_restored a k (t ∷ ts) = grind (arith, fewer_restored a k ts)
 
 none_restored : (a : ℕ) (ts : List Tie) → lent_count a ts ≤ 1 → lent_count a (restored_tie a ts) ≡ 0
 none_restored a [] most = refl
-none_restored a (t ∷ ts) most = by_test (is_lent_to t.lent a) refl (none_restored a ts) where
-  by_test : (b : Bool) → is_lent_to t.lent a ≡ b → (lent_count a ts ≤ 1 → lent_count a (restored_tie a ts) ≡ 0) →
-      lent_count a (if b then record t { lent = None } ∷ ts else t ∷ restored_tie a ts) ≡ 0
-  by_test true is rest = let one : one_if (is_lent_to t.lent a) ≡ 1 = ap one_if is in omega (arith, one, most)
-  by_test false is rest =
-      let none : one_if (is_lent_to t.lent a) ≡ 0 = ap one_if is in
-      let more = rest (omega (arith, none, most)) in
-      omega (arith, none, more)
+none_restored a (t ∷ ts) most = grind (arith, none_restored a ts)
 
 parted_tied : (ns : List ℕ) (ts : List Tie) (a : ℕ) (x o : Tie) → tie_at a ts ≡ Some o → x.number ≡ a → x.lent ≡ o.lent → x.paired ≡ false →
     Tied ns ts → Tied ns (restored_tie a (put_tie a x ts))
@@ -345,76 +252,34 @@ parted_tied ns ts a x o here own lent single t = record {
 -- What a device's own events keep
 
 same_tie : (d y : MarksDevice) → y.store.device ≡ d.store.device → y.store.lent ≡ d.store.lent → y.store.paired ≡ d.store.paired → tie y ≡ tie d
-same_tie d y n l p =
-    ap (λ (k : ℕ). record (tie y) { number = k }) n
-    ∙ ap (λ (k : Option ℕ). record (tie y) { number = d.store.device; lent = k }) l
-    ∙ ap (λ (b : Bool). record (tie d) { paired = b }) p
+same_tie d y n l p = grind arith
 
 abbrev IsPaired : Bool → Facts → Type 0
 IsPaired b x = x.paired ≡ b
 
 fallen_pair : (b : Bool) (x : Facts) (side : Side) → IsPaired b x → IsPaired b (fallen side x)
-fallen_pair b x sides.A is = is
-fallen_pair b x sides.B is = is
+fallen_pair b x side is = grind arith
 
 pair_bears : (b : Bool) → Bears (IsPaired b)
-pair_bears b = record {
-  loses = λ x t is. is;
-  fails = λ x is. is;
-  falls = λ x side pair is. fallen_pair b (failed_more x) side is;
-  queues = λ x room is. is;
-  dequeues = λ x n less is. is;
-}
+pair_bears b = search arith
 
 kept_tie : {X : Type 0} (d : MarksDevice) (talk : Interaction Bool Image MarksDevice X) (b : Base) → b.device ≡ d.store.device →
     b.lent ≡ d.store.lent → Based base_in Any b talk → Always talk (λ y (_ : X). IsPaired d.store.paired (facts_of y.store)) → (t : Told) →
     tie (T.hold true talk t).state ≡ tie d
-kept_tie d talk b number lent based pair t =
-    let k = at (stays_still based) t in
-    same_tie d (T.hold true talk t).state (k.0 ∙ number) (k.2 ∙ lent) (at pair t)
+kept_tie d talk b number lent based pair t = grind (arith, at, stays_still, same_tie)
 
 module _ (d : MarksDevice) where
   abbrev q : Facts → Type 0
   q = IsPaired d.store.paired
 
-  command_tie : (t : Told) → tie (T.hold true (command by_plain d) t).state ≡ tie d
-  command_tie t =
-      kept_tie d (command by_plain d) (kept d.store) refl refl (command_based by_plain d) (command_leaves by_plain q (pair_bears d.store.paired) d refl) t
+  abbrev IsTied : {A : Type 0} → Talk A → Type 0
+  IsTied talk = (t : Told) → tie (T.hold true talk t).state ≡ tie d
 
-  second_tie : (t : Told) → tie (T.hold true (second by_plain d) t).state ≡ tie d
-  second_tie t =
-      kept_tie d (second by_plain d) (kept d.store) refl refl (second_based by_plain d) (second_leaves by_plain q (pair_bears d.store.paired) d refl) t
+  its_tie : {X : Type 0} (talk : Talk X) → Based base_in Any (kept d.store) talk → Always talk (λ y (_ : X). q (facts_of y.store)) → IsTied talk
+  its_tie talk based pair = kept_tie d talk (kept d.store) refl refl based pair
 
-  background_tie : (t : Told) → tie (T.hold true (background by_plain d) t).state ≡ tie d
-  background_tie t =
-      kept_tie d (background by_plain d) (kept d.store) refl refl (background_based by_plain d)
-      (background_leaves by_plain q (pair_bears d.store.paired) d refl) t
-
-  reset_tie : (path : ℕ) (t : Told) → tie (T.hold true (reset by_plain d path) t).state ≡ tie d
-  reset_tie path t =
-      kept_tie d (reset by_plain d path) (kept d.store) refl refl (based_any (reset_body by_plain d path))
-      (reset_leaves by_plain q (pair_bears d.store.paired) d path refl) t
-
-  cache_tie : (t : Told) → tie (T.hold true (lose by_plain d losses.Cache) t).state ≡ tie d
-  cache_tie t =
-      kept_tie d (lose by_plain d losses.Cache) (with_one_loss losses.Cache (kept d.store)) refl refl (lose_based by_plain d losses.Cache)
-      (lose_leaves by_plain q (pair_bears d.store.paired) d losses.Cache refl (λ x is. is)) t
-
-  store_tie : (t : Told) → tie (T.hold true (lose by_plain d losses.Store) t).state ≡ tie d
-  store_tie t =
-      kept_tie d (lose by_plain d losses.Store) (with_one_loss losses.Store (kept d.store)) refl refl (lose_based by_plain d losses.Store)
-      (lose_leaves by_plain q (pair_bears d.store.paired) d losses.Store refl (λ x is. is)) t
-
-  side_tie : (side : Side) (t : Told) → tie (T.hold true (lose by_plain d (losses.Side side)) t).state ≡ tie d
-  side_tie side t =
-      kept_tie d (lose by_plain d (losses.Side side)) (with_one_loss (losses.Side side) (kept d.store)) refl refl
-      (lose_based by_plain d (losses.Side side))
-      (lose_leaves by_plain q (pair_bears d.store.paired) d (losses.Side side) refl (λ x is. fallen_pair d.store.paired x side is)) t
-
-  power_tie : (t : Told) → tie (T.hold true (power by_plain d) t).state ≡ tie d
-  power_tie t =
-      kept_tie d (power by_plain d) (with_one_loss losses.Cache (kept d.store)) refl refl (power_based by_plain d)
-      (power_leaves by_plain q (pair_bears d.store.paired) d refl) t
+  lost_tie : (loss : Loss) → Always (lose by_plain d loss) (λ y (_ : Unit {0}). q (facts_of y.store)) → IsTied (lose by_plain d loss)
+  lost_tie loss pair = kept_tie d (lose by_plain d loss) (with_one_loss loss (kept d.store)) refl refl (lose_based by_plain d loss) pair
 
   start_tie : (path : ℕ) → tie (start d path) ≡ tie d
   unfolding S.start
@@ -428,36 +293,28 @@ not_of k a b y o e other = ap (λ (x : ℕ). if x == a then Some y else o) e ∙
 -- another one's place
 pub others_stay : (ms : List Mounted) (a b : ℕ) (y : Mounted) → number_of y ≡ b → (b == a) ≡ false → mounted_in (put_in ms b y) a ≡ mounted_in ms a
 others_stay [] a b y number other = refl
-others_stay (k ∷ ms) a b y number other = by_test (number_of k == b) refl (others_stay ms a b y number other) where
-  by_test : (t : Bool) → (number_of k == b) ≡ t → mounted_in (put_in ms b y) a ≡ mounted_in ms a →
-      mounted_in (if t then y ∷ ms else k ∷ put_in ms b y) a ≡ (if number_of k == a then Some k else mounted_in ms a)
-  by_test true is rest =
-      not_of (number_of y) a b y (mounted_in ms a) number other ∙ sym (not_of (number_of k) a b k (mounted_in ms a) (eqb-true (number_of k) b is) other)
-  by_test false is rest = ap (λ (o : Option Mounted). if number_of k == a then Some k else o) rest
+others_stay (k ∷ ms) a b y number other = grind (arith, others_stay ms a b y number other, not_of, eqb-true)
 
 put_same : (ms : List Mounted) (n : ℕ) (x m : Mounted) → mounted_in ms n ≡ Some m → tie x.device ≡ tie m.device → ties (put_in ms n x) ≡ ties ms
-put_same ms n x m there same =
-    let number : (tie x.device).number ≡ n = ap (λ (t : Tie). t.number) same ∙ mounted_number ms n m there in
-    ties_put ms n x ∙ put_own n (tie x.device) number (ties ms) (tie m.device) (tie_found ms n m there) same
+put_same ms n x m there same = grind (arith, mounted_number, ties_put, put_own, tie_found)
 
 -- so many are lent to each where the same is
 pub lent_stays : (ms : List Mounted) (n : ℕ) (x m : Mounted) → mounted_in ms n ≡ Some m → number_of x ≡ n →
     x.device.store.lent ≡ m.device.store.lent → (k : ℕ) → lent_count k (ties (put_in ms n x)) ≡ lent_count k (ties ms)
 lent_stays ms n x m there number lent k =
-    let one = lent_put n (tie x.device) number k (ties ms) (tie m.device) (tie_found ms n m there) in
-    let same : one_if (is_lent_to x.device.store.lent k) ≡ one_if (is_lent_to m.device.store.lent k) =
-    ap (λ (l : Option ℕ). one_if (is_lent_to l k)) lent in
-    let are : lent_count k (ties (put_in ms n x)) ≡ lent_count k (put_tie n (tie x.device) (ties ms)) = ap (lent_count k) (ties_put ms n x) in
-    omega (arith, one, same, are)
+    omega (
+      arith,
+      lent_put n (tie x.device) number k (ties ms) (tie m.device) (tie_found ms n m there),
+      (ap (λ (l : Option ℕ). one_if
+          (is_lent_to l k)) lent),
+      (ap (lent_count k) (ties_put ms n x)),
+    )
 
 swept_same : (f : MarksDevice → Talk (Unit {0})) → ((d : MarksDevice) (t : Told) → tie (T.hold true (f d) t).state ≡ tie d) → (ms : List Mounted)
     (pool : Pool) → ties (sweep f ms pool).mounted ≡ ties ms
 unfolding H.sweep
 swept_same f h [] pool = refl
-swept_same f h (m ∷ ms) pool =
-    let o = held_with pool m (f m.device) in
-    ap (λ (t : Tie). t ∷ ties (sweep f ms o.told.pool).mounted) (h m.device (told_to pool m))
-    ∙ ap (λ (l : List Tie). tie m.device ∷ l) (swept_same f h ms o.told.pool)
+swept_same f h (m ∷ ms) pool = grind (arith, swept_same f h ms)
 
 -- what a pair's fault says where there is none
 pub record MayPair (x y : MarksDevice) : Type 0 where
@@ -468,27 +325,14 @@ pub record MayPair (x y : MarksDevice) : Type 0 where
   pub alone : y.store.paired ≡ false
 
 lent_none : (l : Option ℕ) → R.lent_by l ≡ None → l ≡ None
-lent_none (Some to) is = absurd (cc)
-lent_none None is = refl
+lent_none l is = grind arith
 
 pub turned : (a b : ℕ) → (a == b) ≡ false → (b == a) ≡ false
 turned a b is = ne_eqb b a (λ e. eqb-false a b is (sym e))
 
 pub may_pair : (x y : MarksDevice) → pair_fault x y ≡ None → MayPair x y
 unfolding R.pair_fault
-may_pair x y is =
-    let a = first_none (R.where_so (x.store.device == y.store.device) Same) _ is in
-    let b = first_none (R.lent_by x.store.lent) _ a.1 in
-    let c = first_none (R.lent_by y.store.lent) _ b.1 in
-    let d = first_none (R.where_so x.store.paired Paired) _ c.1 in
-    let e = first_none (R.where_so y.store.paired Paired) _ d.1 in
-    record {
-      other = turned x.store.device y.store.device (where_none (x.store.device == y.store.device) Same a.0);
-      free = lent_none x.store.lent b.0;
-      home = lent_none y.store.lent c.0;
-      single = where_none x.store.paired Paired d.0;
-      alone = where_none y.store.paired Paired e.0;
-    }
+may_pair x y is = search (arith, first_none, turned, where_none, lent_none)
 
 abbrev KeepsTies : Subsystem → MarksDeed → Type 0
 KeepsTies s (Ends end) = Unit {0}
@@ -505,17 +349,12 @@ module _ (ns : List ℕ) where
   becomes_tied : (s : Subsystem) (d : MarksDevice) → ((m : Mounted) → mounted_in s.mounted d.store.device ≡ Some m → tie d ≡ tie m.device) →
       (o : Option Mounted) → mounted_in s.mounted d.store.device ≡ o → Tied ns (ties s.mounted) →
       Tied ns (ties (becomes s d.store.device o d).mounted)
-  becomes_tied s d same None there t = t
-  becomes_tied s d same (Some m) there t =
-      same_tied (ties s.mounted) _ (put_same s.mounted d.store.device (record m { device = d }) m there (same m there)) t
+  becomes_tied s d same o there t = grind (arith, same_tied, put_same)
 
   asks_tied : (s : Subsystem) (d : MarksDevice) (talk : Talk (Option EventEnd)) → IsSeat s d → ((t : Told) → tie (T.hold true talk t).state ≡ tie d) →
       (o : Option Mounted) → mounted_in s.mounted d.store.device ≡ o → Tied ns (ties s.mounted) →
       Tied ns (ties (asks s d.store.device o talk).behind.mounted)
-  asks_tied s d talk seat same None there t = t
-  asks_tied s d talk seat same (Some m) there t =
-      same_tied (ties s.mounted) _
-      (put_same s.mounted d.store.device (mounted_behind (held_with s.pool m talk)) m there (same (told_to s.pool m) ∙ ap tie (sym (seat m there)))) t
+  asks_tied s d talk seat same o there t = grind (arith, same_tied, put_same)
 
   module _ (s : Subsystem) (x y : MarksDevice) (fault : pair_fault x y ≡ None) (stands_x : Stands s x) (stands_y : Stands s y) where
     abbrev a : ℕ
@@ -536,15 +375,12 @@ module _ (ns : List ℕ) where
         let may = may_pair x y fault in
         let fy = found y stands_y in
         let fx = found x stands_x in
-        subst (Tied ns)
-        (sym (ties_put z.mounted x.store.device (record m { device = join m.device; b = volume })
-        ∙ ap (λ (l : List Mounted). put_tie x.store.device (tie (join m.device)) (ties l)) are
-        ∙ ap (put_tie x.store.device (tie (join m.device))) (ties_put s.mounted y.store.device w)))
-        (paired_tied ns (ties s.mounted) x.store.device y.store.device (tie (join m.device)) (tie w.device) (tie x) (tie y)
-        (tie_found s.mounted x.store.device fx.0 fx.1 ∙ ap (λ (d : MarksDevice). Some (tie d)) fx.2) may.free may.single
-        (tie_found s.mounted y.store.device fy.0 fy.1 ∙ ap (λ (d : MarksDevice). Some (tie d)) fy.2) may.home may.alone
-        g.number g.lent (g.paired ∙ may.alone) (ap (λ (d : MarksDevice). d.store.device) it_is)
-        (ap (λ (d : MarksDevice). d.store.lent) it_is ∙ may.free) may.other t refl)
+        rw (ties_put z.mounted x.store.device (record m { device = join m.device; b = volume }) ∙ ap (λ (l : List Mounted). put_tie x.store.device (tie
+        (join m.device)) (ties l)) are ∙ ap (put_tie x.store.device (tie (join m.device))) (ties_put s.mounted y.store.device w)) (paired_tied ns
+        (ties s.mounted) x.store.device y.store.device (tie (join m.device)) (tie w.device) (tie x) (tie y) (tie_found s.mounted x.store.device fx.0 fx.1
+        ∙ ap (λ (d : MarksDevice). Some (tie d)) fx.2) may.free may.single (tie_found s.mounted y.store.device fy.0 fy.1 ∙ ap (λ (d : MarksDevice). Some
+        (tie d)) fy.2) may.home may.alone g.number g.lent (g.paired ∙ may.alone) (ap (λ (d : MarksDevice). d.store.device) it_is) (ap
+        (λ (d : MarksDevice). d.store.lent) it_is ∙ may.free) may.other t refl)
 
     lent_tied : (z : Subsystem) (volume : Calls) (w : Mounted) → IsLent x.store.device y w.device → z.mounted ≡ put_in s.mounted y.store.device w →
         (o : Option Mounted) → mounted_in z.mounted x.store.device ≡ o → Tied ns (ties s.mounted) →
@@ -563,18 +399,15 @@ module _ (ns : List ℕ) where
     lends_tied (Some m) there t =
         let o = held_with s.pool m (lend by_plain m.device x.store.device) in
         let z = behind_outcome s y.store.device o in
-        let it_is : m.device ≡ y = seat_of s y stands_y m there in
-        lent_tied z o.told.a (mounted_behind o)
-        (subst (λ (d : MarksDevice). IsLent x.store.device d o.state) it_is (held true (lend_makes m.device x.store.device) (told_to s.pool m))) refl
-        (mounted_in z.mounted x.store.device) refl t
+        lent_tied z o.told.a (mounted_behind o) (rw (← (seat_of s y stands_y m there)) (held true (lend_makes m.device x.store.device)
+        (told_to s.pool m))) refl (mounted_in z.mounted x.store.device) refl t
 
   happens_tied : (s : Subsystem) (x : MarksDeed) → KeepsTies s x → Tied ns (ties s.mounted) → Tied ns (ties (happens_by s x).behind.mounted)
-  happens_tied s (Ends end) h t = t
   happens_tied s (Becomes d end) h t = becomes_tied s d h (mounted_in s.mounted d.store.device) refl t
   happens_tied s (Asks d talk) h t = asks_tied s d talk h.0 h.1 (mounted_in s.mounted d.store.device) refl t
   happens_tied s (Each pool f) h t = same_tied (ties s.mounted) _ (swept_same f h s.mounted pool) t
-  happens_tied s (Repairs pool) h t = t
   happens_tied s (Lends a b) h t = lends_tied s a b h.0 h.1 h.2 (mounted_in s.mounted b.store.device) refl t
+  happens_tied s x h t = t
 
 -- an answer changes no device
 answered : {X Y : Type 0} (d : MarksDevice) (talk : Talk X) (f : X → Y) → ((t : Told) → tie (T.hold true talk t).state ≡ tie d) →
@@ -583,21 +416,41 @@ answered d talk f h t = ap tie (hold_answer talk f t) ∙ h t
 
 becomes_so : (s : Subsystem) (d y : MarksDevice) → Stands s d → tie y ≡ tie d → (m : Mounted) → mounted_in s.mounted y.store.device ≡ Some m →
     tie y ≡ tie m.device
-becomes_so s d y stands same m there =
-    same ∙ ap tie (sym (seat_of s d stands m (ap (λ (t : Tie). mounted_in s.mounted t.number) (sym same) ∙ there)))
+becomes_so s d y stands same m there = grind (arith, seat_of)
 
 ties_keep : (s : Subsystem) → IsDeedwise s (KeepsTies s)
 ties_keep s = record {
   ended = λ end. tt;
   started = λ d x path fault. becomes_so s d (start d path) x (start_tie d path);
-  seconded = λ d x h is. (seat_of s d x, answered d (second by_plain d) (λ a. Some (ends.Second a)) (second_tie d));
-  commanded = λ d x whole o running. (seat_of s d x, answered d (command by_plain d) (end_of ends.Stepped) (command_tie d));
-  worked = λ d x whole. (seat_of s d x, answered d (background by_plain d) (end_of ends.Back) (background_tie d));
-  cut = λ d x path. (seat_of s d x, answered d (reset by_plain d path) (λ a. Some (ends_done a)) (reset_tie d path));
-  lost_cache = λ d t. cache_tie d t;
-  lost_store = λ d t. store_tie d t;
-  lost_side = λ d x side fault. (seat_of s d x, answered d (lose by_plain d (losses.Side side)) (λ a. Some (ends_done a)) (side_tie d side));
-  lost_power = λ d t. power_tie d t;
+  seconded = λ d x h is. (
+    seat_of s d x,
+    answered d (second by_plain d) (λ a. Some (ends.Second a))
+        (its_tie d (second by_plain d) (second_based by_plain d) (second_leaves by_plain (q d) (pair_bears d.store.paired) d refl)),
+  );
+  commanded = λ d x whole o running. (
+    seat_of s d x,
+    answered d (command by_plain d) (end_of ends.Stepped)
+        (its_tie d (command by_plain d) (command_based by_plain d) (command_leaves by_plain (q d) (pair_bears d.store.paired) d refl)),
+  );
+  worked = λ d x whole. (
+    seat_of s d x,
+    answered d (background by_plain d) (end_of ends.Back)
+        (its_tie d (background by_plain d) (background_based by_plain d) (background_leaves by_plain (q d) (pair_bears d.store.paired) d refl)),
+  );
+  cut = λ d x path. (
+    seat_of s d x,
+    answered d (reset by_plain d path) (λ a. Some (ends_done a))
+        (its_tie d (reset by_plain d path) (based_any (reset_body by_plain d path)) (reset_leaves by_plain (q d) (pair_bears d.store.paired) d path refl)),
+  );
+  lost_cache = λ d. lost_tie d losses.Cache (lose_leaves by_plain (q d) (pair_bears d.store.paired) d losses.Cache refl (λ x is. is));
+  lost_store = λ d. lost_tie d losses.Store (lose_leaves by_plain (q d) (pair_bears d.store.paired) d losses.Store refl (λ x is. is));
+  lost_side = λ d x side fault. (
+    seat_of s d x,
+    answered d (lose by_plain d (losses.Side side)) (λ a. Some (ends_done a)) (lost_tie d (losses.Side side)
+        (lose_leaves by_plain (q d) (pair_bears d.store.paired) d (losses.Side side) refl (λ x is. fallen_pair d.store.paired x side is))),
+  );
+  lost_power = λ d. kept_tie d (power by_plain d) (with_one_loss losses.Cache (kept d.store)) refl refl (power_based by_plain d)
+      (power_leaves by_plain (q d) (pair_bears d.store.paired) d refl);
   repaired_cache = tt;
   repaired_store = tt;
   lent = λ x y z w fault. (fault, z, w);
@@ -620,18 +473,11 @@ module _ (ns : List ℕ) where
   event_tied s e t = happens_tied ns s (deed by_plain s.pool (devices_of s) e) (deed_is s (KeepsTies s) (ties_keep s) e) t
 
   side_same : (m : Mounted) (side : Side) (volume : Calls) → tie (with_calls (record m { device = replace m.device side }) side volume).device ≡ tie m.device
-  side_same m sides.A volume = refl
-  side_same m sides.B volume = refl
+  side_same m side volume = grind arith
 
   pub replaced_tied : (s : Subsystem) (n : ℕ) (side : Side) (o : Option Mounted) → mounted_in s.mounted n ≡ o → So s →
       So (replaced_at s n side unfailing o).behind
-  replaced_tied s n side None there t = t
-  replaced_tied s n side (Some m) there t = by_fault (replace_fault m.device side) where
-    by_fault : (f : Option OrderFault) → So (replaced_by s n side unfailing m f).behind
-    by_fault (Some fault) = t
-    by_fault None =
-        same_tied ns (ties s.mounted) _
-        (put_same s.mounted n (with_calls (record m { device = replace m.device side }) side unfailing) m there (side_same m side unfailing)) t
+  replaced_tied s n side o there t = grind (arith, same_tied, put_same, side_same)
 
   pub unpaired_tied : (s : Subsystem) (n : ℕ) (o : Option Mounted) → mounted_in s.mounted n ≡ o → So s → So (unpaired_at s n unfailing o).behind
   unpaired_tied s n None there t = t
@@ -677,18 +523,12 @@ opened_alone deck [] a = refl
 opened_alone deck (d ∷ ds) a = let rest = opened_alone deck ds a in omega (arith, rest)
 
 pub opened_tied : (deck : DeckLines) → Tied (numbers_in deck) (ties (opened deck).mounted)
-opened_tied deck = record {
-  numbers_are = opened_numbers deck deck.devices;
-  single = λ a. let none = opened_alone deck deck.devices a in omega (arith, none);
-}
+opened_tied deck = search (arith, opened_numbers, opened_alone)
 
 pub run_tied : (deck : DeckLines) →
     Logs (So (numbers_in deck)) (Shown (numbers_in deck)) (opened deck) (run_lines (map asked_by deck.events) (opened deck))
-run_tied deck =
-    let ns = numbers_in deck in lines_keep (So ns) (Shown ns) (ties_go ns) (map asked_by deck.events) (opened deck) (opened_tied deck)
+run_tied deck = grind (arith, lines_keep, ties_go, opened_tied)
 
 pub tied_behind : (deck : DeckLines) → Tied (numbers_in deck) (ties (run_of deck).behind.mounted)
 unfolding D.run_asked_on
-tied_behind deck =
-    let ns = numbers_in deck in
-    logs_end (So ns) (Shown ns) (opened deck) (run_lines (map asked_by deck.events) (opened deck)) (run_tied deck)
+tied_behind deck = grind (arith, logs_end, run_tied)

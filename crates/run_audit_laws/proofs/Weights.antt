@@ -80,59 +80,24 @@ left s = sum (tracks_of s) (weight_at s) + length s.queue + one (is_some s.half)
 pub sum_least : (n : ℕ) (f g : ℕ → ℕ) → ((q : ℕ) → q < n → g q ≤ f q) → sum n g ≤ sum n f
 unfolding sum
 sum_least zero f g less = omega arith
-sum_least (suc n) f g less =
-    let below = sum_least n f g (λ q lt. less q (omega (arith, lt))) in
-    let here = less n (omega arith) in
-    omega (arith, below, here)
+sum_least (suc n) f g less = grind (arith, sum_least n f g)
 
 pub sum_less : (n : ℕ) (f g : ℕ → ℕ) (t : ℕ) → t < n → ((q : ℕ) → q < n → q ≢ t → g q ≤ f q) → sum n g + f t ≤ sum n f + g t
 unfolding sum
 sum_less zero f g t lt less = absurd (omega (arith, lt))
-sum_less (suc n) f g t lt less = by_place (cases_eq n t) (λ below. sum_less n f g t below (λ q q_lt. less q (omega (arith, q_lt)))) where
-  by_place : ((n ≡ t) ⊎ (n ≢ t)) → (t < n → sum n g + f t ≤ sum n f + g t) → sum n g + g n + f t ≤ sum n f + f n + g t
-  by_place (inl is) rest =
-      let below = sum_least n f g (λ q q_lt. less q (omega (arith, q_lt)) (λ e. absurd (omega (arith, e, is, q_lt)))) in
-      let same_g : g n ≡ g t = ap g is in
-      let same_f : f n ≡ f t = ap f is in
-      omega (arith, below, same_g, same_f)
-  by_place (inr ne) rest =
-      let below = rest (let apart : n ≢ t = ne in omega (arith, lt, apart)) in
-      let here = less n (omega arith) ne in
-      omega (arith, below, here)
+sum_less (suc n) f g t lt less = grind (arith, sum_less n f g t, sum_least)
 
 pub sum_most : (n k : ℕ) (f : ℕ → ℕ) → ((q : ℕ) → f q ≤ k) → sum n f ≤ n * k
 unfolding sum
 sum_most zero k f most = omega arith
-sum_most (suc n) k f most =
-    let below = sum_most n k f most in
-    let here = most n in
-    omega (arith, below, here)
+sum_most (suc n) k f most = grind (arith, sum_most n k f most)
 
 one_most : (b : Bool) → one b ≤ 1
-one_most true = omega arith
-one_most false = omega arith
-
-pub sides_most : (p : Spot) → sides p ≤ 2
-sides_most p = let a = one_most p.a in let b = one_most (takes p) in omega (arith, a, b)
-
-if_most : (b : Bool) (n k : ℕ) → n ≤ k → (if b then n else 0) ≤ k
-if_most true n k le = le
-if_most false n k le = omega arith
-
-half_most : (b : Bool) (n m : ℕ) → n ≤ 3 → m ≤ 3 → (if b then n else m) ≤ 3
-half_most true n m le more = le
-half_most false n m le more = more
+one_most b = grind arith
 
 pub weight_most : (p : Spot) → weight p ≤ 3
-weight_most p =
-    let both = if_most (works p) (sides p) 2 (sides_most p) in
-    let copied = one_most (copies p) in
-    let halved = one_most (p.a && p.a_stale) in
-    half_most p.half (one (p.a && p.a_stale)) (whole_weight p) (omega (arith, halved)) (omega (arith, both, copied))
+weight_most p = grind (arith, one_most)
 
 -- at most three times for each track, as many as are to be staged, and once
 pub left_most : (s : MarksStore) → s.cylinders ≤ 64 → length s.queue ≤ 64 → left s ≤ 2945
-left_most s small queued =
-    let all = sum_most (tracks_of s) 3 (weight_at s) (λ q. weight_most (spot_at s q)) in
-    let opens = one_most (is_some s.half) in
-    omega (arith, all, small, queued, opens)
+left_most s small queued = omega (arith, sum_most (tracks_of s) 3 (weight_at s) (λ q. weight_most (spot_at s q)), small, queued, (one_most (is_some s.half)))

@@ -1,5 +1,6 @@
 -- What the lines of a piece of work make of its device: acts of cache fast write, volume calls, the program that is over.
 use Rattle.std.proofs.Common.{
+  arith,
   ◌≡◌,
   ◌==◌,
   ◌++◌,
@@ -72,33 +73,23 @@ use Rattle.run_audit_laws.proofs.Saying.{same_number}
 put_by : (c : Bool) (n : ℕ) (x b a : AuditedDevice) (xs ys : List AuditedDevice) → (x.number == n) ≡ c → a.number ≡ n →
     (if c then Some x else device_in xs n) ≡ Some b → (device_in xs n ≡ Some b → device_in ys n ≡ Some a) →
     device_in (if c then a ∷ xs else x ∷ ys) n ≡ Some a
-put_by true n x b a xs ys test same found more = ap (λ (d : Bool). if d then Some a else device_in xs n) (eq-eqb a.number n same)
-put_by false n x b a xs ys test same found more = ap (λ (d : Bool). if d then Some x else device_in ys n) test ∙ more found
+put_by c n x b a xs ys test same found more = grind (arith, eq-eqb)
 
 pub found_put : (xs : List AuditedDevice) (n : ℕ) (b a : AuditedDevice) → device_in xs n ≡ Some b → a.number ≡ n → device_in (with_device xs a) n ≡ Some a
 found_put [] n b a is same = absurd (cc)
-found_put (x ∷ xs) n b a is same =
-    ap (λ (k : ℕ). device_in (if x.number == k then a ∷ xs else x ∷ with_device xs a) n) same
-    ∙ put_by (x.number == n) n x b a xs (with_device xs a) refl same is (λ found. found_put xs n b a found same)
+found_put (x ∷ xs) n b a is same = grind (arith, found_put xs n b a, put_by)
 
 again_by : (c : Bool) (x a b : AuditedDevice) (xs : List AuditedDevice) → (x.number == b.number) ≡ c → a.number ≡ b.number →
     with_device (with_device xs a) b ≡ with_device xs b →
     with_device (if c then a ∷ xs else x ∷ with_device xs a) b ≡ (if c then b ∷ xs else x ∷ with_device xs b)
-again_by true x a b xs test same more = ap (λ (c : Bool). if c then b ∷ xs else a ∷ with_device xs b) (eq-eqb a.number b.number same)
-again_by false x a b xs test same more =
-    ap (λ (c : Bool). if c then b ∷ with_device xs a else x ∷ with_device (with_device xs a) b) test ∙ ap (λ (l : List AuditedDevice). x ∷ l) more
+again_by c x a b xs test same more = grind (arith, eq-eqb)
 
 pub put_again : (xs : List AuditedDevice) (a b : AuditedDevice) → a.number ≡ b.number → with_device (with_device xs a) b ≡ with_device xs b
 put_again [] a b same = refl
-put_again (x ∷ xs) a b same =
-    ap (λ (k : ℕ). with_device (if x.number == k then a ∷ xs else x ∷ with_device xs a) b) same
-    ∙ again_by (x.number == b.number) x a b xs refl same (put_again xs a b same)
+put_again (x ∷ xs) a b same = grind (arith, put_again xs a b same, again_by)
 
 pub worked_number : (a : AuditedDevice) (did : Did) → (worked a did).number ≡ a.number
-worked_number a (Ended e) = refl
-worked_number a (CheckEnded e) = refl
-worked_number a Halved = refl
-worked_number a (Worked last) = refl
+worked_number a did = grind arith
 
 module _ (xs : List AuditedDevice) (w : EventLine) (later : List EventLine) (n : ℕ) (works : worker_of w ≡ Some n) (first : AuditedDevice)
     (has : device_in xs n ≡ Some first) where
@@ -113,8 +104,7 @@ module _ (xs : List AuditedDevice) (w : EventLine) (later : List EventLine) (n :
       else record { devices = with_device xs a; events = w ∷ later; due = Next }
 
   pub worker_is : (a : AuditedDevice) (due : Due) → a.number ≡ n → worker (at_work a due) ≡ Some a
-  worker_is a due same =
-      ap (λ (o : Option ℕ). then_of o (device_in (with_device xs a))) works ∙ found_put xs n first a has same
+  worker_is a due same = grind (arith, found_put)
 
   changed_to : (a b : AuditedDevice) (due : Due) → a.number ≡ n → b.number ≡ n →
       record (at_work a due) { devices = with_device (with_device xs a) b } ≡ at_work b due
@@ -164,20 +154,20 @@ module _ (xs : List AuditedDevice) (w : EventLine) (later : List EventLine) (n :
   pub harden_judged : (a : AuditedDevice) → a.number ≡ n → (did : Did) (t : ℕ) → is_loose_there (state_of a) t ≡ true →
       judged (at_work a (Behind true did)) (lines.Loose n (loose.Harden t)) ≡ Ok (at_work (record a { history = acted a.history (Harden t) }) (Behind true did))
   harden_judged a same did t is =
-      let s = at_work a (Behind true did) in
-      of_work a same true did (lines.Loose n (loose.Harden t)) (same_number n) refl
-      ∙ ap (λ (b : Bool). or_history (if b then Some (act_made s a (Harden t) (Behind true did)) else None)) is
-      ∙ ap (λ (z : AuditState). Ok z) (changed_to a (record a { history = acted a.history (Harden t) }) (Behind true did) same same)
+      of_work a same true did (lines.Loose n (loose.Harden t)) (same_number n) refl ∙ ap (λ (b : Bool). or_history (if b then Some (act_made (at_work a
+      (Behind true did)) a (Harden t) (Behind true did)) else None)) is ∙ ap (λ (z : AuditState). Ok z) (changed_to a (record a {
+        history = acted a.history
+            (Harden t);
+      }) (Behind true did) same same)
 
   -- a track becomes loose, and then nothing more
   pub loosen_judged : (a : AuditedDevice) → a.number ≡ n → (e : CommandEnd) (t : ℕ) → may_loosen a a.history.running t ≡ true →
       judged (at_work a (Behind true (Ended e))) (lines.Loose n (loose.Loosen t))
       ≡ Ok (at_work (record a { history = acted a.history (Loosen t) }) (Behind false (Ended e)))
   loosen_judged a same e t is =
-      let s = at_work a (Behind true (Ended e)) in
-      of_work a same true (Ended e) (lines.Loose n (loose.Loosen t)) (same_number n) refl
-      ∙ ap (λ (b : Bool). or_history (if b then Some (act_made s a (Loosen t) (Behind false (Ended e))) else None)) is
-      ∙ ap (λ (z : AuditState). Ok z) (changed_to a (record a { history = acted a.history (Loosen t) }) (Behind false (Ended e)) same same)
+      of_work a same true (Ended e) (lines.Loose n (loose.Loosen t)) (same_number n) refl ∙ ap (λ (b : Bool). or_history (if b then Some (act_made (at_work a
+      (Behind true (Ended e))) a (Loosen t) (Behind false (Ended e))) else None)) is ∙ ap (λ (z : AuditState). Ok z) (changed_to a
+      (record a { history = acted a.history (Loosen t) }) (Behind false (Ended e)) same same)
 
   -- Acts by which tracks become firm
 
@@ -192,10 +182,9 @@ module _ (xs : List AuditedDevice) (w : EventLine) (later : List EventLine) (n :
       let b = with_history a (acted a.history (Harden t)) in (
         at_work b (Behind true did),
         harden_judged a same did t are.0,
-        hardens_lead b same did acts
-            (acted_plain a.plans a.empty a.history plain (Harden t) (acts_first (state_of a) (Harden t) acts are)) none.1
-            (subst (λ (s : PlainState). AreActs s None acts) (sym (acted_state a.plans a.empty a.history plain (Harden t)))
-            (acts_rest (state_of a) (Harden t) acts are)),
+        hardens_lead b same did acts (acted_plain a.plans a.empty a.history plain (Harden t)
+            (acts_first (state_of a) (Harden t) acts are)) none.1 (rw (acted_state a.plans a.empty a.history plain (Harden t)) (acts_rest (state_of a)
+            (Harden t) acts are)),
       )
   hardens_lead a same did (Loosen t ∷ []) plain none are = absurd (let no_edit : None ≡ Some t = are.1 in cc)
   hardens_lead a same did (Loosen t ∷ act ∷ acts) plain none are = absurd are
@@ -213,17 +202,13 @@ module _ (xs : List AuditedDevice) (w : EventLine) (later : List EventLine) (n :
 
     over_if : (l : List AuditedDevice) (b : Bool) → ◌≡◌ {A = AuditState} (if b then record { devices = l; events = later; due = Next }
         else record { devices = l; events = w ∷ later; due = Next }) (by_over l b)
-    over_if l true = refl
-    over_if l false = refl
+    over_if l b = grind arith
 
     event_over : (b : Bool) → ◌≡◌ {A = AuditState} (if b then record { devices = with_device (with_device xs a) (worked a did); events = later; due = Next }
         else record { devices = with_device (with_device xs a) (worked a did); events = w ∷ later; due = Next })
         (if b then record { devices = with_device xs (worked a did); events = later; due = Next }
         else record { devices = with_device xs (worked a did); events = w ∷ later; due = Next })
-    event_over b =
-        over_if (with_device (with_device xs a) (worked a did)) b ∙ ap (λ (l : List AuditedDevice). by_over l b)
-        (put_again xs a (worked a did) (same ∙ sym (number_worked did)))
-        ∙ sym (over_if (with_device xs (worked a did)) b)
+    event_over b = grind (arith, over_if, put_again, number_worked)
 
     -- no program is over
     pub settled_plainly : over_by a did a.history.running ≡ None → settled (at_work a (Behind more did)) did ≡ behind_event (worked a did) did
@@ -269,16 +254,13 @@ module _ (xs : List AuditedDevice) (w : EventLine) (later : List EventLine) (n :
       is_waiting more did refl refl (ap (λ (k : Option AuditedDevice). holds k (is_legal did)) (worker_is a (Behind more did) same) ∙ legal) (settled_plainly none),
     )
     quiet_tail (Some line) is over =
-        let s = at_work a (Behind more did) in
-        let z = at_work (worked a did) (OverOf line) in
-        let as_settled = settled_over line is in (
+        let z = at_work (worked a did) (OverOf line) in (
           behind_event (worked a did) Halved,
           (
             behind_event (worked a did) Halved,
-            waiting_judged s line more did refl (over line refl).1
-                (ap (λ (k : Option AuditedDevice). holds k (is_legal did)) (worker_is a (Behind more did) same) ∙ legal)
-                ∙ ap (λ (y : AuditState). judged_due y line y.due) as_settled
-                ∙ over_judged line (over line refl).0,
+            waiting_judged (at_work a (Behind more did)) line more did refl
+                (over line refl).1 (ap (λ (k : Option AuditedDevice). holds k (is_legal did)) (worker_is a (Behind more did) same) ∙ legal) ∙ ap
+                (λ (y : AuditState). judged_due y line y.due) (settled_over line is) ∙ over_judged line (over line refl).0,
             refl,
           ),
           is_there refl,

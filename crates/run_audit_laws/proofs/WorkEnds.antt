@@ -1,5 +1,5 @@
 -- The lines of one piece of work, whichever event line has it.
-use Rattle.std.proofs.Common.{◌≡◌, ◌==◌, ◌++◌, ℕ, Bool, true, false, List, [], ◌∷◌, map, Option, Some, None, refl, sym, ap, subst, ◌∙◌, if◌then◌else◌}
+use Rattle.std.proofs.Common.{arith, ◌≡◌, ◌==◌, ◌++◌, ℕ, Bool, true, false, List, [], ◌∷◌, map, Option, Some, None, refl, sym, ap, subst, ◌∙◌, if◌then◌else◌}
 use Rattle.std.specs.Prelude.{◌&&◌, Err, option_map}
 use Rattle.std.proofs.lemmas.Bool.{or_left, or_right, and_from}
 use Rattle.ckd_types.specs.declared.channel.CommandEnd.{CommandEnd}
@@ -69,16 +69,12 @@ behind_piece xs w later b last = record { devices = with_device xs b; events = l
 by_test : (l : List AuditedDevice) (w : EventLine) (later : List EventLine) (b : Bool) → ◌≡◌ {A = AuditState} (if b then
     record { devices = l; events = later; due = Next }
     else record { devices = l; events = w ∷ later; due = Next }) (record { devices = l; events = if b then later else w ∷ later; due = Next })
-by_test l w later true = refl
-by_test l w later false = refl
+by_test l w later b = grind arith
 
 module _ (xs : List AuditedDevice) (later : List EventLine) (n : ℕ) (first : AuditedDevice) (has : device_in xs n ≡ Some first) where
   settle_is : (b : AuditedDevice) (did : Did) → behind_event xs (events.Settle n) later n refl first has b did
       ≡ behind_piece xs (events.Settle n) later b (last_of did)
-  settle_is b (Worked last) = by_test (with_device xs b) (events.Settle n) later last
-  settle_is b (Ended e) = refl
-  settle_is b (CheckEnded e) = refl
-  settle_is b Halved = refl
+  settle_is b did = grind (arith, by_test)
 
   pub piece_is : (w : EventLine) (k : IsWork n w) (b : AuditedDevice) (did : Did) → behind_event xs w later n (works k) first has b did
       ≡ behind_piece xs w later b (last_of did)
@@ -114,8 +110,7 @@ module _ (xs : List AuditedDevice) (later : List EventLine) (a : AuditedDevice) 
   before w = record { devices = xs; events = w ∷ later; due = Next }
 
   its_outline : (f : Outline → Bool) → holds (outline_in (outlines (record { devices = xs; events = later; due = Next })) a.number) f ≡ f (outline_of a)
-  its_outline f =
-      ap (λ (k : Option Outline). holds k f) (outlined xs a.number ∙ ap (λ (k : Option AuditedDevice). option_map outline_of k) has)
+  its_outline f = grind (arith, outlined)
 
   -- where its outline may begin so
   back_fits : (line : ReportLine) {h : HalfWrite} → a.half ≡ h → may_back (outline_of a) line h ≡ true →
@@ -138,33 +133,25 @@ module _ (xs : List AuditedDevice) (later : List EventLine) (a : AuditedDevice) 
       in_event (outlines (record { devices = xs; events = w ∷ later; due = Next })) line w ≡ true →
       judged (record { devices = xs; events = w ∷ later; due = Next }) line
       ≡ or_history (work_made (record { devices = xs; events = w ∷ later; due = Next }) line a)
-  first_judged w k line fits =
-      ap (λ (b : Bool). if b then or_history (event_made (before w) line w) else Err Place) fits ∙ ap (λ (o : Option AuditState). or_history o) (makes w k line)
+  first_judged w k line fits = grind (arith, makes)
 
   module _ (o : OpenEntry) (running : a.history.running ≡ Some o) where
     abbrev end_told : CommandEnd → ReportLine
     end_told e = lines.End (end_line o.path a.number o.ordinal e)
 
     its_end : (e : CommandEnd) → ((o.path == o.path) && (a.number == a.number) && (o.ordinal == o.ordinal)) ≡ true
-    its_end e =
-        and_from ((o.path == o.path) && (a.number == a.number)) (o.ordinal == o.ordinal)
-        (and_from (o.path == o.path) (a.number == a.number) (same_number o.path) (same_number a.number)) (same_number o.ordinal)
+    its_end e = grind (arith, and_from, same_number)
 
     first_end : (idle : ReportLine) (e : CommandEnd) → a.half ≡ half.Closed → may_step (outline_of a) idle (end_told e) a.half ≡ true
-    first_end idle e closed =
-        ap (may_step (outline_of a) idle (end_told e)) closed
-        ∙ ap (λ (r : Option OpenEntry). in_steps (outline_of a) idle (end_told e) (open_program r)) running
-        ∙ or_left ((o.path == o.path) && (a.number == a.number) && (o.ordinal == o.ordinal)) false (its_end e)
+    first_end idle e closed = grind (arith, or_left, its_end)
 
     second_end : (e : CommandEnd) → second_of (outline_of a) (end_told e) (open_program a.history.running) ≡ true
     second_end e = ap (λ (r : Option OpenEntry). second_of (outline_of a) (end_told e) (open_program r)) running ∙ its_end e
 
     pub end_stands : (w : EventLine) (h : HalfWrite) → MayEnd a.number w h → a.half ≡ h → (e : CommandEnd) →
         in_event (outlines (record { devices = xs; events = w ∷ later; due = Next })) (lines.End (end_line o.path a.number o.ordinal e)) w ≡ true
-    end_stands w h step_ends is e =
-        its_outline (λ b. may_step b (lines.StepIdle a.number) (end_told e) b.half) ∙ first_end (lines.StepIdle a.number) e is
-    end_stands w h run_ends is e =
-        its_outline (λ b. may_step b (lines.RunIdle a.number) (end_told e) b.half) ∙ first_end (lines.RunIdle a.number) e is
+    end_stands w h step_ends is e = grind (arith, its_outline, first_end)
+    end_stands w h run_ends is e = grind (arith, its_outline, first_end)
     end_stands w h step_seconds is e = step_fits (lines.StepIdle a.number) (end_told e) is (second_end e)
     end_stands w h run_seconds is e = step_fits (lines.RunIdle a.number) (end_told e) is (second_end e)
     end_stands w h back_seconds is e = back_fits (end_told e) is (second_end e)
@@ -176,8 +163,7 @@ module _ (xs : List AuditedDevice) (later : List EventLine) (a : AuditedDevice) 
       over_piece : (b : AuditedDevice) (same : b.number ≡ a.number) (more : Bool) (e : CommandEnd) (legal : is_legal (Ended e) b ≡ true)
           (line : ReportLine) (over : Bool) →
           end_of xs w later a.number (works (ends_work k)) a has b same more (Ended e) legal (over_if over line) ≡ behind_piece xs w later (worked b (Ended e)) false
-      over_piece b same more e legal line true = piece_is xs later a.number a has w (ends_work k) (worked b (Ended e)) Halved
-      over_piece b same more e legal line false = piece_is xs later a.number a has w (ends_work k) (worked b (Ended e)) (Ended e)
+      over_piece b same more e legal line over = grind (arith, piece_is, ends_work)
 
       pub ends_lead : (reads writes : ℕ) (e : CommandEnd) (acts : List Act) → EndsSo a o e acts → (e.sense ≡ Some equipment_sense → ⊥) →
           LeadsTowards (record { devices = xs; events = w ∷ later; due = Next }) (step_lines a o e acts reads writes (over_if e.over (over_told a o how.Full)))
@@ -187,27 +173,21 @@ module _ (xs : List AuditedDevice) (later : List EventLine) (a : AuditedDevice) 
           none are reads writes legal in
           (leads.0, leads.1, subst (λ (t : AuditState). Reaches (worker_of w) leads.0 t) (over_piece (acted_to a bs) refl true e legal (over_told a o how.Full) e.over) leads.2)
       ends_lead reads writes e acts (loosely bs t plain none are may legal) few =
-          let leads = loose_command_leads xs w later a has (works (ends_work k)) o running plainly (end_stands w h k is) (makes w (ends_work k)) e plain few bs
-          none are reads writes t may legal in (
-            leads.0,
-            leads.1,
-            subst (λ (z : AuditState). Reaches (worker_of w) leads.0 z)
-                (over_piece (acted_to a (bs ++ Loosen t ∷ [])) refl false e legal (over_told a o how.Full) e.over) leads.2,
-          )
+          let leads = loose_command_leads xs w later a has (works (ends_work k)) o running plainly (end_stands w h k is) (makes w
+          (ends_work k)) e plain few bs none are reads writes t may legal in
+          (leads.0, leads.1, rw (← (over_piece (acted_to a (bs ++ Loosen t ∷ [])) refl false e legal (over_told a o how.Full) e.over)) leads.2)
 
       pub checks_lead : (reads writes : ℕ) (e : CommandEnd) (acts : List Act) → NoLoss acts → (c : ChecksSo a o e acts) → (c.plain.sense ≡ Some equipment_sense → ⊥) →
           LeadsTowards (record { devices = xs; events = w ∷ later; due = Next }) (step_lines a o e acts reads writes (Some (over_told a o how.Checked)))
           (behind_piece xs w later (record a { history = checked (all_acted a.history acts) e; half = half.Closed }) false)
       checks_lead reads writes e acts none c few =
-          let leads = check_command_leads xs w later a has (works (ends_work k)) o running plainly (end_stands w h k is) (makes w (ends_work k)) c.plain c.is_plain
-          few acts none c.are reads writes c.sense c.is_check in
-          subst (λ (f : CommandEnd). LeadsTowards (before w) (step_lines a o f acts reads writes (Some (over_told a o how.Checked)))
-          (behind_piece xs w later (record a { history = checked (all_acted a.history acts) f; half = half.Closed }) false)) (sym c.is_so) (
+          let leads = check_command_leads xs w later a has (works (ends_work k)) o running plainly (end_stands w h k is) (makes w
+          (ends_work k)) c.plain c.is_plain few acts none c.are reads writes c.sense c.is_check in
+          rw c.is_so (
             leads.0,
             leads.1,
-            subst (λ (z : AuditState). Reaches (worker_of w) leads.0 z)
-                (piece_is xs later a.number a has w (ends_work k) (worked (acted_to a acts) (CheckEnded (check_end (words_of_open a o) c.plain.index c.sense)))
-                Halved) leads.2,
+            rw (← (piece_is xs later a.number a has w (ends_work k) (worked (acted_to a acts) (CheckEnded (check_end
+                (words_of_open a o) c.plain.index c.sense))) Halved)) leads.2,
           )
 
     -- The first part of a write
@@ -216,17 +196,13 @@ module _ (xs : List AuditedDevice) (later : List EventLine) (a : AuditedDevice) 
     half_line track = and_from (o.path == o.path) (a.number == a.number) (same_number o.path) (same_number a.number)
 
     half_first : (idle : ReportLine) (track : ℕ) → a.half ≡ half.Closed → may_step (outline_of a) idle (lines.Half o.path a.number track) a.half ≡ true
-    half_first idle track closed =
-        ap (may_step (outline_of a) idle (lines.Half o.path a.number track)) closed
-        ∙ ap (λ (r : Option OpenEntry). in_steps (outline_of a) idle (lines.Half o.path a.number track) (open_program r)) running
-        ∙ or_right false ((o.path == o.path) && (a.number == a.number)) (half_line track)
+    half_first idle track closed = grind (arith, or_right, half_line)
 
     half_stands : (w : EventLine) → MayEnd a.number w half.Closed → a.half ≡ half.Closed → (track : ℕ) →
         in_event (outlines (record { devices = xs; events = w ∷ later; due = Next })) (lines.Half o.path a.number track) w ≡ true
     half_stands w step_ends closed track =
         its_outline (λ b. may_step b (lines.StepIdle a.number) (lines.Half o.path a.number track) b.half) ∙ half_first (lines.StepIdle a.number) track closed
-    half_stands w run_ends closed track =
-        its_outline (λ b. may_step b (lines.RunIdle a.number) (lines.Half o.path a.number track) b.half) ∙ half_first (lines.RunIdle a.number) track closed
+    half_stands w run_ends closed track = grind (arith, its_outline, half_first)
 
     pub halves_lead : (w : EventLine) (k : MayEnd a.number w half.Closed) → a.half ≡ half.Closed → IsPlain a.plans a.empty a.history → (track : ℕ)
         (acts : List Act) → NoLoss acts → AreActs (state_of a) None acts → (reads writes : ℕ) →
@@ -235,12 +211,12 @@ module _ (xs : List AuditedDevice) (later : List EventLine) (a : AuditedDevice) 
         (behind_piece xs w later (record a { history = all_acted a.history acts; half = half.OfCommand }) false)
     halves_lead w k closed plainly track acts none are reads writes =
         let leads = work_leads xs w later a has (works (ends_work k)) plainly half.OfCommand Halved (λ b. refl) (λ b. over_halved b b.history.running)
-        (lines.Half o.path a.number track)
-        (first_judged w (ends_work k) (lines.Half o.path a.number track) (half_stands w k closed track)) acts none are reads writes in (
+        (lines.Half o.path a.number track) (first_judged w (ends_work k) (lines.Half o.path a.number track)
+        (half_stands w k closed track)) acts none are reads writes in (
           leads.0,
           leads.1,
-          subst (λ (z : AuditState). Reaches (worker_of w) leads.0 z)
-              (piece_is xs later a.number a has w (ends_work k) (record a { history = all_acted a.history acts; half = half.OfCommand }) Halved) leads.2,
+          rw (← (piece_is xs later a.number a has w (ends_work k)
+              (record a { history = all_acted a.history acts; half = half.OfCommand }) Halved)) leads.2,
         )
 
   -- What the background says
@@ -277,12 +253,11 @@ module _ (xs : List AuditedDevice) (later : List EventLine) (a : AuditedDevice) 
       ((lines.Back a.number answer ∷ map (act_line a.number) acts) ++ (io_lines reads writes ++ line_if None))
       (behind_piece xs w later (record a { history = all_acted a.history acts; half = back_half a answer }) (is_last answer))
   tells_lead w answer h k is plainly acts none are reads writes =
-      let leads = work_leads xs w later a has (works (tells_work k)) plainly (back_half a answer) (Worked (is_last answer)) (λ b. refl)
-      (λ b. over_worked b (is_last answer) b.history.running) (lines.Back a.number answer)
-      (first_judged w (tells_work k) (lines.Back a.number answer) (tells_stand k is)) acts none are reads writes in (
+      let leads = work_leads xs w later a has (works (tells_work k)) plainly (back_half a answer) (Worked (is_last answer)) (λ b. refl) (λ b. over_worked b
+      (is_last answer) b.history.running) (lines.Back a.number answer) (first_judged w (tells_work k) (lines.Back a.number answer)
+      (tells_stand k is)) acts none are reads writes in (
         leads.0,
         leads.1,
-        subst (λ (z : AuditState). Reaches (worker_of w) leads.0 z)
-            (piece_is xs later a.number a has w (tells_work k) (record a { history = all_acted a.history acts; half = back_half a answer })
-            (Worked (is_last answer))) leads.2,
+        rw (← (piece_is xs later a.number a has w (tells_work k)
+            (record a { history = all_acted a.history acts; half = back_half a answer }) (Worked (is_last answer)))) leads.2,
       )

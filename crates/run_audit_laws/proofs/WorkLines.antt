@@ -56,7 +56,8 @@ use Rattle.run_audit_laws.proofs.NextLines.{towards_then}
 use Rattle.run_audit_laws.proofs.PieceEvents.{PieceGoes, back_goes, back_piece, run_idle_leads, run_step_goes, settle_piece, step_line_goes}
 use Rattle.run_audit_laws.proofs.Pieces.{by_back, by_settle}
 use Rattle.run_audit_laws.proofs.RunEnds.{run_is_over, device_there}
-use Rattle.run_audit_laws.proofs.SettleEnds.{fits_behind, settle_over}
+use Rattle.run_audit_laws.proofs.BackEnds.{settle_over}
+use Rattle.run_audit_laws.proofs.DeviceSizes.{sized_behind}
 use Rattle.run_audit_laws.proofs.StillLines.{some_device}
 use Rattle.run_audit_laws.proofs.WorkEnds.{left_by}
 use Rattle.run_audit_laws.proofs.Behind.{good_behind}
@@ -73,10 +74,7 @@ pub one_goes : (s : Subsystem) (w : EventLine) (h : EventHappened) → line_logg
     ((later : List EventLine) →
     LeadsTowards (stand s (w ∷ later)) (event_lines (asked_by w) h.end h.reads h.writes (devices_of s) (devices_of h.behind)) (stand h.behind later)) →
     LineGoes s w
-one_goes s w h is before leads later =
-    subst (λ (ts : List Logged). LeadsTowards (stand s (w ∷ later)) (flat_map lines_of ts) (stand (last_behind s ts) later)) (sym is)
-    (subst (λ (l : List ReportLine). LeadsTowards (stand s (w ∷ later)) l (stand h.behind later))
-    (told_from s (asked_by w) h before ∙ sym (append-nil (lines_of (logged (asked_by w) h)))) (leads later))
+one_goes s w h is before leads later = rw (is, ← (told_from s (asked_by w) h before ∙ sym (append-nil (lines_of (logged (asked_by w) h))))) (leads later)
 
 plain_of : (s : Subsystem) → ArePlain s.mounted → (n : ℕ) (x : MarksDevice) → device_in (devices_of s) n ≡ Some x → Plainly x
 plain_of s plain n x at = subst (λ (o : Option MarksDevice). IfSome o Plainly) at (device_so Plainly s.mounted n plain)
@@ -334,7 +332,7 @@ back_line_leads text deck read d has =
 
 pub settles_end : (text : List ℕ) (deck : DeckLines) → parsed text ≡ Ok deck → (d : ℕ) → HasDevice (run_of deck).behind d → SettleIsOver (run_of deck).behind d
 settles_end text deck read d has =
-    settle_over (run_of deck).behind (good_behind deck (read_served text deck read)) (fits_behind text deck read) d has
+    settle_over (run_of deck).behind (good_behind deck (read_served text deck read)) (sized_behind text deck read) d has
 
 pub settle_line_leads : (text : List ℕ) (deck : DeckLines) → parsed text ≡ Ok deck → (d : ℕ) → HasDevice (run_of deck).behind d →
     LineGoes (run_of deck).behind (wanted.Settle d)
