@@ -523,7 +523,10 @@ opened_alone deck [] a = refl
 opened_alone deck (d ∷ ds) a = let rest = opened_alone deck ds a in omega (arith, rest)
 
 pub opened_tied : (deck : DeckLines) → Tied (numbers_in deck) (ties (opened deck).mounted)
-opened_tied deck = search (arith, opened_numbers, opened_alone)
+opened_tied deck = record {
+  numbers_are = opened_numbers deck deck.devices;
+  single = λ a. let none = opened_alone deck deck.devices a in omega (arith, none);
+}
 
 pub run_tied : (deck : DeckLines) →
     Logs (So (numbers_in deck)) (Shown (numbers_in deck)) (opened deck) (run_lines (map asked_by deck.events) (opened deck))
