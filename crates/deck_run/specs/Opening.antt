@@ -1,11 +1,18 @@
--- Which devices of a deck can be opened, and which event lines run. In a deck that was read all can.
-use Rattle.std.specs.Prelude.{◌≡◌, ℕ, ◌&&◌, nat_le, nat_lt, Bool, true, false, List, [], ◌∷◌, Option, Some, None, Ok, map, if◌then◌else◌}
+-- Which devices of a deck can be opened, on which volumes, and which event lines run. In a deck that was read all can.
+use Rattle.std.specs.Prelude.{◌≡◌, ℕ, ◌*◌, ◌&&◌, nat_le, nat_lt, Bool, true, false, List, [], ◌∷◌, Option, Some, None, Ok, map, if◌then◌else◌}
+use Rattle.std.specs.List.{AllZip}
 use Rattle.deck_plan.specs.declared.event.EventLine.{EventLine}
 use Rattle.deck_plan.specs.declared.event.EventLine.TheVariants as lines
+use Rattle.ckd_types.specs.Volume.{IsVolume}
+use Rattle.device_outside.specs.Both.{SideIs}
 use Rattle.device_outside.specs.Lists.{is_in}
+use Rattle.device_outside.specs.Volume.{VolumeView}
+use Rattle.device_laws.specs.NewDevice.{volume_contents}
 use Rattle.deck_text.specs.declared.line.DeviceLine.{DeviceLine}
 use Rattle.deck_text.specs.DeckLines.{DeckLines}
 use Rattle.deck_text.specs.Parse.{parsed}
+use Rattle.subsystem_defs.specs.Decks.{Firsts, plan_for}
+use Rattle.subsystem_defs.specs.Subsystem.{new_calls}
 
 -- some text is this deck
 abbrev pub WasRead : DeckLines → Type 0
@@ -28,6 +35,23 @@ are_open ds = are_open_behind None ds
 
 abbrev pub numbers_in : List DeviceLine → List ℕ
 numbers_in ds = map (λ (d : DeviceLine). d.number) ds
+
+-- a volume with as many tracks as the device of this line has
+abbrev pub HasTracks : DeviceLine → VolumeView (List ℕ) → Type 0
+HasTracks d v = v.tracks ≡ d.cylinders * 15
+
+-- one for each of these devices
+abbrev pub HaveTracks : List DeviceLine → List (VolumeView (List ℕ)) → Type 0
+HaveTracks ds vs = AllZip HasTracks ds vs
+
+-- it holds first what these volumes hold, each track of which fits there, and fails the calls of the device's FAULT lines
+pub record HoldsFirst (firsts : Firsts) (deck : DeckLines) (d : DeviceLine) (v : VolumeView (List ℕ)) : Type 0 where
+  pub fits : IsVolume d.geometry d.cylinders (firsts d.number d.cylinders)
+  pub tells : SideIs v (volume_contents (firsts d.number d.cylinders)) (new_calls (plan_for deck.faults d.number))
+
+-- so does the volume of each of these devices, and there is one for each
+abbrev pub AllHold : Firsts → DeckLines → List DeviceLine → List (VolumeView (List ℕ)) → Type 0
+AllHold firsts deck ds vs = AllZip (HoldsFirst firsts deck) ds vs
 
 -- the devices that a line names are there
 abbrev pub is_open_line : List ℕ → EventLine → Bool

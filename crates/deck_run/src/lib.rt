@@ -1,4 +1,4 @@
-//! The run of a deck over a subsystem of devices in memory, and the lines of what happens in it.
+//! The run of a deck over a subsystem of devices on given volumes, or on new ones in memory, and the lines of what happens in it.
 #![tactic(auto)]
 
 mod all;
@@ -11,10 +11,12 @@ mod pair;
 mod pass;
 mod replace;
 mod run;
+mod volumes;
 mod work;
 
 pub use event::chains_stand;
 pub use loosed::loosed_by;
-pub use open::open_deck;
+pub use open::{open_deck, open_on};
 pub use pair::join;
-pub use run::{FinishedRun, run_deck, run_front};
+pub use run::{FinishedRun, run_deck, run_front, run_on};
+pub use volumes::EmptyVolume;

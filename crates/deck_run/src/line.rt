@@ -19,10 +19,11 @@ use crate::all::{order_all, order_end};
 use crate::pair::{pair, unpair};
 use crate::pass::{behind_first, pass};
 use crate::replace::replace;
+use crate::volumes::EmptyVolume;
 use crate::work::{Asker, record_passed, record_work, settles, start_end};
 use ckd_types::{DeviceNo, NoMemory, PathNo};
 use deck_plan::EventLine;
-use device_outside::{MemVolume, Volume};
+use device_outside::Volume;
 use report_text::{Happened, Order, ReportLine, RunRecord};
 use run_report::{order_answer, start_answer};
 use std::alloc::Global;
@@ -261,9 +262,9 @@ fn finish<V: Volume>(
 }
 
 /// One event line.
-pub(crate) fn do_line(
+pub(crate) fn do_line<V: EmptyVolume>(
     alloc: Global,
-    sub: &mut Subsystem<MemVolume>,
+    sub: &mut Subsystem<V>,
     report: &mut RunRecord,
     line: EventLine,
 ) -> Result<(), NoMemory>

@@ -1,5 +1,6 @@
-ghost use Rattle.std.specs.Prelude.{◌≡◌, ◌*◌, ◌++◌, [], IfOk, IfSome, OnOk, length};
-ghost use Rattle.device_outside.specs.Disk.{new_disk};
+ghost use Rattle.std.specs.Prelude.{◌≡◌, ◌*◌, ◌++◌, IfOk, IfSome, OnOk};
+ghost use Rattle.device_outside.specs.Both.{SideIs};
+ghost use Rattle.device_outside.specs.Disk.{empty_contents};
 ghost use Rattle.device_core.specs.State.{device_of};
 ghost use Rattle.device_defs.specs.Store.{tracks_of};
 ghost use Rattle.report_text.specs.declared.order.Order.TheVariants as orders;
@@ -16,8 +17,9 @@ ghost use Rattle.deck_run.specs.Standing.{StandsAs};
 
 use crate::all::order_end;
 use crate::event::chains_stand;
+use crate::volumes::EmptyVolume;
 use ckd_types::{DeviceNo, NoMemory};
-use device_outside::{MemVolume, Volume};
+use device_outside::Volume;
 use report_text::{Order, RunRecord};
 use run_report::record_order;
 use std::alloc::Global;
@@ -69,15 +71,15 @@ pub(crate) fn pair<V: Volume>(
 }
 
 /// Side B leaves, and the device that had lent it gets this volume of empty tracks; and how the order ends.
-fn part(
-    sub: &mut Subsystem<MemVolume>,
+fn part<V: Volume>(
+    sub: &mut Subsystem<V>,
     a: DeviceNo,
-    volume: MemVolume,
+    volume: V,
 ) -> Result<EventEnd, NoMemory>
     requires here { HasDevice sub.old a }
     requires own { AreOwn sub.old.devices.items }
-    requires empty { IfSome (device_at sub.old.devices.items a) (λ x. volume ≡ new_disk (device_of x).store.cylinders [] []) }
-    requires size { IfSome (device_at sub.old.devices.items a) (λ x. length volume.tracks ≡ tracks_of (device_of x).store) }
+    requires empty { IfSome (device_at sub.old.devices.items a) (λ x. SideIs (V.view volume) (empty_contents ((device_of x).store.cylinders * 15)) unfailing) }
+    requires size { IfSome (device_at sub.old.devices.items a) (λ x. (V.view volume).tracks ≡ tracks_of (device_of x).store) }
     ensures numbers { HasSameDevices sub.old sub.new }
     ensures own { OnOk result (AreOwn sub.new.devices.items) }
     ensures happened { (run : runs.Subsystem) → StandsAs sub.old run
@@ -91,9 +93,9 @@ fn part(
 }
 
 /// A pair is taken apart. None of the new volume's calls fails.
-pub(crate) fn unpair(
+pub(crate) fn unpair<V: EmptyVolume>(
     alloc: Global,
-    sub: &mut Subsystem<MemVolume>,
+    sub: &mut Subsystem<V>,
     report: &mut RunRecord,
     a: DeviceNo,
 ) -> Result<(), NoMemory>
@@ -107,7 +109,7 @@ pub(crate) fn unpair(
 {
     report.make_room()?;
     let cylinders = sub.device(a).cylinders();
-    let volume = MemVolume::new(alloc, cylinders, &[], &[])?;
+    let volume = V::empty(alloc, cylinders)?;
     let end = part(sub, a, volume)?;
     record_order(report, Order::Unpair(a), &end)?;
     Ok(())

@@ -1,5 +1,6 @@
-ghost use Rattle.std.specs.Prelude.{◌≡◌, ◌*◌, ◌++◌, [], IfOk, IfSome, OnOk, length};
-ghost use Rattle.device_outside.specs.Disk.{new_disk};
+ghost use Rattle.std.specs.Prelude.{◌≡◌, ◌*◌, ◌++◌, IfOk, IfSome, OnOk};
+ghost use Rattle.device_outside.specs.Both.{SideIs};
+ghost use Rattle.device_outside.specs.Disk.{empty_contents};
 ghost use Rattle.device_core.specs.State.{device_of};
 ghost use Rattle.device_defs.specs.Store.{tracks_of};
 ghost use Rattle.report_text.specs.declared.order.Order.TheVariants as orders;
@@ -16,8 +17,9 @@ ghost use Rattle.deck_run.specs.Standing.{StandsAs};
 
 use crate::all::order_end;
 use crate::event::chains_stand;
+use crate::volumes::EmptyVolume;
 use ckd_types::{DeviceNo, NoMemory, Side};
-use device_outside::MemVolume;
+use device_outside::Volume;
 use report_text::{Order, RunRecord};
 use run_report::record_order;
 use std::alloc::Global;
@@ -25,16 +27,16 @@ use subsystem_core::Subsystem;
 use subsystem_defs::EventEnd;
 
 /// A side's new volume of empty tracks, and how the order ends.
-fn put_volume(
-    sub: &mut Subsystem<MemVolume>,
+fn put_volume<V: Volume>(
+    sub: &mut Subsystem<V>,
     d: DeviceNo,
     side: Side,
-    volume: MemVolume,
+    volume: V,
 ) -> Result<EventEnd, NoMemory>
     requires here { HasDevice sub.old d }
     requires own { AreOwn sub.old.devices.items }
-    requires empty { IfSome (device_at sub.old.devices.items d) (λ x. volume ≡ new_disk (device_of x).store.cylinders [] []) }
-    requires size { IfSome (device_at sub.old.devices.items d) (λ x. length volume.tracks ≡ tracks_of (device_of x).store) }
+    requires empty { IfSome (device_at sub.old.devices.items d) (λ x. SideIs (V.view volume) (empty_contents ((device_of x).store.cylinders * 15)) unfailing) }
+    requires size { IfSome (device_at sub.old.devices.items d) (λ x. (V.view volume).tracks ≡ tracks_of (device_of x).store) }
     ensures numbers { HasSameDevices sub.old sub.new }
     ensures own { OnOk result (AreOwn sub.new.devices.items) }
     ensures happened { (run : runs.Subsystem) → StandsAs sub.old run
@@ -49,9 +51,9 @@ fn put_volume(
 }
 
 /// A new volume of empty tracks in place of a failed side's. None of its calls fails.
-pub(crate) fn replace(
+pub(crate) fn replace<V: EmptyVolume>(
     alloc: Global,
-    sub: &mut Subsystem<MemVolume>,
+    sub: &mut Subsystem<V>,
     report: &mut RunRecord,
     d: DeviceNo,
     side: Side,
@@ -66,7 +68,7 @@ pub(crate) fn replace(
 {
     report.make_room()?;
     let cylinders = sub.device(d).cylinders();
-    let volume = MemVolume::new(alloc, cylinders, &[], &[])?;
+    let volume = V::empty(alloc, cylinders)?;
     let end = put_volume(sub, d, side, volume)?;
     record_order(report, Order::Replace(d, side), &end)?;
     Ok(())

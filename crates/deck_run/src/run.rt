@@ -1,7 +1,7 @@
 ghost use Rattle.std.specs.Prelude.{◌≡◌, ◌≤◌, ◌+◌, ◌++◌, ◌∷◌, [], All, IfOk, OnOk, length, map, take, true};
 ghost use Rattle.report_text.specs.declared.line.ReportLine.TheVariants as lines;
 ghost use Rattle.run_report.specs.Report.{lines_of_run, report_lines};
-ghost use Rattle.subsystem_defs.specs.Decks.{run_of};
+ghost use Rattle.subsystem_defs.specs.Decks.{Firsts, run_of, run_on};
 ghost use Rattle.subsystem_defs.specs.Lines.{asked_by, last_behind, run_lines};
 ghost use Rattle.subsystem_defs.specs.Subsystem as runs;
 ghost use Rattle.subsystem_core.specs.Devices.{numbers_of};
@@ -10,8 +10,8 @@ ghost use Rattle.subsystem_laws.specs.AllSound.{AreSound};
 ghost use Rattle.subsystem_laws.specs.Served.{IsServedDeck};
 ghost use Rattle.subsystem_laws.specs.SlotsApart.{AreApart};
 ghost use Rattle.subsystem_laws.specs.Transfers.{MovesByTable};
-ghost use Rattle.deck_run.specs.Fronts.{front_of};
-ghost use Rattle.deck_run.specs.Opening.{WasRead, are_open_lines, numbers_in};
+ghost use Rattle.deck_run.specs.Fronts.{front_of, front_on};
+ghost use Rattle.deck_run.specs.Opening.{AllHold, HaveTracks, WasRead, are_open_lines, numbers_in};
 ghost use Rattle.deck_run.specs.Owning.{AreOwn};
 ghost use Rattle.deck_run.specs.Recording.{all_lines};
 ghost use Rattle.deck_run.specs.Sides.{AreAccounted, all_sides};
@@ -19,19 +19,20 @@ ghost use Rattle.deck_run.specs.Standing.{StandsAs, all_stood};
 
 use crate::close::{record_devices, record_frames};
 use crate::line::do_line;
-use crate::open::open_deck;
+use crate::open::{make_volumes, open_on};
+use crate::volumes::EmptyVolume;
 use ckd_types::NoMemory;
 use deck_plan::EventLine;
 use deck_text::Deck;
-use device_outside::{MemBay, MemVolume};
+use device_outside::{MemBay, MemVolume, Volume};
 use report_text::RunRecord;
 use std::alloc::Global;
 use subsystem_core::Subsystem;
 
 /// A deck that ran: its devices behind its event lines, and what was recorded.
 #[derive(Drop)]
-pub struct FinishedRun {
-    pub sub: Subsystem<MemVolume>,
+pub struct FinishedRun<V: Volume> {
+    pub sub: Subsystem<V>,
     pub report: RunRecord,
 }
 
@@ -43,9 +44,9 @@ fn front(deck: &Deck, n: usize) -> &[EventLine]
 }
 
 /// Event lines, one after another.
-fn do_lines(
+fn do_lines<V: EmptyVolume>(
     alloc: Global,
-    sub: &mut Subsystem<MemVolume>,
+    sub: &mut Subsystem<V>,
     report: &mut RunRecord,
     lines: &[EventLine],
 ) -> Result<(), NoMemory>
@@ -67,24 +68,24 @@ fn do_lines(
     Ok(())
 }
 
-/// The first `n` event lines of a deck over its devices.
-fn run_first(
+/// The first `n` event lines of a deck over its devices, each on its volume.
+fn run_first<V: EmptyVolume>(
     alloc: Global,
     deck: &Deck,
     n: usize,
-    bay: &mut MemBay,
-) -> Result<FinishedRun, NoMemory>
+    volumes: Vec<V>,
+) -> Result<FinishedRun<V>, NoMemory>
     requires read { WasRead deck.now }
     requires within { n ≤ length deck.now.events }
-    ensures stands { bay.old.spoiled ≡ [] → IfOk result (λ ran. StandsAs ran.sub (front_of deck.now n).behind) }
-    ensures lines { bay.old.spoiled ≡ [] → IfOk result (λ ran. ran.report ≡ lines_of_run (front_of deck.now n)) }
+    requires tracks { HaveTracks deck.now.devices (map V.view volumes.items) }
+    ensures stands { (firsts : Firsts) → AllHold firsts deck.now deck.now.devices (map V.view volumes.items)
+        → IfOk result (λ ran. StandsAs ran.sub (front_on firsts deck.now n).behind) }
+    ensures lines { (firsts : Firsts) → AllHold firsts deck.now deck.now.devices (map V.view volumes.items)
+        → IfOk result (λ ran. ran.report ≡ lines_of_run (front_on firsts deck.now n)) }
     ensures numbers { IfOk result (λ ran. numbers_of ran.sub.devices.items ≡ numbers_in deck.now.devices) }
     ensures own { IfOk result (λ ran. AreOwn ran.sub.devices.items) }
-    ensures made { OnOk result (bay.new.made ≡ bay.old.made + length deck.now.devices) }
-    ensures spoiled { bay.new.spoiled ≡ bay.old.spoiled }
-    ensures taken { bay.new.taken ≡ bay.old.taken }
 {
-    let mut sub = open_deck(alloc, deck, bay)?;
+    let mut sub = open_on(alloc, deck, volumes)?;
     let mut report = RunRecord::new(alloc);
     do_lines(alloc, &mut sub, &mut report, front(deck, n))?;
     Ok(FinishedRun { sub, report })
@@ -107,28 +108,65 @@ pub fn run_front(
     ensures spoiled { bay.new.spoiled ≡ bay.old.spoiled }
     ensures taken { bay.new.taken ≡ bay.old.taken }
 {
-    let ran = run_first(alloc, deck, n, bay)?;
+    let volumes = make_volumes(alloc, deck, bay)?;
+    let ran = run_first(alloc, deck, n, volumes)?;
     Ok(ran.sub)
 }
 
 /// All event lines of a deck over its devices.
-fn run_events(alloc: Global, deck: &Deck, bay: &mut MemBay) -> Result<FinishedRun, NoMemory>
-    requires { WasRead deck.now }
-    ensures stands { bay.old.spoiled ≡ [] → IfOk result (λ ran. StandsAs ran.sub (run_of deck.now).behind) }
-    ensures lines { bay.old.spoiled ≡ [] → IfOk result (λ ran. ran.report ≡ lines_of_run (run_of deck.now)) }
+fn run_events<V: EmptyVolume>(
+    alloc: Global,
+    deck: &Deck,
+    volumes: Vec<V>,
+) -> Result<FinishedRun<V>, NoMemory>
+    requires read { WasRead deck.now }
+    requires tracks { HaveTracks deck.now.devices (map V.view volumes.items) }
+    ensures stands { (firsts : Firsts) → AllHold firsts deck.now deck.now.devices (map V.view volumes.items)
+        → IfOk result (λ ran. StandsAs ran.sub (run_on firsts deck.now).behind) }
+    ensures lines { (firsts : Firsts) → AllHold firsts deck.now deck.now.devices (map V.view volumes.items)
+        → IfOk result (λ ran. ran.report ≡ lines_of_run (run_on firsts deck.now)) }
     ensures numbers { IfOk result (λ ran. numbers_of ran.sub.devices.items ≡ numbers_in deck.now.devices) }
     ensures accounted { IfOk result (λ ran. AreAccounted (all_sides ran.sub.devices.items)) }
-    ensures made { OnOk result (bay.new.made ≡ bay.old.made + length deck.now.devices) }
-    ensures spoiled { bay.new.spoiled ≡ bay.old.spoiled }
-    ensures taken { bay.new.taken ≡ bay.old.taken }
 {
-    let ran = run_first(alloc, deck, deck.event_count(), bay)?;
+    let ran = run_first(alloc, deck, deck.event_count(), volumes)?;
     Ok(ran)
+}
+
+/// Runs a deck over volumes that are there, one for each of its devices in their order. Whatever they hold, where it is tracks that fit and
+/// the calls that fail are those of the deck's FAULT lines, its devices are those that the run defined on these tracks leaves, and what
+/// was recorded are the lines of its report, but for the last one. The reads and writes of each event in it are those of the table of events.
+pub fn run_on<V: EmptyVolume>(
+    alloc: Global,
+    deck: &Deck,
+    volumes: Vec<V>,
+) -> Result<FinishedRun<V>, NoMemory>
+    requires read { WasRead deck.now }
+    requires tracks { HaveTracks deck.now.devices (map V.view volumes.items) }
+    ensures stands { (firsts : Firsts) → AllHold firsts deck.now deck.now.devices (map V.view volumes.items)
+        → IfOk result (λ ran. StandsAs ran.sub (run_on firsts deck.now).behind) }
+    ensures lines { (firsts : Firsts) → AllHold firsts deck.now deck.now.devices (map V.view volumes.items)
+        → IfOk result (λ ran. ran.report ++ lines.Finish ∷ [] ≡ report_lines (run_on firsts deck.now)) }
+    ensures slots { (firsts : Firsts) → AllHold firsts deck.now deck.now.devices (map V.view volumes.items)
+        → IfOk result (λ ran. AreApart ran.sub.pool.pool.used (all_stood ran.sub.devices.items)) }
+    ensures transfers { (firsts : Firsts) → IfOk result (λ ran. All MovesByTable (run_on firsts deck.now).events) }
+    ensures numbers { IfOk result (λ ran. numbers_of ran.sub.devices.items ≡ numbers_in deck.now.devices) }
+    ensures accounted { IfOk result (λ ran. AreAccounted (all_sides ran.sub.devices.items)) }
+{
+    let ran = run_events(alloc, deck, volumes)?;
+    let sub = ran.sub;
+    let mut report = ran.report;
+    record_devices(alloc, &mut report, sub.devices())?;
+    record_frames(&mut report, sub.pool())?;
+    Ok(FinishedRun { sub, report })
 }
 
 /// Runs a deck over volumes that the bay makes. Where no track is spoiled its devices are those that the defined run leaves, and what
 /// was recorded are the lines of its report, but for the last one. The reads and writes of each event in them are those of the table of events.
-pub fn run_deck(alloc: Global, deck: &Deck, bay: &mut MemBay) -> Result<FinishedRun, NoMemory>
+pub fn run_deck(
+    alloc: Global,
+    deck: &Deck,
+    bay: &mut MemBay,
+) -> Result<FinishedRun<MemVolume>, NoMemory>
     requires { WasRead deck.now }
     ensures stands { bay.old.spoiled ≡ [] → IfOk result (λ ran. StandsAs ran.sub (run_of deck.now).behind) }
     ensures lines { bay.old.spoiled ≡ [] → IfOk result (λ ran. ran.report ++ lines.Finish ∷ [] ≡ report_lines (run_of deck.now)) }
@@ -141,10 +179,7 @@ pub fn run_deck(alloc: Global, deck: &Deck, bay: &mut MemBay) -> Result<Finished
     ensures spoiled { bay.new.spoiled ≡ bay.old.spoiled }
     ensures taken { bay.new.taken ≡ bay.old.taken }
 {
-    let ran = run_events(alloc, deck, bay)?;
-    let sub = ran.sub;
-    let mut report = ran.report;
-    record_devices(alloc, &mut report, sub.devices())?;
-    record_frames(&mut report, sub.pool())?;
-    Ok(FinishedRun { sub, report })
+    let volumes = make_volumes(alloc, deck, bay)?;
+    let ran = run_on(alloc, deck, volumes)?;
+    Ok(ran)
 }

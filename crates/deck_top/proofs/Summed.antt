@@ -27,7 +27,7 @@ use Rattle.device_laws.proofs.Lucky.{top}
 use Rattle.subsystem_core.specs.Devices.{numbers_of}
 use Rattle.subsystem_core.specs.declared.subsystem.Subsystem.{Subsystem}
 use Rattle.subsystem_defs.specs.Closing.{Counted, DeviceEnd, RunEnding, LentTo, ending}
-use Rattle.subsystem_defs.specs.Decks.{DeckRun, run_of}
+use Rattle.subsystem_defs.specs.Decks.{empty_firsts, DeckRun, run_of}
 use Rattle.subsystem_defs.specs.Subsystem.{Mounted, devices_of}
 use Rattle.subsystem_laws.proofs.CalmRuns.{AllSo}
 use Rattle.subsystem_laws.proofs.FailedCalls.{read_run_reads_few, read_run_writes_few}
@@ -224,9 +224,9 @@ module _ {V : Type 0} {G : Ghosts V} where
         ap (λ (k : LineCounts). summary_by k (sums_of xs)) is
         ∙ ap (λ (n : ℕ). summary_by told (record { reads = n; writes = total writes_in xs; lost = total lost_in xs }))
         (total_known reads_in (λ (d : MarksDevice). d.store.counts.reads) same_reads
-        (few_calls reads_in (λ (d : MarksDevice). d.store.counts.reads) same_reads (read_run_reads_few text deck read)))
+        (few_calls reads_in (λ (d : MarksDevice). d.store.counts.reads) same_reads (read_run_reads_few empty_firsts text deck read)))
         ∙ ap (λ (n : ℕ). summary_by told (record { reads = all.reads; writes = n; lost = total lost_in xs }))
         (total_known writes_in (λ (d : MarksDevice). d.store.counts.writes) same_writes
-        (few_calls writes_in (λ (d : MarksDevice). d.store.counts.writes) same_writes (read_run_writes_few text deck read)))
+        (few_calls writes_in (λ (d : MarksDevice). d.store.counts.writes) same_writes (read_run_writes_few empty_firsts text deck read)))
         ∙ ap (λ (n : ℕ). summary_by told (record { reads = all.reads; writes = all.writes; lost = n }))
         (total_known lost_in (λ (d : MarksDevice). count_lost d.store.lost) (λ x m k. ap count_lost (sym k.lost)) lost_few)

@@ -33,7 +33,7 @@ pub(crate) fn run_deck(
     alloc: Global,
     deck: &Deck,
     bay: &mut MemBay,
-) -> Result<FinishedRun, NoMemory>
+) -> Result<FinishedRun<MemVolume>, NoMemory>
     requires { WasRead deck.now }
     ensures text { bay.old.spoiled ≡ [] → IfOk result (λ ran. report_text ran.report [] [] ≡ report_of deck.now) }
     ensures counts { bay.old.spoiled ≡ [] → IfOk result (λ ran. counts_of ran.report ≡ counts_of (lines_of_run (run_of deck.now))) }

@@ -8,7 +8,7 @@ use Rattle.subsystem_defs.specs.declared.end.EventEnd.TheVariants as ends
 use Rattle.subsystem_defs.specs.declared.event.Event.{Event}
 use Rattle.subsystem_defs.specs.declared.event.Event.TheVariants as events
 use Rattle.subsystem_defs.specs.Decks as D
-use Rattle.subsystem_defs.specs.Decks.{opened, run_of}
+use Rattle.subsystem_defs.specs.Decks.{Firsts, opened_on, run_on}
 use Rattle.subsystem_defs.specs.Happening.{happens, quietly}
 use Rattle.subsystem_defs.specs.Lines as L
 use Rattle.subsystem_defs.specs.Lines.{
@@ -134,9 +134,9 @@ lines_step (x ∷ xs) s =
     let ts = line_logged s x in
     All-append IsExact ts (run_lines xs (last_behind s ts)) (line_step x s) (lines_step xs (last_behind s ts))
 
-run_is_exact : (deck : DeckLines) → All IsExact (run_of deck).events
+run_is_exact : (firsts : Firsts) (deck : DeckLines) → All IsExact (run_on firsts deck).events
 unfolding D.run_asked_on
-run_is_exact deck = lines_step (map asked_by deck.events) (opened deck)
+run_is_exact firsts deck = lines_step (map asked_by deck.events) (opened_on firsts deck)
 
 both : (xs : List Logged) → All MovesByTable xs → All IsExact xs → All MovesExactly xs
 both [] f g = All-nil MovesExactly
@@ -145,5 +145,5 @@ both (x ∷ xs) f g =
     All-cons MovesExactly x xs (record { by_table = All-head MovesByTable x xs f; steps = y.steps; works = y.works })
     (both xs (All-tail MovesByTable x xs f) (All-tail IsExact x xs g))
 
-pub run_exactly : (deck : DeckLines) → All MovesExactly (run_of deck).events
-run_exactly deck = both (run_of deck).events (run_moves deck) (run_is_exact deck)
+pub run_exactly : (firsts : Firsts) (deck : DeckLines) → All MovesExactly (run_on firsts deck).events
+run_exactly firsts deck = both (run_on firsts deck).events (run_moves firsts deck) (run_is_exact firsts deck)

@@ -16,7 +16,7 @@ use Rattle.subsystem_defs.specs.declared.end.EventEnd.TheVariants as ends
 use Rattle.subsystem_defs.specs.declared.event.Event.{Event}
 use Rattle.subsystem_defs.specs.declared.event.Event.TheVariants as events
 use Rattle.subsystem_defs.specs.Decks as D
-use Rattle.subsystem_defs.specs.Decks.{opened, run_of}
+use Rattle.subsystem_defs.specs.Decks.{Firsts, opened_on, run_on}
 use Rattle.subsystem_defs.specs.Deeds as E
 use Rattle.subsystem_defs.specs.Deeds.{Ends, Asks, deed, device_in, on_device, seconds, step, may_end_by, end_of}
 use Rattle.subsystem_defs.specs.Happening as H
@@ -113,6 +113,6 @@ adds_go = record {
   unpairs = λ s a q. (tt, record { unchecked = λ n is. absurd (cc) });
 }
 
-pub run_ends_fast_writes : (deck : DeckLines) → All EndsFastWrites (run_of deck).events
+pub run_ends_fast_writes : (firsts : Firsts) (deck : DeckLines) → All EndsFastWrites (run_on firsts deck).events
 unfolding D.run_asked_on
-run_ends_fast_writes deck = run_shows (λ s. Unit {0}) EndsFastWrites adds_go (map asked_by deck.events) (opened deck) tt
+run_ends_fast_writes firsts deck = run_shows (λ s. Unit {0}) EndsFastWrites adds_go (map asked_by deck.events) (opened_on firsts deck) tt

@@ -3,6 +3,7 @@ use Rattle.std.proofs.Common.{◌≡◌, ◌==◌, ◌&&◌, ℕ, Bool, true, fa
 use Rattle.std.specs.Prelude.{if◌then◌else◌}
 use Rattle.std.proofs.lemmas.Bool.{eq-eqb}
 use Rattle.ckd_types.specs.declared.paths.Side.{Side}
+use Rattle.ckd_types.specs.declared.record.Track.{Track}
 use Rattle.loss_model.specs.declared.Loss.TheVariants as losses
 use Rattle.plain_defs.specs.declared.journal.Act.{Act}
 use Rattle.plain_defs.specs.declared.journal.Act.TheVariants.{CfwLost}
@@ -23,7 +24,7 @@ use Rattle.subsystem_defs.specs.Lines.{Asked}
 use Rattle.subsystem_laws.specs.Came.{CameTo}
 use Rattle.subsystem_laws.proofs.Came.{at, came_had}
 use Rattle.subsystem_laws.proofs.GoodMarks.{by_lent}
-use Rattle.subsystem_laws.proofs.PlainRuns.{Plainly}
+use Rattle.subsystem_laws.proofs.PlainRuns.{PlainlyOn}
 use Rattle.subsystem_laws.proofs.TracksKept.{Fair}
 use Rattle.promise_laws.specs.Origins.{
   IsBy,
@@ -88,7 +89,7 @@ module _ (asked : Asked) (end : EventEnd) (d : MarksDevice) where
     unfolding S.start
     start_brings path by = start_of_program path (subst (λ (k : ℕ). IsBy asked end (events.Start path k)) (sym number) by)
 
-    pub command_brings : Plainly d → (o : OpenEntry) → d.history.running ≡ Some o → d.store.half ≡ None → IsBy asked end (events.Step n) →
+    pub command_brings : {first : ℕ → List Track} → PlainlyOn first d → (o : OpenEntry) → d.history.running ≡ Some o → d.store.half ≡ None → IsBy asked end (events.Step n) →
         (t : CameTo (command by_plain d)) → Bring t.state
     command_brings p o running whole by t =
         all_made (events.Step n) by (λ acts. are_noted d.store.loose acts ≡ true)
@@ -111,7 +112,7 @@ module _ (asked : Asked) (end : EventEnd) (d : MarksDevice) where
         (both (d.store.device == n) (is_some d.store.half) own_number (ap (λ (o : Option (HalfWrite (Unit {0}))). is_some o) is)) t.state.history
         (came_had (second_made d) t)
 
-    pub background_brings : Plainly d → d.store.half ≡ None → IsBy asked end (events.Back n) → (t : CameTo (background by_plain d)) → Bring t.state
+    pub background_brings : {first : ℕ → List Track} → PlainlyOn first d → d.store.half ≡ None → IsBy asked end (events.Back n) → (t : CameTo (background by_plain d)) → Bring t.state
     background_brings p whole by t =
         acts_bring (events.Back n) by (λ acts. are_firmed d.store.loose acts ≡ true) firmed_here t.state.history
         (came_had (background_made d p.number p.empty p.follows whole) t)

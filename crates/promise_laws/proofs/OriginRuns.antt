@@ -29,7 +29,7 @@ use Rattle.subsystem_defs.specs.declared.end.OrderFault.{OrderFault}
 use Rattle.subsystem_defs.specs.declared.event.Event.{Event}
 use Rattle.subsystem_defs.specs.declared.event.Event.TheVariants as events
 use Rattle.subsystem_defs.specs.Decks as D
-use Rattle.subsystem_defs.specs.Decks.{opened, run_of}
+use Rattle.subsystem_defs.specs.Decks.{Firsts, AreWhole, empty_firsts, opened_on, run_of, run_on}
 use Rattle.subsystem_defs.specs.Deeds as E
 use Rattle.subsystem_defs.specs.Deeds.{back, order, Ends, Becomes, Asks, Each, Repairs, Lends, deed, device_in, on_device, starts, start_by, step, seconds, ends_by, may_end_by, ends_done, end_of}
 use Rattle.subsystem_defs.specs.Happening as H
@@ -45,7 +45,7 @@ use Rattle.subsystem_laws.proofs.Came.{at, answered, told_came}
 use Rattle.subsystem_laws.proofs.DeedWalk.{IsSeat, Stands, seat_of}
 use Rattle.subsystem_laws.proofs.FoundDevices.{number_found}
 use Rattle.subsystem_laws.proofs.Pairing.{Pairs, pairs_same, pairs_put, pairs_on, pairs_weaker, some_is, started_number}
-use Rattle.subsystem_laws.proofs.PlainRuns.{Plainly, all_may, plain_kept, event_plain, opened_plain}
+use Rattle.subsystem_laws.proofs.PlainRuns.{PlainlyFrom, all_may, empty_whole, plain_kept_from, event_plain_on, opened_plain_on}
 use Rattle.subsystem_laws.proofs.RunLines.{AnyEvent, logs_all, Goes, lines_go}
 use Rattle.subsystem_laws.proofs.TracksKept.{Fair, fair_kept, opened_fair}
 use Rattle.subsystem_laws.proofs.Walks.{AreSo, device_so, mounted_so, event_so, replaced_so, unpaired_so}
@@ -149,7 +149,7 @@ module _ (asked : Asked) where
 
   -- The deed of each event
 
-  module _ (s : Subsystem) (p : AreSo Fair s.mounted) (q : AreSo Plainly s.mounted) where
+  module _ (firsts : Firsts) (s : Subsystem) (p : AreSo Fair s.mounted) (q : AreSo (PlainlyFrom firsts) s.mounted) where
     -- a record round it, so that the deed can be inferred
     record Deeds (x : MarksDeed) : Type 0 where
       is : Keeps s x
@@ -178,8 +178,8 @@ module _ (asked : Asked) where
     at_device : (n : ℕ) (f : MarksDevice → MarksDeed) → ((d : MarksDevice) → Named n d → Deeds (f d)) → Deeds (on_device (device_in (devices_of s) n) f)
     at_device n f h = on_found n (device_in (devices_of s) n) refl f h
 
-    plainly_of : (d : MarksDevice) → Stands s d → Plainly d
-    plainly_of d x = subst (λ (o : Option MarksDevice). IfSome o Plainly) x.found (device_so Plainly s.mounted x.number q)
+    plainly_of : (d : MarksDevice) → Stands s d → PlainlyFrom firsts d
+    plainly_of d x = subst (λ (o : Option MarksDevice). IfSome o (PlainlyFrom firsts)) x.found (device_so (PlainlyFrom firsts) s.mounted x.number q)
 
     asked_for : {X : Type 0} (d : MarksDevice) → Stands s d → (talk : Talk X) (f : X → Option EventEnd) →
         ((a : X) → is_refused (told_end (f a)) ≡ false) → ((end : EventEnd) → is_refused end ≡ false → (t : CameTo talk) → Origin end d t.state) →
@@ -345,46 +345,51 @@ unpaired_shown s a calls (Some m) there = by_fault (unpair_fault m.device) where
 
 -- All lines
 
-abbrev Sound : Subsystem → Type 0
-Sound s = AreSo Fair s.mounted × AreSo Plainly s.mounted
+abbrev Sound : Firsts → Subsystem → Type 0
+Sound firsts s = AreSo Fair s.mounted × AreSo (PlainlyFrom firsts) s.mounted
 
-event_sound : (s : Subsystem) (e : Event) → IsServedEvent e → Sound s → Sound (happens s e).behind
-event_sound s e may q = (event_so Fair AnyEvent fair_kept s q.0 e tt, event_plain s q.1 e may)
+event_sound : (firsts : Firsts) (s : Subsystem) (e : Event) → IsServedEvent e → Sound firsts s → Sound firsts (happens s e).behind
+event_sound firsts s e may q = (event_so Fair AnyEvent fair_kept s q.0 e tt, event_plain_on firsts s q.1 e may)
 
-replace_goes : (s : Subsystem) (d : ℕ) (side : Side) → Sound s →
-    Sound (replaced s d side unfailing).behind × HaveOrigins (logged (Replace d side) (replaced s d side unfailing))
+replace_goes : (firsts : Firsts) (s : Subsystem) (d : ℕ) (side : Side) → Sound firsts s →
+    Sound firsts (replaced s d side unfailing).behind × HaveOrigins (logged (Replace d side) (replaced s d side unfailing))
 unfolding H.replaced
-replace_goes s d side q = (
+replace_goes firsts s d side q = (
   (
     replaced_so Fair AnyEvent fair_kept s d side unfailing q.0 (mounted_in s.mounted d) (mounted_so Fair s.mounted d q.0),
-    replaced_so Plainly IsServedEvent plain_kept s d side unfailing q.1 (mounted_in s.mounted d) (mounted_so Plainly s.mounted d q.1),
+    replaced_so (PlainlyFrom firsts) IsServedEvent (plain_kept_from firsts) s d side unfailing q.1 (mounted_in s.mounted d) (mounted_so (PlainlyFrom firsts) s.mounted d q.1),
   ),
   replaced_shown s d side unfailing (mounted_in s.mounted d) refl,
 )
 
-unpair_goes : (s : Subsystem) (a : ℕ) → Sound s → Sound (unpaired s a unfailing).behind × HaveOrigins (logged (Unpair a) (unpaired s a unfailing))
+unpair_goes : (firsts : Firsts) (s : Subsystem) (a : ℕ) → Sound firsts s →
+    Sound firsts (unpaired s a unfailing).behind × HaveOrigins (logged (Unpair a) (unpaired s a unfailing))
 unfolding H.unpaired
-unpair_goes s a q = (
+unpair_goes firsts s a q = (
   (
     unpaired_so Fair AnyEvent fair_kept s a unfailing q.0 (mounted_in s.mounted a) (mounted_so Fair s.mounted a q.0),
-    unpaired_so Plainly IsServedEvent plain_kept s a unfailing q.1 (mounted_in s.mounted a) (mounted_so Plainly s.mounted a q.1),
+    unpaired_so (PlainlyFrom firsts) IsServedEvent (plain_kept_from firsts) s a unfailing q.1 (mounted_in s.mounted a) (mounted_so (PlainlyFrom firsts) s.mounted a q.1),
   ),
   unpaired_shown s a unfailing (mounted_in s.mounted a) refl,
 )
 
-origins_go : Goes Sound (λ s. HaveOrigins) IsServedEvent
-origins_go = record {
-  once = λ s e may q. (event_sound s e may q, event_shown (Once e) s q.0 q.1 e refl);
-  stepped = λ s d q. (event_sound s (events.Step d) tt q, event_shown (Run d) s q.0 q.1 (events.Step d) refl);
+origins_go : (firsts : Firsts) → Goes (Sound firsts) (λ s. HaveOrigins) IsServedEvent
+origins_go firsts = record {
+  once = λ s e may q. (event_sound firsts s e may q, event_shown (Once e) firsts s q.0 q.1 e refl);
+  stepped = λ s d q. (event_sound firsts s (events.Step d) tt q, event_shown (Run d) firsts s q.0 q.1 (events.Step d) refl);
   idle = λ s d q. (q, all_same (Run d) ends.Idle s);
-  backed = λ s d q. (event_sound s (events.Back d) tt q, event_shown (Settle d) s q.0 q.1 (events.Back d) refl);
-  replaces = λ s d side q. replace_goes s d side q;
-  unpairs = λ s a q. unpair_goes s a q;
+  backed = λ s d q. (event_sound firsts s (events.Back d) tt q, event_shown (Settle d) firsts s q.0 q.1 (events.Back d) refl);
+  replaces = λ s d side q. replace_goes firsts s d side q;
+  unpairs = λ s a q. unpair_goes firsts s a q;
 }
 
-pub run_has_origins : (deck : DeckLines) → IsServedDeck deck → All HaveOrigins (run_of deck).events
+pub run_has_origins_on : (firsts : Firsts) → AreWhole firsts → (deck : DeckLines) → IsServedDeck deck → All HaveOrigins (run_on firsts deck).events
 unfolding D.run_asked_on
-run_has_origins deck h =
-    logs_all Sound HaveOrigins (opened deck) (run_lines (map asked_by deck.events) (opened deck))
-    (lines_go Sound (λ s. HaveOrigins) IsServedEvent origins_go (map asked_by deck.events) (opened deck) (all_may deck.events h.events)
-    (opened_fair deck deck.devices h.devices, opened_plain deck deck.devices h.devices))
+run_has_origins_on firsts whole deck h =
+    let first = opened_on firsts deck in
+    logs_all (Sound firsts) HaveOrigins first (run_lines (map asked_by deck.events) first)
+    (lines_go (Sound firsts) (λ s. HaveOrigins) IsServedEvent (origins_go firsts) (map asked_by deck.events) first (all_may deck.events h.events)
+    (opened_fair firsts deck deck.devices h.devices, opened_plain_on firsts whole deck deck.devices h.devices))
+
+pub run_has_origins : (deck : DeckLines) → IsServedDeck deck → All HaveOrigins (run_of deck).events
+run_has_origins = run_has_origins_on empty_firsts empty_whole

@@ -10,9 +10,9 @@ ghost use Rattle.plain_defs.specs.History.{History};
 ghost use Rattle.device_defs.specs.Marks.{MarksDevice};
 ghost use Rattle.device_defs.specs.Pledge.{fresh_count};
 ghost use Rattle.subsystem_defs.specs.declared.end.EventEnd.{EventEnd};
-ghost use Rattle.subsystem_defs.specs.Decks.{run_of};
+ghost use Rattle.subsystem_defs.specs.Decks.{AreWhole, Firsts, run_of, run_on};
 ghost use Rattle.subsystem_defs.specs.Lines.{Asked};
-ghost use Rattle.promise_laws.specs.Kept.{KeepWrites};
+ghost use Rattle.promise_laws.specs.Kept.{KeepWrites, KeepWritesOn};
 ghost use Rattle.promise_laws.specs.Origins.{Brings, HaveOrigins, IsGivenBack};
 
 /// In the run of every deck that was read each event makes of each device's history what an event of its kind may make of it, and nothing else.
@@ -36,4 +36,12 @@ pub fn new_volumes_are_given_back()
 /// the journal's order, and with that of a command that was cut in the midst of its write; and a track without data of cache fast write is its firm one.
 pub fn read_run_keeps_writes()
     ensures { (text : List ℕ) (deck : DeckLines) → parsed text ≡ Ok deck → All KeepWrites (run_of deck).events }
+{}
+
+/// Both of its run on volumes that hold other tracks first. What a firm volume was made of is then these, until the device gets a new volume.
+pub fn run_on_volumes_keeps_promises()
+    ensures origins { (firsts : Firsts) → AreWhole firsts → (text : List ℕ) (deck : DeckLines) → parsed text ≡ Ok deck →
+        All HaveOrigins (run_on firsts deck).events }
+    ensures writes { (firsts : Firsts) → AreWhole firsts → (text : List ℕ) (deck : DeckLines) → parsed text ≡ Ok deck →
+        All (KeepWritesOn firsts) (run_on firsts deck).events }
 {}

@@ -241,4 +241,4 @@ pub run_keeps_devices : (deck : DeckLines) → IsServedDeck deck → AreOne (dev
 unfolding D.run_asked_on
 run_keeps_devices deck served =
     stay_on (run_of deck).events (opened deck) (lines_linked (map asked_by deck.events) (opened deck))
-    (run_pairs IsOne (λ lossy alone. IsOne) one_pairwise deck served)
+    (run_pairs IsOne (λ lossy alone. IsOne) one_pairwise empty_firsts deck served)

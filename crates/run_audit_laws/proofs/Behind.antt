@@ -11,7 +11,7 @@ use Rattle.deck_text.specs.Parse.{parsed}
 use Rattle.deck_text.proofs.DeckAgain.{Each}
 use Rattle.device_defs.specs.Marks.{MarksDevice}
 use Rattle.subsystem_defs.specs.Decks as D
-use Rattle.subsystem_defs.specs.Decks.{opened, run_of}
+use Rattle.subsystem_defs.specs.Decks.{empty_firsts, opened, run_of}
 use Rattle.subsystem_defs.specs.Deeds.{device_in}
 use Rattle.subsystem_defs.specs.Lines.{Asked, asked_by, last_behind, line_logged}
 use Rattle.subsystem_defs.specs.Subsystem.{Subsystem, devices_of}
@@ -48,7 +48,7 @@ pub good_behind : (deck : DeckLines) → IsServedDeck deck → AreSo Good (run_o
 unfolding D.run_asked_on
 good_behind deck h =
     lines_end_so Good AnyEvent good_kept (record { step = λ d. tt; back = λ d. tt }) (map asked_by deck.events) (opened deck)
-    (all_asked (map asked_by deck.events)) (opened_good deck deck.devices h.devices)
+    (all_asked (map asked_by deck.events)) (opened_good empty_firsts deck deck.devices h.devices)
 
 pub run_is_behind : (text : List ℕ) (deck : DeckLines) → parsed text ≡ Ok deck → IsBehind (numbers_in deck) (run_of deck).behind
 run_is_behind text deck read =
@@ -62,7 +62,7 @@ opened_is_behind text deck read =
     let served = read_served text deck read in
     record {
       plain = opened_plain deck deck.devices served.devices;
-      good = opened_good deck deck.devices served.devices;
+      good = opened_good empty_firsts deck deck.devices served.devices;
       fits = opened_fits deck deck.devices (read_small text deck read);
       tied = opened_tied deck;
       rises = read_rises text deck read;

@@ -14,7 +14,7 @@ use Rattle.device_laws.specs.Standing.{IsWithin}
 use Rattle.device_laws.proofs.ChainTracks.{whole_cylinders, within_stays}
 use Rattle.device_laws.proofs.Sweeps.{all_queued}
 use Rattle.report_reading.specs.Ranges.{IsTrack}
-use Rattle.subsystem_defs.specs.Decks.{opened, run_of}
+use Rattle.subsystem_defs.specs.Decks.{empty_firsts, opened, run_of}
 use Rattle.subsystem_defs.specs.Subsystem.{Mounted}
 use Rattle.subsystem_laws.proofs.GoodMarks.{Good, by_lent, good_kept, opened_good, within}
 use Rattle.subsystem_laws.proofs.ReadDecks.{read_served}
@@ -105,7 +105,7 @@ on_tracks P (f ∷ fs) all = All-cons OnTrack f fs all.0.1 (on_tracks P fs all.1
 pub frames_have_tracks : (text : List ℕ) (deck : DeckLines) → parsed text ≡ Ok deck → All OnTrack (run_of deck).behind.pool.frames
 frames_have_tracks text deck read =
     let first = both_are Good Sized good_kept sized_kept (opened deck).mounted
-    (opened_good deck deck.devices (read_served text deck read).devices) (first_sized text deck read)
+    (opened_good empty_firsts deck deck.devices (read_served text deck read).devices) (first_sized text deck read)
     in
     on_tracks _ (run_of deck).behind.pool.frames
     (run_so IsTrack Near near_comes (Both Good Sized good_kept sized_kept) (both_kept Good Sized good_kept sized_kept)

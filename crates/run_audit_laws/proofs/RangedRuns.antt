@@ -32,7 +32,7 @@ use Rattle.subsystem_defs.specs.declared.event.Event.{Event}
 use Rattle.subsystem_defs.specs.declared.event.Event.TheVariants as events
 use Rattle.subsystem_defs.specs.Closing.{device_end, device_end_by, ending, lost_tracks, where_true}
 use Rattle.subsystem_defs.specs.Decks as D
-use Rattle.subsystem_defs.specs.Decks.{opened, run_of}
+use Rattle.subsystem_defs.specs.Decks.{empty_firsts, opened, run_of}
 use Rattle.subsystem_defs.specs.Deeds.{device_in}
 use Rattle.subsystem_defs.specs.Lines.{Asked, Logged, Once, Replace, Run, Settle, Unpair, asked_by, run_lines}
 use Rattle.subsystem_defs.specs.Subsystem.{Mounted, Subsystem, devices_of}
@@ -378,7 +378,7 @@ module _ (text : List ℕ) (deck : DeckLines) (read : parsed text ≡ Ok deck) w
   first_ranged : AllRanged (opened deck)
   first_ranged =
       let devices = (read_served text deck read).devices in
-      all_so (opened deck).mounted (opened_plain deck deck.devices devices) (first_sized text deck read) (opened_good deck deck.devices devices)
+      all_so (opened deck).mounted (opened_plain deck deck.devices devices) (first_sized text deck read) (opened_good empty_firsts deck deck.devices devices)
 
   events_known : All IsLine (lines_of_run (run_of deck))
   unfolding D.run_asked_on
@@ -386,18 +386,18 @@ module _ (text : List ℕ) (deck : DeckLines) (read : parsed text ≡ Ok deck) w
       let asked = map asked_by deck.events in
       let ts = run_lines asked (opened deck) in
       let linked = lines_linked asked (opened deck) in
-      let good = run_keeps Good good_kept asked (opened deck) (opened_good deck deck.devices (read_served text deck read).devices) in
+      let good = run_keeps Good good_kept asked (opened deck) (opened_good empty_firsts deck deck.devices (read_served text deck read).devices) in
       let ranged = both_ranged (opened deck) ts linked first_ranged
       (both_behind Fit Plainly Ranged both_so ts (both_behind Sized Good Fit fits ts (run_sized text deck read) good)
       (run_stays_plain deck (read_served text deck read)))
       in
-      all_known ts ranged (run_has_few text deck read) (run_names text deck read) (run_moves deck)
+      all_known ts ranged (run_has_few text deck read) (run_names text deck read) (run_moves empty_firsts deck)
       (all_answer (opened deck) ts linked (lines_keep (λ s. Unit {0}) AnswersSo answers_go asked (opened deck) tt) ranged)
-      (run_tells_of_waiting deck (read_served text deck read) (read_numbered text deck read))
+      (run_tells_of_waiting empty_firsts deck (read_served text deck read) (read_numbered text deck read))
 
   pub report_is_in_range : All IsLine (report_lines (run_of deck))
   report_is_in_range =
       let r = run_of deck in
       All-append IsLine (lines_of_run r) (ending_lines (ending r.behind)) events_known
-      (ending_known r.behind (sized_behind text deck read) (frames_are_declared deck) (frames_have_tracks text deck read) (read_run_reads_few text deck read)
-      (read_run_writes_few text deck read))
+      (ending_known r.behind (sized_behind text deck read) (frames_are_declared deck) (frames_have_tracks text deck read) (read_run_reads_few empty_firsts text deck read)
+      (read_run_writes_few empty_firsts text deck read))

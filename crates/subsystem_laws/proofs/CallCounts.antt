@@ -364,11 +364,11 @@ module _ (count : K.Counts → ℕ) (c : IsCallCount count) where
       (counted_on ts t.happened.behind (k + 1924) l.1 (All-tail Shown t ts p) r.1
       (fits_on k (devices_of t.happened.before) (devices_of t.happened.behind) (All-head Shown t ts p) g))
 
-  opened_fits : {firsts : Firsts} (deck : DeckLines) (ds : List DeviceLine) → All IsSmall ds → AllSo (Fits 0) (map (λ (m : Mounted). m.device) (map (opened_device_on firsts deck) ds))
-  opened_fits deck [] h = tt
-  opened_fits deck (d ∷ ds) h = (
+  opened_fits : (firsts : Firsts) (deck : DeckLines) (ds : List DeviceLine) → All IsSmall ds → AllSo (Fits 0) (map (λ (m : Mounted). m.device) (map (opened_device_on firsts deck) ds))
+  opened_fits firsts deck [] h = tt
+  opened_fits firsts deck (d ∷ ds) h = (
     record { small = All-head IsSmall d ds h; most = none_first (count no_counts) c.at_first },
-    opened_fits deck ds (All-tail IsSmall d ds h),
+    opened_fits firsts deck ds (All-tail IsSmall d ds h),
   )
 
   behind_on : (ts : List Logged) (s : Subsystem) (k : ℕ) → Linked s ts → All Shown ts → AllSo (Fits k) (devices_of s) →
@@ -380,26 +380,26 @@ module _ (count : K.Counts → ℕ) (c : IsCallCount count) where
       (behind_on ts t.happened.behind (k + 1924) l.1 (All-tail Shown t ts p)
       (fits_on k (devices_of t.happened.before) (devices_of t.happened.behind) (All-head Shown t ts p) h))
 
-  run_shown : {firsts : Firsts} (text : List ℕ) (deck : DeckLines) → parsed text ≡ Ok deck → All Shown (run_on firsts deck).events
-  run_shown text deck read = run_pairs RisesNone (λ lossy alone. RisesFew) few_pairwise deck (read_served text deck read)
+  run_shown : (firsts : Firsts) (text : List ℕ) (deck : DeckLines) → parsed text ≡ Ok deck → All Shown (run_on firsts deck).events
+  run_shown firsts text deck read = run_pairs RisesNone (λ lossy alone. RisesFew) few_pairwise firsts deck (read_served text deck read)
 
   -- in the run of a deck that was read it stays below the greatest number that is counted
-  pub read_run_counts_all : {firsts : Firsts} (text : List ℕ) (deck : DeckLines) → parsed text ≡ Ok deck → All AllFewer (run_on firsts deck).events
+  pub read_run_counts_all : (firsts : Firsts) (text : List ℕ) (deck : DeckLines) → parsed text ≡ Ok deck → All AllFewer (run_on firsts deck).events
   unfolding D.run_asked_on
-  read_run_counts_all {firsts = firsts} text deck read =
-      counted_on (run_on firsts deck).events (opened_on firsts deck) 0 (lines_linked (map asked_by deck.events) (opened_on firsts deck)) (run_shown text deck read)
-      (from_none (length (run_on firsts deck).events) (read_run_has_few text deck read)) (opened_fits deck deck.devices (read_small text deck read))
+  read_run_counts_all firsts text deck read =
+      counted_on (run_on firsts deck).events (opened_on firsts deck) 0 (lines_linked (map asked_by deck.events) (opened_on firsts deck)) (run_shown firsts text deck read)
+      (from_none (length (run_on firsts deck).events) (read_run_has_few firsts text deck read)) (opened_fits firsts deck deck.devices (read_small text deck read))
 
   less_so : (k n : ℕ) → k ≤ n → (ds : List MarksDevice) → AllSo (Fits k) ds → AllSo (λ (d : MarksDevice). count d.store.counts ≤ n) ds
   less_so k n le [] g = tt
   less_so k n le (d ∷ ds) g = (at_most (count d.store.counts) k n g.0.most le, less_so k n le ds g.1)
 
   -- and behind it, it is at most this
-  pub read_run_counts_few : {firsts : Firsts} (text : List ℕ) (deck : DeckLines) → parsed text ≡ Ok deck →
+  pub read_run_counts_few : (firsts : Firsts) (text : List ℕ) (deck : DeckLines) → parsed text ≡ Ok deck →
       AllSo (λ (d : MarksDevice). count d.store.counts ≤ 1033065725952) (devices_of (run_on firsts deck).behind)
   unfolding D.run_asked_on
-  read_run_counts_few {firsts = firsts} text deck read =
-      less_so (0 + length (run_on firsts deck).events * 1924) 1033065725952 (all_few (length (run_on firsts deck).events) (read_run_has_few text deck read))
+  read_run_counts_few firsts text deck read =
+      less_so (0 + length (run_on firsts deck).events * 1924) 1033065725952 (all_few (length (run_on firsts deck).events) (read_run_has_few firsts text deck read))
       (devices_of (run_on firsts deck).behind)
-      (behind_on (run_on firsts deck).events (opened_on firsts deck) 0 (lines_linked (map asked_by deck.events) (opened_on firsts deck)) (run_shown text deck read)
-      (opened_fits deck deck.devices (read_small text deck read)))
+      (behind_on (run_on firsts deck).events (opened_on firsts deck) 0 (lines_linked (map asked_by deck.events) (opened_on firsts deck)) (run_shown firsts text deck read)
+      (opened_fits firsts deck deck.devices (read_small text deck read)))

@@ -631,10 +631,10 @@ calm_on (t ∷ ts) s k l p r h g calm lt f =
     (calm_on ts t.happened.behind (k + 1) l.1 (All-tail Shown t ts p) (All-tail Refuses t ts r) (All-tail HaveNoDataCheck t ts h)
     (All-tail AreFairBehind t ts g) (and_right (is_calm_event t) (is_calm ts) calm) room.1 fits)
 
-opened_fits : {firsts : Firsts} (deck : DeckLines) (ds : List DeviceLine) → AreSo Fair (map (opened_device_on firsts deck) ds) →
+opened_fits : (firsts : Firsts) (deck : DeckLines) (ds : List DeviceLine) → AreSo Fair (map (opened_device_on firsts deck) ds) →
     AllSo (Fits 0) (map (λ (m : Mounted). m.device) (map (opened_device_on firsts deck) ds))
-opened_fits deck [] f = tt
-opened_fits deck (d ∷ ds) f = (
+opened_fits firsts deck [] f = tt
+opened_fits firsts deck (d ∷ ds) f = (
   record {
     fair = f.0;
     calm = record {
@@ -644,19 +644,19 @@ opened_fits deck (d ∷ ds) f = (
     };
     most = omega arith;
   },
-  opened_fits deck ds f.1,
+  opened_fits firsts deck ds f.1,
 )
 
 pub from_none : (n : ℕ) → n < 2 ^ 64 - 1 → 0 + n < top
 from_none n lt = omega (arith, lt)
 
-pub calm_run_misses_nothing : {firsts : Firsts} (deck : DeckLines) → IsServedDeck deck → length (run_on firsts deck).events < 2 ^ 64 - 1 → is_calm (run_on firsts deck).events ≡ true →
+pub calm_run_misses_nothing : (firsts : Firsts) (deck : DeckLines) → IsServedDeck deck → length (run_on firsts deck).events < 2 ^ 64 - 1 → is_calm (run_on firsts deck).events ≡ true →
     miss_nothing (run_on firsts deck).events ≡ true
 unfolding D.run_asked_on
-calm_run_misses_nothing {firsts = firsts} deck h few calm =
-    let fair = opened_fair deck deck.devices h.devices in
+calm_run_misses_nothing firsts deck h few calm =
+    let fair = opened_fair firsts deck deck.devices h.devices in
     let lines = map asked_by deck.events in
-    calm_on (run_on firsts deck).events (opened_on firsts deck) 0 (lines_linked lines (opened_on firsts deck)) (run_pairs StillCalm MadeCalm calm_pairwise deck h)
-    (run_shows (λ s. Unit {0}) Refuses refuses_go lines (opened_on firsts deck) tt) (run_has_no_data_check deck) (run_keeps Fair fair_kept lines (opened_on firsts deck) fair) calm
+    calm_on (run_on firsts deck).events (opened_on firsts deck) 0 (lines_linked lines (opened_on firsts deck)) (run_pairs StillCalm MadeCalm calm_pairwise firsts deck h)
+    (run_shows (λ s. Unit {0}) Refuses refuses_go lines (opened_on firsts deck) tt) (run_has_no_data_check firsts deck) (run_keeps Fair fair_kept lines (opened_on firsts deck) fair) calm
     (from_none (length (run_on firsts deck).events) few)
-    (opened_fits deck deck.devices fair)
+    (opened_fits firsts deck deck.devices fair)

@@ -78,5 +78,5 @@ checks_pairwise = record {
   deeds = λ s p. deeds_of AddsNone ChecksForCause s (deeds_show s p);
 }
 
-pub run_checks_for_cause : {firsts : Firsts} (deck : DeckLines) → IsServedDeck deck → All CheckForCause (run_on firsts deck).events
-run_checks_for_cause = run_pairs AddsNone (λ lossy alone. ChecksForCause) checks_pairwise
+pub run_checks_for_cause : (firsts : Firsts) (deck : DeckLines) → IsServedDeck deck → All CheckForCause (run_on firsts deck).events
+run_checks_for_cause firsts = run_pairs AddsNone (λ lossy alone. ChecksForCause) checks_pairwise firsts

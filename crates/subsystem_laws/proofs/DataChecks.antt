@@ -50,10 +50,10 @@ checks_kept = record {
   restored = λ d a is p. count_more ends_with_data_check d.history.items (items.Fresh ∷ []) (refl, tt) ∙ p;
 }
 
-opened_so : {firsts : Firsts} (deck : DeckLines) (ds : List DeviceLine) → AreSo HasNoDataCheck (map (opened_device_on firsts deck) ds)
-opened_so deck [] = tt
-opened_so deck (d ∷ ds) = (refl, opened_so deck ds)
+opened_so : (firsts : Firsts) (deck : DeckLines) (ds : List DeviceLine) → AreSo HasNoDataCheck (map (opened_device_on firsts deck) ds)
+opened_so firsts deck [] = tt
+opened_so firsts deck (d ∷ ds) = (refl, opened_so firsts deck ds)
 
-pub run_has_no_data_check : {firsts : Firsts} (deck : DeckLines) → All HaveNoDataCheck (run_on firsts deck).events
+pub run_has_no_data_check : (firsts : Firsts) (deck : DeckLines) → All HaveNoDataCheck (run_on firsts deck).events
 unfolding D.run_asked_on
-run_has_no_data_check {firsts = firsts} deck = run_keeps HasNoDataCheck checks_kept (map asked_by deck.events) (opened_on firsts deck) (opened_so deck deck.devices)
+run_has_no_data_check firsts deck = run_keeps HasNoDataCheck checks_kept (map asked_by deck.events) (opened_on firsts deck) (opened_so firsts deck deck.devices)

@@ -25,6 +25,7 @@ use Rattle.device_laws.proofs.LossLaws.{counted_excuse}
 use Rattle.device_laws.proofs.Lucky.{top}
 use Rattle.device_laws.proofs.MorePlans.{longer_follows, unexplained_same}
 use Rattle.subsystem_defs.specs.declared.event.Event.{Event}
+use Rattle.subsystem_defs.specs.Decks.{empty_firsts}
 use Rattle.subsystem_defs.specs.Promised.{first_of}
 use Rattle.subsystem_laws.specs.CameAbout as about
 use Rattle.subsystem_laws.specs.CameAbout.{CameAboutOn, HasLost}
@@ -233,22 +234,22 @@ about_excusable (about.resumed {d = d} b pair) =
 about_excusable (about.replaced {d = d} b side fault) =
     let x = about_excusable b in
     ordered d (replace d side) x (all_kept.replaced d side fault x.kept) (counted_pairwise.replaces d side fault) (made_pairwise.replaces d side fault)
-    (explained_pairwise.replaces d side fault)
+    ((explained_pairwise empty_firsts).replaces d side fault)
 about_excusable (about.lent {x = x} {d = d} b c fault t) =
     let e = about_excusable c in
     ordered d t.state e (all_kept.lent x d fault (about_excusable b).kept e.kept t) (L.lend_still d x.store.device t) (X.lend_still d x.store.device t)
     (E.lend_adds d x.store.device t)
 about_excusable (about.joined {d = d} b single home) =
     let x = about_excusable b in
-    ordered d (join d) x (all_kept.joins d (single, home) x.kept) (counted_pairwise.joins d) (made_pairwise.joins d) (explained_pairwise.joins d)
+    ordered d (join d) x (all_kept.joins d (single, home) x.kept) (counted_pairwise.joins d) (made_pairwise.joins d) ((explained_pairwise empty_firsts).joins d)
 about_excusable (about.parted {d = d} b fault) =
     let x = about_excusable b in
     ordered d (split d) x (all_kept.splits d fault x.kept) (counted_pairwise.splits d fault) (made_pairwise.splits d fault)
-    (explained_pairwise.splits d fault)
+    ((explained_pairwise empty_firsts).splits d fault)
 about_excusable (about.restored {d = d} b to is) =
     let x = about_excusable b in
     ordered d (restore d) x (all_kept.restored d to is x.kept) (counted_pairwise.restores d to is) (made_pairwise.restores d to is)
-    (explained_pairwise.restores d to is)
+    ((explained_pairwise empty_firsts).restores d to is)
 about_excusable {first = first} (about.planned {d = d} b path program) = planned_excusable first d path program (about_excusable b)
 
 -- So it is excused, where it was never lent

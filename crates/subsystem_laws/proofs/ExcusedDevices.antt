@@ -3,7 +3,7 @@ use Rattle.std.proofs.Common.{◌<◌, ◌^◌, ◌-◌}
 use Rattle.std.specs.Prelude.{All, length}
 use Rattle.deck_text.specs.DeckLines.{DeckLines}
 use Rattle.device_defs.specs.Marks.{MarksDevice}
-use Rattle.subsystem_defs.specs.Decks.{run_of}
+use Rattle.subsystem_defs.specs.Decks.{empty_firsts, run_of}
 use Rattle.subsystem_laws.specs.Causes.{CountFailures}
 use Rattle.subsystem_laws.specs.Excused.{HasExcusedTracks, HasCountedLosses, HasExcusedChecks, HasExcuse, HaveExcuses}
 use Rattle.subsystem_laws.specs.Served.{IsServedDeck}
@@ -20,6 +20,6 @@ pub run_excuses_devices : (deck : DeckLines) → IsServedDeck deck → length (r
 run_excuses_devices deck h few n =
     let ts = (run_of deck).events in
     both_behind ForLosses HasExcusedChecks HasExcuse (λ d e checks never. record { tracks = e.0; loose = e.1; checks = checks never }) ts
-    (both_behind HasExcusedTracks HasCountedLosses ForLosses (λ d tracks loose. (tracks, loose)) ts (run_excuses_tracks deck h)
-    (run_counts_losses deck h few))
+    (both_behind HasExcusedTracks HasCountedLosses ForLosses (λ d tracks loose. (tracks, loose)) ts (run_excuses_tracks empty_firsts deck h)
+    (run_counts_losses empty_firsts deck h few))
     (checks_are_excused deck h n)

@@ -501,8 +501,8 @@ pub checks_are_excused : (deck : DeckLines) → IsServedDeck deck → All CountF
 unfolding D.run_asked_on
 checks_are_excused deck h n =
     let lines = map asked_by deck.events in
-    let fair = opened_fair deck deck.devices h.devices in
-    let paid = opened_paid deck deck.devices in
-    excused_from (run_of deck).events (opened deck) (lines_linked lines (opened deck)) (run_pairs Still (λ lossy alone. Made) made_pairwise deck h)
+    let fair = opened_fair empty_firsts deck deck.devices h.devices in
+    let paid = opened_paid empty_firsts deck deck.devices in
+    excused_from (run_of deck).events (opened deck) (lines_linked lines (opened deck)) (run_pairs Still (λ lossy alone. Made) made_pairwise empty_firsts deck h)
     (run_keeps Fair fair_kept lines (opened deck) fair) (run_keeps PaidFor paid_kept lines (opened deck) paid) (run_is_explained deck h n)
     (opened_stand deck deck.devices fair paid)

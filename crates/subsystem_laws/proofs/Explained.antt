@@ -555,4 +555,4 @@ explained_pairwise firsts = record {
 -- each device before an event with a plain history, steered sides, and counted calls has its checks explained behind it
 pub run_explains : (firsts : Firsts) (deck : DeckLines) → IsServedDeck deck →
     All (λ (x : Logged). EachPair (ExplainsFrom firsts) (devices_of x.happened.before) (devices_of x.happened.behind)) (run_on firsts deck).events
-run_explains firsts deck = run_pairs AddsNone (λ lossy alone. ExplainsFrom firsts) (explained_pairwise firsts) deck
+run_explains firsts deck = run_pairs AddsNone (λ lossy alone. ExplainsFrom firsts) (explained_pairwise firsts) firsts deck

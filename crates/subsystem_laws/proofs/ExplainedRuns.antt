@@ -74,7 +74,7 @@ module _ (firsts : Firsts) where
   run_is_explained_on whole deck h n =
       let lines = map asked_by deck.events in
       let first = opened_on firsts deck in
-      let steered : AreSo Steered first.mounted = opened_steered deck deck.devices in
+      let steered : AreSo Steered first.mounted = opened_steered firsts deck deck.devices in
       explained_along (run_on firsts deck).events first (lines_linked lines first) (run_explains firsts deck h)
       (run_stays_plain_on firsts whole deck h) (run_keeps Steered steered_kept lines first steered) n
       (record {

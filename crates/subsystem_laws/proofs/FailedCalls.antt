@@ -35,13 +35,13 @@ write_count = record {
   no_loss = λ c l. refl;
 }
 
-pub read_run_counts_failures : {firsts : Firsts} (text : List ℕ) (deck : DeckLines) → parsed text ≡ Ok deck → All CountFailures (run_on firsts deck).events
-read_run_counts_failures text deck read = read_run_counts_all (λ (c : K.Counts). c.failed) failed_count text deck read
+pub read_run_counts_failures : (firsts : Firsts) (text : List ℕ) (deck : DeckLines) → parsed text ≡ Ok deck → All CountFailures (run_on firsts deck).events
+read_run_counts_failures firsts text deck read = read_run_counts_all (λ (c : K.Counts). c.failed) failed_count firsts text deck read
 
-pub read_run_reads_few : {firsts : Firsts} (text : List ℕ) (deck : DeckLines) → parsed text ≡ Ok deck →
+pub read_run_reads_few : (firsts : Firsts) (text : List ℕ) (deck : DeckLines) → parsed text ≡ Ok deck →
     AllSo (λ (d : MarksDevice). d.store.counts.reads ≤ 1033065725952) (devices_of (run_on firsts deck).behind)
-read_run_reads_few text deck read = read_run_counts_few (λ (c : K.Counts). c.reads) read_count text deck read
+read_run_reads_few firsts text deck read = read_run_counts_few (λ (c : K.Counts). c.reads) read_count firsts text deck read
 
-pub read_run_writes_few : {firsts : Firsts} (text : List ℕ) (deck : DeckLines) → parsed text ≡ Ok deck →
+pub read_run_writes_few : (firsts : Firsts) (text : List ℕ) (deck : DeckLines) → parsed text ≡ Ok deck →
     AllSo (λ (d : MarksDevice). d.store.counts.writes ≤ 1033065725952) (devices_of (run_on firsts deck).behind)
-read_run_writes_few text deck read = read_run_counts_few (λ (c : K.Counts). c.writes) write_count text deck read
+read_run_writes_few firsts text deck read = read_run_counts_few (λ (c : K.Counts). c.writes) write_count firsts text deck read

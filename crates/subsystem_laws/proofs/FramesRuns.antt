@@ -267,12 +267,12 @@ new_framed number on n v plans fair = record {
   };
 }
 
-opened_framed : {firsts : Firsts} (deck : DeckLines) (ds : List DeviceLine) → All (λ (d : DeviceLine). 1 ≤ d.cylinders) ds → AreSo Framed (map (opened_device_on firsts deck) ds)
-opened_framed deck [] h = tt
-opened_framed deck (d ∷ ds) h = (
-  new_framed d.number d.geometry d.cylinders (empty_volume d.cylinders) _
-      (new_fair d.number d.geometry d.cylinders (empty_volume d.cylinders) _ (All-head (λ (d : DeviceLine). 1 ≤ d.cylinders) d ds h)),
-  opened_framed deck ds (All-tail (λ (d : DeviceLine). 1 ≤ d.cylinders) d ds h),
+opened_framed : (firsts : Firsts) (deck : DeckLines) (ds : List DeviceLine) → All (λ (d : DeviceLine). 1 ≤ d.cylinders) ds → AreSo Framed (map (opened_device_on firsts deck) ds)
+opened_framed firsts deck [] h = tt
+opened_framed firsts deck (d ∷ ds) h = (
+  new_framed d.number d.geometry d.cylinders (firsts d.number d.cylinders) _
+      (new_fair d.number d.geometry d.cylinders (firsts d.number d.cylinders) _ (All-head (λ (d : DeviceLine). 1 ≤ d.cylinders) d ds h)),
+  opened_framed firsts deck ds (All-tail (λ (d : DeviceLine). 1 ≤ d.cylinders) d ds h),
 )
 
 -- one that is lent has none either
@@ -280,8 +280,8 @@ pub excuses_tracks : (d : MarksDevice) → Framed d → HasExcusedTracks d
 excuses_tracks d f may =
     by_lent d (λ home. excused_tracks d.store (f.fair.un home) (f.un home) may) (λ away. kept_counts d.store (f.fair.good.gone away).store.lost)
 
-pub run_excuses_tracks : {firsts : Firsts} (deck : DeckLines) → IsServedDeck deck → All HaveExcusedTracks (run_on firsts deck).events
+pub run_excuses_tracks : (firsts : Firsts) (deck : DeckLines) → IsServedDeck deck → All HaveExcusedTracks (run_on firsts deck).events
 unfolding D.run_asked_on
-run_excuses_tracks {firsts = firsts} deck h =
+run_excuses_tracks firsts deck h =
     behind_weaker Framed HasExcusedTracks excuses_tracks (run_on firsts deck).events
-    (run_keeps Framed framed_kept (map asked_by deck.events) (opened_on firsts deck) (opened_framed deck deck.devices h.devices))
+    (run_keeps Framed framed_kept (map asked_by deck.events) (opened_on firsts deck) (opened_framed firsts deck deck.devices h.devices))

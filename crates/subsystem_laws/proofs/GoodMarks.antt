@@ -340,12 +340,12 @@ module _ (number : ℕ) (on : Geometry) (n : ℕ) (v : List Track) where
 pub new_good : (number : ℕ) (on : Geometry) (n : ℕ) (v : List Track) (plans : Plans) → 1 ≤ n → Good (device_on number on n v plans)
 new_good number on n v plans some = record { some = omega (arith, some); chain = tt; well = λ home. new_well number on n v; gone = λ away. absurd (cc) }
 
-pub opened_good : {firsts : Firsts} (deck : DeckLines) (ds : List DeviceLine) → All (λ (d : DeviceLine). 1 ≤ d.cylinders) ds → AreSo Good (map (opened_device_on firsts deck) ds)
-opened_good deck [] h = tt
-opened_good deck (d ∷ ds) h =
+pub opened_good : (firsts : Firsts) (deck : DeckLines) (ds : List DeviceLine) → All (λ (d : DeviceLine). 1 ≤ d.cylinders) ds → AreSo Good (map (opened_device_on firsts deck) ds)
+opened_good firsts deck [] h = tt
+opened_good firsts deck (d ∷ ds) h =
     let some = All-head (λ (d : DeviceLine). 1 ≤ d.cylinders) d ds h in (
-      record { some = omega (arith, some); chain = tt; well = λ home. new_well d.number d.geometry d.cylinders (empty_volume d.cylinders); gone = λ away. absurd (cc) },
-      opened_good deck ds (All-tail (λ (d : DeviceLine). 1 ≤ d.cylinders) d ds h),
+      record { some = omega (arith, some); chain = tt; well = λ home. new_well d.number d.geometry d.cylinders (firsts d.number d.cylinders); gone = λ away. absurd (cc) },
+      opened_good firsts deck ds (All-tail (λ (d : DeviceLine). 1 ≤ d.cylinders) d ds h),
     )
 
 -- Good marks
@@ -370,8 +370,8 @@ marks_good s w = record {
   there = λ h is. there_by s h is w (w.here.within h is);
 }
 
-pub run_has_good_marks : {firsts : Firsts} (deck : DeckLines) → IsServedDeck deck → All HaveGoodMarks (run_on firsts deck).events
+pub run_has_good_marks : (firsts : Firsts) (deck : DeckLines) → IsServedDeck deck → All HaveGoodMarks (run_on firsts deck).events
 unfolding D.run_asked_on
-run_has_good_marks {firsts = firsts} deck h =
+run_has_good_marks firsts deck h =
     behind_weaker Good HasGoodMarks (λ d g. λ home. marks_good d.store (g.well home)) (run_on firsts deck).events
-    (run_keeps Good good_kept (map asked_by deck.events) (opened_on firsts deck) (opened_good deck deck.devices h.devices))
+    (run_keeps Good good_kept (map asked_by deck.events) (opened_on firsts deck) (opened_good firsts deck deck.devices h.devices))

@@ -257,12 +257,12 @@ counted_on (t ∷ ts) s k l p lt f =
     All-cons HaveCountedLosses t ts (all_counted (k + 1) (devices_of t.happened.behind) g)
     (counted_on ts t.happened.behind (k + 1) l.1 (All-tail Shown t ts p) r.1 g)
 
-opened_fits : {firsts : Firsts} (deck : DeckLines) (ds : List DeviceLine) → AllSo (Fits 0) (map (λ (m : Mounted). m.device) (map (opened_device_on firsts deck) ds))
-opened_fits deck [] = tt
-opened_fits deck (d ∷ ds) = (record { most = omega arith; all = omega arith }, opened_fits deck ds)
+opened_fits : (firsts : Firsts) (deck : DeckLines) (ds : List DeviceLine) → AllSo (Fits 0) (map (λ (m : Mounted). m.device) (map (opened_device_on firsts deck) ds))
+opened_fits firsts deck [] = tt
+opened_fits firsts deck (d ∷ ds) = (record { most = omega arith; all = omega arith }, opened_fits firsts deck ds)
 
-pub run_counts_losses : {firsts : Firsts} (deck : DeckLines) → IsServedDeck deck → length (run_on firsts deck).events < 2 ^ 64 - 1 → All HaveCountedLosses (run_on firsts deck).events
+pub run_counts_losses : (firsts : Firsts) (deck : DeckLines) → IsServedDeck deck → length (run_on firsts deck).events < 2 ^ 64 - 1 → All HaveCountedLosses (run_on firsts deck).events
 unfolding D.run_asked_on
-run_counts_losses {firsts = firsts} deck h few =
+run_counts_losses firsts deck h few =
     counted_on (run_on firsts deck).events (opened_on firsts deck) 0 (lines_linked (map asked_by deck.events) (opened_on firsts deck))
-    (run_pairs Still (λ lossy alone. Counted) counted_pairwise deck h) (from_none (length (run_on firsts deck).events) few) (opened_fits deck deck.devices)
+    (run_pairs Still (λ lossy alone. Counted) counted_pairwise firsts deck h) (from_none (length (run_on firsts deck).events) few) (opened_fits firsts deck deck.devices)

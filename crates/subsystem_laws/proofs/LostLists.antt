@@ -149,5 +149,5 @@ losses_pairwise = record {
   deeds = λ s p. deeds_of LosesNone LosesForCause s (deeds_lose s p);
 }
 
-pub run_loses_for_cause : {firsts : Firsts} (deck : DeckLines) → IsServedDeck deck → All LoseForCause (run_on firsts deck).events
-run_loses_for_cause = run_pairs LosesNone (λ lossy alone. LosesForCause) losses_pairwise
+pub run_loses_for_cause : (firsts : Firsts) (deck : DeckLines) → IsServedDeck deck → All LoseForCause (run_on firsts deck).events
+run_loses_for_cause firsts = run_pairs LosesNone (λ lossy alone. LosesForCause) losses_pairwise firsts

@@ -277,6 +277,6 @@ lines_move = record {
   unpairs = λ s a q. (tt, unpaired_moves s a);
 }
 
-pub run_moves : {firsts : Firsts} (deck : DeckLines) → All MovesByTable (run_on firsts deck).events
+pub run_moves : (firsts : Firsts) (deck : DeckLines) → All MovesByTable (run_on firsts deck).events
 unfolding D.run_asked_on
-run_moves {firsts = firsts} deck = run_shows Nothing MovesByTable lines_move (map asked_by deck.events) (opened_on firsts deck) tt
+run_moves firsts deck = run_shows Nothing MovesByTable lines_move (map asked_by deck.events) (opened_on firsts deck) tt

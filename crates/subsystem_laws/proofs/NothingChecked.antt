@@ -260,15 +260,15 @@ quiet_kept = record {
   restored = λ d a is q. restore_quiet d q (fair_kept.restored d a is q.fair);
 }
 
-pub opened_quiet : {firsts : Firsts} (deck : DeckLines) (ds : List DeviceLine) → All (λ (d : DeviceLine). 1 ≤ d.cylinders) ds → AreSo Quiet (map (opened_device_on firsts deck) ds)
-opened_quiet deck [] h = tt
-opened_quiet deck (d ∷ ds) h = (
-  record { fair = new_fair d.number d.geometry d.cylinders (empty_volume d.cylinders) _ (All-head (λ (d : DeviceLine). 1 ≤ d.cylinders) d ds h); none = λ n c. (refl, refl) },
-  opened_quiet deck ds (All-tail (λ (d : DeviceLine). 1 ≤ d.cylinders) d ds h),
+pub opened_quiet : (firsts : Firsts) (deck : DeckLines) (ds : List DeviceLine) → All (λ (d : DeviceLine). 1 ≤ d.cylinders) ds → AreSo Quiet (map (opened_device_on firsts deck) ds)
+opened_quiet firsts deck [] h = tt
+opened_quiet firsts deck (d ∷ ds) h = (
+  record { fair = new_fair d.number d.geometry d.cylinders (firsts d.number d.cylinders) _ (All-head (λ (d : DeviceLine). 1 ≤ d.cylinders) d ds h); none = λ n c. (refl, refl) },
+  opened_quiet firsts deck ds (All-tail (λ (d : DeviceLine). 1 ≤ d.cylinders) d ds h),
 )
 
-pub run_checks_nothing : {firsts : Firsts} (deck : DeckLines) → IsServedDeck deck → All CheckNothing (run_on firsts deck).events
+pub run_checks_nothing : (firsts : Firsts) (deck : DeckLines) → IsServedDeck deck → All CheckNothing (run_on firsts deck).events
 unfolding D.run_asked_on
-run_checks_nothing {firsts = firsts} deck h =
+run_checks_nothing firsts deck h =
     behind_weaker Quiet ChecksNothing (λ d q. λ nothing cache. (q.none nothing cache).0) (run_on firsts deck).events
-    (run_keeps Quiet quiet_kept (map asked_by deck.events) (opened_on firsts deck) (opened_quiet deck deck.devices h.devices))
+    (run_keeps Quiet quiet_kept (map asked_by deck.events) (opened_on firsts deck) (opened_quiet firsts deck deck.devices h.devices))

@@ -77,14 +77,14 @@ none_missed d x = λ nothing cache.
     (none_came ends_with_equipment_check 0 0 d.history.items (x.0.none nothing cache).0 (omega arith)))
     (ap (λ (n : ℕ). n == 0) (keeps_tracks d x.0.fair nothing))
 
-opened_both : {firsts : Firsts} (deck : DeckLines) (ds : List DeviceLine) → AreSo Quiet (map (opened_device_on firsts deck) ds) →
+opened_both : (firsts : Firsts) (deck : DeckLines) (ds : List DeviceLine) → AreSo Quiet (map (opened_device_on firsts deck) ds) →
     AreSo (λ d. Quiet d × HasNoDataCheck d) (map (opened_device_on firsts deck) ds)
-opened_both deck [] h = tt
-opened_both deck (d ∷ ds) h = ((h.0, refl), opened_both deck ds h.1)
+opened_both firsts deck [] h = tt
+opened_both firsts deck (d ∷ ds) h = ((h.0, refl), opened_both firsts deck ds h.1)
 
-pub run_misses_nothing : {firsts : Firsts} (deck : DeckLines) → IsServedDeck deck → All MissNothing (run_on firsts deck).events
+pub run_misses_nothing : (firsts : Firsts) (deck : DeckLines) → IsServedDeck deck → All MissNothing (run_on firsts deck).events
 unfolding D.run_asked_on
-run_misses_nothing {firsts = firsts} deck h =
+run_misses_nothing firsts deck h =
     behind_weaker (λ d. Quiet d × HasNoDataCheck d) MissesNothing none_missed (run_on firsts deck).events
     (run_keeps (λ d. Quiet d × HasNoDataCheck d) (both_kept Quiet HasNoDataCheck quiet_kept checks_kept) (map asked_by deck.events) (opened_on firsts deck)
-    (opened_both deck deck.devices (opened_quiet deck deck.devices h.devices)))
+    (opened_both firsts deck deck.devices (opened_quiet firsts deck deck.devices h.devices)))

@@ -263,9 +263,9 @@ paid_kept = record {
 pub new_paid : (number : ℕ) (on : Geometry) (n : ℕ) (v : List Track) (plans : Plans) → PaidFor (device_on number on n v plans)
 new_paid number on n v plans never none = record { pair = λ e. absurd (cc); alone = λ e. refl }
 
-pub opened_paid : {firsts : Firsts} (deck : DeckLines) (ds : List DeviceLine) → AreSo PaidFor (map (opened_device_on firsts deck) ds)
-opened_paid deck [] = tt
-opened_paid deck (d ∷ ds) = (new_paid d.number d.geometry d.cylinders (empty_volume d.cylinders) _, opened_paid deck ds)
+pub opened_paid : (firsts : Firsts) (deck : DeckLines) (ds : List DeviceLine) → AreSo PaidFor (map (opened_device_on firsts deck) ds)
+opened_paid firsts deck [] = tt
+opened_paid firsts deck (d ∷ ds) = (new_paid d.number d.geometry d.cylinders (firsts d.number d.cylinders) _, opened_paid firsts deck ds)
 
 -- So no side is up only where a side was lost, or two calls failed
 

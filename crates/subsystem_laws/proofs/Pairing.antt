@@ -250,9 +250,9 @@ module _ (Still : MarksDevice → MarksDevice → Type 0) (Made : Bool → Bool 
       unpairs = λ s a q. unpair_goes s q a;
     }
 
-    pub run_pairs : {firsts : Firsts} (deck : DeckLines) → IsServedDeck deck → All ShowsAll (run_on firsts deck).events
+    pub run_pairs : (firsts : Firsts) (deck : DeckLines) → IsServedDeck deck → All ShowsAll (run_on firsts deck).events
     unfolding D.run_asked_on
-    run_pairs {firsts = firsts} deck h = run_shows AreFair ShowsAll pairs_go (map asked_by deck.events) (opened_on firsts deck) (opened_fair deck deck.devices h.devices)
+    run_pairs firsts deck h = run_shows AreFair ShowsAll pairs_go (map asked_by deck.events) (opened_on firsts deck) (opened_fair firsts deck deck.devices h.devices)
 
 -- whatever event it is of
 module _ (Still Made : MarksDevice → MarksDevice → Type 0) where

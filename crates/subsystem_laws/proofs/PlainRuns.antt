@@ -118,7 +118,7 @@ follows_on {first = first} d y p f = record {
   base = still_first first p.number p.empty y f (first_held first p.empty d p.base);
 }
 
-module _ {firsts : Firsts} where
+module _ (firsts : Firsts) where
   follows_from : (d y : MarksDevice) (p : PlainlyFrom firsts d) → Follows p.number p.empty y → PlainlyFrom firsts y
   follows_from d y p f = subst (λ (n : ℕ). PlainlyOn (firsts n) y) (p.follows.number ∙ sym f.number) (follows_on d y p f)
 
@@ -138,8 +138,8 @@ home_lent : (l : Option ℕ) (a : ℕ) (r : Option OpenEntry) → is_lent_to l a
 home_lent (Some to) a r is home = home
 home_lent None a r is home = absurd (cc)
 
-restored : {firsts : Firsts} (d : MarksDevice) → d.history.running ≡ None → PlainlyFrom firsts d → PlainlyFrom firsts (restore d)
-restored d none p = follows_from d (restore d) p (restore_follows p.number p.empty d p.follows none)
+restored : (firsts : Firsts) (d : MarksDevice) → d.history.running ≡ None → PlainlyFrom firsts d → PlainlyFrom firsts (restore d)
+restored firsts d none p = follows_from firsts d (restore d) p (restore_follows p.number p.empty d p.follows none)
 
 -- a device is lent while it runs nothing
 
@@ -163,22 +163,22 @@ lent_is_idle x y is =
 
 pub plain_kept_from : (firsts : Firsts) → IsKept (PlainlyFrom firsts) IsServedEvent
 plain_kept_from firsts = record {
-  started = λ d path n may fault p. follows_from d (start d path) p (start_follows p.number p.empty d p.follows path may.0 may.1 fault);
-  commanded = λ d o running whole p. leaves d p (command_follows p.number p.empty d p.follows o running whole);
-  seconded = λ d h is p. leaves d p (second_follows p.number p.empty d p.follows h is);
-  worked = λ d whole p. leaves d p (background_follows p.number p.empty d p.follows whole);
-  cut = λ d path p. leaves d p (reset_follows p.number p.empty d p.follows path);
-  lost_cache = λ d p. leaves d p (loss_follows p.number p.empty d p.follows losses.Cache);
-  lost_store = λ d p. leaves d p (loss_follows p.number p.empty d p.follows losses.Store);
-  lost_side = λ d side home p. leaves d p (loss_follows p.number p.empty d p.follows (losses.Side side));
-  lost_power = λ d p. leaves d p (power_follows p.number p.empty d p.follows);
-  held = λ d fault p. stored d (hold_side d).store refl p;
-  resumed = λ d pair p. stored d (resume d).store refl p;
-  replaced = λ d side fault p. replaced_side d side p;
-  lent = λ x y fault p q. leaves y q (lend_follows q.number q.empty y q.follows (lent_is_idle x y fault) x.store.device);
-  joins = λ d free p. stored d (join d).store refl p;
-  splits = λ d fault p. stored d (split d).store refl p;
-  restored = λ d a is p. restored d (home_lent d.store.lent a d.history.running is p.follows.home) p;
+  started = λ d path n may fault p. follows_from firsts d (start d path) p (start_follows p.number p.empty d p.follows path may.0 may.1 fault);
+  commanded = λ d o running whole p. leaves firsts d p (command_follows p.number p.empty d p.follows o running whole);
+  seconded = λ d h is p. leaves firsts d p (second_follows p.number p.empty d p.follows h is);
+  worked = λ d whole p. leaves firsts d p (background_follows p.number p.empty d p.follows whole);
+  cut = λ d path p. leaves firsts d p (reset_follows p.number p.empty d p.follows path);
+  lost_cache = λ d p. leaves firsts d p (loss_follows p.number p.empty d p.follows losses.Cache);
+  lost_store = λ d p. leaves firsts d p (loss_follows p.number p.empty d p.follows losses.Store);
+  lost_side = λ d side home p. leaves firsts d p (loss_follows p.number p.empty d p.follows (losses.Side side));
+  lost_power = λ d p. leaves firsts d p (power_follows p.number p.empty d p.follows);
+  held = λ d fault p. stored firsts d (hold_side d).store refl p;
+  resumed = λ d pair p. stored firsts d (resume d).store refl p;
+  replaced = λ d side fault p. replaced_side firsts d side p;
+  lent = λ x y fault p q. leaves firsts y q (lend_follows q.number q.empty y q.follows (lent_is_idle x y fault) x.store.device);
+  joins = λ d free p. stored firsts d (join d).store refl p;
+  splits = λ d fault p. stored firsts d (split d).store refl p;
+  restored = λ d a is p. restored firsts d (home_lent d.store.lent a d.history.running is p.follows.home) p;
 }
 
 pub plain_kept : IsKept Plainly IsServedEvent

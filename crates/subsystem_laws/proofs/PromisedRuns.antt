@@ -17,6 +17,6 @@ promised_on firsts whole text deck read =
     let served = read_served text deck read in
     record {
       plain = run_plainly_on firsts whole deck served;
-      explained = run_is_explained_on firsts whole deck served (read_run_counts_failures text deck read);
-      calm = calm_run_misses_nothing deck served (read_run_is_short text deck read);
+      explained = run_is_explained_on firsts whole deck served (read_run_counts_failures firsts text deck read);
+      calm = calm_run_misses_nothing firsts deck served (read_run_is_short firsts text deck read);
     }

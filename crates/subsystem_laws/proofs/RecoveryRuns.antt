@@ -405,9 +405,9 @@ all_counted (t ∷ ts) h n =
     All-cons LowersWaiting t ts (All-head LowersCounted t ts h (All-head CountFailures t ts n))
     (all_counted ts (All-tail LowersCounted t ts h) (All-tail CountFailures t ts n))
 
-run_counted : {firsts : Firsts} (deck : DeckLines) → IsServedDeck deck → All LowersCounted (run_on firsts deck).events
+run_counted : (firsts : Firsts) (deck : DeckLines) → IsServedDeck deck → All LowersCounted (run_on firsts deck).events
 unfolding D.run_asked_on
-run_counted {firsts = firsts} deck h = run_shows AreGood LowersCounted lines_lower (map asked_by deck.events) (opened_on firsts deck) (opened_good deck deck.devices h.devices)
+run_counted firsts deck h = run_shows AreGood LowersCounted lines_lower (map asked_by deck.events) (opened_on firsts deck) (opened_good firsts deck deck.devices h.devices)
 
-pub run_recovers : {firsts : Firsts} (deck : DeckLines) → IsServedDeck deck → All CountFailures (run_on firsts deck).events → All LowersWaiting (run_on firsts deck).events
-run_recovers {firsts = firsts} deck h n = all_counted (run_on firsts deck).events (run_counted deck h) n
+pub run_recovers : (firsts : Firsts) (deck : DeckLines) → IsServedDeck deck → All CountFailures (run_on firsts deck).events → All LowersWaiting (run_on firsts deck).events
+run_recovers firsts deck h n = all_counted (run_on firsts deck).events (run_counted firsts deck h) n

@@ -75,9 +75,9 @@ lines_few (line ∷ lines) s =
     let both : length (ts ++ us) ≡ length ts + length us = length-append ts us in
     omega (arith, here, more, both)
 
-pub read_run_has_few : {firsts : Firsts} (text : List ℕ) (deck : DeckLines) → parsed text ≡ Ok deck → length (run_on firsts deck).events ≤ 536936448
+pub read_run_has_few : (firsts : Firsts) (text : List ℕ) (deck : DeckLines) → parsed text ≡ Ok deck → length (run_on firsts deck).events ≤ 536936448
 unfolding D.run_asked_on
-read_run_has_few {firsts = firsts} text deck read =
+read_run_has_few firsts text deck read =
     let most = (parsed_good text deck read).event_count in
     let le = lines_few (map asked_by deck.events) (opened_on firsts deck) in
     let same : length (map asked_by deck.events) ≡ length deck.events = length-map deck.events asked_by in
@@ -86,5 +86,5 @@ read_run_has_few {firsts = firsts} text deck read =
 below_top : (n : ℕ) → n ≤ 536936448 → n < 2 ^ 64 - 1
 below_top n le = omega (arith, le)
 
-pub read_run_is_short : {firsts : Firsts} (text : List ℕ) (deck : DeckLines) → parsed text ≡ Ok deck → length (run_on firsts deck).events < 2 ^ 64 - 1
-read_run_is_short {firsts = firsts} text deck read = below_top (length (run_on firsts deck).events) (read_run_has_few text deck read)
+pub read_run_is_short : (firsts : Firsts) (text : List ℕ) (deck : DeckLines) → parsed text ≡ Ok deck → length (run_on firsts deck).events < 2 ^ 64 - 1
+read_run_is_short firsts text deck read = below_top (length (run_on firsts deck).events) (read_run_has_few firsts text deck read)

@@ -14,7 +14,7 @@ use Rattle.device_laws.specs.Unharmed.{NothingLost}
 use Rattle.subsystem_defs.specs.declared.event.Event.{Event}
 use Rattle.subsystem_defs.specs.Calm.{is_loss_event, asks_loss}
 use Rattle.subsystem_defs.specs.Decks as D
-use Rattle.subsystem_defs.specs.Decks.{opened_device, opened, run_of}
+use Rattle.subsystem_defs.specs.Decks.{empty_firsts, opened_device, opened, run_of}
 use Rattle.subsystem_defs.specs.Lines.{Asked, Once, Replace, Unpair, Run, Settle, Logged, asked_by}
 use Rattle.subsystem_defs.specs.Promised as P
 use Rattle.subsystem_defs.specs.Promised.{empty_of, misses_nothing, all_miss_nothing, miss_nothing}
@@ -56,7 +56,7 @@ any_losses = record {
 pub no_call_fails : (deck : DeckLines) → deck.faults ≡ [] → All HaveNoFailedCall (run_of deck).events
 no_call_fails deck none =
     behind_weaker (IsIntact (λ l. Unit {0})) HasNoFailedCall (λ d e. e.0) (run_of deck).events
-    (stays_intact (λ l. Unit {0}) AnyEvent any_losses deck none tt (all_asked (map asked_by deck.events)))
+    (stays_intact (λ l. Unit {0}) AnyEvent any_losses empty_firsts deck none tt (all_asked (map asked_by deck.events)))
 
 -- so failed calls are counted
 failures_counted : (ts : List Logged) (s : Subsystem) → Linked s ts → All HaveNoFailedCall ts → All HasNoFailedCall (devices_of s) → All CountFailures ts
@@ -129,7 +129,7 @@ no_lines (f ∷ fs) e = absurd (cc)
 stays_sound : (deck : DeckLines) → has_sound_hardware deck ≡ true → All (AreIntact AreNone) (run_of deck).events
 stays_sound deck sound =
     let b = both_true (length deck.faults == 0) (lose_nothing deck.events) sound in
-    stays_intact AreNone IsCalm no_losses deck (no_lines deck.faults (eqb-true (length deck.faults) 0 b.0)) refl (all_calm deck.events b.1)
+    stays_intact AreNone IsCalm no_losses empty_firsts deck (no_lines deck.faults (eqb-true (length deck.faults) 0 b.0)) refl (all_calm deck.events b.1)
 
 abbrev HasNothing : MarksDevice → Type 0
 HasNothing d = IsIntact AreNone d
@@ -147,7 +147,7 @@ no_cache_lost d none = ap (λ (l : Losses). l.cache) none.1
 pub sound_hardware_checks_nothing : (deck : DeckLines) → IsServedDeck deck → has_sound_hardware deck ≡ true → All HaveNoEquipmentCheck (run_of deck).events
 sound_hardware_checks_nothing deck h sound =
     both_behind HasNothing ChecksNothing HasNoEquipmentCheck (λ d none checks. checks (nothing_lost d none) (no_cache_lost d none)) (run_of deck).events
-    (stays_sound deck sound) (run_checks_nothing deck h)
+    (stays_sound deck sound) (run_checks_nothing empty_firsts deck h)
 
 -- Nothing is missed
 
@@ -172,4 +172,4 @@ pub sound_hardware_misses_nothing : (deck : DeckLines) → IsServedDeck deck →
 sound_hardware_misses_nothing deck h sound =
     run_served (run_of deck).events
     (both_behind HasNothing MissesNothing HasAll (λ d none misses. misses (nothing_lost d none) (no_cache_lost d none)) (run_of deck).events
-    (stays_sound deck sound) (run_misses_nothing deck h))
+    (stays_sound deck sound) (run_misses_nothing empty_firsts deck h))

@@ -101,6 +101,6 @@ steered_kept = record {
 pub new_steered : (number : ℕ) (on : Geometry) (n : ℕ) (v : List Track) (plans : Plans) → Steered (device_on number on n v plans)
 new_steered number on n v plans = record { led = λ e. absurd (cc); half = λ t e up. absurd (cc) }
 
-pub opened_steered : {firsts : Firsts} (deck : DeckLines) (ds : List DeviceLine) → AreSo Steered (map (opened_device_on firsts deck) ds)
-opened_steered {firsts = firsts} deck [] = tt
-opened_steered {firsts = firsts} deck (d ∷ ds) = (new_steered d.number d.geometry d.cylinders (empty_volume d.cylinders) (opened_device_on firsts deck d).device.plans, opened_steered deck ds)
+pub opened_steered : (firsts : Firsts) (deck : DeckLines) (ds : List DeviceLine) → AreSo Steered (map (opened_device_on firsts deck) ds)
+opened_steered firsts deck [] = tt
+opened_steered firsts deck (d ∷ ds) = (new_steered d.number d.geometry d.cylinders (firsts d.number d.cylinders) (opened_device_on firsts deck d).device.plans, opened_steered firsts deck ds)

@@ -290,11 +290,11 @@ new_fair number on n v plans some = record {
   un = λ home none. record { up = refl; level = λ t. empty_places (n * 15) t false; kept = λ t. empty_places (n * 15) t false };
 }
 
-pub opened_fair : {firsts : Firsts} (deck : DeckLines) (ds : List DeviceLine) → All (λ (d : DeviceLine). 1 ≤ d.cylinders) ds → AreSo Fair (map (opened_device_on firsts deck) ds)
-opened_fair deck [] h = tt
-opened_fair deck (d ∷ ds) h = (
-  new_fair d.number d.geometry d.cylinders (empty_volume d.cylinders) _ (All-head (λ (d : DeviceLine). 1 ≤ d.cylinders) d ds h),
-  opened_fair deck ds (All-tail (λ (d : DeviceLine). 1 ≤ d.cylinders) d ds h),
+pub opened_fair : (firsts : Firsts) (deck : DeckLines) (ds : List DeviceLine) → All (λ (d : DeviceLine). 1 ≤ d.cylinders) ds → AreSo Fair (map (opened_device_on firsts deck) ds)
+opened_fair firsts deck [] h = tt
+opened_fair firsts deck (d ∷ ds) h = (
+  new_fair d.number d.geometry d.cylinders (firsts d.number d.cylinders) _ (All-head (λ (d : DeviceLine). 1 ≤ d.cylinders) d ds h),
+  opened_fair firsts deck ds (All-tail (λ (d : DeviceLine). 1 ≤ d.cylinders) d ds h),
 )
 
 -- one that is lent has none either
@@ -302,8 +302,8 @@ pub keeps_tracks : (d : MarksDevice) → Fair d → KeepsTracks d
 keeps_tracks d f nothing =
     by_lent d (λ home. unharmed_counts d.store (f.un home) nothing) (λ away. kept_counts d.store (f.good.gone away).store.lost)
 
-pub run_loses_no_track : {firsts : Firsts} (deck : DeckLines) → IsServedDeck deck → All KeepTracks (run_on firsts deck).events
+pub run_loses_no_track : (firsts : Firsts) (deck : DeckLines) → IsServedDeck deck → All KeepTracks (run_on firsts deck).events
 unfolding D.run_asked_on
-run_loses_no_track {firsts = firsts} deck h =
+run_loses_no_track firsts deck h =
     behind_weaker Fair KeepsTracks keeps_tracks (run_on firsts deck).events
-    (run_keeps Fair fair_kept (map asked_by deck.events) (opened_on firsts deck) (opened_fair deck deck.devices h.devices))
+    (run_keeps Fair fair_kept (map asked_by deck.events) (opened_on firsts deck) (opened_fair firsts deck deck.devices h.devices))

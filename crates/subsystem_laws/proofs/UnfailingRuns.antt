@@ -337,15 +337,15 @@ module _ (so : Losses → Type 0) where
 
     -- The run of a deck
 
-    opened_sound : {firsts : Firsts} (deck : DeckLines) → deck.faults ≡ [] → so no_counts.losses → (ds : List DeviceLine) → AreOnSound (map (opened_device_on firsts deck) ds)
-    opened_sound deck none first [] = tt
-    opened_sound deck none first (d ∷ ds) =
-        (((refl, first), (ap (λ (fs : List FaultLine). plan_for fs d.number) none, refl)), opened_sound deck none first ds)
+    opened_sound : (firsts : Firsts) (deck : DeckLines) → deck.faults ≡ [] → so no_counts.losses → (ds : List DeviceLine) → AreOnSound (map (opened_device_on firsts deck) ds)
+    opened_sound firsts deck none first [] = tt
+    opened_sound firsts deck none first (d ∷ ds) =
+        (((refl, first), (ap (λ (fs : List FaultLine). plan_for fs d.number) none, refl)), opened_sound firsts deck none first ds)
 
-    pub stays_intact : {firsts : Firsts} (deck : DeckLines) → deck.faults ≡ [] → so no_counts.losses → All (MayAsk May) (map asked_by deck.events) →
+    pub stays_intact : (firsts : Firsts) (deck : DeckLines) → deck.faults ≡ [] → so no_counts.losses → All (MayAsk May) (map asked_by deck.events) →
         All AreIntact (run_on firsts deck).events
     unfolding D.run_asked_on
-    stays_intact {firsts = firsts} deck none first may =
+    stays_intact firsts deck none first may =
         let lines = map asked_by deck.events in
         logs_all (λ s. AreOnSound s.mounted) AreIntact (opened_on firsts deck) (run_lines lines (opened_on firsts deck))
-        (lines_go (λ s. AreOnSound s.mounted) (λ s. AreIntact) May lines_sound lines (opened_on firsts deck) may (opened_sound deck none first deck.devices))
+        (lines_go (λ s. AreOnSound s.mounted) (λ s. AreIntact) May lines_sound lines (opened_on firsts deck) may (opened_sound firsts deck none first deck.devices))

@@ -57,7 +57,8 @@ use Rattle.device_defs.specs.Cutting as U
 use Rattle.device_defs.specs.Cutting.{counts_one_by, half_cut, path_cut, reset_noted, reset_by, reset, power}
 use Rattle.device_defs.specs.Events.{second, lose, background}
 use Rattle.device_defs.specs.Losses.{over}
-use Rattle.device_defs.specs.Marks.{MarksDevice, MarksStore, new_store, new_device}
+use Rattle.ckd_types.specs.declared.record.Track.{Track}
+use Rattle.device_defs.specs.Marks.{MarksDevice, MarksStore}
 use Rattle.device_defs.specs.Orders as Q
 use Rattle.device_defs.specs.Orders.{with_tracks, lent_to, given_up, lend, join, split, restore, replace, hold_side, resume}
 use Rattle.device_defs.specs.Owed as O
@@ -129,7 +130,7 @@ use Rattle.subsystem_defs.specs.Happening.{
 }
 use Rattle.subsystem_defs.specs.Lines.{Asked, Once, Replace, Unpair, Run, Settle, logged, asked_by}
 use Rattle.subsystem_defs.specs.Refusals.{replace_fault, unpair_fault}
-use Rattle.subsystem_defs.specs.Subsystem.{Mounted, Subsystem, number_of, devices_of, mounted_in, put_in, with_calls, unfailing}
+use Rattle.subsystem_defs.specs.Subsystem.{Mounted, Subsystem, first_device, first_store, number_of, devices_of, mounted_in, put_in, with_calls, unfailing}
 use Rattle.subsystem_laws.specs.Served.{IsServedDeck}
 use Rattle.subsystem_laws.specs.Waits.{waiting_of, waiting_in, repair_end, RepairsBy, TellsWaiting, AreNumbered}
 use Rattle.subsystem_laws.proofs.DeedWalk.{IsSeat, Stands, seat_of, IsDeedwise, deed_is}
@@ -509,23 +510,23 @@ and_off : (a b : Bool) → b ≡ false → (a && b) ≡ false
 and_off true b e = e
 and_off false b e = refl
 
-new_waits : (number : ℕ) (on : Geometry) (n : ℕ) (plans : Plans) → waiting_of (new_device number on n plans) ≡ 0
+new_waits : (number : ℕ) (on : Geometry) (n : ℕ) (tracks : List Track) (plans : Plans) → waiting_of (first_device number on n tracks plans) ≡ 0
 unfolding O.waits
-new_waits number on n plans =
-    let s = new_store number on n in
+new_waits number on n tracks plans =
+    let s = first_store number on n tracks in
     none_below (n * 15) (waits by_plain s)
     (λ t. ap (λ (o : Option Bool). not (is_lost s t) && waits_by by_plain s t o) (empty_places (n * 15) t None)
     ∙ and_off (not (is_lost s t)) (is_some (patch_at s t)) (ap (λ (o : Option (Unit {0})). is_some o) (empty_places (n * 15) t None)))
 
-opened_told : {firsts : Firsts} (deck : DeckLines) (seen : List ℕ) (ds : List DeviceLine) → AreNumbered seen ds →
+opened_told : (firsts : Firsts) (deck : DeckLines) (seen : List ℕ) (ds : List DeviceLine) → AreNumbered seen ds →
     AreTold (replicate 16 0) seen (map (opened_device_on firsts deck) ds)
-opened_told deck seen [] h = none_told (λ q out. empty_places 16 q 0)
-opened_told deck seen (d ∷ ds) h =
-    one_told d.number refl h.0 h.1 (empty_places 16 d.number 0 ∙ sym (new_waits d.number d.geometry d.cylinders (plans_of deck.programs d.number)))
-    (opened_told deck (d.number ∷ seen) ds h.2)
+opened_told firsts deck seen [] h = none_told (λ q out. empty_places 16 q 0)
+opened_told firsts deck seen (d ∷ ds) h =
+    one_told d.number refl h.0 h.1 (empty_places 16 d.number 0 ∙ sym (new_waits d.number d.geometry d.cylinders (firsts d.number d.cylinders) (plans_of deck.programs d.number)))
+    (opened_told firsts deck (d.number ∷ seen) ds h.2)
 
-pub run_tells_of_waiting : {firsts : Firsts} (deck : DeckLines) → IsServedDeck deck → AreNumbered [] deck.devices → All TellsWaiting (run_on firsts deck).events
+pub run_tells_of_waiting : (firsts : Firsts) (deck : DeckLines) → IsServedDeck deck → AreNumbered [] deck.devices → All TellsWaiting (run_on firsts deck).events
 unfolding D.run_asked_on
-run_tells_of_waiting {firsts = firsts} deck h numbered =
+run_tells_of_waiting firsts deck h numbered =
     run_shows Behind TellsWaiting waiting_goes (map asked_by deck.events) (opened_on firsts deck)
-    (record { good = opened_good deck deck.devices h.devices; told = opened_told deck [] deck.devices numbered })
+    (record { good = opened_good firsts deck deck.devices h.devices; told = opened_told firsts deck [] deck.devices numbered })

@@ -2,4 +2,4 @@ use Rattle.move_laws.proofs.ExactRuns.{run_exactly}
 use Rattle.move_laws.proofs.run_moves_exactly.Goals as goal
 
 pub returns : goal.returns
-returns c = λ deck. run_exactly deck
+returns c = run_exactly

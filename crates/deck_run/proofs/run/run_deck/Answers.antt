@@ -2,7 +2,7 @@ use Rattle.std.proofs.Common.{◌∙◌, ◌++◌, ap, map}
 use Rattle.frame_pool.specs.Shared.{Shared}
 use Rattle.run_report.specs.Closing.{frame_line}
 use Rattle.std.specs.List.{flat_map}
-use Rattle.subsystem_defs.specs.Decks.{run_of}
+use Rattle.subsystem_defs.specs.Decks.{empty_firsts, run_of}
 use Rattle.subsystem_laws.proofs.AllSound.{all_sound}
 use Rattle.subsystem_laws.proofs.PlainRuns.{plain_behind}
 use Rattle.subsystem_laws.proofs.SlotsApart.{slots_apart}
@@ -25,4 +25,4 @@ pub returns-clause-sound : goal.returns-clause-sound
 returns-clause-sound c = λ none served. all_sound (c.in_ok-ran.ensures.stands none).mounted (plain_behind c.args.deck.now served)
 
 pub returns-clause-transfers : goal.returns-clause-transfers
-returns-clause-transfers c = run_moves c.args.deck.now
+returns-clause-transfers c = run_moves empty_firsts c.args.deck.now

@@ -1,5 +1,5 @@
 use Rattle.run_report.specs.Report.{report_lines}
-use Rattle.subsystem_defs.specs.Decks.{run_of}
+use Rattle.subsystem_defs.specs.Decks.{empty_firsts, run_of}
 use Rattle.deck_top.proofs.Summed.{told_counts}
 use Rattle.deck_top.proofs.Written.{whole_text}
 use Rattle.deck_top.proofs.report.run_deck.Goals as goal
@@ -14,8 +14,8 @@ pub returns-clause-well : goal.returns-clause-well
 returns-clause-well c = record {
   shown = c.read_run_runs_plainly.ensures c.requires.0 c.args.deck.now c.requires.1;
   promised = c.read_run_is_promised.ensures c.requires.0 c.args.deck.now c.requires.1;
-  fast = c.fast_writes_are_not_checked.ensures c.args.deck.now;
+  fast = c.fast_writes_are_not_checked.ensures empty_firsts c.args.deck.now;
   origins = c.read_run_has_origins.ensures c.requires.0 c.args.deck.now c.requires.1;
   kept = c.read_run_keeps_writes.ensures c.requires.0 c.args.deck.now c.requires.1;
-  transfers = c.run_moves_exactly.ensures c.args.deck.now;
+  transfers = c.run_moves_exactly.ensures empty_firsts c.args.deck.now;
 }
