@@ -1,25 +1,29 @@
+ghost use Rattle.std.specs.Prelude.{None};
+
 use crate::mounting::{MountFault, mount, new_volume};
 use crate::rack::Rack;
 use crate::volume::RunVolume;
+use crate::words::path_in;
 use ckd_outside::Failed;
 use deck_text::DeviceLine;
 use disk_image::StdFile;
-use std::alloc::Global;
+use std::alloc::{AllocError, Global};
 use std::fs::{File, OpenOptions};
+
+/// A file of the system at a path, where it could be opened, and no other process holds it.
+#[derive(Drop)]
+struct NamedFile {
+    path: String,
+    file: Option<File>,
+}
 
 /// Volumes in image files of the system, each of which is held alone; and in memory, where no file is named.
 #[derive(Drop)]
-pub struct FileRack<'a> {
-    rt: &'a HostRuntime,
+pub struct FileRack {
+    files: Vec<NamedFile>,
 }
 
-impl<'a> FileRack<'a> {
-    pub fn new(rt: &'a HostRuntime) -> FileRack<'a> {
-        FileRack { rt }
-    }
-}
-
-/// A file to read and write, where it can be opened, and no other process holds it.
+/// A file to read and write, held alone.
 fn open_alone(rt: &HostRuntime, path: &str) -> Option<File> {
     let mut options = OpenOptions::new();
     options.read(true).write(true);
@@ -33,8 +37,35 @@ fn open_alone(rt: &HostRuntime, path: &str) -> Option<File> {
     }
 }
 
-impl<'a> Rack for FileRack<'a> {
+impl FileRack {
+    /// Opens the files that words name.
+    pub fn open(rt: &HostRuntime, words: &[&str]) -> Result<FileRack, AllocError> {
+        let mut files = Vec::new(rt.alloc());
+        for word in words {
+            if let Some(path) = path_in(word) {
+                let file = open_alone(rt, path);
+                let path = String::from_str(rt.alloc(), path)?;
+                files.push(NamedFile { path, file })?;
+            }
+        }
+        Ok(FileRack { files })
+    }
+
+    /// The file at a path, if nobody took it before.
+    fn take(&mut self, path: &str) -> Option<File> {
+        for named in self.files.iter_mut() {
+            if named.path.as_str() == path {
+                return named.file.take();
+            }
+        }
+        None
+    }
+}
+
+impl Rack for FileRack {
     type Volume = RunVolume<StdFile>;
+
+    ghost holds = { λ _. None };
 
     fn open(
         &mut self,
@@ -47,7 +78,7 @@ impl<'a> Rack for FileRack<'a> {
         let Some(path) = path else {
             return new_volume(alloc, line, fail_reads, fail_writes);
         };
-        match open_alone(self.rt, path) {
+        match self.take(path) {
             Some(file) => mount(alloc, StdFile::new(file), line, fail_reads, fail_writes),
             None => Err(MountFault::File),
         }

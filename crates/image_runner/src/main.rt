@@ -25,19 +25,20 @@ fn ended(status: RunStatus) -> ExitCode {
 }
 
 /// Runs over the standard streams, and the files that the words name.
-fn serve(rt: &HostRuntime, arguments: Option<&[&str]>) -> ExitCode {
+fn serve(rt: &HostRuntime, arguments: Option<&[&str]>) -> Result<ExitCode, AllocError> {
+    let words = words_of(arguments);
     let mut source = StdSource::new(rt.reader());
     let mut sink = StdSink::new(io::writer(rt));
     let mut notes = StdSink::new(rt.stderr());
-    let mut rack = FileRack::new(rt);
-    ended(run_top(
+    let mut rack = FileRack::open(rt, words)?;
+    Ok(ended(run_top(
         rt.alloc(),
-        words_of(arguments),
+        words,
         &mut source,
         &mut sink,
         &mut notes,
         &mut rack,
-    ))
+    )))
 }
 
 /// Runs with the arguments behind the program's name.
@@ -50,13 +51,13 @@ fn serve_args(rt: &HostRuntime, args: Args) -> Result<ExitCode, AllocError> {
     for arg in owned.iter() {
         words.push(arg.as_str())?;
     }
-    Ok(serve(rt, Some(&words)))
+    serve(rt, Some(&words))
 }
 
 fn main(rt: HostRuntime) -> ExitCode {
     match env::args(&rt) {
         Ok(args) => serve_args(&rt, args).unwrap_or(ended(RunStatus::NoMemory)),
         Err(e) if e.kind() == io::ErrorKind::OutOfMemory => ended(RunStatus::NoMemory),
-        Err(_) => serve(&rt, None),
+        Err(_) => serve(&rt, None).unwrap_or(ended(RunStatus::NoMemory)),
     }
 }

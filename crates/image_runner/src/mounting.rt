@@ -1,7 +1,13 @@
+ghost use Rattle.std.specs.Prelude.{◌≡◌, ◌≤◌, ◌*◌, IfErr, IfOk};
+ghost use Rattle.image_runner.specs.declared.mounting.MountFault.TheVariants as faults;
+ghost use Rattle.image_runner.specs.declared.volume.RunVolume.TheVariants.{Image, Memory};
+ghost use Rattle.image_runner.specs.Mounting.{mount_fault_of};
+ghost use Rattle.image_runner.specs.Racks.{IsMountFault, wanted_by};
+
 use crate::volume::{Planned, RunVolume};
 use ckd_types::{DeviceNo, NoMemory};
 use deck_text::DeviceLine;
-use device_outside::MemVolume;
+use device_outside::{MemVolume, Volume};
 use disk_image::{DiskFile, DiskImage, ImageFault, Layout, open_image};
 use std::alloc::{AllocFailed, Global};
 
@@ -27,6 +33,8 @@ pub struct Refusal {
 }
 
 impl From<ImageFault> for MountFault {
+    ghost from_gives = { λ fault e. e ≡ mount_fault_of fault };
+
     fn from(fault: ImageFault) -> Self {
         match fault {
             ImageFault::FileFault => MountFault::File,
@@ -37,19 +45,25 @@ impl From<ImageFault> for MountFault {
 }
 
 impl<T: Drop> From<AllocFailed<T>> for MountFault {
+    ghost from_gives = { λ _ e. e ≡ faults.NoMemory };
+
     fn from(_: AllocFailed<T>) -> Self {
         MountFault::NoMemory
     }
 }
 
 impl From<NoMemory> for MountFault {
+    ghost from_gives = { λ _ e. e ≡ faults.NoMemory };
+
     fn from(_: NoMemory) -> Self {
         MountFault::NoMemory
     }
 }
 
 /// The layout that a DEVICE line wants.
-fn layout_of(line: DeviceLine) -> Layout {
+fn wanted_by(line: DeviceLine) -> Layout
+    ensures { result ≡ wanted_by line }
+{
     Layout {
         geometry: line.geometry,
         cylinders: line.cylinders,
@@ -63,9 +77,13 @@ pub(crate) fn mount<F: DiskFile>(
     line: DeviceLine,
     fail_reads: &[u32],
     fail_writes: &[u32],
-) -> Result<RunVolume<F>, MountFault> {
+) -> Result<RunVolume<F>, MountFault>
+    ensures layout { IfOk result (λ v. elim v [ Image p ↦ p.volume.layout ≡ wanted_by line | Memory d ↦ ⊥ ]) }
+    ensures tracks { IfOk result (λ v. (⟦<RunVolume<F> as Volume>⟧.view v).tracks ≡ line.cylinders * 15) }
+    ensures fault { IfErr result (λ fault. IsMountFault line fault) }
+{
     let image = open_image(alloc, &mut file)?;
-    let device = layout_of(line);
+    let device = wanted_by(line);
     if image != device {
         return Err(MountFault::Other { image, device });
     }
@@ -80,7 +98,11 @@ pub(crate) fn new_volume<F: DiskFile>(
     line: DeviceLine,
     fail_reads: &[u32],
     fail_writes: &[u32],
-) -> Result<RunVolume<F>, MountFault> {
+) -> Result<RunVolume<F>, MountFault>
+    requires { line.cylinders ≤ 64 }
+    ensures tracks { IfOk result (λ v. (⟦<RunVolume<F> as Volume>⟧.view v).tracks ≡ line.cylinders * 15) }
+    ensures fault { IfErr result (λ fault. IsMountFault line fault) }
+{
     let volume = MemVolume::new(alloc, line.cylinders, fail_reads, fail_writes)?;
     Ok(RunVolume::Memory(volume))
 }

@@ -1,26 +1,25 @@
+ghost use Rattle.std.specs.Prelude.{◌≡◌, ◌≤◌, ◌*◌, ◌++◌, ◌∷◌, [], IfErr, IfOk, OnOk, Some, map, true};
+ghost use Rattle.deck_run.specs.Opening.{AllHold, HasTracks, HaveTracks, are_open};
+ghost use Rattle.subsystem_defs.specs.Decks.{plan_for};
+ghost use Rattle.image_runner.specs.Answers.{IsFaultOfLine};
+ghost use Rattle.image_runner.specs.Racks.{BeginsWhereTold, Holding, IsMountFault, firsts_by};
+ghost use Rattle.image_runner.specs.Words.{path_for};
+
 use crate::mounting::{MountFault, Refusal};
 use crate::rack::Rack;
 use crate::texts::write_waiting;
 use crate::words::path_for;
 use ckd_outside::{Failed, Sink};
-use ckd_types::{DeviceNo, HEADS, NoMemory, TrackNo};
+use ckd_types::{DeviceNo, TrackNo};
+use deck_run::failing_of;
 use deck_text::{Deck, DeviceLine};
 use device_core::Device;
 use device_outside::Volume;
 use std::alloc::Global;
 use subsystem_core::Subsystem;
 
-/// The numbers of a device's FAULT lines of this kind.
-fn failing_of(alloc: Global, deck: &Deck, write: bool, d: DeviceNo) -> Result<Vec<u32>, NoMemory> {
-    let mut calls = Vec::new(alloc);
-    for i in 0..deck.fault_count() {
-        let fault = deck.fault_at(i);
-        if fault.device == d && fault.write == write {
-            calls.push(fault.call)?;
-        }
-    }
-    Ok(calls)
-}
+/// As many tracks as a device has at most. One that isn't there is in no frame.
+const MOST_TRACKS: u16 = 960;
 
 /// The volume that a device begins with: in the image that the words name for it, or else an empty one.
 fn open_volume<R: Rack>(
@@ -29,7 +28,14 @@ fn open_volume<R: Rack>(
     words: &[&str],
     line: DeviceLine,
     rack: &mut R,
-) -> Result<R::Volume, MountFault> {
+) -> Result<R::Volume, MountFault>
+    requires { line.cylinders ≤ 64 }
+    ensures same { R.holds rack.new ≡ R.holds rack.old }
+    ensures tracks { IfOk result (λ v. HasTracks line (R.Volume.view v)) }
+    ensures begins { IfOk result (λ v. BeginsWhereTold (R.holds rack.old) line (path_for (map (λ w. w.now) words.now) line.number)
+        (plan_for deck.now.faults line.number) (R.Volume.view v)) }
+    ensures fault { IfErr result (λ fault. IsMountFault line fault) }
+{
     let reads = failing_of(alloc, deck, false, line.number)?;
     let writes = failing_of(alloc, deck, true, line.number)?;
     rack.open(alloc, line, path_for(words, line.number), &reads, &writes)
@@ -42,7 +48,13 @@ fn add_volume<R: Rack>(
     line: DeviceLine,
     rack: &mut R,
     volumes: &mut Vec<R::Volume>,
-) -> Result<(), MountFault> {
+) -> Result<(), MountFault>
+    requires { line.cylinders ≤ 64 }
+    ensures same { R.holds rack.new ≡ R.holds rack.old }
+    ensures added { OnOk result ((v : R.Volume) × (volumes.new.items ≡ volumes.old.items ++ v ∷ []) × HasTracks line (R.Volume.view v)
+        × BeginsWhereTold (R.holds rack.old) line (path_for (map (λ w. w.now) words.now) line.number) (plan_for deck.now.faults line.number) (R.Volume.view v)) }
+    ensures fault { IfErr result (λ fault. IsMountFault line fault) }
+{
     let volume = open_volume(alloc, deck, words, line, rack)?;
     volumes.push(volume)?;
     Ok(())
@@ -54,15 +66,21 @@ pub(crate) fn open_volumes<R: Rack>(
     deck: &Deck,
     words: &[&str],
     rack: &mut R,
-) -> Result<Vec<R::Volume>, Refusal> {
+) -> Result<Vec<R::Volume>, Refusal>
+    requires { are_open deck.now.devices ≡ true }
+    ensures same { R.holds rack.new ≡ R.holds rack.old }
+    ensures tracks { IfOk result (λ vs. HaveTracks deck.now.devices (map R.Volume.view vs.items)) }
+    ensures hold { IfOk result (λ vs. (holding : Holding) → R.holds rack.old ≡ Some holding
+        → AllHold (firsts_by holding (map (λ w. w.now) words.now)) deck.now deck.now.devices (map R.Volume.view vs.items)) }
+    ensures fault { IfErr result (λ r. IsFaultOfLine deck.now r) }
+{
     let mut volumes = Vec::new(alloc);
     for i in 0..deck.device_count() {
         let line = deck.device_at(i);
-        if let Err(fault) = add_volume(alloc, deck, words, line, rack, &mut volumes) {
-            return Err(Refusal {
-                device: line.number,
-                fault,
-            });
+        let device = line.number;
+        match add_volume(alloc, deck, words, line, rack, &mut volumes) {
+            Ok(()) => (),
+            Err(fault) => return Err(Refusal { device, fault }),
         }
     }
     Ok(volumes)
@@ -73,7 +91,7 @@ fn has_waiting<V: Volume>(device: &Device<V>) -> bool {
     if device.patched_count() > 0 {
         return true;
     }
-    for n in 0..u16::from(device.cylinders()) * HEADS {
+    for n in 0..MOST_TRACKS {
         if device.modified(TrackNo::new(n).unwrap()) {
             return true;
         }
@@ -105,8 +123,8 @@ fn flush_side<R: Rack>(volume: Option<R::Volume>) -> Result<(), Failed> {
 /// Waits until what was written to the volumes of devices is where it outlives the run. Where one fails the others are waited for.
 pub(crate) fn flush_all<R: Rack>(sub: Subsystem<R::Volume>) -> Result<(), Failed> {
     let mut all = Ok(());
-    let (_pool, mut devices) = sub.into_parts();
-    while let Some(device) = devices.pop() {
+    let (_pool, devices) = sub.into_parts();
+    for device in devices {
         let (a, b) = device.into_volumes();
         let flushed = flush_side::<R>(a).and(flush_side::<R>(b));
         all = all.and(flushed);

@@ -1,3 +1,6 @@
+ghost use Rattle.std.specs.Prelude.{◌≡◌};
+ghost use Rattle.image_runner.specs.Answers.{code_of, code_of_fault};
+
 use crate::mounting::{MountFault, Refusal};
 use deck_text::{DeckWhy, Which};
 
@@ -24,7 +27,9 @@ pub enum RunStatus {
     FlushFault,
 }
 
-fn code_of_fault(fault: MountFault) -> u8 {
+fn code_of_fault(fault: MountFault) -> u8
+    ensures { result ≡ code_of_fault fault }
+{
     match fault {
         MountFault::Device | MountFault::Other { .. } => 7,
         MountFault::Bad(_) => 8,
@@ -34,7 +39,9 @@ fn code_of_fault(fault: MountFault) -> u8 {
 }
 
 /// The exit status of the program.
-pub fn code_of(status: RunStatus) -> u8 {
+pub fn code_of(status: RunStatus) -> u8
+    ensures { result ≡ code_of status }
+{
     match status {
         RunStatus::Reported => 0,
         RunStatus::DeckRefused { .. } => 1,

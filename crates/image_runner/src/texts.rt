@@ -1,10 +1,17 @@
+ghost use Rattle.std.specs.Prelude.{◌≡◌};
+ghost use Rattle.ckd_outside.specs.Causes.{HasCause};
+ghost use Rattle.ckd_outside.specs.Texts.{Writes};
+ghost use Rattle.image_runner.specs.Texts.{bad_text, model_text, number_text, other_text, refusal_text, usage_text, word_text};
+
 use crate::mounting::{MountFault, Refusal};
 use ckd_outside::{Failed, Piece, Sink};
 use ckd_types::{DeviceNo, Geometry};
 use deck_text::write_line;
 use disk_image::{ImageFault, Layout};
 
-fn model_text(geometry: Geometry) -> &'static [u8] {
+fn model_text(geometry: Geometry) -> &'static [u8]
+    ensures { result.now ≡ model_text geometry }
+{
     match geometry {
         Geometry::D3390 => b"3390",
         Geometry::D3380 => b"3380",
@@ -12,7 +19,11 @@ fn model_text(geometry: Geometry) -> &'static [u8] {
 }
 
 /// A reason in one or two words.
-fn write_word<K: Sink>(sink: &mut K, d: DeviceNo, word: &[u8]) -> Result<(), Failed> {
+#[tactic(auto, unfolding(crate::specs::Texts::word_text))]
+fn write_word<K: Sink>(sink: &mut K, d: DeviceNo, word: &[u8]) -> Result<(), Failed>
+    ensures bytes { Writes (K.held sink.old) (K.held sink.new) result (word_text d word.now) }
+    ensures cause { HasCause (K.faults sink.old) (K.faults sink.new) result }
+{
     let pieces = [
         Piece::Text(b"image "),
         Piece::Number(u64::from(d.get())),
@@ -24,7 +35,11 @@ fn write_word<K: Sink>(sink: &mut K, d: DeviceNo, word: &[u8]) -> Result<(), Fai
 }
 
 /// A reason with a number.
-fn write_number<K: Sink>(sink: &mut K, d: DeviceNo, word: &[u8], n: u64) -> Result<(), Failed> {
+#[tactic(auto, unfolding(crate::specs::Texts::number_text))]
+fn write_number<K: Sink>(sink: &mut K, d: DeviceNo, word: &[u8], n: u64) -> Result<(), Failed>
+    ensures bytes { Writes (K.held sink.old) (K.held sink.new) result (number_text d word.now n) }
+    ensures cause { HasCause (K.faults sink.old) (K.faults sink.new) result }
+{
     let pieces = [
         Piece::Text(b"image "),
         Piece::Number(u64::from(d.get())),
@@ -37,12 +52,16 @@ fn write_number<K: Sink>(sink: &mut K, d: DeviceNo, word: &[u8], n: u64) -> Resu
     write_line(sink, &pieces)
 }
 
+#[tactic(auto, unfolding(crate::specs::Texts::other_text))]
 fn write_other<K: Sink>(
     sink: &mut K,
     d: DeviceNo,
     image: Layout,
     device: Layout,
-) -> Result<(), Failed> {
+) -> Result<(), Failed>
+    ensures bytes { Writes (K.held sink.old) (K.held sink.new) result (other_text d image device) }
+    ensures cause { HasCause (K.faults sink.old) (K.faults sink.new) result }
+{
     let pieces = [
         Piece::Text(b"image "),
         Piece::Number(u64::from(d.get())),
@@ -59,19 +78,26 @@ fn write_other<K: Sink>(
     write_line(sink, &pieces)
 }
 
-fn write_bad<K: Sink>(sink: &mut K, d: DeviceNo, fault: ImageFault) -> Result<(), Failed> {
+fn write_bad<K: Sink>(sink: &mut K, d: DeviceNo, fault: ImageFault) -> Result<(), Failed>
+    ensures bytes { Writes (K.held sink.old) (K.held sink.new) result (bad_text d fault) }
+    ensures cause { HasCause (K.faults sink.old) (K.faults sink.new) result }
+{
     match fault {
         ImageFault::BadHead { offset } => write_number(sink, d, b"head offset", u64::from(offset)),
         ImageFault::BadLength { size } => write_number(sink, d, b"length", size),
         ImageFault::BadTrack { offset, .. } => write_number(sink, d, b"track offset", offset),
         ImageFault::Compressed => write_word(sink, d, b"compressed"),
         ImageFault::Parts => write_word(sink, d, b"parts"),
-        ImageFault::FileFault | ImageFault::NoMemory => write_word(sink, d, b"file"),
+        ImageFault::FileFault => write_word(sink, d, b"file"),
+        ImageFault::NoMemory => write_word(sink, d, b"file"),
     }
 }
 
 /// Tells why an image isn't taken. Of want of memory nothing is told.
-pub(crate) fn write_refusal<K: Sink>(sink: &mut K, refusal: Refusal) -> Result<(), Failed> {
+pub(crate) fn write_refusal<K: Sink>(sink: &mut K, refusal: &Refusal) -> Result<(), Failed>
+    ensures bytes { Writes (K.held sink.old) (K.held sink.new) result (refusal_text refusal.now) }
+    ensures cause { HasCause (K.faults sink.old) (K.faults sink.new) result }
+{
     let d = refusal.device;
     match refusal.fault {
         MountFault::Device => write_word(sink, d, b"no device"),
@@ -93,6 +119,10 @@ pub(crate) fn write_waiting<K: Sink>(sink: &mut K, d: DeviceNo) -> Result<(), Fa
 }
 
 /// Tells which words there are.
-pub(crate) fn write_usage<K: Sink>(sink: &mut K) -> Result<(), Failed> {
+#[tactic(auto, unfolding(crate::specs::Texts::usage_text))]
+pub(crate) fn write_usage<K: Sink>(sink: &mut K) -> Result<(), Failed>
+    ensures bytes { Writes (K.held sink.old) (K.held sink.new) result (usage_text) }
+    ensures cause { HasCause (K.faults sink.old) (K.faults sink.new) result }
+{
     write_line(sink, &[Piece::Text(b"usage: ON D=FILE ..\n")])
 }

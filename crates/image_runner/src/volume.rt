@@ -42,7 +42,8 @@ impl<V: Volume> Planned<V> {
         fail_reads: &[u32],
         fail_writes: &[u32],
     ) -> Result<Planned<V>, NoMemory>
-        ensures { IfOk result (λ p. planned_view (V.view p.volume) p.reads p.writes p.faults ≡ planned_view (V.view volume) 0 0 0) }
+        ensures volume { IfOk result (λ p. p.volume ≡ volume) }
+        ensures counts { IfOk result (λ p. planned_view (V.view p.volume) p.reads p.writes p.faults ≡ planned_view (V.view volume) 0 0 0) }
     {
         Ok(Planned {
             volume,
@@ -58,6 +59,7 @@ impl<V: Volume> Planned<V> {
 impl<V: Volume> Volume for Planned<V> {
     ghost view = { λ p. planned_view (V.view p.volume) p.reads p.writes p.faults };
 
+    #[tactic(auto, using(crate::proofs::Planned::read_behind, crate::proofs::Planned::read_refused))]
     fn read_track(&mut self, t: TrackNo, into: &mut TrackBuffer) -> Result<(), Failed> {
         self.reads = counted(self.reads);
         if is_listed(self.reads, &self.fail_reads) {
@@ -73,6 +75,7 @@ impl<V: Volume> Volume for Planned<V> {
         }
     }
 
+    #[tactic(auto, using(crate::proofs::Planned::write_behind, crate::proofs::Planned::write_refused))]
     fn write_track(&mut self, t: TrackNo, bytes: &[u8]) -> Result<(), Failed> {
         self.writes = counted(self.writes);
         if is_listed(self.writes, &self.fail_writes) {

@@ -1,0 +1,5 @@
+mod Planned
+mod Written
+mod Told
+mod Names
+mod Devices
