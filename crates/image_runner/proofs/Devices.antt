@@ -1,5 +1,5 @@
 -- The devices of a deck, one after another.
-use Rattle.std.proofs.Common.{◌≡◌, ◌∙◌, ◌<◌, ◌≤◌, ◌+◌, ◌==◌, ℕ, Bool, true, false, List, ◌∷◌, length, drop, get_or, refl, sym, ap, eq-eqb, ne_eqb}
+use Rattle.std.proofs.Common.{◌≡◌, ◌∙◌, ◌<◌, ◌≤◌, ◌+◌, ◌==◌, ℕ, Bool, true, false, List, ◌∷◌, length, drop, get_or, refl, sym, ap}
 use Rattle.std.specs.Prelude.{if◌then◌else◌}
 use Rattle.std.proofs.lemmas.List.{at_drop_all, at_drop_more}
 use Rattle.deck_text.specs.declared.line.DeviceLine.{DeviceLine}
@@ -22,11 +22,11 @@ module _ (n i : ℕ) (ds : List DeviceLine) (d : DeviceLine) (inside : i < lengt
       ∙ ap (λ (x : DeviceLine). is_of n (x ∷ drop (i + 1) ds)) (sym here)
       ∙ first_or n d (drop (i + 1) ds)
 
-  pub is_there : d.number ≡ n → is_of n (drop i ds) ≡ true
-  is_there is = one ∙ ap (λ (b : Bool). if b then true else is_of n (drop (i + 1) ds)) (eq-eqb n d.number (sym is))
+  pub is_there : (n == d.number) ≡ true → is_of n (drop i ds) ≡ true
+  is_there is = one ∙ ap (λ (b : Bool). if b then true else is_of n (drop (i + 1) ds)) is
 
-  pub goes_on : (d.number ≡ n → ⊥) → is_of n (drop i ds) ≡ is_of n (drop (i + 1) ds)
-  goes_on other = one ∙ ap (λ (b : Bool). if b then true else is_of n (drop (i + 1) ds)) (ne_eqb n d.number (λ e. other (sym e)))
+  pub goes_on : (n == d.number) ≡ false → is_of n (drop i ds) ≡ is_of n (drop (i + 1) ds)
+  goes_on other = one ∙ ap (λ (b : Bool). if b then true else is_of n (drop (i + 1) ds)) other
 
 pub none_left : (n i : ℕ) (ds : List DeviceLine) → length ds ≤ i → is_of n (drop i ds) ≡ false
 unfolding lists.is_in

@@ -3,3 +3,4 @@ mod Written
 mod Told
 mod Names
 mod Devices
+mod Begun

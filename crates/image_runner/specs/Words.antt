@@ -33,7 +33,7 @@ is_new ws None = false
 -- each word names an image, and no two for one device
 unfoldable pub are_mounts : List (List ℕ) → Bool
 are_mounts [] = true
-are_mounts (w ∷ ws) = if is_new ws (device_in w) then are_mounts ws else false
+are_mounts (w ∷ ws) = is_new ws (device_in w) && are_mounts ws
 
 -- the words that name images
 unfoldable pub mounts_of : List (List ℕ) → Option (List (List ℕ))

@@ -4,7 +4,6 @@ use crate::mounting::{MountFault, mount, new_volume};
 use crate::rack::Rack;
 use crate::volume::RunVolume;
 use crate::words::path_in;
-use ckd_outside::Failed;
 use deck_text::DeviceLine;
 use disk_image::StdFile;
 use std::alloc::{AllocError, Global};
@@ -62,9 +61,7 @@ impl FileRack {
     }
 }
 
-impl Rack for FileRack {
-    type Volume = RunVolume<StdFile>;
-
+impl Rack<RunVolume<StdFile>> for FileRack {
     ghost holds = { λ _. None };
 
     fn open(
@@ -82,9 +79,5 @@ impl Rack for FileRack {
             Some(file) => mount(alloc, StdFile::new(file), line, fail_reads, fail_writes),
             None => Err(MountFault::File),
         }
-    }
-
-    fn flush(volume: &mut RunVolume<StdFile>) -> Result<(), Failed> {
-        volume.flush()
     }
 }

@@ -6,7 +6,7 @@ ghost use Rattle.image_runner.specs.Racks.{BeginsWhereTold, Holding, IsMountFaul
 ghost use Rattle.image_runner.specs.Words.{path_for};
 
 use crate::mounting::{MountFault, Refusal};
-use crate::rack::Rack;
+use crate::rack::{KeptVolume, Rack};
 use crate::texts::write_waiting;
 use crate::words::path_for;
 use ckd_outside::{Failed, Sink};
@@ -22,37 +22,38 @@ use subsystem_core::Subsystem;
 const MOST_TRACKS: u16 = 960;
 
 /// The volume that a device begins with: in the image that the words name for it, or else an empty one.
-fn open_volume<R: Rack>(
+fn open_volume<V: Volume, R: Rack<V>>(
     alloc: Global,
     deck: &Deck,
     words: &[&str],
     line: DeviceLine,
     rack: &mut R,
-) -> Result<R::Volume, MountFault>
+) -> Result<V, MountFault>
     requires { line.cylinders ≤ 64 }
     ensures same { R.holds rack.new ≡ R.holds rack.old }
-    ensures tracks { IfOk result (λ v. HasTracks line (R.Volume.view v)) }
+    ensures tracks { IfOk result (λ v. HasTracks line (V.view v)) }
     ensures begins { IfOk result (λ v. BeginsWhereTold (R.holds rack.old) line (path_for (map (λ w. w.now) words.now) line.number)
-        (plan_for deck.now.faults line.number) (R.Volume.view v)) }
+        (plan_for deck.now.faults line.number) (V.view v)) }
     ensures fault { IfErr result (λ fault. IsMountFault line fault) }
 {
     let reads = failing_of(alloc, deck, false, line.number)?;
     let writes = failing_of(alloc, deck, true, line.number)?;
-    rack.open(alloc, line, path_for(words, line.number), &reads, &writes)
+    let volume = rack.open(alloc, line, path_for(words, line.number), &reads, &writes)?;
+    Ok(volume)
 }
 
-fn add_volume<R: Rack>(
+fn add_volume<V: Volume, R: Rack<V>>(
     alloc: Global,
     deck: &Deck,
     words: &[&str],
     line: DeviceLine,
     rack: &mut R,
-    volumes: &mut Vec<R::Volume>,
+    volumes: &mut Vec<V>,
 ) -> Result<(), MountFault>
     requires { line.cylinders ≤ 64 }
     ensures same { R.holds rack.new ≡ R.holds rack.old }
-    ensures added { OnOk result ((v : R.Volume) × (volumes.new.items ≡ volumes.old.items ++ v ∷ []) × HasTracks line (R.Volume.view v)
-        × BeginsWhereTold (R.holds rack.old) line (path_for (map (λ w. w.now) words.now) line.number) (plan_for deck.now.faults line.number) (R.Volume.view v)) }
+    ensures added { OnOk result ((v : V) × (volumes.new.items ≡ volumes.old.items ++ v ∷ []) × HasTracks line (V.view v)
+        × BeginsWhereTold (R.holds rack.old) line (path_for (map (λ w. w.now) words.now) line.number) (plan_for deck.now.faults line.number) (V.view v)) }
     ensures fault { IfErr result (λ fault. IsMountFault line fault) }
 {
     let volume = open_volume(alloc, deck, words, line, rack)?;
@@ -61,17 +62,17 @@ fn add_volume<R: Rack>(
 }
 
 /// The volumes of all devices, in the deck's order.
-pub(crate) fn open_volumes<R: Rack>(
+pub(crate) fn open_volumes<V: Volume, R: Rack<V>>(
     alloc: Global,
     deck: &Deck,
     words: &[&str],
     rack: &mut R,
-) -> Result<Vec<R::Volume>, Refusal>
+) -> Result<Vec<V>, Refusal>
     requires { are_open deck.now.devices ≡ true }
     ensures same { R.holds rack.new ≡ R.holds rack.old }
-    ensures tracks { IfOk result (λ vs. HaveTracks deck.now.devices (map R.Volume.view vs.items)) }
+    ensures tracks { IfOk result (λ vs. HaveTracks deck.now.devices (map V.view vs.items)) }
     ensures hold { IfOk result (λ vs. (holding : Holding) → R.holds rack.old ≡ Some holding
-        → AllHold (firsts_by holding (map (λ w. w.now) words.now)) deck.now deck.now.devices (map R.Volume.view vs.items)) }
+        → AllHold (firsts_by holding (map (λ w. w.now) words.now)) deck.now deck.now.devices (map V.view vs.items)) }
     ensures fault { IfErr result (λ r. IsFaultOfLine deck.now r) }
 {
     let mut volumes = Vec::new(alloc);
@@ -113,20 +114,20 @@ pub(crate) fn tell_waiting<V: Volume, N: Sink>(
     }
 }
 
-fn flush_side<R: Rack>(volume: Option<R::Volume>) -> Result<(), Failed> {
+fn flush_side<V: KeptVolume>(volume: Option<V>) -> Result<(), Failed> {
     match volume {
-        Some(mut volume) => R::flush(&mut volume),
+        Some(mut volume) => volume.flush(),
         None => Ok(()),
     }
 }
 
 /// Waits until what was written to the volumes of devices is where it outlives the run. Where one fails the others are waited for.
-pub(crate) fn flush_all<R: Rack>(sub: Subsystem<R::Volume>) -> Result<(), Failed> {
+pub(crate) fn flush_all<V: KeptVolume>(sub: Subsystem<V>) -> Result<(), Failed> {
     let mut all = Ok(());
     let (_pool, devices) = sub.into_parts();
     for device in devices {
         let (a, b) = device.into_volumes();
-        let flushed = flush_side::<R>(a).and(flush_side::<R>(b));
+        let flushed = flush_side(a).and(flush_side(b));
         all = all.and(flushed);
     }
     all

@@ -10,7 +10,7 @@ ghost use Rattle.image_runner.specs.Racks.{Holding, firsts_by};
 ghost use Rattle.image_runner.specs.Words.{mounts_of};
 
 use crate::mounting::{MountFault, Refusal};
-use crate::rack::Rack;
+use crate::rack::{KeptVolume, Rack};
 use crate::running::{flush_all, open_volumes, tell_waiting};
 use crate::status::RunStatus;
 use crate::texts::{write_refusal, write_usage};
@@ -93,12 +93,11 @@ fn refuse<K: Sink>(sink: &mut K, refusal: Refusal) -> RunStatus
     }
 }
 
-#[tactic(auto, using(crate::proofs::Devices::is_there, crate::proofs::Devices::goes_on, crate::proofs::Devices::none_left))]
 fn has_device(deck: &Deck, d: DeviceNo) -> bool
     ensures { result ≡ is_in d (numbers_in deck.now.devices) }
 {
     for i in 0..deck.device_count() {
-        if deck.device_at(i).number == d {
+        if d == deck.device_at(i).number {
             return true;
         }
     }
@@ -140,18 +139,18 @@ fn write_ran<K: Sink>(sink: &mut K, report: &RunRecord, flushed: Result<(), Fail
 }
 
 /// Runs a deck over these volumes, and waits until they are where they outlive the run. Then its report is written.
-fn run<K: Sink, N: Sink, R: Rack>(
+fn run<V: KeptVolume, K: Sink, N: Sink>(
     alloc: Global,
     words: &[&str],
     deck: &Deck,
-    volumes: Vec<R::Volume>,
+    volumes: Vec<V>,
     sink: &mut K,
     notes: &mut N,
 ) -> RunStatus
     requires read { WasRead deck.now }
-    requires tracks { HaveTracks deck.now.devices (map R.Volume.view volumes.items) }
+    requires tracks { HaveTracks deck.now.devices (map V.view volumes.items) }
     ensures told { (holding : Option Holding) (names : List (List ℕ))
-        → ((h : Holding) → holding ≡ Some h → AllHold (firsts_by h names) deck.now deck.now.devices (map R.Volume.view volumes.items))
+        → ((h : Holding) → holding ≡ Some h → AllHold (firsts_by h names) deck.now deck.now.devices (map V.view volumes.items))
         → TellsDeck result holding names (Ok deck.now) (K.held sink.old) (K.held sink.new) }
     ensures write { WriteFaultHasCause result (K.faults sink.old) (K.faults sink.new) }
 {
@@ -159,11 +158,11 @@ fn run<K: Sink, N: Sink, R: Rack>(
         return RunStatus::NoMemory;
     };
     tell_waiting(words, ran.sub.devices(), notes);
-    let flushed = flush_all::<R>(ran.sub);
+    let flushed = flush_all(ran.sub);
     write_ran(sink, &ran.report, flushed)
 }
 
-fn serve_deck<K: Sink, N: Sink, R: Rack>(
+fn serve_deck<V: KeptVolume, K: Sink, N: Sink, R: Rack<V>>(
     alloc: Global,
     words: &[&str],
     deck: &Deck,
@@ -180,12 +179,12 @@ fn serve_deck<K: Sink, N: Sink, R: Rack>(
         return refuse(sink, Refusal { device, fault });
     }
     match open_volumes(alloc, deck, words, rack) {
-        Ok(volumes) => run::<K, N, R>(alloc, words, deck, volumes, sink, notes),
+        Ok(volumes) => run(alloc, words, deck, volumes, sink, notes),
         Err(refusal) => refuse(sink, refusal),
     }
 }
 
-fn answer<K: Sink, N: Sink, R: Rack>(
+fn answer<V: KeptVolume, K: Sink, N: Sink, R: Rack<V>>(
     alloc: Global,
     words: &[&str],
     text: &[u8],
@@ -204,7 +203,7 @@ fn answer<K: Sink, N: Sink, R: Rack>(
     }
 }
 
-fn serve<S: Source, K: Sink, N: Sink, R: Rack>(
+fn serve<V: KeptVolume, S: Source, K: Sink, N: Sink, R: Rack<V>>(
     alloc: Global,
     words: &[&str],
     source: &mut S,
@@ -230,7 +229,7 @@ fn serve<S: Source, K: Sink, N: Sink, R: Rack>(
 /// of the defined run over what they held, where the rack tells that. Beside it the notes tell which devices on images have tracks that
 /// wait, which are lost. A read fault is answered exactly where a read of the source failed. Where memory is lacking, or a write failed,
 /// the deck may have run in part.
-pub fn run_top<S: Source, K: Sink, N: Sink, R: Rack>(
+pub fn run_top<V: KeptVolume, S: Source, K: Sink, N: Sink, R: Rack<V>>(
     alloc: Global,
     words: &[&str],
     source: &mut S,

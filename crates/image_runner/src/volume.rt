@@ -5,6 +5,7 @@ ghost use Rattle.disk_image.specs.Image.{IsLayoutOf, image_view};
 ghost use Rattle.image_runner.specs.Planned.{planned_view};
 ghost use Rattle.image_runner.specs.declared.volume.RunVolume.TheVariants.{Image, Memory};
 
+use crate::rack::KeptVolume;
 use ckd_outside::Failed;
 use ckd_types::{NoMemory, TrackNo};
 use deck_run::EmptyVolume;
@@ -99,16 +100,6 @@ pub enum RunVolume<F: DiskFile> {
     Memory(MemVolume),
 }
 
-impl<F: DiskFile> RunVolume<F> {
-    /// Waits until what was written has reached the disk. What is in memory reaches none.
-    pub fn flush(&mut self) -> Result<(), Failed> {
-        match self {
-            RunVolume::Image(planned) => planned.volume.flush(),
-            RunVolume::Memory(_) => Ok(()),
-        }
-    }
-}
-
 impl<F: DiskFile> Volume for RunVolume<F> {
     ghost view = { λ v. elim v [ Image p ↦ planned_view (image_view p.volume) p.reads p.writes p.faults | Memory d ↦ disk_view d ] };
 
@@ -131,5 +122,15 @@ impl<F: DiskFile> EmptyVolume for RunVolume<F> {
     fn empty(alloc: Global, cylinders: u8) -> Result<RunVolume<F>, NoMemory> {
         let volume = MemVolume::empty(alloc, cylinders)?;
         Ok(RunVolume::Memory(volume))
+    }
+}
+
+impl<F: DiskFile> KeptVolume for RunVolume<F> {
+    /// What is in memory reaches no disk.
+    fn flush(&mut self) -> Result<(), Failed> {
+        match self {
+            RunVolume::Image(planned) => planned.volume.flush(),
+            RunVolume::Memory(_) => Ok(()),
+        }
     }
 }

@@ -53,7 +53,7 @@ fn is_for(named: Option<DeviceNo>, d: DeviceNo) -> bool
 }
 
 /// The path that the first of these words names for a device.
-#[tactic(auto, using(crate::proofs::Names::named_here, crate::proofs::Names::named_behind, crate::proofs::Names::named_nowhere))]
+#[tactic(auto, using(crate::proofs::Names::named_nowhere))]
 pub(crate) fn path_for<'a>(words: &[&'a str], d: DeviceNo) -> Option<&'a str>
     ensures { option_copied result ≡ path_for (map (λ w. w.now) words.now) d }
 {
@@ -76,16 +76,14 @@ fn is_new(words: &[&str], named: Option<DeviceNo>) -> bool
 }
 
 /// Whether each word names an image, and no two for one device.
+#[tactic(auto, unfolding(crate::specs::Words::are_mounts))]
 fn are_mounts(words: &[&str]) -> bool
     ensures { result ≡ are_mounts (map (λ w. w.now) words.now) }
 {
-    for i in 0..words.len() {
-        let (_, behind) = words.split_at(i + 1);
-        if !is_new(behind, device_in(words[i])) {
-            return false;
-        }
+    match words {
+        [word, behind @ ..] => is_new(behind, device_in(word)) && are_mounts(behind),
+        [] => true,
     }
-    true
 }
 
 /// The words that name images, behind `ON`.
