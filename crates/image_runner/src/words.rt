@@ -13,7 +13,7 @@ const MOST_DEVICE: u64 = 15;
 fn parts_of<'a>(word: &'a str) -> Option<(&'a str, &'a str)>
     ensures { MatchOption result (position_or_len is_sign word.now ≡ length word.now)
         (λ x. (x.0.now ≡ before_first is_sign word.now) × (x.1.now ≡ after_first is_sign word.now)
-            × (position_or_len is_sign word.now < length word.now)) }
+        × (position_or_len is_sign word.now < length word.now)) }
 {
     word.split_once('=')
 }
