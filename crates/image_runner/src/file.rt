@@ -5,24 +5,24 @@ use crate::rack::Rack;
 use crate::volume::RunVolume;
 use crate::words::path_in;
 use deck_text::DeviceLine;
-use disk_image::StdFile;
+use disk_image::{DiskFile, StdFile};
 use std::alloc::{AllocError, Global};
 use std::fs::{File, OpenOptions};
 
-/// A file of the system at a path, where it could be opened, and no other process holds it.
+/// The file at a path, where it could be opened, and no other process holds it.
 #[derive(Drop)]
-struct NamedFile {
+struct NamedFile<F: DiskFile> {
     path: String,
-    file: Option<File>,
+    file: Option<F>,
 }
 
-/// Volumes in image files of the system, each of which is held alone; and in memory, where no file is named.
+/// Volumes in image files, and in memory where no file is named.
 #[derive(Drop)]
-pub struct FileRack {
-    files: Vec<NamedFile>,
+pub struct FileRack<F: DiskFile> {
+    files: Vec<NamedFile<F>>,
 }
 
-/// A file to read and write, held alone.
+/// A file of the system to read and write, held alone.
 fn open_alone(rt: &HostRuntime, path: &str) -> Option<File> {
     let mut options = OpenOptions::new();
     options.read(true).write(true);
@@ -36,22 +36,29 @@ fn open_alone(rt: &HostRuntime, path: &str) -> Option<File> {
     }
 }
 
-impl FileRack {
-    /// Opens the files that words name.
-    pub fn open(rt: &HostRuntime, words: &[&str]) -> Result<FileRack, AllocError> {
-        let mut files = Vec::new(rt.alloc());
-        for word in words {
-            if let Some(path) = path_in(word) {
-                let file = open_alone(rt, path);
-                let path = String::from_str(rt.alloc(), path)?;
-                files.push(NamedFile { path, file })?;
-            }
-        }
-        Ok(FileRack { files })
+fn open_image_file(rt: &HostRuntime, path: &str) -> Option<StdFile> {
+    match open_alone(rt, path) {
+        Some(file) => Some(StdFile::new(file)),
+        None => None,
     }
+}
 
+/// Opens the files of the system that words name.
+pub fn open_files(rt: &HostRuntime, words: &[&str]) -> Result<FileRack<StdFile>, AllocError> {
+    let mut files = Vec::new(rt.alloc());
+    for word in words {
+        if let Some(path) = path_in(word) {
+            let file = open_image_file(rt, path);
+            let path = String::from_str(rt.alloc(), path)?;
+            files.push(NamedFile { path, file })?;
+        }
+    }
+    Ok(FileRack { files })
+}
+
+impl<F: DiskFile> FileRack<F> {
     /// The file at a path, if nobody took it before.
-    fn take(&mut self, path: &str) -> Option<File> {
+    fn take(&mut self, path: &str) -> Option<F> {
         for named in self.files.iter_mut() {
             if named.path.as_str() == path {
                 return named.file.take();
@@ -61,7 +68,7 @@ impl FileRack {
     }
 }
 
-impl Rack<RunVolume<StdFile>> for FileRack {
+impl<F: DiskFile> Rack<RunVolume<F>> for FileRack<F> {
     ghost holds = { λ _. None };
 
     fn open(
@@ -71,12 +78,12 @@ impl Rack<RunVolume<StdFile>> for FileRack {
         path: Option<&str>,
         fail_reads: &[u32],
         fail_writes: &[u32],
-    ) -> Result<RunVolume<StdFile>, MountFault> {
+    ) -> Result<RunVolume<F>, MountFault> {
         let Some(path) = path else {
             return new_volume(alloc, line, fail_reads, fail_writes);
         };
         match self.take(path) {
-            Some(file) => mount(alloc, StdFile::new(file), line, fail_reads, fail_writes),
+            Some(file) => mount(alloc, file, line, fail_reads, fail_writes),
             None => Err(MountFault::File),
         }
     }

@@ -12,7 +12,7 @@ mod volume;
 mod words;
 
 use ckd_outside::{StdSink, StdSource};
-use file::FileRack;
+use file::open_files;
 use status::{RunStatus, code_of};
 use std::alloc::AllocError;
 use std::env::Args;
@@ -30,7 +30,7 @@ fn serve(rt: &HostRuntime, arguments: Option<&[&str]>) -> Result<ExitCode, Alloc
     let mut source = StdSource::new(rt.reader());
     let mut sink = StdSink::new(io::writer(rt));
     let mut notes = StdSink::new(rt.stderr());
-    let mut rack = FileRack::open(rt, words)?;
+    let mut rack = open_files(rt, words)?;
     Ok(ended(run_top(
         rt.alloc(),
         words,
