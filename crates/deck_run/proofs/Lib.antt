@@ -1,4 +1,5 @@
 pub mod Lines
+pub mod NewVolumes
 pub mod Opened
 pub mod Surely
 pub mod Acting

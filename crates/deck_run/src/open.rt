@@ -125,8 +125,9 @@ fn open_devices<V: Volume>(
 {
     let mut made = Vec::new(alloc);
     for i in 0..deck.device_count() {
+        let line = deck.device_at(i);
         let volume = volumes.remove(0);
-        made.push(open_device(alloc, deck, deck.device_at(i), volume)?)?;
+        made.push(open_device(alloc, deck, line, volume)?)?;
     }
     Ok(made)
 }

@@ -71,11 +71,7 @@ pub(crate) fn pair<V: Volume>(
 }
 
 /// Side B leaves, and the device that had lent it gets this volume of empty tracks; and how the order ends.
-fn part<V: Volume>(
-    sub: &mut Subsystem<V>,
-    a: DeviceNo,
-    volume: V,
-) -> Result<EventEnd, NoMemory>
+fn part<V: Volume>(sub: &mut Subsystem<V>, a: DeviceNo, volume: V) -> Result<EventEnd, NoMemory>
     requires here { HasDevice sub.old a }
     requires own { AreOwn sub.old.devices.items }
     requires empty { IfSome (device_at sub.old.devices.items a) (λ x. SideIs (V.view volume) (empty_contents ((device_of x).store.cylinders * 15)) unfailing) }

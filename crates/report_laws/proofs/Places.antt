@@ -14,11 +14,12 @@ use Rattle.run_report.specs.Showing.{lines_by_history}
 use Rattle.report_laws.proofs.Histories.{HistoryShows}
 use Rattle.report_laws.proofs.Lines.{overs_of}
 use Rattle.subsystem_defs.specs.Beside.{new_items}
+use Rattle.subsystem_defs.specs.Decks.{Firsts}
 use Rattle.subsystem_defs.specs.Deeds.{device_in}
 use Rattle.subsystem_defs.specs.Happening as H
 use Rattle.subsystem_defs.specs.Happening.{Talk, held_with, sweep, is_lent_to, restored_in}
 use Rattle.subsystem_defs.specs.Subsystem.{Mounted, number_of, mounted_in, put_in}
-use Rattle.subsystem_laws.proofs.PlainRuns.{Plainly, ArePlain}
+use Rattle.subsystem_laws.proofs.PlainRuns.{PlainlyFrom, ArePlainOn}
 
 abbrev pub devices : List Mounted → List MarksDevice
 devices ms = map (λ (m : Mounted). m.device) ms
@@ -137,16 +138,16 @@ module _ (n : ℕ) where
       by_test false at = put_other ms k x at (ap (λ (i : ℕ). i == n) is ∙ at) one (other at)
 
     -- each device
-    module _ (f : MarksDevice → Talk (Unit {0}))
-        (each : (m : Mounted) → Plainly m.device → (pool : Pool) → ((held_with pool m (f m.device)).state.store.device ≡ m.device.store.device)
+    module _ (firsts : Firsts) (f : MarksDevice → Talk (Unit {0}))
+        (each : (m : Mounted) → PlainlyFrom firsts m.device → (pool : Pool) → ((held_with pool m (f m.device)).state.store.device ≡ m.device.store.device)
         × (m.device.store.device ≡ n → q m.device (held_with pool m (f m.device)).state)) where
-      apart_swept : (ms : List Mounted) (pool : Pool) → ArePlain ms → Lone (devices ms) → Apart (devices ms) (devices (sweep f ms pool).mounted)
+      apart_swept : (ms : List Mounted) (pool : Pool) → ArePlainOn firsts ms → Lone (devices ms) → Apart (devices ms) (devices (sweep f ms pool).mounted)
       unfolding H.sweep
       apart_swept [] pool p lone_none = apart_none
       apart_swept (m ∷ ms) pool p (lone_more at more) =
           apart_more at (ap (λ (i : ℕ). i == n) (each m p.0 pool).0 ∙ at) (apart_swept ms (held_with pool m (f m.device)).told.pool p.1 more)
 
-      pub swept_at : (ms : List Mounted) (pool : Pool) → ArePlain ms → One (devices ms) → At q (devices ms) (devices (sweep f ms pool).mounted)
+      pub swept_at : (ms : List Mounted) (pool : Pool) → ArePlainOn firsts ms → One (devices ms) → At q (devices ms) (devices (sweep f ms pool).mounted)
       unfolding H.sweep
       swept_at [] pool p one = elim one [ ]
       swept_at (m ∷ ms) pool p (one_here at more) =

@@ -1,5 +1,5 @@
 -- Behind every event each device is the one that it was: of the same number and size, with the same plans.
-use Rattle.std.proofs.Common.{◌≡◌, ℕ, Bool, true, false, List, [], ◌∷◌, Option, Some, None, is_some, zero, suc, map, refl, sym, ap, subst, ◌∙◌}
+use Rattle.std.proofs.Common.{◌≡◌, ℕ, Bool, true, false, List, [], ◌∷◌, Option, Some, None, is_some, zero, suc, map, refl, ap, subst, ◌∙◌}
 use Rattle.std.proofs.lemmas.List.Elements.{All-head, All-tail}
 use Rattle.std.specs.Prelude.{All, if◌then◌else◌}
 use Rattle.ckd_types.specs.declared.geometry.Geometry.{Geometry}
@@ -8,9 +8,8 @@ use Rattle.ckd_types.specs.declared.paths.Side.TheVariants as sides
 use Rattle.deck_text.specs.DeckLines.{DeckLines}
 use Rattle.loss_model.specs.declared.Loss.{Loss}
 use Rattle.loss_model.specs.declared.Loss.TheVariants as losses
-use Rattle.plain_defs.specs.Journal.{Plans}
 use Rattle.track_image.specs.Image.{Image}
-use Rattle.device_outside.specs.Interaction.{Interaction, Done}
+use Rattle.device_outside.specs.Interaction.{Interaction}
 use Rattle.device_outside.specs.Pool.{Call}
 use Rattle.device_defs.specs.Command.{command}
 use Rattle.device_defs.specs.Contents.{by_plain}
@@ -34,7 +33,7 @@ use Rattle.device_laws.proofs.KeptEvents.{command_goes, second_goes, background_
 use Rattle.device_laws.proofs.PoolWalks.{asks_always, ended_asks}
 use Rattle.subsystem_defs.specs.declared.end.EventEnd.TheVariants as ends
 use Rattle.subsystem_defs.specs.Decks as D
-use Rattle.subsystem_defs.specs.Decks.{opened, run_of}
+use Rattle.subsystem_defs.specs.Decks.{Firsts, opened_on, run_on}
 use Rattle.subsystem_defs.specs.Deeds.{ends_done, end_of}
 use Rattle.subsystem_defs.specs.Lines.{Logged, asked_by, last_behind}
 use Rattle.subsystem_defs.specs.Subsystem.{Subsystem, devices_of}
@@ -237,8 +236,9 @@ stay_on (t ∷ ts) s l p =
     (subst (λ (z : Subsystem). AreOne (devices_of z) (devices_of t.happened.behind)) l.0 (All-head Stay t ts p))
     (stay_on ts t.happened.behind l.1 (All-tail Stay t ts p))
 
-pub run_keeps_devices : (deck : DeckLines) → IsServedDeck deck → AreOne (devices_of (opened deck)) (devices_of (run_of deck).behind)
+pub run_keeps_devices : (firsts : Firsts) (deck : DeckLines) → IsServedDeck deck →
+    AreOne (devices_of (opened_on firsts deck)) (devices_of (run_on firsts deck).behind)
 unfolding D.run_asked_on
-run_keeps_devices deck served =
-    stay_on (run_of deck).events (opened deck) (lines_linked (map asked_by deck.events) (opened deck))
-    (run_pairs IsOne (λ lossy alone. IsOne) one_pairwise empty_firsts deck served)
+run_keeps_devices firsts deck served =
+    stay_on (run_on firsts deck).events (opened_on firsts deck) (lines_linked (map asked_by deck.events) (opened_on firsts deck))
+    (run_pairs IsOne (λ lossy alone. IsOne) one_pairwise firsts deck served)

@@ -60,6 +60,7 @@ use Rattle.report_laws.proofs.Places.{devices}
 use Rattle.report_laws.proofs.ShownEvents.{says, Silent, Shows, kept, Answered, ShowsDeed}
 use Rattle.subsystem_defs.specs.declared.end.EventEnd.{EventEnd}
 use Rattle.subsystem_defs.specs.declared.end.EventEnd.TheVariants as ends
+use Rattle.subsystem_defs.specs.Decks.{Firsts}
 use Rattle.subsystem_defs.specs.Deeds.{
   Ends,
   Asks,
@@ -78,7 +79,7 @@ use Rattle.subsystem_defs.specs.Deeds.{
 use Rattle.subsystem_defs.specs.Happening.{told_to, told_end}
 use Rattle.subsystem_defs.specs.Subsystem.{Mounted, Subsystem, number_of, devices_of, mounted_in}
 use Rattle.subsystem_laws.proofs.FoundDevices.{number_found, same_found}
-use Rattle.subsystem_laws.proofs.PlainRuns.{Plainly, ArePlain}
+use Rattle.subsystem_laws.proofs.PlainRuns.{PlainlyFrom, ArePlainOn}
 use Rattle.subsystem_laws.proofs.Walks.{device_so}
 
 none_if : (b : Bool) (m : Mounted) (ms : List Mounted) (i : ℕ) (x : MarksDevice) → (number_of m == i) ≡ b →
@@ -92,13 +93,13 @@ mounted_too : (ms : List Mounted) (i : ℕ) (x : MarksDevice) → device_in (dev
 mounted_too [] i x at none = absurd (let far : None ≡ Some x = at in cc)
 mounted_too (m ∷ ms) i x at none = none_if (number_of m == i) m ms i x refl at none (mounted_too ms i x)
 
-module _ (n : ℕ) (s : Subsystem) (plain : ArePlain s.mounted) where
+module _ (n : ℕ) (firsts : Firsts) (s : Subsystem) (plain : ArePlainOn firsts s.mounted) where
   module _ (k : ℕ) (x : MarksDevice) (at : device_in (devices_of s) k ≡ Some x) where
     number_is : x.store.device ≡ k
     number_is = number_found s.mounted k x at
 
-    plainly : Plainly x
-    plainly = subst (λ (o : Option MarksDevice). IfSome o Plainly) at (device_so Plainly s.mounted k plain)
+    plainly : PlainlyFrom firsts x
+    plainly = subst (λ (o : Option MarksDevice). IfSome o (PlainlyFrom firsts)) at (device_so (PlainlyFrom firsts) s.mounted k plain)
 
     it_is : (m : Mounted) → mounted_in s.mounted x.store.device ≡ Some m → m.device ≡ x
     it_is m found = same_found s.mounted k x m at (ap (mounted_in s.mounted) (sym number_is) ∙ found)
@@ -312,7 +313,7 @@ module _ (n : ℕ) (s : Subsystem) (plain : ArePlain s.mounted) where
     pub all_lose : (pool : Pool) (loss : Loss) → ShowsDeed n s told (Each pool (λ x. lose by_plain x loss))
     all_lose pool loss = (
       silent ends.Done,
-      λ m p other.
+      λ m first p other.
           let g = held true (had_both (loss_follows p.number p.empty m.device p.follows loss) (had_always (loss_told by_plain m.device loss))) (told_to other m)
           in (g.0.number ∙ sym p.follows.number, λ same. acted_is_shown n m.device.history _ g.1),
     )
@@ -320,7 +321,7 @@ module _ (n : ℕ) (s : Subsystem) (plain : ArePlain s.mounted) where
     pub all_power : (pool : Pool) → ShowsDeed n s told (Each pool (power by_plain))
     all_power pool = (
       silent ends.Done,
-      λ m p other.
+      λ m first p other.
           let g = held true (had_both (power_follows p.number p.empty m.device p.follows) (had_always (power_tells by_plain m.device))) (told_to other m)
           in (
             g.0.number ∙ sym p.follows.number,

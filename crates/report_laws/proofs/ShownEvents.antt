@@ -2,6 +2,7 @@
 use Rattle.std.proofs.Common.{◌≡◌, ◌==◌, ℕ, Bool, true, false, List, [], ◌∷◌, Option, Some, None, refl, sym, ap, subst, ◌∙◌, if◌then◌else◌}
 use Rattle.std.specs.Prelude.{IfSome}
 use Rattle.std.proofs.lemmas.Bool.{eqb-true}
+use Rattle.ckd_types.specs.declared.record.Track.{Track}
 use Rattle.device_outside.specs.Told.{Calls}
 use Rattle.device_outside.specs.Pool.{Pool}
 use Rattle.device_defs.specs.Contents.{by_plain}
@@ -19,6 +20,7 @@ use Rattle.report_laws.proofs.Histories.{HistoryShows, same_shows}
 use Rattle.report_laws.proofs.Places.{devices, At, One, at_same, at_then, at_weaker, one_behind, put_at, swept_at, ShowsSo}
 use Rattle.subsystem_defs.specs.declared.end.EventEnd.{EventEnd}
 use Rattle.subsystem_defs.specs.declared.end.EventEnd.TheVariants as ends
+use Rattle.subsystem_defs.specs.Decks.{Firsts}
 use Rattle.subsystem_defs.specs.Deeds.{Ends, Becomes, Asks, Each, Repairs, Lends}
 use Rattle.subsystem_defs.specs.Happening.{
   MarksDeed,
@@ -35,7 +37,7 @@ use Rattle.subsystem_defs.specs.Happening.{
   behind_outcome,
 }
 use Rattle.subsystem_defs.specs.Subsystem.{Mounted, Subsystem, number_of, mounted_in, put_in}
-use Rattle.subsystem_laws.proofs.PlainRuns.{Plainly, ArePlain}
+use Rattle.subsystem_laws.proofs.PlainRuns.{PlainlyOn, PlainlyFrom, ArePlainOn}
 use Rattle.subsystem_laws.proofs.Walks.{IsSo, mounted_so}
 
 module _ (n : ℕ) where
@@ -70,14 +72,14 @@ module _ (n : ℕ) where
     ShowsDeed (Asks d talk) =
         Silent (told ends.Idle) × ((m : Mounted) → mounted_in s.mounted d.store.device ≡ Some m → Had talk (λ y end. Answered d m y (told_end end)))
     ShowsDeed (Each pool f) =
-        Silent (told ends.Done) × ((m : Mounted) → Plainly m.device → (pool : Pool) →
+        Silent (told ends.Done) × ((m : Mounted) (first : ℕ → List Track) → PlainlyOn first m.device → (pool : Pool) →
         ((held_with pool m (f m.device)).state.store.device ≡ m.device.store.device)
         × (m.device.store.device ≡ n → HistoryShows n m.device.history (held_with pool m (f m.device)).state.history []))
     ShowsDeed (Repairs pool) = Silent (told ends.Done)
     ShowsDeed (Lends a b) =
         Silent (told ends.Done) × ((m : Mounted) → mounted_in s.mounted b.store.device ≡ Some m → m.device.history.running ≡ None)
 
-    module _ (one : One n (devices s.mounted)) (plain : ArePlain s.mounted) where
+    module _ (firsts : Firsts) (one : One n (devices s.mounted)) (plain : ArePlainOn firsts s.mounted) where
       same_mounted : (k : ℕ) (m x : Mounted) → mounted_in s.mounted k ≡ Some m → k ≡ n → mounted_in s.mounted n ≡ Some x → m ≡ x
       same_mounted k m x is same at =
           let both : Some m ≡ Some x = sym is ∙ ap (mounted_in s.mounted) same ∙ at in cc
@@ -130,7 +132,7 @@ module _ (n : ℕ) where
       joined_at t o a calls (Some m) is =
           kept_put t o a m (record m { device = join m.device; b = calls }) is (number_at t.mounted a m is) refl
 
-      lends_at : (a b : ℕ) (o : Option Mounted) → mounted_in s.mounted b ≡ o → IfSome o (IsSo Plainly) →
+      lends_at : (a b : ℕ) (o : Option Mounted) → mounted_in s.mounted b ≡ o → IfSome o (IsSo (PlainlyFrom firsts)) →
           ((m : Mounted) → mounted_in s.mounted b ≡ Some m → m.device.history.running ≡ None) →
           At n SameHistory (devices s.mounted) (devices (lends s a b o).mounted)
       lends_at a b None is p none = at_same n (devices s.mounted) one (λ d. refl)
@@ -150,15 +152,15 @@ module _ (n : ℕ) where
       happens_at (Becomes d end) h = becomes_at d end (mounted_in s.mounted d.store.device) refl h
       happens_at (Asks d talk) h = asks_at d talk (mounted_in s.mounted d.store.device) refl h
       happens_at (Each pool f) h =
-          swept_at n (Shows (told ends.Done)) f (λ m p pool. (
-            (h.1 m p pool).0,
+          swept_at n (Shows (told ends.Done)) firsts f (λ m p pool. (
+            (h.1 m (firsts m.device.store.device) p pool).0,
             λ same. kept (told ends.Done) h.0 m.device (held_with pool m (f m.device)).state
-                ((h.1 m p pool).1 same),
+                ((h.1 m (firsts m.device.store.device) p pool).1 same),
           )) s.mounted pool plain one
       happens_at (Repairs pool) h = at_same n (devices s.mounted) one (same_kept (told ends.Done) h)
       happens_at (Lends a b) h =
           at_weaker n (devices s.mounted) (devices (lends s a.store.device b.store.device (mounted_in s.mounted b.store.device)).mounted)
-          (lends_at a.store.device b.store.device (mounted_in s.mounted b.store.device) refl (mounted_so Plainly s.mounted b.store.device plain) h.1)
+          (lends_at a.store.device b.store.device (mounted_in s.mounted b.store.device) refl (mounted_so (PlainlyFrom firsts) s.mounted b.store.device plain) h.1)
           (λ b a e. kept (told ends.Done) h.0 b a (same_shows n b.history a.history e))
 
   pub before_same : (s : Subsystem) (x : MarksDeed) → (happens_by s x).before ≡ s

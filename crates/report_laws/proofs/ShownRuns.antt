@@ -63,7 +63,7 @@ use Rattle.report_text.specs.declared.answers.StartAnswer.TheVariants as answers
 use Rattle.run_report.specs.Answers.{start_answer, order_answer}
 use Rattle.run_report.specs.Events.{work_told, running_by, once_told, told, work_lines, event_lines}
 use Rattle.run_report.specs.Report.{report_lines}
-use Rattle.run_report.specs.Shown.{shown_from, shown_of, history_lines, ShowsHistory, DeckRunsPlainly}
+use Rattle.run_report.specs.Shown.{shown_from, shown_of, history_lines, ShowsHistory, DeckRunsPlainlyOn}
 use Rattle.run_report.specs.Showing.{lines_by_history, lines_in, ShowsEvent, AreShown}
 use Rattle.run_report.proofs.Showing.{report_shows}
 use Rattle.report_laws.proofs.Histories.{HistoryShows, same_shows, emptied_shows}
@@ -98,7 +98,7 @@ use Rattle.subsystem_defs.specs.declared.end.OrderFault.{OrderFault}
 use Rattle.subsystem_defs.specs.declared.event.Event.{Event}
 use Rattle.subsystem_defs.specs.declared.event.Event.TheVariants as events
 use Rattle.subsystem_defs.specs.Decks as D
-use Rattle.subsystem_defs.specs.Decks.{opened, opened_device, run_of}
+use Rattle.subsystem_defs.specs.Decks.{Firsts, AreWhole, opened_device_on, opened_on, run_on}
 use Rattle.subsystem_defs.specs.Deeds as E
 use Rattle.subsystem_defs.specs.Deeds.{Ends, Becomes, Asks, Repairs, Lends, on_device, order, repair, deed, device_in, ends_done, starts, step, back, ends_by}
 use Rattle.subsystem_defs.specs.Happening as H
@@ -143,7 +143,7 @@ use Rattle.subsystem_defs.specs.Subsystem.{Mounted, Subsystem, number_of, device
 use Rattle.subsystem_laws.specs.Served.{IsServed, IsServedDeck}
 use Rattle.subsystem_laws.proofs.ReadDecks.{read_served}
 use Rattle.subsystem_laws.proofs.FoundDevices.{number_found, same_found}
-use Rattle.subsystem_laws.proofs.PlainRuns.{ArePlain, event_plain, line_plain, opened_plain, run_plainly, lent_is_idle}
+use Rattle.subsystem_laws.proofs.PlainRuns.{ArePlainOn, event_plain_on, line_plain, opened_plain_on, run_plainly_on, lent_is_idle}
 
 -- numbers that differ
 
@@ -162,10 +162,13 @@ never : (b : Bool) (l : ReportLine) → (if b && false then l ∷ [] else []) �
 never true l = refl
 never false l = refl
 
-module _ (n : ℕ) where
+abbrev Anything : MarksDevice → MarksDevice → Type 0
+Anything b a = Unit {0}
+
+module _ (n : ℕ) (firsts : Firsts) where
   -- Each event
 
-  module _ (s : Subsystem) (plain : ArePlain s.mounted) where
+  module _ (s : Subsystem) (plain : ArePlainOn firsts s.mounted) where
     either : (t : EventEnd → report.Happened) (b : Bool) (x y : MarksDeed) → ShowsDeed n s t x → ShowsDeed n s t y → ShowsDeed n s t (if b then x else y)
     either t true x y f g = f
     either t false x y f g = g
@@ -195,12 +198,12 @@ module _ (n : ℕ) where
     steps_on : (idle : report.Happened) → Silent n idle → IsOther n idle → (k : ℕ) (o : Option MarksDevice) → device_in (devices_of s) k ≡ o →
         ShowsDeed n s (λ end. work_told k (running_by o) idle end) (on_device o (step by_plain))
     steps_on idle silent other k None at = silent
-    steps_on idle silent other k (Some x) at = step_shown n s plain k x at idle silent other
+    steps_on idle silent other k (Some x) at = step_shown n firsts s plain k x at idle silent other
 
     backs_on : (idle : report.Happened) → Silent n idle → IsOther n idle → (k : ℕ) (o : Option MarksDevice) → device_in (devices_of s) k ≡ o →
         ShowsDeed n s (λ end. work_told k (running_by o) idle end) (on_device o (back by_plain))
     backs_on idle silent other k None at = silent
-    backs_on idle silent other k (Some x) at = back_shown n s plain k x at idle silent other
+    backs_on idle silent other k (Some x) at = back_shown n firsts s plain k x at idle silent other
 
     lends_on : (a b : ℕ) (x : MarksDevice) (o : Option MarksDevice) → device_in (devices_of s) b ≡ o →
         ShowsDeed n s (λ end. did.Ordered (orders.Pair a b) (order_answer end)) (on_device o (λ y. order (pair_fault x y) (Lends x y)))
@@ -217,24 +220,24 @@ module _ (n : ℕ) where
     unfolding E.deed
     deed_shown (events.Start path d) =
         on_found (λ end. did.Started path d (start_answer end)) d (device_in (devices_of s) d) (starts path) refl
-        (λ own. never (d == n) (lines.Start path d answers.Running)) (λ x at. start_shown n s plain d x at path)
+        (λ own. never (d == n) (lines.Start path d answers.Running)) (λ x at. start_shown n firsts s plain d x at path)
     deed_shown (events.Step d) = steps_on (did.StepIdle d) (λ own. refl) tt d (device_in (devices_of s) d) refl
     deed_shown (events.Back d) = backs_on (did.Back d back_answers.Nothing) (λ own. refl) tt d (device_in (devices_of s) d) refl
     deed_shown (events.Reset path d) =
         on_found (λ end. did.Reset path d) d (device_in (devices_of s) d) (λ x. Asks x (ends_by ends_done (reset by_plain x path))) refl (λ own. refl)
-        (λ x at. quiet_reset n s plain d x at (λ end. did.Reset path d) (λ end own. refl) path)
+        (λ x at. quiet_reset n firsts s plain d x at (λ end. did.Reset path d) (λ end own. refl) path)
     deed_shown events.FailCache =
         either (λ end. did.Ordered orders.FailCache (order_answer end)) (not s.pool.cache_up) _ _ (λ own. refl)
-        (all_lose n s plain (λ end. did.Ordered orders.FailCache (order_answer end)) (order_silent orders.FailCache) (cache_failed s.pool) losses.Cache)
+        (all_lose n firsts s plain (λ end. did.Ordered orders.FailCache (order_answer end)) (order_silent orders.FailCache) (cache_failed s.pool) losses.Cache)
     deed_shown events.FailStore =
         either (λ end. did.Ordered orders.FailStore (order_answer end)) (not s.pool.store_up) _ _ (λ own. refl)
-        (all_lose n s plain (λ end. did.Ordered orders.FailStore (order_answer end)) (order_silent orders.FailStore) (store_failed s.pool) losses.Store)
+        (all_lose n firsts s plain (λ end. did.Ordered orders.FailStore (order_answer end)) (order_silent orders.FailStore) (store_failed s.pool) losses.Store)
     deed_shown (events.FailVolume d side) =
         let t = λ (end : EventEnd). did.Ordered (orders.FailVolume d side) (order_answer end) in
         on_found t d (device_in (devices_of s) d) (λ x. order (fail_fault x side) (Asks x (ends_by ends_done (lose by_plain x (losses.Side side))))) refl
         (λ own. refl)
         (λ x at. ordered t (order_silent (orders.FailVolume d side)) (fail_fault x side) _
-        (λ _. quiet_loss n s plain d x at t (order_silent (orders.FailVolume d side)) (losses.Side side)))
+        (λ _. quiet_loss n firsts s plain d x at t (order_silent (orders.FailVolume d side)) (losses.Side side)))
     deed_shown events.RepairCache = repaired orders.RepairCache s.pool.cache_up s.pool (cache_repaired s.pool)
     deed_shown events.RepairStore = repaired orders.RepairStore s.pool.store_up s.pool (store_repaired s.pool)
     deed_shown (events.Pair a b) =
@@ -245,14 +248,14 @@ module _ (n : ℕ) where
         let t = λ (end : EventEnd). did.Ordered (orders.Suspend a) (order_answer end) in
         on_found t a (device_in (devices_of s) a) (λ x. order (suspend_fault x) (Becomes (hold_side x) ends.Done)) refl (λ own. refl)
         (λ x at. ordered t (order_silent (orders.Suspend a)) (suspend_fault x) (Becomes (hold_side x) ends.Done)
-        (λ _. quiet_becomes n s plain a x at t (order_silent (orders.Suspend a)) (hold_side x) refl refl))
+        (λ _. quiet_becomes n firsts s plain a x at t (order_silent (orders.Suspend a)) (hold_side x) refl refl))
     deed_shown (events.Resume a) =
         let t = λ (end : EventEnd). did.Ordered (orders.Resume a) (order_answer end) in
         on_found t a (device_in (devices_of s) a) (λ x. order (resume_fault x) (Becomes (resume x) ends.Done)) refl (λ own. refl)
         (λ x at. ordered t (order_silent (orders.Resume a)) (resume_fault x) (Becomes (resume x) ends.Done)
-        (λ _. quiet_becomes n s plain a x at t (order_silent (orders.Resume a)) (resume x) refl refl))
+        (λ _. quiet_becomes n firsts s plain a x at t (order_silent (orders.Resume a)) (resume x) refl refl))
     deed_shown events.Power =
-        all_power n s plain (λ end. did.Ordered orders.Power (order_answer end)) (order_silent orders.Power) (power_lost s.pool)
+        all_power n firsts s plain (λ end. did.Ordered orders.Power (order_answer end)) (order_silent orders.Power) (power_lost s.pool)
 
   -- What happened in an event, by the place of the device
 
@@ -276,9 +279,6 @@ module _ (n : ℕ) where
       (sym (ap (λ (t : Subsystem). shown_from n own (event_lines (Once events.Power) h.end h.reads h.writes (devices_of t) (devices_of h.behind))) before
       ∙ power_shows n h.end (devices_of s) (devices_of h.behind) own))
 
-  abbrev pub Anything : MarksDevice → MarksDevice → Type 0
-  Anything b a = Unit {0}
-
   -- what an event shows, and that the device stays in its place
   abbrev Seen : Subsystem → Logged → Type 0
   Seen s t = ShowsEvent n s t × At n Anything (devices s.mounted) (devices t.happened.behind.mounted)
@@ -286,13 +286,13 @@ module _ (n : ℕ) where
   placed : {q : MarksDevice → MarksDevice → Type 0} (bs ks : List MarksDevice) → At n q bs ks → At n Anything bs ks
   placed bs ks at = at_weaker n bs ks at (λ b a x. tt)
 
-  module _ (s : Subsystem) (plain : ArePlain s.mounted) (one : One n (devices s.mounted)) where
+  module _ (s : Subsystem) (plain : ArePlainOn firsts s.mounted) (one : One n (devices s.mounted)) where
     happened_at : (t : EventEnd → report.Happened) (e : Event) → ShowsDeed n s t (deed by_plain s.pool (devices_of s) e) →
         ((happens s e).before ≡ s) × At n (Shows n (t (happens s e).end)) (devices s.mounted) (devices (happens s e).behind.mounted)
     unfolding H.happens
     happened_at t e h = (
       before_same n s (deed by_plain s.pool (devices_of s) e),
-      happens_at n s t one plain (deed by_plain s.pool (devices_of s) e) h,
+      happens_at n s t firsts one plain (deed by_plain s.pool (devices_of s) e) h,
     )
 
     event_seen : (asked : Asked) (e : Event) → ShowsDeed n s (λ end. told (devices_of s) end asked) (deed by_plain s.pool (devices_of s) e) →
@@ -461,7 +461,7 @@ module _ (n : ℕ) where
   along_on s [] us a more = more
   along_on s (t ∷ ts) us a more = (a.0, along_on t.happened.behind ts us a.1 more)
 
-  steps_along : (m d : ℕ) (s : Subsystem) → ArePlain s.mounted → Has s → Along s (steps m d s)
+  steps_along : (m d : ℕ) (s : Subsystem) → ArePlainOn firsts s.mounted → Has s → Along s (steps m d s)
   unfolding L.steps
   steps_along zero d s plain one = tt
   steps_along (suc m) d s plain one =
@@ -469,16 +469,16 @@ module _ (n : ℕ) where
       cond_both (is_busy (mounted_in s.mounted d)) (step_logged s d (steps m d)) [] (Along s)
       (λ _. (
         seen,
-        steps_along m d (happens s (events.Step d)).behind (event_plain s plain (events.Step d) tt) (still s (logged (Run d) (happens s (events.Step d))) seen),
+        steps_along m d (happens s (events.Step d)).behind (event_plain_on firsts s plain (events.Step d) tt) (still s (logged (Run d) (happens s (events.Step d))) seen),
       ))
       (λ _. tt)
 
-  run_along : (d : ℕ) (s : Subsystem) → ArePlain s.mounted → Has s → Along s (run_logged s d)
+  run_along : (d : ℕ) (s : Subsystem) → ArePlainOn firsts s.mounted → Has s → Along s (run_logged s d)
   run_along d s plain one =
       cond_both (is_busy (mounted_in s.mounted d)) (steps most_steps d s) (logged (Run d) (quietly s s ends.Idle) ∷ []) (Along s)
       (λ _. steps_along most_steps d s plain one) (λ _. (idle_seen s plain one d, tt))
 
-  backs_along : (m d : ℕ) (s : Subsystem) → ArePlain s.mounted → Has s → Along s (backs m d s)
+  backs_along : (m d : ℕ) (s : Subsystem) → ArePlainOn firsts s.mounted → Has s → Along s (backs m d s)
   unfolding L.backs
   backs_along zero d s plain one = tt
   backs_along (suc m) d s plain one =
@@ -486,10 +486,10 @@ module _ (n : ℕ) where
       let seen = back_seen s plain one d in (
         seen,
         cond_both (is_settled h.end) [] (backs m d h.behind) (Along h.behind) (λ _. tt)
-            (λ _. backs_along m d h.behind (event_plain s plain (events.Back d) tt) (still s (logged (Settle d) h) seen)),
+            (λ _. backs_along m d h.behind (event_plain_on firsts s plain (events.Back d) tt) (still s (logged (Settle d) h) seen)),
       )
 
-  line_along : (x : Asked) (s : Subsystem) → ArePlain s.mounted → Has s → Along s (line_logged s x)
+  line_along : (x : Asked) (s : Subsystem) → ArePlainOn firsts s.mounted → Has s → Along s (line_logged s x)
   unfolding L.line_logged
   line_along (Once e) s plain one = (once_seen s plain one e, tt)
   line_along (Replace d side) s plain one = (replace_seen s plain one d side, tt)
@@ -497,7 +497,7 @@ module _ (n : ℕ) where
   line_along (Run d) s plain one = run_along d s plain one
   line_along (Settle d) s plain one = backs_along most_backs d s plain one
 
-  lines_along : (events : List EventLine) (s : Subsystem) → All (λ (line : EventLine). IsServed (asked_by line)) events → ArePlain s.mounted → Has s →
+  lines_along : (events : List EventLine) (s : Subsystem) → All (λ (line : EventLine). IsServed (asked_by line)) events → ArePlainOn firsts s.mounted → Has s →
       Along s (run_lines (map asked_by events) s)
   unfolding L.run_lines
   lines_along [] s h plain one = tt
@@ -507,28 +507,29 @@ module _ (n : ℕ) where
       let served = All-head (λ (l : EventLine). IsServed (asked_by l)) line events h in
       along_on s ts (run_lines (map asked_by events) (last_behind s ts)) here_along
       (lines_along events (last_behind s ts) (All-tail (λ (l : EventLine). IsServed (asked_by l)) line events h)
-      (line_plain (asked_by line) s served plain)
+      (line_plain firsts (asked_by line) s served plain)
       (one_behind n (devices s.mounted) (devices (last_behind s ts).mounted) (along_at s ts one here_along)))
 
   -- A deck
 
-  nothing_yet : (deck : DeckLines) (ds : List DeviceLine) → lines_by_history n (device_in (devices (map (opened_device deck) ds)) n) ≡ []
-  nothing_yet deck [] = refl
-  nothing_yet deck (d ∷ ds) =
-      cond_both (d.number == n) (Some (opened_device deck d).device) (device_in (devices (map (opened_device deck) ds)) n)
-      (λ (o : Option MarksDevice). lines_by_history n o ≡ []) (λ _. refl) (λ _. nothing_yet deck ds)
+  module _ (deck : DeckLines) where
+    nothing_yet : (ds : List DeviceLine) → lines_by_history n (device_in (devices (map (opened_device_on firsts deck) ds)) n) ≡ []
+    nothing_yet [] = refl
+    nothing_yet (d ∷ ds) =
+        cond_both (d.number == n) (Some (opened_device_on firsts deck d).device) (device_in (devices (map (opened_device_on firsts deck) ds)) n)
+        (λ (o : Option MarksDevice). lines_by_history n o ≡ []) (λ _. refl) (λ _. nothing_yet ds)
 
-  pub deck_shown : (deck : DeckLines) → IsServedDeck deck → One n (devices (map (opened_device deck) deck.devices)) →
-      (shown_of n (report_lines (run_of deck)) ≡ lines_by_history n (device_in (devices_of (run_of deck).behind) n))
-      × At n Anything (devices (map (opened_device deck) deck.devices)) (devices (run_of deck).behind.mounted)
-  unfolding D.run_asked_on
-  deck_shown deck h one =
-      let s = opened deck in
-      let ts = run_lines (map asked_by deck.events) s in
-      let a = lines_along deck.events s h.events (opened_plain deck deck.devices h.devices) one in (
-        report_shows n s ts (along_shown s ts a) (nothing_yet deck deck.devices),
-        along_at s ts one a,
-      )
+    pub deck_shown : AreWhole firsts → IsServedDeck deck → One n (devices (map (opened_device_on firsts deck) deck.devices)) →
+        (shown_of n (report_lines (run_on firsts deck)) ≡ lines_by_history n (device_in (devices_of (run_on firsts deck).behind) n))
+        × At n Anything (devices (map (opened_device_on firsts deck) deck.devices)) (devices (run_on firsts deck).behind.mounted)
+    unfolding D.run_asked_on
+    deck_shown whole h one =
+        let s = opened_on firsts deck in
+        let ts = run_lines (map asked_by deck.events) s in
+        let a = lines_along deck.events s h.events (opened_plain_on firsts whole deck deck.devices h.devices) one in (
+          report_shows n s ts (along_shown s ts a) (nothing_yet deck.devices),
+          along_at s ts one a,
+        )
 
 -- All devices of a deck, where their numbers differ
 
@@ -541,87 +542,90 @@ not_false : (a : Bool) → not a ≡ true → a ≡ false
 not_false true e = absurd (cc)
 not_false false e = refl
 
-lone_opened : (deck : DeckLines) (n : ℕ) (ds : List DeviceLine) → is_none_of n (numbers_of ds) ≡ true → Lone n (devices (map (opened_device deck) ds))
-lone_opened deck n [] e = lone_none
-lone_opened deck n (d ∷ ds) e =
-    let two = both_true (not (d.number == n)) (is_none_of n (numbers_of ds)) e in
-    lone_more (not_false (d.number == n) two.0) (lone_opened deck n ds two.1)
-
--- one of these has the number, so that another one has not
-one_is_other : (deck : DeckLines) (k n : ℕ) (ds : List DeviceLine) → is_none_of k (numbers_of ds) ≡ true →
-    One n (devices (map (opened_device deck) ds)) → (k == n) ≡ false
-one_is_other deck k n [] e one = elim one [ ]
-one_is_other deck k n (d ∷ ds) e (one_here at more) =
-    let two = both_true (not (d.number == k)) (is_none_of k (numbers_of ds)) e in
-    ne_eqb k n (λ same. eqb-false d.number k (not_false (d.number == k) two.0) (eqb-true d.number n at ∙ sym same))
-one_is_other deck k n (d ∷ ds) e (one_there at more) =
-    one_is_other deck k n ds (both_true (not (d.number == k)) (is_none_of k (numbers_of ds)) e).1 more
-
-abbrev Shown : List ReportLine → DeckLines → List DeviceLine → List MarksDevice → Type 0
-Shown ls deck ds ks =
-    (n : ℕ) → One n (devices (map (opened_device deck) ds)) →
-    (shown_of n ls ≡ lines_by_history n (device_in ks n)) × At n (Anything n) (devices (map (opened_device deck) ds)) ks
-
-all_shown : (ls : List ReportLine) (deck : DeckLines) (ds : List DeviceLine) (ks : List MarksDevice) → length ds ≡ length ks →
-    are_distinct (numbers_of ds) ≡ true → Shown ls deck ds ks → All (ShowsHistory ls) ks
-all_shown ls deck [] [] same e h = All-nil (ShowsHistory ls)
-all_shown ls deck [] (k ∷ ks) same e h = absurd (omega arith)
-all_shown ls deck (d ∷ ds) [] same e h = absurd (omega arith)
-all_shown ls deck (d ∷ ds) (k ∷ ks) same e h =
-    let two = both_true (is_none_of d.number (numbers_of ds)) (are_distinct (numbers_of ds)) e in
-    let first = h d.number (one_here (eq-eqb d.number d.number refl) (lone_opened deck d.number ds two.0)) in
-    All-cons (ShowsHistory ls) k ks (head_shown d.number first.0 first.1 (eq-eqb d.number d.number refl))
-    (all_shown ls deck ds ks (omega (arith, same)) two.1 (λ n one.
-    let other = one_is_other deck d.number n ds two.0 one in
-    let all = h n (one_there other one) in
-    tail_shown n all.0 all.1 other)) where
-      head_shown : (n : ℕ) → shown_of n ls ≡ lines_by_history n (device_in (k ∷ ks) n) →
-          At n (Anything n) (devices (map (opened_device deck) (d ∷ ds))) (k ∷ ks) → (d.number == n) ≡ true → ShowsHistory ls k
-      head_shown n shown (here x y z more) at =
-          subst (λ (i : ℕ). shown_of i ls ≡ history_lines i k.history) (sym (eqb-true k.store.device n y))
-          (shown ∙ ap (λ (b : Bool). lines_by_history n (if b then Some k else device_in ks n)) y)
-      head_shown n shown (there x y more) at = absurd (let both : true ≡ false = sym at ∙ x in cc)
-
-      tail_shown : (n : ℕ) → shown_of n ls ≡ lines_by_history n (device_in (k ∷ ks) n) →
-          At n (Anything n) (devices (map (opened_device deck) (d ∷ ds))) (k ∷ ks) → (d.number == n) ≡ false →
-          (shown_of n ls ≡ lines_by_history n (device_in ks n)) × At n (Anything n) (devices (map (opened_device deck) ds)) ks
-      tail_shown n shown (here x y z more) far = absurd (let both : true ≡ false = sym x ∙ far in cc)
-      tail_shown n shown (there x y more) far =
-          (shown ∙ ap (λ (b : Bool). lines_by_history n (if b then Some k else device_in ks n)) y, more)
-
 apart_length : (n : ℕ) (bs ks : List MarksDevice) → Apart n bs ks → length bs ≡ length ks
 apart_length n [] [] apart_none = refl
 apart_length n (b ∷ bs) (k ∷ ks) (apart_more x y more) = let e = apart_length n bs ks more in omega (arith, e)
 apart_length n [] (k ∷ ks) x = elim x [ ]
 apart_length n (b ∷ bs) [] x = elim x [ ]
 
-at_length : (n : ℕ) (bs ks : List MarksDevice) → At n (Anything n) bs ks → length bs ≡ length ks
+at_length : (n : ℕ) (bs ks : List MarksDevice) → At n Anything bs ks → length bs ≡ length ks
 at_length n (b ∷ bs) (k ∷ ks) (here x y z more) = let e = apart_length n bs ks more in omega (arith, e)
 at_length n (b ∷ bs) (k ∷ ks) (there x y more) = let e = at_length n bs ks more in omega (arith, e)
 at_length n [] ks x = elim x [ ]
 at_length n (b ∷ bs) [] x = elim x [ ]
 
-opened_length : (deck : DeckLines) (ds : List DeviceLine) → length (devices (map (opened_device deck) ds)) ≡ length ds
-opened_length deck [] = refl
-opened_length deck (d ∷ ds) = let e = opened_length deck ds in omega (arith, e)
+module _ (firsts : Firsts) (deck : DeckLines) where
+  abbrev began : List DeviceLine → List MarksDevice
+  began ds = devices (map (opened_device_on firsts deck) ds)
 
-same_length : (ls : List ReportLine) (deck : DeckLines) (ds : List DeviceLine) (ks : List MarksDevice) → 0 < length ds →
-    are_distinct (numbers_of ds) ≡ true → Shown ls deck ds ks → length ds ≡ length ks
-same_length ls deck [] ks some e h = absurd (omega arith)
-same_length ls deck (d ∷ ds) ks some e h =
-    let two = both_true (is_none_of d.number (numbers_of ds)) (are_distinct (numbers_of ds)) e in
-    let first = h d.number (one_here (eq-eqb d.number d.number refl) (lone_opened deck d.number ds two.0)) in
-    sym (opened_length deck (d ∷ ds)) ∙ at_length d.number (devices (map (opened_device deck) (d ∷ ds))) ks first.1
+  lone_opened : (n : ℕ) (ds : List DeviceLine) → is_none_of n (numbers_of ds) ≡ true → Lone n (began ds)
+  lone_opened n [] e = lone_none
+  lone_opened n (d ∷ ds) e =
+      let two = both_true (not (d.number == n)) (is_none_of n (numbers_of ds)) e in
+      lone_more (not_false (d.number == n) two.0) (lone_opened n ds two.1)
 
-pub runs_plainly : (deck : DeckLines) → IsServedDeck deck → 0 < length deck.devices → are_distinct (numbers_of deck.devices) ≡ true → DeckRunsPlainly deck
-runs_plainly deck h some e =
-    let ls = report_lines (run_of deck) in
-    let ks = devices_of (run_of deck).behind in
-    let shown : Shown (report_lines (run_of deck)) deck deck.devices (devices_of (run_of deck).behind) = λ n one. deck_shown n deck h one in
-    record {
-      plain = run_plainly deck h;
-      shown = all_shown ls deck deck.devices ks (same_length ls deck deck.devices ks some e shown) e shown;
-    }
+  -- one of these has the number, so that another one has not
+  one_is_other : (k n : ℕ) (ds : List DeviceLine) → is_none_of k (numbers_of ds) ≡ true → One n (began ds) → (k == n) ≡ false
+  one_is_other k n [] e one = elim one [ ]
+  one_is_other k n (d ∷ ds) e (one_here at more) =
+      let two = both_true (not (d.number == k)) (is_none_of k (numbers_of ds)) e in
+      ne_eqb k n (λ same. eqb-false d.number k (not_false (d.number == k) two.0) (eqb-true d.number n at ∙ sym same))
+  one_is_other k n (d ∷ ds) e (one_there at more) =
+      one_is_other k n ds (both_true (not (d.number == k)) (is_none_of k (numbers_of ds)) e).1 more
+
+  abbrev Shown : List ReportLine → List DeviceLine → List MarksDevice → Type 0
+  Shown ls ds ks =
+      (n : ℕ) → One n (began ds) → (shown_of n ls ≡ lines_by_history n (device_in ks n)) × At n Anything (began ds) ks
+
+  all_shown : (ls : List ReportLine) (ds : List DeviceLine) (ks : List MarksDevice) → length ds ≡ length ks →
+      are_distinct (numbers_of ds) ≡ true → Shown ls ds ks → All (ShowsHistory ls) ks
+  all_shown ls [] [] same e h = All-nil (ShowsHistory ls)
+  all_shown ls [] (k ∷ ks) same e h = absurd (omega arith)
+  all_shown ls (d ∷ ds) [] same e h = absurd (omega arith)
+  all_shown ls (d ∷ ds) (k ∷ ks) same e h =
+      let two = both_true (is_none_of d.number (numbers_of ds)) (are_distinct (numbers_of ds)) e in
+      let first = h d.number (one_here (eq-eqb d.number d.number refl) (lone_opened d.number ds two.0)) in
+      All-cons (ShowsHistory ls) k ks (head_shown d.number first.0 first.1 (eq-eqb d.number d.number refl))
+      (all_shown ls ds ks (omega (arith, same)) two.1 (λ n one.
+      let other = one_is_other d.number n ds two.0 one in
+      let all = h n (one_there other one) in
+      tail_shown n all.0 all.1 other)) where
+        head_shown : (n : ℕ) → shown_of n ls ≡ lines_by_history n (device_in (k ∷ ks) n) → At n Anything (began (d ∷ ds)) (k ∷ ks) →
+            (d.number == n) ≡ true → ShowsHistory ls k
+        head_shown n shown (here x y z more) at =
+            subst (λ (i : ℕ). shown_of i ls ≡ history_lines i k.history) (sym (eqb-true k.store.device n y))
+            (shown ∙ ap (λ (b : Bool). lines_by_history n (if b then Some k else device_in ks n)) y)
+        head_shown n shown (there x y more) at = absurd (let both : true ≡ false = sym at ∙ x in cc)
+
+        tail_shown : (n : ℕ) → shown_of n ls ≡ lines_by_history n (device_in (k ∷ ks) n) → At n Anything (began (d ∷ ds)) (k ∷ ks) →
+            (d.number == n) ≡ false → (shown_of n ls ≡ lines_by_history n (device_in ks n)) × At n Anything (began ds) ks
+        tail_shown n shown (here x y z more) far = absurd (let both : true ≡ false = sym x ∙ far in cc)
+        tail_shown n shown (there x y more) far =
+            (shown ∙ ap (λ (b : Bool). lines_by_history n (if b then Some k else device_in ks n)) y, more)
+
+  opened_length : (ds : List DeviceLine) → length (began ds) ≡ length ds
+  opened_length [] = refl
+  opened_length (d ∷ ds) = let e = opened_length ds in omega (arith, e)
+
+  same_length : (ls : List ReportLine) (ds : List DeviceLine) (ks : List MarksDevice) → 0 < length ds → are_distinct (numbers_of ds) ≡ true →
+      Shown ls ds ks → length ds ≡ length ks
+  same_length ls [] ks some e h = absurd (omega arith)
+  same_length ls (d ∷ ds) ks some e h =
+      let two = both_true (is_none_of d.number (numbers_of ds)) (are_distinct (numbers_of ds)) e in
+      let first = h d.number (one_here (eq-eqb d.number d.number refl) (lone_opened d.number ds two.0)) in
+      sym (opened_length (d ∷ ds)) ∙ at_length d.number (began (d ∷ ds)) ks first.1
+
+  pub runs_plainly : AreWhole firsts → IsServedDeck deck → 0 < length deck.devices → are_distinct (numbers_of deck.devices) ≡ true →
+      DeckRunsPlainlyOn firsts deck
+  runs_plainly whole h some e =
+      let ls = report_lines (run_on firsts deck) in
+      let ks = devices_of (run_on firsts deck).behind in
+      let shown : Shown (report_lines (run_on firsts deck)) deck.devices (devices_of (run_on firsts deck).behind) =
+      λ n one. deck_shown n firsts deck whole h one in
+      record {
+        plain = run_plainly_on firsts whole deck h;
+        shown = all_shown ls deck.devices ks (same_length ls deck.devices ks some e shown) e shown;
+      }
 
 -- In every deck that was read the numbers rise
 
@@ -670,7 +674,8 @@ read_distinct before (d ∷ ds) h =
     (none_behind d.number (before ++ d ∷ []) ds (λ i e. (all_last (λ (line : DeviceLine). nat_lt line.number i) before d e).1) h.1)
     ∙ read_distinct (before ++ d ∷ []) ds h.1
 
-pub read_runs_plainly : (text : List ℕ) (deck : DeckLines) → parsed text ≡ Ok deck → DeckRunsPlainly deck
-read_runs_plainly text deck read =
+pub read_runs_plainly : (firsts : Firsts) → AreWhole firsts → (text : List ℕ) (deck : DeckLines) → parsed text ≡ Ok deck →
+    DeckRunsPlainlyOn firsts deck
+read_runs_plainly firsts whole text deck read =
     let good = parsed_good text deck read in
-    runs_plainly deck (read_served text deck read) good.some (read_distinct [] deck.devices good.devices)
+    runs_plainly firsts deck whole (read_served text deck read) good.some (read_distinct [] deck.devices good.devices)

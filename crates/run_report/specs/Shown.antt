@@ -14,8 +14,8 @@ use Rattle.report_text.specs.Counting.{is_accepted}
 use Rattle.report_text.specs.Events.{ended_lines, program_over_lines}
 use Rattle.run_report.specs.Beside.{program_over_line}
 use Rattle.run_report.specs.Report.{report_lines}
-use Rattle.subsystem_defs.specs.Decks.{DeckRun, run_of}
-use Rattle.subsystem_defs.specs.Promised.{IsPlainBehind}
+use Rattle.subsystem_defs.specs.Decks.{DeckRun, Firsts, empty_firsts, run_on}
+use Rattle.subsystem_defs.specs.Promised.{IsPlainBehindOn}
 use Rattle.subsystem_defs.specs.Subsystem.{devices_of}
 
 -- In a report: the lines of a device's accepted programs, from their START to their OVER
@@ -62,9 +62,17 @@ history_lines d h = flat_map (item_lines d) h.items ++ running_lines d h.running
 abbrev pub ShowsHistory : List ReportLine → MarksDevice → Type 0
 ShowsHistory ls d = shown_of d.store.device ls ≡ history_lines d.store.device d.history
 
-pub record RunsPlainly (r : DeckRun) : Type 0 where
-  pub plain : All IsPlainBehind r.events
+-- on volumes that held these tracks first
+pub record RunsPlainlyOn (firsts : Firsts) (r : DeckRun) : Type 0 where
+  pub plain : All (IsPlainBehindOn firsts) r.events
   pub shown : All (ShowsHistory (report_lines r)) (devices_of r.behind)
 
+abbrev pub DeckRunsPlainlyOn : Firsts → DeckLines → Type 0
+DeckRunsPlainlyOn firsts deck = RunsPlainlyOn firsts (run_on firsts deck)
+
+-- on empty ones
+abbrev pub RunsPlainly : DeckRun → Type 0
+RunsPlainly r = RunsPlainlyOn empty_firsts r
+
 abbrev pub DeckRunsPlainly : DeckLines → Type 0
-DeckRunsPlainly deck = RunsPlainly (run_of deck)
+DeckRunsPlainly deck = DeckRunsPlainlyOn empty_firsts deck

@@ -111,10 +111,10 @@ abbrev pub last_behind : Subsystem → List Logged → Subsystem
 last_behind s [] = s
 last_behind s (t ∷ ts) = last_behind t.happened.behind ts
 
-abbrev pub run_on : List Logged → Subsystem → (Subsystem → List Logged) → List Logged
-run_on ts s rest = ts ++ rest (last_behind s ts)
+abbrev pub followed_by : List Logged → Subsystem → (Subsystem → List Logged) → List Logged
+followed_by ts s rest = ts ++ rest (last_behind s ts)
 
 -- the events of some lines
 unfoldable pub run_lines : List Asked → Subsystem → List Logged
 run_lines [] s = []
-run_lines (x ∷ xs) s = run_on (line_logged s x) s (run_lines xs)
+run_lines (x ∷ xs) s = followed_by (line_logged s x) s (run_lines xs)

@@ -6,26 +6,26 @@ use Rattle.deck_run.proofs.Going.{line_open_at, line_done, lines_over}
 use Rattle.deck_run.proofs.run.do_lines.Goals as goal
 
 pub loop-line-init : goal.loop-line-init
-loop-line-init c = record {
+loop-line-init g c = record {
   numbers = refl;
   own = c.requires.own;
   left = λ run all. record { now = run; stands = all; rest = refl; lines = refl };
 }
 
 pub do_line-requires-clause-here : goal.do_line-requires-clause-here
-do_line-requires-clause-here c =
+do_line-requires-clause-here g c =
     rw c.loop-line.invariant.numbers
     (line_open_at (numbers_of c.args.sub.now.devices.items) c.args.lines.now c.loop-line.line-index c.line-item.result c.loop-line-test.true c.line-item.is
     c.requires.here)
 
 pub do_line-requires-clause-own : goal.do_line-requires-clause-own
-do_line-requires-clause-own c = c.loop-line.invariant.own
+do_line-requires-clause-own g c = c.loop-line.invariant.own
 
 pub returns-in-Err-clause-numbers : goal.returns-in-Err-clause-numbers
-returns-in-Err-clause-numbers c = c.in-Err.ensures.numbers ∙ c.loop-line.invariant.numbers
+returns-in-Err-clause-numbers g c = c.in-Err.ensures.numbers ∙ c.loop-line.invariant.numbers
 
 pub loop-line-preserved : goal.loop-line-preserved
-loop-line-preserved c = record {
+loop-line-preserved g c = record {
   numbers = c.in-Ok.ensures.numbers ∙ c.loop-line.invariant.numbers;
   own = c.in-Ok.ensures.own;
   left = λ run all.
@@ -35,17 +35,17 @@ loop-line-preserved c = record {
 }
 
 pub returns-clause-numbers : goal.returns-clause-numbers
-returns-clause-numbers c = c.loop-line.invariant.numbers
+returns-clause-numbers g c = c.loop-line.invariant.numbers
 
 pub returns-clause-own : goal.returns-clause-own
-returns-clause-own c = c.loop-line.invariant.own
+returns-clause-own g c = c.loop-line.invariant.own
 
 pub returns-clause-stands : goal.returns-clause-stands
-returns-clause-stands c = λ run all.
+returns-clause-stands g c = λ run all.
     (lines_over c.loop-line.sub c.loop-line.report c.args.lines.now c.loop-line.line-index (last_behind run (run_lines (map asked_by c.args.lines.now) run))
     (c.args.report.now ++ all_lines (run_lines (map asked_by c.args.lines.now) run)) c.loop-line-test.false (c.loop-line.invariant.left run all)).stands
 
 pub returns-clause-lines : goal.returns-clause-lines
-returns-clause-lines c = λ run all.
+returns-clause-lines g c = λ run all.
     (lines_over c.loop-line.sub c.loop-line.report c.args.lines.now c.loop-line.line-index (last_behind run (run_lines (map asked_by c.args.lines.now) run))
     (c.args.report.now ++ all_lines (run_lines (map asked_by c.args.lines.now) run)) c.loop-line-test.false (c.loop-line.invariant.left run all)).lines

@@ -9,7 +9,7 @@ use Rattle.deck_run.specs.Standing.{StandsAs}
 use Rattle.deck_run.proofs.run.do_lines.Given as goal
 
 abbrev pub invariant-loop-line : goal.invariant-loop-line
-invariant-loop-line l = record {
+invariant-loop-line g l = record {
   numbers : numbers_of l.sub.devices.items ≡ numbers_of l.fn.sub.devices.items;
   own : AreOwn l.sub.devices.items;
   left : (run : runs.Subsystem) → StandsAs l.fn.sub run →
