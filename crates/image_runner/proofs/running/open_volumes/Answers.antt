@@ -32,10 +32,10 @@ loop-i-preserved g c =
     let added = c.in-Ok.ensures.added in
     record {
       same = c.in-Ok.ensures.same ∙ c.loop-i.invariant.same;
-      tracks = one_made HasTracks g.V.Volume.view ds i d olds news added.0 inside c.device_at-line.ensures added.1.0 c.loop-i.invariant.tracks added.1.1.0;
+      tracks = one_made HasTracks g.V.Volume.view ds i d olds news added.0 inside c.device_at-line.ensures added.1 c.loop-i.invariant.tracks added.2;
       hold = λ h is.
-          one_made (HoldsFirst (firsts_by h names) c.args.deck.now) g.V.Volume.view ds i d olds news added.0 inside c.device_at-line.ensures added.1.0
+          one_made (HoldsFirst (firsts_by h names) c.args.deck.now) g.V.Volume.view ds i d olds news added.0 inside c.device_at-line.ensures added.1
           (c.loop-i.invariant.hold h is)
-          (holds_first (g.R.Rack.holds c.loop-i.rack) h names c.args.deck.now d (g.V.Volume.view added.0) (c.loop-i.invariant.same ∙ is) added.1.1.1);
+          (holds_first (g.R.Rack.holds c.loop-i.rack) h names c.args.deck.now d (g.V.Volume.view added.0) (c.loop-i.invariant.same ∙ is) added.3);
       count = c.loop-i.invariant.count;
     }
