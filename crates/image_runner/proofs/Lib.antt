@@ -1,0 +1,6 @@
+mod Planned
+mod Written
+mod Told
+mod Names
+mod Devices
+mod Begun

@@ -1,0 +1,6 @@
+pub mod Planned
+pub mod Words
+pub mod Racks
+pub mod Mounting
+pub mod Texts
+pub mod Answers
