@@ -26,12 +26,7 @@ fn is_same(a: bool, b: bool) -> bool
 
 /// The numbers of a device's FAULT lines of this kind.
 #[tactic(auto, using(crate::proofs::Lines::failing_more, crate::proofs::Lines::failing_none))]
-pub fn failing_of(
-    alloc: Global,
-    deck: &Deck,
-    write: bool,
-    d: DeviceNo,
-) -> Result<Vec<u32>, NoMemory>
+fn failing_of(alloc: Global, deck: &Deck, write: bool, d: DeviceNo) -> Result<Vec<u32>, NoMemory>
     ensures { IfOk result (λ calls. calls.items ≡ failing_of write d deck.now.faults) }
 {
     let mut calls = Vec::new(alloc);
