@@ -4,4 +4,4 @@ mod Told
 mod Names
 mod Devices
 mod Begun
-pub mod Failing
+pub mod FaultLines

@@ -1,5 +1,5 @@
 -- The words of a run, one after another.
-use Rattle.std.proofs.Common.{◌≡◌, ◌∙◌, ◌<◌, ◌≤◌, ◌+◌, ℕ, Bool, true, false, List, [], ◌∷◌, None, Bor, cond, length, drop, get_or, map, refl, ap}
+use Rattle.std.proofs.Common.{◌≡◌, ◌∙◌, ◌<◌, ◌≤◌, ◌+◌, ℕ, Bool, true, false, List, ◌∷◌, None, Bor, cond, length, drop, get_or, map, refl, ap}
 use Rattle.std.proofs.lemmas.List.{at_drop_all, at_drop_more}
 use Rattle.image_runner.specs.Words as words
 use Rattle.image_runner.specs.Words.{device_in, is_for, path_for, path_in}

@@ -1,7 +1,7 @@
 -- What calls of a volume in front of another one do, which count apart.
-use Rattle.std.proofs.Common.{◌≡◌, ℕ, Bool, true, false, List, Option, Some, None, refl, ap, sym}
+use Rattle.std.proofs.Common.{ℕ, Bool, true, false, List, Option, Some, None, refl, ap, sym}
 use Rattle.std.proofs.lemmas.List.{set-get_or}
-use Rattle.std.specs.Prelude.{is_some, not, slice_index_or, slice_set}
+use Rattle.std.specs.Prelude.{is_some, not, slice_index_or}
 use Rattle.device_outside.specs.Volume.{Delivers, ReadOf, Spent, Stores, VolumeView, WriteOf, counted, counted_if}
 use Rattle.image_runner.specs.Planned.{planned_view}
 

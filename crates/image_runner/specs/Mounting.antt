@@ -1,8 +1,6 @@
 -- Which images are mounted.
-use Rattle.std.specs.Prelude.{◌≡◌, ⊤}
 use Rattle.disk_image.specs.declared.fault.ImageFault.{ImageFault}
 use Rattle.disk_image.specs.declared.fault.ImageFault.TheVariants as images
-use Rattle.disk_image.specs.declared.layout.Layout.{Layout}
 use Rattle.image_runner.specs.declared.mounting.MountFault.{MountFault}
 use Rattle.image_runner.specs.declared.mounting.MountFault.TheVariants as faults
 

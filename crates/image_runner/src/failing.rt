@@ -14,7 +14,7 @@ fn is_same(a: bool, b: bool) -> bool
 }
 
 /// The numbers of a device's FAULT lines of this kind.
-#[tactic(auto, using(crate::proofs::Failing::failing_more, crate::proofs::Failing::failing_none))]
+#[tactic(auto, using(crate::proofs::FaultLines::failing_more, crate::proofs::FaultLines::failing_none))]
 pub(crate) fn failing_of(
     alloc: Global,
     deck: &Deck,

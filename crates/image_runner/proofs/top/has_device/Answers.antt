@@ -1,4 +1,4 @@
-use Rattle.std.proofs.Common.{◌≡◌, ◌<◌, ◌∙◌, arith, length, sym}
+use Rattle.std.proofs.Common.{◌<◌, ◌∙◌, arith, length, sym}
 use Rattle.image_runner.proofs.Devices.{goes_on, is_there, none_left}
 use Rattle.image_runner.proofs.top.has_device.Goals as goal
 

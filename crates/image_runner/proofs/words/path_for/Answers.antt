@@ -1,4 +1,4 @@
-use Rattle.std.proofs.Common.{◌≡◌, ◌∙◌, ℕ, Option, ap, sym}
+use Rattle.std.proofs.Common.{◌∙◌, ℕ, Option, ap, sym}
 use Rattle.image_runner.specs.Words.{is_for}
 use Rattle.image_runner.proofs.Names.{named_behind, named_here}
 use Rattle.image_runner.proofs.words.path_for.Goals as goal
