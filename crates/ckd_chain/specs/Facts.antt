@@ -49,7 +49,7 @@ AtHand s (Some stage) = IsBegun s stage
 
 pub record IsChain (s : ChainState) : Type 0 where
   pub some : 1 ≤ s.fixed.cylinders
-  pub most : s.fixed.cylinders ≤ 64
+  pub most : s.fixed.cylinders ≤ 4369
   pub words : length s.ccws ≤ 256
   pub stands : Stands (s.fixed.cylinders * 15) s.at.stance
   pub word : IfSome s.at.next (λ i. i < 65536)

@@ -51,12 +51,12 @@ fn cchh_at(bytes: &[u8], i: usize) -> Cchh
     }
 }
 
-fn track_at(cylinders: u8, place: Cchh) -> Option<TrackNo>
-    requires { cylinders ≤ 64 }
+fn track_at(cylinders: u16, place: Cchh) -> Option<TrackNo>
+    requires { cylinders ≤ 4369 }
     ensures track { result ≡ track_at cylinders place }
     ensures on_device { IfSome result (λ t. t < cylinders * 15) }
 {
-    if place.hh < HEADS && place.cc < u16::from(cylinders) {
+    if place.hh < HEADS && place.cc < cylinders {
         TrackNo::new(place.cc * HEADS + place.hh)
     } else {
         None
@@ -65,8 +65,8 @@ fn track_at(cylinders: u8, place: Cchh) -> Option<TrackNo>
 
 /// The track that the parameters of seek and seek cylinder give on a device with so many cylinders:
 /// two bytes of zeros, a cylinder and a head (IBM).
-pub fn decode_seek(bytes: &[u8; 16], cylinders: u8) -> Option<TrackNo>
-    requires { cylinders ≤ 64 }
+pub fn decode_seek(bytes: &[u8; 16], cylinders: u16) -> Option<TrackNo>
+    requires { cylinders ≤ 4369 }
     ensures track { result ≡ seek_to cylinders bytes.now }
     ensures on_device { IfSome result (λ t. t < cylinders * 15) }
 {
@@ -114,8 +114,8 @@ fn extent_number(bytes: &[u8]) -> Option<u16>
 
 /// The extent that the parameters of define extent give on a device with so many cylinders, with any
 /// number. The block size is ignored.
-pub fn decode_extent(bytes: &[u8], cylinders: u8) -> Result<Extent, ParamFault>
-    requires { cylinders ≤ 64 }
+pub fn decode_extent(bytes: &[u8], cylinders: u16) -> Result<Extent, ParamFault>
+    requires { cylinders ≤ 4369 }
     ensures value { result ≡ extent_of cylinders bytes.now }
     ensures wellformed { IfOk result (λ e. IsExtent cylinders e) }
 {
@@ -144,8 +144,8 @@ pub fn decode_extent(bytes: &[u8], cylinders: u8) -> Result<Extent, ParamFault>
 
 /// The domain that the parameters of locate record give on a device with so many cylinders. The
 /// sector, the transfer length factor and the one bit of the auxiliary byte are ignored.
-pub fn decode_domain(bytes: &[u8], cylinders: u8) -> Result<Domain, ParamFault>
-    requires { cylinders ≤ 64 }
+pub fn decode_domain(bytes: &[u8], cylinders: u16) -> Result<Domain, ParamFault>
+    requires { cylinders ≤ 4369 }
     ensures value { result ≡ domain_of cylinders bytes.now }
     ensures wellformed { IfOk result (λ d. IsDomain cylinders d) }
 {

@@ -131,7 +131,7 @@ fn read_ended(
     requires place { i < length image.now.track.records }
     requires passed { passes ≤ 1 }
     requires room { HasRoom stance.old }
-    requires stands { Stands 960 stance.old }
+    requires stands { Stands 65535 stance.old }
     ensures stance { OnOk result (stance.new ≡ (read_ended image.now.track area stance.old ccw.now i passes).stance) }
     ensures ending { IfOk result (λ ending. ending ≡ (read_ended image.now.track area stance.old ccw.now i passes).ending) }
     ensures stays { OnOk result (Stays stance.old stance.new) }
@@ -156,7 +156,7 @@ fn read_sought(
     requires after { IsOnward sought (λ t. track_after stance.old.extent stance.old.track ≡ Ok t) }
     requires passed { PassedOnce sought }
     requires room { HasRoom stance.old }
-    requires stands { Stands 960 stance.old }
+    requires stands { Stands 65535 stance.old }
     ensures turned { IfOk result (λ turned. turned ≡ (read_sought image.now.track area stance.old ccw.now sought).turned) }
     ensures stance { OnOk result (stance.new ≡ (read_sought image.now.track area stance.old ccw.now sought).stance) }
     ensures looks { IfOk result (LooksOn stance.old stance.new) }
@@ -189,7 +189,7 @@ pub fn read(
     read: Read,
 ) -> Result<Turned, NoMemory>
     requires room { HasRoom stance.old }
-    requires stands { Stands 960 stance.old }
+    requires stands { Stands 65535 stance.old }
     ensures turned { IfOk result (λ turned. turned ≡ (read_on image.now.track stance.old ccw.now read).turned) }
     ensures stance { OnOk result (stance.new ≡ (read_on image.now.track stance.old ccw.now read).stance) }
     ensures looks { IfOk result (LooksOn stance.old stance.new) }

@@ -58,7 +58,7 @@ fn search_found(
     bytes: &[u8],
 ) -> Ending
     requires room { HasRoom stance.old }
-    requires stands { Stands 960 stance.old }
+    requires stands { Stands 65535 stance.old }
     requires passed { passes ≤ 1 }
     ensures stance { stance.new ≡ (search_found area stance.old ccw.now i passes bytes.now).stance }
     ensures ending { result ≡ (search_found area stance.old ccw.now i passes bytes.now).ending }
@@ -82,7 +82,7 @@ fn search_here(
 ) -> Ending
     requires there { i < length image.now.track.records }
     requires room { HasRoom stance.old }
-    requires stands { Stands 960 stance.old }
+    requires stands { Stands 65535 stance.old }
     requires passed { passes ≤ 1 }
     ensures stance { stance.new ≡ (search_found area stance.old ccw.now i passes (search_area image.now.track area i)).stance }
     ensures ending { result ≡ (search_found area stance.old ccw.now i passes (search_area image.now.track area i)).ending }
@@ -109,7 +109,7 @@ fn search_sought(
     requires after { IsOnward sought (λ t. track_after stance.old.extent stance.old.track ≡ Ok t) }
     requires passed { PassedOnce sought }
     requires room { HasRoom stance.old }
-    requires stands { Stands 960 stance.old }
+    requires stands { Stands 65535 stance.old }
     ensures turned { result ≡ (search_sought image.now.track area stance.old ccw.now sought).turned }
     ensures stance { stance.new ≡ (search_sought image.now.track area stance.old ccw.now sought).stance }
     ensures looks { LooksOn stance.old stance.new result }
@@ -136,7 +136,7 @@ fn search_sought(
 /// tracks of an extent end.
 pub fn search(image: &TrackImage, stance: &mut Stance, ccw: &Ccw, search: Search) -> Turned
     requires room { HasRoom stance.old }
-    requires stands { Stands 960 stance.old }
+    requires stands { Stands 65535 stance.old }
     ensures turned { result ≡ (search_on image.now.track stance.old ccw.now search).turned }
     ensures stance { stance.new ≡ (search_on image.now.track stance.old ccw.now search).stance }
     ensures looks { LooksOn stance.old stance.new result }

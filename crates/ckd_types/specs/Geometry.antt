@@ -8,10 +8,6 @@ use Rattle.ckd_types.specs.declared.geometry.Geometry.TheVariants.{D3390, D3380}
 abbrev pub cchh_of : ℕ → Cchh
 cchh_of t = record { cc = t / 15; hh = t % 15 }
 
--- no device has more than 64 cylinders
-abbrev pub track_of : Cchh → Option ℕ
-track_of p = if nat_lt p.hh 15 && nat_lt p.cc 64 then Some (p.cc * 15 + p.hh) else None
-
 -- the track at a cylinder and head of a device with this many cylinders
 abbrev pub track_at : ℕ → Cchh → Option ℕ
 track_at cylinders p = if nat_lt p.hh 15 && nat_lt p.cc cylinders then Some (p.cc * 15 + p.hh) else None

@@ -1,13 +1,10 @@
 ghost use Rattle.std.specs.Prelude.{◌≡◌, ◌<◌, ◌+◌, ◌^◌};
-ghost use Rattle.ckd_types.specs.Geometry.{ceiling, data_units, key_units, cost, capacity, track_of, cchh_of};
+ghost use Rattle.ckd_types.specs.Geometry.{ceiling, data_units, key_units, cost, capacity, cchh_of};
 
 use crate::TrackNo;
 
 /// Heads, and so tracks, of a cylinder.
 pub const HEADS: u16 = 15;
-
-/// The most cylinders that a device has.
-pub const MOST_CYLINDERS: u16 = 64;
 
 /// What kind of device a volume is: how many bytes its tracks hold (IBM's). Both have 15 heads.
 #[derive(Clone, Copy, Debug, PartialEq, Eq)]
@@ -73,17 +70,6 @@ pub fn capacity(geometry: Geometry) -> u32
     match geometry {
         Geometry::D3390 => 1729,
         Geometry::D3380 => 1499,
-    }
-}
-
-/// The track at a cylinder and head: none from head 15 or cylinder 64 on.
-pub fn track_of(place: Cchh) -> Option<TrackNo>
-    ensures { result ≡ track_of place }
-{
-    if place.hh < HEADS && place.cc < MOST_CYLINDERS {
-        TrackNo::new(place.cc * HEADS + place.hh)
-    } else {
-        None
     }
 }
 

@@ -22,7 +22,7 @@ pub use command::{
     command_of, is_search, required_count,
 };
 pub use fixed::FixedData;
-pub use geometry::{Cchh, Geometry, HEADS, MOST_CYLINDERS, capacity, cchh_of, cost, track_of};
+pub use geometry::{Cchh, Geometry, HEADS, capacity, cchh_of, cost};
 pub use growing::Growing;
 pub use memory::NoMemory;
 pub use number::{DeviceNo, PathNo, TrackNo};

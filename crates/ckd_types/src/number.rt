@@ -84,7 +84,7 @@ impl PathNo {
     }
 }
 
-/// A track of a device, 0 to 959: its cylinder times 15, and its head.
+/// A track of a device, 0 to 65534: its cylinder times 15, and its head.
 #[derive(Clone, Copy, Debug, PartialEq, Eq)]
 pub struct TrackNo(u16);
 
@@ -95,24 +95,24 @@ impl Model for TrackNo {
 
     ghost view = { λ t. t.0 };
 
-    ghost invariant = { λ t. t.0 < 960 };
+    ghost invariant = { λ t. t.0 < 65535 };
 
     ghost inverse = { λ n. record { 0 = n } };
 }
 
 impl TrackNo {
-    /// The track of a number, or none from 960 on. Whether a volume has it, its cylinders say.
+    /// The track of a number, or none from 65535 on. Whether a volume has it, its cylinders say.
     pub fn new(n: u16) -> Option<TrackNo>
-        ensures made { IsSome result ↔ (n < 960) }
+        ensures made { IsSome result ↔ (n < 65535) }
         ensures value { IfSome result (λ t. t ≡ n) }
     {
-        if n < 960 { Some(TrackNo(n)) } else { None }
+        if n < 65535 { Some(TrackNo(n)) } else { None }
     }
 
     /// Its number.
     pub fn get(&self) -> u16
         ensures value { result ≡ self.now }
-        ensures range { result < 960 }
+        ensures range { result < 65535 }
     {
         self.0
     }

@@ -24,7 +24,7 @@ pub fn write(
     write: Write,
 ) -> Result<Turned, NoMemory>
     requires room { HasRoom stance.old }
-    requires stands { Stands 960 stance.old }
+    requires stands { Stands 65535 stance.old }
     ensures turned { IfOk result (λ turned. turned ≡ (write_on image.now.geometry image.now.track stance.old ccw.now write).turned) }
     ensures stance { OnOk result (stance.new ≡ (write_on image.now.geometry image.now.track stance.old ccw.now write).stance) }
     ensures turns { IfOk result (Turns image.now.geometry image.now.track.records stance.old stance.new) }

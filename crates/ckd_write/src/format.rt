@@ -20,7 +20,7 @@ const ZERO_AREA: usize = 16;
 /// The end of a format of which record `i` is the new one.
 fn format_ended(after: After, stance: &mut Stance, ccw: &Ccw, i: usize, area: usize) -> Ending
     requires room { HasRoom stance.old }
-    requires stands { Stands 960 stance.old }
+    requires stands { Stands 65535 stance.old }
     ensures stance { stance.new ≡ (format_ended after stance.old ccw.now i area).stance }
     ensures ending { result ≡ (format_ended after stance.old ccw.now i area).ending }
     ensures stays { Stays stance.old stance.new }
@@ -43,7 +43,7 @@ pub fn format_behind(
 ) -> Result<Turned, NoMemory>
     requires place { i < length image.now.track.records }
     requires room { HasRoom stance.old }
-    requires stands { Stands 960 stance.old }
+    requires stands { Stands 65535 stance.old }
     ensures turned { IfOk result (λ turned. turned ≡ (format_behind image.now.geometry image.now.track.records after stance.old ccw.now i).turned) }
     ensures stance { OnOk result (stance.new ≡ (format_behind image.now.geometry image.now.track.records after stance.old ccw.now i).stance) }
     ensures turns { IfOk result (Turns image.now.geometry image.now.track.records stance.old stance.new) }
@@ -71,7 +71,7 @@ pub fn format_on(
     ccw: &Ccw,
 ) -> Result<Turned, NoMemory>
     requires room { HasRoom stance.old }
-    requires stands { Stands 960 stance.old }
+    requires stands { Stands 65535 stance.old }
     ensures turned { IfOk result (λ turned. turned ≡ (format_on image.now.geometry image.now.track stance.old ccw.now).turned) }
     ensures stance { OnOk result (stance.new ≡ (format_on image.now.geometry image.now.track stance.old ccw.now).stance) }
     ensures turns { IfOk result (Turns image.now.geometry image.now.track.records stance.old stance.new) }
@@ -100,7 +100,7 @@ pub fn zero_on(
     ccw: &Ccw,
 ) -> Result<Turned, NoMemory>
     requires room { HasRoom stance.old }
-    requires stands { Stands 960 stance.old }
+    requires stands { Stands 65535 stance.old }
     ensures turned { IfOk result (λ turned. turned ≡ (zero_on stance.old ccw.now).turned) }
     ensures stance { OnOk result (stance.new ≡ (zero_on stance.old ccw.now).stance) }
     ensures turns { IfOk result (Turns image.now.geometry image.now.track.records stance.old stance.new) }

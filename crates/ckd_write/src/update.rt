@@ -34,7 +34,7 @@ fn update_ended(
     area: usize,
 ) -> Ending
     requires room { HasRoom stance.old }
-    requires stands { Stands 960 stance.old }
+    requires stands { Stands 65535 stance.old }
     ensures stance { stance.new ≡ (update_ended in_domain stance.old ccw.now i body.now area).stance }
     ensures ending { result ≡ (update_ended in_domain stance.old ccw.now i body.now area).ending }
     ensures stays { Stays stance.old stance.new }
@@ -57,7 +57,7 @@ fn update_data(
 ) -> Result<Turned, NoMemory>
     requires place { i < length image.now.track.records }
     requires room { HasRoom stance.old }
-    requires stands { Stands 960 stance.old }
+    requires stands { Stands 65535 stance.old }
     ensures turned { IfOk result (λ turned. turned ≡ (update_data in_domain stance.old ccw.now i (record_at image.now.track.records i)).turned) }
     ensures stance { OnOk result (stance.new ≡ (update_data in_domain stance.old ccw.now i (record_at image.now.track.records i)).stance) }
     ensures turns { IfOk result (Turns image.now.geometry image.now.track.records stance.old stance.new) }
@@ -88,7 +88,7 @@ fn update_key_data(
 ) -> Result<Turned, NoMemory>
     requires place { i < length image.now.track.records }
     requires room { HasRoom stance.old }
-    requires stands { Stands 960 stance.old }
+    requires stands { Stands 65535 stance.old }
     ensures turned { IfOk result (λ turned. turned ≡ (update_key_data in_domain stance.old ccw.now i (record_at image.now.track.records i)).turned) }
     ensures stance { OnOk result (stance.new ≡ (update_key_data in_domain stance.old ccw.now i (record_at image.now.track.records i)).stance) }
     ensures turns { IfOk result (Turns image.now.geometry image.now.track.records stance.old stance.new) }
@@ -117,7 +117,7 @@ fn update_record(
 ) -> Result<Turned, NoMemory>
     requires place { i < length image.now.track.records }
     requires room { HasRoom stance.old }
-    requires stands { Stands 960 stance.old }
+    requires stands { Stands 65535 stance.old }
     ensures turned { IfOk result (λ turned. turned ≡ (update_record with_key in_domain stance.old ccw.now i (record_at image.now.track.records i)).turned) }
     ensures stance { OnOk result (stance.new ≡ (update_record with_key in_domain stance.old ccw.now i (record_at image.now.track.records i)).stance) }
     ensures turns { IfOk result (Turns image.now.geometry image.now.track.records stance.old stance.new) }
@@ -142,7 +142,7 @@ fn update_sought(
     requires there { IsHere sought (λ i. i < length image.now.track.records) }
     requires after { IsOnward sought (λ t. track_after stance.old.extent stance.old.track ≡ Ok t) }
     requires room { HasRoom stance.old }
-    requires stands { Stands 960 stance.old }
+    requires stands { Stands 65535 stance.old }
     ensures turned { IfOk result (λ turned. turned ≡ (update_sought with_key in_domain image.now.track.records stance.old ccw.now sought).turned) }
     ensures stance { OnOk result (stance.new ≡ (update_sought with_key in_domain image.now.track.records stance.old ccw.now sought).stance) }
     ensures turns { IfOk result (Turns image.now.geometry image.now.track.records stance.old stance.new) }
@@ -171,7 +171,7 @@ pub fn update_on(
     ccw: &Ccw,
 ) -> Result<Turned, NoMemory>
     requires room { HasRoom stance.old }
-    requires stands { Stands 960 stance.old }
+    requires stands { Stands 65535 stance.old }
     ensures turned { IfOk result (λ turned. turned ≡ (update_on with_key in_domain image.now.track stance.old ccw.now).turned) }
     ensures stance { OnOk result (stance.new ≡ (update_on with_key in_domain image.now.track stance.old ccw.now).stance) }
     ensures turns { IfOk result (Turns image.now.geometry image.now.track.records stance.old stance.new) }

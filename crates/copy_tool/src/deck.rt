@@ -76,7 +76,7 @@ fn copy_begun(
     alloc: Global,
     session: Session<MemVolume>,
     geometry: Geometry,
-    cylinders: u8,
+    cylinders: u16,
     lines: &[EventLine],
 ) -> Result<FileVolume, Stopped<Unmade>>
     requires least { 1 ≤ cylinders }

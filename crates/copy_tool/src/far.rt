@@ -40,14 +40,14 @@ fn is_lent(deck: &Deck, d: DeviceNo) -> bool
 }
 
 /// What a link has, as the volume of a file.
-fn link_volume(alloc: Global, link: &MemLink, cylinders: u8) -> Result<FileVolume, NoMemory>
+fn link_volume(alloc: Global, link: &MemLink, cylinders: u16) -> Result<FileVolume, NoMemory>
     requires least { 1 ≤ cylinders }
     requires most { cylinders ≤ 64 }
     requires tracks { length link.now.tracks ≡ cylinders * 15 }
     ensures volume { IfOk result (λ v. v ≡ volume_with link.now.geometry cylinders (images_of link.now.geometry link.now.tracks)) }
     ensures whole { IfOk result (λ v. IsWhole v) }
 {
-    let count = u16::from(cylinders) * HEADS;
+    let count = cylinders * HEADS;
     let mut images = Vec::with_capacity(alloc, usize::from(count))?;
     for n in 0..count {
         let t = TrackNo::new(n).unwrap();

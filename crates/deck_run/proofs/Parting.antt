@@ -415,14 +415,14 @@ module _ {V : Type 0} {G : Ghosts V} where
 
       gets : SideIs (G.view volume) (empty_contents (x.store.cylinders * 15)) unfailing → (z : Stood) →
           lent_in (laws.put_at (all_stood old.devices.items) n parted) n ≡ Some z →
-          (z.device.store.cylinders ≤ 64) × SideIs (G.view volume) (empty_contents (z.device.store.cylinders * 15)) unfailing
+          (z.device.store.cylinders ≤ 4369) × SideIs (G.view volume) (empty_contents (z.device.store.cylinders * 15)) unfailing
       gets told z found =
           let one = lent_one (put_at old.devices.items n y) n z (ap (λ (l : List Stood). lent_in l n) (sym put_is) ∙ found) in
           let size : x.store.cylinders ≡ one.device.store.cylinders =
           old.alike one.place n x.store.cylinders (seat_of one.device)
           (ap (λ (l : List Seat). slice_get l one.place) (sym (put_seats old.devices.items n x y seat_same at)) ∙ one.there) one.lent
           (size_at old.devices.items n x at) in
-          subst (λ (w : Stood). (w.device.store.cylinders ≤ 64) × SideIs (G.view volume) (empty_contents (w.device.store.cylinders * 15)) unfailing) one.is
+          subst (λ (w : Stood). (w.device.store.cylinders ≤ 4369) × SideIs (G.view volume) (empty_contents (w.device.store.cylinders * 15)) unfailing) one.is
           (one.device.store.most, subst (λ (k : ℕ). SideIs (G.view volume) (empty_contents (k * 15)) unfailing) size told)
 
     own_by : (f : Option OrderFault) → unpair_fault (device_of x) ≡ f → UnpairedBy n volume f old a new → AreOwn new.devices.items

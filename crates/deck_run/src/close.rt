@@ -35,7 +35,7 @@ fn add_lost<V: Volume>(
 fn lost_in<V: Volume>(alloc: Global, device: &Device<V>) -> Result<Vec<TrackNo>, NoMemory>
     ensures { IfOk result (λ lost. lost.items ≡ lost_in device.now) }
 {
-    let tracks = u16::from(device.cylinders()) * 15;
+    let tracks = device.cylinders() * 15;
     let mut lost = Vec::new(alloc);
     for t in 0..tracks {
         add_lost(&mut lost, device, TrackNo::new(t).unwrap())?;

@@ -10,14 +10,14 @@ use std::alloc::Global;
 /// Volumes of which an empty one can be made, as REPLACE and UNPAIR ask.
 pub trait EmptyVolume: Volume + Sized {
     /// A volume of empty tracks. None of its calls fails.
-    fn empty(alloc: Global, cylinders: u8) -> Result<Self, NoMemory>
-        requires { cylinders ≤ 64 }
+    fn empty(alloc: Global, cylinders: u16) -> Result<Self, NoMemory>
+        requires { cylinders ≤ 4369 }
         ensures told { IfOk result (λ v. SideIs (Self.view v) (empty_contents (cylinders * 15)) unfailing) }
         ensures tracks { IfOk result (λ v. (Self.view v).tracks ≡ cylinders * 15) };
 }
 
 impl EmptyVolume for MemVolume {
-    fn empty(alloc: Global, cylinders: u8) -> Result<MemVolume, NoMemory> {
+    fn empty(alloc: Global, cylinders: u16) -> Result<MemVolume, NoMemory> {
         MemVolume::new(alloc, cylinders, &[], &[])
     }
 }

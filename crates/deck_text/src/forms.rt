@@ -80,7 +80,7 @@ pub fn device_line(devices: &[DeviceLine], rest: &[u8]) -> Result<DeviceLine, De
     Ok(DeviceLine {
         number,
         geometry,
-        cylinders: cylinders as u8,
+        cylinders: cylinders as u16,
     })
 }
 

@@ -72,7 +72,7 @@ impl<T: Drop> From<AllocFailed<T>> for DeckFault {
 pub struct DeviceLine {
     pub number: DeviceNo,
     pub geometry: Geometry,
-    pub cylinders: u8,
+    pub cylinders: u16,
 }
 
 /// A FAULT line: the call of this number, counted from 1, fails among the reads, or among the writes,

@@ -154,7 +154,7 @@ module _ (first : List Track) {K : Type 0} (d : WholeDevice) {e : WholeDevice} {
         (λ t v w is. ap (λ (m : MarksDevice). m.plans) is ∙ (power_shape (marks s) t).1) r
 
 -- an empty one comes
-restores : {first : List Track} {K : Type 0} {d : WholeDevice} {u : Outside (List ℕ) K} (v : VolumeView (List ℕ)) → d.store.cylinders ≤ 64 →
+restores : {first : List Track} {K : Type 0} {d : WholeDevice} {u : Outside (List ℕ) K} (v : VolumeView (List ℕ)) → d.store.cylinders ≤ 4369 →
     v.contents ≡ Some (empty_contents (d.store.cylinders * 15)) → IsLentBeside first d u → IsBesideOn (λ (_ : ℕ). first) (restore d) (with_view u sides.A v)
 restores {first = first} {d = d} v most tells s = record {
   plain = empty_volume d.store.cylinders;

@@ -438,7 +438,7 @@ opened_promised {G = G} d number g n plans v is a b some gives first holds =
     }
 
 -- so does one that tells that its tracks are empty
-pub empty_holds : (g : Geometry) (n : ℕ) (v : VolumeView (List ℕ)) → n ≤ 64 → v.contents ≡ Some (empty_contents (n * 15)) →
+pub empty_holds : (g : Geometry) (n : ℕ) (v : VolumeView (List ℕ)) → n ≤ 4369 → v.contents ≡ Some (empty_contents (n * 15)) →
     HoldsTracks g n (empty_volume n) v
 empty_holds g n v most tells = record { is = volume_empty g n most; tells = tells ∙ ap (λ (l : List (List ℕ)). Some l) (empty_is_contents n) }
 

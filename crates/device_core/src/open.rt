@@ -43,12 +43,12 @@ impl<V: Volume> Device<V> {
         alloc: Global,
         number: DeviceNo,
         geometry: Geometry,
-        cylinders: u8,
+        cylinders: u16,
         volume: V,
         plans: PathPlans,
     ) -> Result<Device<V>, (NoMemory, V, PathPlans)>
         requires some { 1 ≤ cylinders }
-        requires most { cylinders ≤ 64 }
+        requires most { cylinders ≤ 4369 }
         requires volume { (V.view volume).tracks ≡ cylinders * 15 }
         ensures device { IfOk result (λ d. device_of d ≡ opened_device number geometry cylinders plans) }
         ensures volume { IfOk result (λ d. (on_a d.store ≡ Some volume) × (on_b d.store ≡ None)) }

@@ -214,7 +214,7 @@ impl<V: Volume> Device<V> {
         self.store.is_up(side)
     }
 
-    /// How many tracks are stale on a side, at most 960.
+    /// How many tracks are stale on a side, at most 65535.
     pub fn stale(&self, side: Side) -> u16
         ensures { result ≡ count_below (tracks_of (device_of self.now).store) (stale_at (side_of (device_of self.now).store side)) }
     {

@@ -75,7 +75,7 @@ impl<V: Volume> Device<V> {
         self.store.geometry
     }
 
-    pub fn cylinders(&self) -> u8
+    pub fn cylinders(&self) -> u16
         ensures { result ≡ (device_of self.now).store.cylinders }
     {
         self.store.cylinders

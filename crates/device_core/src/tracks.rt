@@ -28,7 +28,7 @@ impl<V: Volume> Device<V> {
 
     /// The first such track.
     pub fn first_loose(&self) -> Option<TrackNo>
-        ensures { result ≡ least 960 (is_loose (device_of self.now).store) }
+        ensures { result ≡ least 65535 (is_loose (device_of self.now).store) }
     {
         self.store.loose.marks().first()
     }
@@ -36,7 +36,7 @@ impl<V: Volume> Device<V> {
     /// How many such tracks there are.
     fn all_loose(&self) -> usize
         ensures value { result ≡ loose_count (device_of self.now).store }
-        ensures most { result ≤ 960 }
+        ensures most { result ≤ 65535 }
     {
         self.store.loose.count()
     }
@@ -78,14 +78,14 @@ impl<V: Volume> Device<V> {
 
     /// How many tracks have frames.
     pub fn framed_count(&self) -> u16
-        ensures { result ≡ count_below 960 (λ t. is_some (frame_at (device_of self.now).store t)) }
+        ensures { result ≡ count_below 65535 (λ t. is_some (frame_at (device_of self.now).store t)) }
     {
         self.store.frames.framed_tracks().count()
     }
 
     /// How many tracks have patches in the nonvolatile store.
     pub fn patched_count(&self) -> u16
-        ensures { result ≡ count_below 960 (λ t. is_some (patch_at (device_of self.now).store t)) }
+        ensures { result ≡ count_below 65535 (λ t. is_some (patch_at (device_of self.now).store t)) }
     {
         self.store.patches.patched_tracks().count()
     }

@@ -188,6 +188,6 @@ module _ (d : ℕ) (g : Geometry) (n : ℕ) (v : List Track) where
 pub new_marks : (d : ℕ) (g : Geometry) (n : ℕ) → marks_of (empty_volume n) (empty_volume n) (new_contents d g n) ≡ new_store d g n
 new_marks d g n = marks_on d g n (empty_volume n)
 
-pub new_in_order : (d : ℕ) (g : Geometry) (n : ℕ) (h : Held) → n ≤ 64 → h.a ≡ empty_contents (n * 15) →
+pub new_in_order : (d : ℕ) (g : Geometry) (n : ℕ) (h : Held) → n ≤ 4369 → h.a ≡ empty_contents (n * 15) →
     IsInOrder (empty_volume n) (empty_volume n) (new_contents d g n) h
 new_in_order d g n h most on = in_order_on d g n (empty_volume n) h (volume_empty g n most) (on ∙ empty_is_contents n)

@@ -287,7 +287,7 @@ module _ (chain : ChainState) (is : IsChain chain) where
       }
 
 -- so it is where it is begun
-pub chain_begins : (ccws : List Ccw) (f : Fixed) → 1 ≤ f.cylinders → f.cylinders ≤ 64 → length ccws ≤ 256 → IsChain (begun_chain ccws f)
+pub chain_begins : (ccws : List Ccw) (f : Fixed) → 1 ≤ f.cylinders → f.cylinders ≤ 4369 → length ccws ≤ 256 → IsChain (begun_chain ccws f)
 chain_begins ccws f some most words = record {
   some = some;
   most = most;

@@ -34,7 +34,7 @@ use Rattle.device_laws.proofs.TwinAsks.{right_keeps}
 use Rattle.device_laws.proofs.TwinLaws.{is_in_order}
 use Rattle.device_laws.proofs.TwinSettled.{AllTold}
 
-module _ (v w : List Track) (d : WholeDevice) (h : Held) (i : IsLentStore v w d.store h) (most : d.store.cylinders ≤ 64) where
+module _ (v w : List Track) (d : WholeDevice) (h : Held) (i : IsLentStore v w d.store h) (most : d.store.cylinders ≤ 4369) where
   abbrev s : DeviceStore
   s = d.store
 

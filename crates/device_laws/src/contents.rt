@@ -45,7 +45,7 @@ ghost use Rattle.device_laws.specs.Twin.{Twins};
 /// A new device on one empty volume, of up to 64 cylinders, is in order with plain volumes of empty tracks; over marks it is the new
 /// device of a run.
 pub fn new_device_is_in_order()
-    ensures order { (d : ℕ) (g : Geometry) (n : ℕ) (h : Held) → n ≤ 64 → h.a ≡ empty_contents (n * 15) →
+    ensures order { (d : ℕ) (g : Geometry) (n : ℕ) (h : Held) → n ≤ 4369 → h.a ≡ empty_contents (n * 15) →
         IsInOrder (empty_volume n) (empty_volume n) (new_contents d g n) h }
     ensures marks { (d : ℕ) (g : Geometry) (n : ℕ) → marks_of (empty_volume n) (empty_volume n) (new_contents d g n) ≡ new_store d g n }
 {}
@@ -160,7 +160,7 @@ pub fn order_is_on_device()
 /// A chain that begins keeps to what chains keep to; one that does is on its device, also where its command hasn't begun; and its
 /// command goes on to tracks of the device alone.
 pub fn chain_is_on_device()
-    ensures begins { (ccws : List Ccw) (f : Fixed) → 1 ≤ f.cylinders → f.cylinders ≤ 64 → length ccws ≤ 256 → IsChain (begun_chain ccws f) }
+    ensures begins { (ccws : List Ccw) (f : Fixed) → 1 ≤ f.cylinders → f.cylinders ≤ 4369 → length ccws ≤ 256 → IsChain (begun_chain ccws f) }
     ensures stands { (chain : ChainState) → IsChain chain → IsWithin (chain.fixed.cylinders * 15) chain }
     ensures stays { (n : ℕ) (chain : ChainState) (i : Image) (q : ℕ) → IsWithin (n * 15) chain →
         (stepped chain (Some i)).progress ≡ Need q → IsWithin (n * 15) (stepped chain (Some i)).chain × (q < n * 15) }

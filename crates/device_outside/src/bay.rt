@@ -95,11 +95,11 @@ impl MemBay {
         &mut self,
         alloc: Global,
         d: DeviceNo,
-        cylinders: u8,
+        cylinders: u16,
         fail_reads: &[u32],
         fail_writes: &[u32],
     ) -> Result<MemVolume, NoMemory>
-        requires { cylinders ≤ 64 }
+        requires { cylinders ≤ 4369 }
         ensures volume { IfOk result (λ v. v ≡ spoil_all self.old.spoiled d (new_disk cylinders fail_reads.now fail_writes.now)) }
         ensures tracks { IfOk result (λ v. length v.tracks ≡ cylinders * 15) }
         ensures made { OnOk result (self.new ≡ record self.old { made = self.old.made + 1 }) }

@@ -79,11 +79,11 @@ impl MemVolume {
     /// here.
     pub fn new(
         alloc: Global,
-        cylinders: u8,
+        cylinders: u16,
         fail_reads: &[u32],
         fail_writes: &[u32],
     ) -> Result<MemVolume, NoMemory>
-        requires { cylinders ≤ 64 }
+        requires { cylinders ≤ 4369 }
         ensures volume { IfOk result (λ made. made ≡ new_disk cylinders fail_reads.now fail_writes.now) }
         ensures tracks { IfOk result (λ made. length made.tracks ≡ cylinders * 15) }
     {

@@ -23,13 +23,13 @@ fn empty_bytes(t: TrackNo) -> [u8; 29]
 }
 
 /// The empty tracks of this many cylinders.
-fn empty_tracks(alloc: Global, cylinders: u8) -> Result<Vec<TrackBuffer>, NoMemory>
-    requires { cylinders ≤ 64 }
+fn empty_tracks(alloc: Global, cylinders: u16) -> Result<Vec<TrackBuffer>, NoMemory>
+    requires { cylinders ≤ 4369 }
     ensures held { IfOk result (λ made. made.items ≡ empty_contents (cylinders * 15)) }
     ensures tracks { IfOk result (λ made. length made.items ≡ cylinders * 15) }
 {
     let mut tracks = Vec::new(alloc);
-    for n in 0..u16::from(cylinders) * HEADS {
+    for n in 0..cylinders * HEADS {
         let mut track = TrackBuffer::new(alloc)?;
         track.set(&empty_bytes(TrackNo::new(n).unwrap()));
         tracks.push(track)?;
@@ -73,8 +73,8 @@ impl Model for Tracks {
 }
 
 impl Tracks {
-    pub(crate) fn new(alloc: Global, cylinders: u8) -> Result<Tracks, NoMemory>
-        requires { cylinders ≤ 64 }
+    pub(crate) fn new(alloc: Global, cylinders: u16) -> Result<Tracks, NoMemory>
+        requires { cylinders ≤ 4369 }
         ensures held { IfOk result (λ made. made ≡ record { tracks = empty_contents (cylinders * 15); delivered = None }) }
         ensures tracks { IfOk result (λ made. length made.tracks ≡ cylinders * 15) }
     {

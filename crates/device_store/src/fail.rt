@@ -67,7 +67,7 @@ impl<V: Volume> DeviceStore<V> {
             (all_firm_told contents (self.old.cylinders * 15) (over (self.old.cylinders * 15) (settled_but contents writing.now) (state_of self.old)))
             (outside p self.old keep.old) (state_of self.new) tt (outside p self.new keep.new) }
     {
-        let tracks = u16::from(self.cylinders) * HEADS;
+        let tracks = self.cylinders * HEADS;
         for t in 0..tracks {
             self.settle_other(writing, track(t), keep);
         }

@@ -34,7 +34,7 @@ pub(crate) fn count_write(counts: &mut Counts, ok: bool)
 
 /// The track of a number that is one.
 pub(crate) fn track(n: u16) -> TrackNo
-    requires { n < 960 }
+    requires { n < 65535 }
     ensures { result ≡ n }
 {
     TrackNo::new(n).unwrap()

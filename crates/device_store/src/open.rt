@@ -33,8 +33,8 @@ fn no_counts() -> Counts
 }
 
 /// A place for a frame of each track.
-fn no_frames(alloc: Global, cylinders: u8) -> Result<Frames, NoMemory>
-    requires { cylinders ≤ 64 }
+fn no_frames(alloc: Global, cylinders: u16) -> Result<Frames, NoMemory>
+    requires { cylinders ≤ 4369 }
     ensures { IfOk result (λ made. made ≡ replicate (cylinders * 15) None) }
 {
     let mut frames = Frames::new(alloc);
@@ -43,8 +43,8 @@ fn no_frames(alloc: Global, cylinders: u8) -> Result<Frames, NoMemory>
 }
 
 /// A place for a patch of each track.
-fn no_patches(alloc: Global, cylinders: u8) -> Result<Patches, NoMemory>
-    requires { cylinders ≤ 64 }
+fn no_patches(alloc: Global, cylinders: u16) -> Result<Patches, NoMemory>
+    requires { cylinders ≤ 4369 }
     ensures { IfOk result (λ made. made ≡ replicate (cylinders * 15) None) }
 {
     let mut patches = Patches::new(alloc);
@@ -62,8 +62,8 @@ struct Parts {
 }
 
 impl Parts {
-    fn new(alloc: Global, cylinders: u8) -> Result<Parts, NoMemory>
-        requires { cylinders ≤ 64 }
+    fn new(alloc: Global, cylinders: u16) -> Result<Parts, NoMemory>
+        requires { cylinders ≤ 4369 }
         ensures frames { IfOk result (λ parts. parts.frames ≡ replicate (cylinders * 15) None) }
         ensures patches { IfOk result (λ parts. parts.patches ≡ replicate (cylinders * 15) None) }
         ensures owed { IfOk result (λ parts. parts.owed ≡ replicate (cylinders * 15) no_debt) }
@@ -84,11 +84,11 @@ impl<V: Volume> DeviceStore<V> {
         alloc: Global,
         number: DeviceNo,
         geometry: Geometry,
-        cylinders: u8,
+        cylinders: u16,
         volume: V,
     ) -> Result<DeviceStore<V>, (NoMemory, V)>
         requires some { 1 ≤ cylinders }
-        requires most { cylinders ≤ 64 }
+        requires most { cylinders ≤ 4369 }
         requires volume { (V.view volume).tracks ≡ cylinders * 15 }
         ensures state { IfOk result (λ s. state_of s ≡ opened_store number geometry cylinders) }
         ensures volume { IfOk result (λ s. (on_a s ≡ Some volume) × (on_b s ≡ None)) }

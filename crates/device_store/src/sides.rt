@@ -102,7 +102,7 @@ impl<V: Volume> DeviceStore<V> {
         ensures volume { self.new.pair ≡ self.old.pair }
         ensures state { state_of self.new ≡ over (self.old.cylinders * 15) (given_up contents) (state_of self.old) }
     {
-        let tracks = u16::from(self.cylinders) * HEADS;
+        let tracks = self.cylinders * HEADS;
         for t in 0..tracks {
             self.give_up(track(t));
         }

@@ -18,7 +18,7 @@ one_more marks changed n t is all each q lt = elim (cases_eq q t) [
   | inr other ↦ each q ∙ rw (ne_eqb q t other) (all q (omega (arith, lt, other, is)))
 ]
 
-pub all_marked : (n : ℕ) (marks : List Bool) → n ≤ 960 → length marks ≡ 960 → ((q : ℕ) → q < n → is_marked marks q ≡ true) → take n marks ≡ replicate n true
+pub all_marked : (n : ℕ) (marks : List Bool) → n ≤ 65535 → length marks ≡ 65535 → ((q : ℕ) → q < n → is_marked marks q ≡ true) → take n marks ≡ replicate n true
 all_marked n marks few size all =
     let short : length (take n marks) ≡ n = length-take-le n marks (omega (arith, few, size)) in
     ext_get_or false (take n marks) (replicate n true) (short ∙ sym (length-replicate n true))
@@ -31,18 +31,18 @@ count_front n (suc k) f none =
     let e : n + suc k ≡ suc (n + k) = omega arith in
     rw (e, none (n + k) (omega arith)) (let before = count_front n k f none in omega (arith, before))
 
-pub counted : (marks : List Bool) (n : ℕ) → n ≤ 960 → length marks ≡ 960 → NoneBehind marks n →
-    count_below (length (take n marks)) (is_marked (take n marks)) ≡ count_below 960 (is_marked marks)
+pub counted : (marks : List Bool) (n : ℕ) → n ≤ 65535 → length marks ≡ 65535 → NoneBehind marks n →
+    count_below (length (take n marks)) (is_marked (take n marks)) ≡ count_below 65535 (is_marked marks)
 counted marks n few size none =
-    let e : n + (960 - n) ≡ 960 = omega (arith, few) in
+    let e : n + (65535 - n) ≡ 65535 = omega (arith, few) in
     ap (λ (m : ℕ). count_below m (is_marked (take n marks))) (length-take-le n marks (omega (arith, few, size)))
     ∙ count_same n _ _ (λ q. sym (front_mark marks n q none))
-    ∙ sym (count_front n (960 - n) (is_marked marks) none)
+    ∙ sym (count_front n (65535 - n) (is_marked marks) none)
     ∙ ap (λ (m : ℕ). count_below m (is_marked marks)) e
 
 -- the least of some tracks
-pub least_of : (n : ℕ) (marks : List Bool) (p : ℕ → Bool) → n ≤ 960 → ((t : ℕ) → is_marked marks t ≡ p t) → ((t : ℕ) → n ≤ t → p t ≡ false) →
-    least 960 (is_marked marks) ≡ least n p
+pub least_of : (n : ℕ) (marks : List Bool) (p : ℕ → Bool) → n ≤ 65535 → ((t : ℕ) → is_marked marks t ≡ p t) → ((t : ℕ) → n ≤ t → p t ≡ false) →
+    least 65535 (is_marked marks) ≡ least n p
 least_of n marks p few each none =
-    let e : n + (960 - n) ≡ 960 = omega (arith, few) in
-    least_same 960 (is_marked marks) p each ∙ ap (λ (m : ℕ). least m p) (sym e) ∙ least_front n (960 - n) p none
+    let e : n + (65535 - n) ≡ 65535 = omega (arith, few) in
+    least_same 65535 (is_marked marks) p each ∙ ap (λ (m : ℕ). least m p) (sym e) ∙ least_front n (65535 - n) p none

@@ -10,8 +10,8 @@ use device_outside::Volume;
 
 impl<V: Volume> DuplexPair<V> {
     /// A volume that is alone, on which no track is stale. Takes no memory, as every call of a pair.
-    pub fn single(volume: V, cylinders: u8) -> DuplexPair<V>
-        requires few { cylinders ≤ 64 }
+    pub fn single(volume: V, cylinders: u16) -> DuplexPair<V>
+        requires few { cylinders ≤ 4369 }
         requires size { (V.view volume).tracks ≡ cylinders * 15 }
         ensures volume { result.volumes.a ≡ Some volume }
         ensures none { result.volumes.b ≡ None }

@@ -22,12 +22,12 @@ impl Model for StaleMarks {
 
     ghost view = { λ l. take l.tracks l.marks };
 
-    ghost invariant = { λ l. (l.tracks ≤ 960) × (length l.marks ≡ 960) × ((t : ℕ) → l.tracks ≤ t → is_marked l.marks t ≡ false) };
+    ghost invariant = { λ l. (l.tracks ≤ 65535) × (length l.marks ≡ 65535) × ((t : ℕ) → l.tracks ≤ t → is_marked l.marks t ≡ false) };
 }
 
 /// The track of a number that is one.
 fn track(n: u16) -> TrackNo
-    requires { n < 960 }
+    requires { n < 65535 }
     ensures { result ≡ n }
 {
     TrackNo::new(n).unwrap()
@@ -35,13 +35,13 @@ fn track(n: u16) -> TrackNo
 
 impl StaleMarks {
     /// No track of a device with so many cylinders. Takes no memory, as every call of these marks.
-    pub fn new(cylinders: u8) -> StaleMarks
-        requires { cylinders ≤ 64 }
+    pub fn new(cylinders: u16) -> StaleMarks
+        requires { cylinders ≤ 4369 }
         ensures { result ≡ replicate (cylinders * 15) false }
     {
         StaleMarks {
             marks: TrackBits::new(),
-            tracks: u16::from(cylinders) * HEADS,
+            tracks: cylinders * HEADS,
         }
     }
 
@@ -70,7 +70,7 @@ impl StaleMarks {
     /// The stale tracks as marks.
     pub fn marks(&self) -> &TrackBits
         ensures each { (t : ℕ) → is_marked result.now t ≡ slice_index_or self.now t false }
-        ensures few { length self.now ≤ 960 }
+        ensures few { length self.now ≤ 65535 }
     {
         &self.marks
     }

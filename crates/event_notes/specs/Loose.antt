@@ -12,7 +12,7 @@ abbrev pub is_loose_in : List Bool → ℕ → Bool
 is_loose_in loose t = slice_index_or loose t false
 
 abbrev pub loose_count : List Bool → ℕ
-loose_count loose = count_below 960 (is_loose_in loose)
+loose_count loose = count_below 65535 (is_loose_in loose)
 
 -- how many acts there are, and may still come without one more loose track
 abbrev pub weight : LooseView → ℕ

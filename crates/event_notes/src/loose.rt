@@ -31,14 +31,14 @@ impl Model for LooseTracks {
 
     ghost view = { λ l. record { loose = take l.tracks l.marks; acts = l.acts.items; spare = vec_capacity l.acts - vec_len l.acts } };
 
-    ghost invariant = { λ l. (l.tracks ≤ 960) × (length l.marks ≡ 960) × ((t : ℕ) → l.tracks ≤ t → is_marked l.marks t ≡ false) ×
-        (count_below 960 (is_marked l.marks) + vec_len l.acts ≤ vec_capacity l.acts) };
+    ghost invariant = { λ l. (l.tracks ≤ 65535) × (length l.marks ≡ 65535) × ((t : ℕ) → l.tracks ≤ t → is_marked l.marks t ≡ false) ×
+        (count_below 65535 (is_marked l.marks) + vec_len l.acts ≤ vec_capacity l.acts) };
 }
 
 impl LooseTracks {
     /// No track of a device with so many cylinders, and no act. Takes no memory.
-    pub fn new(alloc: Global, cylinders: u8) -> LooseTracks
-        requires { cylinders ≤ 64 }
+    pub fn new(alloc: Global, cylinders: u16) -> LooseTracks
+        requires { cylinders ≤ 4369 }
         ensures loose { result.loose ≡ replicate (cylinders * 15) false }
         ensures acts { result.acts ≡ [] }
     {
@@ -74,7 +74,7 @@ impl LooseTracks {
     pub fn count(&self) -> usize
         ensures value { result ≡ loose_count self.now.loose }
         ensures room { result ≤ self.now.spare }
-        ensures most { result ≤ 960 }
+        ensures most { result ≤ 65535 }
     {
         usize::from(self.marks.count())
     }

@@ -17,7 +17,7 @@ impl Model for Place {
 
     ghost view = { λ p. (p.device, p.track) };
 
-    ghost invariant = { λ p. (p.device < 16) × (p.track < 960) };
+    ghost invariant = { λ p. (p.device < 16) × (p.track < 65535) };
 
     ghost inverse = { λ n. record { device = n.0; track = n.1 } };
 }

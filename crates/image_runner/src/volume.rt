@@ -119,7 +119,7 @@ impl<F: DiskFile> Volume for RunVolume<F> {
 }
 
 impl<F: DiskFile> EmptyVolume for RunVolume<F> {
-    fn empty(alloc: Global, cylinders: u8) -> Result<RunVolume<F>, NoMemory> {
+    fn empty(alloc: Global, cylinders: u16) -> Result<RunVolume<F>, NoMemory> {
         let volume = MemVolume::empty(alloc, cylinders)?;
         Ok(RunVolume::Memory(volume))
     }

@@ -23,13 +23,13 @@ impl Model for LostList {
 
     ghost view = { λ l. take l.tracks l.marks };
 
-    ghost invariant = { λ l. (l.tracks ≤ 960) × (length l.marks ≡ 960) × ((t : ℕ) → l.tracks ≤ t → is_marked l.marks t ≡ false) };
+    ghost invariant = { λ l. (l.tracks ≤ 65535) × (length l.marks ≡ 65535) × ((t : ℕ) → l.tracks ≤ t → is_marked l.marks t ≡ false) };
 }
 
 impl LostList {
     /// No track of a device with so many cylinders. Takes no memory, as every call of a lost list.
-    pub fn new(cylinders: u8) -> LostList
-        requires { cylinders ≤ 64 }
+    pub fn new(cylinders: u16) -> LostList
+        requires { cylinders ≤ 4369 }
         ensures { result ≡ replicate (cylinders * 15) false }
     {
         LostList {

@@ -125,7 +125,7 @@ fn near(alloc: Global, d: DeviceNo) -> Result<Subsystem<MemVolume>, Fail> {
 fn has_track(device: &Device<MemVolume>, t: TrackNo) -> bool
     ensures { result ≡ nat_lt t (tracks_of (device_of device.now).store) }
 {
-    t.get() < u16::from(device.cylinders()) * 15
+    t.get() < device.cylinders() * 15
 }
 
 /// Whether a far track is the near one.

@@ -189,7 +189,7 @@ impl Drawing<ShownLine> for GridCells {
     }
 }
 
-fn width_of(cylinders: u8) -> u64
+fn width_of(cylinders: u16) -> u64
     ensures { result ≡ width_of cylinders }
 {
     u64::from(cylinders) * 16

@@ -19,8 +19,8 @@ pub trait MakeVolume<V>: Drop {
 /// A volume in memory of so many cylinders, whose tracks are empty. None of its calls fails.
 #[derive(Drop)]
 pub struct EmptyVolume {
-    pub cylinders: u8,
-    ghost most: { cylinders ≤ 64 },
+    pub cylinders: u16,
+    ghost most: { cylinders ≤ 4369 },
 }
 
 impl MakeVolume<MemVolume> for EmptyVolume {

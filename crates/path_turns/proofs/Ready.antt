@@ -99,7 +99,7 @@ module _ {V : Type 0} {G : Ghosts V} (d : Device V G) (r : IsReady d) where
 
 -- so is a device that was opened
 pub opened_ready : {V : Type 0} {G : Ghosts V} (x : Device V G) (number : ℕ) (g : Geometry) (n : ℕ) (plans : Plans) →
-    device_of x ≡ opened_device number g n plans → 1 ≤ n → n ≤ 64 → Tells (told_of x).a (empty_contents (n * 15)) → Tells (told_of x).b [] →
+    device_of x ≡ opened_device number g n plans → 1 ≤ n → n ≤ 4369 → Tells (told_of x).a (empty_contents (n * 15)) → Tells (told_of x).b [] →
     GiveBytes plans → IsReady x
 opened_ready x number g n plans is some most a b gives = record {
   idle = ap (λ (d : WholeDevice). d.history.running) is;

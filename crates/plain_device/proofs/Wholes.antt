@@ -140,7 +140,7 @@ volume_edited g cylinders v (Some e) is suits =
     (λ inside. let both = suits (is.fits e.track inside) in
     (is.homes e.track inside, edited_fits g (track_in v e.track) e.edit (is.fits e.track inside) both.0 both.1)) is
 
-pub volume_empty : (g : Geometry) (cylinders : ℕ) → cylinders ≤ 64 → IsVolume g cylinders (empty_volume cylinders)
+pub volume_empty : (g : Geometry) (cylinders : ℕ) → cylinders ≤ 4369 → IsVolume g cylinders (empty_volume cylinders)
 volume_empty g cylinders most = record {
   tracks = many;
   homes =
@@ -233,7 +233,7 @@ effect_suits f paths tracks path start c bytes s (Asks act) =
 
 -- Every step
 
-pub whole_empty : (g : Geometry) (cylinders : ℕ) → cylinders ≤ 64 → IsWhole (empty_state g cylinders)
+pub whole_empty : (g : Geometry) (cylinders : ℕ) → cylinders ≤ 4369 → IsWhole (empty_state g cylinders)
 whole_empty g cylinders most = record {
   volume = volume_empty g cylinders most;
   states = refl;
@@ -290,7 +290,7 @@ whole_act d CfwLost on is = record {
   loose = All-nil (IsFirm d.geometry d.cylinders);
 }
 
-pub whole_fresh : (d : PlainState) → d.cylinders ≤ 64 → IsWhole d
+pub whole_fresh : (d : PlainState) → d.cylinders ≤ 4369 → IsWhole d
     → IsWhole (record d { volume = empty_volume d.cylinders; loose = [] })
 whole_fresh d most is = record {
   volume = volume_empty d.geometry d.cylinders most;

@@ -58,9 +58,9 @@ pub enum Went {
 
 impl PlainDevice {
     /// A device of empty tracks, of which no path has used anything.
-    pub fn new(alloc: Global, geometry: Geometry, cylinders: u8) -> Result<PlainDevice, NoMemory>
+    pub fn new(alloc: Global, geometry: Geometry, cylinders: u16) -> Result<PlainDevice, NoMemory>
         requires some { 1 ≤ cylinders }
-        requires most { cylinders ≤ 64 }
+        requires most { cylinders ≤ 4369 }
         ensures { IfOk result (λ device. device ≡ empty_state geometry cylinders) }
     {
         Ok(PlainDevice {
@@ -278,7 +278,7 @@ impl PlainDevice {
         ensures fits { IfOk result (λ done. IsEditOn self.now done.edit) }
     {
         let mut track = first;
-        let tracks = u16::from(self.fixed.cylinders()) * HEADS;
+        let tracks = self.fixed.cylinders() * HEADS;
         for _turn in 0..tracks {
             match self.look(alloc, path, chain, track)? {
                 Went::Over(done) => return Ok(done),

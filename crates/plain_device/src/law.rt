@@ -15,7 +15,7 @@ ghost use Rattle.plain_device.specs.Volume.{IsActOn};
 
 /// An empty device is whole: each track fits and says where it is, and there are four paths.
 pub fn is_whole_at_first()
-    ensures { (g : Geometry) (cylinders : ℕ) → cylinders ≤ 64 → IsWhole (empty_state g cylinders) }
+    ensures { (g : Geometry) (cylinders : ℕ) → cylinders ≤ 4369 → IsWhole (empty_state g cylinders) }
 {}
 
 /// Each command of a program leaves it whole.
@@ -27,7 +27,7 @@ pub fn is_whole_behind_a_command()
 /// So do a reset of a path, a new volume, an act on a track of the device, and a power loss.
 pub fn is_whole_behind_an_event()
     ensures reset { (d : PlainState) (path : ℕ) → IsWhole d → IsWhole (record d { paths = reset_path d.paths path }) }
-    ensures fresh { (d : PlainState) → d.cylinders ≤ 64 → IsWhole d → IsWhole (record d { volume = empty_volume d.cylinders; loose = [] }) }
+    ensures fresh { (d : PlainState) → d.cylinders ≤ 4369 → IsWhole d → IsWhole (record d { volume = empty_volume d.cylinders; loose = [] }) }
     ensures act { (d : PlainState) (act : Act) → IsActOn (d.cylinders * 15) act → IsWhole d → IsWhole (act_done d act) }
     ensures power { (d : PlainState) → IsWhole d → IsWhole (power_off d) }
 {}

@@ -30,12 +30,12 @@ impl Model for Images {
 
 impl Images {
     /// The empty tracks of this many cylinders.
-    pub fn empty(alloc: Global, geometry: Geometry, cylinders: u8) -> Result<Images, NoMemory>
-        requires { cylinders ≤ 64 }
+    pub fn empty(alloc: Global, geometry: Geometry, cylinders: u16) -> Result<Images, NoMemory>
+        requires { cylinders ≤ 4369 }
         ensures volume { IfOk result (λ v. v ≡ record { geometry = geometry; tracks = empty_volume cylinders }) }
         ensures len { IfOk result (λ v. length v.tracks ≡ cylinders * 15) }
     {
-        let count = u16::from(cylinders) * HEADS;
+        let count = cylinders * HEADS;
         let mut images = Vec::with_capacity(alloc, usize::from(count))?;
         for n in 0..count {
             let image = TrackImage::empty(alloc, geometry, TrackNo::new(n).unwrap())?;

@@ -63,9 +63,9 @@ some_same e = cc
 module _ {V : Type 0} {G : Ghosts V} where
   fault_same : (x : Device V G) (m : Mounted) → IsKnown (stood_of x) m → begin_fault m.device.store ≡ begin_fault (device_of x).store
   fault_same x m is =
-      ap (λ (o : Option ℕ). fault_by o (is_some m.device.store.half) (least 960 (is_loose m.device.store))) is.lent
-      ∙ ap (λ (b : Bool). fault_by x.store.pair.lent b (least 960 (is_loose m.device.store))) (ap (λ o. is_some o) is.half ∙ half_is _ (device_of x).store.half)
-      ∙ ap (λ (l : List Bool). fault_by x.store.pair.lent (is_some (device_of x).store.half) (least 960 (λ t. get_or l t false))) is.loose
+      ap (λ (o : Option ℕ). fault_by o (is_some m.device.store.half) (least 65535 (is_loose m.device.store))) is.lent
+      ∙ ap (λ (b : Bool). fault_by x.store.pair.lent b (least 65535 (is_loose m.device.store))) (ap (λ o. is_some o) is.half ∙ half_is _ (device_of x).store.half)
+      ∙ ap (λ (l : List Bool). fault_by x.store.pair.lent (is_some (device_of x).store.half) (least 65535 (λ t. get_or l t false))) is.loose
 
   pub mounted_for : (sub : Subsystem V G) (run : runs.Subsystem) (d : ℕ) (x : Device V G) → StandsAs sub run → device_at sub.devices.items d ≡ Some x →
       IsMountedFor x (mounted_in run.mounted d)
@@ -79,7 +79,7 @@ module _ {V : Type 0} {G : Ghosts V} where
       mounted_in run.mounted d ≡ Some m → m.device.store.cylinders ≡ x.store.cylinders → begin_fault m.device.store ≡ None →
       KeepsOld (begun run d) (plain_images m)
   keeps_first sub run d x m stands there cylinders fault =
-      let free = free_by m.device.store.lent (is_some m.device.store.half) (least 960 (is_loose m.device.store)) fault in
+      let free = free_by m.device.store.lent (is_some m.device.store.half) (least 65535 (is_loose m.device.store)) fault in
       let size : tracks_at (mounted_in run.mounted d) ≡ tracks_of m.device.store = ap tracks_at there in
       record {
         mounted = m;
@@ -90,10 +90,10 @@ module _ {V : Type 0} {G : Ghosts V} where
           each = λ t le lt.
               let inside : t < tracks_at (mounted_in run.mounted d) = omega (arith, lt, length-replicate (tracks_at (mounted_in run.mounted d)) no_image) in
               let small : x.store.cylinders ≤ 64 = x.store.most in
-              let below : t < 960 = omega (arith, inside, size, cylinders, small) in
+              let below : t < 65535 = omega (arith, inside, size, cylinders, small) in
               let quiet : IsQuiet m t =
               mounted_is_quiet sub.pool.pool (all_stood sub.devices.items) run.mounted d t m stands.mounted there (omega (arith, inside, size))
-              (none_below 960 (is_loose m.device.store) (ap (λ (o : Option ℕ). is_some o) free.firm) t below) (off_by m.device.store.half t free.whole) in
+              (none_below 65535 (is_loose m.device.store) (ap (λ (o : Option ℕ). is_some o) free.firm) t below) (off_by m.device.store.half t free.whole) in
               subst (λ (o : Option Image). IsOldTrack m (plain_images m) t o)
               (sym (get_or-replicate (tracks_at (mounted_in run.mounted d)) t None None inside)) (quiet, refl);
         };

@@ -32,7 +32,7 @@ fault_by None half loose = if half then Some Half else loose_fault loose
 
 -- why a session isn't begun: the device is lent, or a half write is open, or a track is loose, the least of them
 abbrev pub begin_fault : {F P H : Type 0} → Store F P H → Option BeginFault
-begin_fault s = fault_by s.lent (is_some s.half) (least 960 (is_loose s))
+begin_fault s = fault_by s.lent (is_some s.half) (least 65535 (is_loose s))
 
 -- State
 

@@ -30,7 +30,7 @@ impl Model for OldTracks {
 
 impl OldTracks {
     /// Nothing is kept, and nothing is given yet.
-    pub fn new(alloc: Global, device: DeviceNo, cylinders: u8) -> Result<OldTracks, NoMemory>
+    pub fn new(alloc: Global, device: DeviceNo, cylinders: u16) -> Result<OldTracks, NoMemory>
         requires { cylinders ≤ 64 }
         ensures { IfOk result (λ k. k ≡ nothing_kept device (cylinders * 15)) }
     {
@@ -53,7 +53,7 @@ impl OldTracks {
 
     /// The next track counts as given.
     pub(crate) fn pass(&mut self)
-        requires { self.old.next < 960 }
+        requires { self.old.next < 65535 }
         ensures { self.new ≡ passed self.old }
     {
         self.next += 1;

@@ -439,7 +439,7 @@ next_below (Copying b) tracks n e within some = let same : b ≡ n = some_same e
 -- and a track's number
 pub record IsNext {V : Type 0} {G : Ghosts V} (x : Device V G) (n : ℕ) : Type 0 where
   pub below : n < x.store.cylinders * 15
-  pub few : n < 960
+  pub few : n < 65535
 
 module _ {V : Type 0} {G : Ghosts V} (sub : Subsystem V G) (s : SenderView) (here : is_in s.device (numbers_of sub.devices.items) ≡ true)
     (fits : IfSome (device_at sub.devices.items s.device) (IsFarFor s.link)) (within : is_within s.state s.link.tracks ≡ true) where
@@ -450,7 +450,7 @@ module _ {V : Type 0} {G : Ghosts V} (sub : Subsystem V G) (s : SenderView) (her
       subst (λ (k : ℕ). n < k) f.1 (next_below s.state s.link.tracks n e within (omega (arith, f.1, x.store.some))) in
       record { below = below; few = omega (arith, below, x.store.most) }
 
-  pub next_few : (n : ℕ) → next_track s.state ≡ Some n → n < 960
+  pub next_few : (n : ℕ) → next_track s.state ≡ Some n → n < 65535
   next_few n e = let one = has_one sub.devices.items s.device here in (next_is one.device one.found n e).few
 
 -- What a call comes to, of the device that is found

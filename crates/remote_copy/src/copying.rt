@@ -104,7 +104,7 @@ fn put_found<V: Volume, L: Link>(
     requires image { IsImageFound (device_of device.now).store.geometry t (peeked_by (device_of device.now).store t peeked) }
     ensures { AnswersBy (tracks_of (device_of device.now).store) t (peeked_by (device_of device.now).store t peeked) sender.old result sender.new }
 {
-    let tracks = u16::from(device.cylinders()) * HEADS;
+    let tracks = device.cylinders() * HEADS;
     match peeked {
         Peeked::Frame => put_copy(sender, tracks, t, device.frame_image(t)),
         Peeked::Track(image) => put_copy(sender, tracks, t, &image),

@@ -38,12 +38,12 @@ fn is_listed(put: u64, numbers: &[u32]) -> bool
 }
 
 /// Empty tracks, each in room for any track.
-fn empty_rooms(alloc: Global, geometry: Geometry, cylinders: u8) -> Result<Vec<TrackRoom>, NoMemory>
+fn empty_rooms(alloc: Global, geometry: Geometry, cylinders: u16) -> Result<Vec<TrackRoom>, NoMemory>
     requires { cylinders ≤ 64 }
     ensures { IfOk result (λ made. made.items ≡ empty_images geometry cylinders) }
 {
     let mut rooms = Vec::new(alloc);
-    for n in 0..u16::from(cylinders) * HEADS {
+    for n in 0..cylinders * HEADS {
         let room = TrackRoom::with_room(alloc, geometry, TrackNo::new(n).unwrap())?;
         rooms.push(room)?;
     }
@@ -82,7 +82,7 @@ impl MemLink {
     pub fn new(
         alloc: Global,
         geometry: Geometry,
-        cylinders: u8,
+        cylinders: u16,
         fail: &[u32],
     ) -> Result<MemLink, NoMemory>
         requires { cylinders ≤ 64 }

@@ -77,7 +77,7 @@ fn happens(sub: &mut Subsystem<MemVolume>, e: &Event, keep: &mut CountedTells) -
 fn has_track(device: &Device<MemVolume>, t: TrackNo) -> bool
     ensures { result ≡ nat_lt t (tracks_of (device_of device.now).store) }
 {
-    t.get() < u16::from(device.cylinders()) * 15
+    t.get() < device.cylinders() * 15
 }
 
 /// Whether a look at a track finds its image in its frame.

@@ -24,7 +24,7 @@ fn opened(alloc: Global) -> Result<DeviceStore<MemVolume>, Fail> {
 fn has_track(store: &DeviceStore<MemVolume>, t: TrackNo) -> bool
     ensures { result ≡ nat_lt t (store.now.cylinders * 15) }
 {
-    t.get() < u16::from(store.cylinders) * 15
+    t.get() < store.cylinders * 15
 }
 
 /// A command looks at a track in sequential mode; the last one of its extent is the last to be staged.

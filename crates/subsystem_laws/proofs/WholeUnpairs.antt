@@ -136,10 +136,10 @@ lent_away (is_away i) e = i
 -- it has a volume of empty tracks then
 abbrev pub GetsVolume : List Stood → ℕ → VolumeView (List ℕ) → Calls → Type 0
 GetsVolume xs n volume calls =
-    (y : Stood) → lent_in xs n ≡ Some y → (y.device.store.cylinders ≤ 64) × SideIs volume (empty_contents (tracks_of y.device.store)) calls
+    (y : Stood) → lent_in xs n ≡ Some y → (y.device.store.cylinders ≤ 4369) × SideIs volume (empty_contents (tracks_of y.device.store)) calls
 
 restored : (mine : List ℕ) (x : Stood) (m : Mounted) (volume : VolumeView (List ℕ)) (calls : Calls) → IsMounted mine x m → is_some x.device.store.lent ≡ true →
-    x.device.store.cylinders ≤ 64 → SideIs volume (empty_contents (tracks_of x.device.store)) calls →
+    x.device.store.cylinders ≤ 4369 → SideIs volume (empty_contents (tracks_of x.device.store)) calls →
     IsMounted mine (record x { device = restore x.device; a = Some volume }) (record m { device = restore m.device; a = calls })
 restored mine x m volume calls (is_mounted d v w h on_a on_b a b now slots told_a told_b) lent most told =
     let i = lent_away now lent in
@@ -207,7 +207,7 @@ module _ (p : Pool) (xs : List Stood) (ms : List Mounted) (n : ℕ) (calls : Cal
 pub unpaired_so : (p : Pool) (xs : List Stood) (ms : List Mounted) (n : ℕ) (calls : Calls) (volume : VolumeView (List ℕ)) (x : Stood) → AreMounted p xs ms →
     stood_in xs n ≡ Some x → unpair_fault x.device ≡ None →
     ((y : Stood) → lent_in (put_at xs n (record { device = split x.device; a = x.a; b = None })) n ≡ Some y →
-    (y.device.store.cylinders ≤ 64) × SideIs volume (empty_contents (tracks_of y.device.store)) calls) →
+    (y.device.store.cylinders ≤ 4369) × SideIs volume (empty_contents (tracks_of y.device.store)) calls) →
     IsWhatCame (unpaired (subsystem_of p ms) n calls) Done p
     (restored_at (put_at xs n (record { device = split x.device; a = x.a; b = None })) n volume)
 unfolding H.unpaired

@@ -75,7 +75,7 @@ pub fn standing_device_is_excused()
 pub fn new_device_stands()
     ensures first { (first : ℕ → List Track) (d : ℕ) (g : Geometry) (n : ℕ) (plans : Plans) (u : Outside (List ℕ) NoKeep) → 1 ≤ n →
         IsVolume g n (first n) → Tells u.a (volume_contents (first n)) → Tells u.b [] → GiveBytes plans → StandsOn first (opened d g n plans) u }
-    ensures empty { (d : ℕ) (g : Geometry) (n : ℕ) (plans : Plans) (u : Outside (List ℕ) NoKeep) → 1 ≤ n → n ≤ 64 → Tells u.a (empty_contents (n * 15)) →
+    ensures empty { (d : ℕ) (g : Geometry) (n : ℕ) (plans : Plans) (u : Outside (List ℕ) NoKeep) → 1 ≤ n → n ≤ 4369 → Tells u.a (empty_contents (n * 15)) →
         Tells u.b [] → GiveBytes plans → Stands (opened d g n plans) u }
 {}
 

@@ -45,7 +45,7 @@ pub fn whole_device_is_mounted()
     ensures first { (d : ℕ) (g : Geometry) (n : ℕ) (tracks : List Track) (plans : Plans) (plan : Plan) (volume : VolumeView (List ℕ)) → IsVolume g n tracks →
         SideIs volume (volume_contents tracks) (new_calls plan) →
         IsMounted [] (record { device = opened d g n plans; a = Some volume; b = None }) (mounted_on d g n tracks plans plan) }
-    ensures mounted { (d : ℕ) (g : Geometry) (n : ℕ) (plans : Plans) (plan : Plan) (volume : VolumeView (List ℕ)) → n ≤ 64 →
+    ensures mounted { (d : ℕ) (g : Geometry) (n : ℕ) (plans : Plans) (plan : Plan) (volume : VolumeView (List ℕ)) → n ≤ 4369 →
         SideIs volume (empty_contents (n * 15)) (new_calls plan) →
         IsMounted [] (record { device = opened d g n plans; a = Some volume; b = None }) (newly_mounted d g n plans plan) }
     ensures more { (p : Pool) (xs : List Stood) (ms : List Mounted) (x : Stood) (m : Mounted) → AreMounted p xs ms → IsMounted [] x m →
@@ -65,7 +65,7 @@ pub fn whole_unpaired_is_what_happens()
     ensures { (p : Pool) (xs : List Stood) (ms : List Mounted) (n : ℕ) (calls : Calls) (volume : VolumeView (List ℕ)) (x : Stood) → AreMounted p xs ms →
         stood_in xs n ≡ Some x → unpair_fault x.device ≡ None →
         ((y : Stood) → lent_in (put_at xs n (record { device = split x.device; a = x.a; b = None })) n ≡ Some y →
-        (y.device.store.cylinders ≤ 64) × SideIs volume (empty_contents (tracks_of y.device.store)) calls) →
+        (y.device.store.cylinders ≤ 4369) × SideIs volume (empty_contents (tracks_of y.device.store)) calls) →
         IsWhatCame (unpaired (subsystem_of p ms) n calls) Done p
         (restored_at (put_at xs n (record { device = split x.device; a = x.a; b = None })) n volume) }
 {}

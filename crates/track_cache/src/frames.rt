@@ -69,8 +69,8 @@ impl Frames {
     }
 
     /// Makes places for the tracks of a device, in which `put` takes no memory.
-    pub fn reserve(&mut self, cylinders: u8) -> Result<(), NoMemory>
-        requires { cylinders ≤ 64 }
+    pub fn reserve(&mut self, cylinders: u16) -> Result<(), NoMemory>
+        requires { cylinders ≤ 4369 }
         ensures made { OnOk result (self.new ≡ with_places (cylinders * 15) self.old) }
         ensures same { OnErr result (self.new ≡ self.old) }
         ensures free { cylinders * 15 ≤ length self.old → IsOk result }

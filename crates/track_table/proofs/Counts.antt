@@ -58,9 +58,9 @@ none_by : (b : Bool) → (b ≡ true → ⊥) → b ≡ false
 none_by true f = absurd (f refl)
 none_by false f = refl
 
-pub none_marked : (marks : List Bool) → length marks ≤ 960 → count_below 960 (is_marked marks) ≡ 0 → (t : ℕ) → is_marked marks t ≡ false
-none_marked marks few none t = elim (cases_lt t 960) [
-  | inl below ↦ none_by (is_marked marks t) (λ is. let one = marked_one 960 (is_marked marks) t below is in omega (arith, one, none))
+pub none_marked : (marks : List Bool) → length marks ≤ 65535 → count_below 65535 (is_marked marks) ≡ 0 → (t : ℕ) → is_marked marks t ≡ false
+none_marked marks few none t = elim (cases_lt t 65535) [
+  | inl below ↦ none_by (is_marked marks t) (λ is. let one = marked_one 65535 (is_marked marks) t below is in omega (arith, one, none))
   | inr past ↦ get_or_past marks t false (omega (arith, few, past))
 ]
 

@@ -1,5 +1,6 @@
+pub mod AskedWords
 pub mod Counts
-pub mod Marks
+pub mod MarkLists
 pub mod Places
 pub mod Rising
 pub mod Tracks

@@ -15,9 +15,9 @@ unfolding least
 least_none zero p none = refl
 least_none (suc n) p none = rw (least_none n p (λ q below. none q (omega arith)), none n (omega arith)) refl
 
-pub least_is : (marks : List Bool) (found : Option ℕ) → IsLeastFrom 0 marks found → found ≡ least 960 (is_marked marks)
-least_is marks None none = sym (least_none 960 (is_marked marks) (λ q below. none q (omega arith)))
-least_is marks (Some t) is = sym (found_least t 960 (is_marked marks) (least_none t (is_marked marks) (λ q below. is.3 q (omega arith) below)) is.2 is.1)
+pub least_is : (p : ℕ → Bool) (found : Option ℕ) → IsLeastFrom 0 p found → found ≡ least 65535 p
+least_is p None none = sym (least_none 65535 p (λ q below. none q (omega arith)))
+least_is p (Some t) is = sym (found_least t 65535 p (least_none t p (λ q below. is.3 q (omega arith) below)) is.2 is.1)
 
 -- ---- the list of the marked tracks
 
@@ -80,7 +80,7 @@ further marks n (suc k) none =
 within : (marks : List Bool) (t : ℕ) → is_marked marks t ≡ true → t < length marks
 within marks t is = elim (cases_lt t (length marks)) [ inl below ↦ below | inr past ↦ absurd (false≢true (sym (get_or_past marks t false past) ∙ is)) ]
 
-pub next_marked : (marks : List Bool) (from t : ℕ) → IsLeastFrom from marks (Some t) →
+pub next_marked : (marks : List Bool) (from t : ℕ) → IsLeastFrom from (is_marked marks) (Some t) →
     marked_from from (drop from marks) ≡ t ∷ marked_from (t + 1) (drop (t + 1) marks)
 next_marked marks from t is =
     let e : from + (t - from) ≡ t = omega (arith, is.0) in
@@ -88,7 +88,7 @@ next_marked marks from t is =
     rw e at (further marks from (t - from) (λ q after below. is.3 q after (omega (arith, is.0, below)))) in
     skipped ∙ rw (drop_more marks t false (within marks t is.2), is.2) refl
 
-pub none_marked : (marks : List Bool) (from : ℕ) → IsLeastFrom from marks None → marked_from from (drop from marks) ≡ []
+pub none_marked : (marks : List Bool) (from : ℕ) → IsLeastFrom from (is_marked marks) None → marked_from from (drop from marks) ≡ []
 none_marked marks from none =
     further marks from (length marks) (λ q after below. none q after)
     ∙ ap (marked_from (from + length marks)) (drop_all (from + length marks) marks (omega arith))

@@ -1,31 +1,35 @@
-ghost use Rattle.std.specs.Prelude.{◌≡◌, ℕ, ◌≤◌, ◌<◌, ◌*◌, ◌+◌, ◌-◌, ◌==◌, ◌&&◌, ◌||◌, ◌%◌, ◌^◌, not, false};
-ghost use Rattle.std.specs.Prelude.{length, nat_le, replicate, slice_get, slice_set, if◌then◌else◌};
+ghost use Rattle.std.specs.Prelude.{◌≡◌, ℕ, ◌≤◌, ◌<◌, ◌==◌, ◌%◌, ◌^◌, false, IfOk};
+ghost use Rattle.std.specs.Prelude.{length, replicate, slice_get, slice_set, if◌then◌else◌};
 ghost use Rattle.std.specs.Int.{bit_at};
-ghost use Rattle.track_table.specs.Bits.{is_marked, marked_from, IsLeastFrom};
-ghost use Rattle.track_table.specs.Tracks.{least, count_below};
 ghost use Rattle.std.specs.Int.Count.{ones};
 ghost use Rattle.std.specs.Iterator.{YieldsFirst, item_count};
+ghost use Rattle.track_table.specs.Bits.{is_marked, marked_from};
 ghost use Rattle.track_table.specs.Marked.{marked_left};
+ghost use Rattle.track_table.specs.Tracks.{least, count_below};
 
-use ckd_types::TrackNo;
+use crate::marks::{Marks, WORDS, count, first, least_from, next_word, track};
+use ckd_types::{NoMemory, TrackNo};
+use std::alloc::Global;
 use std::marker::Model;
-
-/// The words of the largest device's tracks, of 64 tracks each.
-const WORDS: usize = 15;
 
 /// Marks of tracks. Contracts see a mark for each track of the largest device.
 #[derive(Debug, Drop)]
 pub struct TrackBits {
-    words: [u64; 15],
+    words: Vec<u64>,
+    /// A bit for each word: one without it has no mark.
+    used: [u64; 16],
 }
 
 impl Model for TrackBits {
-    ghost use Rattle.std.specs.Prelude.{Bool, List};
-    ghost use Rattle.track_table.specs.Bits.{marks_of};
+    ghost use Rattle.std.specs.Prelude.{◌≡◌, ℕ, ◌<◌, Bool, List, false, length, slice_index_or};
+    ghost use Rattle.track_table.specs.Bits.{is_set, marks_of};
 
     ghost Value = { List Bool };
 
-    ghost view = { λ b. marks_of b.words };
+    ghost view = { λ b. marks_of b.words.items };
+
+    ghost invariant = { λ b. (length b.words.items ≡ 1024) × (is_set b.words.items 65535 ≡ false) ×
+        ((k : ℕ) → k < 1024 → is_set b.used k ≡ false → slice_index_or b.words.items k 0 ≡ 0) };
 }
 
 /// A word with another bit at a place.
@@ -35,14 +39,6 @@ fn with_bit(word: u64, place: u32, marked: bool) -> u64
 {
     let bit = 1u64 << place;
     if marked { word | bit } else { word & !bit }
-}
-
-/// The bits of a word from a place on.
-fn bits_from(word: u64, place: u32) -> u64
-    requires { place < 64 }
-    ensures { (i : ℕ) → i < 64 → (bit_at result i == 1) ≡ (nat_le place i && (bit_at word i == 1)) }
-{
-    word & (u64::MAX << place)
 }
 
 /// Where set bit `i` of a word is, counted from 0.
@@ -69,20 +65,27 @@ fn place_of(word: u64, i: u32) -> u32
     place
 }
 
-/// The track of a bit.
-fn track(k: usize, place: u32) -> TrackNo
-    requires { (k < 15) × (place < 64) }
-    ensures { result ≡ 64 * k + place }
-{
-    TrackNo::new((64 * k) as u16 + place as u16).unwrap()
+impl Marks for TrackBits {
+    ghost marked = { λ marks t. is_marked marks t };
+
+    fn word(&self, k: usize) -> u64 {
+        self.words[k]
+    }
+
+    fn group(&self, j: usize) -> u64 {
+        self.used[j]
+    }
 }
 
 impl TrackBits {
     /// No track is marked.
-    pub fn new() -> TrackBits
-        ensures { result ≡ replicate 960 false }
+    pub fn new(alloc: Global) -> Result<TrackBits, NoMemory>
+        ensures { IfOk result (λ made. made ≡ replicate 65535 false) }
     {
-        TrackBits { words: [0; 15] }
+        Ok(TrackBits {
+            words: vec![in alloc; 0; WORDS]?,
+            used: [0; 16],
+        })
     }
 
     /// Whether a track is marked.
@@ -100,88 +103,53 @@ impl TrackBits {
     {
         let t = t.get();
         let k = usize::from(t / 64);
-        self.words[k] = with_bit(self.words[k], u32::from(t % 64), marked);
+        let word = with_bit(self.words[k], u32::from(t % 64), marked);
+        self.words[k] = word;
+        self.used[k / 64] = with_bit(self.used[k / 64], (k % 64) as u32, word != 0);
+    }
+
+    /// No track is marked any more.
+    pub fn clear(&mut self)
+        ensures { self.new ≡ replicate 65535 false }
+    {
+        for k in 0..WORDS {
+            self.words[k] = 0;
+        }
+        self.used = [0; 16];
     }
 
     /// The number of marked tracks.
     pub fn count(&self) -> u16
-        ensures value { result ≡ count_below 960 (is_marked self.now) }
+        ensures value { result ≡ count_below 65535 (is_marked self.now) }
         ensures listed { result ≡ length (marked_from 0 self.now) }
-        ensures range { result ≤ 960 }
+        ensures range { result ≤ 65535 }
     {
-        let mut count = 0;
-        for k in 0..WORDS {
-            count += self.words[k].count_ones() as u16;
-        }
-        count
-    }
-
-    /// The tracks that are marked here and there.
-    pub fn and(&self, other: &TrackBits) -> TrackBits
-        ensures { (t : ℕ) → is_marked result t ≡ (is_marked self.now t && is_marked other.now t) }
-    {
-        let mut words = [0; WORDS];
-        for k in 0..WORDS {
-            words[k] = self.words[k] & other.words[k];
-        }
-        TrackBits { words }
-    }
-
-    /// The tracks that are marked here or there.
-    pub fn or(&self, other: &TrackBits) -> TrackBits
-        ensures { (t : ℕ) → is_marked result t ≡ (is_marked self.now t || is_marked other.now t) }
-    {
-        let mut words = [0; WORDS];
-        for k in 0..WORDS {
-            words[k] = self.words[k] | other.words[k];
-        }
-        TrackBits { words }
-    }
-
-    /// The tracks that are marked here and not there.
-    pub fn without(&self, other: &TrackBits) -> TrackBits
-        ensures { (t : ℕ) → is_marked result t ≡ (is_marked self.now t && not (is_marked other.now t)) }
-    {
-        let mut words = [0; WORDS];
-        for k in 0..WORDS {
-            words[k] = self.words[k] & !other.words[k];
-        }
-        TrackBits { words }
-    }
-
-    /// The least marked track from one on.
-    fn least_from(&self, from: u16) -> Option<TrackNo>
-        ensures { IsLeastFrom from self.now result }
-    {
-        let from = usize::from(from);
-        for k in from / 64..WORDS {
-            let word = bits_from(self.words[k], from.saturating_sub(64 * k) as u32);
-            if word != 0 {
-                return Some(track(k, word.trailing_zeros()));
-            }
-        }
-        None
+        let _ = &self.words;
+        count(self)
     }
 
     /// The least marked track.
-    #[tactic(auto, using(crate::proofs::Rising::least_is))]
     pub fn first(&self) -> Option<TrackNo>
-        ensures { result ≡ least 960 (is_marked self.now) }
+        ensures { result ≡ least 65535 (is_marked self.now) }
     {
-        self.least_from(0)
+        first(self)
     }
 
     /// Marked track `i` in rising order, counted from 0.
     pub fn nth(&self, i: usize) -> Option<TrackNo>
         ensures { result ≡ slice_get (marked_from 0 self.now) i }
     {
+        let _ = &self.words;
         let mut before = i;
-        for k in 0..WORDS {
-            let here = self.words[k].count_ones() as usize;
+        let mut k = next_word(self, 0);
+        while k < WORDS {
+            let word = self.word(k);
+            let here = word.count_ones() as usize;
             if before < here {
-                return Some(track(k, place_of(self.words[k], before as u32)));
+                return Some(track(k, place_of(word, before as u32)));
             }
             before -= here;
+            k = next_word(self, k + 1);
         }
         None
     }
@@ -212,7 +180,7 @@ impl<'a> Iterator for Marked<'a> {
     ghost remaining = { item_count marked_left };
 
     fn next(&mut self) -> Option<TrackNo> {
-        match self.bits.least_from(self.from) {
+        match least_from(self.bits, self.from) {
             Some(t) => {
                 self.from = t.get() + 1;
                 Some(t)

@@ -1,9 +1,10 @@
-ghost use Rattle.std.specs.Prelude.{◌≡◌, ℕ, ◌≤◌, ◌+◌, ◌==◌, Bool, false, true, if◌then◌else◌, replicate, slice_set};
+ghost use Rattle.std.specs.Prelude.{◌≡◌, ℕ, ◌≤◌, ◌<◌, ◌+◌, ◌==◌, Bool, IfOk, false, true, if◌then◌else◌, replicate, slice_set};
 ghost use Rattle.track_table.specs.Bits.{is_marked};
 ghost use Rattle.track_table.specs.Tracks.{count_below, least};
 
 use crate::TrackBits;
-use ckd_types::TrackNo;
+use ckd_types::{NoMemory, TrackNo};
+use std::alloc::Global;
 use std::marker::Model;
 
 /// Marks of tracks that know how many there are, so that no event counts them. Contracts see a mark for each track of the largest
@@ -23,13 +24,13 @@ impl Model for CountedBits {
 
     ghost view = { λ b. b.bits };
 
-    ghost invariant = { λ b. (b.count ≡ count_below 960 (is_marked b.bits)) × (length b.bits ≡ 960) };
+    ghost invariant = { λ b. (b.count ≡ count_below 65535 (is_marked b.bits)) × (length b.bits ≡ 65535) };
 }
 
 /// The number of marks where one of them was and is so.
 fn recounted(count: u16, was: bool, is: bool) -> u16
     requires some { was ≡ true → 1 ≤ count }
-    requires few { count ≤ 960 }
+    requires few { is ≡ true → was ≡ false → count < 65535 }
     ensures { result + (if was then 1 else 0) ≡ count + (if is then 1 else 0) }
 {
     if is {
@@ -41,13 +42,21 @@ fn recounted(count: u16, was: bool, is: bool) -> u16
 
 impl CountedBits {
     /// No track is marked.
-    pub fn new() -> CountedBits
-        ensures { result ≡ replicate 960 false }
+    pub fn new(alloc: Global) -> Result<CountedBits, NoMemory>
+        ensures { IfOk result (λ made. made ≡ replicate 65535 false) }
     {
-        CountedBits {
-            bits: TrackBits::new(),
+        Ok(CountedBits {
+            bits: TrackBits::new(alloc)?,
             count: 0,
-        }
+        })
+    }
+
+    /// No track is marked any more.
+    pub fn clear(&mut self)
+        ensures { self.new ≡ replicate 65535 false }
+    {
+        self.bits.clear();
+        self.count = 0;
     }
 
     /// Whether a track is marked.
@@ -70,8 +79,8 @@ impl CountedBits {
 
     /// The number of marked tracks, which is kept.
     pub fn count(&self) -> u16
-        ensures value { result ≡ count_below 960 (is_marked self.now) }
-        ensures range { result ≤ 960 }
+        ensures value { result ≡ count_below 65535 (is_marked self.now) }
+        ensures range { result ≤ 65535 }
     {
         self.count
     }
@@ -85,7 +94,7 @@ impl CountedBits {
 
     /// The least marked track.
     pub fn first(&self) -> Option<TrackNo>
-        ensures { result ≡ least 960 (is_marked self.now) }
+        ensures { result ≡ least 65535 (is_marked self.now) }
     {
         self.bits.first()
     }

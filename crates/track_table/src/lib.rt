@@ -3,8 +3,10 @@
 
 mod bits;
 mod counted;
+mod marks;
 mod table;
 
 pub use bits::{Marked, TrackBits};
 pub use counted::CountedBits;
+pub use marks::{And, Marks, Or, Without, count, first, least_from};
 pub use table::TrackTable;

@@ -1,4 +1,4 @@
-ghost use Rattle.std.specs.Prelude.{◌≡◌, ℕ, ◌≤◌, ◌<◌, ◌+◌, ◌++◌, IsOk, OnOk, OnErr, [], false, true, None, length, replicate, slice_set, vec_len, vec_capacity};
+ghost use Rattle.std.specs.Prelude.{◌≡◌, ℕ, ◌≤◌, ◌<◌, ◌+◌, ◌++◌, IfOk, IsOk, OnOk, OnErr, [], false, true, None, length, replicate, slice_set, vec_len, vec_capacity};
 ghost use Rattle.std.specs.Option.{option_copied};
 ghost use Rattle.track_table.specs.Bits.{is_marked};
 ghost use Rattle.track_table.specs.Table.{entry_at, has_entry, with_places};
@@ -27,7 +27,7 @@ impl<T> Model for TrackTable<T> {
 
     ghost view = { λ t. t.places.items };
 
-    ghost invariant = { λ a. (length a.places.items ≤ 960) × ((t : ℕ) → is_marked a.held t ≡ has_entry a.places.items t) };
+    ghost invariant = { λ a. (length a.places.items ≤ 65535) × ((t : ℕ) → is_marked a.held t ≡ has_entry a.places.items t) };
 }
 
 /// Adds empty places at the end, in room that was made.
@@ -42,19 +42,19 @@ fn add_places<T>(places: &mut Vec<Option<T>>, added: usize)
 }
 
 impl<T: Drop> TrackTable<T> {
-    /// Nothing. Takes no memory.
-    pub fn new(alloc: Global) -> TrackTable<T>
-        ensures { result ≡ [] }
+    /// Nothing, and no place.
+    pub fn new(alloc: Global) -> Result<TrackTable<T>, NoMemory>
+        ensures { IfOk result (λ made. made ≡ []) }
     {
-        TrackTable {
+        Ok(TrackTable {
             places: Vec::new(alloc),
-            held: CountedBits::new(),
-        }
+            held: CountedBits::new(alloc)?,
+        })
     }
 
     /// Makes places for the tracks below one.
     pub fn reserve(&mut self, tracks: usize) -> Result<(), NoMemory>
-        requires { tracks ≤ 960 }
+        requires { tracks ≤ 65535 }
         ensures made { OnOk result (self.new ≡ with_places tracks self.old) }
         ensures same { OnErr result (self.new ≡ self.old) }
         ensures free { tracks ≤ length self.old → IsOk result }
@@ -70,7 +70,7 @@ impl<T: Drop> TrackTable<T> {
     /// The number of places.
     pub fn places(&self) -> usize
         ensures value { result ≡ length self.now }
-        ensures range { result ≤ 960 }
+        ensures range { result ≤ 65535 }
     {
         self.places.len()
     }
@@ -130,6 +130,6 @@ impl<T: Drop> TrackTable<T> {
         let places = self.places.len();
         self.places.clear();
         add_places(&mut self.places, places);
-        self.held = CountedBits::new();
+        self.held.clear();
     }
 }

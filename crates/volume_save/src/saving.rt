@@ -91,7 +91,7 @@ pub fn saved<V: Volume>(
     }
     let cylinders = device.cylinders();
     let mut volume = FileVolume::new(alloc, device.geometry(), cylinders)?;
-    let count = u16::from(cylinders) * HEADS;
+    let count = cylinders * HEADS;
     for t in 0..count {
         let track = TrackNo::new(t).unwrap();
         volume.is_whole();

@@ -5,4 +5,4 @@ use Rattle.device_core.proofs.device.Device.all_loose.Goals as goal
 pub returns-clause-value : goal.returns-clause-value
 returns-clause-value g c =
     let s = c.args.self.now.store in
-    c.count.ensures.value ∙ count_all s.loose.loose 960 (omega (arith, s.loose_of_each, s.most))
+    c.count.ensures.value ∙ count_all s.loose.loose 65535 (omega (arith, s.loose_of_each, s.most))

@@ -11,7 +11,7 @@ pub invariant_of-result : goal.invariant_of-result
 invariant_of-result g c =
     let n = c.args.cylinders * 15 in
     let none : loose_count c.in-Ok.store.loose.loose ≡ 0 =
-    ap loose_count (ap (λ s. s.loose) c.in-Ok.ensures.state) ∙ count_none 960 (is_loose_in (replicate n false)) (λ t. empty_places n t false) in
+    ap loose_count (ap (λ s. s.loose) c.in-Ok.ensures.state) ∙ count_none 65535 (is_loose_in (replicate n false)) (λ t. empty_places n t false) in
     rw c.new-past.ensures.over (record {
       at_word = tt;
       half_waits =

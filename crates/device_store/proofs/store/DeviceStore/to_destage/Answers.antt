@@ -14,7 +14,7 @@ pub returns-then-some_up-clause-least : goal.returns-then-some_up-clause-least
 returns-then-some_up-clause-least g c =
     let s = state_of c.args.self.now in
     let n = c.args.self.now.cylinders * 15 in
-    let few : n ≤ 960 = omega (arith, c.args.self.now.most) in
+    let few : n ≤ 65535 = omega (arith, c.args.self.now.most) in
     c.first.ensures ∙ least_of n c.destaged.result (is_destaged contents s) few c.destaged.ensures
     (λ t le. none_destaged s n t c.args.self.now.frame_of_each c.args.self.now.loose_of_each le)
     ∙ sym (destages s (sym c.some_up.ensures ∙ c.if-some_up.true))
@@ -23,7 +23,7 @@ pub returns-then-some_up-clause-here : goal.returns-then-some_up-clause-here
 returns-then-some_up-clause-here g c =
     let s = state_of c.args.self.now in
     let n = c.args.self.now.cylinders * 15 in
-    let few : n ≤ 960 = omega (arith, c.args.self.now.most) in
+    let few : n ≤ 65535 = omega (arith, c.args.self.now.most) in
     if_some _ _ (IsOne n (is_destaged contents s)) (λ t. t < n)
     (c.first.ensures ∙ least_of n c.destaged.result (is_destaged contents s) few c.destaged.ensures
     (λ t le. none_destaged s n t c.args.self.now.frame_of_each c.args.self.now.loose_of_each le))
@@ -36,7 +36,7 @@ pub returns-then-some_up-clause-framed : goal.returns-then-some_up-clause-framed
 returns-then-some_up-clause-framed g c =
     let s = state_of c.args.self.now in
     let n = c.args.self.now.cylinders * 15 in
-    let few : n ≤ 960 = omega (arith, c.args.self.now.most) in
+    let few : n ≤ 65535 = omega (arith, c.args.self.now.most) in
     if_some _ _ (IsOne n (is_destaged contents s)) (λ t. is_some (frame_at s t) ≡ true)
     (c.first.ensures ∙ least_of n c.destaged.result (is_destaged contents s) few c.destaged.ensures
     (λ t le. none_destaged s n t c.args.self.now.frame_of_each c.args.self.now.loose_of_each le))

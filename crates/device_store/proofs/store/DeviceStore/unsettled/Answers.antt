@@ -19,4 +19,4 @@ returns-clause-rest g c =
 
 pub returns-then-is_some-clause-few : goal.returns-then-is_some-clause-few
 returns-then-is_some-clause-few g c =
-    λ t is. absurd (false≢true (sym (empty_places 960 t false) ∙ ap (λ (m : List Bool). is_marked m t) (sym c.new.ensures) ∙ is))
+    λ t is. absurd (false≢true (sym (empty_places 65535 t false) ∙ ap (λ (m : List Bool). is_marked m t) (sym c.new.ensures) ∙ is))

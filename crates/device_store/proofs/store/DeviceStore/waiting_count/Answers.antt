@@ -9,10 +9,10 @@ use Rattle.device_store.proofs.store.DeviceStore.waiting_count.Goals as goal
 
 pub returns : goal.returns
 returns g c =
-    let few : c.args.self.now.cylinders * 15 ≤ 960 = omega (arith, c.args.self.now.most) in
+    let few : c.args.self.now.cylinders * 15 ≤ 65535 = omega (arith, c.args.self.now.most) in
     c.count.ensures.value
-    ∙ same_count 960 (is_marked c.waiting.result) (waits contents (state_of c.args.self.now)) c.waiting.ensures
-    ∙ count_up_to 960 (c.args.self.now.cylinders * 15) (waits contents (state_of c.args.self.now)) few
+    ∙ same_count 65535 (is_marked c.waiting.result) (waits contents (state_of c.args.self.now)) c.waiting.ensures
+    ∙ count_up_to 65535 (c.args.self.now.cylinders * 15) (waits contents (state_of c.args.self.now)) few
     (λ t le. none_beyond (state_of c.args.self.now) (c.args.self.now.cylinders * 15) t c.args.self.now.frame_of_each c.args.self.now.patch_of_each le)
 
 pub returns-then-none_waits : goal.returns-then-none_waits

@@ -17,7 +17,7 @@ push_reserved-requires c =
     let marks = c.self.inside.marks in
     let there : c.args.t < n = omega (arith, c.requires.track, ap (λ v. length v.loose) (sym c.self.view_is), length-take n marks) in
     let is : is_marked marks c.args.t ≡ true = front_mark marks n c.args.t i.2 ∙ ap (λ v. is_loose_in v.loose c.args.t) c.self.view_is ∙ c.requires.loose in
-    let one = counted_one 960 (is_marked marks) c.args.t (omega (arith, there, i.0)) is in
+    let one = counted_one 65535 (is_marked marks) c.args.t (omega (arith, there, i.0)) is in
     omega (arith, one, i.3)
 
 pub invariant_of-self : goal.invariant_of-self
@@ -27,7 +27,7 @@ invariant_of-self c =
     let marks = c.self.inside.marks in
     let there : c.args.t < n = omega (arith, c.requires.track, ap (λ v. length v.loose) (sym c.self.view_is), length-take n marks) in
     let is : is_marked marks c.args.t ≡ true = front_mark marks n c.args.t i.2 ∙ ap (λ v. is_loose_in v.loose c.args.t) c.self.view_is ∙ c.requires.loose in
-    let less = count_one_less 960 (is_marked marks) (is_marked c.set.new.self) c.args.t c.set.ensures.each (omega (arith, there, i.0)) is in (
+    let less = count_one_less 65535 (is_marked marks) (is_marked c.set.new.self) c.args.t c.set.ensures.each (omega (arith, there, i.0)) is in (
       i.0,
       ap length c.set.ensures.marks ∙ length-set marks c.args.t false ∙ i.1,
       none_behind marks c.set.new.self n c.args.t false there i.2 c.set.ensures.each,
@@ -48,7 +48,7 @@ returns-clause-weight c =
     let marks = c.self.inside.marks in
     let there : c.args.t < n = omega (arith, c.requires.track, ap (λ v. length v.loose) (sym c.self.view_is), length-take n marks) in
     let is : is_marked marks c.args.t ≡ true = front_mark marks n c.args.t i.2 ∙ ap (λ v. is_loose_in v.loose c.args.t) c.self.view_is ∙ c.requires.loose in
-    let less = count_one_less 960 (is_marked marks) (is_marked c.set.new.self) c.args.t c.set.ensures.each (omega (arith, there, i.0)) is in
+    let less = count_one_less 65535 (is_marked marks) (is_marked c.set.new.self) c.args.t c.set.ensures.each (omega (arith, there, i.0)) is in
     let was = count_is marks n i.2 c.args.self.now.loose (ap (λ v. v.loose) c.self.view_is) in
     let now = counted c.set.new.self n (none_behind marks c.set.new.self n c.args.t false there i.2 c.set.ensures.each) in
     omega (arith, less, was, now, ap (λ v. length v.acts) c.self.view_is, c.push_reserved.ensures.len)

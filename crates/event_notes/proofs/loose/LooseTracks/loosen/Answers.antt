@@ -17,7 +17,7 @@ invariant_of-self c =
     let marks = c.self.inside.marks in
     let there : c.args.t < n = omega (arith, c.requires.track, ap (λ v. length v.loose) (sym c.self.view_is), length-take n marks) in
     let firm : is_marked marks c.args.t ≡ false = front_mark marks n c.args.t i.2 ∙ ap (λ v. is_loose_in v.loose c.args.t) c.self.view_is ∙ c.requires.firm in
-    let more = count_one_more 960 (is_marked marks) (is_marked c.set.new.self) c.args.t c.set.ensures.each (omega (arith, there, i.0)) firm in
+    let more = count_one_more 65535 (is_marked marks) (is_marked c.set.new.self) c.args.t c.set.ensures.each (omega (arith, there, i.0)) firm in
     let was = count_is marks n i.2 c.args.self.now.loose (ap (λ v. v.loose) c.self.view_is) in (
       i.0,
       ap length c.set.ensures.marks ∙ length-set marks c.args.t true ∙ i.1,
@@ -39,7 +39,7 @@ returns-clause-weight c =
     let marks = c.self.inside.marks in
     let there : c.args.t < n = omega (arith, c.requires.track, ap (λ v. length v.loose) (sym c.self.view_is), length-take n marks) in
     let firm : is_marked marks c.args.t ≡ false = front_mark marks n c.args.t i.2 ∙ ap (λ v. is_loose_in v.loose c.args.t) c.self.view_is ∙ c.requires.firm in
-    let more = count_one_more 960 (is_marked marks) (is_marked c.set.new.self) c.args.t c.set.ensures.each (omega (arith, there, i.0)) firm in
+    let more = count_one_more 65535 (is_marked marks) (is_marked c.set.new.self) c.args.t c.set.ensures.each (omega (arith, there, i.0)) firm in
     let was = count_is marks n i.2 c.args.self.now.loose (ap (λ v. v.loose) c.self.view_is) in
     let is = counted c.set.new.self n (none_behind marks c.set.new.self n c.args.t true there i.2 c.set.ensures.each) in
     omega (arith, more, was, is, ap (λ v. length v.acts) c.self.view_is, c.push_reserved.ensures.len)

@@ -10,29 +10,29 @@ use Rattle.event_notes.proofs.Counted.{count_none, some_counted}
 use Rattle.event_notes.proofs.Loosely.{count_is, counted, least_is}
 use Rattle.event_notes.proofs.loose.LooseTracks.lose.Goals as goal
 
-none : (marks : List Bool) → marks ≡ replicate 960 false → count_below 960 (is_marked marks) ≡ 0
-none marks e = count_none 960 (is_marked marks) (λ t. rw e (empty_places 960 t false))
+none : (marks : List Bool) → marks ≡ replicate 65535 false → count_below 65535 (is_marked marks) ≡ 0
+none marks e = count_none 65535 (is_marked marks) (λ t. rw e (empty_places 65535 t false))
 
 pub push_reserved-requires : goal.push_reserved-requires
 push_reserved-requires c =
     let i = c.self.invariant in
     let is = least_is c.self.inside.marks c.self.inside.tracks i.0 i.1 i.2 in
-    let some : is_some (least 960 (is_marked c.self.inside.marks)) ≡ true =
+    let some : is_some (least 65535 (is_marked c.self.inside.marks)) ≡ true =
     ap is_some (sym is) ∙ ap (λ v. is_some (least (length v.loose) (is_loose_in v.loose))) c.self.view_is ∙ c.requires in
-    let one = some_counted 960 (is_marked c.self.inside.marks) some in
+    let one = some_counted 65535 (is_marked c.self.inside.marks) some in
     omega (arith, one, i.3)
 
 pub invariant_of-self : goal.invariant_of-self
 invariant_of-self c =
     let i = c.self.invariant in
     let is = least_is c.self.inside.marks c.self.inside.tracks i.0 i.1 i.2 in
-    let some : is_some (least 960 (is_marked c.self.inside.marks)) ≡ true =
+    let some : is_some (least 65535 (is_marked c.self.inside.marks)) ≡ true =
     ap is_some (sym is) ∙ ap (λ v. is_some (least (length v.loose) (is_loose_in v.loose))) c.self.view_is ∙ c.requires in
-    let one = some_counted 960 (is_marked c.self.inside.marks) some in
+    let one = some_counted 65535 (is_marked c.self.inside.marks) some in
     let no_more = none c.new-self-inside.result c.new-self-inside.ensures in (
       i.0,
-      ap length c.new-self-inside.ensures ∙ length-replicate 960 false,
-      λ t behind. rw c.new-self-inside.ensures (empty_places 960 t false),
+      ap length c.new-self-inside.ensures ∙ length-replicate 65535 false,
+      λ t behind. rw c.new-self-inside.ensures (empty_places 65535 t false),
       omega (arith, no_more, one, i.3, c.push_reserved.ensures.len, c.push_reserved.ensures.capacity),
     )
 
@@ -42,16 +42,16 @@ returns-clause-loose c =
     let marks = c.self.inside.marks in
     let tracks : length c.args.self.now.loose ≡ n = ap (λ v. length v.loose) (sym c.self.view_is)
     ∙ length-take-le n marks (omega (arith, c.self.invariant.0, c.self.invariant.1)) in
-    rw (c.new-self-inside.ensures, tracks) (take-replicate n 960 false c.self.invariant.0)
+    rw (c.new-self-inside.ensures, tracks) (take-replicate n 65535 false c.self.invariant.0)
 
 pub returns-clause-weight : goal.returns-clause-weight
 returns-clause-weight c =
     let i = c.self.invariant in
     let is = least_is c.self.inside.marks c.self.inside.tracks i.0 i.1 i.2 in
-    let some : is_some (least 960 (is_marked c.self.inside.marks)) ≡ true =
+    let some : is_some (least 65535 (is_marked c.self.inside.marks)) ≡ true =
     ap is_some (sym is) ∙ ap (λ v. is_some (least (length v.loose) (is_loose_in v.loose))) c.self.view_is ∙ c.requires in
-    let one = some_counted 960 (is_marked c.self.inside.marks) some in
+    let one = some_counted 65535 (is_marked c.self.inside.marks) some in
     let no_more = none c.new-self-inside.result c.new-self-inside.ensures in
     let was = count_is c.self.inside.marks c.self.inside.tracks i.2 c.args.self.now.loose (ap (λ v. v.loose) c.self.view_is) in
-    let now = counted c.new-self-inside.result c.self.inside.tracks (λ t behind. rw c.new-self-inside.ensures (empty_places 960 t false)) in
+    let now = counted c.new-self-inside.result c.self.inside.tracks (λ t behind. rw c.new-self-inside.ensures (empty_places 65535 t false)) in
     omega (arith, no_more, one, was, now, ap (λ v. length v.acts) c.self.view_is, c.push_reserved.ensures.len)

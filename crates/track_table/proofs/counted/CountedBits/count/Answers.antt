@@ -5,5 +5,5 @@ use Rattle.track_table.proofs.counted.CountedBits.count.Goals as goal
 
 pub returns-clause-range : goal.returns-clause-range
 returns-clause-range c =
-    let few = few_marked 960 (is_marked c.self.inside.bits) in
+    let few = few_marked 65535 (is_marked c.self.inside.bits) in
     omega (arith, few, c.self.invariant.0)

@@ -1,0 +1,14 @@
+use Rattle.std.proofs.Common.{◌≡◌, get_or, ◌∙◌, arith}
+use Rattle.std.proofs.lemmas.Grind.{get_or_default_zero}
+use Rattle.track_table.proofs.MarkLists.{word_is, no_last}
+use Rattle.track_table.proofs.bits.TrackBitsMarks.word.Goals as goal
+
+pub returns-clause-marks : goal.returns-clause-marks
+returns-clause-marks c =
+    let words = c.self.inside.words.items in
+    let word : c.index.result.now ≡ get_or words c.args.k 0 =
+    c.index.ensures ∙ get_or_default_zero words c.args.k c.index.result.now (omega (arith, c.self.invariant.0, c.requires)) in
+    rw (← c.self.view_is, word) (word_is words c.args.k c.self.invariant.0 c.self.invariant.1)
+
+pub returns-clause-last : goal.returns-clause-last
+returns-clause-last c = rw (← c.self.view_is) (no_last c.self.inside.words.items)

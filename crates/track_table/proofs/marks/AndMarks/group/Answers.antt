@@ -1,0 +1,11 @@
+use Rattle.std.proofs.Common.{refl}
+use Rattle.track_table.proofs.AskedWords.{and_group}
+use Rattle.track_table.proofs.marks.AndMarks.group.Goals as goal
+
+pub returns-clause-words : goal.returns-clause-words
+returns-clause-words g c =
+    and_group (g.A.Marks.marked c.args.self.now.one.now) (g.B.Marks.marked c.args.self.now.other.now) c.args.j
+    c.group.result c.group-2.result c.group.ensures.words c.group-2.ensures.words
+
+pub returns-clause-last : goal.returns-clause-last
+returns-clause-last g c = λ q past. rw (c.group.ensures.last q past) refl
