@@ -1,4 +1,4 @@
-ghost use Rattle.std.specs.Prelude.{◌≡◌, ◌≤◌, ◌*◌, IfErr, IfOk, None, Some, replicate};
+ghost use Rattle.std.specs.Prelude.{◌≡◌, ◌≤◌, ◌*◌, [], IfErr, IfOk, None, Some, false, replicate};
 ghost use Rattle.device_defs.specs.Marks.{no_counts};
 ghost use Rattle.device_defs.specs.Store.{no_debt};
 ghost use Rattle.device_store.specs.State.{state_of, on_a, on_b, opened_store};
@@ -7,7 +7,7 @@ use crate::DeviceStore;
 use ckd_types::{DeviceNo, Geometry, HEADS, NoMemory};
 use device_defs::{Counts, Losses};
 use device_outside::{TrackBuffer, Volume};
-use duplex_pair::DuplexPair;
+use duplex_pair::{DuplexPair, StaleMarks};
 use event_notes::{Debts, LooseTracks};
 use loss_model::LostList;
 use nv_store::{EditRoom, Patches};
@@ -37,7 +37,7 @@ fn no_frames(alloc: Global, cylinders: u16) -> Result<Frames, NoMemory>
     requires { cylinders ≤ 4369 }
     ensures { IfOk result (λ made. made ≡ replicate (cylinders * 15) None) }
 {
-    let mut frames = Frames::new(alloc);
+    let mut frames = Frames::new(alloc)?;
     frames.reserve(cylinders)?;
     Ok(frames)
 }
@@ -47,7 +47,7 @@ fn no_patches(alloc: Global, cylinders: u16) -> Result<Patches, NoMemory>
     requires { cylinders ≤ 4369 }
     ensures { IfOk result (λ made. made ≡ replicate (cylinders * 15) None) }
 {
-    let mut patches = Patches::new(alloc);
+    let mut patches = Patches::new(alloc)?;
     patches.reserve(cylinders)?;
     Ok(patches)
 }
@@ -58,6 +58,10 @@ struct Parts {
     frames: Frames,
     patches: Patches,
     owed: Debts,
+    stale: StaleMarks,
+    none: StaleMarks,
+    lost: LostList,
+    loose: LooseTracks,
     buffer: TrackBuffer,
 }
 
@@ -67,12 +71,21 @@ impl Parts {
         ensures frames { IfOk result (λ parts. parts.frames ≡ replicate (cylinders * 15) None) }
         ensures patches { IfOk result (λ parts. parts.patches ≡ replicate (cylinders * 15) None) }
         ensures owed { IfOk result (λ parts. parts.owed ≡ replicate (cylinders * 15) no_debt) }
+        ensures stale { IfOk result (λ parts. parts.stale ≡ replicate (cylinders * 15) false) }
+        ensures none { IfOk result (λ parts. parts.none ≡ replicate (cylinders * 15) false) }
+        ensures lost { IfOk result (λ parts. parts.lost ≡ replicate (cylinders * 15) false) }
+        ensures loose { IfOk result (λ parts. parts.loose.loose ≡ replicate (cylinders * 15) false) }
+        ensures acts { IfOk result (λ parts. parts.loose.acts ≡ []) }
     {
         let tracks = usize::from(cylinders) * usize::from(HEADS);
         Ok(Parts {
             frames: no_frames(alloc, cylinders)?,
             patches: no_patches(alloc, cylinders)?,
             owed: Debts::new(alloc, tracks)?,
+            stale: StaleMarks::new(alloc, cylinders)?,
+            none: StaleMarks::new(alloc, cylinders)?,
+            lost: LostList::new(alloc, cylinders)?,
+            loose: LooseTracks::new(alloc, cylinders)?,
             buffer: TrackBuffer::new(alloc)?,
         })
     }
@@ -104,12 +117,12 @@ impl<V: Volume> DeviceStore<V> {
             geometry,
             cylinders,
             data_number: 0,
-            pair: DuplexPair::single(volume, cylinders),
+            pair: DuplexPair::single(volume, parts.stale, parts.none),
             half: None,
             frames: parts.frames,
             patches: parts.patches,
-            lost: LostList::new(cylinders),
-            loose: LooseTracks::new(alloc, cylinders),
+            lost: parts.lost,
+            loose: parts.loose,
             queue: Queue::new(),
             owed: parts.owed,
             counts: no_counts(),

@@ -41,8 +41,8 @@ counted marks n few size none =
     ∙ ap (λ (m : ℕ). count_below m (is_marked marks)) e
 
 -- the least of some tracks
-pub least_of : (n : ℕ) (marks : List Bool) (p : ℕ → Bool) → n ≤ 65535 → ((t : ℕ) → is_marked marks t ≡ p t) → ((t : ℕ) → n ≤ t → p t ≡ false) →
-    least 65535 (is_marked marks) ≡ least n p
-least_of n marks p few each none =
+pub least_of : (n : ℕ) (marked p : ℕ → Bool) → n ≤ 65535 → ((t : ℕ) → marked t ≡ p t) → ((t : ℕ) → n ≤ t → p t ≡ false) →
+    least 65535 marked ≡ least n p
+least_of n marked p few each none =
     let e : n + (65535 - n) ≡ 65535 = omega (arith, few) in
-    least_same 65535 (is_marked marks) p each ∙ ap (λ (m : ℕ). least m p) (sym e) ∙ least_front n (65535 - n) p none
+    least_same 65535 marked p each ∙ ap (λ (m : ℕ). least m p) (sym e) ∙ least_front n (65535 - n) p none

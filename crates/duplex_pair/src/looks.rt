@@ -1,5 +1,5 @@
-ghost use Rattle.std.specs.Prelude.{◌≡◌, ◌≤◌, ◌*◌, ◌&&◌, IfSome, None, Some, false, is_some, length, not, true};
-ghost use Rattle.device_defs.specs.Store.{new_side, no_side, level_at};
+ghost use Rattle.std.specs.Prelude.{◌≡◌, ◌&&◌, IfSome, None, Some, false, is_some, length, not, true};
+ghost use Rattle.device_defs.specs.Store.{level_at};
 ghost use Rattle.duplex_pair.specs.Sides.{marks_of, state_in, copies_in};
 ghost use Rattle.track_table.specs.Bits.{is_marked};
 ghost use Rattle.track_table.specs.Tracks.{count_below, least};
@@ -7,16 +7,17 @@ ghost use Rattle.track_table.specs.Tracks.{count_below, least};
 use crate::{DuplexPair, SideState, SideVolumes, StaleMarks};
 use ckd_types::{DeviceNo, Side, TrackNo};
 use device_outside::Volume;
+use track_table::{Or, Without, first};
 
 impl<V: Volume> DuplexPair<V> {
-    /// A volume that is alone, on which no track is stale. Takes no memory, as every call of a pair.
-    pub fn single(volume: V, cylinders: u16) -> DuplexPair<V>
-        requires few { cylinders ≤ 4369 }
-        requires size { (V.view volume).tracks ≡ cylinders * 15 }
+    /// A volume that is alone, with marks for its side and for another. Takes no memory, as every call of a pair.
+    pub fn single(volume: V, stale: StaleMarks, none: StaleMarks) -> DuplexPair<V>
+        requires size { (V.view volume).tracks ≡ length stale }
+        requires same { length none ≡ length stale }
         ensures volume { result.volumes.a ≡ Some volume }
         ensures none { result.volumes.b ≡ None }
-        ensures a { marks_of result.a ≡ new_side (cylinders * 15) false }
-        ensures b { marks_of result.b ≡ no_side (cylinders * 15) }
+        ensures a { marks_of result.a ≡ record { up = true; stale = stale } }
+        ensures b { marks_of result.b ≡ record { up = false; stale = none } }
         ensures held { result.held ≡ false }
         ensures lent { result.lent ≡ None }
     {
@@ -27,11 +28,11 @@ impl<V: Volume> DuplexPair<V> {
             },
             a: SideState {
                 up: true,
-                stale: StaleMarks::new(cylinders),
+                stale,
             },
             b: SideState {
                 up: false,
-                stale: StaleMarks::new(cylinders),
+                stale: none,
             },
             held: false,
             lent: None,
@@ -108,11 +109,20 @@ impl<V: Volume> DuplexPair<V> {
         if !self.both_up() {
             return None;
         }
-        let to_a = self.a.stale.marks().without(self.b.stale.marks());
+        let to_a = Without {
+            one: self.a.stale.marks(),
+            other: self.b.stale.marks(),
+        };
         if self.held {
-            return to_a.first();
+            return first(&to_a);
         }
-        let to_b = self.b.stale.marks().without(self.a.stale.marks());
-        to_a.or(&to_b).first()
+        let to_b = Without {
+            one: self.b.stale.marks(),
+            other: self.a.stale.marks(),
+        };
+        first(&Or {
+            one: &to_a,
+            other: &to_b,
+        })
     }
 }

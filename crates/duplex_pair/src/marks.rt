@@ -1,8 +1,9 @@
-ghost use Rattle.std.specs.Prelude.{◌≡◌, ℕ, ◌*◌, ◌<◌, ◌≤◌, true, false, length, replicate, slice_index_or, slice_set};
+ghost use Rattle.std.specs.Prelude.{◌≡◌, ℕ, ◌*◌, ◌<◌, ◌≤◌, IfOk, true, false, length, replicate, slice_index_or, slice_set};
 ghost use Rattle.track_table.specs.Bits.{is_marked};
 ghost use Rattle.track_table.specs.Tracks.{count_below};
 
-use ckd_types::{HEADS, TrackNo};
+use ckd_types::{HEADS, NoMemory, TrackNo};
+use std::alloc::Global;
 use std::marker::Model;
 use track_table::TrackBits;
 
@@ -34,15 +35,15 @@ fn track(n: u16) -> TrackNo
 }
 
 impl StaleMarks {
-    /// No track of a device with so many cylinders. Takes no memory, as every call of these marks.
-    pub fn new(cylinders: u16) -> StaleMarks
+    /// No track of a device with so many cylinders. No other call of these marks takes memory.
+    pub fn new(alloc: Global, cylinders: u16) -> Result<StaleMarks, NoMemory>
         requires { cylinders ≤ 4369 }
-        ensures { result ≡ replicate (cylinders * 15) false }
+        ensures { IfOk result (λ made. made ≡ replicate (cylinders * 15) false) }
     {
-        StaleMarks {
-            marks: TrackBits::new(),
+        Ok(StaleMarks {
+            marks: TrackBits::new(alloc)?,
             tracks: cylinders * HEADS,
-        }
+        })
     }
 
     /// Marks a track, or takes its mark away.
@@ -88,6 +89,6 @@ impl StaleMarks {
     pub fn clear(&mut self)
         ensures { self.new ≡ replicate (length self.old) false }
     {
-        self.marks = TrackBits::new();
+        self.marks.clear();
     }
 }

@@ -55,7 +55,7 @@ impl Debts {
     {
         Ok(Debts {
             owed: vec![in alloc; no_debt(); tracks]?,
-            marks: CountedBits::new(),
+            marks: CountedBits::new(alloc)?,
         })
     }
 

@@ -1,4 +1,4 @@
-ghost use Rattle.std.specs.Prelude.{◌≡◌, ℕ, ◌*◌, ◌+◌, ◌++◌, ◌<◌, ◌≤◌, [], ◌∷◌, OnOk, false, true, is_some};
+ghost use Rattle.std.specs.Prelude.{◌≡◌, ℕ, ◌*◌, ◌+◌, ◌++◌, ◌<◌, ◌≤◌, [], ◌∷◌, IfOk, OnOk, false, true, is_some};
 ghost use Rattle.std.specs.Prelude.{if◌then◌else◌, length, replicate, slice_index_or, slice_set};
 ghost use Rattle.plain_defs.specs.declared.journal.Act.TheVariants.{Loosen, Harden, CfwLost};
 ghost use Rattle.track_table.specs.Bits.{is_marked};
@@ -36,17 +36,17 @@ impl Model for LooseTracks {
 }
 
 impl LooseTracks {
-    /// No track of a device with so many cylinders, and no act. Takes no memory.
-    pub fn new(alloc: Global, cylinders: u16) -> LooseTracks
+    /// No track of a device with so many cylinders, and no act.
+    pub fn new(alloc: Global, cylinders: u16) -> Result<LooseTracks, NoMemory>
         requires { cylinders ≤ 4369 }
-        ensures loose { result.loose ≡ replicate (cylinders * 15) false }
-        ensures acts { result.acts ≡ [] }
+        ensures loose { IfOk result (λ made. made.loose ≡ replicate (cylinders * 15) false) }
+        ensures acts { IfOk result (λ made. made.acts ≡ []) }
     {
-        LooseTracks {
-            marks: CountedBits::new(),
+        Ok(LooseTracks {
+            marks: CountedBits::new(alloc)?,
             tracks: usize::from(cylinders) * usize::from(HEADS),
             acts: Vec::new(alloc),
-        }
+        })
     }
 
     /// Whether a track is loose.
@@ -136,7 +136,7 @@ impl LooseTracks {
         ensures acts { self.new.acts ≡ self.old.acts }
         ensures weight { weight self.new ≤ weight self.old }
     {
-        self.marks = CountedBits::new();
+        self.marks.clear();
     }
 
     /// The data of cache fast write are lost: some track is loose.
@@ -147,6 +147,6 @@ impl LooseTracks {
         ensures weight { weight self.new ≤ weight self.old }
     {
         self.acts.push_reserved(Act::CfwLost);
-        self.marks = CountedBits::new();
+        self.marks.clear();
     }
 }

@@ -1,9 +1,10 @@
-ghost use Rattle.std.specs.Prelude.{◌≡◌, ℕ, ◌*◌, ◌<◌, ◌≤◌, true, false, length, replicate, slice_get, slice_index_or, slice_set};
+ghost use Rattle.std.specs.Prelude.{◌≡◌, ℕ, ◌*◌, ◌<◌, ◌≤◌, IfOk, true, false, length, replicate, slice_get, slice_index_or, slice_set};
 ghost use Rattle.track_table.specs.Bits.{is_marked};
 ghost use Rattle.track_table.specs.Marked.{marked_left};
 ghost use Rattle.loss_model.specs.Lost.{lost_tracks};
 
-use ckd_types::{HEADS, TrackNo};
+use ckd_types::{HEADS, NoMemory, TrackNo};
+use std::alloc::Global;
 use std::marker::Model;
 use track_table::{Marked, TrackBits};
 
@@ -27,15 +28,15 @@ impl Model for LostList {
 }
 
 impl LostList {
-    /// No track of a device with so many cylinders. Takes no memory, as every call of a lost list.
-    pub fn new(cylinders: u16) -> LostList
+    /// No track of a device with so many cylinders. No other call of a lost list takes memory.
+    pub fn new(alloc: Global, cylinders: u16) -> Result<LostList, NoMemory>
         requires { cylinders ≤ 4369 }
-        ensures { result ≡ replicate (cylinders * 15) false }
+        ensures { IfOk result (λ made. made ≡ replicate (cylinders * 15) false) }
     {
-        LostList {
-            marks: TrackBits::new(),
+        Ok(LostList {
+            marks: TrackBits::new(alloc)?,
             tracks: usize::from(cylinders) * usize::from(HEADS),
-        }
+        })
     }
 
     /// Adds a track. A track that is there stays there once.
@@ -85,6 +86,6 @@ impl LostList {
     pub fn clear(&mut self)
         ensures { self.new ≡ replicate (length self.old) false }
     {
-        self.marks = TrackBits::new();
+        self.marks.clear();
     }
 }

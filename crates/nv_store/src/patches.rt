@@ -1,4 +1,4 @@
-ghost use Rattle.std.specs.Prelude.{◌≡◌, ℕ, ◌<◌, ◌≤◌, ◌*◌, IsOk, OnOk, OnErr, IsTrue, false, true, [], None, length, replicate, slice_set};
+ghost use Rattle.std.specs.Prelude.{◌≡◌, ℕ, ◌<◌, ◌≤◌, ◌*◌, IfOk, IsOk, OnOk, OnErr, IsTrue, false, true, [], None, length, replicate, slice_set};
 ghost use Rattle.std.specs.Option.{option_copied};
 ghost use Rattle.track_table.specs.Bits.{is_marked};
 ghost use Rattle.track_table.specs.Table.{with_places};
@@ -34,13 +34,13 @@ impl Model for Patches {
 }
 
 impl Patches {
-    /// No patch. Takes no memory.
-    pub fn new(alloc: Global) -> Patches
-        ensures { result ≡ [] }
+    /// No patch, and no place for one.
+    pub fn new(alloc: Global) -> Result<Patches, NoMemory>
+        ensures { IfOk result (λ made. made ≡ []) }
     {
-        Patches {
-            table: TrackTable::new(alloc),
-        }
+        Ok(Patches {
+            table: TrackTable::new(alloc)?,
+        })
     }
 
     /// Makes places for the tracks of a device, in which `put` takes no memory.

@@ -1,4 +1,4 @@
-ghost use Rattle.std.specs.Prelude.{◌≡◌, ℕ, ◌≤◌, ◌<◌, ◌*◌, IsOk, OnOk, OnErr, IfErr, IsTrue, [], false, true, None, Some, length, replicate, slice_set};
+ghost use Rattle.std.specs.Prelude.{◌≡◌, ℕ, ◌≤◌, ◌<◌, ◌*◌, IfOk, IsOk, OnOk, OnErr, IfErr, IsTrue, [], false, true, None, Some, length, replicate, slice_set};
 ghost use Rattle.std.specs.Option.{option_copied};
 ghost use Rattle.track_table.specs.Bits.{is_marked};
 ghost use Rattle.track_table.specs.Table.{with_places};
@@ -58,14 +58,14 @@ fn is_modified(frame: &Option<Frame>) -> bool
 }
 
 impl Frames {
-    /// No frame. Takes no memory.
-    pub fn new(alloc: Global) -> Frames
-        ensures { result ≡ [] }
+    /// No frame, and no place for one.
+    pub fn new(alloc: Global) -> Result<Frames, NoMemory>
+        ensures { IfOk result (λ made. made ≡ []) }
     {
-        Frames {
-            table: TrackTable::new(alloc),
-            modified: CountedBits::new(),
-        }
+        Ok(Frames {
+            table: TrackTable::new(alloc)?,
+            modified: CountedBits::new(alloc)?,
+        })
     }
 
     /// Makes places for the tracks of a device, in which `put` takes no memory.
@@ -224,6 +224,6 @@ impl Frames {
         ensures { self.new ≡ replicate (length self.old) None }
     {
         self.table.clear();
-        self.modified = CountedBits::new();
+        self.modified.clear();
     }
 }

@@ -1,5 +1,5 @@
 use Rattle.std.proofs.Common.{◌≡◌, ◌∙◌, ℕ, refl, sym}
-use Rattle.std.specs.Prelude.{is_some}
+use Rattle.std.specs.Prelude.{◌&&◌, ◌||◌, not, is_some}
 use Rattle.track_table.specs.Bits.{is_marked}
 use Rattle.track_table.proofs.Rising.{least_none}
 use Rattle.duplex_pair.specs.Sides.{copies_in, marks_of}
@@ -17,23 +17,23 @@ pub returns-then-self : goal.returns-then-self
 returns-then-self g c =
     let p = c.args.self.now in
     let up = sym c.both_up.ensures ∙ c.if-not-both_up.false in
-    let each : (t : ℕ) → is_marked c.without-to_a.result t ≡ is_some (copies_in (marks_of p.a) (marks_of p.b) p.held t) =
-    λ t. rw (c.without-to_a.ensures t, c.marks.ensures.each t, c.marks-2.ensures.each t)
+    let each : (t : ℕ) → (is_marked c.marks.result.now t && not (is_marked c.marks-2.result.now t))
+        ≡ is_some (copies_in (marks_of p.a) (marks_of p.b) p.held t) =
+    λ t. rw (c.marks.ensures.each t, c.marks-2.ensures.each t)
     (held_copied (marks_of p.a) (marks_of p.b) p.held t up c.if-self.true)
     in
     c.first.ensures
-    ∙ least_of _ c.without-to_a.result (λ t. is_some (copies_in (marks_of p.a) (marks_of p.b) p.held t)) c.marks.ensures.few each
+    ∙ least_of _ _ (λ t. is_some (copies_in (marks_of p.a) (marks_of p.b) p.held t)) c.marks.ensures.few each
     (λ t le. none_past (marks_of p.a) (marks_of p.b) p.held _ t refl p.same_size up le)
 
 pub returns : goal.returns
 returns g c =
     let p = c.args.self.now in
     let up = sym c.both_up.ensures ∙ c.if-not-both_up.false in
-    let each : (t : ℕ) → is_marked c.or.result t ≡ is_some (copies_in (marks_of p.a) (marks_of p.b) p.held t) =
+    let each : (t : ℕ) → ((is_marked c.marks.result.now t && not (is_marked c.marks-2.result.now t))
+        || (is_marked c.marks-3.result.now t && not (is_marked c.marks-4.result.now t)))
+        ≡ is_some (copies_in (marks_of p.a) (marks_of p.b) p.held t) =
     λ t. rw (
-      c.or.ensures t,
-      c.without-to_a.ensures t,
-      c.without-to_b.ensures t,
       c.marks.ensures.each t,
       c.marks-2.ensures.each t,
       c.marks-3.ensures.each t,
@@ -42,5 +42,5 @@ returns g c =
     (free_copied (marks_of p.a) (marks_of p.b) p.held t up c.if-self.false)
     in
     c.first-2.ensures
-    ∙ least_of _ c.or.result (λ t. is_some (copies_in (marks_of p.a) (marks_of p.b) p.held t)) c.marks.ensures.few each
+    ∙ least_of _ _ (λ t. is_some (copies_in (marks_of p.a) (marks_of p.b) p.held t)) c.marks.ensures.few each
     (λ t le. none_past (marks_of p.a) (marks_of p.b) p.held _ t refl p.same_size up le)

@@ -16,10 +16,10 @@ none marks e = count_none 65535 (is_marked marks) (λ t. rw e (empty_places 6553
 pub invariant_of-self : goal.invariant_of-self
 invariant_of-self c =
     let i = c.self.invariant in
-    let no_more = none c.new-self-inside.result c.new-self-inside.ensures in (
+    let no_more = none c.clear.new.self c.clear.ensures in (
       i.0,
-      ap length c.new-self-inside.ensures ∙ length-replicate 65535 false,
-      λ t behind. rw c.new-self-inside.ensures (empty_places 65535 t false),
+      ap length c.clear.ensures ∙ length-replicate 65535 false,
+      λ t behind. rw c.clear.ensures (empty_places 65535 t false),
       omega (arith, no_more, i.3),
     )
 
@@ -29,11 +29,11 @@ returns-clause-loose c =
     let marks = c.self.inside.marks in
     let tracks : length c.args.self.now.loose ≡ n = ap (λ v. length v.loose) (sym c.self.view_is)
     ∙ length-take-le n marks (omega (arith, c.self.invariant.0, c.self.invariant.1)) in
-    rw (c.new-self-inside.ensures, tracks) (take-replicate n 65535 false c.self.invariant.0)
+    rw (c.clear.ensures, tracks) (take-replicate n 65535 false c.self.invariant.0)
 
 pub returns-clause-weight : goal.returns-clause-weight
 returns-clause-weight c =
     let i = c.self.invariant in
-    let no_more = none c.new-self-inside.result c.new-self-inside.ensures in
-    let now = counted c.new-self-inside.result c.self.inside.tracks (λ t behind. rw c.new-self-inside.ensures (empty_places 65535 t false)) in
+    let no_more = none c.clear.new.self c.clear.ensures in
+    let now = counted c.clear.new.self c.self.inside.tracks (λ t behind. rw c.clear.ensures (empty_places 65535 t false)) in
     omega (arith, no_more, now, ap (λ v. length v.acts) c.self.view_is)

@@ -29,10 +29,10 @@ invariant_of-self c =
     let some : is_some (least 65535 (is_marked c.self.inside.marks)) ≡ true =
     ap is_some (sym is) ∙ ap (λ v. is_some (least (length v.loose) (is_loose_in v.loose))) c.self.view_is ∙ c.requires in
     let one = some_counted 65535 (is_marked c.self.inside.marks) some in
-    let no_more = none c.new-self-inside.result c.new-self-inside.ensures in (
+    let no_more = none c.clear.new.self c.clear.ensures in (
       i.0,
-      ap length c.new-self-inside.ensures ∙ length-replicate 65535 false,
-      λ t behind. rw c.new-self-inside.ensures (empty_places 65535 t false),
+      ap length c.clear.ensures ∙ length-replicate 65535 false,
+      λ t behind. rw c.clear.ensures (empty_places 65535 t false),
       omega (arith, no_more, one, i.3, c.push_reserved.ensures.len, c.push_reserved.ensures.capacity),
     )
 
@@ -42,7 +42,7 @@ returns-clause-loose c =
     let marks = c.self.inside.marks in
     let tracks : length c.args.self.now.loose ≡ n = ap (λ v. length v.loose) (sym c.self.view_is)
     ∙ length-take-le n marks (omega (arith, c.self.invariant.0, c.self.invariant.1)) in
-    rw (c.new-self-inside.ensures, tracks) (take-replicate n 65535 false c.self.invariant.0)
+    rw (c.clear.ensures, tracks) (take-replicate n 65535 false c.self.invariant.0)
 
 pub returns-clause-weight : goal.returns-clause-weight
 returns-clause-weight c =
@@ -51,7 +51,7 @@ returns-clause-weight c =
     let some : is_some (least 65535 (is_marked c.self.inside.marks)) ≡ true =
     ap is_some (sym is) ∙ ap (λ v. is_some (least (length v.loose) (is_loose_in v.loose))) c.self.view_is ∙ c.requires in
     let one = some_counted 65535 (is_marked c.self.inside.marks) some in
-    let no_more = none c.new-self-inside.result c.new-self-inside.ensures in
+    let no_more = none c.clear.new.self c.clear.ensures in
     let was = count_is c.self.inside.marks c.self.inside.tracks i.2 c.args.self.now.loose (ap (λ v. v.loose) c.self.view_is) in
-    let now = counted c.new-self-inside.result c.self.inside.tracks (λ t behind. rw c.new-self-inside.ensures (empty_places 65535 t false)) in
+    let now = counted c.clear.new.self c.self.inside.tracks (λ t behind. rw c.clear.ensures (empty_places 65535 t false)) in
     omega (arith, no_more, one, was, now, ap (λ v. length v.acts) c.self.view_is, c.push_reserved.ensures.len)

@@ -6,9 +6,9 @@ use Rattle.loss_model.proofs.lost.LostList.new.Goals as goal
 pub invariant_of-result : goal.invariant_of-result
 invariant_of-result c =
     let tracks : c.from.result * c.from-2.result ≡ c.args.cylinders * 15 = rw (c.from.ensures, c.from-2.ensures) refl in
-    (omega (arith, tracks, c.requires), ap length c.new.ensures ∙ length-replicate 65535 false, λ t behind. rw c.new.ensures (empty_places 65535 t false))
+    (omega (arith, tracks, c.requires), ap length c.in_ok-new.ensures ∙ length-replicate 65535 false, λ t behind. rw c.in_ok-new.ensures (empty_places 65535 t false))
 
 pub returns : goal.returns
 returns c =
     let few : c.args.cylinders * 15 ≤ 65535 = omega (arith, c.requires) in
-    rw (c.from.ensures, c.from-2.ensures, c.new.ensures) (take-replicate (c.args.cylinders * 15) 65535 false few)
+    rw (c.from.ensures, c.from-2.ensures, c.in_ok-new.ensures) (take-replicate (c.args.cylinders * 15) 65535 false few)

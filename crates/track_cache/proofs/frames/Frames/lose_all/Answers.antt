@@ -6,4 +6,4 @@ use Rattle.track_cache.proofs.frames.Frames.lose_all.Goals as goal
 
 pub invariant_of-self : goal.invariant_of-self
 invariant_of-self c = λ t.
-    rw (c.new-self-inside.ensures, c.clear.ensures) (empty_places 65535 t false ∙ sym (ap is_modified_frame (empty_places (length c.self.inside.table) t None)))
+    rw (c.clear-2.ensures, c.clear.ensures) (empty_places 65535 t false ∙ sym (ap is_modified_frame (empty_places (length c.self.inside.table) t None)))
