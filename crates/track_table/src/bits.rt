@@ -65,8 +65,8 @@ fn place_of(word: u64, i: u32) -> u32
     place
 }
 
-impl Marks for TrackBits {
-    ghost marked = { λ marks t. is_marked marks t };
+impl<'a> Marks for &'a TrackBits {
+    ghost marked = { λ marks t. is_marked marks.now t };
 
     fn word(&self, k: usize) -> u64 {
         self.words[k]
@@ -125,14 +125,14 @@ impl TrackBits {
         ensures range { result ≤ 65535 }
     {
         let _ = &self.words;
-        count(self)
+        count(&self)
     }
 
     /// The least marked track.
     pub fn first(&self) -> Option<TrackNo>
         ensures { result ≡ least 65535 (is_marked self.now) }
     {
-        first(self)
+        first(&self)
     }
 
     /// Marked track `i` in rising order, counted from 0.
@@ -141,7 +141,7 @@ impl TrackBits {
     {
         let _ = &self.words;
         let mut before = i;
-        let mut k = next_word(self, 0);
+        let mut k = next_word(&self, 0);
         while k < WORDS {
             let word = self.word(k);
             let here = word.count_ones() as usize;
@@ -149,7 +149,7 @@ impl TrackBits {
                 return Some(track(k, place_of(word, before as u32)));
             }
             before -= here;
-            k = next_word(self, k + 1);
+            k = next_word(&self, k + 1);
         }
         None
     }
@@ -180,7 +180,7 @@ impl<'a> Iterator for Marked<'a> {
     ghost remaining = { item_count marked_left };
 
     fn next(&mut self) -> Option<TrackNo> {
-        match least_from(self.bits, self.from) {
+        match least_from(&self.bits, self.from) {
             Some(t) => {
                 self.from = t.get() + 1;
                 Some(t)

@@ -28,13 +28,13 @@ pub trait Marks {
 
 /// The tracks that are marked here and there.
 #[derive(Drop)]
-pub struct And<'a, A: Marks, B: Marks> {
-    pub one: &'a A,
-    pub other: &'a B,
+pub struct And<A: Marks, B: Marks> {
+    pub one: A,
+    pub other: B,
 }
 
-impl<'a, A: Marks, B: Marks> Marks for And<'a, A, B> {
-    ghost marked = { λ m t. A.marked m.one.now t && B.marked m.other.now t };
+impl<A: Marks, B: Marks> Marks for And<A, B> {
+    ghost marked = { λ m t. A.marked m.one t && B.marked m.other t };
 
     fn word(&self, k: usize) -> u64 {
         self.one.word(k) & self.other.word(k)
@@ -47,13 +47,13 @@ impl<'a, A: Marks, B: Marks> Marks for And<'a, A, B> {
 
 /// The tracks that are marked here or there.
 #[derive(Drop)]
-pub struct Or<'a, A: Marks, B: Marks> {
-    pub one: &'a A,
-    pub other: &'a B,
+pub struct Or<A: Marks, B: Marks> {
+    pub one: A,
+    pub other: B,
 }
 
-impl<'a, A: Marks, B: Marks> Marks for Or<'a, A, B> {
-    ghost marked = { λ m t. A.marked m.one.now t || B.marked m.other.now t };
+impl<A: Marks, B: Marks> Marks for Or<A, B> {
+    ghost marked = { λ m t. A.marked m.one t || B.marked m.other t };
 
     fn word(&self, k: usize) -> u64 {
         self.one.word(k) | self.other.word(k)
@@ -66,13 +66,13 @@ impl<'a, A: Marks, B: Marks> Marks for Or<'a, A, B> {
 
 /// The tracks that are marked here and not there.
 #[derive(Drop)]
-pub struct Without<'a, A: Marks, B: Marks> {
-    pub one: &'a A,
-    pub other: &'a B,
+pub struct Without<A: Marks, B: Marks> {
+    pub one: A,
+    pub other: B,
 }
 
-impl<'a, A: Marks, B: Marks> Marks for Without<'a, A, B> {
-    ghost marked = { λ m t. A.marked m.one.now t && not (B.marked m.other.now t) };
+impl<A: Marks, B: Marks> Marks for Without<A, B> {
+    ghost marked = { λ m t. A.marked m.one t && not (B.marked m.other t) };
 
     fn word(&self, k: usize) -> u64 {
         self.one.word(k) & !self.other.word(k)
