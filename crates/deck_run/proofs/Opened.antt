@@ -62,7 +62,7 @@ use Rattle.deck_run.specs.Opening.{HoldsFirst, is_open_device, numbers_in}
 use Rattle.deck_run.specs.Standing.{StandsAs, all_stood, stood_of}
 use Rattle.deck_run.proofs.Lines.{mapped_more}
 
-pub at_most : (d : DeviceLine) → is_open_device d ≡ true → d.cylinders ≤ 64
+pub at_most : (d : DeviceLine) → is_open_device d ≡ true → d.cylinders ≤ 4369
 at_most d is = grind (arith, nat_tests)
 
 pub none_spoiled : (spoiled : List Spoiled) (d : ℕ) (disk : Disk) → spoiled ≡ [] → spoil_all spoiled d disk ≡ disk

@@ -228,7 +228,7 @@ same_tracks (is_mounted d v w h on_a on_b a b order slots told_a told_b) = refl
 
 -- Of all devices
 
-few_tracks : (cylinders t : ℕ) → cylinders ≤ 64 → t < cylinders * 15 → t < 960
+few_tracks : (cylinders t : ℕ) → cylinders ≤ 4369 → t < cylinders * 15 → t < 65535
 few_tracks cylinders t most lt = omega (arith, most, lt)
 
 told_tracks : (spoiled : Bool) (tracks held : List (List ℕ)) → (if spoiled then None else Some tracks) ≡ Some held → tracks ≡ held

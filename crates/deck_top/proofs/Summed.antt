@@ -147,13 +147,13 @@ sum_few g n (d ∷ ds) all = sum_more (g d) n (length ds) (sum_by g ds) (sum_by 
 calls_few : (s k n : ℕ) → s ≤ k * 1033065725952 → k ≡ n → n ≤ 16 → s ≤ top
 calls_few s k n le is few = omega (arith, le, is, few)
 
-tracks_few : (s k n : ℕ) → s ≤ k * 960 → k ≡ n → n ≤ 16 → s ≤ top
+tracks_few : (s k n : ℕ) → s ≤ k * 65535 → k ≡ n → n ≤ 16 → s ≤ top
 tracks_few s k n le is few = omega (arith, le, is, few)
 
-lost_most : (c n k : ℕ) → c ≤ 64 → n ≡ c * 15 → k ≤ n → k ≤ 960
+lost_most : (c n k : ℕ) → c ≤ 4369 → n ≡ c * 15 → k ≤ n → k ≤ 65535
 lost_most c n k most is le = omega (arith, most, is, le)
 
-lost_more : (a k s t : ℕ) → a ≤ 960 → s ≤ k * 960 → t ≡ a + s → t ≤ suc k * 960
+lost_more : (a k s t : ℕ) → a ≤ 65535 → s ≤ k * 65535 → t ≡ a + s → t ≤ suc k * 65535
 lost_more a k s t le rest is = omega (arith, le, rest, is)
 
 -- The devices
@@ -175,11 +175,11 @@ module _ {V : Type 0} {G : Ghosts V} where
   as_many (x ∷ xs) [] all = absurd all
   as_many (x ∷ xs) (m ∷ ms) all = ap suc (as_many xs ms all.1)
 
-  few_lost : (x : Device V G) → lost_in x ≤ 960
+  few_lost : (x : Device V G) → lost_in x ≤ 65535
   few_lost x =
       lost_most x.store.cylinders (length x.store.lost) (lost_in x) x.store.most x.store.lost_of_each (count_by-le-length (λ (b : Bool). b) x.store.lost)
 
-  all_lost : (xs : List (Device V G)) → sum_by lost_in xs ≤ length xs * 960
+  all_lost : (xs : List (Device V G)) → sum_by lost_in xs ≤ length xs * 65535
   all_lost [] = omega arith
   all_lost (x ∷ xs) = lost_more (lost_in x) (length xs) (sum_by lost_in xs) (sum_by lost_in (x ∷ xs)) (few_lost x) (all_lost xs) (sum_by-cons lost_in x xs)
 

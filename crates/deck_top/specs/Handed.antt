@@ -40,7 +40,7 @@ pub record TakesBack (d : DeckLines) (old new : Bay) : Type 0 where
 
 -- each of the first tracks, as many as a device has at most, holds bytes
 abbrev pub HoldsBytes : Disk → Type 0
-HoldsBytes v = (t i : ℕ) → t < 960 → slice_index_or (slice_index_or v.tracks t []) i 0 < 256
+HoldsBytes v = (t i : ℕ) → t < 65535 → slice_index_or (slice_index_or v.tracks t []) i 0 < 256
 
 -- the volume of a side, where one stands
 abbrev pub on_side : ℕ → Side → Option Disk → List Taken

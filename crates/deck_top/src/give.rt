@@ -9,7 +9,7 @@ use device_outside::{MemBay, MemVolume, Taken};
 use subsystem_core::Subsystem;
 
 /// As many tracks as a device has at most.
-const MOST_TRACKS: u16 = 960;
+const MOST_TRACKS: u16 = 65535;
 
 fn are_bytes(bytes: &[u8])
     ensures { (i : ℕ) → slice_index_or bytes.now i 0 < 256 }
@@ -18,7 +18,7 @@ fn are_bytes(bytes: &[u8])
 }
 
 fn track_holds_bytes(volume: &MemVolume, t: u16)
-    requires { t < 960 }
+    requires { t < 65535 }
     ensures { (i : ℕ) → slice_index_or (slice_index_or volume.now.tracks t []) i 0 < 256 }
 {
     if usize::from(t) < volume.len() {

@@ -6,7 +6,7 @@ use track_table::{TrackBits, TrackTable};
 
 #[test]
 fn entries_come_and_go(rt: HostRuntime) -> Result<(), Fail> {
-    let mut table = TrackTable::new(rt.alloc());
+    let mut table = TrackTable::new(rt.alloc())?;
     let last = TrackNo::new(29).ok_or("track")?;
     assert_eq!(rt; table.exchange(last, Some(7u8)), None);
     assert_eq!(rt; table.has(last), false);
@@ -21,8 +21,8 @@ fn entries_come_and_go(rt: HostRuntime) -> Result<(), Fail> {
 #[test]
 fn frames_come_and_go(rt: HostRuntime) -> Result<(), Fail> {
     let alloc = rt.alloc();
-    let mut frames = Frames::new(alloc);
-    let last = TrackNo::new(959).ok_or("track")?;
+    let mut frames = Frames::new(alloc)?;
+    let last = TrackNo::new(65534).ok_or("track")?;
     let image = TrackImage::empty(alloc, Geometry::D3390, last)?;
     assert!(rt; frames.put(last, image).is_ok());
     frames.mark(last, true);
@@ -35,14 +35,14 @@ fn frames_come_and_go(rt: HostRuntime) -> Result<(), Fail> {
 
 #[test]
 fn marks_by_number(rt: HostRuntime) -> Result<(), Fail> {
-    let mut bits = TrackBits::new();
-    for n in [0, 63, 64, 959] {
+    let mut bits = TrackBits::new(rt.alloc())?;
+    for n in [0, 63, 64, 65534] {
         bits.set(TrackNo::new(n).ok_or("track")?, n != 0);
     }
     assert_eq!(rt; (bits.count(), bits.first()), (3, TrackNo::new(63)));
     assert_eq!(rt;
         (bits.nth(1), bits.nth(2)),
-        (TrackNo::new(64), TrackNo::new(959))
+        (TrackNo::new(64), TrackNo::new(65534))
     );
     Ok(())
 }

@@ -62,11 +62,12 @@ impl From<NoMemory> for MountFault {
 
 /// The layout that a DEVICE line wants.
 fn wanted_by(line: DeviceLine) -> Layout
+    requires { line.cylinders ≤ 64 }
     ensures { result ≡ wanted_by line }
 {
     Layout {
         geometry: line.geometry,
-        cylinders: line.cylinders,
+        cylinders: line.cylinders as u8,
     }
 }
 
@@ -78,6 +79,7 @@ pub(crate) fn mount<F: DiskFile>(
     fail_reads: &[u32],
     fail_writes: &[u32],
 ) -> Result<RunVolume<F>, MountFault>
+    requires { line.cylinders ≤ 64 }
     ensures layout { IfOk result (λ v. elim v [ Image p ↦ p.volume.layout ≡ wanted_by line | Memory d ↦ ⊥ ]) }
     ensures tracks { IfOk result (λ v. (⟦<RunVolume<F> as Volume>⟧.view v).tracks ≡ line.cylinders * 15) }
     ensures fault { IfErr result (λ fault. IsMountFault line fault) }

@@ -11,15 +11,12 @@ use crate::rack::{KeptVolume, Rack};
 use crate::texts::write_waiting;
 use crate::words::path_for;
 use ckd_outside::{Failed, Sink};
-use ckd_types::{DeviceNo, TrackNo};
+use ckd_types::{DeviceNo, HEADS, TrackNo};
 use deck_text::{Deck, DeviceLine};
 use device_core::Device;
 use device_outside::Volume;
 use std::alloc::Global;
 use subsystem_core::Subsystem;
-
-/// As many tracks as a device has at most. One that isn't there is in no frame.
-const MOST_TRACKS: u16 = 960;
 
 /// The volume that a device begins with: in the image that the words name for it, or else an empty one.
 fn open_volume<V: Volume, R: Rack<V>>(
@@ -92,7 +89,8 @@ fn has_waiting<V: Volume>(device: &Device<V>) -> bool {
     if device.patched_count() > 0 {
         return true;
     }
-    for n in 0..MOST_TRACKS {
+    let tracks = device.cylinders() * HEADS;
+    for n in 0..tracks {
         if device.modified(TrackNo::new(n).unwrap()) {
             return true;
         }

@@ -89,7 +89,7 @@ module _ {V : Type 0} {G : Ghosts V} where
           home = free.home;
           each = λ t le lt.
               let inside : t < tracks_at (mounted_in run.mounted d) = omega (arith, lt, length-replicate (tracks_at (mounted_in run.mounted d)) no_image) in
-              let small : x.store.cylinders ≤ 64 = x.store.most in
+              let small : x.store.cylinders ≤ 4369 = x.store.most in
               let below : t < 65535 = omega (arith, inside, size, cylinders, small) in
               let quiet : IsQuiet m t =
               mounted_is_quiet sub.pool.pool (all_stood sub.devices.items) run.mounted d t m stands.mounted there (omega (arith, inside, size))

@@ -31,10 +31,10 @@ impl Model for OldTracks {
 impl OldTracks {
     /// Nothing is kept, and nothing is given yet.
     pub fn new(alloc: Global, device: DeviceNo, cylinders: u16) -> Result<OldTracks, NoMemory>
-        requires { cylinders ≤ 64 }
+        requires { cylinders ≤ 4369 }
         ensures { IfOk result (λ k. k ≡ nothing_kept device (cylinders * 15)) }
     {
-        let mut images = TrackTable::new(alloc);
+        let mut images = TrackTable::new(alloc)?;
         images.reserve(usize::from(cylinders) * usize::from(HEADS))?;
         Ok(OldTracks {
             alloc,

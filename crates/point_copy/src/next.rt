@@ -51,7 +51,7 @@ impl<V: Volume> Session<V> {
             self.old.gone (entry_at self.old.kept.images self.old.kept.next) self.old result self.new) }
     {
         let due = self.kept.next();
-        let tracks = u16::from(self.sub.device(self.device).cylinders()) * HEADS;
+        let tracks = self.sub.device(self.device).cylinders() * HEADS;
         if tracks <= due {
             return Ok(Given::Finished);
         }

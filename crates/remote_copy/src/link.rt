@@ -39,7 +39,7 @@ fn is_listed(put: u64, numbers: &[u32]) -> bool
 
 /// Empty tracks, each in room for any track.
 fn empty_rooms(alloc: Global, geometry: Geometry, cylinders: u16) -> Result<Vec<TrackRoom>, NoMemory>
-    requires { cylinders ≤ 64 }
+    requires { cylinders ≤ 4369 }
     ensures { IfOk result (λ made. made.items ≡ empty_images geometry cylinders) }
 {
     let mut rooms = Vec::new(alloc);
@@ -85,7 +85,7 @@ impl MemLink {
         cylinders: u16,
         fail: &[u32],
     ) -> Result<MemLink, NoMemory>
-        requires { cylinders ≤ 64 }
+        requires { cylinders ≤ 4369 }
         ensures { IfOk result (λ made. made ≡ new_far geometry cylinders fail.now) }
     {
         let rooms = empty_rooms(alloc, geometry, cylinders)?;

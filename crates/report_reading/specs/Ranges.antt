@@ -1,5 +1,5 @@
 -- Which numbers and bytes the lines of a run have, and which answers its orders.
-use Rattle.std.specs.Prelude.{◌≡◌, ◌≤◌, ◌<◌, ◌^◌, ◌==◌, ◌&&◌, not, ℕ, Bool, true, false, List, length}
+use Rattle.std.specs.Prelude.{◌≡◌, ◌≤◌, ◌<◌, ◌^◌, ◌==◌, ◌&&◌, not, ℕ, Bool, true, false, List, length, Option, Some, None, IfSome}
 use Rattle.hex.specs.Hex.{IsBytes}
 use Rattle.ckd_types.specs.declared.paths.Owner.{Owner}
 use Rattle.ckd_types.specs.declared.paths.Owner.TheVariants as owners
@@ -141,6 +141,38 @@ IsLine (lines.Left path device programs) = IsPath path × IsDevice device × IsS
 IsLine (lines.Unused events) = IsCount events
 IsLine lines.Finish = Unit {0}
 IsLine (lines.Sum of n) = IsLong n
+
+-- The track that a line names, if it names one
+
+abbrev pub back_track : BackAnswer → Option ℕ
+back_track back.Nothing = None
+back_track (back.Recovered track) = Some track
+back_track (back.Copied track) = Some track
+back_track (back.Staged track) = Some track
+back_track (back.Skipped track) = Some track
+back_track (back.Destaged track) = Some track
+back_track (back.Half track) = Some track
+back_track (back.Finished track) = Some track
+back_track (back.Unwritten track) = Some track
+back_track (back.Fault side) = None
+back_track (back.BadBytes side) = None
+
+abbrev pub loose_track : LooseAnswer → Option ℕ
+loose_track (loose.Harden track) = Some track
+loose_track (loose.Loosen track) = Some track
+loose_track (loose.Lost count id) = None
+
+abbrev pub line_track : ReportLine → Option ℕ
+line_track (lines.Half path device track) = Some track
+line_track (lines.Back device answer) = back_track answer
+line_track (lines.Loose device answer) = loose_track answer
+line_track (lines.Lost device track) = Some track
+line_track (lines.Frame device track modified) = Some track
+line_track _ = None
+
+-- it is one that a device of a deck may have
+abbrev pub NamesTrack : ReportLine → Type 0
+NamesTrack line = IfSome (line_track line) IsTrack
 
 -- Of all orders with an answer POWER alone is always done: no report says that it was refused or waits. An event without
 -- volume calls has no IO line

@@ -1,7 +1,7 @@
 ghost use Rattle.std.specs.Prelude.{◌≡◌, Ok, Err, true, if◌then◌else◌};
 ghost use Rattle.report_text.specs.declared.line.ReportLine.{ReportLine};
 ghost use Rattle.report_text.specs.Lines.{text_of};
-ghost use Rattle.report_reading.specs.Ranges.{IsLine, form_fault, has_form};
+ghost use Rattle.report_reading.specs.Ranges.{IsLine, NamesTrack, form_fault, has_form};
 ghost use Rattle.report_reading.specs.Reading.{line_of};
 
 use crate::in_ranges;
@@ -14,9 +14,10 @@ pub fn reads_back()
     ensures apart { (line other : ReportLine) → IsLine line → IsLine other → has_form line ≡ true → text_of line ≡ text_of other → line ≡ other }
 {}
 
-/// What the text of any line is read as: its types keep its numbers and bytes in their ranges.
+/// What the text of any line is read as that names no track from 960 on, which no device of a deck has: its types keep its other
+/// numbers and its bytes in their ranges.
 pub fn is_read_back(line: &ReportLine)
-    ensures { line_of (text_of line.now) ≡ (if has_form line.now then Ok line.now else Err (form_fault line.now)) }
+    ensures { NamesTrack line.now → line_of (text_of line.now) ≡ (if has_form line.now then Ok line.now else Err (form_fault line.now)) }
 {
     in_ranges(line);
     reads_back();

@@ -47,7 +47,8 @@ pub fn device_at(words: &LineWords, i: usize) -> Result<DeviceNo, LineFault>
     DeviceNo::new(n as u8).ok_or(LineFault::Number)
 }
 
-/// A track's number: 0 to 959, as if the device had 64 cylinders. Whether it has that track isn't looked at.
+/// A track's number: 0 to 959, as if the device had 64 cylinders, the most that one of a deck has. Whether it has that track isn't
+/// looked at.
 pub fn track_at(words: &LineWords, i: usize) -> Result<TrackNo, LineFault>
     ensures { result ≡ track_at words.now i }
 {

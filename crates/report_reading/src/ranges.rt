@@ -1,9 +1,10 @@
-ghost use Rattle.std.specs.Prelude.{◌≡◌, ◌<◌, ◌^◌};
+ghost use Rattle.std.specs.Prelude.{◌≡◌, ◌<◌, ◌^◌, IfSome};
 ghost use Rattle.hex.specs.Hex.{IsBytes};
 ghost use Rattle.report_reading.specs.Ranges.{AreBytes, IsAnswer, IsBack, IsDevice, IsEnd, IsFault, IsLine, IsLoose};
-ghost use Rattle.report_reading.specs.Ranges.{IsOrder, IsOver, IsOwner, IsPath, IsStart, IsTotals, IsTrack};
+ghost use Rattle.report_reading.specs.Ranges.{IsOrder, IsOver, IsOwner, IsPath, IsStart, IsTotals, IsTrack, NamesTrack};
+ghost use Rattle.report_reading.specs.Ranges.{back_track, loose_track};
 
-use ckd_types::{DeviceNo, GroupId, Owner, PathNo, Sense, TrackNo};
+use ckd_types::{DeviceNo, GroupId, Owner, PathNo, Sense};
 use report_text::{
     BackAnswer, DeviceTotals, EndLine, HowOver, LooseAnswer, Order, OrderAnswer, OrderRefusal,
     ReportLine, StartAnswer,
@@ -19,12 +20,6 @@ fn device_range(device: &DeviceNo)
     ensures { IsDevice device.now }
 {
     let _ = device.get();
-}
-
-fn track_range(track: &TrackNo)
-    ensures { IsTrack track.now }
-{
-    let _ = track.get();
 }
 
 fn short_range(n: &u16)
@@ -98,27 +93,26 @@ fn start_range(answer: &StartAnswer)
 }
 
 fn back_range(answer: &BackAnswer)
-    ensures { IsBack answer.now }
+    ensures { IfSome (back_track answer.now) IsTrack → IsBack answer.now }
 {
     match answer {
         BackAnswer::Nothing | BackAnswer::Fault(_) | BackAnswer::BadBytes(_) => (),
-        BackAnswer::Recovered(track) => track_range(track),
-        BackAnswer::Copied(track) => track_range(track),
-        BackAnswer::Staged(track) => track_range(track),
-        BackAnswer::Skipped(track) => track_range(track),
-        BackAnswer::Destaged(track) => track_range(track),
-        BackAnswer::Half(track) => track_range(track),
-        BackAnswer::Finished(track) => track_range(track),
-        BackAnswer::Unwritten(track) => track_range(track),
+        BackAnswer::Recovered(_)
+        | BackAnswer::Copied(_)
+        | BackAnswer::Staged(_)
+        | BackAnswer::Skipped(_)
+        | BackAnswer::Destaged(_)
+        | BackAnswer::Half(_)
+        | BackAnswer::Finished(_)
+        | BackAnswer::Unwritten(_) => (),
     }
 }
 
 fn loose_range(answer: &LooseAnswer)
-    ensures { IsLoose answer.now }
+    ensures { IfSome (loose_track answer.now) IsTrack → IsLoose answer.now }
 {
     match answer {
-        LooseAnswer::Harden(track) => track_range(track),
-        LooseAnswer::Loosen(track) => track_range(track),
+        LooseAnswer::Harden(_) | LooseAnswer::Loosen(_) => (),
         LooseAnswer::Lost { count, id } => {
             short_range(count);
             sized_range::<2>(id);
@@ -223,9 +217,10 @@ fn place_range(path: &PathNo, device: &DeviceNo)
     device_range(device);
 }
 
-/// The numbers and bytes of every line are in their ranges: so `reads_back` speaks of all lines.
+/// The numbers and bytes of every line are in their ranges, where the track that it names is one of a device of a deck: so
+/// `reads_back` speaks of all these lines.
 pub fn in_ranges(line: &ReportLine)
-    ensures { IsLine line.now }
+    ensures { NamesTrack line.now → IsLine line.now }
 {
     match line {
         ReportLine::Start(path, device, answer) => {
@@ -235,10 +230,7 @@ pub fn in_ranges(line: &ReportLine)
         ReportLine::End(end) => end_range(end),
         ReportLine::Data(bytes) => bytes_range(bytes.as_slice()),
         ReportLine::Sense(sense) => sense_range(sense),
-        ReportLine::Half(path, device, track) => {
-            place_range(path, device);
-            track_range(track);
-        }
+        ReportLine::Half(path, device, _) => place_range(path, device),
         ReportLine::Back(device, answer) => {
             device_range(device);
             back_range(answer);
@@ -267,14 +259,8 @@ pub fn in_ranges(line: &ReportLine)
             device_range(device);
             totals_range(totals);
         }
-        ReportLine::Lost(device, track) => {
-            device_range(device);
-            track_range(track);
-        }
-        ReportLine::Frame(device, track, _) => {
-            device_range(device);
-            track_range(track);
-        }
+        ReportLine::Lost(device, _) => device_range(device),
+        ReportLine::Frame(device, _, _) => device_range(device),
         ReportLine::Fresh(device) => device_range(device),
         ReportLine::Left(path, device, programs) => {
             place_range(path, device);

@@ -51,7 +51,7 @@ first_mounted d g n tracks plans plan volume is side =
     (record { device = record (new_device d g n plans) { store = m }; a = new_calls plan; b = unfailing })) (marks_on d g n tracks)
     (is_mounted (opened d g n plans) tracks tracks h (Some volume) None (new_calls plan) unfailing (in_order (in_order_on d g n tracks h is refl)) refl side tt)
 
-pub new_mounted : (d : ℕ) (g : Geometry) (n : ℕ) (plans : Plans) (plan : Plan) (volume : VolumeView (List ℕ)) → n ≤ 64 →
+pub new_mounted : (d : ℕ) (g : Geometry) (n : ℕ) (plans : Plans) (plan : Plan) (volume : VolumeView (List ℕ)) → n ≤ 4369 →
     SideIs volume (empty_contents (n * 15)) (new_calls plan) →
     IsMounted [] (record { device = opened d g n plans; a = Some volume; b = None }) (newly_mounted d g n plans plan)
 new_mounted d g n plans plan volume most side =

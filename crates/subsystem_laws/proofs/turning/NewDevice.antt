@@ -50,7 +50,7 @@ first_stands first d g n plans u some is a b gives =
     }
 
 -- on one of empty tracks
-pub new_stands : {K : Type 0} (d : ℕ) (g : Geometry) (n : ℕ) (plans : Plans) (u : Outside (List ℕ) K) → 1 ≤ n → n ≤ 64 →
+pub new_stands : {K : Type 0} (d : ℕ) (g : Geometry) (n : ℕ) (plans : Plans) (u : Outside (List ℕ) K) → 1 ≤ n → n ≤ 4369 →
     Tells u.a (empty_contents (n * 15)) → Tells u.b [] → GiveBytes plans → Stands (opened d g n plans) u
 new_stands d g n plans u some most a b gives =
     first_stands empty_volume d g n plans u some (volume_empty g n most) (subst (Tells u.a) (empty_is_contents n) a) b gives
