@@ -18,26 +18,24 @@ use ckd_types::{NoMemory, TrackNo};
 use device_defs::{Did, Took};
 use device_outside::{Keep, Port, Volume};
 use track_image::TrackImage;
-use track_table::TrackBits;
+use track_table::{And, Or, first};
 
 impl<V: Volume> DeviceStore<V> {
-    /// The tracks that are loose, or modified with a patch.
-    fn destaged(&self) -> TrackBits
-        ensures { (t : ℕ) → is_marked result t ≡ is_destaged contents (state_of self.now) t }
-    {
-        let modified = self.frames.modified_tracks();
-        let modified = modified.and(self.patches.patched_tracks());
-        self.loose.marks().or(&modified)
-    }
-
-    /// The least such track, where a side is up.
+    /// The least track that is loose, or modified with a patch, where a side is up.
     pub(crate) fn to_destage(&self) -> Option<TrackNo>
         ensures least { result ≡ to_destage contents (state_of self.now) }
         ensures here { IfSome result (λ t. t < self.now.cylinders * 15) }
         ensures framed { IfSome result (λ t. is_some (frame_at (state_of self.now) t) ≡ true) }
     {
         if self.some_up() {
-            return self.destaged().first();
+            let modified = And {
+                one: self.frames.modified_tracks(),
+                other: self.patches.patched_tracks(),
+            };
+            return first(&Or {
+                one: self.loose.marks(),
+                other: modified,
+            });
         }
         None
     }

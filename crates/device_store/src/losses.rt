@@ -4,24 +4,25 @@ ghost use Rattle.device_defs.specs.Cutting.{loose_gone, powerless};
 ghost use Rattle.device_defs.specs.Effects.{loose_lost};
 ghost use Rattle.device_defs.specs.Events.{losing, lost_by, one_loss_more, with_loss};
 ghost use Rattle.device_defs.specs.Losses.{all_firm_told, cache_lost, firm_told, over, patch_lost, settled, store_lost, without_frame};
-ghost use Rattle.device_defs.specs.Store.{has_level, is_loose, is_lost};
+ghost use Rattle.device_defs.specs.Store.{is_loose, is_lost};
 ghost use Rattle.device_outside.specs.Keeper.{Heard};
 ghost use Rattle.device_outside.specs.Outside.{PortView, Ran};
 ghost use Rattle.event_notes.specs.Loose.{weight};
 ghost use Rattle.loss_model.specs.declared.Loss.TheVariants as losses;
 ghost use Rattle.track_table.specs.Bits.{is_marked};
 ghost use Rattle.device_store.specs.Leaves.{ChangesMarksAlone, IsSameDevice, KeepsHalfWrite, KeepsVolumes, MovesNothing};
+ghost use Rattle.device_store.specs.Settling.{NextOf, is_settled, stands_bare};
 ghost use Rattle.device_store.specs.State.{state_of, outside, surely, HasTrack, TakesTracks};
 
 use crate::DeviceStore;
-use ckd_types::TrackNo;
+use crate::marks::track;
+use ckd_types::{HEADS, TrackNo};
 use device_defs::Losses;
 use device_outside::{Keep, Volume, counted};
-use duplex_pair::StaleMarks;
 use loss_model::Loss;
 use plain_defs::next_number;
 use track_image::TrackImage;
-use track_table::TrackBits;
+use track_table::{And, Without, least_from};
 
 /// Counts a loss.
 fn count_loss(losses: &mut Losses, loss: Loss)
@@ -73,37 +74,50 @@ impl<V: Volume> DeviceStore<V> {
         self.settle(t);
     }
 
-    /// The tracks that a loss may settle: they are level on no side, and not lost. There are none where the volume is lent.
-    fn unsettled(&self) -> TrackBits
-        ensures few { (t : ℕ) → is_marked result t ≡ true → t < self.now.cylinders * 15 }
-        ensures rest { (t : ℕ) → t < self.now.cylinders * 15 → is_marked result t ≡ false
-            → (is_some (state_of self.now).lent || is_lost (state_of self.now) t || has_level (state_of self.now) t) ≡ true }
+    /// The least track from one on that isn't lost.
+    fn next_not_lost(&self, from: u16) -> Option<TrackNo>
+        ensures { NextOf (self.now.cylinders * 15) (is_lost (state_of self.now)) from result }
     {
-        if self.pair.lent.is_some() {
-            return TrackBits::new();
+        for n in from..self.cylinders * HEADS {
+            if !self.lost.has(track(n)) {
+                return Some(track(n));
+            }
         }
-        self.level_nowhere().without(self.lost.marks())
+        None
     }
 
-    /// The tracks that are level on no side.
-    fn level_nowhere(&self) -> TrackBits
-        ensures few { (t : ℕ) → is_marked result t ≡ true → t < self.now.cylinders * 15 }
-        ensures rest { (t : ℕ) → t < self.now.cylinders * 15 → is_marked result t ≡ false → has_level (state_of self.now) t ≡ true }
+    /// The least track from one on that a loss may settle: it is level on no side, and not lost. There is none where the volume is lent.
+    fn next_unsettled(&self, from: u16) -> Option<TrackNo>
+        ensures { NextOf (self.now.cylinders * 15) (is_settled (state_of self.now)) from result }
     {
+        if self.pair.lent.is_some() {
+            return None;
+        }
         let a = self.pair.a.stale.marks();
         let b = self.pair.b.stale.marks();
-        if self.pair.a.up {
-            if self.pair.b.up {
-                return a.and(b);
+        let lost = self.lost.marks();
+        match (self.pair.a.up, self.pair.b.up) {
+            (true, true) => {
+                let stale = And { one: a, other: b };
+                least_from(&Without { one: stale, other: lost }, from)
             }
-            return a.and(a);
+            (true, false) => least_from(&Without { one: a, other: lost }, from),
+            (false, true) => least_from(&Without { one: b, other: lost }, from),
+            (false, false) => self.next_not_lost(from),
         }
-        if self.pair.b.up {
-            return b.and(b);
+    }
+
+    /// The least track from one on that has a frame, or that a loss may settle.
+    fn next_to_lose(&self, from: u16) -> Option<TrackNo>
+        ensures { NextOf (self.now.cylinders * 15) (stands_bare (state_of self.now)) from result }
+    {
+        let framed = least_from(&self.frames.framed_tracks(), from);
+        let unsettled = self.next_unsettled(from);
+        match (framed, unsettled) {
+            (Some(t), Some(u)) if u.get() < t.get() => Some(u),
+            (Some(t), _) => Some(t),
+            (None, u) => u,
         }
-        let mut every = StaleMarks::new(self.cylinders);
-        every.mark_all();
-        every.marks().and(every.marks())
     }
 
     /// All frames go. No track is loose. A track that has no frame and isn't settled stays as it is.
@@ -112,9 +126,10 @@ impl<V: Volume> DeviceStore<V> {
         ensures leaves { MovesNothing self.old self.new }
         ensures state { state_of self.new ≡ over (self.old.cylinders * 15) (λ t z. settled contents (without_frame z t) t) (state_of self.old) }
     {
-        let marks = self.frames.framed_tracks().or(&self.unsettled());
-        for t in marks.iter() {
+        let mut from = 0;
+        while let Some(t) = self.next_to_lose(from) {
             self.lose_frame(t);
+            from = t.get() + 1;
         }
     }
 
@@ -161,11 +176,11 @@ impl<V: Volume> DeviceStore<V> {
         ensures run { (p : PortView) → Ran surely (Heard K.hears K.takes) (all_firm_told contents (self.old.cylinders * 15)
             (store_lost contents (state_of self.old))) (outside p self.old keep.old) (state_of self.new) tt (outside p self.new keep.new) }
     {
-        let patched = self.patches.patched_tracks();
-        let marks = patched.and(patched);
-        for t in marks.iter() {
+        let mut from = 0;
+        while let Some(t) = least_from(&self.patches.patched_tracks(), from) {
             self.owed.no_firm();
             self.lose_patch(t, keep);
+            from = t.get() + 1;
         }
         self.owed.no_firm();
     }

@@ -27,7 +27,14 @@ use ckd_types::TrackNo;
 use device_defs::Owed;
 use device_outside::{Keep, Port, Volume};
 use track_image::TrackImage;
-use track_table::TrackBits;
+use track_table::{Marks, Or, TrackBits, Without, count, least_from};
+
+/// The tracks of one set that aren't in another.
+type Only<'a> = Without<&'a TrackBits, &'a TrackBits>;
+
+/// The tracks that wait for recovery.
+pub(crate) type Waiting<'a> =
+    Without<Or<Only<'a>, Without<Only<'a>, &'a TrackBits>>, &'a TrackBits>;
 
 fn no_debt() -> Owed
     ensures { result ≡ no_debt }
@@ -56,15 +63,31 @@ impl<V: Volume> DeviceStore<V> {
         self.loose.begin();
     }
 
-    /// The tracks that wait for recovery.
-    pub(crate) fn waiting(&self) -> TrackBits
-        ensures { (t : ℕ) → is_marked result t ≡ waits contents (state_of self.now) t }
+    /// The tracks that wait for recovery: those with a patch and no frame, and those with a modified frame alone that aren't loose.
+    pub(crate) fn waiting(&self) -> Waiting<'_>
+        ensures { (t : ℕ) → ⟦<Waiting as Marks>⟧.marked result t ≡ waits contents (state_of self.now) t }
     {
         let patched = self.patches.patched_tracks();
-        let alone = self.frames.modified_tracks().without(patched);
-        let alone = alone.without(self.loose.marks());
-        let without_frame = patched.without(self.frames.framed_tracks());
-        without_frame.or(&alone).without(self.lost.marks())
+        let without_frame = Without {
+            one: patched,
+            other: self.frames.framed_tracks(),
+        };
+        let alone = Without {
+            one: self.frames.modified_tracks(),
+            other: patched,
+        };
+        let alone = Without {
+            one: alone,
+            other: self.loose.marks(),
+        };
+        let waiting = Or {
+            one: without_frame,
+            other: alone,
+        };
+        Without {
+            one: waiting,
+            other: self.lost.marks(),
+        }
     }
 
     /// Whether it is known that no track waits: without a patch and a modified frame none does.
@@ -84,7 +107,7 @@ impl<V: Volume> DeviceStore<V> {
         if self.none_waits() {
             return 0;
         }
-        self.waiting().count()
+        count(&self.waiting())
     }
 
     fn tell_modified<P: Port, K: Keep<TrackImage>>(&self, t: TrackNo, port: &mut P)
@@ -151,10 +174,10 @@ impl<V: Volume> DeviceStore<V> {
         ensures run { (k : K) → Ran surely (Heard K.hears K.takes) (all_told contents (self.old.cylinders * 15) (state_of self.old))
             (outside (P.view port.old) self.old k) (state_of self.new) tt (outside (P.view port.new) self.new k) }
     {
-        let owed = self.owed.tracks();
-        let marks = owed.and(owed);
-        for t in marks.iter() {
+        let mut from = 0;
+        while let Some(t) = least_from(&self.owed.tracks(), from) {
             self.tell_track::<P, K>(t, port);
+            from = t.get() + 1;
         }
     }
 

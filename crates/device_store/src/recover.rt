@@ -18,6 +18,7 @@ use ckd_types::{NoMemory, Side, TrackNo};
 use device_defs::{Did, Took};
 use device_outside::{Keep, Port, Volume};
 use track_image::TrackImage;
+use track_table::first;
 
 impl<V: Volume> DeviceStore<V> {
     /// The least track that waits, where a side is up.
@@ -26,7 +27,7 @@ impl<V: Volume> DeviceStore<V> {
         ensures here { IfSome result (λ t. t < self.now.cylinders * 15) }
     {
         if self.some_up() {
-            return self.waiting().first();
+            return first(&self.waiting());
         }
         None
     }

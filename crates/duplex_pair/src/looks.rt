@@ -121,8 +121,8 @@ impl<V: Volume> DuplexPair<V> {
             other: self.a.stale.marks(),
         };
         first(&Or {
-            one: &to_a,
-            other: &to_b,
+            one: to_a,
+            other: to_b,
         })
     }
 }

@@ -12,7 +12,7 @@ returns-in-Over c =
     let many : c.self.inside.fixed.cylinders ≡ c.args.self.now.cylinders =
     ap (λ (x : PlainState). x.cylinders) c.self.view_is in
     let more : c.loop-turn._turn < c.args.self.now.cylinders * 15 =
-    omega (arith, c.loop-turn-test.true, c.from-tracks.ensures, c.cylinders.ensures.value, many) in
+    omega (arith, c.loop-turn-test.true, c.cylinders-tracks.ensures.value, many) in
     record {
       ends = following_over c.args.self.now c.args.chain.now c.loop-turn.chain c.loop-turn.track c.loop-turn._turn
           c.loop-turn.invariant c.args.path c.look.new.chain c.in-Over.done c.requires.looking.stage more
@@ -26,7 +26,7 @@ returns c =
     let many : c.self.inside.fixed.cylinders ≡ c.args.self.now.cylinders =
     ap (λ (x : PlainState). x.cylinders) c.self.view_is in
     let past : c.args.self.now.cylinders * 15 ≤ c.loop-turn._turn =
-    omega (arith, c.loop-turn-test.false, c.from-tracks.ensures, c.cylinders.ensures.value, many) in
+    omega (arith, c.loop-turn-test.false, c.cylinders-tracks.ensures.value, many) in
     record {
       ends = following_none c.args.self.now c.args.chain.now c.loop-turn.chain c.loop-turn.track c.loop-turn._turn
           c.loop-turn.invariant c.args.path c.settle-end.new.self c.settle-end.result c.unwritten.result
