@@ -1,5 +1,5 @@
 -- A copy that begins over the run of the first lines of a deck, or is refused there.
-use Rattle.std.proofs.Common.{◌≡◌, ◌∙◌, ◌⊎◌, inl, inr, ℕ, List, drop, map, Some, None, Ok, Err, sym, ap, subst}
+use Rattle.std.proofs.Common.{◌≡◌, ◌≤◌, ◌∙◌, ◌⊎◌, inl, inr, ℕ, List, drop, map, Some, None, Ok, Err, sym, ap, subst}
 use Rattle.std.specs.Prelude.{IfOk}
 use Rattle.ckd_types.specs.declared.geometry.Geometry.{Geometry}
 use Rattle.deck_plan.specs.declared.event.EventLine.{EventLine}
@@ -11,12 +11,13 @@ use Rattle.subsystem_core.specs.Devices.{device_at}
 use Rattle.subsystem_defs.specs.Lines.{asked_by}
 use Rattle.subsystem_defs.specs.Subsystem as runs
 use Rattle.subsystem_defs.specs.Subsystem.{Mounted, mounted_in}
-use Rattle.subsystem_laws.proofs.ReadDecks.{read_served}
+use Rattle.subsystem_laws.proofs.ReadDecks.{read_served, read_small}
 use Rattle.deck_run.specs.Fronts.{front_of}
 use Rattle.deck_run.specs.Opening.{WasRead}
 use Rattle.deck_run.specs.Standing.{StandsAs}
 use Rattle.volume_file.specs.File.{ImageVolume, IsWhole}
 use Rattle.volume_save.specs.Saving.{volume_with}
+use Rattle.volume_save.proofs.SmallRuns.{small_in_front}
 use Rattle.volume_save.proofs.Stepping.{stood_run}
 use Rattle.point_copy.specs.declared.given.BeginFault.{BeginFault}
 use Rattle.point_copy.specs.declared.given.BeginFault.TheVariants.{NoMemory}
@@ -46,6 +47,14 @@ module _ {V : Type 0} {G : Ghosts V} where
         geometry = geometry ∙ sym stood.geometry ∙ ap (λ (m : Mounted). m.device.store.geometry) same;
         cylinders_are = cylinders ∙ sym stood.cylinders ∙ ap (λ (m : Mounted). m.device.store.cylinders) same;
       }
+
+  -- of a deck that was read it is small
+  pub small_device : (sub : Subsystem V G) (deck : DeckLines) (n d : ℕ) (x : Device V G) (k : ℕ) → WasRead deck → StandsAs sub (front_of deck n).behind →
+      device_at sub.devices.items d ≡ Some x → k ≡ x.store.cylinders → k ≤ 64
+  small_device sub deck n d x k read stands at is =
+      let stood = stood_run sub (front_of deck n).behind d x stands at in
+      subst (λ (m : ℕ). m ≤ 64) (stood.cylinders ∙ sym is)
+      (small_in_front deck n d stood.mounted (read_small read.0 deck read.1) stood.there)
 
   pub is_there : (sub : Subsystem V G) (run : runs.Subsystem) (d : ℕ) (x : Device V G) → StandsAs sub run → device_at sub.devices.items d ≡ Some x →
       IsThere run d

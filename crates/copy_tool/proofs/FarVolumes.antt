@@ -1,5 +1,5 @@
 -- The far volume of a mirror behind the lines of a deck.
-use Rattle.std.proofs.Common.{◌≡◌, ◌∙◌, ◌<◌, ◌*◌, ◌^◌, ℕ, List, length, map, Option, Some, Result, Ok, Err, sym, ap, subst, arith}
+use Rattle.std.proofs.Common.{◌≡◌, ◌≤◌, ◌∙◌, ◌<◌, ◌*◌, ◌^◌, ℕ, List, length, map, Option, Some, Result, Ok, Err, sym, ap, subst, arith}
 use Rattle.std.specs.Prelude.{IfOk, IfSome}
 use Rattle.std.proofs.lemmas.List.FromFn.{length-map-range_with_len}
 use Rattle.ckd_types.specs.declared.geometry.Geometry.{Geometry}
@@ -14,12 +14,14 @@ use Rattle.subsystem_defs.specs.Decks.{opened, run_of}
 use Rattle.subsystem_defs.specs.Lines.{asked_by}
 use Rattle.subsystem_defs.specs.Subsystem.{Mounted, Subsystem, mounted_in}
 use Rattle.line_drive.specs.Driven.{Goes, driven}
+use Rattle.subsystem_laws.proofs.ReadDecks.{read_small}
 use Rattle.deck_run.specs.Opening.{WasRead}
 use Rattle.firm_laws.specs.FirmWrites.{firm_writes_of}
 use Rattle.deck_run.specs.Standing.{all_stood}
 use Rattle.deck_run.proofs.Telling.{all_known, known_at}
 use Rattle.volume_file.specs.File.{ImageVolume}
 use Rattle.volume_save.specs.Saving.{volume_with}
+use Rattle.volume_save.proofs.SmallRuns.{small_in_run}
 use Rattle.remote_copy.specs.declared.link.Link as links
 use Rattle.remote_copy.specs.declared.mirror.Mirror.{Mirror}
 use Rattle.remote_copy.specs.Linking.{LinkView, PutCalls}
@@ -128,3 +130,17 @@ module _ {V L : Type 0} {G : Ghosts V} {H : links.Ghosts L} (x : Mirror V L G H)
             ∙ ap (λ (h : Geometry). volume_with h y.store.cylinders (images_of h f)) geometry
             ∙ ap (λ (n : ℕ). volume_with is.mounted.device.store.geometry n (images_of is.mounted.device.store.geometry f)) (sym same_cylinders);
       }
+
+-- The device is small, where the deck was read
+
+module _ {V L : Type 0} {G : Ghosts V} {H : links.Ghosts L} (x : Mirror V L G H) (deck : DeckLines) (d n : ℕ) (z : MirrorRun) (read : WasRead deck)
+    (goes : driven mirror_course (map asked_by deck.events) (mirror_from deck d n) ≡ Goes z) (is : IsMirror x z) where
+  pub small_far : (o : Option (Device V G)) → device_at x.sub.devices.items d ≡ o → IfSome o (λ (y : Device V G). y.store.cylinders ≤ 64)
+  small_far None at = tt
+  small_far (Some y) at =
+      let over : IsOver deck d n z = over_so deck d n z goes in
+      let there : mounted_in z.run.mounted d ≡ Some is.mounted = subst (λ (k : ℕ). mounted_in z.run.mounted k ≡ Some is.mounted) over.device is.there in
+      let behind : mounted_in (run_of deck).behind.mounted d ≡ Some is.mounted =
+      subst (λ (s : Subsystem). mounted_in s.mounted d ≡ Some is.mounted) over.run there in
+      subst (λ (k : ℕ). k ≤ 64) (same_cylinders x d z is over.device y at)
+      (small_in_run deck d is.mounted (read_small read.0 deck read.1) behind)

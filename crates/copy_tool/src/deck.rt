@@ -12,6 +12,7 @@ ghost use Rattle.copy_tool.specs.Copying.{copying, copying_of, early_why, not_be
 ghost use Rattle.copy_tool.specs.Standing.{IsBegunOf, IsCopying, IsMade};
 
 use crate::copying::{CopyStage, looks};
+use crate::size::in_file;
 use crate::unmade::Unmade;
 use ckd_types::{DeviceNo, Geometry, NoMemory};
 use deck_plan::EventLine;
@@ -76,7 +77,7 @@ fn copy_begun(
     alloc: Global,
     session: Session<MemVolume>,
     geometry: Geometry,
-    cylinders: u16,
+    cylinders: u8,
     lines: &[EventLine],
 ) -> Result<FileVolume, Stopped<Unmade>>
     requires least { 1 ≤ cylinders }
@@ -120,7 +121,7 @@ fn copy_device(
     let cylinders = device.cylinders();
     let rest = deck.schedule().as_slice().split_at(lines).1;
     match Session::begin(alloc, sub, d) {
-        Ok(session) => copy_begun(alloc, session, geometry, cylinders, rest),
+        Ok(session) => copy_begun(alloc, session, geometry, in_file(cylinders), rest),
         Err(refused) => Err(not_begun(refused.0)),
     }
 }

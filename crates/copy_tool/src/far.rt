@@ -1,6 +1,7 @@
-ghost use Rattle.std.specs.Prelude.{◌≡◌, ◌≤◌, ◌*◌, IfOk, length, true, false};
+ghost use Rattle.std.specs.Prelude.{◌≡◌, ◌≤◌, ◌*◌, IfOk, IfSome, length, true, false};
 ghost use Rattle.std.specs.List.{list_any};
 ghost use Rattle.deck_run.specs.Opening.{WasRead};
+ghost use Rattle.device_core.specs.State.{device_of};
 ghost use Rattle.remote_copy.specs.Mirroring.{IsMirror, MirrorRun};
 ghost use Rattle.volume_file.specs.File.{IsWhole};
 ghost use Rattle.volume_save.specs.Devices.{is_declared};
@@ -8,9 +9,11 @@ ghost use Rattle.volume_save.specs.Saving.{volume_with};
 ghost use Rattle.copy_tool.specs.Copying.{Gives};
 ghost use Rattle.copy_tool.specs.Mirroring.{images_of, lends, mirroring, mirroring_of};
 ghost use Rattle.copy_tool.specs.MirrorStanding.{IsFarVolume, IsMirrorBegun};
+ghost use Rattle.subsystem_core.specs.Devices.{device_at};
 ghost use Rattle.subsystem_core.specs.Frames.{HasDevice};
 
 use crate::mirroring::MirrorStage;
+use crate::size::in_file;
 use crate::unmade::Unmade;
 use ckd_types::{DeviceNo, HEADS, NoMemory, TrackNo};
 use deck_plan::EventLine;
@@ -40,14 +43,14 @@ fn is_lent(deck: &Deck, d: DeviceNo) -> bool
 }
 
 /// What a link has, as the volume of a file.
-fn link_volume(alloc: Global, link: &MemLink, cylinders: u16) -> Result<FileVolume, NoMemory>
+fn link_volume(alloc: Global, link: &MemLink, cylinders: u8) -> Result<FileVolume, NoMemory>
     requires least { 1 ≤ cylinders }
     requires most { cylinders ≤ 64 }
     requires tracks { length link.now.tracks ≡ cylinders * 15 }
     ensures volume { IfOk result (λ v. v ≡ volume_with link.now.geometry cylinders (images_of link.now.geometry link.now.tracks)) }
     ensures whole { IfOk result (λ v. IsWhole v) }
 {
-    let count = cylinders * HEADS;
+    let count = u16::from(cylinders) * HEADS;
     let mut images = Vec::with_capacity(alloc, usize::from(count))?;
     for n in 0..count {
         let t = TrackNo::new(n).unwrap();
@@ -63,12 +66,13 @@ fn link_volume(alloc: Global, link: &MemLink, cylinders: u16) -> Result<FileVolu
 fn far_volume(alloc: Global, stage: &MirrorStage, d: DeviceNo) -> Result<FileVolume, NoMemory>
     requires here { HasDevice stage.now.mirror.sub d }
     requires stands { (c : MirrorRun) × (c.device ≡ d) × IsMirror stage.now.mirror c }
+    requires small { IfSome (device_at stage.now.mirror.sub.devices.items d) (λ x. (device_of x).store.cylinders ≤ 64) }
     ensures far { (c : MirrorRun) (is : IsMirror stage.now.mirror c) → c.device ≡ d
         → IfOk result (IsFarVolume stage.now.mirror.sender.link is.mounted) }
     ensures whole { IfOk result (λ v. IsWhole v) }
 {
     let cylinders = stage.mirror.subsystem().device(d).cylinders();
-    link_volume(alloc, stage.mirror.link(), cylinders)
+    link_volume(alloc, stage.mirror.link(), in_file(cylinders))
 }
 
 /// A mirror of this device of a deck to an empty far volume, of whose puts one fails.

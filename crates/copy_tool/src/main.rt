@@ -6,6 +6,7 @@ mod copying;
 mod deck;
 mod far;
 mod mirroring;
+mod size;
 mod task;
 mod top;
 mod unmade;

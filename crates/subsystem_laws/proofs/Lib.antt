@@ -42,6 +42,7 @@ pub mod CalmDevices
 pub mod CalmEvents
 pub mod CalmRuns
 pub mod CallCounts
+pub mod KeptSizes
 pub mod FailedCalls
 pub mod ExplainedRuns
 pub mod StoreFacts

@@ -1,5 +1,7 @@
 pub mod Devices
 pub mod DeckTexts
 pub mod InRun
+pub mod Volumes
 pub mod Images
+pub mod SmallRuns
 pub mod Stepping

@@ -76,6 +76,7 @@ use Rattle.deck_run.proofs.Found.{stood_found}
 use Rattle.volume_file.specs.File.{ImageVolume, IsWhole}
 use Rattle.volume_save.specs.declared.unsaved.Unsaved.{Unsaved}
 use Rattle.volume_save.specs.declared.unsaved.Unsaved.TheVariants.{Lent, Half, Lost, Fault, NoMemory}
+use Rattle.volume_save.specs.Devices.{HasSmallDevices}
 use Rattle.volume_save.specs.Saving as S
 use Rattle.volume_save.specs.Saving.{
   and_then,
@@ -96,8 +97,10 @@ use Rattle.volume_save.specs.Saving.{
   IsSaved,
 }
 use Rattle.volume_save.specs.Stepping.{FitsRun, GoesOn, GoesOnWith, LooksLeft}
+use Rattle.volume_save.specs.Volumes.{HasAllTracks}
 use Rattle.volume_save.proofs.Images.{found_plain, image_on, not_refused, saving_plain}
 use Rattle.volume_save.proofs.InRun.{plain_after, stands_in_run}
+use Rattle.volume_save.proofs.SmallRuns.{small_in_run}
 
 some_same : {X : Type 0} {x y : X} → Some x ≡ Some y → x ≡ y
 some_same e = cc
@@ -139,7 +142,7 @@ module _ {V : Type 0} {G : Ghosts V} where
 
   -- a track of the volume is one of the device
   track_below : (sub : Subsystem V G) (run : runs.Subsystem) (d t : ℕ) (v : ImageVolume) (x : Device V G) → StandsAs sub run → FitsRun run d v →
-      IsWhole v → t < length v.images → device_at sub.devices.items d ≡ Some x → t < x.store.cylinders * 15
+      HasAllTracks v → t < length v.images → device_at sub.devices.items d ≡ Some x → t < x.store.cylinders * 15
   track_below sub run d t v x stands fits whole lt at =
       let s = stood_run sub run d x stands at in
       let same : s.mounted ≡ fits.mounted = some_same (sym s.there ∙ fits.there) in
@@ -148,16 +151,16 @@ module _ {V : Type 0} {G : Ghosts V} where
       omega (arith, whole.tracks, lt, cylinders)
 
   tracks_by : (sub : Subsystem V G) (run : runs.Subsystem) (d t : ℕ) (v : ImageVolume) (o : Option (Device V G)) → StandsAs sub run → FitsRun run d v →
-      IsWhole v → t < length v.images → device_at sub.devices.items d ≡ o → IfSome o (λ x. t < x.store.cylinders * 15)
+      HasAllTracks v → t < length v.images → device_at sub.devices.items d ≡ o → IfSome o (λ x. t < x.store.cylinders * 15)
   tracks_by sub run d t v (Some x) stands fits whole lt at = track_below sub run d t v x stands fits whole lt at
   tracks_by sub run d t v None stands fits whole lt at = tt
 
-  pub all_below : (sub : Subsystem V G) (run : runs.Subsystem) (d t : ℕ) (v : ImageVolume) → StandsAs sub run → FitsRun run d v → IsWhole v →
+  pub all_below : (sub : Subsystem V G) (run : runs.Subsystem) (d t : ℕ) (v : ImageVolume) → StandsAs sub run → FitsRun run d v → HasAllTracks v →
       t < length v.images → IfSome (device_at sub.devices.items d) (λ x. t < x.store.cylinders * 15)
   all_below sub run d t v stands fits whole lt = tracks_by sub run d t v (device_at sub.devices.items d) stands fits whole lt refl
 
   -- an image that was found goes into the volume
-  pub is_placed : (sub : Subsystem V G) (run : runs.Subsystem) (d t : ℕ) (v : ImageVolume) (i : Image) → StandsAs sub run → FitsRun run d v → IsWhole v →
+  pub is_placed : (sub : Subsystem V G) (run : runs.Subsystem) (d t : ℕ) (v : ImageVolume) (i : Image) → StandsAs sub run → FitsRun run d v → HasAllTracks v →
       t < length v.images → (looked run d t).found ≡ peeks.Track i → (i.geometry ≡ v.geometry) × (i.track.home ≡ cchh_of t)
   is_placed sub run d t v i stands fits whole lt found =
       let m = fits.mounted in
@@ -343,7 +346,7 @@ not_none d s v e = cc
 
 module _ {V : Type 0} {G : Ghosts V} where
   has_reason : (run : runs.Subsystem) (d t count : ℕ) (sub : Subsystem V G) (v : ImageVolume) (why : Unsaved) (l : LooksLeft run d t count sub v) →
-      IsWhole v → t < length v.images → image_found t (looked l.now d t).found ≡ Err why → HasReason run d why
+      HasAllTracks v → t < length v.images → image_found t (looked l.now d t).found ≡ Err why → HasReason run d why
   has_reason run d t count sub v Lent l whole lt found = absurd ((found_other t (looked l.now d t).found).0 found)
   has_reason run d t count sub v Half l whole lt found = absurd ((found_other t (looked l.now d t).found).1 found)
   has_reason run d t count sub v (Lost q) l whole lt found =
@@ -374,28 +377,38 @@ module _ {V : Type 0} {G : Ghosts V} where
 
   -- What is saved
 
+  whole_file : (v : ImageVolume) (n : ℕ) → HasAllTracks v → v.cylinders ≡ n → n ≤ 64 → IsWhole v
+  whole_file v n all is small = record {
+    least = all.least;
+    most = subst (λ (k : ℕ). k ≤ 64) (sym is) small;
+    tracks = all.tracks;
+    placed = all.placed;
+  }
+
   saved_by : (sub : Subsystem V G) (deck : DeckLines) (d : ℕ) (v : ImageVolume) (o : Option Mounted) → mounted_in (run_of deck).behind.mounted d ≡ o →
-      IsServedDeck deck → StandsAs sub (run_of deck).behind → saving_of deck d ≡ Ok v → IsWhole v → IsSaved deck d v
+      IsServedDeck deck → HasSmallDevices deck → StandsAs sub (run_of deck).behind → saving_of deck d ≡ Ok v → HasAllTracks v → IsSaved deck d v
   unfolding S.saving
-  saved_by sub deck d v None none served stands found whole =
+  saved_by sub deck d v None none served small stands found all =
       absurd (not_none d (run_of deck).behind v (ap (saving_at (run_of deck).behind d) (sym none) ∙ found))
-  saved_by sub deck d v (Some m) there served stands found whole =
+  saved_by sub deck d v (Some m) there served small stands found all =
       let size = λ (home : is_some m.device.store.lent ≡ false).
       (stands_in_run sub.pool.pool (all_stood sub.devices.items) (run_of deck).behind.mounted d m stands.mounted there home).plain.tracks in
+      let images : v ≡ volume_with m.device.store.geometry m.device.store.cylinders (map (image_on m.device.store.geometry) m.device.store.plain) =
+      saving_plain (run_of deck).behind d m v there size found in
       record {
         mounted = m;
         there = there;
         found = found;
-        plain = saving_plain (run_of deck).behind d m v there size found
+        plain = images
             ∙ ap (λ (l : List Track). volume_with m.device.store.geometry m.device.store.cylinders (map (image_on m.device.store.geometry) l))
             (sym (plain_after deck d m served there));
-        whole = whole;
+        whole = whole_file v m.device.store.cylinders all (ap (λ (w : ImageVolume). w.cylinders) images) (small_in_run deck d m small there);
       }
 
-  pub is_saved : (sub : Subsystem V G) (deck : DeckLines) (d : ℕ) (v : ImageVolume) → IsServedDeck deck → StandsAs sub (run_of deck).behind →
-      saving_of deck d ≡ Ok v → IsWhole v → IsSaved deck d v
-  is_saved sub deck d v served stands found whole =
-      saved_by sub deck d v (mounted_in (run_of deck).behind.mounted d) refl served stands found whole
+  pub is_saved : (sub : Subsystem V G) (deck : DeckLines) (d : ℕ) (v : ImageVolume) → IsServedDeck deck → HasSmallDevices deck →
+      StandsAs sub (run_of deck).behind → saving_of deck d ≡ Ok v → HasAllTracks v → IsSaved deck d v
+  is_saved sub deck d v served small stands found all =
+      saved_by sub deck d v (mounted_in (run_of deck).behind.mounted d) refl served small stands found all
 
 -- At the end of a call
 
@@ -420,7 +433,7 @@ module _ {V : Type 0} {G : Ghosts V} where
       ]
 
   pub has_reason_by : (run : runs.Subsystem) (d t count track : ℕ) (old new : Subsystem V G) (v w : ImageVolume) (why : Unsaved)
-      (l : LooksLeft run d t count old v) → track ≡ t → IsWhole v → t < length v.images → GoesOn l.now d track v new w (Err why) → HasReason run d why
+      (l : LooksLeft run d t count old v) → track ≡ t → HasAllTracks v → t < length v.images → GoesOn l.now d track v new w (Err why) → HasReason run d why
   has_reason_by run d t count track old new v w why l at whole lt g =
       elim (stop_by l.now d t v w new why (subst (λ (k : ℕ). GoesOn l.now d k v new w (Err why)) at g)) [
         | inl none ↦ subst (λ (x : Unsaved). HasReason run d x) (sym none) tt

@@ -1,4 +1,5 @@
 pub mod Devices
 pub mod DeckTexts
+pub mod Volumes
 pub mod Saving
 pub mod Stepping

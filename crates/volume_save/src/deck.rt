@@ -24,5 +24,8 @@ pub fn saved_behind(alloc: Global, deck: &Deck, d: DeviceNo) -> Result<FileVolum
     let mut bay = MemBay::new(alloc);
     let ran = run_deck(alloc, deck, &mut bay)?;
     let mut sub = ran.sub;
-    saved(alloc, &mut sub, d)
+    match saved(alloc, &mut sub, d) {
+        Ok(volume) => Ok(volume.into_file()),
+        Err(why) => Err(why),
+    }
 }

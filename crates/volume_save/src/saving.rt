@@ -6,18 +6,18 @@ ghost use Rattle.subsystem_defs.specs.Decks.{run_of};
 ghost use Rattle.subsystem_defs.specs.Subsystem as runs;
 ghost use Rattle.subsystem_laws.specs.Served.{IsServedDeck};
 ghost use Rattle.deck_run.specs.Standing.{StandsAs};
+ghost use Rattle.volume_save.specs.Devices.{HasSmallDevices};
 ghost use Rattle.volume_save.specs.Saving.{refusal, saving, Gives, HasReason, IsSaved};
 ghost use Rattle.volume_save.specs.Stepping.{FitsRun, GoesOn};
 ghost use Rattle.subsystem_core.specs.Frames.{HasDevice, HasSameDevices};
 
-use crate::Unsaved;
+use crate::{DeviceVolume, Unsaved};
 use ckd_types::{DeviceNo, HEADS, NoMemory, TrackNo};
 use device_core::{Device, HalfOrigin};
 use device_outside::Volume;
 use std::alloc::Global;
 use subsystem_core::Subsystem;
 use track_looks::{Look, look};
-use volume_file::FileVolume;
 
 /// Whether a half write is open that isn't of the background.
 fn is_writing<V: Volume>(device: &Device<V>) -> bool
@@ -49,7 +49,7 @@ fn save_track<V: Volume>(
     sub: &mut Subsystem<V>,
     d: DeviceNo,
     t: TrackNo,
-    volume: &mut FileVolume,
+    volume: &mut DeviceVolume,
 ) -> Result<(), Unsaved>
     requires here { HasDevice sub.old d }
     requires track { t < length volume.old.images }
@@ -59,7 +59,7 @@ fn save_track<V: Volume>(
     ensures found { (run : runs.Subsystem) → StandsAs sub.old run → FitsRun run d volume.old
         → GoesOn run d t volume.old sub.new volume.new result }
 {
-    volume.is_whole();
+    volume.has_all_tracks();
     match look(alloc, sub, d, t) {
         Ok(Look::Track(image)) => {
             volume.set(t, image);
@@ -78,11 +78,12 @@ pub fn saved<V: Volume>(
     alloc: Global,
     sub: &mut Subsystem<V>,
     d: DeviceNo,
-) -> Result<FileVolume, Unsaved>
+) -> Result<DeviceVolume, Unsaved>
     requires here { HasDevice sub.old d }
     requires stands { (run : runs.Subsystem) × StandsAs sub.old run }
     ensures found { (run : runs.Subsystem) → StandsAs sub.old run → Gives result (saving run d) }
-    ensures plain { (deck : DeckLines) → IsServedDeck deck → StandsAs sub.old (run_of deck).behind → IfOk result (IsSaved deck d) }
+    ensures plain { (deck : DeckLines) → IsServedDeck deck → HasSmallDevices deck → StandsAs sub.old (run_of deck).behind
+        → IfOk result (IsSaved deck d) }
     ensures reason { (run : runs.Subsystem) → StandsAs sub.old run → IfErr result (HasReason run d) }
 {
     let device = sub.device(d);
@@ -90,16 +91,16 @@ pub fn saved<V: Volume>(
         return Err(why);
     }
     let cylinders = device.cylinders();
-    let mut volume = FileVolume::new(alloc, device.geometry(), cylinders)?;
+    let mut volume = DeviceVolume::new(alloc, device.geometry(), cylinders)?;
     let count = cylinders * HEADS;
     for t in 0..count {
         let track = TrackNo::new(t).unwrap();
-        volume.is_whole();
+        volume.has_all_tracks();
         match save_track(alloc, sub, d, track, &mut volume) {
             Err(why) => return Err(why),
             Ok(()) => (),
         }
     }
-    volume.is_whole();
+    volume.has_all_tracks();
     Ok(volume)
 }

@@ -6,9 +6,14 @@ use Rattle.deck_run.specs.Opening.{numbers_in}
 use Rattle.deck_run.proofs.Ready.{read_lines}
 use Rattle.volume_file.specs.File.{ImageVolume}
 use Rattle.copy_tool.specs.Copying.{copying, Gives}
-use Rattle.copy_tool.proofs.Begun.{begun_found, begun_of, is_there, plain_ok, refused_found}
+use Rattle.copy_tool.proofs.Begun.{begun_found, begun_of, is_there, plain_ok, refused_found, small_device}
 use Rattle.copy_tool.proofs.Rest.{rest_open}
 use Rattle.copy_tool.proofs.deck.copy_device.Goals as goal
+
+pub in_file-requires : goal.in_file-requires
+in_file-requires c =
+    small_device c.in-Ok.sub c.args.deck.now c.args.lines c.args.d c.device-device.result.now c.cylinders-cylinders.result c.requires.read
+    (c.in-Ok.ensures.stands (ap (λ (b : Bay). b.spoiled) c.new-bay.ensures)) c.device-device.ensures c.cylinders-cylinders.ensures
 
 pub copy_begun-requires-clause-lines : goal.copy_begun-requires-clause-lines
 copy_begun-requires-clause-lines c =
@@ -25,8 +30,8 @@ copy_begun-requires-clause-begun c =
     let stands = c.in-Ok.ensures.stands (ap (λ (b : Bay). b.spoiled) c.new-bay.ensures) in (
       run,
       c.args.d,
-      begun_of c.in-Ok.sub run c.args.d c.device-device.result.now c.in-Ok-begin.session c.geometry-geometry.result c.cylinders-cylinders.result stands
-          c.device-device.ensures c.geometry-geometry.ensures c.cylinders-cylinders.ensures
+      begun_of c.in-Ok.sub run c.args.d c.device-device.result.now c.in-Ok-begin.session c.geometry-geometry.result c.in_file.result stands
+          c.device-device.ensures c.geometry-geometry.ensures (c.in_file.ensures.value ∙ c.cylinders-cylinders.ensures)
           (c.in-Ok-begin.ensures.old run stands c.in-Ok.ensures.own),
     )
 
@@ -34,8 +39,8 @@ pub returns-in-Ok-begin-clause-found : goal.returns-in-Ok-begin-clause-found
 returns-in-Ok-begin-clause-found c =
     let run = (front_of c.args.deck.now c.args.lines).behind in
     let stands = c.in-Ok.ensures.stands (ap (λ (b : Bay). b.spoiled) c.new-bay.ensures) in
-    let b = begun_of c.in-Ok.sub run c.args.d c.device-device.result.now c.in-Ok-begin.session c.geometry-geometry.result c.cylinders-cylinders.result stands
-    c.device-device.ensures c.geometry-geometry.ensures c.cylinders-cylinders.ensures (c.in-Ok-begin.ensures.old run stands c.in-Ok.ensures.own) in
+    let b = begun_of c.in-Ok.sub run c.args.d c.device-device.result.now c.in-Ok-begin.session c.geometry-geometry.result c.in_file.result stands
+    c.device-device.ensures c.geometry-geometry.ensures (c.in_file.ensures.value ∙ c.cylinders-cylinders.ensures) (c.in-Ok-begin.ensures.old run stands c.in-Ok.ensures.own) in
     let m = b.begun.mounted in
     begun_found c.args.deck.now c.args.d c.args.lines m b.begun.there c.split_at.result.1.now c.copy_begun.result
     (c.in-Ok-begin.ensures.refused run m stands b.begun.there)
@@ -45,8 +50,8 @@ pub returns-in-Ok-begin-clause-plain : goal.returns-in-Ok-begin-clause-plain
 returns-in-Ok-begin-clause-plain c =
     let run = (front_of c.args.deck.now c.args.lines).behind in
     let stands = c.in-Ok.ensures.stands (ap (λ (b : Bay). b.spoiled) c.new-bay.ensures) in
-    let b = begun_of c.in-Ok.sub run c.args.d c.device-device.result.now c.in-Ok-begin.session c.geometry-geometry.result c.cylinders-cylinders.result stands
-    c.device-device.ensures c.geometry-geometry.ensures c.cylinders-cylinders.ensures (c.in-Ok-begin.ensures.old run stands c.in-Ok.ensures.own) in
+    let b = begun_of c.in-Ok.sub run c.args.d c.device-device.result.now c.in-Ok-begin.session c.geometry-geometry.result c.in_file.result stands
+    c.device-device.ensures c.geometry-geometry.ensures (c.in_file.ensures.value ∙ c.cylinders-cylinders.ensures) (c.in-Ok-begin.ensures.old run stands c.in-Ok.ensures.own) in
     plain_ok c.args.deck.now c.args.d c.args.lines b.begun.mounted b.begun.there c.copy_begun.result c.requires.read
     (c.copy_begun.ensures.made run c.args.d b)
 

@@ -1,5 +1,6 @@
-use Rattle.std.proofs.Common.{◌≡◌, ◌∙◌, ◌<◌, ◌^◌, ℕ, List, map, subst, sym, arith}
+use Rattle.std.proofs.Common.{◌≡◌, ◌∙◌, ◌<◌, ◌^◌, ℕ, List, map, refl, subst, sym, arith}
 use Rattle.deck_plan.specs.declared.event.EventLine.{EventLine}
+use Rattle.subsystem_core.specs.Devices.{device_at}
 use Rattle.subsystem_defs.specs.Lines.{asked_by}
 use Rattle.line_drive.specs.Driven.{Goes, driven}
 use Rattle.line_drive.specs.Staging.{LinesMay}
@@ -7,7 +8,7 @@ use Rattle.deck_run.proofs.Ready.{read_lines}
 use Rattle.remote_copy.specs.Mirroring.{IsMirror, MirrorRun}
 use Rattle.copy_tool.specs.MirrorStanding.{IsKept, mirror_course, mirror_from}
 use Rattle.copy_tool.proofs.Firms.{over_so}
-use Rattle.copy_tool.proofs.FarVolumes.{found_so}
+use Rattle.copy_tool.proofs.FarVolumes.{found_so, small_far}
 use Rattle.copy_tool.proofs.MirrorStaged.{lines_kept}
 use Rattle.copy_tool.proofs.far.mirror_device.Goals as goal
 use Rattle.copy_tool.proofs.far.mirror_device.Goals.{In-Ok-drive}
@@ -40,6 +41,12 @@ pub far_volume-requires-clause-stands : goal.far_volume-requires-clause-stands
 far_volume-requires-clause-stands c =
     let so = goes_so (goal.at.far_volume-requires-clause-stands c).In-Ok-drive in
     (so.0, (over_so c.args.deck.now c.args.d c.args.put so.0 so.1).device, so.2)
+
+pub far_volume-requires-clause-small : goal.far_volume-requires-clause-small
+far_volume-requires-clause-small c =
+    let so = goes_so (goal.at.far_volume-requires-clause-small c).In-Ok-drive in
+    small_far c.drive.new.stage.mirror c.args.deck.now c.args.d c.args.put so.0 c.requires.read so.1 so.2
+    (device_at c.drive.new.stage.mirror.sub.devices.items c.args.d) refl
 
 pub returns-clause-found : goal.returns-clause-found
 returns-clause-found c =

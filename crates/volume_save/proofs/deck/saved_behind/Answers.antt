@@ -1,8 +1,28 @@
-use Rattle.std.proofs.Common.{ap}
+use Rattle.std.proofs.Common.{Ok, ap, subst, sym}
 use Rattle.device_outside.specs.Bay.{Bay}
-use Rattle.subsystem_laws.proofs.ReadDecks.{read_served}
+use Rattle.subsystem_defs.specs.Decks.{run_of}
+use Rattle.subsystem_laws.proofs.ReadDecks.{read_served, read_small}
+use Rattle.volume_file.specs.File.{ImageVolume}
+use Rattle.volume_save.specs.Saving.{saving_of, Gives, IsSaved}
 use Rattle.volume_save.proofs.deck.saved_behind.Goals as goal
 
-pub returns-clause-plain : goal.returns-clause-plain
-returns-clause-plain c =
-    c.saved.ensures.plain c.args.deck.now (read_served c.requires.read.0 c.args.deck.now c.requires.read.1) (c.in_ok-ran.ensures.stands (ap (λ (b : Bay). b.spoiled) c.new-bay.ensures))
+pub into_file-requires : goal.into_file-requires
+into_file-requires c =
+    let deck = c.args.deck.now in
+    let read = c.requires.read in
+    (c.in-Ok.ensures.plain deck (read_served read.0 deck read.1) (read_small read.0 deck read.1)
+    (c.in_ok-ran.ensures.stands (ap (λ (b : Bay). b.spoiled) c.new-bay.ensures))).whole.most
+
+pub returns-in-Ok-clause-found : goal.returns-in-Ok-clause-found
+returns-in-Ok-clause-found c =
+    let deck = c.args.deck.now in
+    subst (λ (v : ImageVolume). Gives (Ok v) (saving_of deck c.args.d)) (sym c.into_file.ensures)
+    (c.in-Ok.ensures.found (run_of deck).behind (c.in_ok-ran.ensures.stands (ap (λ (b : Bay). b.spoiled) c.new-bay.ensures)))
+
+pub returns-in-Ok-clause-plain : goal.returns-in-Ok-clause-plain
+returns-in-Ok-clause-plain c =
+    let deck = c.args.deck.now in
+    let read = c.requires.read in
+    subst (IsSaved deck c.args.d) (sym c.into_file.ensures)
+    (c.in-Ok.ensures.plain deck (read_served read.0 deck read.1) (read_small read.0 deck read.1)
+    (c.in_ok-ran.ensures.stands (ap (λ (b : Bay). b.spoiled) c.new-bay.ensures)))

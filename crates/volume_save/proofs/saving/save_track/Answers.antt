@@ -6,7 +6,7 @@ use Rattle.volume_save.proofs.saving.save_track.Goals as goal
 
 pub look-requires-clause-track : goal.look-requires-clause-track
 look-requires-clause-track g c =
-    all_below c.args.sub.now c.requires.stands.0 c.args.d c.args.t c.args.volume.now c.requires.stands.1 c.requires.stands.2 c.is_whole.ensures
+    all_below c.args.sub.now c.requires.stands.0 c.args.d c.args.t c.args.volume.now c.requires.stands.1 c.requires.stands.2 c.has_all_tracks.ensures
     c.requires.track
 
 pub set-requires-clause-model : goal.set-requires-clause-model
@@ -14,7 +14,7 @@ set-requires-clause-model g c =
     let run = c.requires.stands.0 in
     let fits = c.requires.stands.2 in
     let so = c.in-Ok-Track.ensures.happened run c.requires.stands.1 (off_track run c.args.d c.args.t c.args.volume.now fits) in
-    (is_placed c.args.sub.now run c.args.d c.args.t c.args.volume.now c.in-Ok-Track.image c.requires.stands.1 fits c.is_whole.ensures c.requires.track
+    (is_placed c.args.sub.now run c.args.d c.args.t c.args.volume.now c.in-Ok-Track.image c.requires.stands.1 fits c.has_all_tracks.ensures c.requires.track
     (so.0 ∙ ap look_seen c.in-Ok-Track.field-0-is)).0
 
 pub set-requires-clause-home : goal.set-requires-clause-home
@@ -22,7 +22,7 @@ set-requires-clause-home g c =
     let run = c.requires.stands.0 in
     let fits = c.requires.stands.2 in
     let so = c.in-Ok-Track.ensures.happened run c.requires.stands.1 (off_track run c.args.d c.args.t c.args.volume.now fits) in
-    (is_placed c.args.sub.now run c.args.d c.args.t c.args.volume.now c.in-Ok-Track.image c.requires.stands.1 fits c.is_whole.ensures c.requires.track
+    (is_placed c.args.sub.now run c.args.d c.args.t c.args.volume.now c.in-Ok-Track.image c.requires.stands.1 fits c.has_all_tracks.ensures c.requires.track
     (so.0 ∙ ap look_seen c.in-Ok-Track.field-0-is)).1
 
 pub unreachable-requires : goal.unreachable-requires

@@ -61,32 +61,31 @@ returns-clause-found g c = λ run stands.
     (omega (arith, c.loop-t-test.false, c.loop-t.invariant.size)))
 
 pub returns-clause-plain : goal.returns-clause-plain
-returns-clause-plain g c = λ deck served stands.
-    is_saved c.args.sub.now deck c.args.d c.loop-t.volume served stands
+returns-clause-plain g c = λ deck served small stands.
+    is_saved c.args.sub.now deck c.args.d c.loop-t.volume served small stands
     (looks_over (run_of deck).behind c.args.d c.loop-t.t _ c.loop-t.sub c.loop-t.volume (c.loop-t.invariant.left (run_of deck).behind stands)
-    (omega (arith, c.loop-t-test.false)) (omega (arith, c.loop-t-test.false, c.loop-t.invariant.size))) c.is_whole-2.ensures
+    (omega (arith, c.loop-t-test.false)) (omega (arith, c.loop-t-test.false, c.loop-t.invariant.size))) c.has_all_tracks-2.ensures
 
 pub returns-in-Err-clause-reason : goal.returns-in-Err-clause-reason
 returns-in-Err-clause-reason g c = λ run stands.
     let l = c.loop-t.invariant.left run stands in
     let at : c.unwrap-track.result ≡ c.loop-t.t = grind (arith, common_steps) in
     has_reason_by run c.args.d c.loop-t.t _ c.unwrap-track.result c.loop-t.sub c.save_track.new.sub c.loop-t.volume c.save_track.new.volume c.in-Err.why l
-    at c.is_whole.ensures (omega (arith, c.loop-t-test.true, c.loop-t.invariant.size)) (c.in-Err.ensures.found l.now l.stands l.fits)
+    at c.has_all_tracks.ensures (omega (arith, c.loop-t-test.true, c.loop-t.invariant.size)) (c.in-Err.ensures.found l.now l.stands l.fits)
 
 pub loop-t-init : goal.loop-t-init
 loop-t-init g c =
-    let few : c.cylinders-cylinders.result ≤ 64 = search rules in
+    let few : c.cylinders-cylinders.result ≤ 4369 = search rules in
     record {
       numbers = refl;
       size =
           ap (λ (v : ImageVolume). length v.images) c.in_ok-volume.ensures
-          ∙ length-map-range_with_len (empty_image c.geometry.result) 0 (c.cylinders-cylinders.result * 15)
-          ∙ ap (λ (n : ℕ). n * 15) (sym c.from-count.ensures);
-      most = omega (arith, few, c.from-count.ensures);
+          ∙ length-map-range_with_len (empty_image c.geometry.result) 0 (c.cylinders-cylinders.result * 15);
+      most = omega (arith, few);
       left = λ run stands.
-          looks_first c.args.sub.now run c.args.d (c.from-count.result * 15) c.device-device.result.now c.in_ok-volume.volume stands
+          looks_first c.args.sub.now run c.args.d (c.cylinders-cylinders.result * 15) c.device-device.result.now c.in_ok-volume.volume stands
           c.device-device.ensures (sym c.refusal.ensures ∙ c.in_default.is)
           (ap (λ (v : ImageVolume). v.geometry) c.in_ok-volume.ensures ∙ c.geometry.ensures)
           (ap (λ (v : ImageVolume). v.cylinders) c.in_ok-volume.ensures ∙ c.cylinders-cylinders.ensures)
-          (ap (λ (n : ℕ). n * 15) (c.from-count.ensures ∙ c.cylinders-cylinders.ensures));
+          (ap (λ (n : ℕ). n * 15) c.cylinders-cylinders.ensures);
     }

@@ -10,6 +10,6 @@ abbrev pub invariant-loop-t : goal.invariant-loop-t
 invariant-loop-t g l = record {
   numbers : numbers_of l.sub.devices.items ≡ numbers_of l.fn.sub.devices.items;
   size : length l.volume.images ≡ l.count;
-  most : l.count ≤ 960;
+  most : l.count ≤ 65535;
   left : (run : runs.Subsystem) → StandsAs l.fn.sub run → LooksLeft run l.d l.t l.count l.sub l.volume;
 }
