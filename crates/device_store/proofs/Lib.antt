@@ -20,6 +20,6 @@ pub mod Orders
 pub mod Lending
 pub mod Copying
 pub mod Placed
-pub mod Elsewhere
+pub mod Passed
 pub mod Skipping
 pub mod Marked

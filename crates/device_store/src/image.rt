@@ -165,7 +165,7 @@ impl<V: Volume> DeviceStore<V> {
     }
 
     /// Queues a track for staging where it is in the extent.
-    fn queue_one(&mut self, last: Option<TrackNo>, t: u16)
+    fn queue_one(&mut self, last: Option<TrackNo>, t: u32)
         requires { IfSome last (λ l. l < self.old.cylinders * 15) }
         ensures leaves { ChangesMarksAlone self.old self.new }
         ensures lent { self.new.pair.lent ≡ self.old.pair.lent }
@@ -173,8 +173,8 @@ impl<V: Volume> DeviceStore<V> {
         ensures state { state_of self.new ≡ queued last (state_of self.old) t }
     {
         if let Some(last) = last {
-            if t <= last.get() {
-                self.queue.push(TrackNo::new(t).unwrap());
+            if t <= u32::from(last.get()) {
+                self.queue.push(TrackNo::new(t as u16).unwrap());
             }
         }
     }
@@ -188,8 +188,9 @@ impl<V: Volume> DeviceStore<V> {
         ensures state { state_of self.new ≡ ahead usage.now (state_of self.old) t }
     {
         if is_sequential(usage.mode) {
-            self.queue_one(usage.last, t.get() + 1);
-            self.queue_one(usage.last, t.get() + 2);
+            let t = u32::from(t.get());
+            self.queue_one(usage.last, t + 1);
+            self.queue_one(usage.last, t + 2);
         }
     }
 

@@ -65,7 +65,7 @@ impl<V: Volume> DeviceStore<V> {
 
     /// The tracks that wait for recovery: those with a patch and no frame, and those with a modified frame alone that aren't loose.
     pub(crate) fn waiting(&self) -> Waiting<'_>
-        ensures { (t : ℕ) → ⟦<Waiting as Marks>⟧.marked result t ≡ waits contents (state_of self.now) t }
+        ensures { (t : ℕ) → ⟦<Waiting<'static> as Marks>⟧.marked result t ≡ waits contents (state_of self.now) t }
     {
         let patched = self.patches.patched_tracks();
         let without_frame = Without {

@@ -1,9 +1,9 @@
-use Rattle.std.proofs.Common.{◌≡◌, ◌*◌, ℕ, false}
+use Rattle.std.proofs.Common.{◌≡◌, ◌-◌, ◌*◌, ◌≤◌, ℕ, false}
+use Rattle.device_defs.specs.Losses.{over}
 use Rattle.device_defs.specs.Store.{is_loose}
 use Rattle.event_notes.specs.Loose.{weight}
-use Rattle.track_table.specs.Marked.{marked_left}
 use Rattle.device_store.specs.State.{state_of}
-use Rattle.device_store.proofs.Elsewhere.{FramesGo}
+use Rattle.device_store.proofs.Passed.{gone}
 use Rattle.device_store.proofs.store.DeviceStore.lose_frames.Given as goal
 
 abbrev pub invariant-loop-t : goal.invariant-loop-t
@@ -15,5 +15,9 @@ invariant-loop-t g l = record {
   half : l.self.half ≡ l.fn.self.half;
   weight : weight l.self.loose ≡ weight l.fn.self.loose;
   firm : (t : ℕ) → is_loose (state_of l.self) t ≡ false;
-  walk : FramesGo (l.fn.self.cylinders * 15) (state_of l.fn.self) (state_of l.self) (marked_left l.t-iterator);
+  low : l.from ≤ l.fn.self.cylinders * 15;
+  state : state_of l.self ≡ over l.from gone (state_of l.fn.self);
 }
+
+abbrev pub decreases-loop-t : goal.decreases-loop-t
+decreases-loop-t g l = l.fn.self.cylinders * 15 - l.from

@@ -10,10 +10,10 @@ use Rattle.device_store.proofs.store.DeviceStore.open.Goals as goal
 
 pub invariant_of-result-clause-stale_of_each : goal.invariant_of-result-clause-stale_of_each
 invariant_of-result-clause-stale_of_each g c =
-    ap (λ (m : SideMarks). length m.stale) c.single.ensures.a ∙ length-replicate (c.args.cylinders * 15) false
+    ap (λ (m : SideMarks). length m.stale) c.single.ensures.a ∙ ap length c.in-Ok.ensures.stale ∙ length-replicate (c.args.cylinders * 15) false
 
 pub invariant_of-result-clause-loose_modified : goal.invariant_of-result-clause-loose_modified
-invariant_of-result-clause-loose_modified g c = λ here t is. absurd (not_both _ is (rw c.new-3.ensures.loose (no_marks _ t)))
+invariant_of-result-clause-loose_modified g c = λ here t is. absurd (not_both _ is (rw c.in-Ok.ensures.loose (no_marks _ t)))
 
 pub invariant_of-result-clause-frames_of_tracks : goal.invariant_of-result-clause-frames_of_tracks
 invariant_of-result-clause-frames_of_tracks g c =

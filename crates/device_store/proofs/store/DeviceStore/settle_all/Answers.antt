@@ -41,6 +41,6 @@ loop-t-preserved g c = record {
 
 pub returns-clause-run : goal.returns-clause-run
 returns-clause-run g c =
-    let all : c.loop-t.t ≡ c.args.self.now.cylinders * 15 = omega (arith, c.loop-t-test.false, c.loop-t.auto.t-end, c.from-tracks.ensures) in
+    let all : c.loop-t.t ≡ c.args.self.now.cylinders * 15 = omega (arith, c.loop-t-test.false, c.loop-t.auto.t-end) in
     λ p. from_equal (λ n. all_firm_told contents n (over n (settled_but contents c.args.writing.now) (state_of c.args.self.now))) all refl
     (c.loop-t.invariant.ran p)

@@ -12,7 +12,7 @@ returns-then-some_up-clause-least g c =
     let s = state_of c.args.self.now in
     let n = c.args.self.now.cylinders * 15 in
     let few : n ≤ 65535 = omega (arith, c.args.self.now.most) in
-    c.first.ensures ∙ least_of n c.waiting.result (waits contents s) few c.waiting.ensures
+    c.first.ensures ∙ least_of n _ (waits contents s) few c.waiting.ensures
     (λ t le. none_beyond s n t c.args.self.now.frame_of_each c.args.self.now.patch_of_each le)
     ∙ sym (recovers s (sym c.some_up.ensures ∙ c.if-some_up.true))
 
@@ -22,7 +22,7 @@ returns-then-some_up-clause-here g c =
     let n = c.args.self.now.cylinders * 15 in
     let few : n ≤ 65535 = omega (arith, c.args.self.now.most) in
     if_some _ _ (IsOne n (waits contents s)) (λ t. t < n)
-    (c.first.ensures ∙ least_of n c.waiting.result (waits contents s) few c.waiting.ensures
+    (c.first.ensures ∙ least_of n _ (waits contents s) few c.waiting.ensures
     (λ t le. none_beyond s n t c.args.self.now.frame_of_each c.args.self.now.patch_of_each le))
     (λ t one. one.here) (least_one n (waits contents s))
 

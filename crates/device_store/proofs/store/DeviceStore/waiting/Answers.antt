@@ -8,11 +8,6 @@ pub returns : goal.returns
 unfolding waits
 returns g c =
     λ t. rw (
-      c.without.ensures t,
-      c.or.ensures t,
-      c.without-without_frame.ensures t,
-      c.without-alone-2.ensures t,
-      c.without-alone.ensures t,
       c.patched_tracks-patched.ensures t,
       c.framed_tracks.ensures t,
       c.modified_tracks.ensures t,
