@@ -43,7 +43,7 @@ use Rattle.plain_defs.specs.History.{OpenEntry}
 use Rattle.plain_defs.specs.Journal.{Plans}
 use Rattle.track_table.specs.Tracks as N
 use Rattle.track_table.specs.Tracks.{count_below}
-use Rattle.track_table.proofs.Marks.{count_same}
+use Rattle.track_table.proofs.AskedWords.{count_same}
 use Rattle.track_table.proofs.Places.{empty_places}
 use Rattle.device_outside.specs.Interaction.{Done, and_then}
 use Rattle.device_outside.specs.Lists as L
