@@ -40,7 +40,7 @@ use Rattle.ckd_types.specs.declared.paths.Side.TheVariants as sides
 use Rattle.track_image.specs.Image.{Image}
 use Rattle.track_table.specs.Tracks as N
 use Rattle.track_table.specs.Tracks.{count_below}
-use Rattle.track_table.proofs.Marks.{count_same}
+use Rattle.track_table.proofs.AskedWords.{count_same}
 use Rattle.device_outside.specs.Interaction.{Interaction, Done, Ask}
 use Rattle.device_outside.specs.Pool.{Call, SetModified, DropFrame}
 use Rattle.device_defs.specs.declared.answers.Did.{Did}
