@@ -99,10 +99,28 @@ impl<V: Volume> DeviceStore<V> {
         match (self.pair.a.up, self.pair.b.up) {
             (true, true) => {
                 let stale = And { one: a, other: b };
-                least_from(&Without { one: stale, other: lost }, from)
+                least_from(
+                    &Without {
+                        one: stale,
+                        other: lost,
+                    },
+                    from,
+                )
             }
-            (true, false) => least_from(&Without { one: a, other: lost }, from),
-            (false, true) => least_from(&Without { one: b, other: lost }, from),
+            (true, false) => least_from(
+                &Without {
+                    one: a,
+                    other: lost,
+                },
+                from,
+            ),
+            (false, true) => least_from(
+                &Without {
+                    one: b,
+                    other: lost,
+                },
+                from,
+            ),
             (false, false) => self.next_not_lost(from),
         }
     }

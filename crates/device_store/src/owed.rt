@@ -33,8 +33,10 @@ use track_table::{Marks, Or, TrackBits, Without, count, least_from};
 type Only<'a> = Without<&'a TrackBits, &'a TrackBits>;
 
 /// The tracks that wait for recovery.
-pub(crate) type Waiting<'a> =
-    Without<Or<Only<'a>, Without<Only<'a>, &'a TrackBits>>, &'a TrackBits>;
+pub(crate) type Waiting<'a> = Without<
+    Or<Only<'a>, Without<Only<'a>, &'a TrackBits>>,
+    &'a TrackBits,
+>;
 
 fn no_debt() -> Owed
     ensures { result ≡ no_debt }

@@ -26,10 +26,7 @@ impl<V: Volume> DuplexPair<V> {
                 a: Some(volume),
                 b: None,
             },
-            a: SideState {
-                up: true,
-                stale,
-            },
+            a: SideState { up: true, stale },
             b: SideState {
                 up: false,
                 stale: none,

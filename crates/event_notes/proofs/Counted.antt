@@ -1,12 +1,10 @@
 -- Counts of marks, where one more or one less is marked.
-use Rattle.std.proofs.Common.{◌≡◌, ◌∙◌, ◌+◌, ◌<◌, ◌≤◌, ◌==◌, ◌⊎◌, ℕ, zero, suc, inl, inr, Bool, true}
-use Rattle.std.proofs.Common.{false, List, Option, None, Some, refl, sym, ap, arith, take, length}
-use Rattle.std.specs.Prelude.{if◌then◌else◌, slice_index_or, replicate, is_some}
-use Rattle.std.proofs.lemmas.Bool.{cases_eq, cases_lt, eq-eqb, ne_eqb}
+use Rattle.std.proofs.Common.{◌≡◌, ◌∙◌, ◌+◌, ◌<◌, ◌≤◌, ◌==◌, ℕ, zero, suc, inl, inr, Bool, true}
+use Rattle.std.proofs.Common.{false, Option, None, Some, refl, sym, ap, arith}
+use Rattle.std.specs.Prelude.{if◌then◌else◌, is_some}
+use Rattle.std.proofs.lemmas.Bool.{cases_eq, eq-eqb, ne_eqb}
 use Rattle.track_table.specs.Tracks as tracks
 use Rattle.track_table.specs.Tracks.{count_below, least, or_else}
-use Rattle.std.proofs.lemmas.List.{get_or-take, get_or_past, length-take}
-use Rattle.track_table.specs.Bits.{is_marked}
 
 pub count_same : (n : ℕ) (f g : ℕ → Bool) → ((q : ℕ) → f q ≡ g q) → count_below n f ≡ count_below n g
 unfolding tracks.count_below

@@ -38,7 +38,11 @@ fn is_listed(put: u64, numbers: &[u32]) -> bool
 }
 
 /// Empty tracks, each in room for any track.
-fn empty_rooms(alloc: Global, geometry: Geometry, cylinders: u16) -> Result<Vec<TrackRoom>, NoMemory>
+fn empty_rooms(
+    alloc: Global,
+    geometry: Geometry,
+    cylinders: u16,
+) -> Result<Vec<TrackRoom>, NoMemory>
     requires { cylinders ≤ 4369 }
     ensures { IfOk result (λ made. made.items ≡ empty_images geometry cylinders) }
 {

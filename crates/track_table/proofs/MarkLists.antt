@@ -1,30 +1,5 @@
 -- Words of bits and the marks that they are.
-use Rattle.std.proofs.Common.{
-  ◌≡◌,
-  ℕ,
-  ◌+◌,
-  ◌*◌,
-  ◌/◌,
-  ◌%◌,
-  ◌<◌,
-  ◌≤◌,
-  ◌==◌,
-  not,
-  inl,
-  inr,
-  Bool,
-  true,
-  false,
-  cond,
-  List,
-  length,
-  get_or,
-  refl,
-  sym,
-  ap,
-  ◌∙◌,
-  arith,
-}
+use Rattle.std.proofs.Common.{◌≡◌, ℕ, ◌+◌, ◌*◌, ◌/◌, ◌%◌, ◌<◌, ◌≤◌, ◌==◌, not, inl, inr, Bool, false, cond, List, length, get_or, refl, sym, ap, ◌∙◌, arith}
 use Rattle.std.specs.Prelude.{replicate}
 use Rattle.std.specs.Int.{bit_at}
 use Rattle.std.proofs.Math.ListN.{set}
@@ -53,9 +28,9 @@ unfolding marks_of
 marked_is words t whole last = elim (cases_lt t 65535) [
   | inl below ↦ get_or-map-range_with_len (is_set words) 0 65535 t t false below (omega arith)
   | inr past ↦ get_or_past (marks_of words) t false (omega (arith, past, length_marks words)) ∙ sym (elim (cases_eq t 65535) [
-      | inl e ↦ ap (is_set words) e ∙ last
-      | inr other ↦ set_past_end words t (omega (arith, whole, past, other))
-    ])
+    | inl e ↦ ap (is_set words) e ∙ last
+    | inr other ↦ set_past_end words t (omega (arith, whole, past, other))
+  ])
 ]
 
 pub no_last : (words : List ℕ) → NoneLast (is_marked (marks_of words))

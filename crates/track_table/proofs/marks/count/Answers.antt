@@ -1,6 +1,5 @@
-use Rattle.std.proofs.Common.{◌≡◌, ℕ, ◌+◌, ◌*◌, ◌≤◌, ap, ◌∙◌, rules, arith}
+use Rattle.std.proofs.Common.{◌≡◌, ◌+◌, ◌*◌, ◌∙◌, arith}
 use Rattle.std.proofs.lemmas.Nat.{ones-le}
-use Rattle.std.specs.Int.Count.{ones}
 use Rattle.track_table.specs.Tracks.{count_below}
 use Rattle.track_table.proofs.AskedWords.{count_all, count_past, count_word, no_count}
 use Rattle.track_table.proofs.Counts.{few_marked}

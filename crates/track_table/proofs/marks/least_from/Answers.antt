@@ -1,4 +1,4 @@
-use Rattle.std.proofs.Common.{◌≡◌, ◌+◌, ◌-◌, ◌*◌, w64, rules, arith}
+use Rattle.std.proofs.Common.{◌+◌, ◌-◌, ◌*◌, w64, rules, arith}
 use Rattle.std.specs.Int.{trailing_zeros}
 use Rattle.track_table.proofs.AskedWords.{FromPlace, bit_is_track, least_in_word, lowest_bit, lowest_is, none_in_word, none_joined, none_left}
 use Rattle.track_table.proofs.marks.least_from.Goals as goal

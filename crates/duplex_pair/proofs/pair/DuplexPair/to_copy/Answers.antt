@@ -18,7 +18,7 @@ returns-then-self g c =
     let p = c.args.self.now in
     let up = sym c.both_up.ensures ∙ c.if-not-both_up.false in
     let each : (t : ℕ) → (is_marked c.marks.result.now t && not (is_marked c.marks-2.result.now t))
-        ≡ is_some (copies_in (marks_of p.a) (marks_of p.b) p.held t) =
+    ≡ is_some (copies_in (marks_of p.a) (marks_of p.b) p.held t) =
     λ t. rw (c.marks.ensures.each t, c.marks-2.ensures.each t)
     (held_copied (marks_of p.a) (marks_of p.b) p.held t up c.if-self.true)
     in
@@ -31,8 +31,8 @@ returns g c =
     let p = c.args.self.now in
     let up = sym c.both_up.ensures ∙ c.if-not-both_up.false in
     let each : (t : ℕ) → ((is_marked c.marks.result.now t && not (is_marked c.marks-2.result.now t))
-        || (is_marked c.marks-3.result.now t && not (is_marked c.marks-4.result.now t)))
-        ≡ is_some (copies_in (marks_of p.a) (marks_of p.b) p.held t) =
+    || (is_marked c.marks-3.result.now t && not (is_marked c.marks-4.result.now t)))
+    ≡ is_some (copies_in (marks_of p.a) (marks_of p.b) p.held t) =
     λ t. rw (
       c.marks.ensures.each t,
       c.marks-2.ensures.each t,

@@ -1,13 +1,10 @@
-use Rattle.std.proofs.Common.{◌≡◌, ◌<◌, ◌+◌, ◌≤◌, true, false, List, Bool, replicate, length, refl, sym, ap, ◌∙◌, arith}
+use Rattle.std.proofs.Common.{◌≡◌, false, List, Bool, replicate, length, sym, ap, ◌∙◌, arith}
 use Rattle.std.proofs.lemmas.List.{length-replicate, length-take-le, take-replicate}
-use Rattle.std.specs.Prelude.{is_some}
-use Rattle.std.specs.Vec.{vec_len, vec_capacity}
 use Rattle.track_table.specs.Bits.{is_marked}
-use Rattle.track_table.specs.Tracks.{count_below, least}
+use Rattle.track_table.specs.Tracks.{count_below}
 use Rattle.track_table.proofs.Places.{empty_places}
-use Rattle.event_notes.specs.Loose.{is_loose_in, loose_count}
-use Rattle.event_notes.proofs.Counted.{count_none, some_counted}
-use Rattle.event_notes.proofs.Loosely.{count_is, counted, least_is}
+use Rattle.event_notes.proofs.Counted.{count_none}
+use Rattle.event_notes.proofs.Loosely.{counted}
 use Rattle.event_notes.proofs.loose.LooseTracks.clear.Goals as goal
 
 none : (marks : List Bool) → marks ≡ replicate 65535 false → count_below 65535 (is_marked marks) ≡ 0

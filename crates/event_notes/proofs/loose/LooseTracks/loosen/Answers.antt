@@ -1,11 +1,9 @@
-use Rattle.std.proofs.Common.{◌≡◌, ◌<◌, ◌+◌, ◌≤◌, true, false, length, refl, sym, ap, ◌∙◌, arith}
+use Rattle.std.proofs.Common.{◌≡◌, ◌<◌, true, false, length, sym, ap, ◌∙◌, arith}
 use Rattle.std.proofs.Math.Seq.{take-set-lt}
-use Rattle.std.proofs.lemmas.List.{length-take, length-set, length-append}
-use Rattle.std.specs.Vec.{vec_len, vec_capacity}
+use Rattle.std.proofs.lemmas.List.{length-take, length-set}
 use Rattle.loss_model.proofs.Fronts.{front_mark}
 use Rattle.track_table.specs.Bits.{is_marked}
-use Rattle.track_table.specs.Tracks.{count_below}
-use Rattle.event_notes.specs.Loose.{is_loose_in, loose_count}
+use Rattle.event_notes.specs.Loose.{is_loose_in}
 use Rattle.event_notes.proofs.Counted.{count_one_more}
 use Rattle.event_notes.proofs.Loosely.{none_behind, count_is, counted}
 use Rattle.event_notes.proofs.loose.LooseTracks.loosen.Goals as goal

@@ -1,6 +1,5 @@
-use Rattle.std.proofs.Common.{◌≡◌, ◌*◌, ◌≤◌, ◌+◌, false, length, refl, ap, ◌∙◌, arith}
+use Rattle.std.proofs.Common.{◌≡◌, ◌*◌, ◌≤◌, false, length, refl, ap, ◌∙◌, arith}
 use Rattle.std.proofs.lemmas.List.{length-replicate, take-replicate}
-use Rattle.std.specs.Vec.{vec_len, vec_capacity}
 use Rattle.track_table.specs.Bits.{is_marked}
 use Rattle.track_table.specs.Tracks.{count_below}
 use Rattle.track_table.proofs.Places.{empty_places}

@@ -1,7 +1,7 @@
 use Rattle.std.proofs.Common.{◌≡◌, ℕ, length, ap, ◌∙◌, rules}
 use Rattle.std.specs.Prelude.{replicate}
 use Rattle.std.proofs.lemmas.List.{length-replicate}
-use Rattle.track_table.proofs.MarkLists.{no_bits, no_marks}
+use Rattle.track_table.proofs.MarkLists.{no_marks}
 use Rattle.track_table.proofs.Places.{empty_places}
 use Rattle.track_table.proofs.bits.TrackBits.new.Goals as goal
 

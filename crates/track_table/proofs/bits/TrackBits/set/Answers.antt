@@ -27,7 +27,7 @@ invariant_of-self c =
       length-set words (c.args.t / 64) c.with_bit-word.result ∙ c.self.invariant.0,
       last_kept words c.args.t c.with_bit-word.result c.args.marked c.self.invariant.0 c.self.invariant.1 below bits,
       used_set words c.self.inside.used (c.args.t / 64) c.with_bit-word.result c.with_bit.result c.self.invariant.0 (search rules)
-      (omega (arith, below)) c.self.invariant.2 (rw (c.from-k.ensures, c.get-t.ensures.value) at c.with_bit.ensures),
+          (omega (arith, below)) c.self.invariant.2 (rw (c.from-k.ensures, c.get-t.ensures.value) at c.with_bit.ensures),
     )
 
 pub returns-clause-marks : goal.returns-clause-marks

@@ -1,5 +1,4 @@
-use Rattle.std.proofs.Common.{◌≡◌, ◌∙◌, false, length, ap, sym}
-use Rattle.std.specs.Prelude.{replicate}
+use Rattle.std.proofs.Common.{◌∙◌, false, length, ap, sym}
 use Rattle.std.proofs.lemmas.List.{length-replicate}
 use Rattle.track_table.specs.Bits.{is_marked}
 use Rattle.track_table.proofs.Counts.{no_mark}

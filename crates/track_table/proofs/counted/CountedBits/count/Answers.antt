@@ -1,4 +1,4 @@
-use Rattle.std.proofs.Common.{◌≡◌, ◌≤◌, arith}
+use Rattle.std.proofs.Common.{arith}
 use Rattle.track_table.specs.Bits.{is_marked}
 use Rattle.track_table.proofs.Counts.{few_marked}
 use Rattle.track_table.proofs.counted.CountedBits.count.Goals as goal

@@ -1,8 +1,7 @@
-use Rattle.std.proofs.Common.{◌≡◌, ◌≤◌, ◌<◌, ◌+◌, ◌==◌, ◌∙◌, true, length, refl, ap, sym, arith}
+use Rattle.std.proofs.Common.{◌≡◌, ◌<◌, ◌+◌, ◌==◌, ◌∙◌, true, length, refl, ap, sym, arith}
 use Rattle.std.specs.Prelude.{if◌then◌else◌}
 use Rattle.std.proofs.lemmas.List.{length-set}
 use Rattle.track_table.specs.Bits.{is_marked}
-use Rattle.track_table.specs.Tracks.{count_below}
 use Rattle.track_table.proofs.Counts.{count_set, few_marked, marked_one, one_if}
 use Rattle.track_table.proofs.counted.CountedBits.set.Goals as goal
 
