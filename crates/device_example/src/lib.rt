@@ -3,6 +3,8 @@
 #![tactic(auto)]
 
 mod caller;
+#[cfg(test)]
+mod far_end;
 mod port;
 #[cfg(test)]
 mod tests;
@@ -10,4 +12,4 @@ mod volume;
 
 pub use caller::run_program;
 pub use port::CountedRequests;
-pub use volume::Watched;
+pub use volume::{OneCylinder, Watched};

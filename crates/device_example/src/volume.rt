@@ -1,8 +1,8 @@
-ghost use Rattle.std.specs.Prelude.{◌≡◌, ◌<◌, ◌≤◌, is_ok, length};
+ghost use Rattle.std.specs.Prelude.{◌≡◌, ◌<◌, ◌≤◌, None, is_ok, length};
 ghost use Rattle.device_outside.specs.Volume.{ReadOf, WriteOf, delivery};
 
 use ckd_outside::Failed;
-use ckd_types::TrackNo;
+use ckd_types::{HEADS, TrackNo};
 use device_outside::{TrackBuffer, Volume};
 
 /// A volume of the caller's: another volume, and the track that was written last.
@@ -40,5 +40,32 @@ impl<V: Volume> Volume for Watched<V> {
     {
         self.last_written = Some(t);
         self.inner.write_track(t, bytes)
+    }
+}
+
+/// A volume of the caller's of many cylinders, of which it keeps one: each track is that cylinder's of the same head.
+#[derive(Drop)]
+pub struct OneCylinder<V: Volume> {
+    pub inner: V,
+    pub tracks: usize,
+    pub ghost heads: { (V.view inner).tracks ≡ 15 },
+}
+
+/// The track of the cylinder that is kept.
+fn kept(t: TrackNo) -> TrackNo
+    ensures { result < 15 }
+{
+    TrackNo::new(t.get() % HEADS).unwrap()
+}
+
+impl<V: Volume> Volume for OneCylinder<V> {
+    ghost view = { λ w. record (V.view w.inner) { contents = None; tracks = w.tracks } };
+
+    fn read_track(&mut self, t: TrackNo, into: &mut TrackBuffer) -> Result<(), Failed> {
+        self.inner.read_track(kept(t), into)
+    }
+
+    fn write_track(&mut self, t: TrackNo, bytes: &[u8]) -> Result<(), Failed> {
+        self.inner.write_track(kept(t), bytes)
     }
 }
