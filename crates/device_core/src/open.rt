@@ -36,7 +36,7 @@ impl Past {
 }
 
 impl<V: Volume> Device<V> {
-    /// A device of 1 to 64 cylinders on a volume, with 15 tracks for each cylinder, which holds whatever tracks it holds. What
+    /// A device of 1 to 4369 cylinders on a volume, with 15 tracks for each cylinder, which holds whatever tracks it holds. What
     /// is promised of it is so of a volume that holds tracks, each where it says and such as fits, as empty ones do. What was
     /// handed in comes back where memory is lacking.
     pub fn open(
