@@ -80,7 +80,7 @@ impl Past {
 
     /// Makes room for so many acts, of the program that runs and behind it. Room that is there stays.
     pub(crate) fn reserve_acts(&mut self, alloc: Global, n: usize) -> Result<(), NoMemory>
-        requires few { n ≤ 65535 }
+        requires few { n ≤ 65537 }
         requires keeps { Keeps self.old }
         requires room { ActRoom 0 self.old }
         ensures history { history_of self.new ≡ history_of self.old }
@@ -98,7 +98,7 @@ impl Past {
 
 /// The same acts, with room for so many more.
 fn roomier(alloc: Global, acts: &ActList, n: usize) -> Result<ActList, NoMemory>
-    requires { n ≤ 65535 }
+    requires { n ≤ 65537 }
     ensures items { IfOk result (λ made. made.items ≡ acts.now.items) }
     ensures room { IfOk result (λ made. n ≤ made.spare) }
 {
@@ -115,7 +115,7 @@ fn roomier(alloc: Global, acts: &ActList, n: usize) -> Result<ActList, NoMemory>
 
 /// Makes room for so many acts of a program that runs.
 fn reserve_in(alloc: Global, running: &mut Option<Running>, n: usize) -> Result<(), NoMemory>
-    requires few { n ≤ 65535 }
+    requires few { n ≤ 65537 }
     requires room { IfSome running.old (HasRoomFor 0) }
     ensures open { option_map open_of running.new ≡ option_map open_of running.old }
     ensures chain { option_map chain_of running.new ≡ option_map chain_of running.old }

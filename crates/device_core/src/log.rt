@@ -22,7 +22,7 @@ impl Model for Log {
 
     ghost view = { λ g. record { items = g.items.items; spare = vec_capacity g.items - vec_len g.items - g.aside; aside = g.aside } };
 
-    ghost invariant = { λ g. (vec_len g.items + g.aside ≤ vec_capacity g.items) × (g.aside ≤ 65535) };
+    ghost invariant = { λ g. (vec_len g.items + g.aside ≤ vec_capacity g.items) × (g.aside ≤ 65537) };
 }
 
 impl Log {
@@ -53,7 +53,7 @@ impl Log {
 
     /// Makes room for `n` more items, and for so many acts. Room that is there stays, also at want of memory.
     pub fn reserve(&mut self, n: usize, acts: usize) -> Result<(), NoMemory>
-        requires { (n ≤ 65535) × (acts ≤ 65535) }
+        requires { (n ≤ 65535) × (acts ≤ 65537) }
         ensures room { OnOk result (n ≤ self.new.spare) }
         ensures acts { OnOk result (acts ≤ self.new.aside) }
         ensures items { self.new.items ≡ self.old.items }

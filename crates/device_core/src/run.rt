@@ -51,7 +51,7 @@ fn reserve_end(running: &mut Option<Running>) -> Result<(), NoMemory>
 impl Past {
     /// Makes room for a command's end, and for so many acts. Room that is there stays.
     fn reserve(&mut self, alloc: Global, acts: usize) -> Result<(), NoMemory>
-        requires few { acts ≤ 65535 }
+        requires few { acts ≤ 65537 }
         requires running { IsSome self.old.running }
         requires keeps { Keeps self.old }
         requires room { ActRoom 0 self.old }

@@ -50,7 +50,7 @@ fn all_four(first: bool, second: bool, third: bool, fourth: bool) -> bool
 impl Past {
     /// Makes room in the journal for all that may come before the next start, and for so many acts.
     fn reserve_items(&mut self, acts: usize) -> Result<(), NoMemory>
-        requires acts { acts ≤ 65535 }
+        requires acts { acts ≤ 65537 }
         requires keeps { Keeps self.old }
         ensures room { OnOk result (7 ≤ self.new.items.spare) }
         ensures keeps { Keeps self.new }
