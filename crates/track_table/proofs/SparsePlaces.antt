@@ -2,7 +2,7 @@
 use Rattle.std.proofs.Common.{◌≡◌, ℕ, zero, suc, ◌+◌, ◌-◌, ◌<◌, ◌≤◌, inl, inr, Bool, true, cond, List, [], ◌∷◌, ◌++◌, map, length, get_or, refl, sym, ap, ◌∙◌, add-one, arith}
 use Rattle.std.specs.Prelude.{◌==◌, Option, Some, None, is_some, replicate, slice_get, swap_remove}
 use Rattle.std.proofs.Math.ListN.{set}
-use Rattle.std.proofs.lemmas.Bool.{cases_eq, cases_lt, eq-eqb, ne_eqb}
+use Rattle.std.proofs.lemmas.Bool.{cases_eq, cases_lt, eq-eqb, false≢true, ne_eqb}
 use Rattle.std.proofs.lemmas.Grind.{common_steps}
 use Rattle.std.proofs.lemmas.Option.{gets, slice_get_read}
 use Rattle.std.proofs.lemmas.List.{length-set, length-append, length-map, length-replicate, length_push, map-append, get_or-set_same, get_or-set_other, get_or_append_left, get_or_push, get_or_past, get_or_read, ext_get_or}
@@ -78,6 +78,12 @@ no_number index tracks entries t sparse none = zero_by (get_or index t 0) (sym (
   zero_by : (n : ℕ) → numbered entries n ≡ None → ((i : ℕ) → n ≡ suc i → i < length entries) → n ≡ 0
   zero_by zero none within = refl
   zero_by (suc i) none within = absurd (grind (arith, common_steps, gets, within i refl))
+
+pub some_number : {X : Type 0} (index : List ℕ) (entries : List X) (t : ℕ) → has_entry (places_of index entries) t ≡ true → 0 < get_or index t 0
+some_number index entries t some = elim (cases_lt 0 (get_or index t 0)) [
+  | inl above ↦ above
+  | inr none ↦ absurd (false≢true (sym (ap is_some (no_entry index entries t (omega (arith, none)))) ∙ some))
+]
 
 -- the number of a track that has one leads to an entry
 pub number_inside : (count : ℕ) (index tracks : List ℕ) (t : ℕ) → IsSparse count index tracks → 0 < get_or index t 0 → get_or index t 0 - 1 < count

@@ -1,7 +1,9 @@
-ghost use Rattle.std.specs.Prelude.{◌≡◌, ℕ, ◌≤◌, ◌<◌, ◌+◌, ◌++◌, IfOk, IsOk, OnOk, OnErr, [], false, true, None, Some, length, replicate, slice_index, slice_set, vec_capacity, vec_len};
+ghost use Rattle.std.specs.Prelude.{◌≡◌, ℕ, ◌≤◌, ◌<◌, ◌+◌, ◌++◌, IfOk, IsOk, IsTrue, OnOk, OnErr, [], false, true, None, Some, length, replicate, slice_index, slice_set, vec_capacity, vec_len};
+ghost use Rattle.std.specs.Borrow.{Lends, sem};
 ghost use Rattle.std.specs.Option.{option_copied};
 ghost use Rattle.track_table.specs.Bits.{is_marked};
 ghost use Rattle.track_table.specs.Table.{entry_at, has_entry, with_places};
+ghost use Rattle.track_table.specs.contracts.table.TrackTable.{the_row};
 
 use crate::{CountedBits, TrackBits};
 use ckd_types::{NoMemory, TrackNo};
@@ -134,6 +136,16 @@ impl<T: Drop> TrackTable<T> {
             return None;
         }
         Some(&self.entries[usize::from(number) - 1])
+    }
+
+    /// The entry of a track that has one, to be changed where it stands.
+    pub fn entry_mut(&mut self, t: TrackNo) -> &mut T
+        requires { IsTrue (has_entry self.old t) }
+        ensures* writes_back { sem 𝓛 (Lends (the_row T.row) T.row self.entry result (λ w. slice_set self.old t (Some w))) }
+        ensures value { Some result.now ≡ entry_at self.old t }
+    {
+        let entry = usize::from(number_of(&self.index, t)) - 1;
+        &mut self.entries[entry]
     }
 
     /// Puts another entry, or none, into a track's place, and gives the one that was there. Without a
