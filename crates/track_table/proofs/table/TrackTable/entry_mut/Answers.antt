@@ -43,7 +43,7 @@ returns g c =
     let some = some_number index entries t (rw c.self.view_is c.requires) in
     let place : i ≡ get_or index t 0 - 1 = omega (arith, c.number_of.ensures, c.from-entry.ensures) in
     let number : get_or index t 0 ≡ suc i = omega (arith, some, place) in (
-      (refl, λ w. rw (← c.self.view_is) (changed_places index c.self.inside.tracks.items entries t i w c.self.invariant.0 number)),
+      (refl {a = c.index_mut.result.ghost_name}, λ w. rw (← c.self.view_is) (changed_places index c.self.inside.tracks.items entries t i w c.self.invariant.0 number)),
       record {
         writes_back = tt;
         value = rw (← c.self.view_is)
