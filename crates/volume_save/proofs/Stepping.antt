@@ -73,7 +73,7 @@ use Rattle.subsystem_laws.specs.WholeStood.{Stood, stood_in, AreMounted, IsMount
 use Rattle.subsystem_laws.proofs.WholeFinding.{Found, none_found, both_found, find}
 use Rattle.deck_run.specs.Standing.{StandsAs, stood_of, all_stood}
 use Rattle.deck_run.proofs.Found.{stood_found}
-use Rattle.volume_file.specs.File.{ImageVolume, IsWhole}
+use Rattle.volume_file.specs.File.{ImageVolume}
 use Rattle.volume_save.specs.declared.unsaved.Unsaved.{Unsaved}
 use Rattle.volume_save.specs.declared.unsaved.Unsaved.TheVariants.{Lent, Half, Lost, Fault, NoMemory}
 use Rattle.volume_save.specs.Devices.{HasSmallDevices}
@@ -101,6 +101,7 @@ use Rattle.volume_save.specs.Volumes.{HasAllTracks}
 use Rattle.volume_save.proofs.Images.{found_plain, image_on, not_refused, saving_plain}
 use Rattle.volume_save.proofs.InRun.{plain_after, stands_in_run}
 use Rattle.volume_save.proofs.SmallRuns.{small_in_run}
+use Rattle.volume_save.proofs.Volumes.{small_is_whole}
 
 some_same : {X : Type 0} {x y : X} → Some x ≡ Some y → x ≡ y
 some_same e = cc
@@ -377,14 +378,6 @@ module _ {V : Type 0} {G : Ghosts V} where
 
   -- What is saved
 
-  whole_file : (v : ImageVolume) (n : ℕ) → HasAllTracks v → v.cylinders ≡ n → n ≤ 64 → IsWhole v
-  whole_file v n all is small = record {
-    least = all.least;
-    most = subst (λ (k : ℕ). k ≤ 64) (sym is) small;
-    tracks = all.tracks;
-    placed = all.placed;
-  }
-
   saved_by : (sub : Subsystem V G) (deck : DeckLines) (d : ℕ) (v : ImageVolume) (o : Option Mounted) → mounted_in (run_of deck).behind.mounted d ≡ o →
       IsServedDeck deck → HasSmallDevices deck → StandsAs sub (run_of deck).behind → saving_of deck d ≡ Ok v → HasAllTracks v → IsSaved deck d v
   unfolding S.saving
@@ -402,7 +395,9 @@ module _ {V : Type 0} {G : Ghosts V} where
         plain = images
             ∙ ap (λ (l : List Track). volume_with m.device.store.geometry m.device.store.cylinders (map (image_on m.device.store.geometry) l))
             (sym (plain_after deck d m served there));
-        whole = whole_file v m.device.store.cylinders all (ap (λ (w : ImageVolume). w.cylinders) images) (small_in_run deck d m small there);
+        whole =
+            small_is_whole v all
+            (subst (λ (k : ℕ). k ≤ 64) (sym (ap (λ (w : ImageVolume). w.cylinders) images)) (small_in_run deck d m small there));
       }
 
   pub is_saved : (sub : Subsystem V G) (deck : DeckLines) (d : ℕ) (v : ImageVolume) → IsServedDeck deck → HasSmallDevices deck →

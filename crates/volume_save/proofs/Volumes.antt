@@ -6,7 +6,7 @@ use Rattle.std.proofs.lemmas.List.{length-set, get_or-set_same, get_or-set_other
 use Rattle.std.proofs.lemmas.List.FromFn.{length-map-range_with_len, get_or-map-range_with_len}
 use Rattle.ckd_types.specs.declared.geometry.Geometry.{Geometry}
 use Rattle.track_image.specs.Image.{Image}
-use Rattle.volume_file.specs.File.{ImageVolume, IsPlaced, empty_image, empty_images}
+use Rattle.volume_file.specs.File.{ImageVolume, IsPlaced, IsWhole, empty_image, empty_images}
 use Rattle.volume_save.specs.Volumes.{HasAllTracks}
 
 image_at : (g : Geometry) (cylinders t : ℕ) → t < length (empty_images g cylinders)
@@ -46,3 +46,7 @@ set_has_all v t i w inside place = record {
         (w.placed k (subst (λ (n : ℕ). k < n) (length-set v.images t i) below))
   ];
 }
+
+-- a small one is that of a file
+pub small_is_whole : (v : ImageVolume) → HasAllTracks v → v.cylinders ≤ 64 → IsWhole v
+small_is_whole v all small = record { least = all.least; most = small; tracks = all.tracks; placed = all.placed }

@@ -107,6 +107,7 @@ impl DeviceVolume {
     }
 
     /// The same as the volume of a file, which has at most 64 cylinders.
+    #[tactic(auto, using(crate::proofs::Volumes::small_is_whole))]
     pub fn into_file(self) -> FileVolume
         requires { self.cylinders ≤ 64 }
         ensures { result ≡ self }
