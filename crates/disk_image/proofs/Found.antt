@@ -44,12 +44,12 @@ use Rattle.track_image.specs.Image.{Image}
 use Rattle.track_image.specs.Reading.{reading}
 use Rattle.volume_file.specs.File.{ImageVolume, empty_image, image_in}
 use Rattle.disk_image.specs.declared.fault.ImageFault.{ImageFault}
-use Rattle.disk_image.specs.declared.fault.ImageFault.TheVariants.{BadHead, BadLength, BadTrack, Compressed, FileFault, NoMemory, Parts}
+use Rattle.disk_image.specs.declared.fault.ImageFault.TheVariants.{BadHead, BadLength, BadTrack, Compressed, FileFault, ManyCylinders, NoMemory, Parts}
 use Rattle.disk_image.specs.declared.layout.Layout.{Layout}
 use Rattle.disk_image.specs.declared.volume.TrackFault.{TrackFault}
 use Rattle.disk_image.specs.Calls.{IsRoom}
 use Rattle.disk_image.specs.File.{place_of, track_in, track_in_room}
-use Rattle.disk_image.specs.Volume.{HasTracks, IsFault, IsHanded, Notes, TellsBad, Told, TellsTrack, fault_at, fault_by, faults_by, faults_in}
+use Rattle.disk_image.specs.Volume.{HasTracks, IsFault, IsHanded, Notes, TellsBad, TellsTrack, TellsUnloaded, Told, fault_at, fault_by, faults_by, faults_in}
 
 -- what is so of the bytes in a room is so of the track in the file
 told_at : (held : Option (List ℕ)) (g : Geometry) (t : ℕ) (room bytes : List ℕ) (P : List ℕ → Type 0) → IsRoom held g t room
@@ -79,6 +79,7 @@ fault_told held g t room bytes (BadHead offset) is same h = absurd h
 fault_told held g t room bytes (BadLength size) is same h = absurd h
 fault_told held g t room bytes Compressed is same h = absurd h
 fault_told held g t room bytes Parts is same h = absurd h
+fault_told held g t room bytes (ManyCylinders n) is same h = absurd h
 
 pub bad_told : (held : Option (List ℕ)) (g : Geometry) (t : ℕ) (room bytes : List ℕ) (r : Result Image ImageFault) → IsRoom held g t room
     → bytes ≡ track_in_room room → IfErr r (λ e. IsFault g t bytes e)
@@ -137,6 +138,7 @@ fault_noted held g t (BadHead offset) xs ys told noted = absurd noted
 fault_noted held g t (BadLength size) xs ys told noted = absurd noted
 fault_noted held g t Compressed xs ys told noted = absurd noted
 fault_noted held g t Parts xs ys told noted = absurd noted
+fault_noted held g t (ManyCylinders n) xs ys told noted = absurd noted
 
 -- the same, where the file is as it was
 pub tracks_push : (first held : Option (List ℕ)) (v w : ImageVolume) (g : Geometry) (n t : ℕ) (i : Image) → held ≡ first → t ≡ n
@@ -217,6 +219,18 @@ bad_first first held l n t (BadHead offset) same is less so told = absurd told
 bad_first first held l n t (BadLength size) same is less so told = absurd told
 bad_first first held l n t Compressed same is less so told = absurd told
 bad_first first held l n t Parts same is less so told = absurd told
+bad_first first held l n t (ManyCylinders c) same is less so told = absurd told
+
+-- then it isn't loaded
+pub bad_unloaded : (held : Option (List ℕ)) (l : Layout) (e : ImageFault) → TellsBad held l e → TellsUnloaded held l e
+bad_unloaded held l (BadTrack u offset) bad = bad
+bad_unloaded held l NoMemory bad = bad
+bad_unloaded held l FileFault bad = bad
+bad_unloaded held l (BadHead offset) bad = absurd bad
+bad_unloaded held l (BadLength size) bad = absurd bad
+bad_unloaded held l Compressed bad = absurd bad
+bad_unloaded held l Parts bad = absurd bad
+bad_unloaded held l (ManyCylinders c) bad = absurd bad
 
 -- a fault that isn't that of a track
 pub handed_on : (e : ImageFault) → ((t offset : ℕ) → e ≡ BadTrack t offset → ⊥) → IsHanded e e
@@ -227,6 +241,7 @@ handed_on (BadHead offset) other = refl
 handed_on (BadLength size) other = refl
 handed_on Compressed other = refl
 handed_on Parts other = refl
+handed_on (ManyCylinders n) other = refl
 
 early_by : (held : Option (List ℕ)) (g : Geometry) (t : ℕ) (fault e : ImageFault) → TellsTrack held g t fault → IsHanded fault e
     → (e ≡ FileFault) ⊎ (e ≡ NoMemory)
@@ -237,6 +252,7 @@ early_by held g t (BadHead offset) e told is = absurd told
 early_by held g t (BadLength size) e told is = absurd told
 early_by held g t Compressed e told is = absurd told
 early_by held g t Parts e told is = absurd told
+early_by held g t (ManyCylinders n) e told is = absurd told
 
 -- what is left of a track's fault once that was noted
 pub early_handed : (held : Option (List ℕ)) (g : Geometry) (t : ℕ) (fault : ImageFault) (A : Type 0) (r : Result A ImageFault) → TellsTrack held g t fault

@@ -13,7 +13,11 @@ use Rattle.volume_file.specs.File.{ImageVolume, IsPlaced, IsWhole, empty_image, 
 use Rattle.disk_image.specs.declared.layout.Layout.{Layout}
 use Rattle.disk_image.specs.File.{place_of, track_in}
 use Rattle.disk_image.specs.Opening.{opening}
-use Rattle.disk_image.specs.Volume.{Holds, fault_at, fault_by, layout_of}
+use Rattle.disk_image.specs.Volume.{Holds, IsDiskVolume, fault_at, fault_by, layout_of}
+
+-- the volume of a volume file is one of an image
+pub of_file : (v : ImageVolume) → IsWhole v → IsDiskVolume v
+of_file v w = record { least = w.least; most = omega (arith, w.most); tracks = w.tracks; placed = w.placed }
 
 ok_same : {A E : Type 0} (r : Result A E) (x y : A) → r ≡ Ok x → r ≡ Ok y → x ≡ y
 ok_same r x y p q = cc
@@ -38,7 +42,7 @@ same_image g t i j p q same =
     ap (λ (x : Geometry). (let k : Image = record { geometry = x; track = i.track } in k)) (p.model ∙ sym q.model)
     ∙ ap (λ (x : Track). (let k : Image = record { geometry = j.geometry; track = x } in k)) tracks
 
-same_images : (v u : ImageVolume) (all : List ℕ) → IsWhole v → IsWhole u → Holds v all → Holds u all → v.geometry ≡ u.geometry
+same_images : (v u : ImageVolume) (all : List ℕ) → IsDiskVolume v → IsDiskVolume u → Holds v all → Holds u all → v.geometry ≡ u.geometry
     → v.cylinders ≡ u.cylinders → v.images ≡ u.images
 same_images v u all w x h k g c =
     let d = empty_image v.geometry 0 in
@@ -54,7 +58,7 @@ same_images v u all w x h k g c =
     ∙ same_image v.geometry t (image_in v t) (image_in u t) (w.placed t inside) q bytes
     ∙ get_or_default u.images t (empty_image u.geometry t) d other)
 
-pub held_once : (v u : ImageVolume) (all : List ℕ) → IsWhole v → IsWhole u → Holds v all → Holds u all → u ≡ v
+pub held_once : (v u : ImageVolume) (all : List ℕ) → IsDiskVolume v → IsDiskVolume u → Holds v all → Holds u all → u ≡ v
 held_once v u all w x h k =
     let layouts : layout_of v ≡ layout_of u = ok_same (opening all) (layout_of v) (layout_of u) h.opens k.opens in
     let g : v.geometry ≡ u.geometry = ap (λ (l : Layout). l.geometry) layouts in

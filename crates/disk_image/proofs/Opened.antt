@@ -29,7 +29,7 @@ use Rattle.std.proofs.lemmas.Bool.{cases_lt}
 use Rattle.std.proofs.lemmas.List.{take_all}
 use Rattle.ckd_types.specs.declared.geometry.Geometry.{Geometry}
 use Rattle.disk_image.specs.declared.fault.ImageFault.{ImageFault}
-use Rattle.disk_image.specs.declared.fault.ImageFault.TheVariants.{BadHead, BadLength, BadTrack, Compressed, FileFault, NoMemory, Parts}
+use Rattle.disk_image.specs.declared.fault.ImageFault.TheVariants.{BadHead, BadLength, BadTrack, Compressed, FileFault, ManyCylinders, NoMemory, Parts}
 use Rattle.disk_image.specs.declared.layout.Layout.{Layout}
 use Rattle.disk_image.specs.Calls.{IsAt, IsLong}
 use Rattle.disk_image.specs.File.{file_size}
@@ -43,6 +43,7 @@ told all (Err (BadLength size)) is = is
 told all (Err Compressed) is = is
 told all (Err Parts) is = is
 told all (Err (BadTrack t offset)) is = is
+told all (Err (ManyCylinders n)) is = is
 told all (Err FileFault) is = tt
 told all (Err NoMemory) is = tt
 
@@ -83,14 +84,14 @@ layout_told (Some all) now size field g r same long here some head is =
     ∙ ap (λ (x : Result Geometry ImageFault). x >>= (λ y. layout_by y (length all))) (head ∙ ap head_in front)
     )
 
-layout_is : (held : Option (List ℕ)) (size : ℕ) (l : Layout) → IsLong held size → (1 ≤ l.cylinders) × (l.cylinders ≤ 64)
+layout_is : (held : Option (List ℕ)) (size : ℕ) (l : Layout) → IsLong held size → (1 ≤ l.cylinders) × (l.cylinders ≤ 4369)
     → size ≡ file_size l.geometry l.cylinders → IsLayoutOf held l
 layout_is None size l long range is = record { least = range.0; most = range.1; sized = tt }
 layout_is (Some all) size l long range is = record { least = range.0; most = range.1; sized = long ∙ is }
 
 -- the layout of a file that was opened
 pub layout_opened : (held : Option (List ℕ)) (size : ℕ) (r : Result Layout ImageFault) → IsLong held size
-    → IfOk r (λ l. (1 ≤ l.cylinders) × (l.cylinders ≤ 64)) → IfOk r (λ l. size ≡ file_size l.geometry l.cylinders)
+    → IfOk r (λ l. (1 ≤ l.cylinders) × (l.cylinders ≤ 4369)) → IfOk r (λ l. size ≡ file_size l.geometry l.cylinders)
     → IfOk r (λ l. IsLayoutOf held l)
 layout_opened held size (Ok l) long range is = layout_is held size l long range is
 layout_opened held size (Err e) long range is = tt

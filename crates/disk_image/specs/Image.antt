@@ -32,7 +32,7 @@ IsSized (Some all) l = length all ≡ file_size l.geometry l.cylinders
 
 pub record IsLayoutOf (held : Option (List ℕ)) (l : Layout) : Type 0 where
   pub least : 1 ≤ l.cylinders
-  pub most : l.cylinders ≤ 64
+  pub most : l.cylinders ≤ 4369
   pub sized : IsSized held l
 
 -- a volume in a file: what that holds, where told, the bytes that the last read delivered, and counts of calls and faults

@@ -62,10 +62,10 @@ head_in field =
 abbrev pub cylinders_within : Geometry → ℕ → ℕ
 cylinders_within g size = (size - 512) / (15 * room_size g)
 
--- a file ends with a cylinder, of which it has 1 to 64
+-- a file ends with a cylinder, of which it has 1 to 4369
 unfoldable pub layout_by : Geometry → ℕ → Result Layout ImageFault
 layout_by g size =
-    if nat_le 1 (cylinders_within g size) && (nat_le (cylinders_within g size) 64 && (size == file_size g (cylinders_within g size)))
+    if nat_le 1 (cylinders_within g size) && (nat_le (cylinders_within g size) 4369 && (size == file_size g (cylinders_within g size)))
     then Ok (record { geometry = g; cylinders = cylinders_within g size })
     else Err (BadLength size)
 

@@ -1,5 +1,5 @@
 -- The volume that an image file holds.
-use Rattle.std.specs.Prelude.{◌≡◌, ◌≢◌, ◌⊎◌, ◌<◌, ℕ, ◌+◌, ◌*◌, List, [], ◌∷◌, ◌++◌, ⊤, length, take, Option, Some, None, Result, Ok, Err, IsErrOf}
+use Rattle.std.specs.Prelude.{◌≡◌, ◌≢◌, ◌⊎◌, ◌≤◌, ◌<◌, ℕ, ◌+◌, ◌*◌, List, [], ◌∷◌, ◌++◌, ⊤, length, take, Option, Some, None, Result, Ok, Err, IsErrOf}
 use Rattle.ckd_outside.specs.Causes.{Rose}
 use Rattle.std.specs.List.{flat_map, range_with_len}
 use Rattle.ckd_types.specs.declared.geometry.Geometry.{Geometry}
@@ -8,9 +8,9 @@ use Rattle.ckd_types.specs.Geometry.{cchh_of}
 use Rattle.ckd_types.specs.Track.{track_bytes}
 use Rattle.track_image.specs.Image.{Image}
 use Rattle.track_image.specs.Reading.{reading}
-use Rattle.volume_file.specs.File.{ImageVolume, image_in}
+use Rattle.volume_file.specs.File.{ImageVolume, IsPlaced, image_in}
 use Rattle.disk_image.specs.declared.fault.ImageFault.{ImageFault}
-use Rattle.disk_image.specs.declared.fault.ImageFault.TheVariants.{BadTrack, FileFault, NoMemory}
+use Rattle.disk_image.specs.declared.fault.ImageFault.TheVariants.{BadTrack, FileFault, ManyCylinders, NoMemory}
 use Rattle.disk_image.specs.declared.volume.TrackFault.{TrackFault}
 use Rattle.disk_image.specs.declared.layout.Layout.{Layout}
 use Rattle.disk_image.specs.File.{head_of, place_of, track_in}
@@ -20,6 +20,13 @@ use Rattle.disk_image.specs.Opening.{opening}
 abbrev pub Told : Option (List ℕ) → (List ℕ → Type 0) → Type 0
 Told None P = ⊤
 Told (Some all) P = P all
+
+-- what is so of every volume of an image: a volume file's has at most 64 cylinders, an image's may have more
+pub record IsDiskVolume (v : ImageVolume) : Type 0 where
+  pub least : 1 ≤ v.cylinders
+  pub most : v.cylinders ≤ 4369
+  pub tracks : length v.images ≡ v.cylinders * 15
+  pub placed : (t : ℕ) → t < length v.images → IsPlaced v.geometry t (image_in v t)
 
 -- a track of a file has the bytes of a volume's track
 abbrev pub HasTrack : ImageVolume → List ℕ → ℕ → Type 0
@@ -83,6 +90,11 @@ TellsBad held l (BadTrack t offset) =
 TellsBad held l FileFault = ⊤
 TellsBad held l NoMemory = ⊤
 TellsBad held l _ = ⊥
+
+-- why a file of this layout isn't loaded: it has more cylinders than a volume file may have, or a bad track
+abbrev pub TellsUnloaded : Option (List ℕ) → Layout → ImageFault → Type 0
+TellsUnloaded held l (ManyCylinders n) = (n ≡ l.cylinders) × (64 < l.cylinders)
+TellsUnloaded held l fault = TellsBad held l fault
 
 -- a failed call of the file is answered only where one failed, by the file's count of faults before and after
 abbrev pub FileFaultHasCause : {X : Type 0} → Result X ImageFault → ℕ → ℕ → Type 0

@@ -42,16 +42,16 @@ fn write_empty<F: DiskFile>(
     Ok(())
 }
 
-/// Writes the head and the rooms of empty tracks behind each other into a file that has no bytes yet. A volume has 1 to 64
+/// Writes the head and the rooms of empty tracks behind each other into a file that has no bytes yet. A volume has 1 to 4369
 /// cylinders. Where that fails, a front of the image was written.
 pub fn create<F: DiskFile>(
     alloc: Global,
     file: &mut F,
     geometry: Geometry,
-    cylinders: u8,
+    cylinders: u16,
 ) -> Result<(), ImageFault>
     requires empty { IsEmpty (F.held file.old) }
-    requires most { cylinders ≤ 64 }
+    requires most { cylinders ≤ 4369 }
     ensures made { OnOk result (HasEmpty geometry (cylinders * 15) (F.held file.new)) }
     ensures later { F.faults file.old ≤ F.faults file.new }
     ensures cause { FileFaultHasCause result (F.faults file.old) (F.faults file.new) }
@@ -59,7 +59,7 @@ pub fn create<F: DiskFile>(
     let head = head_of(alloc, geometry)?;
     let mut room = TrackRoom::new(alloc, geometry)?;
     write_whole(file, 0, &head)?;
-    for n in 0..u16::from(cylinders) * HEADS {
+    for n in 0..cylinders * HEADS {
         let t = TrackNo::new(n).unwrap();
         write_empty(alloc, file, geometry, t, &mut room)?;
     }

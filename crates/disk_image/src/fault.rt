@@ -10,7 +10,7 @@ use std::alloc::{AllocError, AllocFailed};
 pub enum ImageFault {
     /// The signature (0), the heads (8), the size of a track's room (12), the device type of that size (16), or the zeros (20).
     BadHead { offset: u32 },
-    /// No whole number of cylinders, from 1 to 64, ends with the file, which has so many bytes.
+    /// No whole number of cylinders, from 1 to 4369, ends with the file, which has so many bytes.
     BadLength { size: u64 },
     /// The image is compressed, or shadows one.
     Compressed,
@@ -18,6 +18,8 @@ pub enum ImageFault {
     Parts,
     /// A track is none that stands where it stands: its first field that is wrong or cut is at this offset.
     BadTrack { track: TrackNo, offset: u64 },
+    /// It has so many cylinders, more than the 64 of a volume in memory, and so of a volume file.
+    ManyCylinders { cylinders: u16 },
     /// A call of the file failed, or moved fewer bytes than it should.
     FileFault,
     NoMemory,

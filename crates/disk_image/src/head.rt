@@ -104,16 +104,16 @@ pub(crate) fn head_in(field: &[u8]) -> Result<Geometry, ImageFault>
 #[tactic(auto, unfolding(crate::specs::Opening::layout_by))]
 pub(crate) fn layout_by(geometry: Geometry, size: u64) -> Result<Layout, ImageFault>
     ensures exact { result ≡ layout_by geometry size }
-    ensures range { IfOk result (λ l. (1 ≤ l.cylinders) × (l.cylinders ≤ 64)) }
+    ensures range { IfOk result (λ l. (1 ≤ l.cylinders) × (l.cylinders ≤ 4369)) }
     ensures size { IfOk result (λ l. size ≡ file_size l.geometry l.cylinders) }
     ensures calm { result ≢ Err ImageFault.FileFault }
     ensures want { result ≢ Err ImageFault.NoMemory }
 {
     let cylinder = u64::from(HEADS) * room_size(geometry) as u64;
     let cylinders = size.saturating_sub(HEAD as u64) / cylinder;
-    if 1 <= cylinders && cylinders <= 64 {
-        let cylinders = cylinders as u8;
-        if size == place_of(geometry, u16::from(cylinders) * HEADS) {
+    if 1 <= cylinders && cylinders <= 4369 {
+        let cylinders = cylinders as u16;
+        if size == place_of(geometry, cylinders * HEADS) {
             return Ok(Layout {
                 geometry,
                 cylinders,

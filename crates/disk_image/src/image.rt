@@ -64,7 +64,8 @@ impl<F: DiskFile> DiskImage<F> {
 
     /// The model and the cylinders.
     pub fn layout(&self) -> Layout
-        ensures { result ≡ self.now.layout }
+        ensures value { result ≡ self.now.layout }
+        ensures range { (1 ≤ result.cylinders) × (result.cylinders ≤ 4369) }
     {
         self.layout
     }

@@ -4,9 +4,9 @@ ghost use Rattle.std.specs.Prelude.{◌≡◌, ℕ, List, true};
 ghost use Rattle.ckd_types.specs.declared.geometry.Geometry.{Geometry};
 ghost use Rattle.ckd_types.specs.declared.record.Track.{Track};
 ghost use Rattle.ckd_types.specs.Track.{Fits, track_bytes};
-ghost use Rattle.volume_file.specs.File.{ImageVolume, IsWhole};
+ghost use Rattle.volume_file.specs.File.{ImageVolume};
 ghost use Rattle.disk_image.specs.File.{fits_room, room_size};
-ghost use Rattle.disk_image.specs.Volume.{Holds};
+ghost use Rattle.disk_image.specs.Volume.{Holds, IsDiskVolume};
 
 /// A track that fits its volume fits its room, and comes back from there.
 pub fn tracks_fit()
@@ -15,5 +15,5 @@ pub fn tracks_fit()
 
 /// A file is the image of one volume at most.
 pub fn held_once()
-    ensures { (v u : ImageVolume) (all : List ℕ) → IsWhole v → IsWhole u → Holds v all → Holds u all → u ≡ v }
+    ensures { (v u : ImageVolume) (all : List ℕ) → IsDiskVolume v → IsDiskVolume u → Holds v all → Holds u all → u ≡ v }
 {}

@@ -7,7 +7,7 @@ use ckd_types::Geometry;
 #[derive(Clone, Copy, Debug, PartialEq, Eq)]
 pub struct Layout {
     pub geometry: Geometry,
-    pub cylinders: u8,
+    pub cylinders: u16,
 }
 
 /// The bytes of a track's room (the emulators').

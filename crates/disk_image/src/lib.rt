@@ -27,4 +27,4 @@ pub use opening::open_image;
 pub use room::{TrackRoom, read_room, write_room};
 pub use std_file::StdFile;
 pub use storing::store_volume;
-pub use volume::{TrackFault, find_bad, load_volume};
+pub use volume::{TrackFault, find_bad, load_volume, read_image};

@@ -3,7 +3,7 @@ ghost use Rattle.ckd_types.specs.Track.{track_bytes};
 ghost use Rattle.volume_file.specs.File.{IsPlaced};
 ghost use Rattle.disk_image.specs.Image.{IsLayoutOf};
 ghost use Rattle.disk_image.specs.File.{room_size, track_in};
-ghost use Rattle.disk_image.specs.Volume.{HasTracks, IsFault, IsHanded, Notes, TellsBad, TellsTrack, Told, fault_at, faults_by, faults_in, FileFaultHasCause};
+ghost use Rattle.disk_image.specs.Volume.{HasTracks, IsFault, IsHanded, Notes, TellsTrack, TellsUnloaded, Told, fault_at, faults_by, faults_in, FileFaultHasCause};
 
 use crate::layout::place_of;
 use crate::{DiskFile, ImageFault, Layout, TrackRoom, read_room};
@@ -43,8 +43,11 @@ fn image_of(
     }
 }
 
-/// Reads a track, and makes its image.
-fn read_image<F: DiskFile>(
+/// The most cylinders of a volume in memory.
+const MOST_LOADED: u16 = 64;
+
+/// The image of a track of a file, or why it is none. Only its room is read.
+pub fn read_image<F: DiskFile>(
     alloc: Global,
     file: &mut F,
     geometry: Geometry,
@@ -65,7 +68,8 @@ fn read_image<F: DiskFile>(
     image_of(alloc, geometry, t, room.track())
 }
 
-/// The volume that a file of this layout holds, or its first bad track.
+/// The volume that a file of this layout holds, or its first bad track. A volume in memory has at most 64 cylinders, as its file
+/// has: where the layout has more, that is answered, and nothing is read.
 pub fn load_volume<F: DiskFile>(
     alloc: Global,
     file: &mut F,
@@ -75,16 +79,21 @@ pub fn load_volume<F: DiskFile>(
     ensures geometry { IfOk result (λ v. v.geometry ≡ layout.geometry) }
     ensures cylinders { IfOk result (λ v. v.cylinders ≡ layout.cylinders) }
     ensures tracks { IfOk result (λ v. Told (F.held file.old) (HasTracks v (layout.cylinders * 15))) }
-    ensures bad { IfErr result (λ fault. TellsBad (F.held file.old) layout fault) }
+    ensures bad { IfErr result (λ fault. TellsUnloaded (F.held file.old) layout fault) }
     ensures held { F.held file.new ≡ F.held file.old }
     ensures later { F.faults file.old ≤ F.faults file.new }
     ensures cause { FileFaultHasCause result (F.faults file.old) (F.faults file.new) }
 {
+    if layout.cylinders > MOST_LOADED {
+        return Err(ImageFault::ManyCylinders {
+            cylinders: layout.cylinders,
+        });
+    }
     let geometry = layout.geometry;
-    let mut volume = FileVolume::new(alloc, geometry, layout.cylinders)?;
+    let mut volume = FileVolume::new(alloc, geometry, layout.cylinders as u8)?;
     volume.is_whole();
     let mut room = TrackRoom::new(alloc, geometry)?;
-    for n in 0..u16::from(layout.cylinders) * HEADS {
+    for n in 0..layout.cylinders * HEADS {
         let t = TrackNo::new(n).unwrap();
         let image = read_image(alloc, file, geometry, t, &mut room)?;
         volume.set(t, image);
@@ -153,7 +162,7 @@ pub fn find_bad<F: DiskFile>(
     let geometry = layout.geometry;
     let mut room = TrackRoom::new(alloc, geometry)?;
     let mut found = Vec::new(alloc);
-    for n in 0..u16::from(layout.cylinders) * HEADS {
+    for n in 0..layout.cylinders * HEADS {
         let t = TrackNo::new(n).unwrap();
         note_bad(alloc, file, geometry, t, &mut room, &mut found)?;
     }

@@ -10,5 +10,6 @@ mount_fault_of images.NoMemory = faults.NoMemory
 mount_fault_of (images.BadHead offset) = faults.Bad (images.BadHead offset)
 mount_fault_of (images.BadLength size) = faults.Bad (images.BadLength size)
 mount_fault_of (images.BadTrack track offset) = faults.Bad (images.BadTrack track offset)
+mount_fault_of (images.ManyCylinders n) = faults.Bad (images.ManyCylinders n)
 mount_fault_of images.Compressed = faults.Bad images.Compressed
 mount_fault_of images.Parts = faults.Bad images.Parts

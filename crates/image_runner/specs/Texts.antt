@@ -33,6 +33,7 @@ abbrev pub bad_text : ℕ → ImageFault → List ℕ
 bad_text d (images.BadHead offset) = number_text d (codes "head offset") offset
 bad_text d (images.BadLength size) = number_text d (codes "length") size
 bad_text d (images.BadTrack track offset) = number_text d (codes "track offset") offset
+bad_text d (images.ManyCylinders n) = number_text d (codes "cylinders") n
 bad_text d images.Compressed = word_text d (codes "compressed")
 bad_text d images.Parts = word_text d (codes "parts")
 bad_text d images.FileFault = word_text d (codes "file")

@@ -62,12 +62,11 @@ impl From<NoMemory> for MountFault {
 
 /// The layout that a DEVICE line wants.
 fn wanted_by(line: DeviceLine) -> Layout
-    requires { line.cylinders ≤ 64 }
     ensures { result ≡ wanted_by line }
 {
     Layout {
         geometry: line.geometry,
-        cylinders: line.cylinders as u8,
+        cylinders: line.cylinders,
     }
 }
 

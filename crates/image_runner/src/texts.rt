@@ -86,6 +86,9 @@ fn write_bad<K: Sink>(sink: &mut K, d: DeviceNo, fault: ImageFault) -> Result<()
         ImageFault::BadHead { offset } => write_number(sink, d, b"head offset", u64::from(offset)),
         ImageFault::BadLength { size } => write_number(sink, d, b"length", size),
         ImageFault::BadTrack { offset, .. } => write_number(sink, d, b"track offset", offset),
+        ImageFault::ManyCylinders { cylinders } => {
+            write_number(sink, d, b"cylinders", u64::from(cylinders))
+        }
         ImageFault::Compressed => write_word(sink, d, b"compressed"),
         ImageFault::Parts => write_word(sink, d, b"parts"),
         ImageFault::FileFault => write_word(sink, d, b"file"),

@@ -9,14 +9,14 @@ use Rattle.disk_image.specs.declared.fault.ImageFault.TheVariants as faults
 use Rattle.disk_image.specs.declared.layout.Layout.{Layout}
 use Rattle.disk_image.specs.declared.volume.TrackFault.{TrackFault}
 use Rattle.disk_image.specs.Opening.{opening}
-use Rattle.disk_image.specs.Volume.{Holds, Told, fault_at, faults_in, layout_of}
+use Rattle.disk_image.specs.Volume.{Holds, IsDiskVolume, Told, fault_at, faults_in, layout_of}
 use Rattle.disk_image.proofs.Found.{faults_more}
-use Rattle.disk_image.proofs.Once.{good_track}
+use Rattle.disk_image.proofs.Once.{good_track, of_file}
 use Rattle.volume_file.specs.declared.fault.LoadFault.{LoadFault}
 use Rattle.volume_file.specs.declared.fault.LoadFault.TheVariants as loads
 use Rattle.volume_file.specs.Answers.{TellsFault}
-use Rattle.volume_texts.specs.List.{list_text}
 use Rattle.volume_file.specs.File.{ImageVolume, IsWhole, file_of}
+use Rattle.volume_texts.specs.List.{list_text}
 use Rattle.volume_file.specs.Loading.{loading}
 use Rattle.volume_file.proofs.ReadSo.{not_refused}
 use Rattle.volume_file.proofs.Through.{loads_back}
@@ -38,14 +38,14 @@ use Rattle.image_tool.specs.declared.status.ImageStatus.TheVariants.{
   FileFault,
 }
 use Rattle.image_tool.specs.Answers.{Suits, Tells}
-use Rattle.image_tool.specs.Reading.{Checks, Finds, IsChecked, IsFirstBad, IsHeld, IsOpened, Shows, check_status, checking, refused_by, shown_status}
+use Rattle.image_tool.specs.Reading.{Checks, Finds, IsChecked, IsFiled, IsFirstBad, IsHeld, IsOpened, Shows, ShowsFile, ShowsList, check_status, checking, refused_by, shown_status}
 use Rattle.image_tool.specs.Storing.{MadeBy, StoredBy, TellsFrom, TellsGiven, TellsLoad, TellsNew, TellsVolume, is_alike}
 use Rattle.image_tool.specs.Written.{IsWritten, Outside}
 use Rattle.image_tool.proofs.Stored.{self_alike}
 
 -- ---- no track of an image that holds a volume is bad
 
-no_faults : (v : ImageVolume) (all : List ℕ) → IsWhole v → Holds v all → (n : ℕ) → n ≤ v.cylinders * 15 → faults_in v.geometry n all ≡ []
+no_faults : (v : ImageVolume) (all : List ℕ) → IsDiskVolume v → Holds v all → (n : ℕ) → n ≤ v.cylinders * 15 → faults_in v.geometry n all ≡ []
 no_faults v all w h zero few = refl
 no_faults v all w h (suc n) few =
     let before : n < v.cylinders * 15 = omega (arith, few) in
@@ -65,7 +65,7 @@ same_ok r x y p q = cc
 not_both : {A : Type 0} (r : Result A ImageFault) (x : A) (e : ImageFault) → r ≡ Ok x → r ≡ Err e → ⊥
 not_both r x e p q = cc
 
-none_bad : (v : ImageVolume) (all : List ℕ) (t offset : ℕ) → IsWhole v → Holds v all → IsFirstBad all t offset → ⊥
+none_bad : (v : ImageVolume) (all : List ℕ) (t offset : ℕ) → IsDiskVolume v → Holds v all → IsFirstBad all t offset → ⊥
 none_bad v all t offset w h bad =
     let same : bad.layout ≡ layout_of v = same_ok (opening all) bad.layout (layout_of v) bad.opens h.opens in
     let within : t < v.cylinders * 15 = subst (λ (l : Layout). t < l.cylinders * 15) same bad.within in
@@ -136,6 +136,7 @@ module _ (status : ImageStatus) (nr : status ≡ ReadFault → ⊥) (nw : status
   by_refusal IsSo all (faults.BadTrack t offset) is never so = absurd (never is)
   by_refusal IsSo all faults.Compressed is never so = absurd (never is)
   by_refusal IsSo all faults.Parts is never so = absurd (never is)
+  by_refusal IsSo all (faults.ManyCylinders n) is never so = absurd (never is)
 
   by_found : (all : List ℕ) (found : Result (List TrackFault) ImageFault) → checking all ≡ Ok [] → Finds IsChecked (Some all) found
       → status ≡ check_status found → IsOver status
@@ -146,7 +147,7 @@ module _ (status : ImageStatus) (nr : status ≡ ReadFault → ⊥) (nw : status
   by_check : (all : List ℕ) (held holds : Option (List ℕ)) → checking all ≡ Ok [] → Checks status (Some all) held holds → IsOver status
   by_check all held holds good c = by_found all c.found good c.is (by_written _ _ _ _ c.written)
 
-  not_held : (v : ImageVolume) (all : List ℕ) (e : ImageFault) → IsWhole v → Holds v all → IsHeld all (Err e) → ⊥
+  not_held : (v : ImageVolume) (all : List ℕ) (e : ImageFault) → IsDiskVolume v → Holds v all → IsHeld all (Err e) → ⊥
   not_held v all (faults.BadTrack t offset) w h is = none_bad v all t offset w h is
   not_held v all faults.FileFault w h is = not_both (opening all) (layout_of v) faults.FileFault h.opens is
   not_held v all faults.NoMemory w h is = not_both (opening all) (layout_of v) faults.NoMemory h.opens is
@@ -154,15 +155,30 @@ module _ (status : ImageStatus) (nr : status ≡ ReadFault → ⊥) (nw : status
   not_held v all (faults.BadLength size) w h is = not_both (opening all) (layout_of v) (faults.BadLength size) h.opens is
   not_held v all faults.Compressed w h is = not_both (opening all) (layout_of v) faults.Compressed h.opens is
   not_held v all faults.Parts w h is = not_both (opening all) (layout_of v) faults.Parts h.opens is
+  not_held v all (faults.ManyCylinders n) w h is = not_both (opening all) (layout_of v) (faults.ManyCylinders n) h.opens is
 
-  by_shown : (v : ImageVolume) (all : List ℕ) (found : Result ImageVolume ImageFault) → IsWhole v → Holds v all → Finds IsHeld (Some all) found
-      → status ≡ shown_status found → IsOver status
-  by_shown v all (Ok u) w h is so = inl so
-  by_shown v all (Err e) w h is so = by_refusal IsHeld all e is (not_held v all e w h) so
+  not_filed : (v : ImageVolume) (all : List ℕ) (e : ImageFault) → IsWhole v → Holds v all → IsFiled all (Err e) → ⊥
+  not_filed v all (faults.ManyCylinders n) w h is =
+      let same : is.layout ≡ layout_of v = same_ok (opening all) is.layout (layout_of v) is.opens h.opens in
+      let count : is.layout.cylinders ≡ v.cylinders = ap (λ (l : Layout). l.cylinders) same in
+      omega (arith, is.many, is.count, count, w.most)
+  not_filed v all (faults.BadTrack t offset) w h is = not_held v all (faults.BadTrack t offset) (of_file v w) h is
+  not_filed v all faults.FileFault w h is = not_held v all faults.FileFault (of_file v w) h is
+  not_filed v all faults.NoMemory w h is = not_held v all faults.NoMemory (of_file v w) h is
+  not_filed v all (faults.BadHead offset) w h is = not_held v all (faults.BadHead offset) (of_file v w) h is
+  not_filed v all (faults.BadLength size) w h is = not_held v all (faults.BadLength size) (of_file v w) h is
+  not_filed v all faults.Compressed w h is = not_held v all faults.Compressed (of_file v w) h is
+  not_filed v all faults.Parts w h is = not_held v all faults.Parts (of_file v w) h is
 
-  by_show : (text : ImageVolume → List ℕ) (v : ImageVolume) (all : List ℕ) (held holds : Option (List ℕ)) → IsWhole v → Holds v all
-      → Shows text status (Some all) held holds → IsOver status
-  by_show text v all held holds w h s = by_shown v all s.found w h s.is (by_written _ _ _ _ s.written)
+  by_shown : (IsSo : List ℕ → Result ImageVolume ImageFault → Type 0) (all : List ℕ) (found : Result ImageVolume ImageFault)
+      → ((e : ImageFault) → IsSo all (Err e) → ⊥) → Finds IsSo (Some all) found → status ≡ shown_status found → IsOver status
+  by_shown IsSo all (Ok u) never is so = inl so
+  by_shown IsSo all (Err e) never is so = by_refusal IsSo all e is (never e) so
+
+  by_show : (IsSo : List ℕ → Result ImageVolume ImageFault → Type 0) (IsOne : ImageVolume → Type 0) (text : ImageVolume → List ℕ) (all : List ℕ)
+      (held holds : Option (List ℕ)) → ((e : ImageFault) → IsSo all (Err e) → ⊥) → Shows IsSo IsOne text status (Some all) held holds
+      → IsOver status
+  by_show IsSo IsOne text all held holds never s = by_shown IsSo all s.found never s.is (by_written _ _ _ _ s.written)
 
   by_new : (g : Geometry) (cylinders : ℕ) (file files held holds : Option (List ℕ)) → file ≡ Some [] → TellsNew status g cylinders file files held holds
       → IsOver status
@@ -211,11 +227,11 @@ module _ (status : ImageStatus) (nr : status ≡ ReadFault → ⊥) (nw : status
   by_task tasks.Check old new suits told =
       by_check suits.0 old.held new.held suits.2 (subst (λ (o : Option (List ℕ)). Checks status o old.held new.held) suits.1 told.1)
   by_task tasks.List old new suits told =
-      by_show list_text suits.2.0 suits.0 old.held new.held suits.2.1 suits.2.2
-      (subst (λ (o : Option (List ℕ)). Shows list_text status o old.held new.held) suits.1 told.1)
+      by_show IsHeld IsDiskVolume list_text suits.0 old.held new.held (λ e. not_held suits.2.0 suits.0 e suits.2.1 suits.2.2)
+      (subst (λ (o : Option (List ℕ)). ShowsList status o old.held new.held) suits.1 told.1)
   by_task tasks.ToVolume old new suits told =
-      by_show file_of suits.2.0 suits.0 old.held new.held suits.2.1 suits.2.2
-      (subst (λ (o : Option (List ℕ)). Shows file_of status o old.held new.held) suits.1 told.1)
+      by_show IsFiled IsWhole file_of suits.0 old.held new.held (λ e. not_filed suits.2.0 suits.0 e suits.2.1 suits.2.2)
+      (subst (λ (o : Option (List ℕ)). ShowsFile status o old.held new.held) suits.1 told.1)
   by_task tasks.FromVolume old new suits told = by_from suits.0 suits.3.0 old new suits.1 suits.2 suits.3.1 suits.3.2 told
 
 pub complete : (status : ImageStatus) (named : Option Task) (task : Task) (old new : Outside) → named ≡ Some task → Suits task old.left old.file

@@ -1,4 +1,5 @@
 pub mod Openings
 pub mod Telling
+pub mod Listed
 pub mod Stored
 pub mod Complete

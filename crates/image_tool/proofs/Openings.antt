@@ -5,36 +5,37 @@ use Rattle.std.specs.List.{starts_with}
 use Rattle.ckd_types.specs.declared.geometry.Geometry.{Geometry}
 use Rattle.ckd_types.specs.declared.geometry.Geometry.TheVariants.{D3390, D3380}
 use Rattle.disk_image.specs.declared.fault.ImageFault.{ImageFault}
-use Rattle.disk_image.specs.declared.fault.ImageFault.TheVariants.{BadHead, BadLength, BadTrack, Compressed, FileFault, NoMemory, Parts}
+use Rattle.disk_image.specs.declared.fault.ImageFault.TheVariants.{BadHead, BadLength, BadTrack, Compressed, FileFault, ManyCylinders, NoMemory, Parts}
 use Rattle.disk_image.specs.declared.layout.Layout.{Layout}
 use Rattle.disk_image.specs.File.{compressed, heads_bytes, shadow, signature, size_bytes, type_byte}
 use Rattle.disk_image.specs.Image.{TellsOpening}
 use Rattle.disk_image.specs.Opening.{◌>>=◌, head_in, layout_by, model_in, opening, rest_in}
 use Rattle.disk_image.specs.Volume.{Told, faults_in}
-use Rattle.image_tool.specs.Reading.{Finds, IsChecked, IsHeld, IsOpened}
+use Rattle.image_tool.specs.Reading.{Finds, IsChecked, IsFiled, IsHeld, IsOpened}
 
--- ---- no opening names a track
+-- ---- no opening names a track, or says that there are too many cylinders
 
 record IsPlain {A : Type 0} (r : Result A ImageFault) : Type 0 where
   plain : (t offset : ℕ) → r ≡ Err (BadTrack t offset) → ⊥
+  few : (n : ℕ) → r ≡ Err (ManyCylinders n) → ⊥
 
 ok_plain : {A : Type 0} (x : A) → IsPlain (Ok x)
-ok_plain x = record { plain = λ t offset is. cc }
+ok_plain x = record { plain = λ t offset is. cc; few = λ n is. cc }
 
-err_plain : {A : Type 0} (e : ImageFault) → ((t offset : ℕ) → e ≡ BadTrack t offset → ⊥) → IsPlain {A = A} (Err e)
-err_plain e other = record { plain = λ t offset is. other t offset (cc) }
+err_plain : {A : Type 0} (e : ImageFault) → ((t offset : ℕ) → e ≡ BadTrack t offset → ⊥) → ((n : ℕ) → e ≡ ManyCylinders n → ⊥) → IsPlain {A = A} (Err e)
+err_plain e other more = record { plain = λ t offset is. other t offset (cc); few = λ n is. more n (cc) }
 
 head_fault : {A : Type 0} (n : ℕ) → IsPlain {A = A} (Err (BadHead n))
-head_fault n = err_plain (BadHead n) (λ t offset is. cc)
+head_fault n = err_plain (BadHead n) (λ t offset is. cc) (λ n is. cc)
 
 length_fault : {A : Type 0} (n : ℕ) → IsPlain {A = A} (Err (BadLength n))
-length_fault n = err_plain (BadLength n) (λ t offset is. cc)
+length_fault n = err_plain (BadLength n) (λ t offset is. cc) (λ n is. cc)
 
 packed_fault : {A : Type 0} → IsPlain {A = A} (Err Compressed)
-packed_fault = err_plain Compressed (λ t offset is. cc)
+packed_fault = err_plain Compressed (λ t offset is. cc) (λ n is. cc)
 
 parts_fault : {A : Type 0} → IsPlain {A = A} (Err Parts)
-parts_fault = err_plain Parts (λ t offset is. cc)
+parts_fault = err_plain Parts (λ t offset is. cc) (λ n is. cc)
 
 plain_if : {A : Type 0} (b : Bool) (x y : Result A ImageFault) → IsPlain x → IsPlain y → IsPlain (cond b x y)
 plain_if true x y p q = p
@@ -48,7 +49,10 @@ err_same e k is = ap Err (err_of e k is)
 
 plain_then : {A B : Type 0} (r : Result A ImageFault) (f : A → Result B ImageFault) → IsPlain r → ((x : A) → IsPlain (f x)) → IsPlain (r >>= f)
 plain_then (Ok x) f p q = q x
-plain_then (Err e) f p q = record { plain = λ t offset is. p.plain t offset (err_same e (BadTrack t offset) is) }
+plain_then (Err e) f p q = record {
+  plain = λ t offset is. p.plain t offset (err_same e (BadTrack t offset) is);
+  few = λ n is. p.few n (err_same e (ManyCylinders n) is);
+}
 
 model_plain : (field : List ℕ) → IsPlain (model_in field)
 model_plain field =
@@ -102,11 +106,13 @@ refused IsSo None (BadLength size) so told = tt
 refused IsSo None (BadTrack t offset) so told = tt
 refused IsSo None Compressed so told = tt
 refused IsSo None Parts so told = tt
+refused IsSo None (ManyCylinders n) so told = tt
 refused IsSo (Some all) (BadHead offset) so told = so all (sym told)
 refused IsSo (Some all) (BadLength size) so told = so all (sym told)
 refused IsSo (Some all) (BadTrack t offset) so told = so all (sym told)
 refused IsSo (Some all) Compressed so told = so all (sym told)
 refused IsSo (Some all) Parts so told = so all (sym told)
+refused IsSo (Some all) (ManyCylinders n) so told = so all (sym told)
 
 pub not_opened : (file : Option (List ℕ)) (e : ImageFault) → (let r : Result Layout ImageFault = Err e in TellsOpening file r) → Finds IsOpened file (Err e)
 not_opened file e told = refused IsOpened file e (λ all is. is) told
@@ -122,11 +128,25 @@ held_not (BadHead offset) all is = is
 held_not (BadLength size) all is = is
 held_not Compressed all is = is
 held_not Parts all is = is
+held_not (ManyCylinders n) all is = is
 held_not FileFault all is = is
 held_not NoMemory all is = is
 
 pub not_held : (file : Option (List ℕ)) (e : ImageFault) → (let r : Result Layout ImageFault = Err e in TellsOpening file r) → Finds IsHeld file (Err e)
 not_held file e told = refused IsHeld file e (held_not e) told
+
+filed_not : (e : ImageFault) (all : List ℕ) → opening all ≡ Err e → IsFiled all (Err e)
+filed_not (ManyCylinders n) all is = absurd ((opening_plain all).few n is)
+filed_not (BadTrack t offset) all is = held_not (BadTrack t offset) all is
+filed_not (BadHead offset) all is = is
+filed_not (BadLength size) all is = is
+filed_not Compressed all is = is
+filed_not Parts all is = is
+filed_not FileFault all is = is
+filed_not NoMemory all is = is
+
+pub not_filed : (file : Option (List ℕ)) (e : ImageFault) → (let r : Result Layout ImageFault = Err e in TellsOpening file r) → Finds IsFiled file (Err e)
+not_filed file e told = refused IsFiled file e (filed_not e) told
 
 -- a call of the file failed, or memory ran out
 pub early : {A : Type 0} (IsSo : List ℕ → Result A ImageFault → Type 0) (file : Option (List ℕ)) (e : ImageFault) → (e ≡ FileFault) ⊎ (e ≡ NoMemory)

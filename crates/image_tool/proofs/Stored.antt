@@ -4,7 +4,7 @@ use Rattle.std.proofs.lemmas.Bool.{eqb-true, false≢true}
 use Rattle.ckd_types.specs.declared.geometry.Geometry.{Geometry}
 use Rattle.ckd_types.specs.declared.geometry.Geometry.TheVariants.{D3390, D3380}
 use Rattle.disk_image.specs.declared.fault.ImageFault.{ImageFault}
-use Rattle.disk_image.specs.declared.fault.ImageFault.TheVariants.{BadHead, BadLength, BadTrack, Compressed, FileFault, NoMemory, Parts}
+use Rattle.disk_image.specs.declared.fault.ImageFault.TheVariants.{BadHead, BadLength, BadTrack, Compressed, FileFault, ManyCylinders, NoMemory, Parts}
 use Rattle.disk_image.specs.declared.layout.Layout.{Layout}
 use Rattle.disk_image.specs.Calls.{IsLong}
 use Rattle.disk_image.specs.Image.{IsEmpty}
@@ -60,6 +60,7 @@ stored_by v (BadLength size) file files so = absurd so
 stored_by v (BadTrack t offset) file files so = absurd so
 stored_by v Compressed file files so = absurd so
 stored_by v Parts file files so = absurd so
+stored_by v (ManyCylinders n) file files so = absurd so
 
 -- ---- layouts
 

@@ -1,22 +1,21 @@
 -- What was found in a file is told.
-use Rattle.std.proofs.Common.{◌≡◌, ◌⊎◌, inl, inr, ℕ, ◌+◌, ◌*◌, ◌<◌, Bool, true, false, List, [], ◌∷◌, length, Option, Some, None, Result, Ok, Err, sym, ap, subst, ◌∙◌}
+use Rattle.std.proofs.Common.{◌≡◌, ℕ, ◌+◌, ◌*◌, ◌<◌, Bool, true, false, List, [], ◌∷◌, length, Option, Some, None, Result, Ok, Err, sym, ap, subst, ◌∙◌, arith}
 use Rattle.std.specs.Prelude.{◌==◌}
 use Rattle.std.specs.List.{flat_map}
-use Rattle.std.specs.Io.KnownBytes.{Appends}
 use Rattle.std.proofs.lemmas.Bool.{eqb-true, false≢true}
 use Rattle.std.proofs.lemmas.List.{nil_from_length}
-use Rattle.std.proofs.KnownBytes.{Appends-nil}
 use Rattle.ckd_types.specs.declared.geometry.Geometry.{Geometry}
 use Rattle.disk_image.specs.declared.fault.ImageFault.{ImageFault}
 use Rattle.disk_image.specs.declared.fault.ImageFault.TheVariants as faults
 use Rattle.disk_image.specs.declared.layout.Layout.{Layout}
 use Rattle.disk_image.specs.declared.volume.TrackFault.{TrackFault}
 use Rattle.disk_image.specs.Opening.{◌>>=◌, opening}
-use Rattle.disk_image.specs.Volume.{Holds, HasTracks, TellsBad, Told, faults_in, layout_of}
-use Rattle.volume_file.specs.File.{ImageVolume, IsWhole}
+use Rattle.disk_image.specs.Volume.{Holds, HasTracks, IsDiskVolume, TellsBad, TellsUnloaded, Told, faults_in, layout_of}
+use Rattle.volume_file.specs.File.{ImageVolume, IsWhole, file_of}
+use Rattle.volume_texts.specs.List.{list_text}
 use Rattle.image_tool.specs.declared.status.ImageStatus.{ImageStatus}
-use Rattle.image_tool.specs.declared.status.ImageStatus.TheVariants.{BadTracks, Done, NoMemory}
-use Rattle.image_tool.specs.Reading.{Checks, Finds, IsChecked, IsFirstBad, IsHeld, Shows, checking, found_status, refused_by}
+use Rattle.image_tool.specs.declared.status.ImageStatus.TheVariants.{BadTracks, Done}
+use Rattle.image_tool.specs.Reading.{Checks, Finds, HasMany, IsChecked, IsFiled, IsFirstBad, IsHeld, ShowsFile, ShowsList, checking, found_status, refused_by}
 use Rattle.image_tool.specs.Texts.{fault_text, found_text, good_text, track_text}
 use Rattle.image_tool.specs.Written.{IsWritten}
 
@@ -81,22 +80,41 @@ bad_held file now l (faults.BadHead offset) opens same bad = absurd bad
 bad_held file now l (faults.BadLength size) opens same bad = absurd bad
 bad_held file now l faults.Compressed opens same bad = absurd bad
 bad_held file now l faults.Parts opens same bad = absurd bad
+bad_held file now l (faults.ManyCylinders n) opens same bad = absurd bad
 
-module _ (text : ImageVolume → List ℕ) (status : ImageStatus) (file held holds_now : Option (List ℕ)) where
-  pub shows : (v : ImageVolume) → IsWhole v → Told file (Holds v) → IsWritten status Done held holds_now (text v) → Shows text status file held holds_now
-  shows v whole so written = record { found = Ok v; whole = whole; is = so; written = written }
+many_held : (file : Option (List ℕ)) (l : Layout) (n : ℕ) → Told file (λ all. opening all ≡ Ok l) → n ≡ l.cylinders → 64 < l.cylinders
+    → Told file (λ all. HasMany all n)
+many_held None l n opens count many = tt
+many_held (Some all) l n opens count many = record { layout = l; opens = opens; count = count; many = omega (arith, count, many) }
 
-  pub shows_not : (e : ImageFault) → Finds IsHeld file (Err e) → IsWritten status (refused_by e) held holds_now (fault_text e)
-      → Shows text status file held holds_now
-  shows_not e so written = record { found = Err e; whole = tt; is = so; written = written }
+-- or none that may have a volume file
+pub bad_filed : (file now : Option (List ℕ)) (l : Layout) (e : ImageFault) → Told file (λ all. opening all ≡ Ok l) → now ≡ file → TellsUnloaded now l e
+    → Finds IsFiled file (Err e)
+bad_filed file now l (faults.ManyCylinders n) opens same bad = many_held file l n opens bad.0 bad.1
+bad_filed file now l (faults.BadTrack t offset) opens same bad = first_bad file now l t offset opens same bad.0 bad.1
+bad_filed file now l faults.FileFault opens same bad = tt
+bad_filed file now l faults.NoMemory opens same bad = tt
+bad_filed file now l (faults.BadHead offset) opens same bad = absurd bad
+bad_filed file now l (faults.BadLength size) opens same bad = absurd bad
+bad_filed file now l faults.Compressed opens same bad = absurd bad
+bad_filed file now l faults.Parts opens same bad = absurd bad
 
-  -- or memory ran out as it was shown
-  pub shows_or_not : (v : ImageVolume) → IsWhole v → Told file (Holds v)
-      → IsWritten status Done held holds_now (text v) ⊎ ((status ≡ NoMemory) × (holds_now ≡ held)) → Shows text status file held holds_now
-  shows_or_not v whole so written = elim written [
-    | inl w ↦ shows v whole so w
-    | inr w ↦ shows_not faults.NoMemory tt (inl (w.0, subst (λ (x : Option (List ℕ)). Appends held x []) (sym w.1) (Appends-nil held)))
-  ]
+module _ (status : ImageStatus) (file held holds_now : Option (List ℕ)) where
+  pub shows_file : (v : ImageVolume) → IsWhole v → Told file (Holds v) → IsWritten status Done held holds_now (file_of v)
+      → ShowsFile status file held holds_now
+  shows_file v whole so written = record { found = Ok v; whole = whole; is = so; written = written }
+
+  pub no_file : (e : ImageFault) → Finds IsFiled file (Err e) → IsWritten status (refused_by e) held holds_now (fault_text e)
+      → ShowsFile status file held holds_now
+  no_file e so written = record { found = Err e; whole = tt; is = so; written = written }
+
+  pub shows_list : (v : ImageVolume) → IsDiskVolume v → Told file (Holds v) → IsWritten status Done held holds_now (list_text v)
+      → ShowsList status file held holds_now
+  shows_list v whole so written = record { found = Ok v; whole = whole; is = so; written = written }
+
+  pub no_list : (e : ImageFault) → Finds IsHeld file (Err e) → IsWritten status (refused_by e) held holds_now (fault_text e)
+      → ShowsList status file held holds_now
+  no_list e so written = record { found = Err e; whole = tt; is = so; written = written }
 
 -- ---- bad tracks or none
 

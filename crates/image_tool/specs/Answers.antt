@@ -4,10 +4,9 @@ use Rattle.std.specs.Str.{bytes_eq}
 use Rattle.ckd_types.specs.declared.geometry.Geometry.{Geometry}
 use Rattle.ckd_types.specs.declared.geometry.Geometry.TheVariants.{D3390, D3380}
 use Rattle.disk_image.specs.Opening.{opening}
-use Rattle.disk_image.specs.Volume.{Holds, layout_of}
+use Rattle.disk_image.specs.Volume.{Holds, IsDiskVolume, layout_of}
 use Rattle.report_text.specs.Numbers.{number_in}
 use Rattle.volume_file.specs.File.{ImageVolume, IsWhole, file_of}
-use Rattle.volume_texts.specs.List.{list_text}
 use Rattle.image_tool.specs.declared.task.Task.{Task}
 use Rattle.image_tool.specs.declared.task.Task.TheVariants as tasks
 use Rattle.image_tool.specs.declared.status.ImageStatus.{ImageStatus}
@@ -24,7 +23,7 @@ use Rattle.image_tool.specs.declared.status.ImageStatus.TheVariants.{
   BadVolume,
   FileFault,
 }
-use Rattle.image_tool.specs.Reading.{Checks, Shows, checking}
+use Rattle.image_tool.specs.Reading.{Checks, ShowsFile, ShowsList, checking}
 use Rattle.image_tool.specs.Storing.{TellsFrom, TellsNew}
 use Rattle.image_tool.specs.Written.{IsWritten, Outside}
 use Rattle.ckd_outside.specs.Causes.{Rose}
@@ -60,7 +59,7 @@ new_of (Some g) None = None
 new_of (Some g) (Some n) = Some (tasks.New g n)
 
 unfoldable pub new_by : List ℕ → List ℕ → List ℕ → Option Task
-new_by word model cylinders = if bytes_eq word (codes "new") then new_of (model_by model) (number_in 1 64 cylinders) else None
+new_by word model cylinders = if bytes_eq word (codes "new") then new_of (model_by model) (number_in 1 4369 cylinders) else None
 
 -- a word and a file name a task, or a word, a model, a number and a file
 unfoldable pub task_of : List (List ℕ) → Option Task
@@ -71,9 +70,9 @@ task_of (word ∷ model ∷ file ∷ []) = None
 task_of (word ∷ model ∷ cylinders ∷ file ∷ []) = new_by word model cylinders
 task_of (word ∷ model ∷ cylinders ∷ file ∷ other ∷ words) = None
 
--- a new image has no more cylinders than a volume may have
+-- a new image has no more cylinders than a device may have
 abbrev pub IsSmall : Task → Type 0
-IsSmall (tasks.New g cylinders) = cylinders ≤ 64
+IsSmall (tasks.New g cylinders) = cylinders ≤ 4369
 IsSmall task = ⊤
 
 unfoldable pub usage_text : List ℕ
@@ -88,15 +87,15 @@ abbrev pub Tells : ImageStatus → Option Task → Outside → Outside → Type 
 Tells status None old new = IsUntouched old new × IsWritten status Usage old.held new.held usage_text
 Tells status (Some (tasks.New g cylinders)) old new = (new.left ≡ old.left) × TellsNew status g cylinders old.file new.file old.held new.held
 Tells status (Some tasks.Check) old new = IsUntouched old new × Checks status old.file old.held new.held
-Tells status (Some tasks.List) old new = IsUntouched old new × Shows list_text status old.file old.held new.held
-Tells status (Some tasks.ToVolume) old new = IsUntouched old new × Shows file_of status old.file old.held new.held
+Tells status (Some tasks.List) old new = IsUntouched old new × ShowsList status old.file old.held new.held
+Tells status (Some tasks.ToVolume) old new = IsUntouched old new × ShowsFile status old.file old.held new.held
 Tells status (Some tasks.FromVolume) old new = TellsFrom status old new
 
 -- what a task needs of source and file to be done
 abbrev pub Suits : Task → Option (List ℕ) → Option (List ℕ) → Type 0
 Suits (tasks.New g cylinders) left file = file ≡ Some []
 Suits tasks.Check left file = (all : List ℕ) × (file ≡ Some all) × (checking all ≡ Ok [])
-Suits tasks.List left file = (all : List ℕ) × (file ≡ Some all) × ((v : ImageVolume) × IsWhole v × Holds v all)
+Suits tasks.List left file = (all : List ℕ) × (file ≡ Some all) × ((v : ImageVolume) × IsDiskVolume v × Holds v all)
 Suits tasks.ToVolume left file = (all : List ℕ) × (file ≡ Some all) × ((v : ImageVolume) × IsWhole v × Holds v all)
 Suits tasks.FromVolume left file =
     (v : ImageVolume) × IsWhole v × (left ≡ Some (file_of v)) × ((all : List ℕ) × (file ≡ Some all) × (opening all ≡ Ok (layout_of v)))

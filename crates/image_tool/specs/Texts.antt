@@ -25,6 +25,7 @@ fault_text (faults.BadLength size) = number_text (codes "length") size
 fault_text faults.Compressed = word_text (codes "compressed")
 fault_text faults.Parts = word_text (codes "parts")
 fault_text (faults.BadTrack t offset) = track_text (record { track = t; offset = offset })
+fault_text (faults.ManyCylinders n) = number_text (codes "cylinders") n
 fault_text faults.FileFault = []
 fault_text faults.NoMemory = []
 

@@ -1,21 +1,26 @@
-ghost use Rattle.std.specs.Prelude.{◌≡◌, ◌≢◌, ◌⊎◌, Err, IfErr, IfOk, Ok};
+ghost use Rattle.std.specs.Prelude.{◌≡◌, ◌≢◌, ◌≤◌, ◌*◌, Err, IfErr, IfOk, Ok};
 ghost use Rattle.std.specs.List.{flat_map};
-ghost use Rattle.disk_image.specs.Volume.{Told, FileFaultHasCause};
+ghost use Rattle.disk_image.specs.Image.{IsLayoutOf};
+ghost use Rattle.disk_image.specs.Opening.{opening};
+ghost use Rattle.disk_image.specs.Volume.{TellsBad, Told, FileFaultHasCause};
 ghost use Rattle.volume_file.specs.File.{IsWhole, file_of};
-ghost use Rattle.volume_texts.specs.List.{list_text, rows_text};
-ghost use Rattle.image_tool.specs.Reading.{Checks, Finds, IsChecked, IsHeld, Shows, checking, found_status, refused_by};
+ghost use Rattle.volume_texts.specs.List.{rows_text};
+ghost use Rattle.image_tool.specs.Reading.{AreRows, Checks, Finds, IsChecked, IsFiled, ShowsFile, ShowsList, checking, found_status, refused_by};
 ghost use Rattle.image_tool.specs.Texts.{fault_text, found_text, good_text, track_text};
 ghost use Rattle.image_tool.specs.Written.{IsOfSink, IsWritten};
 ghost use Rattle.image_tool.specs.Answers.{WriteFaultHasCause, ToldFaultHasCause};
 
 use crate::status::{ImageStatus, refused_by};
-use crate::texts::{write_fault, write_found, write_good};
+use crate::texts::{write_fault, write_found, write_good, write_list};
 use ckd_outside::Sink;
-use ckd_types::NoMemory;
-use disk_image::{DiskFile, ImageFault, TrackFault, find_bad, load_volume, open_image};
+use ckd_types::{HEADS, TrackNo};
+use disk_image::{
+    DiskFile, ImageFault, Layout, TrackFault, TrackRoom, find_bad, load_volume, open_image,
+    read_image,
+};
 use std::alloc::Global;
 use volume_file::{FileVolume, save};
-use volume_texts::{Row, list_volume, write_listing};
+use volume_texts::{Row, row_of};
 
 /// Each bad track of an image, or why a file is none.
 fn bad_tracks<F: DiskFile>(alloc: Global, file: &mut F) -> Result<Vec<TrackFault>, ImageFault>
@@ -29,9 +34,9 @@ fn bad_tracks<F: DiskFile>(alloc: Global, file: &mut F) -> Result<Vec<TrackFault
     Ok(found)
 }
 
-/// The volume that a file holds, or why it holds none.
+/// The volume that a file holds, if that may have a volume file, or why it holds none.
 fn held_volume<F: DiskFile>(alloc: Global, file: &mut F) -> Result<FileVolume, ImageFault>
-    ensures found { Finds IsHeld (F.held file.old) result }
+    ensures found { Finds IsFiled (F.held file.old) result }
     ensures whole { IfOk result (λ v. IsWhole v) }
     ensures same { F.held file.new ≡ F.held file.old }
     ensures cause { FileFaultHasCause result (F.faults file.old) (F.faults file.new) }
@@ -40,6 +45,30 @@ fn held_volume<F: DiskFile>(alloc: Global, file: &mut F) -> Result<FileVolume, I
     let volume = load_volume(alloc, file, layout)?;
     volume.is_whole();
     Ok(volume)
+}
+
+/// A row for each track of a file of this layout, or its first bad track. One track is held at a time.
+fn list_tracks<F: DiskFile>(
+    alloc: Global,
+    file: &mut F,
+    layout: Layout,
+) -> Result<Vec<Row>, ImageFault>
+    requires { IsLayoutOf (F.held file.old) layout }
+    ensures rows { IfOk result (λ rows. AreRows layout (layout.cylinders * 15) (F.held file.old) rows.items) }
+    ensures bad { IfErr result (λ fault. TellsBad (F.held file.old) layout fault) }
+    ensures same { F.held file.new ≡ F.held file.old }
+    ensures later { F.faults file.old ≤ F.faults file.new }
+    ensures cause { FileFaultHasCause result (F.faults file.old) (F.faults file.new) }
+{
+    let geometry = layout.geometry;
+    let mut room = TrackRoom::new(alloc, geometry)?;
+    let mut rows = Vec::new(alloc);
+    for n in 0..layout.cylinders * HEADS {
+        let t = TrackNo::new(n).unwrap();
+        let image = read_image(alloc, file, geometry, t, &mut room)?;
+        rows.push(row_of(n, &image))?;
+    }
+    Ok(rows)
 }
 
 /// Tells why a file is refused.
@@ -89,26 +118,13 @@ fn tell_found<K: Sink>(sink: &mut K, found: &[TrackFault]) -> ImageStatus
     tell_bad(sink, found)
 }
 
-/// Writes the list of a volume.
-fn show_list<K: Sink>(alloc: Global, sink: &mut K, volume: &FileVolume) -> ImageStatus
-    ensures told { IsWritten result ImageStatus.Done (K.held sink.old) (K.held sink.new) (list_text volume.now)
-        ⊎ ((result ≡ ImageStatus.NoMemory) × (K.held sink.new ≡ K.held sink.old)) }
-    ensures write { WriteFaultHasCause result (K.faults sink.old) (K.faults sink.new) }
-    ensures other { IsOfSink result }
-{
-    match list_volume(alloc, volume) {
-        Ok(rows) => write_rows(sink, volume, &rows),
-        Err(NoMemory) => ImageStatus::NoMemory,
-    }
-}
-
-fn write_rows<K: Sink>(sink: &mut K, volume: &FileVolume, rows: &[Row]) -> ImageStatus
+fn show_rows<K: Sink>(sink: &mut K, layout: Layout, rows: &[Row]) -> ImageStatus
     ensures told { IsWritten result ImageStatus.Done
-        (K.held sink.old) (K.held sink.new) (rows_text volume.now.geometry volume.now.cylinders rows.now) }
+        (K.held sink.old) (K.held sink.new) (rows_text layout.geometry layout.cylinders rows.now) }
     ensures write { WriteFaultHasCause result (K.faults sink.old) (K.faults sink.new) }
     ensures other { IsOfSink result }
 {
-    match write_listing(sink, volume.geometry(), volume.cylinders(), rows) {
+    match write_list(sink, layout, rows) {
         Ok(()) => ImageStatus::Done,
         Err(_) => ImageStatus::WriteFault,
     }
@@ -144,20 +160,41 @@ pub(crate) fn serve_check<K: Sink, F: DiskFile>(
     }
 }
 
+/// Lists the volume that a file of this layout holds.
+fn list_opened<K: Sink, F: DiskFile>(
+    alloc: Global,
+    layout: Layout,
+    sink: &mut K,
+    file: &mut F,
+) -> ImageStatus
+    requires layout { IsLayoutOf (F.held file.old) layout }
+    requires opened { Told (F.held file.old) (λ all. opening all ≡ Ok layout) }
+    ensures told { ShowsList result (F.held file.old) (K.held sink.old) (K.held sink.new) }
+    ensures same { F.held file.new ≡ F.held file.old }
+    ensures write { WriteFaultHasCause result (K.faults sink.old) (K.faults sink.new) }
+    ensures read { result ≢ ImageStatus.ReadFault }
+    ensures file { ToldFaultHasCause result (F.faults file.old) (F.faults file.new) }
+{
+    match list_tracks(alloc, file, layout) {
+        Ok(rows) => show_rows(sink, layout, &rows),
+        Err(fault) => refuse(sink, fault),
+    }
+}
+
 /// Lists the volume that a file holds.
 pub(crate) fn serve_list<K: Sink, F: DiskFile>(
     alloc: Global,
     sink: &mut K,
     file: &mut F,
 ) -> ImageStatus
-    ensures told { Shows list_text result (F.held file.old) (K.held sink.old) (K.held sink.new) }
+    ensures told { ShowsList result (F.held file.old) (K.held sink.old) (K.held sink.new) }
     ensures same { F.held file.new ≡ F.held file.old }
     ensures write { WriteFaultHasCause result (K.faults sink.old) (K.faults sink.new) }
     ensures read { result ≢ ImageStatus.ReadFault }
     ensures file { ToldFaultHasCause result (F.faults file.old) (F.faults file.new) }
 {
-    match held_volume(alloc, file) {
-        Ok(volume) => show_list(alloc, sink, &volume),
+    match open_image(alloc, file) {
+        Ok(layout) => list_opened(alloc, layout, sink, file),
         Err(fault) => refuse(sink, fault),
     }
 }
@@ -168,7 +205,7 @@ pub(crate) fn serve_to_volume<K: Sink, F: DiskFile>(
     sink: &mut K,
     file: &mut F,
 ) -> ImageStatus
-    ensures told { Shows file_of result (F.held file.old) (K.held sink.old) (K.held sink.new) }
+    ensures told { ShowsFile result (F.held file.old) (K.held sink.old) (K.held sink.new) }
     ensures same { F.held file.new ≡ F.held file.old }
     ensures write { WriteFaultHasCause result (K.faults sink.old) (K.faults sink.new) }
     ensures read { result ≢ ImageStatus.ReadFault }

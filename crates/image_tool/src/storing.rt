@@ -48,10 +48,10 @@ fn create_whole<F: DiskFile>(
     alloc: Global,
     file: &mut F,
     geometry: Geometry,
-    cylinders: u8,
+    cylinders: u16,
 ) -> Result<(), ImageFault>
     requires empty { IsEmpty (F.held file.old) }
-    requires most { cylinders ≤ 64 }
+    requires most { cylinders ≤ 4369 }
     ensures made { OnOk result (HasEmpty geometry (cylinders * 15) (F.held file.new)) }
     ensures cause { FileFaultHasCause result (F.faults file.old) (F.faults file.new) }
 {
@@ -61,9 +61,9 @@ fn create_whole<F: DiskFile>(
 }
 
 /// Makes an image of a file without bytes.
-fn make<F: DiskFile>(alloc: Global, file: &mut F, geometry: Geometry, cylinders: u8) -> ImageStatus
+fn make<F: DiskFile>(alloc: Global, file: &mut F, geometry: Geometry, cylinders: u16) -> ImageStatus
     requires empty { IsEmpty (F.held file.old) }
-    requires most { cylinders ≤ 64 }
+    requires most { cylinders ≤ 4369 }
     ensures made { MadeBy result geometry cylinders (F.held file.new) }
     ensures read { result ≢ ImageStatus.ReadFault }
     ensures file { ToldFaultHasCause result (F.faults file.old) (F.faults file.new) }
@@ -79,13 +79,13 @@ fn make<F: DiskFile>(alloc: Global, file: &mut F, geometry: Geometry, cylinders:
 fn make_new<K: Sink, F: DiskFile>(
     alloc: Global,
     geometry: Geometry,
-    cylinders: u8,
+    cylinders: u16,
     size: u64,
     sink: &mut K,
     file: &mut F,
 ) -> ImageStatus
     requires long { IsLong (F.held file.old) size }
-    requires most { cylinders ≤ 64 }
+    requires most { cylinders ≤ 4369 }
     ensures told { TellsNew result geometry cylinders (F.held file.old) (F.held file.new) (K.held sink.old) (K.held sink.new) }
     ensures write { WriteFaultHasCause result (K.faults sink.old) (K.faults sink.new) }
     ensures read { result ≢ ImageStatus.ReadFault }
@@ -101,11 +101,11 @@ fn make_new<K: Sink, F: DiskFile>(
 pub(crate) fn serve_new<K: Sink, F: DiskFile>(
     alloc: Global,
     geometry: Geometry,
-    cylinders: u8,
+    cylinders: u16,
     sink: &mut K,
     file: &mut F,
 ) -> ImageStatus
-    requires { cylinders ≤ 64 }
+    requires { cylinders ≤ 4369 }
     ensures told { TellsNew result geometry cylinders (F.held file.old) (F.held file.new) (K.held sink.old) (K.held sink.new) }
     ensures write { WriteFaultHasCause result (K.faults sink.old) (K.faults sink.new) }
     ensures read { result ≢ ImageStatus.ReadFault }
@@ -143,7 +143,7 @@ fn layout_of(volume: &FileVolume) -> Layout
 {
     Layout {
         geometry: volume.geometry(),
-        cylinders: volume.cylinders(),
+        cylinders: u16::from(volume.cylinders()),
     }
 }
 

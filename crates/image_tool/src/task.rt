@@ -8,7 +8,7 @@ use report_text::number_in;
 #[derive(Clone, Copy, Debug, PartialEq, Eq)]
 pub enum Task {
     /// An image of an empty volume.
-    New { geometry: Geometry, cylinders: u8 },
+    New { geometry: Geometry, cylinders: u16 },
     /// Its bad tracks.
     Check,
     /// The list of its tracks.
@@ -19,8 +19,8 @@ pub enum Task {
     FromVolume,
 }
 
-/// The most cylinders of a volume.
-const MOST_CYLINDERS: u64 = 64;
+/// The most cylinders of an image.
+const MOST_CYLINDERS: u64 = 4369;
 
 #[tactic(auto, unfolding(crate::specs::Answers::task_by))]
 fn task_by(word: &str) -> Option<Task>
@@ -53,7 +53,7 @@ fn model_by(word: &str) -> Option<Geometry>
 }
 
 fn new_of(model: Option<Geometry>, cylinders: Option<u64>) -> Option<Task>
-    requires { IfSome cylinders (λ n. n ≤ 64) }
+    requires { IfSome cylinders (λ n. n ≤ 4369) }
     ensures task { result ≡ new_of model cylinders }
     ensures small { IfSome result (λ task. IsSmall task) }
 {
@@ -63,7 +63,7 @@ fn new_of(model: Option<Geometry>, cylinders: Option<u64>) -> Option<Task>
             None => None,
             Some(n) => Some(Task::New {
                 geometry,
-                cylinders: n as u8,
+                cylinders: n as u16,
             }),
         },
     }

@@ -66,9 +66,9 @@ fn serve<S: Source, K: Sink, F: DiskFile>(
 
 /// Does what the words ask for, over a source, a sink, and the file that the last word names. `new` makes an image of an empty
 /// volume of a file without bytes. `check` tells each bad track, `list` lists the volume that the file holds, and `to-volume`
-/// writes its volume file; nothing is written before all tracks were read. `from-volume` stores the volume of the source's file
-/// into an image of its model and cylinders; nothing is stored before the source was read to its end. A read fault is
-/// answered exactly where a read of the source failed.
+/// writes its volume file, where it has at most 64 cylinders; nothing is written before all tracks were read. `from-volume`
+/// stores the volume of the source's file into an image of its model and cylinders; nothing is stored before the source was read
+/// to its end. A read fault is answered exactly where a read of the source failed.
 pub fn image_top<S: Source, K: Sink, F: DiskFile>(
     alloc: Global,
     words: &[&str],

@@ -17,14 +17,14 @@ fn open(alloc: Global, fail: &[u32]) -> Result<DiskImage<MemFile>, Fail> {
 
 /// Reads a track of the first cylinder, if that goes well.
 fn read(image: &mut DiskImage<MemFile>, t: TrackNo, into: &mut TrackBuffer) -> Result<bool, Fail> {
-    if t.get() < u16::from(image.layout().cylinders) * 15 {
+    if t.get() < image.layout().cylinders * 15 {
         return Ok(image.read_track(t, into).is_ok());
     }
     Err("track".into())
 }
 
 fn write(image: &mut DiskImage<MemFile>, t: TrackNo, bytes: &[u8]) -> Result<bool, Fail> {
-    if t.get() < u16::from(image.layout().cylinders) * 15 && bytes.len() < 100 {
+    if t.get() < image.layout().cylinders * 15 && bytes.len() < 100 {
         return Ok(image.write_track(t, bytes).is_ok());
     }
     Err("track".into())

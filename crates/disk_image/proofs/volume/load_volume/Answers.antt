@@ -3,7 +3,7 @@ use Rattle.std.proofs.lemmas.Grind.{common_steps}
 use Rattle.std.proofs.lemmas.Result.{err_from_is_err_and}
 use Rattle.std.proofs.lemmas.List.{length-set}
 use Rattle.volume_file.specs.File.{ImageVolume}
-use Rattle.disk_image.proofs.Found.{bad_first, good_push, tracks_push}
+use Rattle.disk_image.proofs.Found.{bad_first, bad_unloaded, good_push, tracks_push}
 use Rattle.disk_image.proofs.volume.load_volume.Goals as goal
 
 pub returns-in_err-image-clause-bad : goal.returns-in_err-image-clause-bad
@@ -12,7 +12,7 @@ returns-in_err-image-clause-bad g c =
     let is : c.unwrap-t.result ≡ c.loop-n.n = grind (arith, common_steps) in
     let inv = c.loop-n.invariant in
     let less : c.loop-n.n < c.args.layout.cylinders * 15 = omega (arith, c.loop-n-test.true, inv.count) in
-    rw (p.1, p.2) (bad_first _ _ c.args.layout c.loop-n.n _ _ inv.held is less inv.good c.in_err-image.ensures.bad)
+    rw (p.1, p.2) (bad_unloaded _ _ _ (bad_first _ _ c.args.layout c.loop-n.n _ _ inv.held is less inv.good c.in_err-image.ensures.bad))
 
 pub set-requires-clause-model : goal.set-requires-clause-model
 set-requires-clause-model g c = c.in_ok-image.ensures.placed.model ∙ sym c.loop-n.invariant.model
