@@ -89,6 +89,12 @@ fn device_on(
     }
 }
 
+/// The same over a volume of empty tracks.
+fn device_on_empty(alloc: Global, plans: PathPlans) -> Result<Device<Watched<MemVolume>>, Fail> {
+    let volume = MemVolume::new(alloc, 1, &[], &[])?;
+    device_on(alloc, volume, plans)
+}
+
 /// A volume of one cylinder whose track 0 has a record.
 fn volume_with_record(alloc: Global) -> Result<MemVolume, Fail>
     ensures { IfOk result (λ volume. length volume.tracks ≡ 15) }
@@ -99,6 +105,11 @@ fn volume_with_record(alloc: Global) -> Result<MemVolume, Fail>
         Ok(()) => Ok(volume),
         Err(_) => Err("not written".into()),
     }
+}
+
+/// A device over it, with no program yet.
+fn device_with_record(alloc: Global) -> Result<Device<Watched<MemVolume>>, Fail> {
+    device_on(alloc, volume_with_record(alloc)?, no_plans(alloc)?)
 }
 
 /// Starts the path's next program.
@@ -167,8 +178,7 @@ fn run_both(
 #[test]
 fn two_programs_over_a_volume_of_the_callers(rt: HostRuntime) -> Result<(), Fail> {
     let path = PathNo::new(1).ok_or("path")?;
-    let volume = MemVolume::new(rt.alloc(), 1, &[], &[])?;
-    let mut device = device_on(rt.alloc(), volume, plans(rt.alloc(), path)?)?;
+    let mut device = device_on_empty(rt.alloc(), plans(rt.alloc(), path)?)?;
     let mut port = CountedRequests::new();
     run_both(&mut device, path, &mut port)
 }
@@ -209,8 +219,7 @@ fn plan_both(
 #[test]
 fn programs_planned_on_an_open_device(rt: HostRuntime) -> Result<(), Fail> {
     let path = PathNo::new(1).ok_or("path")?;
-    let volume = MemVolume::new(rt.alloc(), 1, &[], &[])?;
-    let mut device = device_on(rt.alloc(), volume, no_plans(rt.alloc())?)?;
+    let mut device = device_on_empty(rt.alloc(), no_plans(rt.alloc())?)?;
     let mut port = CountedRequests::new();
     plan_both(&mut device, path, rt.alloc(), &mut port)
 }
@@ -233,8 +242,7 @@ fn read_held(
 #[test]
 fn device_gives_what_its_volume_held(rt: HostRuntime) -> Result<(), Fail> {
     let path = PathNo::new(1).ok_or("path")?;
-    let volume = volume_with_record(rt.alloc())?;
-    let mut device = device_on(rt.alloc(), volume, no_plans(rt.alloc())?)?;
+    let mut device = device_with_record(rt.alloc())?;
     let mut port = CountedRequests::new();
     read_held(&mut device, path, rt.alloc(), &mut port)
 }
