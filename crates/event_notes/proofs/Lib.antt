@@ -1,3 +1,4 @@
 pub mod Counted
 pub mod Loosely
+pub mod OwedEntries
 pub mod Paid

@@ -1,4 +1,5 @@
-ghost use Rattle.std.specs.Prelude.{◌≡◌, ℕ, IfOk, false, not, replicate, slice_set, true};
+ghost use Rattle.std.specs.Prelude.{◌≡◌, ℕ, IfOk, false, is_some, not, replicate, slice_set, true};
+ghost use Rattle.std.specs.Option.{unwrap_or};
 ghost use Rattle.device_defs.specs.Store.{no_debt};
 ghost use Rattle.track_table.specs.Bits.{is_marked};
 ghost use Rattle.event_notes.specs.Debts.{is_paid, owed_in};
@@ -7,28 +8,28 @@ use ckd_types::{NoMemory, TrackNo};
 use device_defs::Owed;
 use std::alloc::Global;
 use std::marker::Model;
-use track_table::{CountedBits, TrackBits};
+use track_table::{TrackBits, TrackTable};
 
 /// What of each track of a device the port wasn't told yet. Contracts see a place for each track. That a track became firm is told
-/// at once, and so is never owed.
+/// at once, and so is never owed. Only a track of which something is owed has an entry.
 #[derive(Debug, Drop)]
 pub struct Debts {
-    owed: Vec<Owed>,
-    /// The tracks of which something is owed.
-    marks: CountedBits,
+    owed: TrackTable<Owed>,
+    tracks: usize,
 }
 
 impl Model for Debts {
-    ghost use Rattle.std.specs.Prelude.{◌≡◌, ℕ, List, false, not};
+    ghost use Rattle.std.specs.Prelude.{◌≡◌, ℕ, List, false, length, min, not};
     ghost use Rattle.device_defs.specs.declared.owed.Owed.{Owed};
-    ghost use Rattle.track_table.specs.Bits.{is_marked};
-    ghost use Rattle.event_notes.specs.Debts.{is_paid, owed_in};
+    ghost use Rattle.track_table.specs.Table.{has_entry};
+    ghost use Rattle.event_notes.specs.Debts.{all_owed, is_paid, owed_by};
 
     ghost Value = { List Owed };
 
-    ghost view = { λ d. d.owed.items };
+    ghost view = { λ d. all_owed d.tracks d.owed };
 
-    ghost invariant = { λ d. ((t : ℕ) → is_marked d.marks t ≡ not (is_paid (owed_in d.owed.items t))) × ((t : ℕ) → (owed_in d.owed.items t).firm ≡ false) };
+    ghost invariant = { λ d. (length d.owed ≡ min d.tracks 65535) × ((t : ℕ) → has_entry d.owed t ≡ not (is_paid (owed_by d.owed t)))
+        × ((t : ℕ) → (owed_by d.owed t).firm ≡ false) };
 }
 
 fn no_debt() -> Owed
@@ -48,15 +49,22 @@ fn is_paid(owed: &Owed) -> bool
     !(owed.modified || owed.dropped || owed.freed.is_some() || owed.firm)
 }
 
+/// The entry of a track: none, where nothing is owed of it.
+fn entry_of(owed: Owed) -> Option<Owed>
+    ensures value { unwrap_or result no_debt ≡ owed }
+    ensures some { is_some result ≡ not (is_paid owed) }
+{
+    if is_paid(&owed) { None } else { Some(owed) }
+}
+
 impl Debts {
     /// Nothing is owed of so many tracks.
     pub fn new(alloc: Global, tracks: usize) -> Result<Debts, NoMemory>
         ensures { IfOk result (λ made. made ≡ replicate tracks no_debt) }
     {
-        Ok(Debts {
-            owed: vec![in alloc; no_debt(); tracks]?,
-            marks: CountedBits::new(alloc)?,
-        })
+        let mut owed = TrackTable::new(alloc)?;
+        owed.reserve(tracks.min(65535))?;
+        Ok(Debts { owed, tracks })
     }
 
     /// What is owed of a track.
@@ -64,11 +72,9 @@ impl Debts {
         ensures value { result ≡ owed_in self.now t }
         ensures firm { result.firm ≡ false }
     {
-        let t = usize::from(t.get());
-        if t < self.owed.len() {
-            self.owed[t]
-        } else {
-            no_debt()
+        match self.owed.get(t) {
+            Some(owed) => *owed,
+            None => no_debt(),
         }
     }
 
@@ -77,31 +83,28 @@ impl Debts {
         requires { owed.firm ≡ false }
         ensures { self.new ≡ slice_set self.old t owed }
     {
-        let place = usize::from(t.get());
-        if place < self.owed.len() {
-            self.marks.set(t, !is_paid(&owed));
-            self.owed[place] = owed;
-        }
+        let _track = t.get();
+        self.owed.exchange(t, entry_of(owed));
     }
 
     /// No track became firm that the keeper wasn't told.
     pub fn no_firm(&self)
         ensures { (t : ℕ) → (owed_in self.now t).firm ≡ false }
     {
-        let _ = &self.marks;
+        let _ = &self.owed;
     }
 
     /// The tracks of which something is owed.
     pub fn tracks(&self) -> &TrackBits
         ensures { (t : ℕ) → is_marked result.now t ≡ not (is_paid (owed_in self.now t)) }
     {
-        self.marks.bits()
+        self.owed.held()
     }
 
     /// Whether it is known that nothing is owed of any track: it is, where nothing is.
     pub fn are_paid(&self) -> bool
         ensures { result ≡ true → (t : ℕ) → owed_in self.now t ≡ no_debt }
     {
-        self.marks.is_empty()
+        self.owed.is_empty()
     }
 }

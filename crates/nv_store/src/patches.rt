@@ -106,16 +106,13 @@ impl Patches {
     }
 
     /// Adds an edit to a track's patch.
-    #[tactic(auto, using(track_table::proofs::Places::set_again))]
     pub fn add(&mut self, t: TrackNo, e: Edit) -> Result<(), NoMemory>
         requires { IsTrue (has_patch self.old t) }
         ensures added { OnOk result (self.new ≡ slice_set self.old t (with_edit e (stored_at self.old t))) }
         ensures same { OnErr result (self.new ≡ self.old) }
     {
-        let mut stored = self.table.exchange(t, None).unwrap();
-        let added = stored.patch.add(e);
-        self.table.exchange(t, Some(stored));
-        added
+        let stored = self.table.entry_mut(t);
+        stored.patch.add(e)
     }
 
     /// Makes room for one more edit of a track's patch, or for a first one. Takes no memory where there is
@@ -133,15 +130,13 @@ impl Patches {
     }
 
     /// Adds an edit to a track's patch, in room that was made. Takes no memory.
-    #[tactic(auto, using(track_table::proofs::Places::set_again))]
     pub fn add_within(&mut self, t: TrackNo, e: Edit, room: &mut EditRoom)
         requires patch { IsTrue (has_patch self.old t) }
         requires room { room_for (stored_at self.old t) ≤ room.old }
         ensures { self.new ≡ slice_set self.old t (with_edit e (stored_at self.old t)) }
     {
-        let mut stored = self.table.exchange(t, None).unwrap();
+        let stored = self.table.entry_mut(t);
         stored.patch.add_within(e, room);
-        self.table.exchange(t, Some(stored));
     }
 
     /// Puts another patch and its slot, or none, into a track's place. Takes no memory: without a

@@ -180,25 +180,22 @@ impl Frames {
 
     /// Makes an edit in a track's frame, in place and in room that was made. The frame keeps its mark. Takes
     /// no memory.
-    #[tactic(auto, using(track_table::proofs::Places::set_again))]
     pub fn edit(&mut self, t: TrackNo, edit: Edit, room: &mut RecordRoom)
         requires suits { SuitsFrame edit (frame_at self.old t) }
         requires room { HasFrameRoom edit (frame_at self.old t) room.old }
         ensures { self.new ≡ slice_set self.old t (edited_frame edit (frame_at self.old t)) }
     {
-        let mut frame = self.exchange(t, None).unwrap();
+        let frame = self.table.entry_mut(t);
         edit_within(&mut frame.image, edit, room);
-        self.exchange(t, Some(frame));
     }
 
     /// Marks a track's frame as modified, or as clean. Without a frame there is nothing to mark.
-    #[tactic(auto, using(track_table::proofs::Places::set_again))]
     pub fn mark(&mut self, t: TrackNo, modified: bool)
         ensures { self.new ≡ slice_set self.old t (with_mark modified (frame_at self.old t)) }
     {
-        if let Some(frame) = self.exchange(t, None) {
-            let image = frame.image;
-            self.exchange(t, Some(Frame { image, modified }));
+        if self.table.has(t) {
+            self.modified.set(t, modified);
+            self.table.entry_mut(t).modified = modified;
         }
     }
 

@@ -1,7 +1,9 @@
 pub mod AskedWords
 pub mod Counts
 pub mod MarkLists
+pub mod Pigeonhole
 pub mod Places
 pub mod Rising
+pub mod SparsePlaces
 pub mod Tracks
 pub mod Words

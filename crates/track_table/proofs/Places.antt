@@ -45,6 +45,6 @@ place_set p xs t q x d there = elim (cases_eq q t) [
 pub set_again : {X : Type 0} (xs : List X) (i : ℕ) (x y : X) → set (set xs i x) i y ≡ set xs i y
 set_again xs i x y = set-set xs i x y
 
--- what was taken is put back
-pub put_back : {X : Type 0} (xs : List X) (i : ℕ) (x y d : X) → y ≡ get_or xs i d → set (set xs i x) i y ≡ xs
-put_back xs i x y d e = set_again xs i x y ∙ ap (λ z. set xs i z) e ∙ set-get_or xs i d
+-- a place that is what it is to become
+pub set_same : {X : Type 0} (xs : List X) (i : ℕ) (x : X) → get_or xs i x ≡ x → xs ≡ set xs i x
+set_same xs i x e = sym (set-get_or xs i x) ∙ ap (λ y. set xs i y) e

@@ -1,4 +1,5 @@
 pub mod Bits
 pub mod Marked
+pub mod Sparse
 pub mod Table
 pub mod Tracks
