@@ -1,5 +1,5 @@
 -- The far volume of a mirror behind the lines of a deck.
-use Rattle.std.proofs.Common.{◌≡◌, ◌≤◌, ◌∙◌, ◌<◌, ◌*◌, ◌^◌, ℕ, List, length, map, Option, Some, Result, Ok, Err, sym, ap, subst, arith}
+use Rattle.std.proofs.Common.{◌≡◌, ◌≤◌, ◌∙◌, ◌<◌, ◌*◌, ◌^◌, ℕ, List, length, map, Option, Some, None, Result, Ok, Err, sym, ap, subst, arith}
 use Rattle.std.specs.Prelude.{IfOk, IfSome}
 use Rattle.std.proofs.lemmas.List.FromFn.{length-map-range_with_len}
 use Rattle.ckd_types.specs.declared.geometry.Geometry.{Geometry}

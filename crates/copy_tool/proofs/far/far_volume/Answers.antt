@@ -7,8 +7,8 @@ use Rattle.copy_tool.proofs.far.far_volume.Goals as goal
 
 pub in_file-requires : goal.in_file-requires
 in_file-requires c =
-    let at = rw c.subsystem.ensures at c.device.ensures in
-    let small = rw at c.requires.small in
+    let there = rw c.subsystem.ensures at c.device.ensures in
+    let small = rw there at c.requires.small in
     subst (λ (n : ℕ). n ≤ 64) (sym c.cylinders-cylinders.ensures) small
 
 pub link_volume-requires-clause-tracks : goal.link_volume-requires-clause-tracks
