@@ -43,6 +43,12 @@ lowest_bit w place v bits some small =
     let tests = and_parts (nat_le place z) (bit_at w z == 1) (sym (bits z lowest.0) ∙ eq-eqb _ _ lowest.1) in
     record { reached = leb-true _ _ tests.0; inside = lowest.0; set = tests.1; least = lowest.2 }
 
+pub zero_bit : (x : ℕ) → x < 2 → (x == 1) ≡ false → x ≡ 0
+zero_bit x lt not_one = elim (cases_eq x 1) [
+  | inl one ↦ absurd (false≢true (sym not_one ∙ eq-eqb x 1 one))
+  | inr other ↦ omega (arith, lt, other)
+]
+
 -- ---- the next word
 
 -- before the place of its first bit a group has no mark
@@ -57,14 +63,8 @@ none_before p k w v z group from few none q low high =
     let small : i < 64 = omega arith in
     let reached : nat_le (k % 64) i ≡ true = le-leb _ _ (omega (arith, low, high, few)) in
     let unset : (bit_at w i == 1) ≡ false = sym (rw (none i before, reached) at (from i small)) in
-    let zero' : bit_at w i ≡ 0 = zero_by (bit_at w i) (bit_at-lt w i) unset in
+    let zero' : bit_at w i ≡ 0 = zero_bit (bit_at w i) (bit_at-lt w i) unset in
     rw (word, place) at (group i (q % 64) small (omega arith) zero')
-  where
-    zero_by : (x : ℕ) → x < 2 → (x == 1) ≡ false → x ≡ 0
-    zero_by x lt not_one = elim (cases_eq x 1) [
-      | inl one ↦ absurd (false≢true (sym not_one ∙ eq-eqb x 1 one))
-      | inr other ↦ omega (arith, lt, other)
-    ]
 
 pub none_joined : (p : ℕ → Bool) (a b c : ℕ) → NoneIn p a b → NoneIn p b c → NoneIn p a c
 none_joined p a b c first rest q low high = elim (cases_lt q b) [ inl front ↦ first q low front | inr behind ↦ rest q behind high ]
@@ -170,13 +170,23 @@ both_zero x y none lx ly b c f g = elim (cases_eq x 0) [
     and_none true = refl
     and_none false = refl
 
--- a bit that both groups need
-pub and_group : (p q : ℕ → Bool) (j v w : ℕ) → IsGroup p j v → IsGroup q j w → IsGroup (λ t. p t && q t) j (bit_and v w)
-and_group p q j v w one other i x small below none =
-    both_zero (bit_at v i) (bit_at w i) (sym (bit_at_and v w i) ∙ none) (bit_at-lt v i) (bit_at-lt w i) _ _ (one i x small below) (other i x small below)
+-- a bit that both need
+pub and_none : (v w i : ℕ) (b c : Bool) → (bit_at v i ≡ 0 → b ≡ false) → (bit_at w i ≡ 0 → c ≡ false) → bit_at (bit_and v w) i ≡ 0 → (b && c) ≡ false
+and_none v w i b c one other none = both_zero (bit_at v i) (bit_at w i) (sym (bit_at_and v w i) ∙ none) (bit_at-lt v i) (bit_at-lt w i) b c one other
 
--- a bit of one of both groups
-pub or_group : (p q : ℕ → Bool) (j v w : ℕ) → IsGroup p j v → IsGroup q j w → IsGroup (λ t. p t || q t) j (bit_or v w)
-or_group p q j v w one other i x small below none =
+-- a bit of one of both
+pub or_none : (v w i : ℕ) (b c : Bool) → (bit_at v i ≡ 0 → b ≡ false) → (bit_at w i ≡ 0 → c ≡ false) → bit_at (bit_or v w) i ≡ 0 → (b || c) ≡ false
+or_none v w i b c one other none =
     let most : max (bit_at v i) (bit_at w i) ≡ 0 = sym (bit_at_or v w i) ∙ none in
-    rw (one i x small below (omega (arith, most)), other i x small below (omega (arith, most))) refl
+    rw (one (omega (arith, most)), other (omega (arith, most))) refl
+
+-- the least group that may have a mark, from one on
+pub none_in_groups : (p : ℕ → Bool) (w v from to : ℕ) → ((j q : ℕ) → j < 16 → q < 4096 → bit_at w j ≡ 0 → p (4096 * j + q) ≡ false) →
+    FromPlace w from v → to ≤ 16 → ((j : ℕ) → j < to → bit_at v j ≡ 0) → NoneIn p (4096 * from) (4096 * to)
+none_in_groups p w v from to groups bits few none q low high =
+    let j = q / 4096 in
+    let place : 4096 * j + q % 4096 ≡ q = omega arith in
+    let inside : j < to = omega (arith, high) in
+    let reached : nat_le from j ≡ true = le-leb _ _ (omega (arith, low)) in
+    let unset : (bit_at w j == 1) ≡ false = sym (rw (none j inside, reached) at (bits j (omega (arith, inside, few)))) in
+    rw place at (groups j (q % 4096) (omega (arith, inside, few)) (omega arith) (zero_bit (bit_at w j) (bit_at-lt w j) unset))

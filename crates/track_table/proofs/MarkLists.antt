@@ -6,10 +6,10 @@ use Rattle.std.proofs.Math.ListN.{set}
 use Rattle.std.proofs.lemmas.Bool.{cases_eq, cases_lt, eq-eqb, ne_eqb, false≢true}
 use Rattle.std.proofs.lemmas.List.{length-set, length-replicate, get_or-set_same, get_or-set_other, get_or_past, ext_get_or}
 use Rattle.std.proofs.lemmas.List.FromFn.{length-map-range_with_len, get_or-map-range_with_len}
-use Rattle.std.proofs.lemmas.Nat.Bits.{bit_at-zero}
+use Rattle.std.proofs.lemmas.Nat.Bits.{bit_at-zero, bit_at-lt}
 use Rattle.track_table.specs.Bits.{is_set, marks_of, is_marked}
 use Rattle.track_table.proofs.Places.{empty_places, place_set}
-use Rattle.track_table.proofs.AskedWords.{IsWord, IsGroup, NoneLast}
+use Rattle.track_table.proofs.AskedWords.{IsWord, IsGroup, NoneLast, zero_bit}
 
 -- ---- one mark
 
@@ -67,6 +67,17 @@ group_is words used j whole last inside unused i x small below none =
     let here : (64 * k + x) / 64 ≡ k = omega (arith, below) in
     marked_is words (64 * k + x) whole last ∙ rw (here, empty) (no_bit ((64 * k + x) % 64))
 
+-- groups without a bit have no mark
+pub groups_are : (words used : List ℕ) (groups : ℕ) → length words ≡ 1024 → is_set words 65535 ≡ false →
+    ((k : ℕ) → k < 1024 → is_set used k ≡ false → get_or words k 0 ≡ 0) → ((j : ℕ) → j < 16 → bit_at groups j ≡ 0 → get_or used j 0 ≡ 0) →
+    (j q : ℕ) → j < 16 → q < 4096 → bit_at groups j ≡ 0 → is_marked (marks_of words) (4096 * j + q) ≡ false
+groups_are words used groups whole last unused empty j q inside below none =
+    let k = 64 * j + q / 64 in
+    let word : (4096 * j + q) / 64 ≡ k = omega arith in
+    let group : k / 64 ≡ j = omega (arith, below) in
+    let unset : is_set used k ≡ false = rw (group, empty j inside none) (no_bit (k % 64)) in
+    marked_is words (4096 * j + q) whole last ∙ rw (word, unused k (omega (arith, inside, below)) unset) (no_bit ((4096 * j + q) % 64))
+
 -- one bit of one word changed
 pub set_word : (words : List ℕ) (t q w : ℕ) (m : Bool) → t / 64 < length words →
     ((i : ℕ) → i < 64 → (bit_at w i == 1) ≡ cond (i == t % 64) m (bit_at (get_or words (t / 64) 0) i == 1))
@@ -99,6 +110,9 @@ marks_set words t w m whole last below bits = same_marks _ _ (length_marks (set 
     ∙ ap (λ (b : Bool). cond (q == t) m b) (sym (marked_is words q whole last))
     ∙ sym (place_set (λ (x : Bool). x) (marks_of words) t q m false (omega (arith, below, length_marks words))))
 
+zero_by : {w : ℕ} → not (w == 0) ≡ false → w ≡ 0
+zero_by {w} empty = elim (cases_eq w 0) [ inl e ↦ e | inr e ↦ absurd (false≢true (sym empty ∙ rw (ne_eqb w 0 e) refl)) ]
+
 -- a word changed, with its bit among the words
 pub used_set : (words used : List ℕ) (n w u : ℕ) → length words ≡ 1024 → length used ≡ 16 → n < 1024 →
     ((k : ℕ) → k < 1024 → is_set used k ≡ false → get_or words k 0 ≡ 0) →
@@ -118,8 +132,15 @@ used_set words used n w u whole groups inside unused bits k below unset = elim (
     is : is_set (set used (n / 64) u) k ≡ cond (k == n) (not (w == 0)) (is_set used k)
     is = set_word used n k u (not (w == 0)) (omega (arith, groups, inside)) bits
 
-    zero_by : not (w == 0) ≡ false → w ≡ 0
-    zero_by empty = elim (cases_eq w 0) [ inl e ↦ e | inr e ↦ absurd (false≢true (sym empty ∙ rw (ne_eqb w 0 e) refl)) ]
+-- a group changed, with its bit among the groups
+pub groups_set : (used : List ℕ) (groups n u w : ℕ) → length used ≡ 16 → n < 16 → ((j : ℕ) → j < 16 → bit_at groups j ≡ 0 → get_or used j 0 ≡ 0) →
+    ((i : ℕ) → i < 64 → (bit_at w i == 1) ≡ cond (i == n) (not (u == 0)) (bit_at groups i == 1)) →
+    (j : ℕ) → j < 16 → bit_at w j ≡ 0 → get_or (set used n u) j 0 ≡ 0
+groups_set used groups n u w whole inside empty bits j below none = elim (cases_eq j n) [
+  | inl e ↦ rw e (get_or-set_same used n u 0 (omega (arith, whole, inside)) ∙ zero_by (sym (rw (none, eq-eqb j n e) at (bits j (omega (arith, below))))))
+  | inr other ↦ get_or-set_other used n j u 0 other
+      ∙ empty j below (zero_bit (bit_at groups j) (bit_at-lt groups j) (sym (rw (none, ne_eqb j n other) at (bits j (omega (arith, below))))))
+]
 
 -- words of which the first n are zeros
 pub one_more_zero : (words : List ℕ) (n : ℕ) → ((k : ℕ) → k < n → get_or words k 0 ≡ 0) → n < length words →

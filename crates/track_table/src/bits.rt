@@ -18,10 +18,13 @@ pub struct TrackBits {
     words: Vec<u64>,
     /// A bit for each word: one without it has no mark.
     used: [u64; 16],
+    /// A bit for each of these groups of 64 words: one without it has no mark.
+    groups: u64,
 }
 
 impl Model for TrackBits {
     ghost use Rattle.std.specs.Prelude.{◌≡◌, ℕ, ◌<◌, Bool, List, false, length, slice_index_or};
+    ghost use Rattle.std.specs.Int.{bit_at};
     ghost use Rattle.track_table.specs.Bits.{is_set, marks_of};
 
     ghost Value = { List Bool };
@@ -29,7 +32,8 @@ impl Model for TrackBits {
     ghost view = { λ b. marks_of b.words.items };
 
     ghost invariant = { λ b. (length b.words.items ≡ 1024) × (is_set b.words.items 65535 ≡ false) ×
-        ((k : ℕ) → k < 1024 → is_set b.used k ≡ false → slice_index_or b.words.items k 0 ≡ 0) };
+        ((k : ℕ) → k < 1024 → is_set b.used k ≡ false → slice_index_or b.words.items k 0 ≡ 0) ×
+        ((j : ℕ) → j < 16 → bit_at b.groups j ≡ 0 → slice_index_or b.used j 0 ≡ 0) };
 }
 
 /// A word with another bit at a place.
@@ -75,6 +79,10 @@ impl<'a> Marks for &'a TrackBits {
     fn group(&self, j: usize) -> u64 {
         self.used[j]
     }
+
+    fn groups(&self) -> u64 {
+        self.groups
+    }
 }
 
 impl TrackBits {
@@ -85,6 +93,7 @@ impl TrackBits {
         Ok(TrackBits {
             words: vec![in alloc; 0; WORDS]?,
             used: [0; 16],
+            groups: 0,
         })
     }
 
@@ -105,7 +114,9 @@ impl TrackBits {
         let k = usize::from(t / 64);
         let word = with_bit(self.words[k], u32::from(t % 64), marked);
         self.words[k] = word;
-        self.used[k / 64] = with_bit(self.used[k / 64], (k % 64) as u32, word != 0);
+        let used = with_bit(self.used[k / 64], (k % 64) as u32, word != 0);
+        self.used[k / 64] = used;
+        self.groups = with_bit(self.groups, (k / 64) as u32, used != 0);
     }
 
     /// No track is marked any more.
@@ -116,6 +127,7 @@ impl TrackBits {
             self.words[k] = 0;
         }
         self.used = [0; 16];
+        self.groups = 0;
     }
 
     /// The number of marked tracks.

@@ -8,6 +8,9 @@ use ckd_types::TrackNo;
 /// The words of the largest device's tracks, of 64 tracks each.
 pub(crate) const WORDS: usize = 1024;
 
+/// The groups of these words, of 64 words each.
+const GROUPS: usize = 16;
+
 /// Marks of tracks that are asked by the word, of 64 tracks: so what is marked in both of two sets, or in one of them, is known
 /// without a third one.
 pub trait Marks {
@@ -24,6 +27,10 @@ pub trait Marks {
         requires { j < 16 }
         ensures words { (i p : ℕ) → i < 64 → p < 64 → bit_at result i ≡ 0 → marked self.now (64 * (64 * j + i) + p) ≡ false }
         ensures last { (q : ℕ) → 65535 ≤ q → marked self.now q ≡ false };
+
+    /// Which of the 16 groups of 64 words may have a mark.
+    fn groups(&self) -> u64
+        ensures { (j q : ℕ) → j < 16 → q < 4096 → bit_at result j ≡ 0 → marked self.now (4096 * j + q) ≡ false };
 }
 
 /// The tracks that are marked here and there.
@@ -42,6 +49,10 @@ impl<A: Marks, B: Marks> Marks for And<A, B> {
 
     fn group(&self, j: usize) -> u64 {
         self.one.group(j) & self.other.group(j)
+    }
+
+    fn groups(&self) -> u64 {
+        self.one.groups() & self.other.groups()
     }
 }
 
@@ -62,6 +73,10 @@ impl<A: Marks, B: Marks> Marks for Or<A, B> {
     fn group(&self, j: usize) -> u64 {
         self.one.group(j) | self.other.group(j)
     }
+
+    fn groups(&self) -> u64 {
+        self.one.groups() | self.other.groups()
+    }
 }
 
 /// The tracks that are marked here and not there.
@@ -81,6 +96,10 @@ impl<A: Marks, B: Marks> Marks for Without<A, B> {
     fn group(&self, j: usize) -> u64 {
         self.one.group(j)
     }
+
+    fn groups(&self) -> u64 {
+        self.one.groups()
+    }
 }
 
 /// The bits of a word from a place on.
@@ -99,6 +118,20 @@ pub(crate) fn track(k: usize, place: u32) -> TrackNo
     TrackNo::new((64 * k) as u16 + place as u16).unwrap()
 }
 
+/// The least group from one on that may have a mark, or that none has.
+fn next_group<M: Marks>(marks: &M, from: usize) -> usize
+    requires { from ≤ 16 }
+    ensures least { from ≤ result }
+    ensures most { result ≤ 16 }
+    ensures none { (q : ℕ) → 4096 * from ≤ q → q < 4096 * result → M.marked marks.now q ≡ false }
+{
+    let groups = bits_from(marks.groups(), from as u32);
+    if groups == 0 {
+        return GROUPS;
+    }
+    (groups.trailing_zeros() as usize).min(GROUPS)
+}
+
 /// The least word from one on that may have a mark, or that none has.
 pub(crate) fn next_word<M: Marks>(marks: &M, from: usize) -> usize
     requires { from ≤ 1024 }
@@ -113,7 +146,7 @@ pub(crate) fn next_word<M: Marks>(marks: &M, from: usize) -> usize
         if group != 0 {
             return k / 64 * 64 + group.trailing_zeros() as usize;
         }
-        k = (k / 64 + 1) * 64;
+        k = 64 * next_group(marks, k / 64 + 1);
     }
     WORDS
 }

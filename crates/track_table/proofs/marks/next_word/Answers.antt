@@ -19,11 +19,15 @@ loop-k-preserved g c =
     let p = g.M.Marks.marked c.args.marks.now in
     let none = none_before p l.k c.group.result c.bits_from-group.result 64 c.group.ensures.words c.bits_from-group.ensures
     (omega arith) (λ i below. rw c.if-group-ne0.false (bit_at-zero i)) in
-    let end : 64 * (l.k / 64 * 64 + 64) ≡ 64 * ((l.k / 64 + 1) * 64) = omega arith in
+    let n = c.next_group-k.result in
+    let end : 64 * (l.k / 64 * 64 + 64) ≡ 4096 * (l.k / 64 + 1) = omega arith in
+    let start : 4096 * n ≡ 64 * (64 * n) = omega arith in
+    let here = rw end at (none_joined p (64 * c.args.from) (64 * l.k) (64 * (l.k / 64 * 64 + 64)) l.invariant.none none) in
+    let past = c.next_group-k.ensures in
     record {
-      least = omega (arith, l.invariant.least);
-      most = omega (arith, c.loop-k-test.true);
-      none = rw end at (none_joined p (64 * c.args.from) (64 * l.k) (64 * (l.k / 64 * 64 + 64)) l.invariant.none none);
+      least = omega (arith, l.invariant.least, past.least);
+      most = omega (arith, past.most);
+      none = rw start at (none_joined p (64 * c.args.from) (4096 * (l.k / 64 + 1)) (4096 * n) here past.none);
       last = λ less. c.group.ensures.last;
     }
 

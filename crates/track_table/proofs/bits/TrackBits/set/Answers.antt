@@ -4,11 +4,11 @@ use Rattle.std.proofs.lemmas.Grind.{get_or_default_zero}
 use Rattle.std.proofs.lemmas.List.{length-set}
 use Rattle.track_table.specs.Bits.{marks_of, is_marked}
 use Rattle.track_table.proofs.Places.{place_set}
-use Rattle.track_table.proofs.MarkLists.{marks_set, length_marks, last_kept, used_set}
+use Rattle.track_table.proofs.MarkLists.{marks_set, length_marks, last_kept, used_set, groups_set}
 use Rattle.track_table.proofs.bits.TrackBits.set.Goals as goal
 
 -- the bits of the word that was changed
-bits_of : (c : goal.After-with_bit) → (i : ℕ) → i < 64 → (bit_at c.with_bit-word.result i == 1)
+bits_of : (c : goal.After-self-2-1) → (i : ℕ) → i < 64 → (bit_at c.with_bit-word.result i == 1)
     ≡ cond (i == c.args.t % 64) c.args.marked (bit_at (get_or c.self.inside.words.items (c.args.t / 64) 0) i == 1)
 bits_of c =
     let words = c.self.inside.words.items in
@@ -26,8 +26,10 @@ invariant_of-self c =
     rw (c.from-k.ensures, c.get-t.ensures.value) (
       length-set words (c.args.t / 64) c.with_bit-word.result ∙ c.self.invariant.0,
       last_kept words c.args.t c.with_bit-word.result c.args.marked c.self.invariant.0 c.self.invariant.1 below bits,
-      used_set words c.self.inside.used (c.args.t / 64) c.with_bit-word.result c.with_bit.result c.self.invariant.0 (search rules)
-          (omega (arith, below)) c.self.invariant.2 (rw (c.from-k.ensures, c.get-t.ensures.value) at c.with_bit.ensures),
+      used_set words c.self.inside.used (c.args.t / 64) c.with_bit-word.result c.with_bit-used.result c.self.invariant.0 (search rules)
+          (omega (arith, below)) c.self.invariant.2 (rw (c.from-k.ensures, c.get-t.ensures.value) at c.with_bit-used.ensures),
+      groups_set c.self.inside.used c.self.inside.groups (c.args.t / 64 / 64) c.with_bit-used.result c.with_bit-self-inside.result (search rules)
+          (omega (arith, below)) c.self.invariant.3 (rw (c.from-k.ensures, c.get-t.ensures.value) at c.with_bit-self-inside.ensures),
     )
 
 pub returns-clause-marks : goal.returns-clause-marks

@@ -1,11 +1,10 @@
 use Rattle.std.proofs.Common.{refl}
-use Rattle.track_table.proofs.AskedWords.{and_group}
+use Rattle.track_table.proofs.AskedWords.{and_none}
 use Rattle.track_table.proofs.marks.AndMarks.group.Goals as goal
 
 pub returns-clause-words : goal.returns-clause-words
-returns-clause-words g c =
-    and_group (g.A.Marks.marked c.args.self.now.one) (g.B.Marks.marked c.args.self.now.other) c.args.j
-    c.group.result c.group-2.result c.group.ensures.words c.group-2.ensures.words
+returns-clause-words g c = λ i p small below.
+    and_none c.group.result c.group-2.result i _ _ (c.group.ensures.words i p small below) (c.group-2.ensures.words i p small below)
 
 pub returns-clause-last : goal.returns-clause-last
 returns-clause-last g c = λ q past. rw (c.group.ensures.last q past) refl
