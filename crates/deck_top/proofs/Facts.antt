@@ -12,8 +12,8 @@ use Rattle.deck_text.specs.Canonical.{canonical}
 use Rattle.deck_text.specs.Parse.{parsed}
 use Rattle.deck_text.specs.Texts.{limit_text, refused_text}
 use Rattle.device_outside.specs.Bay.{Bay}
-use Rattle.report_laws.specs.Plainly.{IsPlainReport}
-use Rattle.report_laws.proofs.PlainReports.{report_is_plain}
+use Rattle.run_report.specs.Plainly.{IsPlainReport}
+use Rattle.run_report.proofs.shown.PlainReports.{report_is_plain}
 use Rattle.report_text.specs.Summary.{summary_text}
 use Rattle.run_report.specs.Report.{report_of}
 use Rattle.run_report.specs.Summed.{summary_of}

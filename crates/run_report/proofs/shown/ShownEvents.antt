@@ -16,8 +16,8 @@ use Rattle.report_text.specs.declared.event.Happened.{Happened}
 use Rattle.report_text.specs.declared.line.ReportLine.{ReportLine}
 use Rattle.report_text.specs.Events.{first_lines}
 use Rattle.run_report.specs.Shown.{shown_from}
-use Rattle.report_laws.proofs.Histories.{HistoryShows, same_shows}
-use Rattle.report_laws.proofs.Places.{devices, At, One, at_same, at_then, at_weaker, one_behind, put_at, swept_at, ShowsSo}
+use Rattle.run_report.proofs.shown.Histories.{HistoryShows, same_shows}
+use Rattle.run_report.proofs.shown.Places.{devices, At, One, at_same, at_then, at_weaker, one_behind, put_at, swept_at, ShowsSo}
 use Rattle.subsystem_defs.specs.declared.end.EventEnd.{EventEnd}
 use Rattle.subsystem_defs.specs.declared.end.EventEnd.TheVariants as ends
 use Rattle.subsystem_defs.specs.Decks.{Firsts}

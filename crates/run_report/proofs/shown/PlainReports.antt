@@ -19,9 +19,9 @@ use Rattle.subsystem_defs.specs.Subsystem.{Mounted}
 use Rattle.subsystem_laws.specs.Causes.{EachPair}
 use Rattle.subsystem_laws.proofs.PlainRuns.{PlainlyFrom, ArePlainOn, empty_whole, plain_behind_on}
 use Rattle.subsystem_laws.proofs.ReadDecks.{read_served}
-use Rattle.report_laws.specs.Plainly.{ShowsPlainDeviceOn, IsPlainReport, IsPlainReportOn}
-use Rattle.report_laws.proofs.SameDevices.{IsOne, run_keeps_devices}
-use Rattle.report_laws.proofs.ShownRuns.{read_runs_plainly}
+use Rattle.run_report.specs.Plainly.{ShowsPlainDeviceOn, IsPlainReport, IsPlainReportOn}
+use Rattle.run_report.proofs.shown.SameDevices.{IsOne, run_keeps_devices}
+use Rattle.run_report.proofs.shown.ShownRuns.{read_runs_plainly}
 
 module _ (firsts : Firsts) (deck : DeckLines) (ls : List ReportLine) where
   one_plain : (l : DeviceLine) (p : Mounted) → IsOne (opened_device_on firsts deck l).device p.device → PlainlyFrom firsts p.device →

@@ -1,9 +1,9 @@
-//! The laws.
+//! Laws of what the report of a run shows of each device's history.
 
 ghost use Rattle.std.specs.Prelude.{◌≡◌, ℕ, List, Ok};
 ghost use Rattle.deck_text.specs.DeckLines.{DeckLines};
 ghost use Rattle.deck_text.specs.Parse.{parsed};
-ghost use Rattle.report_laws.specs.Plainly.{IsPlainReportOn};
+ghost use Rattle.run_report.specs.Plainly.{IsPlainReportOn};
 ghost use Rattle.report_text.specs.Ends.{lines_text};
 ghost use Rattle.run_report.specs.Report.{report_lines};
 ghost use Rattle.run_report.specs.Shown.{DeckRunsPlainly, DeckRunsPlainlyOn};

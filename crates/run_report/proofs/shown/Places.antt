@@ -11,8 +11,8 @@ use Rattle.report_text.specs.Events.{program_over_lines}
 use Rattle.run_report.specs.Beside.{over_of, over_lines}
 use Rattle.run_report.specs.Shown.{history_lines}
 use Rattle.run_report.specs.Showing.{lines_by_history}
-use Rattle.report_laws.proofs.Histories.{HistoryShows}
-use Rattle.report_laws.proofs.Lines.{overs_of}
+use Rattle.run_report.proofs.shown.Histories.{HistoryShows}
+use Rattle.run_report.proofs.shown.Lines.{overs_of}
 use Rattle.subsystem_defs.specs.Beside.{new_items}
 use Rattle.subsystem_defs.specs.Decks.{Firsts}
 use Rattle.subsystem_defs.specs.Deeds.{device_in}

@@ -45,7 +45,7 @@ use Rattle.report_text.specs.Counting.{is_accepted}
 use Rattle.run_report.specs.Shown.{shown_from}
 use Rattle.run_report.proofs.HistoryShown.{start_shows}
 use Rattle.run_report.proofs.OneDevice.{none_behind}
-use Rattle.report_laws.proofs.Histories.{
+use Rattle.run_report.proofs.shown.Histories.{
   HistoryShows,
   shows_by,
   same_shows,
@@ -55,9 +55,9 @@ use Rattle.report_laws.proofs.Histories.{
   reset_shows,
   power_is_shown,
 }
-use Rattle.report_laws.proofs.Lines.{IsOther, other_shows, ended_shown, started_shown}
-use Rattle.report_laws.proofs.Places.{devices}
-use Rattle.report_laws.proofs.ShownEvents.{says, Silent, Shows, kept, Answered, ShowsDeed}
+use Rattle.run_report.proofs.shown.Lines.{IsOther, other_shows, ended_shown, started_shown}
+use Rattle.run_report.proofs.shown.Places.{devices}
+use Rattle.run_report.proofs.shown.ShownEvents.{says, Silent, Shows, kept, Answered, ShowsDeed}
 use Rattle.subsystem_defs.specs.declared.end.EventEnd.{EventEnd}
 use Rattle.subsystem_defs.specs.declared.end.EventEnd.TheVariants as ends
 use Rattle.subsystem_defs.specs.Decks.{Firsts}

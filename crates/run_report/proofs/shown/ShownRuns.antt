@@ -66,9 +66,9 @@ use Rattle.run_report.specs.Report.{report_lines}
 use Rattle.run_report.specs.Shown.{shown_from, shown_of, history_lines, ShowsHistory, DeckRunsPlainlyOn}
 use Rattle.run_report.specs.Showing.{lines_by_history, lines_in, ShowsEvent, AreShown}
 use Rattle.run_report.proofs.Showing.{report_shows}
-use Rattle.report_laws.proofs.Histories.{HistoryShows, same_shows, emptied_shows}
-use Rattle.report_laws.proofs.Lines.{IsOther, work_shows, power_shows}
-use Rattle.report_laws.proofs.Places.{
+use Rattle.run_report.proofs.shown.Histories.{HistoryShows, same_shows, emptied_shows}
+use Rattle.run_report.proofs.shown.Lines.{IsOther, work_shows, power_shows}
+use Rattle.run_report.proofs.shown.Places.{
   devices,
   Apart,
   apart_none,
@@ -90,8 +90,8 @@ use Rattle.report_laws.proofs.Places.{
   restored_at,
   at_shows,
 }
-use Rattle.report_laws.proofs.ShownDeeds.{start_shown, step_shown, back_shown, quiet_becomes, quiet_reset, quiet_loss, all_lose, all_power}
-use Rattle.report_laws.proofs.ShownEvents.{says, Silent, Shows, kept, same_kept, ShowsDeed, happens_at, before_same}
+use Rattle.run_report.proofs.shown.ShownDeeds.{start_shown, step_shown, back_shown, quiet_becomes, quiet_reset, quiet_loss, all_lose, all_power}
+use Rattle.run_report.proofs.shown.ShownEvents.{says, Silent, Shows, kept, same_kept, ShowsDeed, happens_at, before_same}
 use Rattle.subsystem_defs.specs.declared.end.EventEnd.{EventEnd}
 use Rattle.subsystem_defs.specs.declared.end.EventEnd.TheVariants as ends
 use Rattle.subsystem_defs.specs.declared.end.OrderFault.{OrderFault}
