@@ -1,0 +1,7 @@
+pub mod Items
+pub mod Histories
+pub mod Plans
+pub mod Planning
+pub mod Along
+pub mod Starts
+pub mod Events

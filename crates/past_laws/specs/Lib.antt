@@ -1,0 +1,2 @@
+pub mod PutAway
+pub mod WithPast
