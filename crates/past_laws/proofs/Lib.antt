@@ -5,3 +5,6 @@ pub mod Planning
 pub mod Along
 pub mod Starts
 pub mod Events
+pub mod Stubs
+pub mod Journals
+pub mod Forgetting

@@ -45,11 +45,12 @@ whole_plan w plans path = planned w.programs path ++ drop (length (planned w.kep
 abbrev pub whole_plans : PutAway → Plans → Plans
 whole_plans w plans = whole_plan w plans 1 ∷ whole_plan w plans 2 ∷ whole_plan w plans 3 ∷ whole_plan w plans 4 ∷ []
 
--- of a path: what is kept tells of its use what was put away told, and counts the programs that are kept for it
+-- of a path: what is kept tells of its use what was put away told, counts the programs that are kept for it, and is some where programs were put away
 pub record StandsFor (w : PutAway) (path : ℕ) : Type 0 where
   pub used : is_used path false w.stubs ≡ is_used path false w.items
   pub away : count_by (is_of_path path) w.items ≡ length (planned w.programs path)
   pub kept : count_by (is_of_path path) w.stubs ≡ length (planned w.kept path)
+  pub some : length (planned w.kept path) ≡ 0 → length (planned w.programs path) ≡ 0
 
 -- this is what was put away of a device with these plans, which begin with the programs that are kept, and with this history
 pub record IsPutAway (w : PutAway) (plans : Plans) (h : History) : Type 0 where
