@@ -16,6 +16,7 @@ pub mod Eventful
 pub mod Losing
 pub mod Halves
 pub mod Lending
+pub mod WholePasts
 pub mod Promising
 pub mod Ordering
 pub mod FastWrites

@@ -12,7 +12,7 @@ use Rattle.plain_defs.specs.Legal.{IsLegal, is_of_path, is_started, is_used}
 use Rattle.plain_defs.specs.PlainState.{PlainState}
 use Rattle.device_defs.specs.Device.{Device}
 use Rattle.device_defs.specs.Start.{started_count}
-use Rattle.past_laws.specs.Forgotten.{forgotten, left_of, plans_left, stubs_of}
+use Rattle.past_laws.specs.Forgotten.{forgotten, kept_of, left_of, plans_left, put_away, stubs_of, taken_of}
 use Rattle.past_laws.specs.PutAway.{IsPutAway, PutAway, StandsFor, whole_entry, whole_history, whole_item, whole_items, whole_plan, whole_plans}
 use Rattle.past_laws.specs.WithPast.{with_past}
 use Rattle.past_laws.proofs.Items.{count_kept, count_whole, started_whole, used_whole}
@@ -48,19 +48,13 @@ module _ {F P H : Type 0} (w : PutAway) (d : Device F P H) (away : IsPutAway w d
   started = started_count d.history
 
   abbrev taken : ℕ → List (List Ccw)
-  taken path = take (count_by (is_of_path path) items) (whole_plan w d.plans path)
+  taken = taken_of w d
 
   abbrev kept : ℕ → List (List Ccw)
-  kept path = take (min (started path) 1) (left_of d.history d.plans path)
+  kept = kept_of d
 
-  -- what is put away then
-  abbrev pub now : PutAway
-  now = record {
-    items = items;
-    programs = taken 1 ∷ taken 2 ∷ taken 3 ∷ taken 4 ∷ [];
-    stubs = stubs_of d.history;
-    kept = kept 1 ∷ kept 2 ∷ kept 3 ∷ kept 4 ∷ [];
-  }
+  abbrev now : PutAway
+  now = put_away w d
 
   abbrev paths : Four
   paths = record { none = λ path. started path == 0; used = has_used d.history }
@@ -165,7 +159,7 @@ module _ {F P H : Type 0} (w : PutAway) (d : Device F P H) (away : IsPutAway w d
           let zeros : length (planned w.programs s.path) ≡ 0 = (away.paths s.path s.least s.most).some (omega (arith, e, here s.path s.least s.most)) in
           omega (arith, e, here s.path s.least s.most, all s.path s.least s.most, zeros, s.some)
 
-  pub forgotten_away : IsPutAway now (forgotten d).plans (forgotten d).history
+  pub forgotten_away : IsPutAway (put_away w d) (forgotten d).plans (forgotten d).history
   forgotten_away = record {
     later = [];
     items = sym (append-nil (stubs_of d.history));
@@ -187,7 +181,7 @@ module _ {F P H : Type 0} (w : PutAway) (d : Device F P H) (away : IsPutAway w d
   items_again : whole_items now (stubs_of d.history) ≡ items
   items_again = ap (λ (xs : List Item). items ++ map (whole_item now) xs) (drop-length (stubs_of d.history)) ∙ append-nil items
 
-  pub forgotten_whole : with_past now (forgotten d) ≡ with_past w d
+  pub forgotten_whole : with_past (put_away w d) (forgotten d) ≡ with_past w d
   forgotten_whole =
       ap (λ (plans : Plans). record (with_past now (forgotten d)) { plans = plans }) plans_again
       ∙ ap (λ (xs : List Item). record d {
