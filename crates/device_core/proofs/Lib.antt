@@ -24,3 +24,4 @@ pub mod Away
 pub mod Planned
 pub mod StaleTracks
 pub mod Marked
+pub mod Forgetting

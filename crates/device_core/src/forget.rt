@@ -1,7 +1,7 @@
-ghost use Rattle.std.specs.Prelude.{◌≡◌, ◌==◌, ◌&&◌, ◌≤◌, ◌+◌, ◌-◌, ◌++◌, [], IfOk, IfSome, None, OnErr, OnOk, is_some, length, min, option_map, slice_set, ℕ};
+ghost use Rattle.std.specs.Prelude.{◌≡◌, ◌==◌, ◌&&◌, ◌≤◌, ◌+◌, ◌-◌, ◌++◌, [], IfOk, IfSome, None, OnErr, OnOk, is_some, length, map, option_map, slice_set, ℕ};
 ghost use Rattle.deck_plan.specs.Plans.{plan_of};
 ghost use Rattle.past_laws.specs.Forgotten.{forgotten, left_of, plans_left, stub, stub_by, stubs_of};
-ghost use Rattle.device_core.specs.Forgetting.{any_started, refused_told};
+ghost use Rattle.device_core.specs.Forgetting.{any_started, one_kept, refused_told};
 ghost use Rattle.device_core.specs.Kept.{ActRoom, Keeps, history_of, open_of};
 ghost use Rattle.device_core.specs.Promises.{ForgetsNothing};
 ghost use Rattle.device_core.specs.State.{device_of};
@@ -56,12 +56,16 @@ fn push_stub(alloc: Global, items: &mut Log, kept: &KeptPath, path: PathNo)
     items.push(Item::Reset(path));
 }
 
-impl KeptPath {
-    /// Of its programs one is kept, where it started any.
-    fn forget(&mut self)
-        ensures { self.new ≡ record self.old { started = min self.old.started 1 } }
-    {
-        self.started = self.started.min(1);
+/// Of each path's programs one is kept, where it started any.
+fn keep_one_each(kept: &mut [KeptPath; 4])
+    ensures { kept.new ≡ map one_kept kept.old }
+{
+    for path in kept.iter_mut() {
+        *path = KeptPath {
+            started: path.started.min(1),
+            used: path.used,
+            waits: path.waits,
+        };
     }
 }
 
@@ -107,9 +111,7 @@ impl Past {
         ensures room { (n : ℕ) → ActRoom n self.old → ActRoom n self.new }
     {
         self.powered = self.powered && self.started_any();
-        for kept in self.kept.iter_mut() {
-            kept.forget();
-        }
+        keep_one_each(&mut self.kept);
         self.items = items;
         self.last = 0;
     }

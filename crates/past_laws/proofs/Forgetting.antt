@@ -18,26 +18,14 @@ use Rattle.past_laws.specs.WithPast.{with_past}
 use Rattle.past_laws.proofs.Items.{count_kept, count_whole, started_whole, used_whole}
 use Rattle.past_laws.proofs.Journals.{SomePath, ran_some, within_plans}
 use Rattle.past_laws.proofs.Plans.{IsPath, first, fourth, path_is, planned_whole, second, third}
-use Rattle.past_laws.proofs.Stubs.{Four, count_is, count_powered, four, one_by, started_is, started_powered, used_counts, used_is, used_powered, used_started}
+use Rattle.past_laws.proofs.Stubs.{four, started_is, started_powered}
+use Rattle.past_laws.proofs.StubsTell.{count_told, paths, started_is_count, used_is_items, used_told}
 
 four_at : (f : ℕ → List (List Ccw)) {path : ℕ} → IsPath path → planned (f 1 ∷ f 2 ∷ f 3 ∷ f 4 ∷ []) path ≡ f path
 four_at f first = refl
 four_at f second = refl
 four_at f third = refl
 four_at f fourth = refl
-
-and_same : (none used : Bool) → (used ≡ true → none ≡ false) → (not none && used) ≡ used
-and_same true true some = sym (some refl)
-and_same true false some = refl
-and_same false used some = refl
-
-not_true : (b : Bool) → (b ≡ true → ⊥) → b ≡ false
-not_true true never = absurd (never refl)
-not_true false never = refl
-
-one_of : (n : ℕ) → one_by (n == 0) ≡ min n 1
-one_of zero = refl
-one_of (suc n) = rw (ne_eqb (suc n) 0 (λ (e : suc n ≡ 0). omega (arith, e))) (omega arith)
 
 module _ {F P H : Type 0} (w : PutAway) (d : Device F P H) (away : IsPutAway w d.plans d.history) (idle : d.history.running ≡ None) (state : PlainState)
     (legal : IsLegal (whole_plans w d.plans) state (whole_items w d.history.items)) where
@@ -56,24 +44,15 @@ module _ {F P H : Type 0} (w : PutAway) (d : Device F P H) (away : IsPutAway w d
   abbrev now : PutAway
   now = put_away w d
 
-  abbrev paths : Four
-  paths = record { none = λ path. started path == 0; used = has_used d.history }
-
-  no_path : (path : ℕ) → is_path_of d.history.running path ≡ false
-  no_path path = rw idle refl
-
-  started_is_count : (path : ℕ) → started path ≡ count_by (is_of_path path) d.history.items
-  started_is_count path = rw (no_path path) (omega arith)
-
-  used_is_items : (path : ℕ) → has_used d.history path ≡ is_used path false d.history.items
-  used_is_items path = rw (no_path path) refl
+  abbrev started_count_is : (path : ℕ) → started path ≡ count_by (is_of_path path) d.history.items
+  started_count_is = started_is_count d.history idle
 
   module _ (path : ℕ) (least : 1 ≤ path) (most : path ≤ 4) where
     abbrev later : ℕ
     later = count_by (is_of_path path) away.later
 
     here : started path ≡ length (planned w.kept path) + later
-    here = omega (arith, started_is_count path, count_kept w d.plans d.history away path, (away.paths path least most).kept)
+    here = omega (arith, started_count_is path, count_kept w d.plans d.history away path, (away.paths path least most).kept)
 
     all : count_by (is_of_path path) items ≡ length (planned w.programs path) + later
     all = omega (arith, count_whole w d.plans d.history away path, (away.paths path least most).away)
@@ -102,27 +81,13 @@ module _ {F P H : Type 0} (w : PutAway) (d : Device F P H) (away : IsPutAway w d
     long_taken : length (taken path) ≡ count_by (is_of_path path) items
     long_taken = length-take (count_by (is_of_path path) items) (whole_plan w d.plans path) ∙ omega (arith, within)
 
-    none_used : has_used d.history path ≡ true → (started path == 0) ≡ false
-    none_used is = elim (used_counts path d.history.items false (sym (used_is_items path) ∙ is)) [
-      | inl never ↦ absurd (false≢true never)
-      | inr some ↦ ne_eqb (started path) 0 (λ (e : started path ≡ 0). omega (arith, e, some, started_is_count path))
-    ]
-
-    unused : is_started false d.history.items ≡ false → has_used d.history path ≡ false
-    unused off = not_true (has_used d.history path) (λ is. false≢true (sym off
-        ∙ used_started path d.history.items false false (λ e. e) (sym (used_is_items path) ∙ is)))
-
     stands : StandsFor now path
     stands =
         let is = path_is path least most in record {
           used =
-              used_powered path (four paths) (is_started false d.history.items) (has_used d.history path)
-              (used_is paths is ∙ and_same (started path == 0) (has_used d.history path) none_used) unused
-              ∙ used_is_items path ∙ sym (used_whole w d.plans d.history away path least most);
+              used_told d.history idle path least most ∙ used_is_items d.history idle path ∙ sym (used_whole w d.plans d.history away path least most);
           away = sym (ap length (four_at taken is) ∙ long_taken);
-          kept =
-              count_powered path (four paths) (is_started false d.history.items) ∙ count_is paths is ∙ one_of (started path)
-              ∙ sym (ap length (four_at kept is) ∙ long_kept);
+          kept = count_told d.history idle path least most ∙ sym (ap length (four_at kept is) ∙ long_kept);
           some = λ none.
               let some = (away.paths path least most).some in
               let small : min (started path) 1 ≡ 0 = sym (ap length (four_at kept is) ∙ long_kept) ∙ none in
@@ -148,10 +113,10 @@ module _ {F P H : Type 0} (w : PutAway) (d : Device F P H) (away : IsPutAway w d
         ∙ ap (λ (n : ℕ). drop n (planned d.plans path)) (omega (arith, here)) in
         ap (λ (xs : List (List Ccw)). taken path ++ xs) (behind ∙ sym there) ∙ take-append-drop count (whole_plan w d.plans path)
 
-  ran : is_started false d.history.items ≡ true → is_started false (four paths) ≡ true
+  ran : is_started false d.history.items ≡ true → is_started false (four (paths d.history idle)) ≡ true
   ran is = elim (ran_some (whole_plans w d.plans) state [] items legal false (started_whole w d.plans d.history away ∙ is)) [
     | inl never ↦ absurd (false≢true never)
-    | inr s ↦ started_is paths (path_is s.path s.least s.most) (ne_eqb (started s.path) 0 (λ (e : started s.path ≡ 0). some s e))
+    | inr s ↦ started_is (paths d.history idle) (path_is s.path s.least s.most) (ne_eqb (started s.path) 0 (λ (e : started s.path ≡ 0). some s e))
   ]
     where
       some : (s : SomePath items) → started s.path ≡ 0 → ⊥
@@ -164,7 +129,7 @@ module _ {F P H : Type 0} (w : PutAway) (d : Device F P H) (away : IsPutAway w d
     later = [];
     items = sym (append-nil (stubs_of d.history));
     paths = stands;
-    started = started_powered (four paths) (is_started false d.history.items) ran ∙ sym (started_whole w d.plans d.history away);
+    started = started_powered (four (paths d.history idle)) (is_started false d.history.items) ran ∙ sym (started_whole w d.plans d.history away);
     few = few;
   }
 

@@ -6,5 +6,6 @@ pub mod Along
 pub mod Starts
 pub mod Events
 pub mod Stubs
+pub mod StubsTell
 pub mod Journals
 pub mod Forgetting

@@ -106,7 +106,7 @@ module _ (f : Four) where
   count_is fourth = omega (arith, count_four 4, other_count 4 1 refl (f.none 1) (f.used 1), other_count 4 2 refl (f.none 2) (f.used 2),
       other_count 4 3 refl (f.none 3) (f.used 3), own_count 4 refl (f.none 4) (f.used 4))
 
-  started_four : is_started false (four f) ≡ (not (f.none 1) || not (f.none 2) || not (f.none 3) || not (f.none 4))
+  pub started_four : is_started false (four f) ≡ (not (f.none 1) || not (f.none 2) || not (f.none 3) || not (f.none 4))
   started_four =
       started_behind false (s 1 ++ s 2 ++ s 3) (s 4)
       ∙ ap (λ (b : Bool). is_started b (s 4)) (started_behind false (s 1 ++ s 2) (s 3)
