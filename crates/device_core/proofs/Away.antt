@@ -27,7 +27,6 @@ use Rattle.device_defs.specs.Orders as O
 use Rattle.device_defs.specs.Orders.{lend, restore}
 use Rattle.device_defs.specs.Owed.{noted_end, waiting_count}
 use Rattle.device_defs.specs.Peek.{Peeked, peek}
-use Rattle.device_defs.specs.Sound as defs
 use Rattle.device_defs.specs.Store.{is_lost, tracks_of}
 use Rattle.device_laws.specs.SoundOn.{IsSoundAtOn, IsSoundOn, begun_as}
 use Rattle.device_laws.specs.Whole.{WholeDevice, WholeTwin, WholeTwins, holding, marks_device}
@@ -204,8 +203,10 @@ module _ {V : Type 0} {G : Ghosts V} (d e : core.Device V G) where
       (record (outside new e.store k) { a = option_map G.view x })) (idle : (device_of d).history.running ≡ None) where
     goes : (past : PutAway) (first : List Track) → StandsPlain past first d → StandsLent past first e
     goes past first s =
-        let b = then_on s (beside_there (whole_of past d) (told_by d) (outside old d.store k) (λ h t. record { a = t.a; b = t.b; slots = t.slots })) in
-        let l = run_on b (lend_same contents surely hears past (device_of d) to b.away) run
+        let b : SoWithPast (IsBesideOn (λ (_ : ℕ). first)) past (device_of d) (outside old d.store k) =
+        then_on s (beside_there (whole_of past d) (told_by d) (outside old d.store k) (λ h t. record { a = t.a; b = t.b; slots = t.slots })) in
+        let l : SoWithPast (IsLentBeside first) past (device_of e) (record (outside new e.store k) { a = option_map G.view x }) =
+        run_on b (lend_same contents surely hears past (device_of d) to b.away) run
         (λ y r. lends first (whole_of past d) to b.is single (idle_whole past (device_of d) idle) r) in
         then_on l (there (λ h t. record {
           a = subst (λ (o : Option V). Tells (option_map G.view o) h.a) (sym gone) tt;
@@ -273,7 +274,7 @@ module _ {V : Type 0} {G : Ghosts V} (d e : core.Device V G) where
     pub background_lent_on : {hears : Hearing Image L} (r : Result Did NoMemory) →
         Ran (where_ok r) hears (background contents (device_of d)) u (device_of e) (had (λ x. x) r) z → OnOk r (StaysLent d e)
     background_lent_on {hears = hears} (Ok x) run =
-        across (λ past first s. run_on s (background_same contents (where_ok (Ok {E = NoMemory} x)) hears past (device_of d) s.away) run
+        across (λ past first s. run_on s (background_same contents (λ ok. ok ≡ true) hears past (device_of d) s.away) run
         (λ y r. works first (whole_of past d) s.is r))
     background_lent_on (Err x) run = tt
 

@@ -1,5 +1,5 @@
 -- What a device promises by its calls follows from what each of them is.
-use Rattle.std.proofs.Common.{◌≡◌, ◌<◌, ◌≤◌, ◌*◌, ℕ, Bool, true, false, List, [], Option, Some, None, Result, Ok, Err, is_some, length, refl, sym, ap, subst, ◌∙◌}
+use Rattle.std.proofs.Common.{◌≡◌, ◌<◌, ◌≤◌, ◌*◌, ℕ, Bool, true, false, List, [], Option, Some, None, Result, Ok, Err, is_some, refl, sym, ap, subst, ◌∙◌}
 use Rattle.std.specs.Prelude.{IfOk, IfSome, IsSome, OnErr, OnOk, option_map}
 use Rattle.ckd_types.specs.declared.channel.CommandEnd.{CommandEnd}
 use Rattle.ckd_types.specs.declared.memory.NoMemory.{NoMemory}
@@ -76,22 +76,7 @@ use Rattle.device_core.specs.declared.past.Stepped.{Stepped}
 use Rattle.device_laws.specs.NewDevice.{volume_contents}
 use Rattle.device_laws.specs.Seen.{EndsAsSeen}
 use Rattle.device_laws.proofs.NewDevices.{empty_is_contents}
-use Rattle.device_core.specs.Promises.{
-  EndsSeen,
-  HoldsTracks,
-  IsPromised,
-  IsSound,
-  KeepsPlain,
-  KeepsWhole,
-  StandsPlain,
-  StandsWhole,
-  StaysExcused,
-  StaysPlain,
-  StaysSame,
-  StaysSound,
-  told_by,
-  whole_of,
-}
+use Rattle.device_core.specs.Promises.{EndsSeen, HoldsTracks, IsPromised, KeepsPlain, KeepsWhole, StandsPlain, StandsWhole, StaysExcused, StaysPlain, StaysSame, StaysSound, told_by, whole_of}
 use Rattle.device_core.specs.WholePast.{SoWithPast}
 use Rattle.device_core.specs.State.{DefinedDevice, chain_of, device_by, device_of, history_of, open_of, opened_device, step_had}
 use Rattle.device_core.proofs.Halves.{none_by}
@@ -241,26 +226,16 @@ module _ {V : Type 0} {G : Ghosts V} (d e : Device V G) where
 
     module _ (some : IsSome (device_of d).history.running) (whole : is_some (device_of d).store.half ≡ false) (chain : IfSome (device_of d).chain IsChain)
         {hears : Hearing Image L} where
-      o : OpenEntry
-      o = (entry some whole chain).0
-
-      none' : (device_of d).store.half ≡ None
-      none' = none some whole chain
-
-      chains' : (hand : ChainState) → (device_of d).chain ≡ Some hand → IsChain hand
-      chains' = chains some whole chain
-
-      runs : (past : PutAway) → (whole_of past d).history.running ≡ Some (whole_entry past o)
-      runs past = runs_whole past (device_of d) (entry some whole chain).1
-
       command_plain : (last : Option CommandEnd) (r : Result Stepped NoMemory) → Ran (where_ok r) hears (command contents (device_of d)) u (device_of e) (step_had last r) z →
           KeepsPlain d e
       command_plain last (Ok x) run =
-          plain_across (λ past first s. run_on s (command_same contents (where_ok (Ok {E = NoMemory} x)) hears past (device_of d) s.away) run
-          (λ y r. (command_beside s.is (λ m y q l h. h) (step_had {E = NoMemory} last (Ok x)) (whole_entry past o) none' (runs past) chains' (replied r)).beside))
+          plain_across (λ past first s. run_on s (command_same contents (λ ok. ok ≡ true) hears past (device_of d) s.away) run
+          (λ y r. (command_beside s.is (λ m y q l h. h) (step_had {E = NoMemory} last (Ok x)) (whole_entry past (entry some whole chain).0) (none some whole chain)
+          (runs_whole past (device_of d) (entry some whole chain).1) (chains some whole chain) (replied r)).beside))
       command_plain last (Err x) run =
-          plain_across (λ past first s. run_on s (command_same contents (where_ok (Err {X = Stepped} x)) hears past (device_of d) s.away) run
-          (λ y r. (command_lacked s.is (whole_entry past o) none' (runs past) chains' r).beside))
+          plain_across (λ past first s. run_on s (command_same contents (λ ok. Unit {0}) hears past (device_of d) s.away) run
+          (λ y r. (command_lacked s.is (whole_entry past (entry some whole chain).0) (none some whole chain)
+          (runs_whole past (device_of d) (entry some whole chain).1) (chains some whole chain) r).beside))
 
       pub command_sound : (last : Option CommandEnd) (r : Result Stepped NoMemory) →
           Ran (where_ok r) hears (command contents (device_of d)) u (device_of e) (step_had last r) z → StaysSound d e
@@ -273,8 +248,9 @@ module _ {V : Type 0} {G : Ghosts V} (d e : Device V G) where
       pub command_excused : (last : Option CommandEnd) (r : Result Stepped NoMemory) →
           Ran (where_ok r) hears (command contents (device_of d)) u (device_of e) (step_had last r) z → OnOk r (StaysExcused d e)
       command_excused last (Ok x) run =
-          excused_by (whole_across (λ past first s. run_on s (command_same contents (where_ok (Ok {E = NoMemory} x)) hears past (device_of d) s.away) run
-          (λ y r. command_stands s.is (λ m y q l h. h) (step_had {E = NoMemory} last (Ok x)) (whole_entry past o) none' (runs past) chains' (replied r))))
+          excused_by (whole_across (λ past first s. run_on s (command_same contents (λ ok. ok ≡ true) hears past (device_of d) s.away) run
+          (λ y r. command_stands s.is (λ m y q l h. h) (step_had {E = NoMemory} last (Ok x)) (whole_entry past (entry some whole chain).0) (none some whole chain)
+          (runs_whole past (device_of d) (entry some whole chain).1) (chains some whole chain) (replied r))))
       command_excused last (Err x) run = tt
 
       pub command_stays_same : (last : Option CommandEnd) (r : Result Stepped NoMemory) →
@@ -286,8 +262,9 @@ module _ {V : Type 0} {G : Ghosts V} (d e : Device V G) where
             again = command_again (device_of d) (open_of r.0) (chain_of r.0) (ap (option_map open_of) r.1) (ap (option_map chain_of) r.1) run;
             contents = λ past first s.
                 let b = there s in
-                whole_by b (command_same contents (where_ok (Err {X = Stepped} x)) hears past (device_of d) b.away) run (IsSameVolume past first)
-                (λ y r. same_volume b.is (command_lacked b.is (whole_entry past o) none' (runs past) chains' r));
+                whole_by b (command_same contents (λ ok. Unit {0}) hears past (device_of d) b.away) run (IsSameVolume past first)
+                (λ y r. same_volume b.is (command_lacked b.is (whole_entry past (entry some whole chain).0) (none some whole chain)
+                (runs_whole past (device_of d) (entry some whole chain).1) (chains some whole chain) r));
           }
 
     -- What it does by itself
@@ -296,10 +273,10 @@ module _ {V : Type 0} {G : Ghosts V} (d e : Device V G) where
       background_plain : (r : Result Did NoMemory) →
           Ran (where_ok r) hears (background contents (device_of d)) u (device_of e) (had (λ x. x) r) z → KeepsPlain d e
       background_plain (Ok x) run =
-          plain_across (λ past first s. run_on s (background_same contents (where_ok (Ok {E = NoMemory} x)) hears past (device_of d) s.away) run
+          plain_across (λ past first s. run_on s (background_same contents (λ ok. ok ≡ true) hears past (device_of d) s.away) run
           (λ y r. (background_beside s.is (λ m y q l h. h) (Some x) (none_by (device_of d).store.half whole) (replied r)).beside))
       background_plain (Err x) run =
-          plain_across (λ past first s. run_on s (background_same contents (where_ok (Err {X = Did} x)) hears past (device_of d) s.away) run
+          plain_across (λ past first s. run_on s (background_same contents (λ ok. Unit {0}) hears past (device_of d) s.away) run
           (λ y r. (background_lacked s.is (none_by (device_of d).store.half whole) r).beside))
 
       pub background_sound : (r : Result Did NoMemory) →
@@ -313,7 +290,7 @@ module _ {V : Type 0} {G : Ghosts V} (d e : Device V G) where
       pub background_excused : (r : Result Did NoMemory) →
           Ran (where_ok r) hears (background contents (device_of d)) u (device_of e) (had (λ x. x) r) z → OnOk r (StaysExcused d e)
       background_excused (Ok x) run =
-          excused_by (whole_across (λ past first s. run_on s (background_same contents (where_ok (Ok {E = NoMemory} x)) hears past (device_of d) s.away) run
+          excused_by (whole_across (λ past first s. run_on s (background_same contents (λ ok. ok ≡ true) hears past (device_of d) s.away) run
           (λ y r. background_stands s.is (λ m y q l h. h) (Some x) (none_by (device_of d).store.half whole) (replied r))))
       background_excused (Err x) run = tt
 
@@ -324,7 +301,7 @@ module _ {V : Type 0} {G : Ghosts V} (d e : Device V G) where
         again = background_again (device_of d) run;
         contents = λ past first s.
             let b = there s in
-            whole_by b (background_same contents (where_ok (Err {X = Did} x)) hears past (device_of d) b.away) run (IsSameVolume past first)
+            whole_by b (background_same contents (λ ok. Unit {0}) hears past (device_of d) b.away) run (IsSameVolume past first)
             (λ y r. same_volume b.is (background_lacked b.is (none_by (device_of d).store.half whole) r));
       }
 
@@ -449,7 +426,7 @@ module _ {V : Type 0} {G : Ghosts V} (d e : Device V G) where
           IfOk r (λ p. FoundPlain (λ (_ : ℕ). first) (whole_of past d) t (Some (peeked_by q t p)))
       peek_answers q (Ok p) run past first s =
           let b = there s in
-          let goes = peek_same contents (where_ok (Ok {E = NoMemory} p)) hears past (device_of d) t b.away u z (device_of e) (Some (peeked_by q t p)) run in
+          let goes = peek_same contents (λ ok. ok ≡ true) hears past (device_of d) t b.away u z (device_of e) (Some (peeked_by q t p)) run in
           peek_finds b.is t lt may goes.ran
       peek_answers q (Err x) run past first s = tt
 

@@ -17,6 +17,7 @@ use Rattle.device_outside.specs.Keeper.{Hearing}
 use Rattle.device_outside.specs.Outside.{Outside, Ran}
 use Rattle.device_defs.specs.Contents.{contents}
 use Rattle.device_defs.specs.Orders.{restore}
+use Rattle.device_defs.specs.Sound.{DeviceStore}
 use Rattle.device_defs.specs.Start.{start, start_fault}
 use Rattle.device_laws.specs.Whole.{WholeDevice}
 use Rattle.past_laws.specs.Forgotten.{forgotten, put_away}
@@ -27,8 +28,7 @@ use Rattle.past_laws.proofs.Forgetting.{forgotten_away, forgotten_whole}
 use Rattle.past_laws.proofs.Planning.{planning_none, planning_whole}
 use Rattle.past_laws.proofs.Plans.{planned_whole}
 use Rattle.past_laws.proofs.Starts.{fault_same, restore_away, restore_whole, start_away, start_whole}
-use Rattle.subsystem_defs.specs.declared.end.OrderFault.{OrderFault}
-use Rattle.subsystem_defs.specs.Refusals.{active_by, first_cause, lent_by, replace_fault, suspend_fault, unpair_fault, where_so}
+use Rattle.subsystem_defs.specs.Refusals.{active_by, replace_fault, suspend_fault, unpair_fault}
 use Rattle.subsystem_laws.specs.Planning.{with_planned}
 use Rattle.device_core.specs.WholePast.{SoWithPast}
 
@@ -72,6 +72,11 @@ module _ {K : Type 0} {So : WholeDevice → Outside (List ℕ) K → Type 0} {pa
   pub then_on : {L : Type 0} {Then : WholeDevice → Outside (List ℕ) L → Type 0} {w : Outside (List ℕ) L} → (So (with_past past d) u → Then (with_past past d) w) →
       SoWithPast Then past d w
   then_on f = record { away = s.away; is = f s.is }
+
+  -- nothing but its store changes
+  pub store_on : {L : Type 0} {Then : WholeDevice → Outside (List ℕ) L → Type 0} {w : Outside (List ℕ) L} (x : DeviceStore) →
+      (So (with_past past d) u → Then (record (with_past past d) { store = x }) w) → SoWithPast Then past (record d { store = x }) w
+  store_on x f = record { away = s.away; is = f s.is }
 
   pub start_on : (path : ℕ) → 1 ≤ path → path ≤ 4 → start_fault d path ≡ None →
       (So (with_past past d) u → start_fault (with_past past d) path ≡ None → So (start (with_past past d) path) u) → SoWithPast So past (start d path) u
@@ -124,9 +129,9 @@ module _ {K : Type 0} {So : WholeDevice → Outside (List ℕ) K → Type 0} {pa
     ]
 
   -- it forgets
-  pub forget_on : {state : PlainState} → d.history.running ≡ None → IsLegal (whole_plans past d.plans) state (whole_items past d.history.items) →
+  pub forget_on : (state : PlainState) → d.history.running ≡ None → IsLegal (whole_plans past d.plans) state (whole_items past d.history.items) →
       SoWithPast So (put_away past d) (forgotten d) u
-  forget_on {state = state} idle legal = record {
+  forget_on state idle legal = record {
     away = forgotten_away past d s.away idle state legal;
     is = subst (λ (x : WholeDevice). So x u) (sym (forgotten_whole past d s.away idle state legal)) s.is;
   }

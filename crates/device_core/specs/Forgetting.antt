@@ -1,5 +1,5 @@
 -- How a device answers where it is to forget, and whether a path of it started any program.
-use Rattle.std.specs.Prelude.{ℕ, ◌==◌, ◌||◌, not, Bool, true, false, List, min, Result, Ok, Err}
+use Rattle.std.specs.Prelude.{◌==◌, ◌||◌, not, Bool, true, false, List, min, Result, Ok, Err}
 use Rattle.device_core.specs.declared.forget.NotForgotten.{NotForgotten}
 use Rattle.device_core.specs.declared.forget.NotForgotten.TheVariants.{Running, NoMemory}
 use Rattle.device_core.specs.declared.past.KeptPath.{KeptPath}

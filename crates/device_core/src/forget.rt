@@ -6,10 +6,9 @@ ghost use Rattle.device_core.specs.Kept.{ActRoom, Keeps, history_of, open_of};
 ghost use Rattle.device_core.specs.Promises.{ForgetsNothing};
 ghost use Rattle.device_core.specs.State.{device_of};
 
-use crate::Device;
-use crate::Log;
 use crate::past::{KeptPath, Past};
 use crate::resets::path_at;
+use crate::{Device, Log};
 use ckd_types::{EndList, NoMemory, PathNo};
 use deck_plan::PathPlans;
 use device_outside::Volume;
@@ -90,10 +89,13 @@ impl Past {
         Ok(items)
     }
 
-    /// Some path started a program.
-    fn started_any(&self) -> bool
-        ensures { result ≡ any_started self.now.kept }
+    /// A program was started since the power came, and some path started one.
+    fn ran(&self) -> bool
+        ensures { result ≡ (self.now.powered && any_started self.now.kept) }
     {
+        if !self.powered {
+            return false;
+        }
         let [first, second, third, fourth] = &self.kept;
         first.started != 0 || second.started != 0 || third.started != 0 || fourth.started != 0
     }
@@ -110,7 +112,7 @@ impl Past {
         ensures running { self.new.running ≡ self.old.running }
         ensures room { (n : ℕ) → ActRoom n self.old → ActRoom n self.new }
     {
-        self.powered = self.powered && self.started_any();
+        self.powered = self.ran();
         keep_one_each(&mut self.kept);
         self.items = items;
         self.last = 0;

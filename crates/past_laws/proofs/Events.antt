@@ -1,8 +1,7 @@
 -- Each event of a device whose past was put away goes along with that event of the device with all of its past.
-use Rattle.std.proofs.Common.{◌≡◌, ℕ, ◌==◌, ◌≤◌, Bool, true, false, List, [], ◌∷◌, Option, Some, None, is_some, refl, sym, ap, subst, ◌∙◌}
+use Rattle.std.proofs.Common.{◌≡◌, ℕ, ◌==◌, ◌≤◌, Bool, true, false, List, [], ◌∷◌, Option, Some, None, refl, sym, ap, subst, ◌∙◌}
 use Rattle.std.specs.Prelude.{if◌then◌else◌, option_map}
 use Rattle.ckd_types.specs.declared.channel.CommandEnd.{CommandEnd}
-use Rattle.ckd_rules.specs.declared.order.LocalAct.{LocalAct}
 use Rattle.ckd_chain.specs.declared.progress.Progress.{Progress}
 use Rattle.ckd_chain.specs.declared.progress.Progress.TheVariants as progresses
 use Rattle.ckd_chain.specs.declared.progress.Settled.TheVariants.{Equipment}
@@ -10,28 +9,26 @@ use Rattle.ckd_chain.specs.State.{ChainState}
 use Rattle.ckd_chain.specs.Steps.{need_of, stepped}
 use Rattle.loss_model.specs.declared.Loss.{Loss}
 use Rattle.plain_defs.specs.declared.journal.Act.{Act}
-use Rattle.plain_defs.specs.History.{History, OpenEntry, acted, checked, ended, has_used, lost_power, reset_in_history}
+use Rattle.plain_defs.specs.History.{History, OpenEntry, acted, ended, has_used, reset_in_history}
 use Rattle.plain_defs.specs.Journal.{Plans}
-use Rattle.plain_defs.specs.PlainState.{PathsState, fresh_paths, reset_path}
+use Rattle.plain_defs.specs.PlainState.{reset_path}
 use Rattle.track_image.specs.Image.{Image}
-use Rattle.device_outside.specs.Interaction.{Interaction, Done, Try, and_then}
+use Rattle.device_outside.specs.Interaction.{Interaction, Done, and_then}
 use Rattle.device_outside.specs.Keeper.{Hearing}
 use Rattle.device_defs.specs.declared.answers.Came.{Came}
 use Rattle.device_defs.specs.declared.answers.Came.TheVariants.{Ends, Checks, HalfOpen}
-use Rattle.device_defs.specs.declared.answers.Did.{Did}
-use Rattle.device_defs.specs.declared.answers.SecondEnd.{SecondEnd}
 use Rattle.device_defs.specs.declared.answers.SecondEnd.TheVariants.{Finished, Unwritten}
 use Rattle.device_defs.specs.declared.answers.Stepped.{Stepped}
 use Rattle.device_defs.specs.Background.{work}
-use Rattle.device_defs.specs.Command.{answered_by, came_out, command, command_at, command_by, follow, has_loss, on_paths, on_tracks}
+use Rattle.device_defs.specs.Command.{answered_by, came_out, command, command_at, command_by, follow, has_loss, on_tracks}
 use Rattle.device_defs.specs.Contents.{Contents}
 use Rattle.device_defs.specs.Cutting.{counts_one_by, half_cut, path_cut, power, powered_off, reset, reset_by, reset_noted}
 use Rattle.device_defs.specs.Device.{Device, all_acted, all_reset, event, event_begun, event_ended, quiet_event, with_store}
 use Rattle.device_defs.specs.Events.{background, command_ended, lose, losing, second, second_ended, second_of, second_told, second_turn}
 use Rattle.device_defs.specs.Orders.{given_up, lend, lent_to, with_tracks}
 use Rattle.device_defs.specs.Outcomes.{Turn, again, checks, ends_with, program_over, sense_kept, settles, turned, told_step}
-use Rattle.device_defs.specs.Owed.{hear, noted_begin, noted_end, waiting_count}
-use Rattle.device_defs.specs.Peek.{Peeked, peek, peek_track}
+use Rattle.device_defs.specs.Owed.{hear, noted_end, waiting_count}
+use Rattle.device_defs.specs.Peek.{peek, peek_track}
 use Rattle.device_defs.specs.Second.{second_part}
 use Rattle.device_defs.specs.Store.{HalfWrite, Origin, OfCommand, OfCut, OfBackground, Store, tracks_of}
 use Rattle.device_defs.specs.Losses.{over}

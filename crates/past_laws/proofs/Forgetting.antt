@@ -1,19 +1,19 @@
 -- A device that forgot is the one that it was with all of its past, where its journal is legal and no program runs.
-use Rattle.std.proofs.Common.{◌≡◌, ℕ, zero, suc, ◌+◌, ◌-◌, ◌==◌, ◌||◌, ◌&&◌, ◌≤◌, not, inl, inr, Bool, true, false, List, [], ◌∷◌, ◌++◌, length, take, drop, map, min, Option, None, refl, sym, ap, subst, ◌∙◌, arith}
+use Rattle.std.proofs.Common.{◌≡◌, ℕ, ◌+◌, ◌-◌, ◌≤◌, inl, inr, true, false, List, [], ◌∷◌, ◌++◌, length, drop, map, min, Option, None, refl, sym, ap, ◌∙◌, arith}
 use Rattle.std.specs.Prelude.{count_by, option_map}
 use Rattle.std.proofs.Math.Seq.{drop-append-add, drop-length}
-use Rattle.std.proofs.lemmas.Bool.{cases_eq, eq-eqb, false≢true, ne_eqb}
+use Rattle.std.proofs.lemmas.Bool.{false≢true, ne_eqb}
 use Rattle.std.proofs.lemmas.List.{append-nil, drop-drop, length-append, length-drop, length-take, take-append-drop}
 use Rattle.ckd_types.specs.declared.channel.Ccw.{Ccw}
 use Rattle.plain_defs.specs.declared.journal.Item.{Item}
-use Rattle.plain_defs.specs.History.{History, OpenEntry, has_used, is_path_of}
+use Rattle.plain_defs.specs.History.{OpenEntry}
 use Rattle.plain_defs.specs.Journal.{Plans, planned}
-use Rattle.plain_defs.specs.Legal.{IsLegal, is_of_path, is_started, is_used}
+use Rattle.plain_defs.specs.Legal.{IsLegal, is_of_path, is_started}
 use Rattle.plain_defs.specs.PlainState.{PlainState}
 use Rattle.device_defs.specs.Device.{Device}
 use Rattle.device_defs.specs.Start.{started_count}
 use Rattle.past_laws.specs.Forgotten.{forgotten, kept_of, left_of, plans_left, put_away, stubs_of, taken_of}
-use Rattle.past_laws.specs.PutAway.{IsPutAway, PutAway, StandsFor, whole_entry, whole_history, whole_item, whole_items, whole_plan, whole_plans}
+use Rattle.past_laws.specs.PutAway.{IsPutAway, PutAway, StandsFor, whole_entry, whole_item, whole_items, whole_plan, whole_plans}
 use Rattle.past_laws.specs.WithPast.{with_past}
 use Rattle.past_laws.proofs.Items.{count_kept, count_whole, started_whole, used_whole}
 use Rattle.past_laws.proofs.Journals.{SomePath, ran_some, within_plans}

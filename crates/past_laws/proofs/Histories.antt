@@ -1,5 +1,5 @@
 -- What an event makes of a history whose past was put away is what it makes of the whole one.
-use Rattle.std.proofs.Common.{◌≡◌, ℕ, ◌+◌, ◌==◌, ◌≤◌, Bool, true, false, List, [], ◌∷◌, ◌++◌, length, map, Option, Some, None, refl, sym, ap, ◌∙◌}
+use Rattle.std.proofs.Common.{◌≡◌, ℕ, ◌+◌, ◌==◌, ◌≤◌, Bool, true, false, List, [], ◌∷◌, ◌++◌, length, Option, Some, None, refl, ap, ◌∙◌}
 use Rattle.std.specs.Prelude.{if◌then◌else◌, option_map}
 use Rattle.ckd_types.specs.declared.channel.CommandEnd.{CommandEnd}
 use Rattle.plain_defs.specs.declared.journal.Act.{Act}
@@ -40,9 +40,6 @@ path_same w (Some o) path = refl
 path_same w None path = refl
 
 module _ (w : PutAway) (plans : Plans) (h : History) (away : IsPutAway w plans h) where
-
-
-
   -- items and the resets that waited behind them
   behind : (x : Item) (paths : List ℕ) → whole_items w (h.items ++ x ∷ resets_of paths) ≡ whole_items w h.items ++ whole_item w x ∷ resets_of paths
   behind x paths =

@@ -1,5 +1,5 @@
 -- What is kept in the place of items that were put away tells of each path what the whole journal tells.
-use Rattle.std.proofs.Common.{◌≡◌, ℕ, zero, suc, ◌+◌, ◌-◌, ◌==◌, ◌||◌, ◌≤◌, ◌&&◌, not, Bool, true, false, cond, List, [], ◌∷◌, ◌++◌, length, map, drop, refl, sym, ap, subst, ◌∙◌, arith}
+use Rattle.std.proofs.Common.{◌≡◌, ℕ, ◌+◌, ◌≤◌, Bool, false, cond, List, [], ◌∷◌, ◌++◌, length, map, drop, refl, sym, ap, ◌∙◌}
 use Rattle.std.specs.Prelude.{count_by}
 use Rattle.std.proofs.Math.Seq.{drop-append_seam}
 use Rattle.std.proofs.lemmas.List.{append_assoc, map-append}
@@ -9,7 +9,7 @@ use Rattle.plain_defs.specs.declared.journal.Item.TheVariants.{Program, Reset, F
 use Rattle.plain_defs.specs.History.{History, resets_of}
 use Rattle.plain_defs.specs.Journal.{Plans}
 use Rattle.plain_defs.specs.Legal.{is_of_path, is_started, is_used, started_by, used_by}
-use Rattle.past_laws.specs.PutAway.{IsPutAway, PutAway, StandsFor, whole_item, whole_items}
+use Rattle.past_laws.specs.PutAway.{IsPutAway, PutAway, whole_item, whole_items}
 
 -- ---- items whose programs have other places
 

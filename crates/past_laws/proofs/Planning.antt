@@ -1,6 +1,6 @@
 -- A program that is planned for a device whose past was put away is planned for the whole one, where the plans have its path; else it changes neither.
-use Rattle.std.proofs.Common.{◌≡◌, ℕ, ◌-◌, ◌≤◌, ◌<◌, inl, inr, List, [], ◌∷◌, ◌++◌, length, drop, refl, sym, ap, ◌∙◌, arith}
-use Rattle.std.proofs.lemmas.List.{append_assoc, drop-append-le, length-append, set_past}
+use Rattle.std.proofs.Common.{◌≡◌, ℕ, ◌-◌, ◌≤◌, ◌<◌, List, [], ◌∷◌, ◌++◌, length, drop, sym, ap, ◌∙◌, arith}
+use Rattle.std.proofs.lemmas.List.{append_assoc, drop-append-le, set_past}
 use Rattle.ckd_types.specs.declared.channel.Ccw.{Ccw}
 use Rattle.deck_plan.specs.Plans.{with_program}
 use Rattle.plain_defs.specs.History.{History}
@@ -12,7 +12,6 @@ seam : (away kept plan : List (List Ccw)) (ccws : List Ccw) → length kept ≤ 
     away ++ drop (length kept) (plan ++ ccws ∷ []) ≡ away ++ drop (length kept) plan ++ ccws ∷ []
 seam away kept plan ccws few =
     ap (λ (xs : List (List Ccw)). away ++ xs) (drop-append-le (length kept) plan (ccws ∷ []) few) ∙ sym (append_assoc away (drop (length kept) plan) (ccws ∷ []))
-
 
 module _ (w : PutAway) (ccws : List Ccw) where
   planned_by : (plans : Plans) → ((path : ℕ) → 1 ≤ path → path ≤ 4 → length (planned w.kept path) ≤ length (planned plans path)) → {path : ℕ} → IsPath path →

@@ -1,8 +1,7 @@
 -- The programs of a device whose past was put away are those of the whole one, in other places.
-use Rattle.std.proofs.Common.{◌≡◌, ℕ, zero, suc, ◌+◌, ◌-◌, ◌≤◌, ◌<◌, List, [], ◌∷◌, ◌++◌, length, drop, get_or, refl, sym, ap, ◌∙◌, arith}
+use Rattle.std.proofs.Common.{◌≡◌, ℕ, zero, suc, ◌+◌, ◌-◌, ◌≤◌, ◌<◌, List, [], ◌++◌, length, drop, get_or, refl, ap, ◌∙◌, arith}
 use Rattle.std.proofs.lemmas.List.{get_or-append_right, get_or-drop, length-append, length-drop}
 use Rattle.ckd_types.specs.declared.channel.Ccw.{Ccw}
-use Rattle.plain_defs.specs.History.{History}
 use Rattle.plain_defs.specs.Journal.{Plans, planned, program_of}
 use Rattle.past_laws.specs.PutAway.{PutAway, whole_ordinal, whole_plan, whole_plans}
 

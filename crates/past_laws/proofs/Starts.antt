@@ -1,33 +1,16 @@
 -- What a path may start next is the same for a device whose past was put away and for the whole one, and so is the start.
-use Rattle.std.proofs.Common.{◌≡◌, ℕ, ◌+◌, ◌-◌, ◌==◌, ◌≤◌, ◌<◌, ◌||◌, not, Bool, true, false, List, [], ◌∷◌, length, Option, Some, None, refl, sym, ap, ◌∙◌, arith}
+use Rattle.std.proofs.Common.{◌≡◌, ℕ, ◌+◌, ◌-◌, ◌≤◌, List, length, Option, Some, None, refl, sym, ap, ◌∙◌, arith}
 use Rattle.std.specs.Prelude.{count_by, if◌then◌else◌, option_map}
 use Rattle.ckd_types.specs.declared.channel.Ccw.{Ccw}
 use Rattle.ckd_types.specs.declared.paths.Owner.{Owner}
 use Rattle.ckd_chain.specs.Steps.{begun_chain}
-use Rattle.plain_defs.specs.History.{History, OpenEntry, emptied, is_path_of, started}
-use Rattle.plain_defs.specs.Journal.{Plans, planned, program_of}
+use Rattle.plain_defs.specs.History.{History, OpenEntry, is_path_of, started}
+use Rattle.plain_defs.specs.Journal.{planned, program_of}
 use Rattle.plain_defs.specs.Legal.{is_of_path}
-use Rattle.plain_defs.specs.PlainState.{is_admitted}
 use Rattle.plain_defs.specs.Program.{sense_begun}
-use Rattle.device_defs.specs.declared.answers.StartFault.{StartFault}
-use Rattle.device_defs.specs.declared.answers.StartFault.TheVariants.{PlanDone, Reserved, Shut}
 use Rattle.device_defs.specs.Device.{Device}
 use Rattle.device_defs.specs.Orders.{restore}
-use Rattle.device_defs.specs.Start.{
-  fault_by,
-  has_none_or_is_out,
-  idle_fault,
-  is_shut,
-  keeps_out,
-  left,
-  next_ordinal,
-  next_program,
-  reserved_fault,
-  running_fault,
-  start,
-  start_fault,
-  started_count,
-}
+use Rattle.device_defs.specs.Start.{fault_by, has_none_or_is_out, idle_fault, is_shut, left, next_ordinal, next_program, reserved_fault, running_fault, start, start_fault, started_count}
 use Rattle.device_defs.specs.Store.{store_fixed}
 use Rattle.past_laws.specs.PutAway.{IsPutAway, PutAway, whole_entry, whole_history, whole_ordinal, whole_plans}
 use Rattle.past_laws.specs.WithPast.{with_past}

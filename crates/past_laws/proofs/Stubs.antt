@@ -80,14 +80,30 @@ module _ (f : Four) where
       ∙ ap (λ (b : Bool). is_used p b (s 3)) (used_behind p false (s 1) (s 2)))
 
   pub used_is : {p : ℕ} → IsPath p → is_used p false (four f) ≡ (not (f.none p) && f.used p)
-  used_is first = used_four 1 ∙ rw (own_used 1 refl (f.none 1) (f.used 1), other_used 1 2 refl (f.none 2) (f.used 2) (not (f.none 1) && f.used 1),
-      other_used 1 3 refl (f.none 3) (f.used 3) (not (f.none 1) && f.used 1), other_used 1 4 refl (f.none 4) (f.used 4) (not (f.none 1) && f.used 1)) refl
-  used_is second = used_four 2 ∙ rw (other_used 2 1 refl (f.none 1) (f.used 1) false, own_used 2 refl (f.none 2) (f.used 2),
-      other_used 2 3 refl (f.none 3) (f.used 3) (not (f.none 2) && f.used 2), other_used 2 4 refl (f.none 4) (f.used 4) (not (f.none 2) && f.used 2)) refl
-  used_is third = used_four 3 ∙ rw (other_used 3 1 refl (f.none 1) (f.used 1) false, other_used 3 2 refl (f.none 2) (f.used 2) false,
-      own_used 3 refl (f.none 3) (f.used 3), other_used 3 4 refl (f.none 4) (f.used 4) (not (f.none 3) && f.used 3)) refl
-  used_is fourth = used_four 4 ∙ rw (other_used 4 1 refl (f.none 1) (f.used 1) false, other_used 4 2 refl (f.none 2) (f.used 2) false,
-      other_used 4 3 refl (f.none 3) (f.used 3) false, own_used 4 refl (f.none 4) (f.used 4)) refl
+  used_is first = used_four 1 ∙ rw (
+    own_used 1 refl (f.none 1) (f.used 1),
+    other_used 1 2 refl (f.none 2) (f.used 2) (not (f.none 1) && f.used 1),
+    other_used 1 3 refl (f.none 3) (f.used 3) (not (f.none 1) && f.used 1),
+    other_used 1 4 refl (f.none 4) (f.used 4) (not (f.none 1) && f.used 1),
+  ) refl
+  used_is second = used_four 2 ∙ rw (
+    other_used 2 1 refl (f.none 1) (f.used 1) false,
+    own_used 2 refl (f.none 2) (f.used 2),
+    other_used 2 3 refl (f.none 3) (f.used 3) (not (f.none 2) && f.used 2),
+    other_used 2 4 refl (f.none 4) (f.used 4) (not (f.none 2) && f.used 2),
+  ) refl
+  used_is third = used_four 3 ∙ rw (
+    other_used 3 1 refl (f.none 1) (f.used 1) false,
+    other_used 3 2 refl (f.none 2) (f.used 2) false,
+    own_used 3 refl (f.none 3) (f.used 3),
+    other_used 3 4 refl (f.none 4) (f.used 4) (not (f.none 3) && f.used 3),
+  ) refl
+  used_is fourth = used_four 4 ∙ rw (
+    other_used 4 1 refl (f.none 1) (f.used 1) false,
+    other_used 4 2 refl (f.none 2) (f.used 2) false,
+    other_used 4 3 refl (f.none 3) (f.used 3) false,
+    own_used 4 refl (f.none 4) (f.used 4),
+  ) refl
 
   count_four : (p : ℕ) → count_by (is_of_path p) (four f)
       ≡ count_by (is_of_path p) (s 1) + count_by (is_of_path p) (s 2) + count_by (is_of_path p) (s 3) + count_by (is_of_path p) (s 4)
@@ -97,14 +113,38 @@ module _ (f : Four) where
       ∙ ap (λ (n : ℕ). n + count_by (is_of_path p) (s 3)) (count_behind (is_of_path p) (s 1) (s 2)))
 
   pub count_is : {p : ℕ} → IsPath p → count_by (is_of_path p) (four f) ≡ one_by (f.none p)
-  count_is first = omega (arith, count_four 1, own_count 1 refl (f.none 1) (f.used 1), other_count 1 2 refl (f.none 2) (f.used 2),
-      other_count 1 3 refl (f.none 3) (f.used 3), other_count 1 4 refl (f.none 4) (f.used 4))
-  count_is second = omega (arith, count_four 2, other_count 2 1 refl (f.none 1) (f.used 1), own_count 2 refl (f.none 2) (f.used 2),
-      other_count 2 3 refl (f.none 3) (f.used 3), other_count 2 4 refl (f.none 4) (f.used 4))
-  count_is third = omega (arith, count_four 3, other_count 3 1 refl (f.none 1) (f.used 1), other_count 3 2 refl (f.none 2) (f.used 2),
-      own_count 3 refl (f.none 3) (f.used 3), other_count 3 4 refl (f.none 4) (f.used 4))
-  count_is fourth = omega (arith, count_four 4, other_count 4 1 refl (f.none 1) (f.used 1), other_count 4 2 refl (f.none 2) (f.used 2),
-      other_count 4 3 refl (f.none 3) (f.used 3), own_count 4 refl (f.none 4) (f.used 4))
+  count_is first = omega (
+    arith,
+    count_four 1,
+    own_count 1 refl (f.none 1) (f.used 1),
+    other_count 1 2 refl (f.none 2) (f.used 2),
+    other_count 1 3 refl (f.none 3) (f.used 3),
+    other_count 1 4 refl (f.none 4) (f.used 4),
+  )
+  count_is second = omega (
+    arith,
+    count_four 2,
+    other_count 2 1 refl (f.none 1) (f.used 1),
+    own_count 2 refl (f.none 2) (f.used 2),
+    other_count 2 3 refl (f.none 3) (f.used 3),
+    other_count 2 4 refl (f.none 4) (f.used 4),
+  )
+  count_is third = omega (
+    arith,
+    count_four 3,
+    other_count 3 1 refl (f.none 1) (f.used 1),
+    other_count 3 2 refl (f.none 2) (f.used 2),
+    own_count 3 refl (f.none 3) (f.used 3),
+    other_count 3 4 refl (f.none 4) (f.used 4),
+  )
+  count_is fourth = omega (
+    arith,
+    count_four 4,
+    other_count 4 1 refl (f.none 1) (f.used 1),
+    other_count 4 2 refl (f.none 2) (f.used 2),
+    other_count 4 3 refl (f.none 3) (f.used 3),
+    own_count 4 refl (f.none 4) (f.used 4),
+  )
 
   pub started_four : is_started false (four f) ≡ (not (f.none 1) || not (f.none 2) || not (f.none 3) || not (f.none 4))
   started_four =

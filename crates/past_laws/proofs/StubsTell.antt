@@ -1,5 +1,5 @@
 -- What the stubs of a history tell of each path, and of the power, while no program runs.
-use Rattle.std.proofs.Common.{◌≡◌, ℕ, zero, suc, ◌==◌, ◌||◌, ◌&&◌, ◌≤◌, not, inl, inr, min, Bool, true, false, List, [], ◌∷◌, ◌++◌, Option, None, refl, sym, ap, ◌∙◌, arith}
+use Rattle.std.proofs.Common.{◌≡◌, ℕ, zero, suc, ◌==◌, ◌||◌, ◌&&◌, ◌≤◌, not, inl, inr, min, Bool, true, false, List, [], ◌∷◌, ◌++◌, None, refl, sym, ◌∙◌, arith}
 use Rattle.std.specs.Prelude.{count_by}
 use Rattle.std.proofs.lemmas.Bool.{false≢true, ne_eqb}
 use Rattle.plain_defs.specs.declared.journal.Item.{Item}

@@ -1,4 +1,4 @@
-use Rattle.std.proofs.Common.{◌∙◌, refl, sym}
+use Rattle.std.proofs.Common.{◌∙◌, refl, rules, sym}
 use Rattle.device_core.specs.State.{device_of}
 use Rattle.device_core.proofs.Resetting.{asks_nothing, reset_none}
 use Rattle.device_outside.specs.Outside.{no_pool}
