@@ -1,46 +1,39 @@
 -- The paths and devices that the lines of an event name are in their ranges.
-use Rattle.std.proofs.Common.{◌≤◌, ◌==◌, ◌++◌, zero, suc, ℕ, Bool, true, false, List, [], ◌∷◌, length, map, Option, Some, None, refl, if◌then◌else◌, arith}
-use Rattle.std.specs.Prelude.{◌&&◌, not, All, IfSome, option_map}
-use Rattle.std.proofs.lemmas.List.Elements.{All-append, All-cons, All-head, All-nil, All-tail}
+use Rattle.std.proofs.Common.{◌≤◌, ◌++◌, zero, suc, ℕ, Bool, List, [], ◌∷◌, length, map, Option, refl, arith}
+use Rattle.std.specs.Prelude.{All, IfSome, option_map}
+use Rattle.std.proofs.lemmas.List.Elements.{All-append, All-cons, All-nil}
 use Rattle.ckd_types.specs.declared.channel.CommandEnd.{CommandEnd}
 use Rattle.ckd_types.specs.declared.sense.Sense.{Sense}
 use Rattle.hex.specs.Hex.{IsBytes}
 use Rattle.deck_text.proofs.DeckAgain.{Each}
 use Rattle.plain_defs.specs.declared.journal.Act.{Act}
-use Rattle.plain_defs.specs.declared.journal.Act.TheVariants.{CfwLost, Harden, Loosen}
 use Rattle.plain_defs.specs.declared.journal.How.{How}
-use Rattle.plain_defs.specs.declared.journal.How.TheVariants as hows
 use Rattle.plain_defs.specs.declared.journal.Item.{Item}
 use Rattle.plain_defs.specs.declared.journal.Item.TheVariants as items
 use Rattle.plain_defs.specs.Entry.{ProgramEntry}
 use Rattle.plain_defs.specs.History.{IsOpen, OpenEntry}
-use Rattle.plain_defs.specs.Journal.{Plans, planned, program_of, replay, replay_item}
+use Rattle.plain_defs.specs.Journal.{Plans, planned, replay_item}
 use Rattle.plain_defs.specs.Legal.{HasEnds, IsLegalFrom, IsLegalItem}
 use Rattle.plain_defs.specs.PlainState.{PlainState}
-use Rattle.device_defs.specs.declared.answers.SecondEnd.TheVariants as seconds
-use Rattle.device_defs.specs.declared.answers.Stepped.TheVariants as stepped
 use Rattle.device_defs.specs.Marks.{MarksDevice}
-use Rattle.report_text.specs.declared.answers.BackAnswer.TheVariants as back
 use Rattle.report_text.specs.declared.event.Happened as report
 use Rattle.report_text.specs.declared.event.Happened.TheVariants as did
 use Rattle.report_text.specs.declared.line.ReportLine.{ReportLine}
 use Rattle.report_text.specs.declared.line.ReportLine.TheVariants as lines
-use Rattle.report_text.specs.declared.order.Order.TheVariants as orders
 use Rattle.report_text.specs.Ends.{data_lines, end_line, sense_lines}
 use Rattle.report_text.specs.Events.{first_lines, io_lines, last_line, line_if, loosed_line, program_over_lines}
 use Rattle.report_reading.specs.Ranges.{AreBytes, IsAnswer, IsBack, IsDevice, IsLine, IsLong, IsOrder, IsOver, IsPath, IsShort, IsStart, IsTrack}
 use Rattle.run_report.specs.declared.told.RunningProgram.{RunningProgram}
-use Rattle.run_report.specs.Answers.{order_answer}
-use Rattle.run_report.specs.Beside.{how_over, id_of, loose_lines, loosed, of_each, over_lines, over_of, power_lines}
-use Rattle.run_report.specs.Events.{end_told, event_lines, half_told, running_by, running_in, running_program, told, work_lines, work_told}
+use Rattle.run_report.specs.Beside.{how_over, id_of, loose_lines, loosed, over_lines, over_of}
+use Rattle.run_report.specs.Events.{end_told, event_lines, half_told, running_by, running_in, running_program, told, work_told}
 use Rattle.subsystem_defs.specs.declared.end.EventEnd.{EventEnd}
-use Rattle.subsystem_defs.specs.declared.end.EventEnd.TheVariants as ends
 use Rattle.subsystem_defs.specs.declared.event.Event.{Event}
 use Rattle.subsystem_defs.specs.declared.event.Event.TheVariants as events
-use Rattle.subsystem_defs.specs.Beside.{acts_in, Hardened, LooseTold, Loosened, WentBack, behind_first, has_power, loose_count, loose_told, new_acts, new_items, power_told, told_act}
+use Rattle.subsystem_defs.specs.Beside.{acts_in, Hardened, LooseTold, Loosened, WentBack, behind_first, new_acts, power_told, told_act}
 use Rattle.subsystem_defs.specs.Deeds.{device_in}
-use Rattle.subsystem_defs.specs.Lines.{Asked, Once, Replace, Run, Settle, Unpair}
+use Rattle.subsystem_defs.specs.Lines.{Asked, Once}
 use Rattle.subsystem_defs.specs.Promised.{empty_of}
+use Rattle.run_audit_laws.proofs.EachLine.{event_all}
 use Rattle.run_audit_laws.proofs.NamedEvents.{Names}
 use Rattle.run_audit_laws.proofs.RangedActs.{ActOn, each_behind, history_on}
 use Rattle.run_audit_laws.proofs.RangedCommands.{EndIn, EventIn}
@@ -199,38 +192,15 @@ over_known d k xs p = grind (arith, one)
 overs_known : (x y : MarksDevice) → Ranged x → Ranged y → All IsLine (over_lines x y)
 overs_known x y r s = grind (arith, over_known, rest_paths, item_paths)
 
-power_known : (x y : MarksDevice) → Ranged x → Ranged y → All IsLine (power_lines x y)
-power_known x y r s = All-append IsLine (over_lines x y) (loose_lines x y) (overs_known x y r s) (loose_known x y r s)
-
-each_known : (f : MarksDevice → MarksDevice → List ReportLine) → ((x y : MarksDevice) → Ranged x → Ranged y → All IsLine (f x y)) →
-    (xs ys : List MarksDevice) → All Ranged xs → All Ranged ys → All IsLine (of_each f xs ys)
-each_known f known (x ∷ xs) (y ∷ ys) r s =
-    All-append IsLine (f x y) (of_each f xs ys) (known x y (All-head Ranged x xs r) (All-head Ranged y ys s))
-    (each_known f known xs ys (All-tail Ranged x xs r) (All-tail Ranged y ys s))
-each_known f known xs ys r s = All-nil IsLine
-
 -- An event
 
 module _ (reads writes : ℕ) (few : IsLong reads × IsLong writes) (xs ys : List MarksDevice) (before : All Ranged xs) (behind : All Ranged ys) where
   io_known : All IsLine (io_lines reads writes)
   io_known = grind (arith, one)
 
-  work_known : (h : report.Happened) → HasNames h → All IsLine (work_lines h reads writes xs ys)
-  work_known h n =
-      let last = line_if (last_line h) in
-      let overs = of_each over_lines xs ys in
-      let looses = of_each loose_lines xs ys in
-      let io = io_lines reads writes in
-      All-append IsLine (first_lines h) (looses ++ (io ++ (overs ++ last))) (first_known h n)
-      (All-append IsLine looses (io ++ (overs ++ last)) (each_known loose_lines loose_known xs ys before behind)
-      (All-append IsLine io (overs ++ last) io_known
-      (All-append IsLine overs last (each_known over_lines overs_known xs ys before behind) (last_known h n))))
-
   pub event_known : (end : EventEnd) (asked : Asked) → Names asked → Answers asked end → RepairsIn asked end →
       All IsLine (event_lines asked end reads writes xs ys)
-  event_known end asked n a w = by_asked asked (told_names xs before end asked n a w) where
-    by_asked : (asked : Asked) → HasNames (told xs end asked) → All IsLine (event_lines asked end reads writes xs ys)
-    by_asked (Once events.Power) h =
-        All-append IsLine (of_each power_lines xs ys) (lines.Order orders.Power (order_answer end) ∷ []) (each_known power_lines power_known xs ys before behind)
-        (one (lines.Order orders.Power (order_answer end)) h)
-    by_asked asked h = work_known (told xs end asked) h
+  event_known end asked n a w =
+      let h = told_names xs before end asked n a w in
+      event_all IsLine Ranged loose_known overs_known xs ys before behind reads writes io_known end asked (first_known (told xs end asked) h)
+      (last_known (told xs end asked) h)
