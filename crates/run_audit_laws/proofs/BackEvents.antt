@@ -76,12 +76,9 @@ heard_least s z clean h = grind (arith, sum_least)
 
 -- Good marks
 
-clean_has : (p lost loose level : Bool) → is_good (marks (Some false) p lost loose false level) ≡ true → (lost ≡ false) × ((level ≡ true) × (p ≡ false))
-clean_has p lost loose level e = grind arith
-
 well_clean : (s : MarksStore) → IsWell by_plain s → (q : ℕ) → q < tracks_of s → IsClean (spot_at s q)
 unfolding M.track_at
-well_clean s w q lt = grind (arith, clean_has, is_some, is_good, marks)
+well_clean s w q lt = grind (arith, is_some, is_good, marks)
 
 well_firm : (s : MarksStore) → IsWell by_plain s → (q : ℕ) → q < tracks_of s → half_is s.half q ≡ true → is_loose s q ≡ false
 unfolding M.track_at

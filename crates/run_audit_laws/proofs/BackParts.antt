@@ -201,14 +201,8 @@ module _ (p : PlainState) (u : List Track) (g : Geometry) (n : ℕ) (lent : Opti
   copy_said t side s None w = stopped_said s (other side) (dids.Fault (other side)) tt w
   copy_said t side s (Some r) w = had_write (λ ok. copied_said t side (W.write_counted s ok) ok w)
 
-  copies_said : (s : MarksStore) (t : ℕ) (o : Option Side) → On s → Had (copy_by by_plain s t o) WorkIs
-  copies_said s t o w = search (arith, had_done, none_said, had_read, copy_said)
-
-  filled_stays : (s : MarksStore) (t : ℕ) (i : Image) → On s → Had (filled by_plain s t i) (λ z (_ : Unit {0}). On z)
-  filled_stays s t i w = search (arith, had_if, had_ask, had_done, same_on, framed_same)
-
   staged_said : (t : ℕ) (s : MarksStore) (k : Got Bool) (b : Option Bool) → On s → Had (staged_bytes by_plain t s k b) WorkIs
-  staged_said t s k b w = search (arith, had_ask, had_done, none_said, fault_none, had_try, had_then, filled_stays)
+  staged_said t s k b w = search (arith, had_ask, had_done, none_said, fault_none, had_try, had_then, had_if, same_on, framed_same)
 
   stage_said : (s : MarksStore) (t : ℕ) → On s → Had (stage by_plain s t) WorkIs
   stage_said s t w =
@@ -225,7 +219,7 @@ module _ (p : PlainState) (u : List Track) (g : Geometry) (n : ℕ) (lent : Opti
   stages_said s (t ∷ ts) w = stage_said (record s { queue = ts }) t w
 
   copy_first_said : (s : MarksStore) (o : Option ℕ) → On s → Had (copy_first by_plain s o) WorkIs
-  copy_first_said s o w = search (arith, stages_said, copies_said)
+  copy_first_said s o w = search (arith, stages_said, had_done, none_said, had_read, copy_said)
 
   recover_first_said : (s : MarksStore) (o : Option ℕ) → On s → IsAlone s → Had (recover_first by_plain s o) WorkIs
   recover_first_said s None w alone = copy_first_said s (to_copy s) w
@@ -240,10 +234,6 @@ module _ (p : PlainState) (u : List Track) (g : Geometry) (n : ℕ) (lent : Opti
 abbrev pub BackLeft : MarksDevice → MarksDevice → Option Did → Type 0
 BackLeft x y (Some d) = HasParts x y (back_half (audited x) (back_answer d))
 BackLeft x y None = ⊥
-
-said_half : (x : MarksDevice) → x.store.half ≡ None → (d : Did) (h : Option (store.HalfWrite (Unit {0}))) → IsSaid d h →
-    half_by h ≡ back_half (audited x) (back_answer d)
-said_half x none d h is = grind arith
 
 module _ (num : ℕ) (empty : PlainState) (x : MarksDevice) (f : Follows num empty x) (none : x.store.half ≡ None)
     (alone : x.store.paired ≡ false → x.store.b.up ≡ false) where
@@ -263,7 +253,7 @@ module _ (num : ℕ) (empty : PlainState) (x : MarksDevice) (f : Follows num emp
   HalfSaid y None = ⊥
 
   said_by : (y : MarksDevice) (a : Option Did) → WorkIs y.store a → HalfSaid y a
-  said_by y a said = grind (arith, said_half)
+  said_by y a said = grind arith
 
   stays_said : (y : MarksDevice) (a : Option Did) (z : MarksStore) → core_of z ≡ core_of y.store → HalfSaid y a → HalfSaid (record y { store = z }) a
   stays_said y a z e p = grind arith

@@ -69,12 +69,9 @@ all_here : (n : ℕ) (acts : List Act) → acts_at (map (behind_ends n) acts) n 
 all_here n [] = refl
 all_here n (act ∷ acts) = grind (arith, all_here n acts, same_number)
 
-if_front : (b : Bool) (x : Act) (xs ys : List Act) → (if b then x ∷ (xs ++ ys) else xs ++ ys) ≡ (if b then x ∷ xs else xs) ++ ys
-if_front b x xs ys = grind arith
-
 at_ends : (n : ℕ) (acts : List Act) (xs : List Acted) → acts_at (xs ++ map (behind_ends n) acts) n ≡ acts_at xs n ++ acts
 at_ends n acts [] = all_here n acts
-at_ends n acts (x ∷ xs) = grind (arith, at_ends n acts xs, all_here, if_front)
+at_ends n acts (x ∷ xs) = grind (arith, at_ends n acts xs, all_here)
 
 same_bare : (s : PlainState) (path : ℕ) (ccws : List Ccw) (n : ℕ) (acts : List Act) (xs : List Acted) →
     bare_part s path ccws (xs ++ map (behind_ends n) acts) n ≡ bare_part s path ccws xs n
@@ -169,10 +166,6 @@ module _ (s : PlainState) (path : ℕ) (ccws : List Ccw) (xs : List Acted) (n : 
   state_behind = grind (arith, state_here, same_ends, same_next, same_bare, at_ends, done_both)
 
   -- the legal acts of a point or of the end
-  acts_since : (edited : Option ℕ) → AreActs (bare_part s path ccws (xs ++ map (behind_ends n) acts) n).state edited
-      (acts_at (xs ++ map (behind_ends n) acts) n) → AreActs before.state edited acts
-  acts_since edited are = grind (arith, state_here, split_acts, at_ends, same_bare)
-
   module _ (none : NoLoss acts) where
     same_effect : (c : Ccw) → effect_on behind.fixed behind.state path behind.stance c ≡ effect_on before.fixed before.state path before.stance c
     same_effect c =
@@ -277,7 +270,7 @@ module _ (a : AuditedDevice) (plainly : IsPlain a.plans a.empty a.history) (acts
 
     acts_are : (edited : Option ℕ) → AreActs (bare_part s o.path ccws (o.acts ++ map (behind_ends n) acts) n).state edited
         (acts_at (o.acts ++ map (behind_ends n) acts) n) → AreActs (state_of a) edited acts
-    acts_are edited are = grind (arith, state_is, acts_since, as_many)
+    acts_are edited are = grind (arith, state_is, state_here, split_acts, at_ends, same_bare, as_many)
 
     abbrev later : OpenEntry
     later = record o { acts = o.acts ++ map (behind_ends (length o.ends)) acts }
@@ -292,13 +285,9 @@ module _ (a : AuditedDevice) (plainly : IsPlain a.plans a.empty a.history) (acts
       longer : o.ends ++ e ∷ [] ≡ (part_of s o.path ccws (o.acts ++ map (behind_ends n) acts) (suc n)).ends
       point : IsPoint s o.path ccws (o.acts ++ map (behind_ends n) acts) n
 
-    one_more : (e : CommandEnd) (k : ℕ) → k ≡ suc n → o.ends ++ e ∷ [] ≡ (part_of s o.path ccws (o.acts ++ map (behind_ends n) acts) k).ends →
-        HasActs s o.path ccws (o.acts ++ map (behind_ends n) acts) k → HasOneMore e
-    one_more e k is ends has = search arith
-
     by_over : (e : CommandEnd) (over : Bool) → IsPlain a.plans a.empty (if over then closed (record a.history { running = Some later }) (with_end later e) Full
         else record a.history { running = Some (with_end later e) }) → HasOneMore e
-    by_over e over behind = grind (arith, item_in, one_more, one_longer)
+    by_over e over behind = grind (arith, item_in, one_longer)
 
     has_one_more : (e : CommandEnd) → IsPlain a.plans a.empty (ended (all_acted a.history acts) e) → HasOneMore e
     has_one_more e behind = grind (arith, by_over, acts_run)
@@ -341,9 +330,6 @@ module _ (a : AuditedDevice) (plainly : IsPlain a.plans a.empty a.history) (acts
         let ends = it.1.0.ends in
         check_at e (length (o.ends ++ e ∷ []) - 1) (omega (arith, one_longer o.ends e)) ends.last ends.ends_are ends.next_is ends.checked it.1.0.acts
 
-    as_check : (e : CommandEnd) (sense : Sense) → IsCheck ccws e → e.sense ≡ Some sense → e ≡ check_end ccws e.index sense
-    as_check e sense c is = grind arith
-
     plain_at : (next : Option ℕ) (i : ℕ) → next ≡ Some i → (f : CommandEnd) × (plain_end_at o.path ccws p next ≡ Some f) × (f.index ≡ i)
     plain_at (Some j) i is = (_, refl, let same : j ≡ i = cc in same)
     plain_at None i is = absurd (cc)
@@ -351,7 +337,7 @@ module _ (a : AuditedDevice) (plainly : IsPlain a.plans a.empty a.history) (acts
     checks_by : (e : CommandEnd) (has : HasCheck e) (sense : Sense) → IsCheckSense sense → e.sense ≡ Some sense → ChecksSo a o e acts
     checks_by e has sense is sensed =
         let f = plain_at p.next e.index (sym (same_next s o.path ccws o.acts n as_many is_open.runs acts) ∙ has.next) in
-        (search (arith, as_check, acts_are))
+        (search (arith, acts_are))
 
     pub checks_so : (e : CommandEnd) → IsPlain a.plans a.empty (checked (all_acted a.history acts) e) → ChecksSo a o e acts
     checks_so e behind = by_sense (has_check e behind) (has_check e behind).is_check.sense where

@@ -1,7 +1,6 @@
 -- All lines of a command that ends: its end, acts of cache fast write, volume calls, the program that is over.
-use Rattle.std.proofs.Common.{arith, ◌≡◌, ◌==◌, ◌++◌, ℕ, Bool, true, false, List, [], ◌∷◌, map, Option, Some, None, refl, sym, ap, subst, append_assoc}
+use Rattle.std.proofs.Common.{arith, ◌≡◌, ◌++◌, ℕ, Bool, true, false, List, [], ◌∷◌, map, Option, Some, None, refl, sym, ap, subst, append_assoc}
 use Rattle.std.proofs.lemmas.List.{map-append}
-use Rattle.std.specs.Prelude.{◌&&◌}
 use Rattle.std.proofs.lemmas.Bool.{and_from}
 use Rattle.deck_plan.specs.declared.event.EventLine.{EventLine}
 use Rattle.ckd_types.specs.declared.channel.CommandEnd.{CommandEnd}
@@ -14,7 +13,6 @@ use Rattle.plain_defs.specs.Legal.{AreActs}
 use Rattle.ckd_rules.specs.Ends.{end_at_word as end_of_command}
 use Rattle.plain_defs.specs.Effect.{effect_on}
 use Rattle.device_defs.specs.Device.{all_acted}
-use Rattle.report_text.specs.declared.answers.HowOver.{HowOver}
 use Rattle.report_text.specs.declared.answers.HowOver.TheVariants as how
 use Rattle.report_text.specs.declared.line.ReportLine.{ReportLine}
 use Rattle.report_text.specs.declared.line.ReportLine.TheVariants as lines
@@ -71,14 +69,8 @@ module _ (xs : List AuditedDevice) (w : EventLine) (later : List EventLine) (a :
         over_by (acted_to a acts) did (all_acted a.history acts).running ≡ over_by a did (Some o)
     by_did did is = grind arith
 
-  same_place : ((o.path == o.path) && (a.number == a.number) && (o.ordinal == o.ordinal)) ≡ true
-  same_place = grind (arith, and_from, same_number)
-
-  not_of_work : (more : Bool) (ended : HowOver) → is_of_work more (worker_of w) (over_told a o ended) ≡ false
-  not_of_work more ended = grind arith
-
   fits : (more : Bool) (did : Did) (line : ReportLine) → over_by a did (Some o) ≡ Some line → IsOver line × (is_of_work more (worker_of w) line ≡ false)
-  fits more did line is = grind (arith, same_place, not_of_work, and_from)
+  fits more did line is = grind (arith, and_from, same_number)
 
   all_lead : (acts : List Act) (more : Bool) (did : Did) → is_legal did (acted_to a acts) ≡ true → (firsts : List ReportLine) (reads writes : ℕ) →
       LeadsBy from firsts (at_work xs w later (acted_to a acts) (Behind more did)) →

@@ -26,7 +26,6 @@ use Rattle.ckd_rules.specs.Area.{given_at}
 use Rattle.ckd_rules.specs.Control.{located}
 use Rattle.ckd_rules.specs.Ending.{refused}
 use Rattle.ckd_rules.specs.Formats.{body_given, format_behind, format_ended, has_room_behind, key_given, record_given, zero_on}
-use Rattle.ckd_rules.specs.Look.{look_on}
 use Rattle.ckd_rules.specs.Looked.{Looked, edits, ends}
 use Rattle.ckd_rules.specs.Reads.{read_bytes, read_sought, record_at}
 use Rattle.ckd_rules.specs.Searches.{search_sought}
@@ -114,21 +113,14 @@ module _ (c : Ccw) (gives : GivesBytes c) (t : Track) (all : TrackHolds t) (s : 
   finds_holds : (d : Domain) (o : Option ℕ) → LookHolds t (ends (located s c d o))
   finds_holds d o = grind (arith, no_bytes)
 
-  look_holds : (g : Geometry) (look : Look) → LookHolds t (look_on g t s c look)
-  look_holds g look = grind (arith, finds_holds, search_holds, read_holds, write_holds)
-
 -- From track to track
 
 module _ (tracks : ℕ → Track) (hold : (t : ℕ) → TrackHolds (tracks t)) where
   abbrev pub WalkHolds : Walked → Type 0
   WalkHolds w = All IsByte w.outcome.ending.sent × IfSome w.edit (λ e. TrackHolds (apply_edit e.edit (tracks e.track)))
 
-  walked_holds : (t : ℕ) (on : Stance → Walked) (s : Stance) (k : Turned) → TurnHolds (tracks t) k → ((z : Stance) → WalkHolds (on z)) →
-      WalkHolds (walked t on s k)
-  walked_holds t on s k h go = grind arith
-
   pub walk_holds : (n : ℕ) (g : Geometry) (start : Stance) (c : Ccw) → GivesBytes c → (look : Look) (s : Stance) →
       WalkHolds (walk n g tracks start c look s)
   unfolding W.walk
   walk_holds zero g start c gives look s = (no_bytes, tt)
-  walk_holds (suc n) g start c gives look s = grind (arith, walk_holds n g start c gives look, walked_holds, look_holds)
+  walk_holds (suc n) g start c gives look s = grind (arith, walk_holds n g start c gives look, finds_holds, search_holds, read_holds, write_holds)

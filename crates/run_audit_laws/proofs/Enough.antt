@@ -24,7 +24,6 @@ use Rattle.ckd_rules.specs.Walk as W
 use Rattle.ckd_rules.specs.Walk.{TrackEdit, Walked, walk, walked}
 use Rattle.plain_defs.specs.Legal.{edit_at, next_edit}
 use Rattle.plain_defs.specs.declared.journal.Acted.{Acted}
-use Rattle.plain_defs.specs.Acts.{act_outcome}
 use Rattle.plain_defs.specs.Effect.{Effect, acted_by, effect_by, effect_on}
 use Rattle.plain_defs.specs.PlainState.{PathsState, PlainState}
 use Rattle.plain_defs.specs.Program as P
@@ -80,15 +79,12 @@ module _ (k : ℕ) (some : 0 < k) where
 
   -- A command
 
-  act_on : (s : Stance) (c : Ccw) (bytes : List ℕ) (act : LocalAct) → On n s → On n (act_outcome s c bytes act).stance
-  act_on s c bytes act on = search arith
-
   abbrev HasEdit : Effect → Type 0
   HasEdit e = EditsOn e.outcome e.edit
 
   module _ (f : Fixed) (same : f.cylinders ≡ k) (paths : PathsState) (tracks : ℕ → Track) (path : ℕ) (start : Stance) (starts : On n start) (c : Ccw) where
     acted_on : (act : LocalAct) (o : Option GroupFault) → On n (acted_by f paths path start c act o).outcome.stance
-    acted_on act o = search (arith, act_on)
+    acted_on act o = search arith
 
     by_opening : (s : Stance) (o : Opening) → OpeningFits c o → Opens n s o → HasEdit (effect_by f paths tracks path start c s o)
     by_opening s (openings.Over e) fits on = record { other = fits_by c e e.sense fits; at = on; edited = tt }
@@ -109,13 +105,10 @@ module _ (k : ℕ) (some : 0 < k) where
     beside_place : (p : Part) → PlaceOn p → PlaceOn (P.acts_made acts p)
     beside_place p f = search (arith, acted_beside)
 
-    stepped_place : (p : Part) (next : Option ℕ) → PlaceOn p → PlaceOn (stepped_at path ccws p next)
-    stepped_place p next f = search (arith, effect_edits)
-
     part_place : (j : ℕ) → PlaceOn (part_of state path ccws acts j)
     unfolding P.part_of
     part_place zero = beside_place (P.first_part state path ccws) (search arith)
-    part_place (suc j) = grind (arith, part_place j, beside_place, stepped_place)
+    part_place (suc j) = grind (arith, part_place j, beside_place, effect_edits)
 
     edit_at_on : (p : Part) (next : Option ℕ) → PlaceOn p → IfSome (edit_at path ccws p next) (λ e. e.track < n)
     edit_at_on p next f = grind (arith, effect_edits)

@@ -3,7 +3,6 @@ use Rattle.std.proofs.Common.{get_or, arith, ◌≡◌, ◌++◌, ℕ, true, Lis
 use Rattle.std.specs.Prelude.{All}
 use Rattle.std.specs.List.{flat_map}
 use Rattle.std.proofs.lemmas.List.Elements.{All-append, All-cons, All-map, All-nil}
-use Rattle.ckd_types.specs.declared.sense.Sense.{Sense}
 use Rattle.deck_text.specs.DeckLines.{DeckLines}
 use Rattle.device_defs.specs.Marks.{MarksDevice}
 use Rattle.report_text.specs.declared.event.Happened as report
@@ -11,14 +10,12 @@ use Rattle.report_text.specs.declared.event.ProgramOver.{ProgramOver}
 use Rattle.report_text.specs.declared.line.ReportLine.{ReportLine}
 use Rattle.report_text.specs.declared.line.ReportLine.TheVariants as lines
 use Rattle.report_text.specs.declared.order.Order.TheVariants as orders
-use Rattle.report_text.specs.Ends.{data_lines, sense_lines}
 use Rattle.report_text.specs.Events.{first_lines, io_lines, last_line, line_if, loosed_line, program_over_lines}
 use Rattle.report_reading.specs.Ranges.{has_answer, has_form}
-use Rattle.run_report.specs.declared.told.RunningProgram.{RunningProgram}
 use Rattle.run_report.specs.Answers.{order_answer}
 use Rattle.run_report.specs.Beside.{loose_lines, loosed, over_lines, over_of}
 use Rattle.run_report.specs.Closing.{device_lines, ending_lines, frame_line}
-use Rattle.run_report.specs.Events.{lines_of, told, work_told}
+use Rattle.run_report.specs.Events.{lines_of, told}
 use Rattle.run_report.specs.Report.{report_lines}
 use Rattle.subsystem_defs.specs.declared.end.EventEnd.{EventEnd}
 use Rattle.subsystem_defs.specs.declared.event.Event.{Event}
@@ -43,21 +40,12 @@ one line is = All-cons Formed line [] is (All-nil Formed)
 
 -- What an event did
 
-data_formed : (bytes : List ℕ) → All Formed (data_lines bytes)
-data_formed bytes = grind (arith, one)
-
-sense_formed : (sense : Option Sense) → All Formed (sense_lines sense)
-sense_formed sense = grind (arith, one)
-
 first_formed : (h : report.Happened) → All Formed (first_lines h)
-first_formed h = grind (arith, one, data_formed, sense_formed)
+first_formed h = grind (arith, one)
 
 -- an order with an answer that it may have
 abbrev WellTold : report.Happened → Type 0
 WellTold h = All Formed (line_if (last_line h))
-
-work_well : (d : ℕ) (r : Option RunningProgram) (idle : report.Happened) → WellTold idle → (end : EventEnd) → WellTold (work_told d r idle end)
-work_well d r idle well end = grind arith
 
 -- a loss of power is done
 abbrev PowerDone : Asked → EventEnd → Type 0
@@ -65,7 +53,7 @@ PowerDone (Once events.Power) end = has_answer orders.Power (order_answer end) �
 PowerDone asked end = Unit {0}
 
 told_well : (xs : List MarksDevice) (end : EventEnd) (asked : Asked) → PowerDone asked end → WellTold (told xs end asked)
-told_well xs end asked done = grind (arith, one, work_well)
+told_well xs end asked done = grind (arith, one)
 
 -- Beside it
 

@@ -23,8 +23,7 @@ use Rattle.device_defs.specs.Marks.{MarksDevice}
 use Rattle.device_defs.specs.Orders.{lend}
 use Rattle.deck_audit.specs.Device.{outline_of}
 use Rattle.deck_audit.specs.State.{outlines}
-use Rattle.report_places.specs.declared.state.Outline.{Outline}
-use Rattle.report_places.specs.Place.{holds, is_declared}
+use Rattle.report_places.specs.Place.{is_declared}
 use Rattle.subsystem_defs.specs.declared.end.EventEnd.{EventEnd}
 use Rattle.subsystem_defs.specs.declared.end.EventEnd.TheVariants as ends
 use Rattle.subsystem_defs.specs.declared.event.Event.{Event}
@@ -83,11 +82,8 @@ module _ (P T : ℕ → Type 0) where
   front_of : (fs : List Frame) (d t : ℕ) → AllOf fs → AllOf (in_front fs d t)
   front_of fs d t a = front_by (lookup_entry (is_of d t) fs) fs (frame_removed fs d t) (looked_of (is_of d t) fs a) a (removed_of (is_of d t) fs a)
 
-  less_of : (fs : List Frame) (o : Option (ℕ × ℕ)) → AllOf fs → AllOf (less_frame fs o)
-  less_of fs o a = grind (arith, removed_of)
-
   wanted_of : (p : Pool) (d t : ℕ) → P d × T t → AllOf p.frames → AllOf (frames_wanted p d t)
-  wanted_of p d t own a = grind (arith, cond_both, front_of, less_of)
+  wanted_of p d t own a = grind (arith, cond_both, front_of, removed_of)
 
   module _ (n : ℕ) (has : P n) where
     after_of : (p : Pool) (call : Call) (a : AnswerTo call) → IsOwn T n call → AllOf p.frames → AllOf (after p call a).frames
@@ -150,9 +146,6 @@ module _ (P T : ℕ → Type 0) where
   some_at [] n m is has = absurd (cc)
   some_at (k ∷ ms) n m is has = grind (arith, some_at ms n m, eqb-true)
 
-  becomes_of : (s : Subsystem) (n : ℕ) (d : MarksDevice) (o : Option Mounted) → (becomes s n o d).pool ≡ s.pool
-  becomes_of s n d o = grind arith
-
   joined_of : (s : Subsystem) (n : ℕ) (volume : Calls) (o : Option Mounted) → (joined s n volume o).pool ≡ s.pool
   joined_of s n volume o = grind arith
 
@@ -173,7 +166,7 @@ module _ (P T : ℕ → Type 0) where
 
   happens_of : (s : Subsystem) (x : MarksDeed) → KeepsFrames s x → AreSome s.mounted → AllOf P T s.pool.frames →
       AllOf P T (happens_by s x).behind.pool.frames
-  happens_of s x h has all = grind (arith, becomes_of, asks_of, swept_of, lends_of)
+  happens_of s x h has all = grind (arith, asks_of, swept_of, lends_of)
 
   -- an answer asks nothing
   answered : {X Y : Type 0} (d : MarksDevice) (talk : Talk X) (f : X → Y) → OwnTalk d talk → OwnTalk d (and_then talk (λ z a. Done z (f a)))
@@ -309,15 +302,11 @@ any_kept = record {
 
 -- They are declared
 
-declared_if : (b : Bool) (o : Option Outline) (x : Outline) → holds o (λ (a : Outline). true) ≡ true →
-    holds (if b then Some x else o) (λ (a : Outline). true) ≡ true
-declared_if b o x is = grind arith
-
 declared_at : (ms : List Mounted) (n : ℕ) → IsOneOf (map (λ (t : Tie). t.number) (ties ms)) n →
     is_declared (map outline_of (map audited (map (λ (m : Mounted). m.device) ms))) n ≡ true
 declared_at [] n is = absurd is
 declared_at (m ∷ ms) n (inl same) = grind (arith, eq-eqb)
-declared_at (m ∷ ms) n (inr more) = grind (arith, declared_at ms n more, declared_if)
+declared_at (m ∷ ms) n (inr more) = grind (arith, declared_at ms n more)
 
 all_declared : (s : Subsystem) (fs : List Frame) → AllOf (IsOneOf (map (λ (t : Tie). t.number) (ties s.mounted))) Any fs →
     All (λ (f : Frame). is_declared (outlines (stand s [])) f.0.0 ≡ true) fs

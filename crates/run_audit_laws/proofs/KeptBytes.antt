@@ -1,9 +1,9 @@
 -- A plain device whose programs give bytes keeps bytes: on its volume, on the tracks that loose ones go back to, and of its paths. So each of their
 -- commands sends bytes.
-use Rattle.std.proofs.Common.{arith, ◌≡◌, ◌-◌, ◌==◌, ◌++◌, ◌*◌, zero, suc, ℕ, Bool, true, false, List, [], ◌∷◌, length, map, Option, Some, None, refl, sym, subst, inl, inr, if◌then◌else◌}
+use Rattle.std.proofs.Common.{get_or, arith, ◌≡◌, ◌-◌, ◌==◌, ◌++◌, ◌*◌, zero, suc, ℕ, Bool, true, false, List, [], ◌∷◌, length, Option, Some, None, refl, sym, subst, inl, inr, if◌then◌else◌}
 use Rattle.std.specs.Prelude.{◌⊎◌, All, IfSome, not}
 use Rattle.std.specs.List.{range_with_len}
-use Rattle.std.proofs.lemmas.List.Elements.{All-cons, All-filter, All-head, All-nil, All-push, All-set, All-tail}
+use Rattle.std.proofs.lemmas.List.Elements.{All-map, All-filter, All-head, All-nil, All-push, All-set, All-tail}
 use Rattle.hex.specs.Hex.{IsBytes}
 use Rattle.ckd_types.specs.declared.channel.Ccw.{Ccw}
 use Rattle.ckd_types.specs.declared.channel.CommandEnd.{CommandEnd}
@@ -33,7 +33,7 @@ use Rattle.plain_defs.specs.declared.journal.Item.TheVariants as items
 use Rattle.plain_defs.specs.Acts.{act_fault}
 use Rattle.plain_defs.specs.Effect.{Effect, acted_by, behind_effect, edited_volume, effect_by, effect_on}
 use Rattle.plain_defs.specs.Entry.{ProgramEntry}
-use Rattle.plain_defs.specs.History.{History, IsOpen, IsPlain, OpenEntry, plain_of, state_by}
+use Rattle.plain_defs.specs.History.{History, IsPlain, plain_of}
 use Rattle.plain_defs.specs.Journal.{Plans, checked_paths, effects_of, entry_part, last_sense, program_of, replay, replay_item}
 use Rattle.plain_defs.specs.Legal.{EndsChecked, HasEnds, IsLegalFrom, IsLegalItem}
 use Rattle.plain_defs.specs.Loose.{act_done, lost_by_power, power_off, restored}
@@ -65,12 +65,9 @@ pub record KeepsBytes (state : PlainState) : Type 0 where
 fresh_keeps : PathsKeep fresh_paths
 fresh_keeps = search (arith, zero_in)
 
-all_empty : (ts : List ℕ) → All TrackHolds (map empty_track ts)
-all_empty [] = All-nil TrackHolds
-all_empty (t ∷ ts) = All-cons TrackHolds (empty_track t) (map empty_track ts) (empty_holds t) (all_empty ts)
-
 volume_holds : (cylinders : ℕ) → All TrackHolds (empty_volume cylinders)
-volume_holds cylinders = all_empty (range_with_len 0 (cylinders * 15))
+volume_holds cylinders =
+    All-map TrackHolds empty_track (range_with_len 0 (cylinders * 15)) (λ k d lt. empty_holds (get_or (range_with_len 0 (cylinders * 15)) k d))
 
 pub empty_keeps : (g : Geometry) (cylinders : ℕ) → KeepsBytes (empty_state g cylinders)
 empty_keeps g cylinders = record { paths = fresh_keeps; volume = volume_holds cylinders; loose = All-nil FirmHolds }
@@ -214,9 +211,5 @@ module _ (plans : Plans) (gives : (path ordinal i : ℕ) → GivesBytes (ccw_at 
   items_keep state earlier [] l k = k
   items_keep state earlier (x ∷ xs) l k = items_keep (replay_item plans state x) (earlier ++ x ∷ []) xs l.1 (item_keeps state earlier x xs l.0 k)
 
-  running_keeps : (state : PlainState) (xs : List Item) (o : Option OpenEntry) → IfSome o (IsOpen plans state xs) → KeepsBytes state →
-      KeepsBytes (state_by plans state o)
-  running_keeps state xs o runs k = search (arith, part_keeps)
-
   pub history_keeps : (empty : PlainState) (h : History) → IsPlain plans empty h → KeepsBytes empty → KeepsBytes (plain_of plans empty h)
-  history_keeps empty h plain k = grind (arith, running_keeps, items_keep)
+  history_keeps empty h plain k = grind (arith, part_keeps, items_keep)

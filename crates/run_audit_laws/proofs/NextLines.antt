@@ -13,7 +13,7 @@ use Rattle.report_places.specs.declared.state.Due.TheVariants.{Next, Behind, Not
 use Rattle.report_places.specs.declared.state.HalfWrite.{HalfWrite}
 use Rattle.report_places.specs.declared.state.OpenProgram.{OpenProgram}
 use Rattle.report_places.specs.declared.state.Outline.{Outline}
-use Rattle.report_places.specs.Place.{holds, in_event, in_next, in_power, in_power_of, in_steps, is_act_of, is_back_line, is_cut, is_end, is_half, is_io, is_loss, is_loss_of, is_of_work, is_order, is_power_done, is_reset, is_second_line, is_start, may_back, may_reset, may_step, second_of}
+use Rattle.report_places.specs.Place.{holds, in_event, in_next, in_power, in_power_of, is_act_of, is_back_line, is_cut, is_end, is_half, is_io, is_loss, is_loss_of, is_of_work, is_order, is_power_done, is_reset, is_second_line, is_start, may_reset, may_step, second_of}
 use Rattle.report_places.specs.Same.{says}
 use Rattle.deck_audit.specs.State.{AuditState, worker_number}
 use Rattle.report_auditor.specs.declared.status.AuditWhy.{AuditWhy}
@@ -50,23 +50,14 @@ pub never_holds : {T : Type 0} (o : Option T) (f : T → Bool) → ((x : T) → 
 never_holds o f no_one = grind arith
 
 module _ (line : ReportLine) (b : BeginsNothing line) where
-  in_no_steps : (a : Outline) (idle : ReportLine) → says idle line ≡ false → (r : Option OpenProgram) → in_steps a idle line r ≡ false
-  in_no_steps a idle no_idle r = grind (arith, or_from)
-
   no_second : (a : Outline) (r : Option OpenProgram) → second_of a line r ≡ false
   no_second a r = never_holds r (λ o. is_end a.number o line) (b.ends a.number)
 
   no_step : (a : Outline) (idle : ReportLine) → says idle line ≡ false → (h : HalfWrite) → may_step a idle line h ≡ false
-  no_step a idle no_idle h = grind (arith, in_no_steps, no_second)
-
-  no_back : (a : Outline) (h : HalfWrite) → may_back a line h ≡ false
-  no_back a h = grind (arith, no_second)
-
-  reset_by : (path d : ℕ) (o : OpenProgram) (own : Bool) → (if own then is_cut d o line else is_reset path d line) ≡ false
-  reset_by path d o own = grind arith
+  no_step a idle no_idle h = grind (arith, or_from, no_second)
 
   no_reset : (path d : ℕ) (a : Outline) (r : Option OpenProgram) → may_reset path d a line r ≡ false
-  no_reset path d a r = grind (arith, reset_by)
+  no_reset path d a r = grind arith
 
   no_power_of : (a : Outline) (below : Bool) → below ≡ false → (r : Option OpenProgram) → in_power_of a line below r ≡ false
   no_power_of a below none r = grind (arith, or_from, and_right)
@@ -76,12 +67,9 @@ module _ (line : ReportLine) (b : BeginsNothing line) where
   no_power (a ∷ left) = no_power_of a (in_power line left) (no_power left) a.running
 
   begins_none : (s : List Outline) (e : EventLine) → IsCalm e → in_event s line e ≡ false
-  begins_none s e calm = grind (arith, never_holds, no_step, no_back, no_reset, or_from, no_power)
+  begins_none s e calm = grind (arith, never_holds, no_step, no_second, no_reset, or_from, no_power)
 
 -- Lines of work behind its first one
-
-io_begins_none : (reads writes : ℕ) → BeginsNothing (lines.Io reads writes)
-io_begins_none reads writes = search arith
 
 loose_begins_none : (n : ℕ) (a : LooseAnswer) → ((s : List Outline) → is_loss s (lines.Loose n a) ≡ false) →
     ((d : ℕ) → is_loss_of d (lines.Loose n a) ≡ false) → BeginsNothing (lines.Loose n a)
@@ -89,12 +77,9 @@ loose_begins_none n a no_loss no_loss_of = search arith
 
 -- Every line
 
-no_act : (more : Bool) (d : ℕ) (line : ReportLine) → is_act_of true d line ≡ false → is_act_of more d line ≡ false
-no_act more d line is = grind arith
-
 pub of_none : (line : ReportLine) → is_io line ≡ false → ((d : ℕ) → is_act_of true d line ≡ false) → (more : Bool) (w : Option ℕ) →
     is_of_work more w line ≡ false
-of_none line no_io act more w = grind (arith, no_act)
+of_none line no_io act more w = grind arith
 
 -- the first event line that is left, if there is one, is no volume's failure
 abbrev pub BeginsCalmly : List EventLine → Type 0
@@ -114,7 +99,7 @@ module _ (s : List Outline) (left : List EventLine) (calm : BeginsCalmly left) (
 
   -- a line that comes next is none of the work before
   next_is_other : (line : ReportLine) → in_next s line left ≡ true → is_of_work more w line ≡ false
-  next_is_other line is = grind (arith, loose_by, refuted, io_begins_none, of_none)
+  next_is_other line is = grind (arith, loose_by, refuted, of_none)
 
 -- From where a piece of work is known to be done at the next line
 

@@ -57,16 +57,12 @@ abbrev pub IsDone : EventLine → Order → Type 0
 IsDone e o = (z : AuditState) → event_made z (lines.Order o answers.Done) e ≡ Some (passed z)
 
 module _ (s : Subsystem) (e : EventLine) (o : Order) (asked : Asked) (is : IsOrder e o asked) where
-  order_judged : (later : List EventLine) (answer : OrderAnswer) (t : AuditState) →
-      event_made (stand s (e ∷ later)) (lines.Order o answer) e ≡ Some t → LeadsBy (stand s (e ∷ later)) (lines.Order o answer ∷ []) t
-  order_judged later answer t makes = search (arith, one_leads, first_judged)
-
   -- where of the devices nothing else is told
   pub told_leads : (z : Subsystem) (end : EventEnd) (later : List EventLine) →
       work_lines (did.Ordered o (order_answer end)) 0 0 (devices_of s) (devices_of z) ≡ lines.Order o (order_answer end) ∷ [] →
       event_made (stand s (e ∷ later)) (lines.Order o (order_answer end)) e ≡ Some (stand z later) →
       LeadsBy (stand s (e ∷ later)) (event_lines asked end 0 0 (devices_of s) (devices_of z)) (stand z later)
-  told_leads z end later told makes = search (arith, order_judged)
+  told_leads z end later told makes = search (arith, one_leads, first_judged)
 
   -- nothing was done
   pub refused_leads : (fault : OrderFault) → EventLeads s e asked (quietly s s (ends.Refused fault))

@@ -15,9 +15,9 @@ use Rattle.plain_defs.specs.Entry.{ProgramEntry}
 use Rattle.plain_defs.specs.History.{History, IsOpen, IsPlain, OpenEntry}
 use Rattle.plain_defs.specs.Journal.{Plans, effects_of, program_of, replay, replay_item}
 use Rattle.plain_defs.specs.Legal.{AreActs, AreInOrder, HasActs, HasEnds, IsLegalFrom, IsLegalItem, acts_stop, bare_part, next_edit, track_of}
-use Rattle.plain_defs.specs.Loose.{act_done, is_loose_in, lost_by_power, without}
+use Rattle.plain_defs.specs.Loose.{act_done, is_loose_in, without}
 use Rattle.plain_defs.specs.PlainState.{LooseTrack, PlainState}
-use Rattle.plain_defs.specs.Program.{Part, acted_at, acts_at, acts_done, part_of, stepped_at}
+use Rattle.plain_defs.specs.Program.{Part, acted_at, acts_at, acts_done, part_of}
 use Rattle.plain_defs.proofs.PartLemmas.{acted_beside, part_counts}
 use Rattle.device_laws.proofs.OpenProgram.{part_is_acted, with_acts_state}
 use Rattle.subsystem_defs.specs.Beside.{acts_in, acts_of_entry, acts_of_item, acts_of_items, acts_running, behind_first}
@@ -100,12 +100,9 @@ module _ (k : ℕ) (some : 0 < k) where
             (subst (λ (m : ℕ). StateOn (acts_done b.state (acts_at acts m))) (sym many)
             (acts_on (acts_at acts j) b.state a.edited s a.below a.are).state)
 
-    stepped_state : (p : Part) (next : Option ℕ) → StateOn p.state → StateOn (stepped_at path ccws p next).state
-    stepped_state p next s = search arith
-
     bare_state : (j : ℕ) → ((i : ℕ) → i < j → ActsAt i) → StateOn (bare_part state path ccws acts j).state
     bare_state zero a = record { cylinders = on.cylinders; loose = on.loose }
-    bare_state (suc j) a = grind (arith, bare_state j, stepped_state, part_state)
+    bare_state (suc j) a = grind (arith, bare_state j, part_state)
 
     module _ (m : ℕ) (h : HasActs state path ccws acts m) where
       acts_below : (j : ℕ) → j < m → ActsAt j
@@ -149,9 +146,6 @@ module _ (k : ℕ) (some : 0 < k) where
     few_stops : (s : PlainState) (e : ProgramEntry) (how : How) → HasEnds plans s e how → acts_stop how e.ends ≤ suc (effects_of how e.ends)
     few_stops s e how h = grind arith
 
-    power_on : (s : PlainState) (l : List LooseTrack) → StateOn s → StateOn (lost_by_power s l)
-    power_on s l on = search arith
-
     item_on : (s : PlainState) (earlier : List Item) (x : Item) (later : List Item) → StateOn s → IsLegalItem plans s earlier x later →
         ActsOn (acts_of_item x) (replay_item plans s x)
     item_on s earlier (items.Program e) later on l =
@@ -165,7 +159,7 @@ module _ (k : ℕ) (some : 0 < k) where
     item_on s earlier (items.Reset path) later on l = record { each = tt; state = record { cylinders = on.cylinders; loose = on.loose } }
     item_on s earlier items.Fresh later on l = record { each = tt; state = record { cylinders = on.cylinders; loose = tt } }
     item_on s earlier (items.Act act) later on l = acts_on (act ∷ []) s None on tt l
-    item_on s earlier items.Power later on l = search (arith, power_on)
+    item_on s earlier items.Power later on l = search arith
 
     items_on : (s : PlainState) (earlier xs : List Item) → StateOn s → IsLegalFrom plans s earlier xs → ActsOn (acts_of_items xs) (replay plans s xs)
     items_on s earlier [] on l = record { each = tt; state = on }

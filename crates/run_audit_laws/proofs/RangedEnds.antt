@@ -15,7 +15,6 @@ use Rattle.device_outside.specs.Pool.{Pool, after, answer, cache_failed, store_f
 use Rattle.device_outside.specs.Told as T
 use Rattle.device_outside.specs.Told.{Told, calls_of, told_read, read_fails, told_write, write_fails}
 use Rattle.device_defs.specs.declared.answers.StartFault.{StartFault}
-use Rattle.device_defs.specs.declared.answers.StartFault.TheVariants as refusals
 use Rattle.device_defs.specs.Contents.{by_plain}
 use Rattle.device_defs.specs.declared.answers.Did.{Did as BackDid}
 use Rattle.device_defs.specs.Command.{command}
@@ -62,12 +61,8 @@ module _ (P : EventEnd → Type 0) (done : P ends.Done) (idle : P ends.Idle) whe
   Fine (Repairs pool) = Unit {0}
   Fine (Lends x y) = Unit {0}
 
-  asks_fine : (s : Subsystem) (n : ℕ) (o : Option Mounted) (talk : Talk (Option EventEnd)) →
-      ((t : Told) → P (told_end (T.hold true talk t).answer)) → P (asks s n o talk).end
-  asks_fine s n o talk h = grind arith
-
   pub fine_end : (s : Subsystem) (x : MarksDeed) → Fine x → P (happens_by s x).end
-  fine_end s x h = grind (arith, asks_fine)
+  fine_end s x h = grind arith
 
   pub on_fine : (o : Option MarksDevice) (f : MarksDevice → MarksDeed) → IfSome o Ranged → ((d : MarksDevice) → Ranged d → Fine (f d)) → Fine (on_device o f)
   on_fine o f r h = grind arith
@@ -110,23 +105,16 @@ first_then o h rest = search arith
 where_first : {l : List (Option OrderFault)} (b : Bool) (f : OrderFault) → FaultIn f → FirstIn l → FirstIn (where_so b f ∷ l)
 where_first b f h rest = first_then (where_so b f) (where_in b f h) rest
 
-lent_in : (o : Option ℕ) → IfSome o (λ n. n < 16) → CauseIn (lent_by o)
-lent_in o h = grind arith
-
-active_in : (d : MarksDevice) → Ranged d → (r : Option OpenEntry) → IfSome r (IsOpen d.plans (replay d.plans (empty_of d) d.history.items) d.history.items) →
-    CauseIn (active_by r)
-active_in d k r h = search arith
-
 level_in : (n k : ℕ) → k ≤ 64 → n ≤ k * 15 → CauseIn (not_level_by n)
 level_in n k most few = where_in (not (n == 0)) (faults.NotLevel n) (omega (arith, most, few))
 
 pair_in : (x y : MarksDevice) → Ranged x → Ranged y → CauseIn (pair_fault x y)
 unfolding R.pair_fault
-pair_in x y r s = grind (arith, where_first, first_then, lent_in, active_in, none_first)
+pair_in x y r s = grind (arith, where_first, first_then, none_first)
 
 unpair_in : (x : MarksDevice) → Ranged x → CauseIn (unpair_fault x)
 unfolding R.unpair_fault
-unpair_in x r = grind (arith, where_first, first_then, active_in, is_some, level_in, few_marked, none_first)
+unpair_in x r = grind (arith, where_first, first_then, is_some, level_in, few_marked, none_first)
 
 suspend_in : (x : MarksDevice) → CauseIn (suspend_fault x)
 unfolding R.suspend_fault
@@ -138,11 +126,11 @@ resume_in x = (where_first (not x.store.paired) faults.Unpaired tt (where_first 
 
 fail_in : (x : MarksDevice) (side : Side) → Ranged x → CauseIn (fail_fault x side)
 unfolding R.fail_fault
-fail_in x side r = grind (arith, first_then, lent_in, where_first, none_first)
+fail_in x side r = grind (arith, first_then, where_first, none_first)
 
 replace_in : (x : MarksDevice) (side : Side) → Ranged x → CauseIn (replace_fault x side)
 unfolding R.replace_fault
-replace_in x side r = grind (arith, first_then, lent_in, where_first, is_some, none_first)
+replace_in x side r = grind (arith, first_then, where_first, is_some, none_first)
 
 abbrev FineOrder : MarksDeed → Type 0
 FineOrder x = Fine OrderIn tt tt x
@@ -172,12 +160,9 @@ module _ (d : MarksDevice) (k : Ranged d) (path : ℕ) where
   reserved_in : (o : Option Owner) → IfSome o IsOwner → Refused (reserved_fault d o)
   reserved_in o h = grind arith
 
-  idle_in : Refused (idle_fault d path)
-  idle_in = grind (arith, reserved_in)
-
   running_in : (r : Option OpenEntry) → IfSome r (IsOpen d.plans (replay d.plans (empty_of d) d.history.items) d.history.items) →
       Refused (running_fault d path r)
-  running_in r h = search (arith, idle_in)
+  running_in r h = search (arith, reserved_in)
 
   lent_start : (o : Option ℕ) → IfSome o (λ n. n < 16) → Refused (fault_by d path o)
   lent_start o h = grind (arith, running_in)
@@ -189,12 +174,8 @@ module _ (d : MarksDevice) (k : Ranged d) (path : ℕ) where
   some_left : (n m : ℕ) → (n - m ≡ 0 → ⊥) → m + 1 ≤ n
   some_left n m apart = omega (arith, apart)
 
-  left_if : (b : Bool) → (left d path == 0) ≡ b → (if b then Some refusals.PlanDone else if keeps_out d path then reserved_fault d d.paths.owner else None) ≡ None →
-      next_ordinal d path ≤ length (planned d.plans path)
-  left_if b is none = grind (arith, some_left, eqb-false)
-
   running_left : (r : Option OpenEntry) → running_fault d path r ≡ None → next_ordinal d path ≤ length (planned d.plans path)
-  running_left r none = grind (arith, left_if)
+  running_left r none = grind (arith, some_left, eqb-false)
 
   lent_left : (o : Option ℕ) → fault_by d path o ≡ None → next_ordinal d path ≤ length (planned d.plans path)
   lent_left o none = grind (arith, running_left)
@@ -203,11 +184,8 @@ module _ (d : MarksDevice) (k : Ranged d) (path : ℕ) where
   unfolding S.start_fault
   planned_next none = lent_left d.store.lent none
 
-  start_by_in : (o : Option StartFault) → start_fault d path ≡ o → Refused o → FineStart (start_by d path o)
-  start_by_in o is h = grind (arith, few_programs, planned_next)
-
   starts_in : FineStart (starts path d)
-  starts_in = grind (arith, start_by_in, fault_in)
+  starts_in = grind (arith, few_programs, planned_next, fault_in)
 
 -- A piece of work
 

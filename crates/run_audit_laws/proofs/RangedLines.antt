@@ -1,19 +1,16 @@
 -- The paths and devices that the lines of an event name are in their ranges.
-use Rattle.std.proofs.Common.{◌≤◌, ◌++◌, zero, suc, ℕ, Bool, List, [], ◌∷◌, length, map, Option, refl, arith}
-use Rattle.std.specs.Prelude.{All, IfSome, option_map}
+use Rattle.std.proofs.Common.{◌≤◌, ◌++◌, zero, suc, ℕ, List, [], ◌∷◌, length, map, Option, refl, arith}
+use Rattle.std.specs.Prelude.{All, IfSome}
 use Rattle.std.proofs.lemmas.List.Elements.{All-append, All-cons, All-nil}
 use Rattle.ckd_types.specs.declared.channel.CommandEnd.{CommandEnd}
 use Rattle.ckd_types.specs.declared.sense.Sense.{Sense}
 use Rattle.hex.specs.Hex.{IsBytes}
 use Rattle.deck_text.proofs.DeckAgain.{Each}
 use Rattle.plain_defs.specs.declared.journal.Act.{Act}
-use Rattle.plain_defs.specs.declared.journal.How.{How}
 use Rattle.plain_defs.specs.declared.journal.Item.{Item}
 use Rattle.plain_defs.specs.declared.journal.Item.TheVariants as items
-use Rattle.plain_defs.specs.Entry.{ProgramEntry}
-use Rattle.plain_defs.specs.History.{IsOpen, OpenEntry}
 use Rattle.plain_defs.specs.Journal.{Plans, planned, replay_item}
-use Rattle.plain_defs.specs.Legal.{HasEnds, IsLegalFrom, IsLegalItem}
+use Rattle.plain_defs.specs.Legal.{IsLegalFrom, IsLegalItem}
 use Rattle.plain_defs.specs.PlainState.{PlainState}
 use Rattle.device_defs.specs.Marks.{MarksDevice}
 use Rattle.report_text.specs.declared.event.Happened as report
@@ -21,15 +18,15 @@ use Rattle.report_text.specs.declared.event.Happened.TheVariants as did
 use Rattle.report_text.specs.declared.line.ReportLine.{ReportLine}
 use Rattle.report_text.specs.declared.line.ReportLine.TheVariants as lines
 use Rattle.report_text.specs.Ends.{data_lines, end_line, sense_lines}
-use Rattle.report_text.specs.Events.{first_lines, io_lines, last_line, line_if, loosed_line, program_over_lines}
+use Rattle.report_text.specs.Events.{first_lines, io_lines, last_line, line_if, loosed_line}
 use Rattle.report_reading.specs.Ranges.{AreBytes, IsAnswer, IsBack, IsDevice, IsLine, IsLong, IsOrder, IsOver, IsPath, IsShort, IsStart, IsTrack}
 use Rattle.run_report.specs.declared.told.RunningProgram.{RunningProgram}
-use Rattle.run_report.specs.Beside.{how_over, id_of, loose_lines, loosed, over_lines, over_of}
-use Rattle.run_report.specs.Events.{end_told, event_lines, half_told, running_by, running_in, running_program, told, work_told}
+use Rattle.run_report.specs.Beside.{how_over, loose_lines, loosed, over_lines}
+use Rattle.run_report.specs.Events.{event_lines, running_by, running_in, told, work_told}
 use Rattle.subsystem_defs.specs.declared.end.EventEnd.{EventEnd}
 use Rattle.subsystem_defs.specs.declared.event.Event.{Event}
 use Rattle.subsystem_defs.specs.declared.event.Event.TheVariants as events
-use Rattle.subsystem_defs.specs.Beside.{acts_in, Hardened, LooseTold, Loosened, WentBack, behind_first, new_acts, power_told, told_act}
+use Rattle.subsystem_defs.specs.Beside.{acts_in, Hardened, LooseTold, Loosened, WentBack, behind_first, new_acts, told_act}
 use Rattle.subsystem_defs.specs.Deeds.{device_in}
 use Rattle.subsystem_defs.specs.Lines.{Asked, Once}
 use Rattle.subsystem_defs.specs.Promised.{empty_of}
@@ -87,22 +84,12 @@ last_known : (h : report.Happened) → HasNames h → All IsLine (line_if (last_
 last_known h n = grind (arith, one)
 
 module _ (d : ℕ) (k : IsDevice d) where
-  end_names : (r : Option RunningProgram) → IfSome r HasPath → (e : CommandEnd) → EndIn e → HasNames (end_told d r e)
-  end_names r p e i = grind arith
-
-  half_names : (r : Option RunningProgram) → IfSome r HasPath → (t : ℕ) → IsTrack t → HasNames (half_told d r t)
-  half_names r p t lt = grind arith
-
   work_names : (r : Option RunningProgram) → IfSome r HasPath → (idle : report.Happened) → HasNames idle → (end : EventEnd) → EventIn end → WorkIn end →
       HasNames (work_told d r idle end)
-  work_names r p idle n end i o = grind (arith, end_names, half_names)
-
-path_of_open : (d : MarksDevice) → Ranged d → (state : PlainState) (xs : List Item) (r : Option OpenEntry) → IfSome r (IsOpen d.plans state xs) →
-    IfSome (option_map running_program r) HasPath
-path_of_open d k state xs r i = search (arith, few_programs)
+  work_names r p idle n end i o = grind arith
 
 running_path : (o : Option MarksDevice) → IfSome o Ranged → IfSome (running_by o) HasPath
-running_path o r = grind (arith, path_of_open)
+running_path o r = grind (arith, few_programs)
 
 abbrev Repairs : Event → EventEnd → Type 0
 Repairs events.RepairCache end = OrderIn end
@@ -132,11 +119,8 @@ TellsIn (Loosened t) = IsTrack t
 TellsIn (Hardened t) = IsTrack t
 TellsIn (WentBack count number) = IsShort count × IsShort number
 
-id_bytes : (n : ℕ) → IsShort n → AreBytes 2 (id_of n)
-id_bytes n short = search arith
-
 one_loosed : (d : ℕ) → IsDevice d → (l : LooseTold) → TellsIn l → IsLine (loosed_line (loosed d l))
-one_loosed d k l i = grind (arith, id_bytes)
+one_loosed d k l i = grind arith
 
 loosed_known : (d : ℕ) → IsDevice d → (ls : List LooseTold) → Each TellsIn ls → All IsLine (map loosed_line (map (loosed d) ls))
 loosed_known d k [] i = All-nil IsLine
@@ -149,9 +133,6 @@ module _ (x y : MarksDevice) (r : Ranged x) (s : Ranged y) where
   act_in : (act : Act) → OnDevice act → TellsIn (told_act x.store y.store act)
   act_in act lt = grind (arith, track_in_range)
 
-  power_in : (lost : Bool) → Each TellsIn (power_told x.store y.store lost)
-  power_in lost = grind arith
-
   acts_told : (acts : List Act) → Each OnDevice acts → (rest : List LooseTold) → Each TellsIn rest →
       Each TellsIn (map (told_act x.store y.store) acts ++ rest)
   acts_told [] on rest i = i
@@ -163,7 +144,7 @@ module _ (x y : MarksDevice) (r : Ranged x) (s : Ranged y) where
       (history_on y.store.cylinders s.some y.plans (empty_of y) y.history refl refl s.plain)
 
   loose_known : All IsLine (loose_lines x y)
-  loose_known = grind (arith, loosed_known, acts_told, new_on, power_in)
+  loose_known = grind (arith, loosed_known, acts_told, new_on)
 
 abbrev ItemHasPath : Item → Type 0
 ItemHasPath (items.Program e) = IsPath e.path × IsShort e.ordinal × IsOver (how_over e.how)
@@ -171,11 +152,8 @@ ItemHasPath _ = Unit {0}
 
 module _ (plans : Plans) (few : (path : ℕ) → length (planned plans path) ≤ 512) where
   -- a program that ran on behind fewer than 4,096 ends may have the effect of one command more
-  how_in : (state : PlainState) (e : ProgramEntry) (how : How) → HasEnds plans state e how → IsOver (how_over how)
-  how_in state e how h = grind (arith, few_of)
-
   item_path : (state : PlainState) (earlier : List Item) (x : Item) (later : List Item) → IsLegalItem plans state earlier x later → ItemHasPath x
-  item_path state earlier x later l = search (arith, few_programs, how_in)
+  item_path state earlier x later l = search (arith, few_programs, few_of)
 
   item_paths : (state : PlainState) (earlier xs : List Item) → IsLegalFrom plans state earlier xs → Each ItemHasPath xs
   item_paths state earlier [] l = tt
@@ -186,11 +164,8 @@ rest_paths zero xs p = p
 rest_paths (suc n) [] p = tt
 rest_paths (suc n) (x ∷ xs) p = rest_paths n xs p.1
 
-over_known : (d : ℕ) → IsDevice d → (xs : List Item) → Each ItemHasPath xs → All IsLine (program_over_lines (over_of d xs))
-over_known d k xs p = grind (arith, one)
-
 overs_known : (x y : MarksDevice) → Ranged x → Ranged y → All IsLine (over_lines x y)
-overs_known x y r s = grind (arith, over_known, rest_paths, item_paths)
+overs_known x y r s = grind (arith, one, rest_paths, item_paths)
 
 -- An event
 

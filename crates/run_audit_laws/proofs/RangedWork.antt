@@ -1,5 +1,5 @@
 -- The tracks that a step and a piece of work tell of are the device's: that of its half write, of its chain, of its queue, or the least that needs something.
-use Rattle.std.proofs.Common.{◌≡◌, ◌≤◌, ◌<◌, ◌*◌, ℕ, Bool, List, Option, Some, None, if◌then◌else◌, arith}
+use Rattle.std.proofs.Common.{◌≡◌, ◌≤◌, ◌<◌, ◌*◌, ℕ, Bool, List, Option, Some, None, arith}
 use Rattle.std.specs.Prelude.{IfSome}
 use Rattle.ckd_chain.specs.declared.progress.Progress.{Progress}
 use Rattle.ckd_chain.specs.State.{ChainState}
@@ -72,18 +72,12 @@ SecondIn (seconds.Ended e) = Unit {0}
 SecondIn (seconds.Finished t) = IsTrack t
 SecondIn (seconds.Unwritten t) = IsTrack t
 
-told_in : (t : ℕ) (c : Came) → IsTrack t → SecondIn (second_told by_plain t c)
-told_in t c lt = grind arith
-
-done_in : (b : Bool) (t : ℕ) → IsTrack t → SecondIn (if b then seconds.Finished t else seconds.Unwritten t)
-done_in b t lt = grind arith
-
 command_ended_in : (d : MarksDevice) (t : ℕ) (o : Option OpenEntry) (c : Option ChainState) (done : Bool) → IsTrack t →
     Had (command_ended by_plain d t o c done) (λ y a. SecondIn a)
-command_ended_in d t o c done lt = search (arith, had_done, told_in)
+command_ended_in d t o c done lt = search (arith, had_done)
 
 second_ended_in : (d : MarksDevice) (t : ℕ) (origin : Origin) (done : Bool) → IsTrack t → Had (second_ended by_plain d t origin done) (λ y a. SecondIn a)
-second_ended_in d t origin done lt = search (arith, command_ended_in, had_done, done_in)
+second_ended_in d t origin done lt = search (arith, command_ended_in, had_done)
 
 second_of_in : (d : MarksDevice) (o : Option (HalfWrite (Unit {0}))) → IfSome o (λ h. IsTrack h.track) → Had (second_of by_plain d o) (λ y a. SecondIn a)
 second_of_in d (Some h) lt = had_then (any_had (second_part by_plain d.store h)) (λ s done _. second_ended_in (with_store d s) h.track h.origin done lt)

@@ -25,7 +25,7 @@ use Rattle.device_defs.specs.Device.{all_acted, event, event_begun, with_store}
 use Rattle.device_defs.specs.Events as V
 use Rattle.device_defs.specs.Events.{command_ended, second, second_ended, second_of, second_turn}
 use Rattle.device_defs.specs.Marks.{MarksDevice, MarksStore}
-use Rattle.device_defs.specs.Outcomes.{Turn, told_step, turned, turned_by}
+use Rattle.device_defs.specs.Outcomes.{Turn, turned}
 use Rattle.device_defs.specs.Owed.{noted_begin, waiting_count}
 use Rattle.device_defs.specs.Store as store
 use Rattle.device_defs.specs.Store.{Origin, OfBackground, OfCommand, OfCut, tracks_of}
@@ -41,7 +41,7 @@ use Rattle.device_laws.proofs.PlainLooks.{EditSo, FollowSo, TurnIs, follow_so, f
 use Rattle.device_laws.proofs.PlainSeconds.{SecondSo, holds_first, part_so}
 use Rattle.device_laws.proofs.PlainStores.{Core, Open, Walks, core_of}
 use Rattle.device_laws.proofs.PlainTurns.{Follows, Halfway, IsMid, IsMidOf, none_mid, some_none}
-use Rattle.device_laws.proofs.PlainWalks.{IsEdited, ended_same, hear_same}
+use Rattle.device_laws.proofs.PlainWalks.{ended_same, hear_same}
 use Rattle.device_laws.proofs.WholeEvents.{turned_same}
 use Rattle.subsystem_defs.specs.Happening.{Talk}
 use Rattle.subsystem_laws.proofs.LendBase.{IsStill, stays_still}
@@ -71,10 +71,6 @@ HalfLeft y (Some (steps.Ended e)) = HasHalf y half.Closed
 HalfLeft y (Some (steps.Half t)) = HasHalf y half.OfCommand
 HalfLeft y None = ⊥
 
-turned_left : (w : MarksDevice) (path : ℕ) (chain : ChainState) (c : Came) → HasHalf w (half_after c) →
-    HalfLeft (turned_by w path chain c) (Some (told_step c))
-turned_left w path chain c p = grind (arith, turned_same)
-
 module _ (x : MarksDevice) where
   abbrev pub On : PlainState → Core → Type 0
   On p c = Walks p x.store.plain x.store.geometry x.store.cylinders (None, (x.store.lent, x.store.device)) c
@@ -102,11 +98,6 @@ module _ (num : ℕ) (empty : PlainState) (x : MarksDevice) (f : Follows num emp
   abbrev p : PlainState
   p = plain_of x.plans empty x.history
 
-  edited_half : (provisional : Bool) (t : ℕ) (e : _) (c : Core) →
-      IsEdited (plain_of x.plans empty x.history) x.store.plain x.store.geometry x.store.cylinders (None, (x.store.lent, x.store.device)) provisional t e c →
-      half_by c.half ≡ half.Closed
-  edited_half provisional t e c x5 = grind (arith, walked_half)
-
   module _ (now : x.chain ≡ Some chain) (whole : x.store.half ≡ None) (s : MarksStore) (e : core_of s ≡ core_of (noted_begin x.store)) where
     abbrev started : MarksDevice
     started = record (event_begun x) { store = s }
@@ -119,7 +110,7 @@ module _ (num : ℕ) (empty : PlainState) (x : MarksDevice) (f : Follows num emp
       edit_half : (edit : Option TrackEdit) (c : Core) →
           EditSo (plain_of x.plans empty x.history) x.store.plain x.store.geometry x.store.cylinders (None, (x.store.lent, x.store.device))
           (settled_act chain.fixed.geometry x.paths o.path) chain (on num empty x f o running chain is).0 first edit c → half_by c.half ≡ half.Closed
-      edit_half edit c w = grind (arith, walked_half, edited_half)
+      edit_half edit c w = grind (arith, walked_half)
 
       turn_half : (k : List Track → Fed) (turn : Turn) (c : Core) →
           TurnIs (plain_of x.plans empty x.history) x.store.plain x.store.geometry x.store.cylinders (None, (x.store.lent, x.store.device))
@@ -131,11 +122,11 @@ module _ (num : ℕ) (empty : PlainState) (x : MarksDevice) (f : Follows num emp
         FollowSo (plain_of x.plans empty x.history) x.store.plain x.store.geometry x.store.cylinders (None, (x.store.lent, x.store.device))
         (settled_act chain.fixed.geometry x.paths o.path) chain (on num empty x f o running chain is).0 t (tracks_of s) chain t y a →
         Had (on_tracks by_plain (record (event_begun x) { store = s }) o.path chain y a) (λ z b. HalfLeft z b)
-    by_turn t y a w = search (arith, had_done, turned_left, turn_half, core_of)
+    by_turn t y a w = search (arith, had_done, turned_same, turn_half, core_of)
 
     -- or at none
     answered_left : (c : ChainState) (k : Progress) → Had (answered_by by_plain (record (event_begun x) { store = s }) o.path c k) (λ z b. HalfLeft z b)
-    answered_left c k = search (arith, had_done, turned_left)
+    answered_left c k = search (arith, had_done, turned_same)
 
     by_need : (k : Option ℕ) → need_of chain ≡ k → Had (command_at by_plain (record (event_begun x) { store = s }) o.path chain k) (λ z b. HalfLeft z b)
     by_need (Some t) needs =
@@ -149,7 +140,7 @@ module _ (num : ℕ) (empty : PlainState) (x : MarksDevice) (f : Follows num emp
     by_need None needs = had_try (answered_left (stepped chain None).chain (stepped chain None).progress)
 
     begun_left : Had (command_by by_plain (record (event_begun x) { store = s }) (Some o) (Some chain)) (λ z b. HalfLeft z b)
-    begun_left = search (arith, had_if, had_done, turned_left, first_half, by_need)
+    begun_left = search (arith, had_if, had_done, turned_same, first_half, by_need)
 
     command_by_left : Had (command_by by_plain (record (event_begun x) { store = s }) x.history.running x.chain) (λ z b. HalfLeft z b)
     command_by_left = search (arith, begun_left)
@@ -225,7 +216,7 @@ module _ (num : ℕ) (empty : PlainState) (x : MarksDevice) (f : Follows num emp
   ended_second : (s z : MarksStore) (t : ℕ) (path : ℕ) (chain : ChainState) (bypass : Bool) (e : _) (done : Bool) → half_by z.half ≡ half.Closed →
       HalfSecond (turned (with_store (record (event_begun x) { store = s }) z) path (second_turn by_plain chain done)) (OfCommand bypass e)
       (V.second_told by_plain t (second_turn by_plain chain done).came)
-  ended_second s z t path chain bypass e done is = grind (arith, turned_left)
+  ended_second s z t path chain bypass e done is = grind (arith, turned_same)
 
   of_command : (s z : MarksStore) (t : ℕ) (bypass : Bool) (edit : _) (done : Bool) → Halfway (core_of x.store) t edit x.history.running f.before x.chain →
       half_by z.half ≡ half.Closed → AreActs (plain_of x.plans empty x.history) None z.acts → (o : OpenEntry) → x.history.running ≡ Some o →

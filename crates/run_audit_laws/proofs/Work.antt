@@ -46,23 +46,13 @@ use Rattle.run_audit_laws.proofs.Saying.{same_number}
 
 -- Another device in the place of its number
 
-put_by : (c : Bool) (n : ℕ) (x b a : AuditedDevice) (xs ys : List AuditedDevice) → (x.number == n) ≡ c → a.number ≡ n →
-    (if c then Some x else device_in xs n) ≡ Some b → (device_in xs n ≡ Some b → device_in ys n ≡ Some a) →
-    device_in (if c then a ∷ xs else x ∷ ys) n ≡ Some a
-put_by c n x b a xs ys test same found more = grind (arith, eq-eqb)
-
 pub found_put : (xs : List AuditedDevice) (n : ℕ) (b a : AuditedDevice) → device_in xs n ≡ Some b → a.number ≡ n → device_in (with_device xs a) n ≡ Some a
 found_put [] n b a is same = absurd (cc)
-found_put (x ∷ xs) n b a is same = grind (arith, found_put xs n b a, put_by)
-
-again_by : (c : Bool) (x a b : AuditedDevice) (xs : List AuditedDevice) → (x.number == b.number) ≡ c → a.number ≡ b.number →
-    with_device (with_device xs a) b ≡ with_device xs b →
-    with_device (if c then a ∷ xs else x ∷ with_device xs a) b ≡ (if c then b ∷ xs else x ∷ with_device xs b)
-again_by c x a b xs test same more = grind (arith, eq-eqb)
+found_put (x ∷ xs) n b a is same = grind (arith, found_put xs n b a, eq-eqb)
 
 pub put_again : (xs : List AuditedDevice) (a b : AuditedDevice) → a.number ≡ b.number → with_device (with_device xs a) b ≡ with_device xs b
 put_again [] a b same = refl
-put_again (x ∷ xs) a b same = grind (arith, put_again xs a b same, again_by)
+put_again (x ∷ xs) a b same = grind (arith, put_again xs a b same, eq-eqb)
 
 pub worked_number : (a : AuditedDevice) (did : Did) → (worked a did).number ≡ a.number
 worked_number a did = grind arith
