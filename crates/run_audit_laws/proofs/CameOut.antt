@@ -15,7 +15,7 @@ use Rattle.ckd_rules.specs.Walk.{TrackEdit}
 use Rattle.plain_defs.specs.declared.journal.Act.{Act}
 use Rattle.plain_defs.specs.declared.journal.Act.TheVariants.{Loosen, Harden, CfwLost}
 use Rattle.plain_defs.specs.declared.journal.Acted.{Acted}
-use Rattle.plain_defs.specs.declared.journal.How.TheVariants.{Full, Checked}
+use Rattle.plain_defs.specs.declared.journal.How.TheVariants.{Checked}
 use Rattle.plain_defs.specs.declared.journal.Item.{Item}
 use Rattle.plain_defs.specs.declared.journal.Item.TheVariants as items
 use Rattle.plain_defs.specs.Effect.{effect_on}
@@ -285,12 +285,8 @@ module _ (a : AuditedDevice) (plainly : IsPlain a.plans a.empty a.history) (acts
       longer : o.ends ++ e ∷ [] ≡ (part_of s o.path ccws (o.acts ++ map (behind_ends n) acts) (suc n)).ends
       point : IsPoint s o.path ccws (o.acts ++ map (behind_ends n) acts) n
 
-    by_over : (e : CommandEnd) (over : Bool) → IsPlain a.plans a.empty (if over then closed (record a.history { running = Some later }) (with_end later e) Full
-        else record a.history { running = Some (with_end later e) }) → HasOneMore e
-    by_over e over behind = grind (arith, item_in, one_longer)
-
     has_one_more : (e : CommandEnd) → IsPlain a.plans a.empty (ended (all_acted a.history acts) e) → HasOneMore e
-    has_one_more e behind = grind (arith, by_over, acts_run)
+    has_one_more e behind = grind (arith, item_in, one_longer, acts_run)
 
     module _ (none : NoLoss acts) (e : CommandEnd) (has : HasOneMore e) where
       end_plain : plain_end a o ≡ Some e

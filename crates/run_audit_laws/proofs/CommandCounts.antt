@@ -1,7 +1,6 @@
 -- Each command of a program counts one more in its stance, so no more than 4,096 of them end.
 use Rattle.std.proofs.Common.{arith, ◌≡◌, ◌+◌, ℕ, zero, suc, Bool, List, Option, is_some, refl, ap}
 use Rattle.ckd_types.specs.declared.channel.Ccw.{Ccw}
-use Rattle.ckd_types.specs.declared.command.Read.{Read}
 use Rattle.ckd_types.specs.declared.command.ReadArea.{ReadArea}
 use Rattle.ckd_types.specs.declared.command.SearchArea.{SearchArea}
 use Rattle.ckd_types.specs.declared.command.Write.{Write}
@@ -20,20 +19,19 @@ use Rattle.ckd_rules.specs.declared.stance.Place.{Place}
 use Rattle.ckd_rules.specs.declared.stance.Stance.{Stance}
 use Rattle.ckd_rules.specs.declared.turned.Turned.{Turned}
 use Rattle.ckd_rules.specs.declared.turned.Turned.TheVariants as turns
-use Rattle.ckd_rules.specs.Formats.{format_behind, zero_on}
 use Rattle.ckd_rules.specs.Control.{located}
 use Rattle.ckd_rules.specs.Look.{look_on}
 use Rattle.ckd_rules.specs.Looked.{Looked}
-use Rattle.ckd_rules.specs.Opening.{read_from, look_from, begun}
+use Rattle.ckd_rules.specs.Opening.{look_from, begun}
 use Rattle.ckd_rules.specs.Reads.{read_sought}
 use Rattle.ckd_rules.specs.Searches.{search_sought}
 use Rattle.ckd_rules.specs.Stance.{one_less}
-use Rattle.ckd_rules.specs.Updates.{update_data, update_record, update_sought}
+use Rattle.ckd_rules.specs.Updates.{update_record, update_sought}
 use Rattle.ckd_rules.specs.Walk as W
 use Rattle.ckd_rules.specs.Walk.{Walked, walk, walked}
 use Rattle.ckd_rules.specs.Writes.{write_on}
-use Rattle.plain_defs.specs.Effect.{effect_by, effect_on}
-use Rattle.plain_defs.specs.PlainState.{PathsState, PlainState}
+use Rattle.plain_defs.specs.Effect.{effect_on}
+use Rattle.plain_defs.specs.PlainState.{PlainState}
 
 -- a command that ended counts one more, one that goes on doesn't
 abbrev CountsBy : ℕ → Stance → Turned → Type 0
@@ -60,24 +58,15 @@ module _ (s : Stance) where
   search_counts : (t : Track) (area : SearchArea) (c : Ccw) (x : Sought) → Counts s.commands (search_sought t area s c x)
   search_counts t area c x = search arith
 
-  data_counts : (in_domain : Bool) (c : Ccw) (i : ℕ) (r : Record) → Counts s.commands (update_data in_domain s c i r)
-  data_counts in_domain c i r = search (arith, placed_less)
-
   record_counts : (with_key in_domain : Bool) (c : Ccw) (i : ℕ) (r : Record) → Counts s.commands (update_record with_key in_domain s c i r)
-  record_counts with_key in_domain c i r = search (arith, placed_less, data_counts)
+  record_counts with_key in_domain c i r = search (arith, placed_less)
 
   updated_counts : (with_key in_domain : Bool) (records : List Record) (c : Ccw) (x : Sought) →
       Counts s.commands (update_sought with_key in_domain records s c x)
   updated_counts with_key in_domain records c x = search (arith, record_counts)
 
-  format_counts : (g : Geometry) (records : List Record) (after : After) (c : Ccw) (i : ℕ) → Counts s.commands (format_behind g records after s c i)
-  format_counts g records after c i = search (arith, placed_less)
-
-  zero_counts : (c : Ccw) → Counts s.commands (zero_on s c)
-  zero_counts c = search (arith, placed_less)
-
   write_counts : (g : Geometry) (t : Track) (c : Ccw) (w : Write) → Counts s.commands (write_on g t s c w)
-  write_counts g t c w = grind (arith, updated_counts, is_some, format_counts, zero_counts)
+  write_counts g t c w = grind (arith, updated_counts, is_some, placed_less)
 
   found_counts : (c : Ccw) (d : Domain) (found : Option ℕ) → (located s c d found).stance.commands ≡ s.commands + 1
   found_counts c d found = grind arith
@@ -101,22 +90,14 @@ OpensBy k z (openings.Looks look) = z.commands ≡ k
 OpensBy k z (openings.Asks act) = Unit {0}
 
 module _ (s : Stance) where
-  reads_on : (c : Ccw) (r : Read) (area : ReadArea) (place : Place) →
-      OpensBy s.commands (read_from s c r area place).stance (read_from s c r area place).opening
-  reads_on c r area place = grind arith
-
   looks_on : (c : Ccw) (look : Look) → OpensBy s.commands (look_from s c look).stance (look_from s c look).opening
-  looks_on c look = grind (arith, reads_on)
+  looks_on c look = grind arith
 
   begins : (c : Ccw) (order : CommandOrder) → OpensBy s.commands (begun s c order).stance (begun s c order).opening
   begins c order = grind (arith, looks_on)
 
 -- The whole effect
 
-by_opening : (f : Fixed) (paths : PathsState) (tracks : ℕ → Track) (path : ℕ) (start : Stance) (c : Ccw) (z : Stance) (o : Opening) →
-    OpensBy start.commands z o → (effect_by f paths tracks path start c z o).outcome.stance.commands ≡ start.commands + 1
-by_opening f paths tracks path start c z o is = grind (arith, walk_counts)
-
 pub effect_counts : (f : Fixed) (state : PlainState) (path : ℕ) (s : Stance) (c : Ccw) →
     (effect_on f state path s c).outcome.stance.commands ≡ s.commands + 1
-effect_counts f state path s c = grind (arith, by_opening)
+effect_counts f state path s c = grind (arith, walk_counts)

@@ -11,10 +11,8 @@ use Rattle.ckd_types.specs.Ccw.{ccw_at}
 use Rattle.ckd_types.specs.Fixed.{Fixed}
 use Rattle.ckd_types.specs.Sense.{equipment_sense}
 use Rattle.ckd_rules.specs.declared.ending.Ending.{Ending}
-use Rattle.ckd_rules.specs.declared.grouping.GroupFault.{GroupFault}
 use Rattle.ckd_rules.specs.declared.opening.Opening.{Opening}
 use Rattle.ckd_rules.specs.declared.opening.Opening.TheVariants as openings
-use Rattle.ckd_rules.specs.declared.order.LocalAct.{LocalAct}
 use Rattle.ckd_rules.specs.declared.order.Look.{Look}
 use Rattle.ckd_rules.specs.declared.stance.Stance.{Stance}
 use Rattle.ckd_rules.specs.declared.turned.Turned.{Turned}
@@ -24,7 +22,7 @@ use Rattle.ckd_rules.specs.Walk as W
 use Rattle.ckd_rules.specs.Walk.{TrackEdit, Walked, walk, walked}
 use Rattle.plain_defs.specs.Legal.{edit_at, next_edit}
 use Rattle.plain_defs.specs.declared.journal.Acted.{Acted}
-use Rattle.plain_defs.specs.Effect.{Effect, acted_by, effect_by, effect_on}
+use Rattle.plain_defs.specs.Effect.{Effect, effect_by, effect_on}
 use Rattle.plain_defs.specs.PlainState.{PathsState, PlainState}
 use Rattle.plain_defs.specs.Program as P
 use Rattle.plain_defs.specs.Program.{Part, part_of, command_run, stepped_at}
@@ -83,14 +81,11 @@ module _ (k : ℕ) (some : 0 < k) where
   HasEdit e = EditsOn e.outcome e.edit
 
   module _ (f : Fixed) (same : f.cylinders ≡ k) (paths : PathsState) (tracks : ℕ → Track) (path : ℕ) (start : Stance) (starts : On n start) (c : Ccw) where
-    acted_on : (act : LocalAct) (o : Option GroupFault) → On n (acted_by f paths path start c act o).outcome.stance
-    acted_on act o = search arith
-
     by_opening : (s : Stance) (o : Opening) → OpeningFits c o → Opens n s o → HasEdit (effect_by f paths tracks path start c s o)
     by_opening s (openings.Over e) fits on = record { other = fits_by c e e.sense fits; at = on; edited = tt }
     by_opening s (openings.Looks look) fits on =
         walk_on f.geometry tracks start starts c look on.1 (f.cylinders * 15) s on.0 (omega (arith, same))
-    by_opening s (openings.Asks act) fits on = search (arith, fits_by, act_fits, acted_on)
+    by_opening s (openings.Asks act) fits on = search (arith, fits_by, act_fits)
 
   effect_edits : (f : Fixed) → f.cylinders ≡ k → (state : PlainState) (path : ℕ) (s : Stance) (c : Ccw) → On n s → HasEdit (effect_on f state path s c)
   effect_edits f same state path s c on = grind (arith, by_opening, opening_fits, opening_is_on)

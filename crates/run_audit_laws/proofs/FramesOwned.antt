@@ -82,13 +82,10 @@ module _ (P T : ℕ → Type 0) where
   front_of : (fs : List Frame) (d t : ℕ) → AllOf fs → AllOf (in_front fs d t)
   front_of fs d t a = front_by (lookup_entry (is_of d t) fs) fs (frame_removed fs d t) (looked_of (is_of d t) fs a) a (removed_of (is_of d t) fs a)
 
-  wanted_of : (p : Pool) (d t : ℕ) → P d × T t → AllOf p.frames → AllOf (frames_wanted p d t)
-  wanted_of p d t own a = grind (arith, cond_both, front_of, removed_of)
-
   module _ (n : ℕ) (has : P n) where
     after_of : (p : Pool) (call : Call) (a : AnswerTo call) → IsOwn T n call → AllOf p.frames → AllOf (after p call a).frames
     unfolding O.after
-    after_of p call a own all = grind (arith, front_of, wanted_of, set_of, removed_of)
+    after_of p call a own all = grind (arith, front_of, cond_both, removed_of, set_of)
 
     read_of : (w : Told) (side : Side) → AllOf w.pool.frames → AllOf (told_read w side).pool.frames
     read_of w side all = grind arith

@@ -13,7 +13,7 @@ use Rattle.report_places.specs.declared.state.Due.TheVariants.{Next, Behind, Not
 use Rattle.report_places.specs.declared.state.HalfWrite.{HalfWrite}
 use Rattle.report_places.specs.declared.state.OpenProgram.{OpenProgram}
 use Rattle.report_places.specs.declared.state.Outline.{Outline}
-use Rattle.report_places.specs.Place.{holds, in_event, in_next, in_power, in_power_of, is_act_of, is_back_line, is_cut, is_end, is_half, is_io, is_loss, is_loss_of, is_of_work, is_order, is_power_done, is_reset, is_second_line, is_start, may_reset, may_step, second_of}
+use Rattle.report_places.specs.Place.{holds, in_next, in_power, in_power_of, is_act_of, is_back_line, is_cut, is_end, is_half, is_io, is_loss, is_loss_of, is_of_work, is_order, is_power_done, is_reset, is_second_line, is_start, may_reset, may_step, second_of}
 use Rattle.report_places.specs.Same.{says}
 use Rattle.deck_audit.specs.State.{AuditState, worker_number}
 use Rattle.report_auditor.specs.declared.status.AuditWhy.{AuditWhy}
@@ -66,9 +66,6 @@ module _ (line : ReportLine) (b : BeginsNothing line) where
   no_power [] = b.power
   no_power (a ∷ left) = no_power_of a (in_power line left) (no_power left) a.running
 
-  begins_none : (s : List Outline) (e : EventLine) → IsCalm e → in_event s line e ≡ false
-  begins_none s e calm = grind (arith, never_holds, no_step, no_second, no_reset, or_from, no_power)
-
 -- Lines of work behind its first one
 
 loose_begins_none : (n : ℕ) (a : LooseAnswer) → ((s : List Outline) → is_loss s (lines.Loose n a) ≡ false) →
@@ -88,7 +85,7 @@ BeginsCalmly (e ∷ later) = IsCalm e
 
 module _ (s : List Outline) (left : List EventLine) (calm : BeginsCalmly left) (more : Bool) (w : Option ℕ) where
   refuted_in : (line : ReportLine) → BeginsNothing line → (l : List EventLine) → BeginsCalmly l → in_next s line l ≡ true → is_of_work more w line ≡ false
-  refuted_in line b l calmly is = grind (arith, begins_none)
+  refuted_in line b l calmly is = grind (arith, never_holds, no_step, no_second, no_reset, or_from, no_power)
 
   refuted : (line : ReportLine) → BeginsNothing line → in_next s line left ≡ true → is_of_work more w line ≡ false
   refuted line b is = refuted_in line b left calm is

@@ -6,8 +6,8 @@ use Rattle.std.proofs.lemmas.List.Elements.{All-head, All-tail}
 use Rattle.ckd_types.specs.declared.paths.Owner.{Owner}
 use Rattle.ckd_types.specs.declared.paths.Side.{Side}
 use Rattle.loss_model.specs.declared.Loss.TheVariants as losses
-use Rattle.plain_defs.specs.History.{IsOpen, OpenEntry}
-use Rattle.plain_defs.specs.Journal.{planned, replay}
+use Rattle.plain_defs.specs.History.{OpenEntry}
+use Rattle.plain_defs.specs.Journal.{planned}
 use Rattle.track_table.proofs.Counts.{few_marked}
 use Rattle.device_outside.specs.Interaction.{Ask, Done, Read, Tell, Try, Write, and_then}
 use Rattle.device_outside.specs.Keeper.{reply}
@@ -41,7 +41,6 @@ use Rattle.subsystem_defs.specs.Happening as H
 use Rattle.subsystem_defs.specs.Happening.{MarksDeed, Talk, asks, happens, happens_by, replaced, replaced_at, replaced_by, unpaired, unpaired_at, unpaired_by}
 use Rattle.subsystem_defs.specs.Happening.{told_end}
 use Rattle.subsystem_defs.specs.Lines.{Asked, Logged, Once, Replace, Run, Settle, Unpair}
-use Rattle.subsystem_defs.specs.Promised.{empty_of}
 use Rattle.subsystem_defs.specs.Refusals as R
 use Rattle.subsystem_defs.specs.Refusals.{active_by, fail_fault, first_cause, has_side, is_alike, lent_by, not_level_by, pair_fault, replace_fault, resume_fault, stale_count, suspend_fault, unpair_fault, where_so}
 use Rattle.subsystem_defs.specs.Subsystem.{Mounted, Subsystem, devices_of, mounted_in, unfailing}
@@ -160,12 +159,8 @@ module _ (d : MarksDevice) (k : Ranged d) (path : ℕ) where
   reserved_in : (o : Option Owner) → IfSome o IsOwner → Refused (reserved_fault d o)
   reserved_in o h = grind arith
 
-  running_in : (r : Option OpenEntry) → IfSome r (IsOpen d.plans (replay d.plans (empty_of d) d.history.items) d.history.items) →
-      Refused (running_fault d path r)
-  running_in r h = search (arith, reserved_in)
-
   lent_start : (o : Option ℕ) → IfSome o (λ n. n < 16) → Refused (fault_by d path o)
-  lent_start o h = grind (arith, running_in)
+  lent_start o h = grind (arith, reserved_in)
 
   fault_in : Refused (start_fault d path)
   unfolding S.start_fault
@@ -174,11 +169,8 @@ module _ (d : MarksDevice) (k : Ranged d) (path : ℕ) where
   some_left : (n m : ℕ) → (n - m ≡ 0 → ⊥) → m + 1 ≤ n
   some_left n m apart = omega (arith, apart)
 
-  running_left : (r : Option OpenEntry) → running_fault d path r ≡ None → next_ordinal d path ≤ length (planned d.plans path)
-  running_left r none = grind (arith, some_left, eqb-false)
-
   lent_left : (o : Option ℕ) → fault_by d path o ≡ None → next_ordinal d path ≤ length (planned d.plans path)
-  lent_left o none = grind (arith, running_left)
+  lent_left o none = grind (arith, some_left, eqb-false)
 
   planned_next : start_fault d path ≡ None → next_ordinal d path ≤ length (planned d.plans path)
   unfolding S.start_fault

@@ -36,7 +36,7 @@ use Rattle.run_audit_laws.proofs.RangedActs.{ActOn, each_behind, history_on}
 use Rattle.run_audit_laws.proofs.RangedCommands.{EndIn, EventIn}
 use Rattle.run_audit_laws.proofs.RangedDevices.{Ranged, device_ranged, few_programs}
 use Rattle.run_audit_laws.proofs.RunEnds.{few_of}
-use Rattle.run_audit_laws.proofs.RangedEnds.{Answers, AnswersOnce, OrderIn}
+use Rattle.run_audit_laws.proofs.RangedEnds.{Answers, OrderIn}
 use Rattle.run_audit_laws.proofs.RangedSteps.{WorkIn}
 use Rattle.run_audit_laws.proofs.RangedWork.{track_in_range}
 
@@ -105,11 +105,8 @@ module _ (xs : List MarksDevice) (all : All Ranged xs) where
   path_in : (d : ℕ) → IfSome (running_in xs d) HasPath
   path_in d = running_path (device_in xs d) (device_ranged xs d all)
 
-  once_names : (end : EventEnd) (e : Event) → Names (Once e) → AnswersOnce e end → Repairs e end → HasNames (told xs end (Once e))
-  once_names end e n a w = grind (arith, work_names, path_in)
-
   told_names : (end : EventEnd) (asked : Asked) → Names asked → Answers asked end → RepairsIn asked end → HasNames (told xs end asked)
-  told_names end asked n a w = grind (arith, once_names, work_names, path_in)
+  told_names end asked n a w = grind (arith, work_names, path_in)
 
 -- Beside it
 
@@ -119,12 +116,9 @@ TellsIn (Loosened t) = IsTrack t
 TellsIn (Hardened t) = IsTrack t
 TellsIn (WentBack count number) = IsShort count × IsShort number
 
-one_loosed : (d : ℕ) → IsDevice d → (l : LooseTold) → TellsIn l → IsLine (loosed_line (loosed d l))
-one_loosed d k l i = grind arith
-
 loosed_known : (d : ℕ) → IsDevice d → (ls : List LooseTold) → Each TellsIn ls → All IsLine (map loosed_line (map (loosed d) ls))
 loosed_known d k [] i = All-nil IsLine
-loosed_known d k (l ∷ ls) i = grind (arith, loosed_known d k ls i.1, one_loosed)
+loosed_known d k (l ∷ ls) i = grind (arith, loosed_known d k ls i.1)
 
 module _ (x y : MarksDevice) (r : Ranged x) (s : Ranged y) where
   abbrev OnDevice : Act → Type 0

@@ -11,7 +11,7 @@ use Rattle.deck_audit.specs.Device.{outline_of}
 use Rattle.device_defs.specs.Contents.{by_plain}
 use Rattle.device_defs.specs.Marks.{MarksDevice, MarksStore}
 use Rattle.device_defs.specs.Owed.{waits}
-use Rattle.device_defs.specs.Store.{HalfWrite, is_lost, tracks_of}
+use Rattle.device_defs.specs.Store.{is_lost, tracks_of}
 use Rattle.plain_defs.specs.History.{IsPlain}
 use Rattle.plain_defs.specs.PlainState.{PlainState}
 use Rattle.report_places.specs.Place.{is_declared}
@@ -20,7 +20,7 @@ use Rattle.report_reading.specs.Ranges.{IsDevice, IsLine, IsLong, IsOwner}
 use Rattle.run_report.specs.Closing.{device_lines, ending_lines, frame_line}
 use Rattle.run_report.specs.Events.{lines_of}
 use Rattle.run_report.specs.Report.{lines_of_run, report_lines}
-use Rattle.device_laws.specs.Moved.{NoTransfers, SecondTransfers, half_writing}
+use Rattle.device_laws.specs.Moved.{NoTransfers}
 use Rattle.subsystem_defs.specs.declared.end.EventEnd.{EventEnd}
 use Rattle.subsystem_defs.specs.declared.event.Event.{Event}
 use Rattle.subsystem_defs.specs.declared.event.Event.TheVariants as events
@@ -31,7 +31,7 @@ use Rattle.subsystem_defs.specs.Deeds.{device_in}
 use Rattle.subsystem_defs.specs.Lines.{Asked, Logged, Once, Run, Settle, asked_by, run_lines}
 use Rattle.subsystem_defs.specs.Subsystem.{Mounted, Subsystem, devices_of}
 use Rattle.subsystem_laws.specs.Waits.{TellsWaiting, waiting_in, waiting_of}
-use Rattle.subsystem_laws.specs.Transfers.{AskedTransfers, BackBy, BackTransfers, EventTransfers, MovesByTable, RunTransfers, RunningTransfers, StepBy, StepTransfers}
+use Rattle.subsystem_laws.specs.Transfers.{AskedTransfers, BackBy, BackTransfers, EventTransfers, MovesByTable, RunTransfers, StepBy, StepTransfers}
 use Rattle.subsystem_laws.proofs.CalmRuns.{AllSo}
 use Rattle.subsystem_laws.proofs.FailedCalls.{read_run_reads_few, read_run_writes_few}
 use Rattle.subsystem_laws.proofs.GoodMarks.{Good, good_kept, opened_good}
@@ -53,7 +53,7 @@ use Rattle.run_audit_laws.proofs.NamedEvents.{Names, run_names}
 use Rattle.run_audit_laws.proofs.EachLine.{all_flat}
 use Rattle.run_audit_laws.proofs.RangedDevices.{Ranged, device_ranged}
 use Rattle.run_audit_laws.proofs.RangedEnds.{Answers, AnswersSo, answers_go}
-use Rattle.run_audit_laws.proofs.RangedLines.{RepairsIn, event_known, one}
+use Rattle.run_audit_laws.proofs.RangedLines.{event_known, one}
 use Rattle.run_audit_laws.proofs.RangedSteps.{works_on}
 use Rattle.run_audit_laws.proofs.RangedWork.{WorksOn}
 
@@ -66,20 +66,14 @@ no_calls : (r w : ℕ) → NoTransfers r w → Few r w
 no_calls r w n = (let a = n.0 in omega (arith, a), let b = n.1 in omega (arith, b))
 
 module _ (r w : ℕ) where
-  second_calls : (d : MarksDevice) (h : Option (HalfWrite (Unit {0}))) → SecondTransfers (half_writing d.store h) r w → Few r w
-  second_calls d h m = grind (arith, no_calls)
-
-  running_calls : (d : MarksDevice) → Ranged d → (b : Bool) → RunningTransfers d b r w → Few r w
-  running_calls d k b m = grind (arith, no_calls)
-
   stepped_calls : (d : MarksDevice) → Ranged d → (b : Bool) → StepBy d b r w → Few r w
-  stepped_calls d k b m = grind (arith, second_calls, running_calls, is_some)
+  stepped_calls d k b m = grind (arith, no_calls, is_some)
 
   step_calls : (o : Option MarksDevice) → IfSome o Ranged → StepTransfers o r w → Few r w
   step_calls o k m = grind (arith, stepped_calls, is_some, no_calls)
 
   worked_calls : (d : MarksDevice) (b : Bool) (end : EventEnd) → BackBy d b end r w → Few r w
-  worked_calls d b end m = grind (arith, second_calls)
+  worked_calls d b end m = grind (arith, no_calls)
 
   back_calls : (o : Option MarksDevice) (end : EventEnd) → BackTransfers o end r w → Few r w
   back_calls o end m = grind (arith, worked_calls, is_some, no_calls)
@@ -143,9 +137,6 @@ all_waiting (d ∷ ds) r =
 abbrev IsFew : Logged → Type 0
 IsFew t = length (devices_of t.happened.before) ≤ 16
 
-repairs_in : (t : Logged) → AllRanged t.happened.before → IsFew t → TellsWaiting t → RepairsIn t.asked t.happened.end
-repairs_in t r few w = grind (arith, all_waiting)
-
 -- and of every event all that is known
 pub record Shows (t : Logged) : Type 0 where
   pub ranged : BothRanged t
@@ -156,7 +147,7 @@ pub record Shows (t : Logged) : Type 0 where
   pub waiting : TellsWaiting t
 
 one_known : (t : Logged) → Shows t → All IsLine (lines_of t)
-one_known t k = grind (arith, event_known, long_few, asked_calls, repairs_in)
+one_known t k = grind (arith, event_known, long_few, asked_calls, all_waiting)
 
 owner_in : (d : MarksDevice) → Sized d → Plainly d → IfSome d.paths.owner IsOwner
 owner_in d s p =

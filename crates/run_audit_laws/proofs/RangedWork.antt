@@ -72,12 +72,8 @@ SecondIn (seconds.Ended e) = Unit {0}
 SecondIn (seconds.Finished t) = IsTrack t
 SecondIn (seconds.Unwritten t) = IsTrack t
 
-command_ended_in : (d : MarksDevice) (t : ℕ) (o : Option OpenEntry) (c : Option ChainState) (done : Bool) → IsTrack t →
-    Had (command_ended by_plain d t o c done) (λ y a. SecondIn a)
-command_ended_in d t o c done lt = search (arith, had_done)
-
 second_ended_in : (d : MarksDevice) (t : ℕ) (origin : Origin) (done : Bool) → IsTrack t → Had (second_ended by_plain d t origin done) (λ y a. SecondIn a)
-second_ended_in d t origin done lt = search (arith, command_ended_in, had_done)
+second_ended_in d t origin done lt = search (arith, had_done)
 
 second_of_in : (d : MarksDevice) (o : Option (HalfWrite (Unit {0}))) → IfSome o (λ h. IsTrack h.track) → Had (second_of by_plain d o) (λ y a. SecondIn a)
 second_of_in d (Some h) lt = had_then (any_had (second_part by_plain d.store h)) (λ s done _. second_ended_in (with_store d s) h.track h.origin done lt)

@@ -4,7 +4,6 @@ use Rattle.ckd_chain.specs.declared.progress.Progress.{Progress}
 use Rattle.ckd_chain.specs.Fed.{Fed}
 use Rattle.ckd_chain.specs.State.{ChainState}
 use Rattle.ckd_chain.specs.Steps.{need_of, stepped}
-use Rattle.ckd_rules.specs.Walk.{TrackEdit}
 use Rattle.ckd_types.specs.declared.record.Track.{Track}
 use Rattle.plain_defs.specs.History.{OpenEntry, plain_of}
 use Rattle.plain_defs.specs.Legal.{AreActs}
@@ -37,7 +36,7 @@ use Rattle.device_laws.proofs.KeptEvents.{Continues, command_goes, second_goes}
 use Rattle.device_laws.proofs.KeptHistories.{extends_itself}
 use Rattle.device_laws.proofs.PlainCommand.{on, runs_on, walking_first}
 use Rattle.device_laws.proofs.PlainEvents.{had_always, had_both}
-use Rattle.device_laws.proofs.PlainLooks.{EditSo, FollowSo, TurnIs, follow_so, from_itself}
+use Rattle.device_laws.proofs.PlainLooks.{FollowSo, TurnIs, follow_so, from_itself}
 use Rattle.device_laws.proofs.PlainSeconds.{SecondSo, holds_first, part_so}
 use Rattle.device_laws.proofs.PlainStores.{Core, Open, Walks, core_of}
 use Rattle.device_laws.proofs.PlainTurns.{Follows, Halfway, IsMid, IsMidOf, none_mid, some_none}
@@ -107,16 +106,11 @@ module _ (num : ℕ) (empty : PlainState) (x : MarksDevice) (f : Follows num emp
 
     -- it looked at tracks
     module _ (first : ℕ) where
-      edit_half : (edit : Option TrackEdit) (c : Core) →
-          EditSo (plain_of x.plans empty x.history) x.store.plain x.store.geometry x.store.cylinders (None, (x.store.lent, x.store.device))
-          (settled_act chain.fixed.geometry x.paths o.path) chain (on num empty x f o running chain is).0 first edit c → half_by c.half ≡ half.Closed
-      edit_half edit c w = grind (arith, walked_half)
-
       turn_half : (k : List Track → Fed) (turn : Turn) (c : Core) →
           TurnIs (plain_of x.plans empty x.history) x.store.plain x.store.geometry x.store.cylinders (None, (x.store.lent, x.store.device))
           (settled_act chain.fixed.geometry x.paths o.path) chain (on num empty x f o running chain is).0 first k first turn c →
           half_by c.half ≡ half_after turn.came
-      turn_half k turn c x4 = grind (arith, edit_half, walked_half)
+      turn_half k turn c x4 = grind (arith, walked_half)
 
     by_turn : (t : ℕ) (y : MarksStore) (a : Option Turn) →
         FollowSo (plain_of x.plans empty x.history) x.store.plain x.store.geometry x.store.cylinders (None, (x.store.lent, x.store.device))
@@ -139,11 +133,8 @@ module _ (num : ℕ) (empty : PlainState) (x : MarksDevice) (f : Follows num emp
         (walking_first num empty x f o running chain is now whole s e)) (λ y a w. by_turn t y a w)
     by_need None needs = had_try (answered_left (stepped chain None).chain (stepped chain None).progress)
 
-    begun_left : Had (command_by by_plain (record (event_begun x) { store = s }) (Some o) (Some chain)) (λ z b. HalfLeft z b)
-    begun_left = search (arith, had_if, had_done, turned_same, first_half, by_need)
-
     command_by_left : Had (command_by by_plain (record (event_begun x) { store = s }) x.history.running x.chain) (λ z b. HalfLeft z b)
-    command_by_left = search (arith, begun_left)
+    command_by_left = search (arith, had_if, had_done, turned_same, first_half, by_need)
 
 -- An event: its notes, its work, its end
 
