@@ -46,7 +46,7 @@ use Rattle.plain_defs.specs.History.{plain_of}
 use Rattle.run_audit_laws.specs.Standing.{audited, half_by}
 use Rattle.run_audit_laws.proofs.ResetDevices.{HasParts}
 use Rattle.run_audit_laws.proofs.StepParts.{begins, parts_by, stays_by}
-use Rattle.run_audit_laws.proofs.Lighter.{any_had}
+use Rattle.subsystem_laws.proofs.HadAnswers.{any_had}
 use Rattle.device_laws.proofs.KeptEvents.{always_any, background_goes}
 use Rattle.subsystem_laws.proofs.LendBase.{IsStill}
 
@@ -75,7 +75,7 @@ ToldDown z k = is_some k.bytes ≡ true → is_some k.fault ≡ true → AIsDown
 second_told : (s : MarksStore) (fault : Option Side) → (is_some fault ≡ true → AIsDown s) → (r : Option Bool) →
     Had (second_read by_plain fault s r) (λ z k. ToldDown z k)
 second_told s fault down (Some r) = had_done (λ some fails. down fails)
-second_told s fault down None = had_then (any_had s B None) (λ z _ _. had_done (λ some fails. absurd (let none : false ≡ true = some in cc)))
+second_told s fault down None = had_then (any_had (call_failed by_plain s B None)) (λ z _ _. had_done (λ some fails. absurd (let none : false ≡ true = some in cc)))
 
 b_told : (s : MarksStore) (t : ℕ) (fault : Option Side) → (level_at s.b t ≡ true → is_some fault ≡ true → AIsDown s) →
     Had (read_b by_plain s t fault) (λ z k. ToldDown z k)
@@ -113,7 +113,7 @@ OpensNot Opened = ⊥
 OpensNot Unwritten = Unit {0}
 
 alone_opens_not : (t : ℕ) (fault : Option Side) (first : Side) (s : MarksStore) (ok : Bool) → Had (W.alone_b by_plain t fault first s ok) (λ z w. OpensNot w.took)
-alone_opens_not t fault first s ok = had_if ok (λ _. had_done tt) (λ _. had_then (any_had s B (Some t)) (λ z _ _. had_done tt))
+alone_opens_not t fault first s ok = had_if ok (λ _. had_done tt) (λ _. had_then (any_had (call_failed by_plain s B (Some t))) (λ z _ _. had_done tt))
 
 down_opens_not : (s : MarksStore) (t : ℕ) (r : Bool) → AIsDown s → Had (write_first by_plain s t r) (λ z w. OpensNot w.took)
 unfolding W.write_first

@@ -15,7 +15,7 @@ use Rattle.device_defs.specs.Store.{frame_at, is_lost, is_loose, patch_at, some_
 use Rattle.device_laws.proofs.Had.{Had, had_ask, had_done, had_if, had_then, had_try}
 use Rattle.device_laws.proofs.Working.{least_found}
 use Rattle.run_audit_laws.proofs.Weights.{Spot, copies, due_by, modified_by, one, sides, spot_at, sum_least, weight_at, works}
-use Rattle.run_audit_laws.proofs.Lighter.{GotSo, Lower, WorkSo, as_least, bad_stops, copy_so, level_so, lower_all, near_frame, recover_so, same_least, same_weight, saved_so}
+use Rattle.run_audit_laws.proofs.Lighter.{GotSo, Lower, WorkSo, as_least, stopped, copy_so, level_so, lower_all, near_frame, recover_so, same_least, same_weight, saved_so}
 
 -- Staging
 
@@ -65,7 +65,7 @@ module _ (s : MarksStore) (t : ℕ) (ts : List ℕ) (queue : s.queue ≡ t ∷ t
   bytes_staged : (z : MarksStore) (g : Got Bool) → GotSo shorter z g.fault → frame_at s t ≡ None → is_lost s t ≡ false → (o : Option Bool) →
       Had (staged_bytes by_plain t z g o) (WorkSo s)
   bytes_staged z g e bare here o =
-      search (arith, had_ask, had_done, had_try, had_then, had_if, is_some, one_shorter, same_least, sum_least, weight_at, framed_least, bad_stops)
+      search (arith, had_ask, had_done, had_try, had_then, had_if, is_some, one_shorter, same_least, sum_least, weight_at, framed_least, stopped)
 
   none_framed : (o : Option Bool) (lost : Bool) → (is_some o || lost) ≡ false → (o ≡ None) × (lost ≡ false)
   none_framed o lost e = grind arith

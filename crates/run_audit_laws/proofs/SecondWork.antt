@@ -1,5 +1,5 @@
 -- The second part of a write leaves less to do.
-use Rattle.std.proofs.Common.{◌≡◌, ◌≢◌, ◌<◌, ◌≤◌, ◌+◌, ◌⊎◌, ◌==◌, ℕ, zero, suc, Bool, true, false, List, [], ◌∷◌, Option, Some, None, is_some, length, get_or, set, refl, sym, ap, subst, ◌∙◌, arith, inl, inr}
+use Rattle.std.proofs.Common.{◌≡◌, ◌≢◌, ◌<◌, ◌≤◌, ◌+◌, ◌⊎◌, ◌==◌, ℕ, zero, suc, Bool, true, false, Option, Some, None, is_some, length, refl, sym, ap, subst, ◌∙◌, arith, inl, inr}
 use Rattle.std.proofs.lemmas.Bool.{cases_eq, and_right, and_left, and_parts}
 use Rattle.std.specs.Prelude.{◌&&◌, ◌||◌, if◌then◌else◌, not}
 use Rattle.ckd_types.specs.declared.paths.Side.TheVariants.{B}
@@ -15,9 +15,9 @@ use Rattle.device_defs.specs.Store as store
 use Rattle.device_defs.specs.Store.{Origin, OfBackground, OfCommand, OfCut, frame_at, half_is, has_level, is_lost, is_loose, owed_at, patch_at, stale_at, takes_b, tracks_of, with_frame, with_stale}
 use Rattle.device_defs.specs.Writing as W
 use Rattle.device_defs.specs.Writing.{slot_freed, tried_b, write_done, write_second}
-use Rattle.device_laws.proofs.Had.{Had, had_ask, had_done, had_if, had_tell, had_then, had_weaker, had_write}
-use Rattle.run_audit_laws.proofs.Weights.{Spot, copies, modified_by, one, sides, spot_at, weight, weight_at, whole_weight, works}
-use Rattle.run_audit_laws.proofs.Lighter.{Bared, Lower, Near, as_least, clean_off, freed_so, half_off, half_on, idle, lower_all, near_bare, near_frame, near_on, near_self, near_stale_b, none_open, not_own, own_is, same_weight, whole_at, near_by}
+use Rattle.device_laws.proofs.Had.{Had, had_done, had_if, had_tell, had_then, had_weaker, had_write}
+use Rattle.run_audit_laws.proofs.Weights.{Spot, copies, one, sides, spot_at, weight, weight_at, whole_weight, works}
+use Rattle.run_audit_laws.proofs.Lighter.{Written, written_by, write_is_done, only_copies, Lower, as_least, half_off, half_on, lower_all, near_bare, near_frame, near_on, near_self, near_stale_b, none_open, not_own, own_is, same_weight, whole_at, near_by}
 use Rattle.run_audit_laws.proofs.SecondLighter.{IsSafe, Made, fell, made_least, settled_so}
 use Rattle.device_laws.proofs.Unlost.{clear}
 
@@ -158,35 +158,6 @@ module _ (s : MarksStore) (t : ℕ) (paired : s.paired ≡ true) (whole : (q : �
 
 -- The write is done, or no side has it
 
-pub record Written (s z : MarksStore) (t : ℕ) : Type 0 where
-  pub near : Near s z t
-  pub a : z.a ≡ s.a
-  pub b : z.b ≡ s.b
-
-written_bared : (s x z : MarksStore) (t : ℕ) → Near s x t → x.a ≡ s.a → x.b ≡ s.b → x.loose ≡ s.loose → modified_by (frame_at x t) ≡ false → is_loose s t ≡ false →
-    Bared x z t → Written s z t × (works (spot_at z t) ≡ false)
-written_bared s x z t n a b loose clean firm k = grind (arith, near_on, idle)
-
-modified_set : (l : List (Option Bool)) (t : ℕ) (x : Option Bool) → modified_by x ≡ false → is_some (get_or l t None) ≡ true → modified_by (get_or (set l t x) t None) ≡ false
-modified_set [] t x e some = absurd (cc)
-modified_set (y ∷ l) zero x e some = e
-modified_set (y ∷ l) (suc t) x e some = modified_set l t x e some
-
-write_is_done : (s : MarksStore) (t : ℕ) (i : Image) (bypass : Bool) → is_loose s t ≡ false →
-    Had (write_done by_plain s t i bypass) (λ z (_ : Unit {0}). Written s z t × (works (spot_at z t) ≡ false))
-unfolding W.write_done
-write_is_done s t i bypass firm =
-    had_if (is_some (frame_at s t))
-    (λ there. had_if bypass (λ _. had_ask (λ _. framed None refl there)) (λ _. had_ask (λ _. framed (Some false) refl there)))
-    (λ none. had_weaker (freed_so s t (patch_at s t) refl)
-    (λ z _ k. written_bared s s z t (near_self s t) refl refl refl (clean_off (frame_at s t) none) firm k))
-  where
-    framed : (f : Option Bool) → modified_by f ≡ false → is_some (frame_at s t) ≡ true →
-        Had (slot_freed by_plain (with_frame s t f) t (slot_in by_plain (patch_at s t))) (λ z (_ : Unit {0}). Written s z t × (works (spot_at z t) ≡ false))
-    framed f clean there =
-        had_weaker (freed_so (with_frame s t f) t (patch_at s t) refl)
-        (λ z _ k. written_bared s (with_frame s t f) z t (near_frame s t f) refl refl refl (modified_set s.frames t f clean there) firm k)
-
 -- at most what a stale side A leaves to copy
 done_copies : (a stale c k d e : Bool) → (k && d) ≡ false → one ((a && stale && c) || (k && d && e)) ≤ one (a && stale)
 done_copies a stale c k d e shut = grind arith
@@ -202,29 +173,22 @@ copies_same : (y v : MarksStore) (t : ℕ) → v.a ≡ y.a → v.b ≡ y.b → v
     sides (spot_at v t) + one (copies (spot_at v t)) ≡ sides (spot_at y t) + one (copies (spot_at y t))
 copies_same y v t a b held = grind arith
 
-only_copies : (y v : MarksStore) (t : ℕ) → v.a ≡ y.a → v.b ≡ y.b → v.held ≡ y.held → copies (spot_at v t) ≡ copies (spot_at y t)
-only_copies y v t a b held = grind arith
+written_self : (s : MarksStore) (t : ℕ) → Written s s t
+written_self s t = written_by refl refl refl (λ q ne. refl)
 
 written_on : (s z y : MarksStore) (t : ℕ) → Written s z t → Written z y t → Written s y t
 written_on s z y t f g = record { near = near_on s z y t f.near g.near; a = g.a ∙ f.a; b = g.b ∙ f.b }
 
 pub given_up : (s : MarksStore) (t : ℕ) (o : Option (Unit {0})) → Written s (L.gives_up s t (slot_in by_plain o)) t
-given_up s t None = record { near = near_self s t; a = refl; b = refl }
-given_up s t (Some p) = record {
-  near = near_by refl (near_bare s t).others;
-  a = refl;
-  b = refl;
-}
+given_up s t None = written_self s t
+given_up s t (Some p) = written_by refl refl refl (near_bare s t).others
 
 kept_written : (s : MarksStore) (t : ℕ) (i : Image) (o : Option Bool) → Written s (cut_kept by_plain s t i o) t
-kept_written s t i None = record { near = near_self s t; a = refl; b = refl }
+kept_written s t i None = written_self s t
 kept_written s t i (Some m) = let z = with_frame s t (Some m) in written_on s z _ t (search (arith, near_frame)) (given_up z t (patch_at z t))
 
 pub left_written : (s : MarksStore) (t : ℕ) (i : Image) (origin : Origin) → Written s (left_by by_plain s t i origin) t
 left_written s t i origin = search (arith, kept_written, near_self)
-
-settled_written : (s : MarksStore) (t : ℕ) → Written s (settled by_plain s t) t
-settled_written s t = let k = (settled_so s t).0 in record { near = k.near; a = k.a; b = k.b }
 
 module _ (s : MarksStore) (h : store.HalfWrite (Unit {0})) (is : s.half ≡ Some h) where
   mine : half_is s.half h.track ≡ true
@@ -279,8 +243,8 @@ module _ (s : MarksStore) (h : store.HalfWrite (Unit {0})) (is : s.half ≡ Some
   done_so : (y : MarksStore) (i : Image) (origin : Origin) → Second s y h.track → is_loose y h.track ≡ false →
       Had (D.second_done by_plain (half_closed y) h.track i origin) (λ v (_ : Bool). Lower s v)
   done_so y i (OfCommand bypass e) k firm = had_tell (finished_so y _ i bypass k (search (arith, near_by)) firm)
-  done_so y i (OfCut bypass) k firm = finished_so y (half_closed y) i bypass k (record { near = near_self (half_closed y) h.track; a = refl; b = refl }) firm
-  done_so y i OfBackground k firm = finished_so y (half_closed y) i false k (record { near = near_self (half_closed y) h.track; a = refl; b = refl }) firm
+  done_so y i (OfCut bypass) k firm = finished_so y (half_closed y) i bypass k (written_self (half_closed y) h.track) firm
+  done_so y i OfBackground k firm = finished_so y (half_closed y) i false k (written_self (half_closed y) h.track) firm
 
   by_level : (y : MarksStore) (i : Image) (origin : Origin) → Second s y h.track → is_loose y h.track ≡ false →
       Had (second_by by_plain h.track i origin y) (λ v (_ : Bool). Lower s v)
@@ -288,7 +252,7 @@ module _ (s : MarksStore) (h : store.HalfWrite (Unit {0})) (is : s.half ≡ Some
       had_if (has_level y h.track) (λ _. done_so y i origin k firm)
       (λ off. had_done (absent_lower y (settled by_plain (left_by by_plain (half_closed y) h.track i origin) h.track) k
       (written_on (half_closed y) (left_by by_plain (half_closed y) h.track i origin) _ h.track (left_written (half_closed y) h.track i origin)
-      (settled_written (left_by by_plain (half_closed y) h.track i origin) h.track)) off))
+      (settled_so (left_by by_plain (half_closed y) h.track i origin) h.track).0) off))
 
   pub part_so : s.paired ≡ true → ((q : ℕ) → q < tracks_of s → q ≢ h.track → IsSafe (spot_at s q)) → is_loose s h.track ≡ false →
       Had (second_part by_plain s h) (λ v (_ : Bool). Lower s v)
