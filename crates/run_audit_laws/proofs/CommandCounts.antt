@@ -22,11 +22,11 @@ use Rattle.ckd_rules.specs.declared.turned.Turned.TheVariants as turns
 use Rattle.ckd_rules.specs.Control.{located}
 use Rattle.ckd_rules.specs.Look.{look_on}
 use Rattle.ckd_rules.specs.Looked.{Looked}
-use Rattle.ckd_rules.specs.Opening.{look_from, begun}
+use Rattle.ckd_rules.specs.Opening.{begun}
 use Rattle.ckd_rules.specs.Reads.{read_sought}
 use Rattle.ckd_rules.specs.Searches.{search_sought}
 use Rattle.ckd_rules.specs.Stance.{one_less}
-use Rattle.ckd_rules.specs.Updates.{update_record, update_sought}
+use Rattle.ckd_rules.specs.Updates.{update_sought}
 use Rattle.ckd_rules.specs.Walk as W
 use Rattle.ckd_rules.specs.Walk.{Walked, walk, walked}
 use Rattle.ckd_rules.specs.Writes.{write_on}
@@ -58,12 +58,9 @@ module _ (s : Stance) where
   search_counts : (t : Track) (area : SearchArea) (c : Ccw) (x : Sought) → Counts s.commands (search_sought t area s c x)
   search_counts t area c x = search arith
 
-  record_counts : (with_key in_domain : Bool) (c : Ccw) (i : ℕ) (r : Record) → Counts s.commands (update_record with_key in_domain s c i r)
-  record_counts with_key in_domain c i r = search (arith, placed_less)
-
   updated_counts : (with_key in_domain : Bool) (records : List Record) (c : Ccw) (x : Sought) →
       Counts s.commands (update_sought with_key in_domain records s c x)
-  updated_counts with_key in_domain records c x = search (arith, record_counts)
+  updated_counts with_key in_domain records c x = search (arith, placed_less)
 
   write_counts : (g : Geometry) (t : Track) (c : Ccw) (w : Write) → Counts s.commands (write_on g t s c w)
   write_counts g t c w = grind (arith, updated_counts, is_some, placed_less)
@@ -90,11 +87,8 @@ OpensBy k z (openings.Looks look) = z.commands ≡ k
 OpensBy k z (openings.Asks act) = Unit {0}
 
 module _ (s : Stance) where
-  looks_on : (c : Ccw) (look : Look) → OpensBy s.commands (look_from s c look).stance (look_from s c look).opening
-  looks_on c look = grind arith
-
   begins : (c : Ccw) (order : CommandOrder) → OpensBy s.commands (begun s c order).stance (begun s c order).opening
-  begins c order = grind (arith, looks_on)
+  begins c order = grind arith
 
 -- The whole effect
 

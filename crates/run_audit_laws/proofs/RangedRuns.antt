@@ -31,7 +31,7 @@ use Rattle.subsystem_defs.specs.Deeds.{device_in}
 use Rattle.subsystem_defs.specs.Lines.{Asked, Logged, Once, Run, Settle, asked_by, run_lines}
 use Rattle.subsystem_defs.specs.Subsystem.{Mounted, Subsystem, devices_of}
 use Rattle.subsystem_laws.specs.Waits.{TellsWaiting, waiting_in, waiting_of}
-use Rattle.subsystem_laws.specs.Transfers.{AskedTransfers, BackBy, BackTransfers, EventTransfers, MovesByTable, RunTransfers, StepBy, StepTransfers}
+use Rattle.subsystem_laws.specs.Transfers.{AskedTransfers, BackTransfers, EventTransfers, MovesByTable, RunTransfers, StepTransfers}
 use Rattle.subsystem_laws.proofs.CalmRuns.{AllSo}
 use Rattle.subsystem_laws.proofs.FailedCalls.{read_run_reads_few, read_run_writes_few}
 use Rattle.subsystem_laws.proofs.GoodMarks.{Good, good_kept, opened_good}
@@ -66,17 +66,11 @@ no_calls : (r w : ℕ) → NoTransfers r w → Few r w
 no_calls r w n = (let a = n.0 in omega (arith, a), let b = n.1 in omega (arith, b))
 
 module _ (r w : ℕ) where
-  stepped_calls : (d : MarksDevice) → Ranged d → (b : Bool) → StepBy d b r w → Few r w
-  stepped_calls d k b m = grind (arith, no_calls, is_some)
-
   step_calls : (o : Option MarksDevice) → IfSome o Ranged → StepTransfers o r w → Few r w
-  step_calls o k m = grind (arith, stepped_calls, is_some, no_calls)
-
-  worked_calls : (d : MarksDevice) (b : Bool) (end : EventEnd) → BackBy d b end r w → Few r w
-  worked_calls d b end m = grind (arith, no_calls)
+  step_calls o k m = grind (arith, no_calls, is_some)
 
   back_calls : (o : Option MarksDevice) (end : EventEnd) → BackTransfers o end r w → Few r w
-  back_calls o end m = grind (arith, worked_calls, is_some, no_calls)
+  back_calls o end m = grind (arith, no_calls, is_some)
 
   run_calls : (o : Option MarksDevice) → IfSome o Ranged → (end : EventEnd) → RunTransfers o end r w → Few r w
   run_calls o k end x4 = grind (arith, no_calls, step_calls)
