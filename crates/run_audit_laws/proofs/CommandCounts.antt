@@ -3,7 +3,6 @@ use Rattle.std.proofs.Common.{arith, ◌≡◌, ◌+◌, ℕ, zero, suc, Bool, L
 use Rattle.ckd_types.specs.declared.channel.Ccw.{Ccw}
 use Rattle.ckd_types.specs.declared.command.ReadArea.{ReadArea}
 use Rattle.ckd_types.specs.declared.command.SearchArea.{SearchArea}
-use Rattle.ckd_types.specs.declared.command.Write.{Write}
 use Rattle.ckd_types.specs.declared.geometry.Geometry.{Geometry}
 use Rattle.ckd_types.specs.declared.parameters.Domain.{Domain}
 use Rattle.ckd_types.specs.declared.record.Record.{Record}
@@ -29,7 +28,6 @@ use Rattle.ckd_rules.specs.Stance.{one_less}
 use Rattle.ckd_rules.specs.Updates.{update_sought}
 use Rattle.ckd_rules.specs.Walk as W
 use Rattle.ckd_rules.specs.Walk.{Walked, walk, walked}
-use Rattle.ckd_rules.specs.Writes.{write_on}
 use Rattle.plain_defs.specs.Effect.{effect_on}
 use Rattle.plain_defs.specs.PlainState.{PlainState}
 
@@ -62,14 +60,11 @@ module _ (s : Stance) where
       Counts s.commands (update_sought with_key in_domain records s c x)
   updated_counts with_key in_domain records c x = search (arith, placed_less)
 
-  write_counts : (g : Geometry) (t : Track) (c : Ccw) (w : Write) → Counts s.commands (write_on g t s c w)
-  write_counts g t c w = grind (arith, updated_counts, is_some, placed_less)
-
   found_counts : (c : Ccw) (d : Domain) (found : Option ℕ) → (located s c d found).stance.commands ≡ s.commands + 1
   found_counts c d found = grind arith
 
   look_counts : (g : Geometry) (t : Track) (c : Ccw) (look : Look) → Counts s.commands (look_on g t s c look)
-  look_counts g t c look = search (arith, found_counts, search_counts, read_counts, write_counts)
+  look_counts g t c look = search (arith, found_counts, search_counts, read_counts, updated_counts, is_some, placed_less)
 
 -- From track to track
 
