@@ -47,13 +47,7 @@ dropped_at : (p r : Spot) → r.frame ≡ Some false → HeardAt p r → HeardAt
 dropped_at p r clean x4 = grind arith
 
 heard_drops : (s z : MarksStore) (t : ℕ) → is_clean by_plain (frame_at z t) ≡ true → Heard s z → Heard s (with_frame z t None)
-heard_drops s z t clean h = record {
-  cylinders = h.cylinders;
-  queue = h.queue;
-  half = h.half;
-  paired = h.paired;
-  spots = λ q. by_place q (cases_eq q t);
-} where
+heard_drops s z t clean h = record { cylinders = h.cylinders; queue = h.queue; half = h.half; paired = h.paired; spots = λ q. by_place q (cases_eq q t) } where
   by_place : (q : ℕ) → ((q ≡ t) ⊎ (q ≢ t)) → HeardAt (spot_at s q) (spot_at (with_frame z t None) q)
   by_place q (inr ne) = subst (HeardAt (spot_at s q)) (sym ((near_frame z t None).others q ne)) (h.spots q)
   by_place q (inl is) =
@@ -67,9 +61,6 @@ heard_so s = asks_had (hear_asks by_plain (Heard s) (heard_drops s) 960 (noted_b
 -- a clean frame is of a track that waits no more without it
 abbrev IsClean : Spot → Type 0
 IsClean p = p.frame ≡ Some false → p.half ≡ false → (p.lost ≡ false) × ((is_level p ≡ true) × (p.patched ≡ false))
-
-heard_weight : (p r : Spot) → IsClean p → HeardAt p r → weight r ≡ weight p
-heard_weight p r clean x4 = grind arith
 
 heard_least : (s z : MarksStore) → ((q : ℕ) → q < tracks_of s → IsClean (spot_at s q)) → Heard s z → left z ≤ left s
 heard_least s z clean h = grind (arith, sum_least)

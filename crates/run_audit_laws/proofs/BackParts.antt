@@ -47,6 +47,7 @@ use Rattle.run_audit_laws.specs.Standing.{audited, half_by}
 use Rattle.run_audit_laws.proofs.ResetDevices.{HasParts}
 use Rattle.run_audit_laws.proofs.StepParts.{begins, parts_by, stays_by}
 use Rattle.subsystem_laws.proofs.HadAnswers.{any_had}
+use Rattle.run_audit_laws.proofs.Lighter.{near_everywhere}
 use Rattle.device_laws.proofs.KeptEvents.{always_any, background_goes}
 use Rattle.subsystem_laws.proofs.LendBase.{IsStill}
 
@@ -100,12 +101,7 @@ bytes_told s t alone = search (arith, had_if, had_read, first_told, b_told)
 -- A write that begins with side A down opens nothing
 
 firm_stays : (s : MarksStore) (t : ℕ) → Had (firm_first by_plain s t) (λ z (_ : Bool). z.a.up ≡ s.a.up)
-firm_stays s t = had_if (is_loose s t) (λ _. had_tell (had_done (up_same (hardened s t) t))) (λ _. had_done refl) where
-  up_same : (z : MarksStore) (q : ℕ) → (stale_everywhere z q).a.up ≡ z.a.up
-  up_same z q = by_pair z.paired where
-    by_pair : (b : Bool) → (if b then with_stale (with_stale z A q true) B q true else with_stale z A q true).a.up ≡ z.a.up
-    by_pair true = refl
-    by_pair false = refl
+firm_stays s t = had_if (is_loose s t) (λ _. had_tell (had_done (near_everywhere (hardened s t) t).a)) (λ _. had_done refl)
 
 abbrev OpensNot : Took → Type 0
 OpensNot Whole = Unit {0}

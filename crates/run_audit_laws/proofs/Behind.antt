@@ -64,13 +64,11 @@ opened_is_behind text deck read =
     }
 
 pub line_stays : (numbers : List ℕ) (s : Subsystem) (x : Asked) → IsServed x → IsBehind numbers s → IsBehind numbers (last_behind s (line_logged s x))
-line_stays numbers s x served k = record {
-  plain = line_plain empty_firsts x s served k.plain;
-  good = line_keeps Good AnyEvent good_kept (record { step = λ d. tt; back = λ d. tt }) x s (All-head (MayAsk AnyEvent) x [] (all_asked (x ∷ []))) k.good;
-  sized = line_keeps Sized AnyEvent sized_kept (record { step = λ d. tt; back = λ d. tt }) x s (All-head (MayAsk AnyEvent) x [] (all_asked (x ∷ []))) k.sized;
-  tied = line_tied numbers s x k.tied;
-  rises = k.rises;
-}
+line_stays numbers s x served k =
+    let may = All-head (MayAsk AnyEvent) x [] (all_asked (x ∷ [])) in
+    let good = line_keeps Good AnyEvent good_kept (record { step = λ d. tt; back = λ d. tt }) x s may k.good in
+    let sized = line_keeps Sized AnyEvent sized_kept (record { step = λ d. tt; back = λ d. tt }) x s may k.sized in
+    record { plain = line_plain empty_firsts x s served k.plain; good = good; sized = sized; tied = line_tied numbers s x k.tied; rises = k.rises }
 
 -- So what holds of each event line at such a subsystem holds along the whole deck
 
@@ -85,19 +83,7 @@ has_named lines s k e named = by_event e named where
   has d is = declared_has lines (devices_of s) d (numbers_are (map (λ (l : DeviceLine). l.number) lines) s k) is
 
   by_event : (e : EventLine) → OfNamed (λ d. is_declared lines d ≡ true) e → OfNamed (HasDevice s) e
-  by_event (events.Start path d) is = has d is
-  by_event (events.Step d) is = has d is
-  by_event (events.Run d) is = has d is
-  by_event (events.Back d) is = has d is
-  by_event (events.Settle d) is = has d is
-  by_event (events.Reset path d) is = has d is
-  by_event (events.FailVolume d side) is = has d is
-  by_event (events.Replace d side) is = has d is
-  by_event (events.Pair a b) is = (has a is.0, has b is.1)
-  by_event (events.Unpair d) is = has d is
-  by_event (events.Suspend d) is = has d is
-  by_event (events.Resume d) is = has d is
-  by_event e is = tt
+  by_event e is = grind (arith, has)
 
 module _ (lines : List DeviceLine) (P : Subsystem → EventLine → Type 0)
     (so : (s : Subsystem) (e : EventLine) → IsBehind (map (λ (l : DeviceLine). l.number) lines) s → IsServed (asked_by e) → OfNamed (HasDevice s) e → P s e) where

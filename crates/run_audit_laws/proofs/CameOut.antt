@@ -116,25 +116,18 @@ no_loss_front : (xs ys : List Act) → NoLoss (xs ++ ys) → NoLoss xs
 no_loss_front [] ys none = tt
 no_loss_front (x ∷ xs) ys none = (none.0, no_loss_front xs ys none.1)
 
--- they change neither a track nor the paths
-record IsUnchanged (s z : PlainState) : Type 0 where
-  volume : z.volume ≡ s.volume
-  paths : z.paths ≡ s.paths
-
-unchanged_by : (s : PlainState) (act : Act) → is_loss act ≡ false → IsUnchanged s (act_done s act)
-unchanged_by s act none = search arith
-
-unchanged : (acts : List Act) (s : PlainState) → NoLoss acts → IsUnchanged s (acts_done s acts)
-unchanged [] s none = record { volume = refl; paths = refl }
-unchanged (act ∷ acts) s none = search (arith, unchanged acts (act_done s act) none.1, unchanged_by)
+-- no command sees them
+unseen : (f : Fixed) (path : ℕ) (z : Stance) (c : Ccw) (acts : List Act) (s : PlainState) → NoLoss acts →
+    effect_on f (acts_done s acts) path z c ≡ effect_on f s path z c
+unseen f path z c [] s none = refl
+unseen f path z c (Loosen t ∷ acts) s none = unseen f path z c acts (act_done s (Loosen t)) none.1
+unseen f path z c (Harden t ∷ acts) s none = unseen f path z c acts (act_done s (Harden t)) none.1
+unseen f path z c (CfwLost ∷ acts) s none = absurd (let is : true ≡ false = none.0 in cc)
 
 -- A program with more acts behind its last end
 
 module _ (s : PlainState) (path : ℕ) (ccws : List Ccw) (xs : List Acted) (n : ℕ) (many : length (part_of s path ccws xs n).ends ≡ n)
     (runs : IsSome (part_of s path ccws xs n).next) (acts : List Act) where
-  abbrev more : List Acted
-  more = xs ++ map (behind_ends n) acts
-
   abbrev bare : Part
   bare = bare_part s path ccws xs n
 
@@ -169,13 +162,10 @@ module _ (s : PlainState) (path : ℕ) (ccws : List Ccw) (xs : List Acted) (n : 
   module _ (none : NoLoss acts) where
     same_effect : (c : Ccw) → effect_on behind.fixed behind.state path behind.stance c ≡ effect_on before.fixed before.state path before.stance c
     same_effect c =
-        let kept = unchanged acts before.state none in
         ap (λ (f : Fixed). effect_on f behind.state path behind.stance c) same_fixed
         ∙ ap (λ (z : Stance). effect_on before.fixed behind.state path z c) same_stance
         ∙ ap (λ (z : PlainState). effect_on before.fixed z path before.stance c) state_behind
-        ∙ ap (λ (p : PathsState). effect_on before.fixed (record (acts_done before.state acts) { paths = p }) path before.stance c) kept.paths
-        ∙ ap (λ (v : List Track). effect_on before.fixed (record (acts_done before.state acts) { paths = before.state.paths; volume = v }) path before.stance c)
-        kept.volume
+        ∙ unseen before.fixed path before.stance c acts before.state none
 
     same_edit_at : (next : Option ℕ) → edit_at path ccws behind next ≡ edit_at path ccws before next
     same_edit_at next = grind (arith, same_effect)
@@ -201,18 +191,16 @@ item_in : (plans : Plans) (xs : List Item) (z : PlainState) (early : List Item) 
 item_in plans [] z early y ys legal = (early, legal.0)
 item_in plans (x ∷ xs) z early y ys legal = item_in plans xs (replay_item plans z x) (early ++ x ∷ []) y ys legal.1
 
+one_by_one : (plans : Plans) (l : List Act) (y : PlainState) (e : List Item) → IsLegalFrom plans y e (map (λ (act : Act). items.Act act) l) → AreActs y None l
+one_by_one plans [] y e legal = tt
+one_by_one plans (Loosen t ∷ l) y e legal = absurd (let none : None ≡ Some t = legal.0.1 in cc)
+one_by_one plans (Harden t ∷ l) y e legal = (legal.0.0, one_by_one plans l (act_done y (Harden t)) (e ++ items.Act (Harden t) ∷ []) legal.1)
+one_by_one plans (CfwLost ∷ l) y e legal = (legal.0.0, one_by_one plans l (act_done y CfwLost) (e ++ items.Act CfwLost ∷ []) legal.1)
+
 acts_in_journal : (plans : Plans) (xs : List Item) (z : PlainState) (early : List Item) (acts : List Act) →
     IsLegalFrom plans z early (xs ++ map (λ (act : Act). items.Act act) acts) → AreActs (replay plans z xs) None acts
+acts_in_journal plans [] z early acts legal = one_by_one plans acts z early legal
 acts_in_journal plans (x ∷ xs) z early acts legal = acts_in_journal plans xs (replay_item plans z x) (early ++ x ∷ []) acts legal.1
-acts_in_journal plans [] z early acts legal = by_acts acts z early legal where
-  first_act : (y : PlainState) (act : Act) (l : List Act) → AreActs y None (act ∷ []) → AreActs (act_done y act) None l → AreActs y None (act ∷ l)
-  first_act y (Loosen t) l one rest = absurd (let none : None ≡ Some t = one.1 in cc)
-  first_act y (Harden t) l one rest = (one.0, rest)
-  first_act y CfwLost l one rest = (one.0, rest)
-
-  by_acts : (l : List Act) (y : PlainState) (e : List Item) → IsLegalFrom plans y e (map (λ (act : Act). items.Act act) l) → AreActs y None l
-  by_acts [] y e legal = tt
-  by_acts (act ∷ l) y e legal = first_act y act l legal.0 (by_acts l (act_done y act) (e ++ items.Act act ∷ []) legal.1)
 
 pub idle_acts : (acts : List Act) (h : History) → all_acted (record h { running = None }) acts
     ≡ record h { items = h.items ++ map (λ (act : Act). items.Act act) acts; running = None }

@@ -128,17 +128,11 @@ most_plans n k le few = omega (arith, le, few)
 
 opened_sized : (deck : DeckLines) → length deck.programs ≤ 512 → Each (ProgramOk deck.devices) deck.programs → (seen : List ℕ) (ds : List DeviceLine) → AreNumbered seen ds → All Small ds → AreSo Sized (map (opened_device deck) ds)
 opened_sized deck few ok seen [] n s = tt
-opened_sized deck few ok seen (d ∷ ds) n s = (
-  record {
-    device = n.1;
-    cylinders = All-head Small d ds s;
-    lent = tt;
-    plans = λ path. most_plans _ (length deck.programs) (plan_bound deck.programs d.number path) few;
-    words = planned_words deck.devices deck.programs d.number ok;
-    short = omega arith;
-  },
-  opened_sized deck few ok (d.number ∷ seen) ds n.2 (All-tail Small d ds s),
-)
+opened_sized deck few ok seen (d ∷ ds) n s =
+    let plans = λ (path : ℕ). most_plans _ (length deck.programs) (plan_bound deck.programs d.number path) few in
+    let words = planned_words deck.devices deck.programs d.number ok in
+    let first : Sized (opened_device deck d).device = record { device = n.1; cylinders = All-head Small d ds s; lent = tt; plans = plans; words = words; short = omega arith } in
+    (first, opened_sized deck few ok (d.number ∷ seen) ds n.2 (All-tail Small d ds s))
 
 module _ (text : List ℕ) (deck : DeckLines) (read : parsed text ≡ Ok deck) where
   pub first_sized : AreSo Sized (opened deck).mounted

@@ -73,15 +73,10 @@ module _ (c : Ccw) (gives : GivesBytes c) (t : Track) (all : TrackHolds t) (s : 
 
   update_holds : (key d : Bool) (i : ℕ) → LookHolds t (update_record key d s c i (record_at t.records i))
   update_holds true d i =
-      let r = record_at t.records i in (
-        rewritten i (given_at 0 (length r.key) c) (given_at (length r.key) (length r.body) c) (omega (
-          arith,
-          (at_holds t.records i all).few,
-          (given_length 0
-              (length r.key) c),
-        )) (given_are 0 (length r.key) c gives) (given_are (length r.key) (length r.body) c gives),
-        no_bytes,
-      )
+      let r = record_at t.records i in
+      let few : length (given_at 0 (length r.key) c) < 256 = omega (arith, (at_holds t.records i all).few, (given_length 0 (length r.key) c)) in
+      let key = given_are 0 (length r.key) c gives in
+      (rewritten i (given_at 0 (length r.key) c) (given_at (length r.key) (length r.body) c) few key (given_are (length r.key) (length r.body) c gives), no_bytes)
   update_holds false d i = data_holds d i
 
   updates_hold : (key d : Bool) (k : Sought) → LookHolds t (update_sought key d t.records s c k)

@@ -108,15 +108,10 @@ module _ (f : Fixed) (state : PlainState) (path : ℕ) (s : Stance) (c : Ccw) (g
   command_keeps is =
       let e = effect_on f state path s c in
       let o = opening_of f s c in
-      record {
-        paths = record {
-          named = effect_named state.paths path is k.paths.named f (track_in state.volume) s c o.stance o.opening (opening_named f s c gives);
-          senses = effect_senses state.paths path k.paths.senses f (track_in state.volume) s c o.stance o.opening
-              (walk_sense c e.outcome (outcome_fits f state path s c));
-        };
-        volume = edit_holds state.volume e.edit k.volume holds.1;
-        loose = k.loose;
-      }
+      let named = effect_named state.paths path is k.paths.named f (track_in state.volume) s c o.stance o.opening (opening_named f s c gives) in
+      let sense = walk_sense c e.outcome (outcome_fits f state path s c) in
+      let senses = effect_senses state.paths path k.paths.senses f (track_in state.volume) s c o.stance o.opening sense in
+      record { paths = record { named = named; senses = senses }; volume = edit_holds state.volume e.edit k.volume holds.1; loose = k.loose }
 
 -- Acts of cache fast write, and a loss of power
 
@@ -127,16 +122,12 @@ all_restored (l ∷ loose) v firm all =
     (all_restored loose v (All-tail FirmHolds l loose firm) all)
 
 act_keeps : (state : PlainState) (act : Act) → KeepsBytes state → KeepsBytes (act_done state act)
-act_keeps state (Loosen t) k = record {
-  paths = k.paths;
-  volume = k.volume;
-  loose = All-push FirmHolds state.loose (record { track = t; firm = track_in state.volume t }) k.loose (track_holds state.volume k.volume t);
-}
-act_keeps state (Harden t) k = record {
-  paths = k.paths;
-  volume = k.volume;
-  loose = All-filter (λ (l : LooseTrack). not (l.track == t)) FirmHolds state.loose k.loose;
-}
+act_keeps state (Loosen t) k =
+    let all = All-push FirmHolds state.loose (record { track = t; firm = track_in state.volume t }) k.loose (track_holds state.volume k.volume t) in
+    record { paths = k.paths; volume = k.volume; loose = all }
+act_keeps state (Harden t) k =
+    let all = All-filter (λ (l : LooseTrack). not (l.track == t)) FirmHolds state.loose k.loose in
+    record { paths = k.paths; volume = k.volume; loose = all }
 act_keeps state CfwLost k = record { paths = k.paths; volume = all_restored state.loose state.volume k.loose k.volume; loose = All-nil FirmHolds }
 
 acts_keep : (acts : List Act) (p : Part) → KeepsBytes p.state → KeepsBytes (with_acts acts p).state
@@ -195,14 +186,9 @@ module _ (plans : Plans) (gives : (path ordinal i : ℕ) → GivesBytes (ccw_at 
       (gives e.path e.ordinal) state e.acts (effects_of e.how e.ends) k
       in
       record { paths = checked_keeps state _ e e.how l.0.ends ran.paths; volume = ran.volume; loose = ran.loose }
-  item_keeps state earlier (items.Reset path) later l k = record {
-    paths = record {
-      named = reset_named state.paths path k.paths.named;
-      senses = All-set SenseIn state.paths.senses (path - 1) zero_sense zero_in k.paths.senses;
-    };
-    volume = k.volume;
-    loose = k.loose;
-  }
+  item_keeps state earlier (items.Reset path) later l k =
+      let senses = All-set SenseIn state.paths.senses (path - 1) zero_sense zero_in k.paths.senses in
+      record { paths = record { named = reset_named state.paths path k.paths.named; senses = senses }; volume = k.volume; loose = k.loose }
   item_keeps state earlier items.Fresh later l k = record { paths = k.paths; volume = volume_holds state.cylinders; loose = All-nil FirmHolds }
   item_keeps state earlier (items.Act act) later l k = act_keeps state act k
   item_keeps state earlier items.Power later l k = power_keeps state k

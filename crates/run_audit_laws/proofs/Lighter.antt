@@ -462,17 +462,12 @@ copied_b a stale b b_stale held e = grind arith
 copy_lower : (s z : MarksStore) (t : ℕ) → s.half ≡ None → t < tracks_of s → Near s z t → works (spot_at z t) ≡ works (spot_at s t) → copies (spot_at s t) ≡ true →
     copies (spot_at z t) ≡ false → Lower s z
 copy_lower s z t whole lt n same before behind =
-    lower_at s z t lt n.cylinders (λ q ne. same_weight s z q (n.others q ne)) (omega (
-      arith,
-      whole_at s t whole,
-      whole_at z t (n.half ∙ whole),
-      (ap one before),
-      (ap one behind),
-      (ap (λ (b : Bool). if b then sides (spot_at z t) else 0) same ∙ ap (λ (k : ℕ). if works (spot_at s t) then k else 0)
-          (sides_near s z t t n)),
-      (ap (λ (h : Option (store.HalfWrite (Unit {0}))). one (is_some h)) n.half),
-      (ap length n.queue),
-    ))
+    let work = ap (λ (b : Bool). if b then sides (spot_at z t) else 0) same
+    ∙ ap (λ (k : ℕ). if works (spot_at s t) then k else 0) (sides_near s z t t n)
+    in
+    let opens = ap (λ (h : Option (store.HalfWrite (Unit {0}))). one (is_some h)) n.half in
+    lower_at s z t lt n.cylinders (λ q ne. same_weight s z q (n.others q ne))
+    (omega (arith, whole_at s t whole, whole_at z t (n.half ∙ whole), (ap one before), (ap one behind), work, opens, (ap length n.queue)))
 
 abbrev IsCopied : MarksStore → ℕ → Side → Type 0
 IsCopied s t A = (s.a.up && stale_at s.a t && level_at s.b t) ≡ true

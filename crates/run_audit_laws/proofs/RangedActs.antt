@@ -107,11 +107,9 @@ module _ (k : ℕ) (some : 0 < k) where
     module _ (m : ℕ) (h : HasActs state path ccws acts m) where
       acts_below : (j : ℕ) → j < m → ActsAt j
       acts_below j lt =
-          let p = part_of state path ccws acts j in record {
-            edited = track_of (next_edit path ccws p);
-            below = tracked (next_edit path ccws p) (edit_on k some state on.cylinders path ccws acts j);
-            are = (h.points j lt).acts_are;
-          }
+          let edit = next_edit path ccws (part_of state path ccws acts j) in
+          let below = tracked edit (edit_on k some state on.cylinders path ccws acts j) in
+          record { edited = track_of edit; below = below; are = (h.points j lt).acts_are }
 
       last_acts : ActsAt m
       last_acts = record { edited = None; below = tt; are = h.last }

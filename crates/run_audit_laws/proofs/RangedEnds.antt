@@ -44,6 +44,7 @@ use Rattle.subsystem_defs.specs.Lines.{Asked, Logged, Once, Replace, Run, Settle
 use Rattle.subsystem_defs.specs.Refusals as R
 use Rattle.subsystem_defs.specs.Refusals.{active_by, fail_fault, first_cause, has_side, is_alike, lent_by, not_level_by, pair_fault, replace_fault, resume_fault, stale_count, suspend_fault, unpair_fault, where_so}
 use Rattle.subsystem_defs.specs.Subsystem.{Mounted, Subsystem, devices_of, mounted_in, unfailing}
+use Rattle.subsystem_laws.proofs.HadAnswers.{any_had}
 use Rattle.subsystem_laws.proofs.RunLines.{AnyEvent, Goes}
 use Rattle.run_audit_laws.proofs.RangedCommands.{EventIn, command_in, second_in}
 use Rattle.run_audit_laws.proofs.RangedDevices.{Ranged, device_ranged, few_programs}
@@ -65,17 +66,6 @@ module _ (P : EventEnd → Type 0) (done : P ends.Done) (idle : P ends.Idle) whe
 
   pub on_fine : (o : Option MarksDevice) (f : MarksDevice → MarksDeed) → IfSome o Ranged → ((d : MarksDevice) → Ranged d → Fine (f d)) → Fine (on_device o f)
   on_fine o f r h = grind arith
-
--- memory is had: an answer is handed on
-handed_on : {X : Type 0} (i : Talk X) (f : X → EventEnd) (t : Told) →
-    (T.hold true (and_then i (λ d a. Done d (Some (f a)))) t).answer ≡ Some (f (T.hold true i t).answer)
-unfolding T.hold
-handed_on (Done s a) f t = refl
-handed_on (Try k) f t = handed_on (k true) f t
-handed_on (Ask call k) f t = handed_on (k (answer t.pool call)) f (record t { pool = after t.pool call (answer t.pool call) })
-handed_on (Read side q k) f t = handed_on (k (if read_fails (calls_of t side) then None else Some true)) f (told_read t side)
-handed_on (Write side q r k) f t = handed_on (k (if write_fails (calls_of t side) then false else true)) f (told_write t side)
-handed_on (Tell m k) f t = handed_on (k (reply m)) f t
 
 -- Orders
 
@@ -139,7 +129,11 @@ ordered o x h k = grind arith
 
 lost_in : (d : MarksDevice) (side : Side) (t : Told) →
     OrderIn (told_end (T.hold true (and_then (lose by_plain d (losses.Side side)) (λ z a. Done z (Some (ends_done a)))) t).answer)
-lost_in d side t = rw (handed_on (lose by_plain d (losses.Side side)) ends_done t) tt
+lost_in d side t =
+    let had : Had (and_then (lose by_plain d (losses.Side side)) (λ z a. Done z (Some (ends_done a)))) (λ (y : MarksDevice) o. OrderIn (told_end o))
+    = had_then (any_had (lose by_plain d (losses.Side side))) (λ z a _. had_done tt)
+    in
+    held true had t
 
 down_in : (b : Bool) (pool : Pool) (f : MarksDevice → Talk (Unit {0})) → FineOrder (E.order_if_not b faults.Down (Sweeps pool f))
 down_in b pool f = grind arith
@@ -246,17 +240,20 @@ module _ (s : Subsystem) (all : All Ranged (devices_of s)) where
   there : (n : ℕ) → IfSome (device_in (devices_of s) n) Ranged
   there n = device_ranged (devices_of s) n all
 
+  at_device : (P : EventEnd → Type 0) (done : P ends.Done) (idle : P ends.Idle) (n : ℕ) (f : MarksDevice → MarksDeed) →
+      ((x : MarksDevice) → Ranged x → Fine P done idle (f x)) → P (happens_by s (on_device (device_in (devices_of s) n) f)).end
+  at_device P done idle n f h =
+      fine_end P done idle s (on_device (device_in (devices_of s) n) f) (on_fine P done idle (device_in (devices_of s) n) f (there n) h)
+
+  order_at : (n : ℕ) (fault : MarksDevice → Option OrderFault) (y : MarksDevice → MarksDeed) → ((x : MarksDevice) → Ranged x → CauseIn (fault x)) →
+      ((x : MarksDevice) → Ranged x → FineOrder (y x)) → OrderIn (happens_by s (on_device (device_in (devices_of s) n) (λ x. order (fault x) (y x)))).end
+  order_at n fault y causes fine = at_device OrderIn tt tt n (λ x. order (fault x) (y x)) (λ x k. ordered (fault x) (y x) (causes x k) (fine x k))
+
   once_answers : (e : Event) → AnswersOnce e (happens s e).end
   unfolding H.happens E.deed
-  once_answers (events.Start path d) =
-      fine_end StartIn tt tt s (on_device (device_in (devices_of s) d) (starts path))
-      (on_fine StartIn tt tt (device_in (devices_of s) d) (starts path) (there d) (λ x k. starts_in x k path))
-  once_answers (events.Step d) =
-      fine_end PieceIn nothing_in nothing_in s (on_device (device_in (devices_of s) d) (E.step by_plain))
-      (on_fine PieceIn nothing_in nothing_in (device_in (devices_of s) d) (E.step by_plain) (there d) steps_in)
-  once_answers (events.Back d) =
-      fine_end PieceIn nothing_in nothing_in s (on_device (device_in (devices_of s) d) (E.back by_plain))
-      (on_fine PieceIn nothing_in nothing_in (device_in (devices_of s) d) (E.back by_plain) (there d) backs_in)
+  once_answers (events.Start path d) = at_device StartIn tt tt d (starts path) (λ x k. starts_in x k path)
+  once_answers (events.Step d) = at_device PieceIn nothing_in nothing_in d (E.step by_plain) steps_in
+  once_answers (events.Back d) = at_device PieceIn nothing_in nothing_in d (E.back by_plain) backs_in
   once_answers (events.Reset path d) = tt
   once_answers events.FailCache =
       fine_end OrderIn tt tt s (E.order_if_not (not s.pool.cache_up) faults.Down (Sweeps (cache_failed s.pool) (λ x. lose by_plain x losses.Cache)))
@@ -265,26 +262,15 @@ module _ (s : Subsystem) (all : All Ranged (devices_of s)) where
       fine_end OrderIn tt tt s (E.order_if_not (not s.pool.store_up) faults.Down (Sweeps (store_failed s.pool) (λ x. lose by_plain x losses.Store)))
       (down_in (not s.pool.store_up) (store_failed s.pool) (λ x. lose by_plain x losses.Store))
   once_answers (events.FailVolume d side) =
-      let f = λ (x : MarksDevice). order (fail_fault x side) (Asks x (E.ends_by ends_done (lose by_plain x (losses.Side side)))) in
-      fine_end OrderIn tt tt s (on_device (device_in (devices_of s) d) f)
-      (on_fine OrderIn tt tt (device_in (devices_of s) d) f (there d) (λ x k. ordered (fail_fault x side)
-      (Asks x (E.ends_by ends_done (lose by_plain x (losses.Side side)))) (fail_in x side k) (lost_in x side)))
+      order_at d (λ x. fail_fault x side) (λ x. Asks x (E.ends_by ends_done (lose by_plain x (losses.Side side)))) (λ x k. fail_in x side k) (λ x k. lost_in x side)
   once_answers events.RepairCache = tt
   once_answers events.RepairStore = tt
   once_answers (events.Pair a b) =
       let g = λ (x y : MarksDevice). order (pair_fault x y) (Lends x y) in
-      let f = λ (x : MarksDevice). on_device (device_in (devices_of s) b) (g x) in
-      fine_end OrderIn tt tt s (on_device (device_in (devices_of s) a) f)
-      (on_fine OrderIn tt tt (device_in (devices_of s) a) f (there a) (λ x k. on_fine OrderIn tt tt (device_in (devices_of s) b) (g x) (there b)
-      (λ y l. ordered (pair_fault x y) (Lends x y) (pair_in x y k l) tt)))
-  once_answers (events.Suspend a) =
-      let f = λ (x : MarksDevice). order (suspend_fault x) (Becomes (hold_side x) ends.Done) in
-      fine_end OrderIn tt tt s (on_device (device_in (devices_of s) a) f)
-      (on_fine OrderIn tt tt (device_in (devices_of s) a) f (there a) (λ x k. ordered (suspend_fault x) (Becomes (hold_side x) ends.Done) (suspend_in x) tt))
-  once_answers (events.Resume a) =
-      let f = λ (x : MarksDevice). order (resume_fault x) (Becomes (resume x) ends.Done) in
-      fine_end OrderIn tt tt s (on_device (device_in (devices_of s) a) f)
-      (on_fine OrderIn tt tt (device_in (devices_of s) a) f (there a) (λ x k. ordered (resume_fault x) (Becomes (resume x) ends.Done) (resume_in x) tt))
+      at_device OrderIn tt tt a (λ x. on_device (device_in (devices_of s) b) (g x))
+      (λ x k. on_fine OrderIn tt tt (device_in (devices_of s) b) (g x) (there b) (λ y l. ordered (pair_fault x y) (Lends x y) (pair_in x y k l) tt))
+  once_answers (events.Suspend a) = order_at a suspend_fault (λ x. Becomes (hold_side x) ends.Done) (λ x k. suspend_in x) (λ x k. tt)
+  once_answers (events.Resume a) = order_at a resume_fault (λ x. Becomes (resume x) ends.Done) (λ x k. resume_in x) (λ x k. tt)
   once_answers events.Power = tt
 
   mounted_ranged : (ms : List Mounted) (n : ℕ) → All Ranged (map (λ (m : Mounted). m.device) ms) → IfSome (mounted_in ms n) (λ m. Ranged m.device)

@@ -157,16 +157,11 @@ fits : (d : MarksDevice) → Sized d → Good d → Fit d
 fits d s g = record { sized = s; works = works_on d g s; some = g.some }
 
 both_so : (d : MarksDevice) → Fit d → Plainly d → Ranged d
-both_so d f p = record {
-  sized = f.sized;
-  follows = p;
-  plain = subst (λ (x : PlainState). IsPlain d.plans x d.history) p.base p.follows.stands.plain;
-  loose = count_short d p f.sized.cylinders;
-  number = number_short d p;
-  works = f.works;
-  some = f.some;
-  owner = owner_in d f.sized p;
-}
+both_so d f p =
+    let plain = subst (λ (x : PlainState). IsPlain d.plans x d.history) p.base p.follows.stands.plain in
+    let loose = count_short d p f.sized.cylinders in
+    let owner = owner_in d f.sized p in
+    record { sized = f.sized; follows = p; plain = plain; loose = loose; number = number_short d p; works = f.works; some = f.some; owner = owner }
 
 all_so : (ms : List Mounted) → AreSo Plainly ms → AreSo Sized ms → AreSo Good ms → All Ranged (map (λ (m : Mounted). m.device) ms)
 all_so [] p s g = All-nil Ranged

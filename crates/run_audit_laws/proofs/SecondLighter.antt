@@ -79,9 +79,6 @@ abbrev weight_from : Bool → Bool → Bool → Bool → Bool → Bool → ℕ
 weight_from work a a_stale b b_stale held =
     (if work then one a + one (b && not held) else 0) + one ((a && a_stale && (b && not b_stale)) || ((b && not held) && b_stale && (a && not a_stale)))
 
-no_copy : (a stale b_stale : Bool) → one ((a && stale && (false && not b_stale)) || ((false && not false) && b_stale && (a && not stale))) ≡ 0
-no_copy a stale b_stale = grind arith
-
 fallen_least : (after before a a_stale b b_stale held : Bool) → b ≡ true →
     (a ≡ true → after ≡ true → (before ≡ true) ⊎ ((a_stale ≡ true) × (b_stale ≡ false))) →
     weight_from after a a_stale false b_stale false ≤ weight_from before a a_stale b b_stale held

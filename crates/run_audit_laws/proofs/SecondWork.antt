@@ -17,6 +17,7 @@ use Rattle.device_defs.specs.Writing as W
 use Rattle.device_defs.specs.Writing.{slot_freed, tried_b, write_done, write_second}
 use Rattle.device_laws.proofs.Had.{Had, had_done, had_if, had_tell, had_then, had_weaker, had_write}
 use Rattle.run_audit_laws.proofs.Weights.{Spot, copies, one, sides, spot_at, weight, weight_at, whole_weight, works}
+use Rattle.std.proofs.lemmas.Bool.{eqb-false}
 use Rattle.run_audit_laws.proofs.Lighter.{Written, written_by, write_is_done, only_copies, Lower, as_least, half_off, half_on, lower_all, near_bare, near_frame, near_on, near_self, near_stale_b, none_open, not_own, own_is, same_weight, whole_at, near_by}
 use Rattle.run_audit_laws.proofs.SecondLighter.{IsSafe, Made, fell, made_least, settled_so}
 use Rattle.device_laws.proofs.Unlost.{clear}
@@ -38,55 +39,38 @@ falls_self : (s : MarksStore) → Falls s s
 falls_self s = record { cylinders = refl; queue = refl; half = refl; a = refl; b = refl; held = refl }
 
 module _ (t : ℕ) where
-  each_by : (b : Bool) (k : ℕ) (w : MarksStore) → Falls w (if b then w else settled by_plain w k) ×
-      ((q : ℕ) → q ≢ k → spot_at (if b then w else settled by_plain w k) q ≡ spot_at w q)
-  each_by b k w = grind (arith, falls_self, settled_so)
+  -- the tracks before this one are settled, all but that of the write
+  record OverSo (k : ℕ) (w z : MarksStore) : Type 0 where
+    falls : Falls w z
+    own : spot_at z t ≡ spot_at w t
+    made : (q : ℕ) → Made (spot_at w q) (spot_at z q)
+    later : (q : ℕ) → k ≤ q → spot_at z q ≡ spot_at w q
 
-  over_falls : (k : ℕ) (s : MarksStore) → Falls s (over k (settled_but by_plain (Some t)) s)
+  written_falls : (s z : MarksStore) (k : ℕ) → Written s z k → Falls s z
+  written_falls s z k r = search arith
+
+  one_over : (k : ℕ) (w z : MarksStore) → OverSo k w z → (b : Bool) → (k == t) ≡ b → OverSo (suc k) w (if b then z else settled by_plain z k)
+  one_over k w z o true is = record { falls = o.falls; own = o.own; made = o.made; later = λ q le. o.later q (omega (arith, le)) }
+  one_over k w z o false is =
+      let y = settled by_plain z k in
+      let r = settled_so z k in
+      record {
+        falls = falls_on w z y o.falls (written_falls z y k r.0);
+        own = r.0.near.others t (λ e. eqb-false k t is (sym e)) ∙ o.own;
+        made = λ q. at_place q (cases_eq q k);
+        later = λ q le. r.0.near.others q (λ e. absurd (omega (arith, le, e))) ∙ o.later q (omega (arith, le));
+      }
+    where
+      at_place : (q : ℕ) → ((q ≡ k) ⊎ (q ≢ k)) → Made (spot_at w q) (spot_at (settled by_plain z k) q)
+      at_place q (inl e) =
+          subst (λ (i : ℕ). Made (spot_at w i) (spot_at (settled by_plain z k) i)) (sym e)
+          (subst (λ (p : Spot). Made p (spot_at (settled by_plain z k) k)) (o.later k (omega arith)) (settled_so z k).1)
+      at_place q (inr ne) = subst (λ (p : Spot). Made (spot_at w q) p) (sym ((settled_so z k).0.near.others q ne)) (o.made q)
+
+  over_so : (k : ℕ) (w : MarksStore) → OverSo k w (over k (settled_but by_plain (Some t)) w)
   unfolding L.over
-  over_falls zero s = falls_self s
-  over_falls (suc k) s = let w = over k (settled_but by_plain (Some t)) s in falls_on s w _ (over_falls k s) (each_by (k == t) k w).0
-
-  -- one that isn't come to yet is as it was
-  over_later : (k : ℕ) (s : MarksStore) (q : ℕ) → k ≤ q → spot_at (over k (settled_but by_plain (Some t)) s) q ≡ spot_at s q
-  unfolding L.over
-  over_later zero s q le = refl
-  over_later (suc k) s q le = grind (arith, over_later k s q (omega (arith, le)), each_by)
-
-  over_own : (k : ℕ) (s : MarksStore) → spot_at (over k (settled_but by_plain (Some t)) s) t ≡ spot_at s t
-  unfolding L.over
-  over_own zero s = refl
-  over_own (suc k) s = by_place (k == t) refl (over_own k s) where
-    by_place : (b : Bool) → (k == t) ≡ b → spot_at (over k (settled_but by_plain (Some t)) s) t ≡ spot_at s t →
-        spot_at (if b then over k (settled_but by_plain (Some t)) s else settled by_plain (over k (settled_but by_plain (Some t)) s) k) t ≡ spot_at s t
-    by_place true is rest = rest
-    by_place false is rest =
-        let w = over k (settled_but by_plain (Some t)) s in
-        (each_by false k w).1 t (λ e. absurd (let mine : (k == t) ≡ true = ap (λ (x : ℕ). x == t) (sym e) ∙ own_is t in let both : true ≡ false = sym mine ∙ is in cc)) ∙ rest
-
-  -- with side B down
-  over_least : (k : ℕ) (s : MarksStore) (q : ℕ) → q ≢ t → half_is s.half q ≡ false → s.b.up ≡ true → IsSafe (spot_at s q) →
-      weight_at (over k (settled_but by_plain (Some t)) (down s B)) q ≤ weight_at s q
-  unfolding L.over
-  over_least zero s q ne whole up safe = made_least (spot_at s q) (spot_at (down s B) q) whole up safe (inl refl)
-  over_least (suc k) s q ne whole up safe = by_place (k == t) refl (cases_eq q k) (over_least k s q ne whole up safe) where
-    w : MarksStore
-    w = over k (settled_but by_plain (Some t)) (down s B)
-
-    by_place : (b : Bool) → (k == t) ≡ b → ((q ≡ k) ⊎ (q ≢ k)) → weight_at (over k (settled_but by_plain (Some t)) (down s B)) q ≤ weight_at s q →
-        weight_at (if b then over k (settled_but by_plain (Some t)) (down s B) else settled by_plain (over k (settled_but by_plain (Some t)) (down s B)) k) q ≤ weight_at s q
-    by_place true mine here rest = rest
-    by_place false mine (inr other) rest =
-        let o = over k (settled_but by_plain (Some t)) (down s B) in
-        let same = ap weight ((each_by false k o).1 q other) in
-        omega (arith, same, rest)
-    by_place false mine (inl is) rest =
-        let o = over k (settled_but by_plain (Some t)) (down s B) in
-        let z = settled by_plain o k in
-        let before : spot_at o q ≡ fell (spot_at s q) = over_later k (down s B) q (omega (arith, is)) in
-        made_least (spot_at s q) (spot_at z q) whole up safe
-        (subst (λ (p : Spot). Made p (spot_at z q)) before
-        (subst (λ (i : ℕ). Made (spot_at o i) (spot_at z i)) (sym is) (settled_so o k).1))
+  over_so zero w = record { falls = falls_self w; own = refl; made = λ q. inl refl; later = λ q le. refl }
+  over_so (suc k) w = one_over k w (over k (settled_but by_plain (Some t)) w) (over_so k w) (k == t) refl
 
 -- The second part of a write
 
@@ -115,23 +99,17 @@ module _ (s : MarksStore) (t : ℕ) (paired : s.paired ≡ true) (whole : (q : �
   unfolding L.side_lost
   failed_so n is false e = absurd (cc)
   failed_so n is true e =
-      let f = over_falls t (tracks_of s) (down s B) in
-      had_weaker (told_falls n (over (tracks_of s) (settled_but by_plain (Some t)) (down s B))) (λ z _ g. record {
-        cylinders = g.0.cylinders
-            ∙ f.cylinders;
-        queue = g.0.queue ∙ f.queue;
-        half = g.0.half ∙ f.half;
-        a = g.0.a ∙ f.a;
-        shut = and_left (takes_b z) (stale_at z.b t) (and_left z.b.up
-            (not z.held) (ap (λ (m : store.SideMarks). m.up) (g.0.b ∙ f.b)));
-        loose = ap (λ (p : Spot). p.loose) (g.1 t ∙ over_own t (tracks_of s)
-            (down s B));
-        others = λ q lt ne. omega (
-          arith,
-          ap weight (g.1 q),
-          (over_least t (tracks_of s) s q ne (whole q ne) (and_parts s.b.up (not s.held) is).0
-              (safe q lt ne)),
-        );
+      let fallen = over (tracks_of s) (settled_but by_plain (Some t)) (down s B) in
+      let o = over_so t (tracks_of s) (down s B) in
+      let up = (and_parts s.b.up (not s.held) is).0 in
+      had_weaker (told_falls n fallen) (λ z _ g. let f = falls_on (down s B) fallen z o.falls g.0 in record {
+        cylinders = f.cylinders;
+        queue = f.queue;
+        half = f.half;
+        a = f.a;
+        shut = and_left (takes_b z) (stale_at z.b t) (and_left z.b.up (not z.held) (ap (λ (m : store.SideMarks). m.up) f.b));
+        loose = ap (λ (p : Spot). p.loose) (g.1 t ∙ o.own);
+        others = λ q lt ne. omega (arith, ap weight (g.1 q), made_least (spot_at s q) (spot_at fallen q) (whole q ne) up (safe q lt ne) (o.made q));
       })
 
 -- the counts of calls count for nothing here
@@ -141,15 +119,10 @@ again s t z k = search arith
 module _ (s : MarksStore) (t : ℕ) (paired : s.paired ≡ true) (whole : (q : ℕ) → q ≢ t → half_is s.half q ≡ false)
     (safe : (q : ℕ) → q < tracks_of s → q ≢ t → IsSafe (spot_at s q)) where
   tried_so : takes_b s ≡ true → (ok : Bool) → Had (tried_b by_plain t (W.write_counted s ok) ok) (λ z (_ : Unit {0}). Second s z t)
-  tried_so is true = had_done (record {
-    cylinders = refl;
-    queue = refl;
-    half = refl;
-    a = refl;
-    shut = and_right (takes_b s) _ (clear s.b.stale t);
-    loose = refl;
-    others = λ q lt ne. same_weight s (with_stale s B t false) q ((near_stale_b s t false).others q ne);
-  })
+  tried_so is true =
+      let others = λ (q : ℕ) (lt : q < tracks_of s) (ne : q ≢ t). same_weight s (with_stale s B t false) q ((near_stale_b s t false).others q ne) in
+      let shut = and_right (takes_b s) (stale_at (with_stale s B t false).b t) (clear s.b.stale t) in
+      had_done (record { cylinders = refl; queue = refl; half = refl; a = refl; shut = shut; loose = refl; others = others })
   tried_so is false = had_weaker (failed_so (W.write_counted s false) t paired whole safe (tracks_of s) is s.paired paired) (λ z _ k. again s t z k)
 
   second_so : (r : Bool) → Had (write_second by_plain s t r) (λ z (_ : Unit {0}). Second s z t)
@@ -221,15 +194,10 @@ module _ (s : MarksStore) (h : store.HalfWrite (Unit {0})) (is : s.half ≡ Some
   done_lower : (y v : MarksStore) → Second s y h.track → Written (half_closed y) v h.track → works (spot_at v h.track) ≡ false → Lower s v
   done_lower y v k g off =
       let t = h.track in
-      closing_lower y v k g (omega (
-        arith,
-        whole_at v t g.near.half,
-        half_off (works (spot_at v t)) (sides (spot_at v t)) 0 off,
-        (ap one (only_copies
-            (half_closed y) v t g.a g.b g.near.held)),
-        (done_copies y.a.up (stale_at y.a t) (y.b.up && not (stale_at y.b t)) (takes_b y) (stale_at y.b t)
-            (y.a.up && not (stale_at y.a t)) k.shut),
-      ))
+      let kept = ap one (only_copies (half_closed y) v t g.a g.b g.near.held) in
+      let level = y.a.up && not (stale_at y.a t) in
+      let copied = done_copies y.a.up (stale_at y.a t) (y.b.up && not (stale_at y.b t)) (takes_b y) (stale_at y.b t) level k.shut in
+      closing_lower y v k g (omega (arith, whole_at v t g.near.half, half_off (works (spot_at v t)) (sides (spot_at v t)) 0 off, kept, copied))
 
   absent_lower : (y v : MarksStore) → Second s y h.track → Written (half_closed y) v h.track → has_level y h.track ≡ false → Lower s v
   absent_lower y v k g off = grind (arith, closing_lower, whole_at, if_least, works, spot_at, sides, copies_same, absent_sides)

@@ -98,9 +98,6 @@ module _ (num : ℕ) (empty : PlainState) (x : MarksDevice) (f : Follows num emp
   p = plain_of x.plans empty x.history
 
   module _ (now : x.chain ≡ Some chain) (whole : x.store.half ≡ None) (s : MarksStore) (e : core_of s ≡ core_of (noted_begin x.store)) where
-    abbrev started : MarksDevice
-    started = record (event_begun x) { store = s }
-
     first_half : half_by s.half ≡ half.Closed
     first_half = walked_half x p (core_of s) (walking_first num empty x f o running chain is now whole s e)
 
@@ -191,9 +188,6 @@ abbrev HalfSecond : MarksDevice → Origin → SecondEnd → Type 0
 HalfSecond y origin a = HasHalf y half.Closed × IsToldBy origin a
 
 module _ (num : ℕ) (empty : PlainState) (x : MarksDevice) (f : Follows num empty x) where
-  abbrev at : PlainState
-  at = plain_of x.plans empty x.history
-
   second_half : (t : ℕ) (origin : Origin) (z : MarksStore) (done : Bool) →
       SecondSo (plain_of x.plans empty x.history) x.store.plain x.store.geometry x.store.cylinders (x.store.lent, x.store.device) t origin z done →
       half_by z.half ≡ half.Closed

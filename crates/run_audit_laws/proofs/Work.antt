@@ -1,6 +1,6 @@
 -- What the lines of a piece of work make of its device: acts of cache fast write, volume calls, the program that is over.
 use Rattle.std.proofs.Common.{arith, ◌≡◌, ◌==◌, ◌++◌, ℕ, Bool, true, false, not, List, [], ◌∷◌, map, Option, Some, None, refl, sym, ap, ◌∙◌, if◌then◌else◌}
-use Rattle.std.specs.Prelude.{◌||◌, ◌&&◌, Ok, Err}
+use Rattle.std.specs.Prelude.{Result, ◌||◌, ◌&&◌, Ok, Err}
 use Rattle.std.proofs.lemmas.Bool.{eq-eqb}
 use Rattle.deck_plan.specs.declared.event.EventLine.{EventLine}
 use Rattle.ckd_types.specs.declared.channel.CommandEnd.{CommandEnd}
@@ -37,6 +37,7 @@ use Rattle.deck_audit.specs.State.{
   worker,
   worker_number,
 }
+use Rattle.report_auditor.specs.declared.status.AuditWhy.{AuditWhy}
 use Rattle.report_auditor.specs.declared.status.AuditWhy.TheVariants.{Place}
 use Rattle.report_auditor.specs.Verdict.{judged, or_history}
 use Rattle.run_audit_laws.specs.Standing.{LeadsBy}
@@ -96,37 +97,29 @@ module _ (xs : List AuditedDevice) (w : EventLine) (later : List EventLine) (n :
     abbrev s : AuditState
     s = at a (Behind more did)
 
+    -- by whether the line is of calls, whether it is of an act, and the worker
+    abbrev judged_at : Bool → Bool → Option AuditedDevice → Result AuditState AuditWhy
+    judged_at io act o =
+        if (io || act) || in_due (outlines (settled s did)) (settled s did).events line (settled s did).due
+        then or_history (if (io || act) && not io then then_of o (act_of_work s line did)
+        else if not (holds o (is_legal did)) then None
+        else if io then Some (settled s did)
+        else due_made (settled s did) line (settled s did).due) else Err Place
+
+    abbrev is_act : Option ℕ → Bool
+    is_act k = holds k (λ d. is_act_of more d line)
+
     of_work : holds (Some n) (λ d. is_act_of more d line) ≡ true → is_io line ≡ false → judged (at a (Behind more did)) line
         ≡ or_history (act_of_work (at a (Behind more did)) line did a)
     of_work act no_io =
-        ap (λ (k : Option ℕ). if is_of_work more k line || in_due (outlines (settled s did)) (settled s did).events line (settled s did).due
-        then or_history (if is_of_work more k line && not (is_io line) then then_of (worker s) (act_of_work s line did)
-        else if not (holds (worker s) (is_legal did)) then None
-        else if is_io line then Some (settled s did)
-        else due_made (settled s did) line (settled s did).due) else Err Place) works
-        ∙ ap (λ (i : Bool). if (i || holds (Some n) (λ d. is_act_of more d line))
-        || in_due (outlines (settled s did)) (settled s did).events line (settled s did).due
-        then or_history (if (i || holds (Some n) (λ d. is_act_of more d line)) && not i then then_of (worker s) (act_of_work s line did)
-        else if not (holds (worker s) (is_legal did)) then None
-        else if i then Some (settled s did)
-        else due_made (settled s did) line (settled s did).due) else Err Place) no_io
-        ∙ ap (λ (b : Bool). if b || in_due (outlines (settled s did)) (settled s did).events line (settled s did).due
-        then or_history (if b && true then then_of (worker s) (act_of_work s line did)
-        else if not (holds (worker s) (is_legal did)) then None
-        else due_made (settled s did) line (settled s did).due) else Err Place) act
-        ∙ ap (λ (o : Option AuditedDevice). or_history (then_of o (act_of_work s line did))) (worker_is a (Behind more did) same)
+        ap (λ (i : Bool). judged_at i (is_act (worker_of w)) (worker s)) no_io ∙ ap (λ (b : Bool). judged_at false b (worker s)) (ap is_act works ∙ act)
+        ∙ ap (judged_at false true) (worker_is a (Behind more did) same)
 
     -- volume calls end the acts
     io_judged : is_io line ≡ true → is_legal did a ≡ true → judged (at a (Behind more did)) line ≡ Ok (settled (at a (Behind more did)) did)
     io_judged io legal =
-        ap (λ (i : Bool). if (i || holds (worker_number s) (λ d. is_act_of more d line))
-        || in_due (outlines (settled s did)) (settled s did).events line (settled s did).due
-        then or_history (if (i || holds (worker_number s) (λ d. is_act_of more d line)) && not i then then_of (worker s) (act_of_work s line did)
-        else if not (holds (worker s) (is_legal did)) then None
-        else if i then Some (settled s did)
-        else due_made (settled s did) line (settled s did).due) else Err Place) io
-        ∙ ap (λ (o : Option AuditedDevice). or_history (if not (holds o (is_legal did)) then None else Some (settled s did)))
-        (worker_is a (Behind more did) same)
+        ap (λ (i : Bool). judged_at i (is_act (worker_of w)) (worker s)) io
+        ∙ ap (judged_at true (is_act (worker_of w))) (worker_is a (Behind more did) same)
         ∙ ap (λ (l : Bool). or_history (if not l then None else Some (settled s did))) legal
 
   -- a loose track becomes firm
