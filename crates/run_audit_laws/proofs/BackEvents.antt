@@ -22,7 +22,7 @@ use Rattle.device_laws.proofs.TrackMarks as M
 use Rattle.device_laws.proofs.TrackMarks.{is_good, marks}
 use Rattle.device_laws.proofs.WholeEvents.{turned_same}
 use Rattle.subsystem_laws.proofs.GoodMarks.{Good, by_lent, half_home}
-use Rattle.run_audit_laws.proofs.Weights.{Spot, left, spot_at, sum_least, weight}
+use Rattle.run_audit_laws.proofs.Weights.{Spot, left, spot_at, sum_least}
 use Rattle.run_audit_laws.proofs.Lighter.{Lower, Same, WorkSo, not_own, own_is, lower_on, near_frame, same_least, same_self, work_on}
 use Rattle.run_audit_laws.proofs.InOrder.{work_so}
 use Rattle.run_audit_laws.proofs.SecondLighter.{IsSafe, is_level}

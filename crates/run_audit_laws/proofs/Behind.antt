@@ -3,7 +3,6 @@ use Rattle.std.proofs.Common.{arith, ◌≡◌, ℕ, true, List, [], ◌∷◌, 
 use Rattle.std.specs.Prelude.{All, IsSome, Ok}
 use Rattle.std.proofs.lemmas.List.Elements.{All-head, All-tail}
 use Rattle.deck_plan.specs.declared.event.EventLine.{EventLine}
-use Rattle.deck_plan.specs.declared.event.EventLine.TheVariants as events
 use Rattle.deck_text.specs.declared.line.DeviceLine.{DeviceLine}
 use Rattle.deck_text.specs.DeckLines.{DeckLines}
 use Rattle.deck_text.specs.Forms.{is_declared}

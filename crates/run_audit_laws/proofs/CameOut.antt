@@ -35,10 +35,9 @@ use Rattle.plain_defs.specs.Legal.{
   track_of,
 }
 use Rattle.plain_defs.specs.Loose.{act_done, is_loose_there, is_loose_in}
-use Rattle.plain_defs.specs.PlainState.{LooseTrack, PathsState, PlainState}
+use Rattle.plain_defs.specs.PlainState.{LooseTrack, PlainState}
 use Rattle.plain_defs.specs.Program.{Part, acts_at, acts_done, part_of}
 use Rattle.plain_defs.proofs.PartLemmas.{IsBeside, acted_beside, more_ends, part_more}
-use Rattle.device_defs.specs.Command.{is_loss}
 use Rattle.device_defs.specs.Device.{all_acted}
 use Rattle.device_laws.proofs.HistoryEnds.{one_longer}
 use Rattle.device_laws.proofs.OpenProgram.{bare_before, part_is_acted, state_here, with_one_act}

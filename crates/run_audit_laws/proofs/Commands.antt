@@ -99,8 +99,11 @@ module _ (xs : List AuditedDevice) (w : EventLine) (later : List EventLine) (a :
     loosens acts t ls e may leads =
         let s = at_work xs w later (acted_to a acts) (Behind true (Ended e)) in
         let z = at_work xs w later (record a { history = acted (all_acted a.history acts) (Loosen t); half = Closed }) (Behind false (Ended e)) in
-        rw (map-append (act_line a.number) acts (Loosen t ∷ []), sym (append_assoc ls (map (act_line a.number) acts) (act_line a.number (Loosen t) ∷ [])),
-        all_acted-append a.history acts (Loosen t)) (leads_on from s z (ls ++ map (act_line a.number) acts) (act_line a.number (Loosen t) ∷ []) leads
+        rw (
+          map-append (act_line a.number) acts (Loosen t ∷ []),
+          sym (append_assoc ls (map (act_line a.number) acts) (act_line a.number (Loosen t) ∷ [])),
+          all_acted-append a.history acts (Loosen t),
+        ) (leads_on from s z (ls ++ map (act_line a.number) acts) (act_line a.number (Loosen t) ∷ []) leads
         (one_leads s z (act_line a.number (Loosen t)) (loosen_judged xs w later a.number is_work a has (acted_to a acts) refl e t may)))
 
     -- all lines of a command

@@ -1,13 +1,12 @@
 -- A command on a plain device stays on its tracks and edits one of them, and it ends before it has looked at more than there are: so never with
 -- equipment check.
-use Rattle.std.proofs.Common.{◌≡◌, ◌<◌, ◌≤◌, ◌+◌, ◌*◌, ℕ, zero, suc, List, Option, Some, None, ap, subst, arith}
+use Rattle.std.proofs.Common.{◌≡◌, ◌<◌, ◌≤◌, ◌+◌, ◌*◌, ℕ, zero, suc, List, Option, Some, ap, arith}
 use Rattle.std.specs.Prelude.{IfSome}
 use Rattle.ckd_types.specs.declared.channel.Ccw.{Ccw}
 use Rattle.ckd_types.specs.declared.channel.CommandEnd.{CommandEnd}
 use Rattle.ckd_types.specs.declared.geometry.Geometry.{Geometry}
 use Rattle.ckd_types.specs.declared.record.Track.{Track}
 use Rattle.ckd_types.specs.declared.sense.Sense.{Sense}
-use Rattle.ckd_types.specs.Ccw.{ccw_at}
 use Rattle.ckd_types.specs.Fixed.{Fixed}
 use Rattle.ckd_types.specs.Sense.{equipment_sense}
 use Rattle.ckd_rules.specs.declared.ending.Ending.{Ending}
@@ -112,12 +111,7 @@ module _ (k : ℕ) (some : 0 < k) where
     edit_on j = let p = part_of state path ccws acts j in edit_at_on p p.next (part_place j)
 
     end_at : (p : Part) → PlaceOn p → (next : Option ℕ) (e : CommandEnd) → plain_end_at path ccws p next ≡ Some e → IsOther e.sense
-    end_at p h (Some i) e is =
-        subst (λ (o : Option CommandEnd). IsOther (sense_of o)) is (effect_edits p.fixed h.fixed p.state path p.stance (ccw_at ccws i) h.at).other where
-          sense_of : Option CommandEnd → Option Sense
-          sense_of (Some x) = x.sense
-          sense_of None = None
-    end_at p h None e is = absurd (cc)
+    end_at p x2 next e x5 = grind (arith, effect_edits)
 
     pub end_is_other : (j : ℕ) (next : Option ℕ) (e : CommandEnd) → plain_end_at path ccws (part_of state path ccws acts j) next ≡ Some e →
         e.sense ≡ Some equipment_sense → ⊥

@@ -90,14 +90,7 @@ once_well s events.Power = refl
 once_well s e = tt
 
 forms_go : Goes So (λ s. EndsWell) AnyEvent
-forms_go = record {
-  once = λ s e may q. (tt, once_well s e);
-  stepped = λ s d q. (tt, tt);
-  idle = λ s d q. (tt, tt);
-  backed = λ s d q. (tt, tt);
-  replaces = λ s d side q. (tt, tt);
-  unpairs = λ s a q. (tt, tt);
-}
+forms_go = search (arith, once_well)
 
 -- The end
 

@@ -13,12 +13,9 @@ use Rattle.device_laws.specs.Standing.{IsWithin}
 use Rattle.device_laws.proofs.ChainTracks.{whole_cylinders, within_stays}
 use Rattle.device_laws.proofs.Sweeps.{all_queued}
 use Rattle.report_reading.specs.Ranges.{IsTrack}
-use Rattle.subsystem_defs.specs.Decks.{empty_firsts, opened, run_of}
-use Rattle.subsystem_defs.specs.Subsystem.{Mounted}
+use Rattle.subsystem_defs.specs.Decks.{empty_firsts, run_of}
 use Rattle.subsystem_laws.proofs.GoodMarks.{Good, by_lent, good_kept, opened_good, within}
 use Rattle.subsystem_laws.proofs.ReadDecks.{read_served}
-use Rattle.subsystem_laws.proofs.RunLines.{AnyEvent}
-use Rattle.subsystem_laws.proofs.Walks.{AreSo, IsKept}
 use Rattle.run_audit_laws.proofs.DeviceSizes.{Sized, first_sized, sized_kept}
 use Rattle.run_audit_laws.proofs.FramesOwned.{AllOf, run_so}
 use Rattle.run_audit_laws.proofs.OwnEvents.{Comes}

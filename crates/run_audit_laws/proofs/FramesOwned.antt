@@ -1,5 +1,5 @@
 -- In a run each frame of the pool is of a device of the deck, and of a track that the devices come to.
-use Rattle.std.proofs.Common.{arith, ◌≡◌, ◌==◌, ◌⊎◌, ℕ, Bool, true, false, List, [], ◌∷◌, map, Option, Some, None, cond, refl, sym, subst, inl, inr}
+use Rattle.std.proofs.Common.{arith, ◌≡◌, ◌==◌, ◌⊎◌, ℕ, Bool, true, false, List, [], ◌∷◌, map, Option, Some, None, refl, sym, subst, inl, inr}
 use Rattle.std.specs.Prelude.{All, IfSome, if◌then◌else◌}
 use Rattle.std.specs.Map.{lookup_entry, remove_entry, set_value}
 use Rattle.std.specs.Option.{option_map_or}
@@ -243,14 +243,18 @@ module _ (T : ℕ → Type 0) (In : ChainState → Type 0) (comes : Comes T In) 
       stepped = λ s d q. (event_framed s (events.Step d) q, tt);
       idle = λ s d q. (q, tt);
       backed = λ s d q. (event_framed s (events.Back d) q, tt);
-      replaces = λ s d side q. let o = mounted_in s.mounted d in
-          (still s (replaced_at s d side unfailing o).behind (replaced_pool s d side o) (replaced_tied ns s d side o refl q.0)
-          (replaced_so K AnyEvent kept s d side unfailing q.1 o (mounted_so K s.mounted d q.1))
-          (replaced_so L AnyEvent too s d side unfailing q.2 o (mounted_so L s.mounted d q.2)) q, tt);
-      unpairs = λ s a q. let o = mounted_in s.mounted a in
-          (still s (unpaired_at s a unfailing o).behind (unpaired_pool s a o) (unpaired_tied ns s a o refl q.0)
-          (unpaired_so K AnyEvent kept s a unfailing q.1 o (mounted_so K s.mounted a q.1))
-          (unpaired_so L AnyEvent too s a unfailing q.2 o (mounted_so L s.mounted a q.2)) q, tt);
+      replaces = λ s d side q. let o = mounted_in s.mounted d in (
+        still s (replaced_at s d side unfailing o).behind (replaced_pool s d side o) (replaced_tied ns s d side o refl q.0)
+            (replaced_so K AnyEvent kept s d side unfailing q.1 o (mounted_so K s.mounted d q.1))
+            (replaced_so L AnyEvent too s d side unfailing q.2 o (mounted_so L s.mounted d q.2)) q,
+        tt,
+      );
+      unpairs = λ s a q. let o = mounted_in s.mounted a in (
+        still s (unpaired_at s a unfailing o).behind (unpaired_pool s a o) (unpaired_tied ns s a o refl q.0)
+            (unpaired_so K AnyEvent kept s a unfailing q.1 o (mounted_so K s.mounted a q.1))
+            (unpaired_so L AnyEvent too s a unfailing q.2 o (mounted_so L s.mounted a q.2)) q,
+        tt,
+      );
     }
 
   pub run_so : (deck : DeckLines) → AreSo K (opened deck).mounted → AreSo L (opened deck).mounted → So (numbers_in deck) (run_of deck).behind

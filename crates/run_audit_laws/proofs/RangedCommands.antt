@@ -85,9 +85,11 @@ rule_in i f state path s c index few gives keeps =
       residual_by : (o : Outcome) → WalkFits c o → o.ending.residual < 65536
       residual_by o (inl h) = fits_residual c o.ending o.ending.sense few h
       residual_by o (inr h) = subst (λ (n : ℕ). n < 65536) (sym h.2) few
+
       status_by : (o : Outcome) → WalkFits c o → o.ending.status.0 < 256
       status_by o (inl h) = fits_status c o.ending o.ending.sense h
       status_by o (inr h) = check_in o.ending.status h.1
+
       by_fits : (o : Outcome) → IsBytes o.ending.sent → WalkFits c o → EndIn (end_at_word i c o)
       by_fits o sent h = record { index = index; residual = residual_by o h; status = status_by o h; sent = sent; sense = walk_sense c o h }
 

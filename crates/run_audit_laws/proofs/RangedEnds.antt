@@ -9,9 +9,8 @@ use Rattle.loss_model.specs.declared.Loss.TheVariants as losses
 use Rattle.plain_defs.specs.History.{OpenEntry}
 use Rattle.plain_defs.specs.Journal.{planned}
 use Rattle.track_table.proofs.Counts.{few_marked}
-use Rattle.device_outside.specs.Interaction.{Ask, Done, Read, Tell, Try, Write, and_then}
-use Rattle.device_outside.specs.Keeper.{reply}
-use Rattle.device_outside.specs.Pool.{Pool, after, answer, cache_failed, store_failed}
+use Rattle.device_outside.specs.Interaction.{Done, and_then}
+use Rattle.device_outside.specs.Pool.{Pool, cache_failed, store_failed}
 use Rattle.device_outside.specs.Told as T
 use Rattle.device_outside.specs.Told.{Told, calls_of, told_read, read_fails, told_write, write_fails}
 use Rattle.device_defs.specs.declared.answers.StartFault.{StartFault}

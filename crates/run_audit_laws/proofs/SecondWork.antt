@@ -19,7 +19,7 @@ use Rattle.device_laws.proofs.Had.{Had, had_done, had_if, had_tell, had_then, ha
 use Rattle.run_audit_laws.proofs.Weights.{Spot, copies, one, sides, spot_at, weight, weight_at, whole_weight, works}
 use Rattle.std.proofs.lemmas.Bool.{eqb-false}
 use Rattle.run_audit_laws.proofs.Lighter.{Written, written_by, write_is_done, only_copies, Lower, as_least, half_off, half_on, lower_all, near_bare, near_frame, near_on, near_self, near_stale_b, none_open, not_own, own_is, same_weight, whole_at, near_by}
-use Rattle.run_audit_laws.proofs.SecondLighter.{IsSafe, Made, fell, made_least, settled_so}
+use Rattle.run_audit_laws.proofs.SecondLighter.{IsSafe, Made, made_least, settled_so}
 use Rattle.device_laws.proofs.Unlost.{clear}
 
 -- All tracks but that of the write

@@ -23,20 +23,7 @@ use Rattle.report_places.specs.Place.{holds, in_due, is_act_of, is_io, is_of_wor
 use Rattle.report_places.specs.Same.{says}
 use Rattle.deck_audit.specs.Device.{AuditedDevice, device_in, may_loosen, state_of, with_device}
 use Rattle.deck_audit.specs.History.{act_made, act_of_work, due_made, is_legal, shown}
-use Rattle.deck_audit.specs.State.{
-  AuditState,
-  behind_work,
-  is_event_over,
-  outlines,
-  over_by,
-  settled,
-  settled_by,
-  settled_in,
-  then_of,
-  worked,
-  worker,
-  worker_number,
-}
+use Rattle.deck_audit.specs.State.{AuditState, behind_work, is_event_over, outlines, over_by, settled, settled_by, settled_in, then_of, worked, worker}
 use Rattle.report_auditor.specs.declared.status.AuditWhy.{AuditWhy}
 use Rattle.report_auditor.specs.declared.status.AuditWhy.TheVariants.{Place}
 use Rattle.report_auditor.specs.Verdict.{judged, or_history}
