@@ -80,9 +80,6 @@ module _ (s : Subsystem) (good : AreSo Good s.mounted) (d : ℕ) (x : MarksDevic
   unfolding H.happens E.deed
   back_less = grind (arith, back_by)
 
-settled_on : (t : Logged) (ts : List Logged) → is_settled t.happened.end ≡ false → ends_settled ts ≡ true → ends_settled (t ∷ ts) ≡ true
-settled_on t ts is over = grind arith
-
 pub backs_end : (k : ℕ) (s : Subsystem) → AreSo Good s.mounted → (d : ℕ) (x : MarksDevice) → device_in (devices_of s) d ≡ Some x → left x.store < k →
     ends_settled (backs k d s) ≡ true
 unfolding L.backs
@@ -97,7 +94,7 @@ backs_end (suc k) s good d x there few = by_end (is_settled (happens s (events.B
     by_end : (b : Bool) → is_settled (happens s (events.Back d)).end ≡ b →
         (is_settled (happens s (events.Back d)).end ≡ false → ends_settled (backs k d (happens s (events.Back d)).behind) ≡ true) →
         ends_settled (logged (Settle d) (happens s (events.Back d)) ∷ (if b then [] else backs k d (happens s (events.Back d)).behind)) ≡ true
-    by_end b is more = grind (arith, settled_on)
+    by_end b is more = grind arith
 
 -- of a device of at most 64 cylinders, with at most 64 tracks to stage
 pub settle_is_over : (s : Subsystem) → AreSo Good s.mounted → (d : ℕ) (x : MarksDevice) → device_in (devices_of s) d ≡ Some x →

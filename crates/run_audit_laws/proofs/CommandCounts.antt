@@ -63,16 +63,13 @@ module _ (s : Stance) where
   found_counts : (c : Ccw) (d : Domain) (found : Option ℕ) → (located s c d found).stance.commands ≡ s.commands + 1
   found_counts c d found = grind arith
 
-  look_counts : (g : Geometry) (t : Track) (c : Ccw) (look : Look) → Counts s.commands (look_on g t s c look)
-  look_counts g t c look = search (arith, found_counts, search_counts, read_counts, updated_counts, is_some, placed_less)
-
 -- From track to track
 
 walk_counts : (n : ℕ) (g : Geometry) (tracks : ℕ → Track) (start : Stance) (c : Ccw) (look : Look) (s : Stance) → s.commands ≡ start.commands →
     (walk n g tracks start c look s).outcome.stance.commands ≡ start.commands + 1
 unfolding W.walk
 walk_counts zero g tracks start c look s same = refl
-walk_counts (suc n) g tracks start c look s same = grind (arith, walk_counts n g tracks start c look, look_counts)
+walk_counts (suc n) g tracks start c look s same = grind (arith, walk_counts n g tracks start c look, found_counts, search_counts, read_counts, updated_counts, is_some, placed_less)
 
 -- How a command begins
 

@@ -86,9 +86,6 @@ module _ (k : ℕ) (some : 0 < k) where
         walk_on f.geometry tracks start starts c look on.1 (f.cylinders * 15) s on.0 (omega (arith, same))
     by_opening s (openings.Asks act) fits on = search (arith, fits_by, act_fits)
 
-  effect_edits : (f : Fixed) → f.cylinders ≡ k → (state : PlainState) (path : ℕ) (s : Stance) (c : Ccw) → On n s → HasEdit (effect_on f state path s c)
-  effect_edits f same state path s c on = grind (arith, by_opening, opening_fits, opening_is_on)
-
   -- A program's parts
 
   record PlaceOn (p : Part) : Type 0 where
@@ -102,16 +99,16 @@ module _ (k : ℕ) (some : 0 < k) where
     part_place : (j : ℕ) → PlaceOn (part_of state path ccws acts j)
     unfolding P.part_of
     part_place zero = beside_place (P.first_part state path ccws) (search arith)
-    part_place (suc j) = grind (arith, part_place j, beside_place, effect_edits)
+    part_place (suc j) = grind (arith, part_place j, beside_place, by_opening, opening_fits, opening_is_on)
 
     edit_at_on : (p : Part) (next : Option ℕ) → PlaceOn p → IfSome (edit_at path ccws p next) (λ e. e.track < n)
-    edit_at_on p next f = grind (arith, effect_edits)
+    edit_at_on p next f = grind (arith, by_opening, opening_fits, opening_is_on)
 
     pub edit_on : (j : ℕ) → IfSome (next_edit path ccws (part_of state path ccws acts j)) (λ e. e.track < n)
     edit_on j = let p = part_of state path ccws acts j in edit_at_on p p.next (part_place j)
 
     end_at : (p : Part) → PlaceOn p → (next : Option ℕ) (e : CommandEnd) → plain_end_at path ccws p next ≡ Some e → IsOther e.sense
-    end_at p x2 next e x5 = grind (arith, effect_edits)
+    end_at p x2 next e x5 = grind (arith, by_opening, opening_fits, opening_is_on)
 
     pub end_is_other : (j : ℕ) (next : Option ℕ) (e : CommandEnd) → plain_end_at path ccws (part_of state path ccws acts j) next ≡ Some e →
         e.sense ≡ Some equipment_sense → ⊥

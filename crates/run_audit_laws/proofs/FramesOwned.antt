@@ -219,13 +219,10 @@ module _ (T : ℕ → Type 0) (In : ChainState → Type 0) (comes : Comes T In) 
 
     event_framed : (s : Subsystem) (e : Event) → So s → So (happens s e).behind
     unfolding H.happens
-    event_framed s e q = (
-      event_tied ns s e q.0,
-      event_so K AnyEvent kept s q.1 e tt,
-      event_so L AnyEvent too s q.2 e tt,
-      happens_of (IsOneOf ns) T s (deed by_plain s.pool (devices_of s) e)
-          (deed_is s (KeepsFrames (IsOneOf ns) T s) (frames_keep (IsOneOf ns) T In comes K L near s q.1 q.2) e) (some_of s q.0) q.3,
-    )
+    event_framed s e q =
+        let keeps = deed_is s (KeepsFrames (IsOneOf ns) T s) (frames_keep (IsOneOf ns) T In comes K L near s q.1 q.2) e in
+        let frames = happens_of (IsOneOf ns) T s (deed by_plain s.pool (devices_of s) e) keeps (some_of s q.0) q.3 in
+        (event_tied ns s e q.0, event_so K AnyEvent kept s q.1 e tt, event_so L AnyEvent too s q.2 e tt, frames)
 
     replaced_pool : (s : Subsystem) (n : ℕ) (side : Side) (o : Option Mounted) → (replaced_at s n side unfailing o).behind.pool ≡ s.pool
     replaced_pool s n side o = grind arith

@@ -91,11 +91,8 @@ module _ (ccws : List Ccw) (good : GoodWords ccws) where
   among (c ∷ l) zero is = omega arith
   among (c ∷ l) (suc i) is = let less = among l i is in omega (arith, less)
 
-  target_small : (i : ℕ) → i < 65536 → target ccws i < 65536
-  target_small i less = grind arith
-
   next_small : (i : ℕ) (modified : Bool) (j : ℕ) → next_ccw ccws i modified ≡ Some j → j < 65536
-  next_small i modified j some = grind (arith, among, target_small)
+  next_small i modified j some = grind (arith, among)
 
   goes_small : (i : ℕ) (o : Outcome) (j : ℕ) → goes_to ccws i o ≡ Some j → j < 65536
   goes_small i o j x4 = grind (arith, next_small)

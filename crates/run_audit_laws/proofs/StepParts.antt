@@ -94,20 +94,16 @@ module _ (x : MarksDevice) where
 
 module _ (num : ℕ) (empty : PlainState) (x : MarksDevice) (f : Follows num empty x) (o : OpenEntry) (running : x.history.running ≡ Some o) (chain : ChainState)
     (is : f.before ≡ Some chain) where
-  abbrev p : PlainState
-  p = plain_of x.plans empty x.history
-
   module _ (now : x.chain ≡ Some chain) (whole : x.store.half ≡ None) (s : MarksStore) (e : core_of s ≡ core_of (noted_begin x.store)) where
     first_half : half_by s.half ≡ half.Closed
-    first_half = walked_half x p (core_of s) (walking_first num empty x f o running chain is now whole s e)
+    first_half = walked_half x (plain_of x.plans empty x.history) (core_of s) (walking_first num empty x f o running chain is now whole s e)
 
     -- it looked at tracks
-    module _ (first : ℕ) where
-      turn_half : (k : List Track → Fed) (turn : Turn) (c : Core) →
-          TurnIs (plain_of x.plans empty x.history) x.store.plain x.store.geometry x.store.cylinders (None, (x.store.lent, x.store.device))
-          (settled_act chain.fixed.geometry x.paths o.path) chain (on num empty x f o running chain is).0 first k first turn c →
-          half_by c.half ≡ half_after turn.came
-      turn_half k turn c x4 = grind (arith, walked_half)
+    turn_half : (first : ℕ) (k : List Track → Fed) (turn : Turn) (c : Core) →
+        TurnIs (plain_of x.plans empty x.history) x.store.plain x.store.geometry x.store.cylinders (None, (x.store.lent, x.store.device))
+        (settled_act chain.fixed.geometry x.paths o.path) chain (on num empty x f o running chain is).0 first k first turn c →
+        half_by c.half ≡ half_after turn.came
+    turn_half first k turn c x4 = grind (arith, walked_half)
 
     by_turn : (t : ℕ) (y : MarksStore) (a : Option Turn) →
         FollowSo (plain_of x.plans empty x.history) x.store.plain x.store.geometry x.store.cylinders (None, (x.store.lent, x.store.device))
