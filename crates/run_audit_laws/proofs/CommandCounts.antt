@@ -60,16 +60,13 @@ module _ (s : Stance) where
       Counts s.commands (update_sought with_key in_domain records s c x)
   updated_counts with_key in_domain records c x = search (arith, placed_less)
 
-  found_counts : (c : Ccw) (d : Domain) (found : Option ℕ) → (located s c d found).stance.commands ≡ s.commands + 1
-  found_counts c d found = grind arith
-
 -- From track to track
 
 walk_counts : (n : ℕ) (g : Geometry) (tracks : ℕ → Track) (start : Stance) (c : Ccw) (look : Look) (s : Stance) → s.commands ≡ start.commands →
     (walk n g tracks start c look s).outcome.stance.commands ≡ start.commands + 1
 unfolding W.walk
 walk_counts zero g tracks start c look s same = refl
-walk_counts (suc n) g tracks start c look s same = grind (arith, walk_counts n g tracks start c look, found_counts, search_counts, read_counts, updated_counts, is_some, placed_less)
+walk_counts (suc n) g tracks start c look s same = grind (arith, walk_counts n g tracks start c look, search_counts, read_counts, updated_counts, is_some, placed_less)
 
 -- How a command begins
 

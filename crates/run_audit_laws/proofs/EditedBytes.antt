@@ -105,9 +105,6 @@ module _ (c : Ccw) (gives : GivesBytes c) (t : Track) (all : TrackHolds t) (s : 
   write_holds g NextTrack = format_holds g Other 0
   write_holds g Zero = zero_holds
 
-  finds_holds : (d : Domain) (o : Option ℕ) → LookHolds t (ends (located s c d o))
-  finds_holds d o = grind (arith, no_bytes)
-
 -- From track to track
 
 module _ (tracks : ℕ → Track) (hold : (t : ℕ) → TrackHolds (tracks t)) where
@@ -118,4 +115,4 @@ module _ (tracks : ℕ → Track) (hold : (t : ℕ) → TrackHolds (tracks t)) w
       WalkHolds (walk n g tracks start c look s)
   unfolding W.walk
   walk_holds zero g start c gives look s = (no_bytes, tt)
-  walk_holds (suc n) g start c gives look s = grind (arith, walk_holds n g start c gives look, finds_holds, search_holds, read_holds, write_holds)
+  walk_holds (suc n) g start c gives look s = grind (arith, walk_holds n g start c gives look, no_bytes, search_holds, read_holds, write_holds)

@@ -91,11 +91,8 @@ module _ (ccws : List Ccw) (good : GoodWords ccws) where
   among (c ∷ l) zero is = omega arith
   among (c ∷ l) (suc i) is = let less = among l i is in omega (arith, less)
 
-  next_small : (i : ℕ) (modified : Bool) (j : ℕ) → next_ccw ccws i modified ≡ Some j → j < 65536
-  next_small i modified j some = grind (arith, among)
-
   goes_small : (i : ℕ) (o : Outcome) (j : ℕ) → goes_to ccws i o ≡ Some j → j < 65536
-  goes_small i o j x4 = grind (arith, next_small)
+  goes_small i o j x4 = grind (arith, among)
 
   module _ (path : ℕ) (acts : List Acted) (state : PlainState) where
     more_small : (p : Part) (n : Option ℕ) → p.next ≡ n → (j : ℕ) → (one_more path ccws acts p).next ≡ Some j → j < 65536
