@@ -61,14 +61,11 @@ module _ (s : Subsystem) (good : AreSo Good s.mounted) (d : ℕ) (x : MarksDevic
       let m = mounted_too s.mounted d x there in
       let t = told_to s.pool m.0 in
       let o = held_with s.pool m.0 (and_then talk (λ y a. Done y (f a))) in
+      let same = ap (λ (y : MarksDevice). y.store.device) (hold_answer talk f t) ∙ number t ∙ number_found s.mounted d x there in
+      let found = put_found s.mounted d m.0 (mounted_behind o) m.1 same in
       subst (λ (i : ℕ). OneLess (asks s i (mounted_in s.mounted i) (and_then talk (λ y a. Done y (f a))))) (sym is)
       (subst (λ (q : Option Mounted). OneLess (asks s d q (and_then talk (λ y a. Done y (f a))))) (sym m.1)
-      (record {
-        behind = mounted_behind o;
-        found = put_found s.mounted d m.0 (mounted_behind o) m.1
-            (ap (λ (y : MarksDevice). y.store.device) (hold_answer talk f t) ∙ number t ∙ number_found s.mounted d x there);
-        less = held true goes t;
-      }))
+      (record { behind = mounted_behind o; found = found; less = held true goes t }))
 
   back_by : (h : Option (store.HalfWrite (Unit {0}))) → x.store.half ≡ h →
       OneLess (happens_by s (if is_some h then seconds by_plain x else Asks x (may_end_by ends.Back (background by_plain x))))
@@ -82,9 +79,6 @@ module _ (s : Subsystem) (good : AreSo Good s.mounted) (d : ℕ) (x : MarksDevic
   back_less : OneLess (happens s (events.Back d))
   unfolding H.happens E.deed
   back_less = grind (arith, back_by)
-
-settled_on : (t : Logged) (ts : List Logged) → is_settled t.happened.end ≡ false → ends_settled ts ≡ true → ends_settled (t ∷ ts) ≡ true
-settled_on t ts is over = grind arith
 
 pub backs_end : (k : ℕ) (s : Subsystem) → AreSo Good s.mounted → (d : ℕ) (x : MarksDevice) → device_in (devices_of s) d ≡ Some x → left x.store < k →
     ends_settled (backs k d s) ≡ true
@@ -100,9 +94,7 @@ backs_end (suc k) s good d x there few = by_end (is_settled (happens s (events.B
     by_end : (b : Bool) → is_settled (happens s (events.Back d)).end ≡ b →
         (is_settled (happens s (events.Back d)).end ≡ false → ends_settled (backs k d (happens s (events.Back d)).behind) ≡ true) →
         ends_settled (logged (Settle d) (happens s (events.Back d)) ∷ (if b then [] else backs k d (happens s (events.Back d)).behind)) ≡ true
-    by_end true is more = is
-    by_end false is more =
-        settled_on (logged (Settle d) (happens s (events.Back d))) (backs k d (happens s (events.Back d)).behind) is (more is)
+    by_end b is more = grind arith
 
 -- of a device of at most 64 cylinders, with at most 64 tracks to stage
 pub settle_is_over : (s : Subsystem) → AreSo Good s.mounted → (d : ℕ) (x : MarksDevice) → device_in (devices_of s) d ≡ Some x →

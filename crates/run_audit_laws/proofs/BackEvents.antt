@@ -1,7 +1,6 @@
 -- Each event of a device's work in the background that doesn't stop leaves less to do, and so a SETTLE comes to its end.
-use Rattle.std.proofs.Common.{◌≡◌, ◌≢◌, ◌<◌, ◌≤◌, ◌*◌, ◌⊎◌, ℕ, Bool, true, false, length, Option, Some, None, is_some, refl, sym, ap, subst, ◌∙◌, arith, inl, inr}
+use Rattle.std.proofs.Common.{◌≡◌, ◌≢◌, ◌<◌, ◌≤◌, ◌⊎◌, ℕ, Bool, true, false, Option, Some, None, is_some, refl, sym, ap, subst, ◌∙◌, arith, inl, inr}
 use Rattle.std.proofs.lemmas.Bool.{cases_eq}
-use Rattle.std.specs.Prelude.{if◌then◌else◌}
 use Rattle.device_defs.specs.declared.answers.Did.{Did}
 use Rattle.device_defs.specs.declared.answers.SecondEnd.{SecondEnd}
 use Rattle.device_defs.specs.Contents.{by_plain}
@@ -23,9 +22,9 @@ use Rattle.device_laws.proofs.TrackMarks as M
 use Rattle.device_laws.proofs.TrackMarks.{is_good, marks}
 use Rattle.device_laws.proofs.WholeEvents.{turned_same}
 use Rattle.subsystem_laws.proofs.GoodMarks.{Good, by_lent, half_home}
-use Rattle.run_audit_laws.proofs.Weights.{Spot, left, one, spot_at, sum, sum_least, weight, weight_at}
-use Rattle.run_audit_laws.proofs.Lighter.{Lower, Same, WorkSo, as_least, not_own, own_is, lower_on, near_frame, same_least, same_self, work_on}
-use Rattle.run_audit_laws.proofs.InOrder.{weight_if, works_by, work_so}
+use Rattle.run_audit_laws.proofs.Weights.{Spot, left, spot_at, sum_least}
+use Rattle.run_audit_laws.proofs.Lighter.{Lower, Same, WorkSo, not_own, own_is, lower_on, near_frame, same_least, same_self, work_on}
+use Rattle.run_audit_laws.proofs.InOrder.{work_so}
 use Rattle.run_audit_laws.proofs.SecondLighter.{IsSafe, is_level}
 use Rattle.run_audit_laws.proofs.SecondWork.{part_so}
 
@@ -48,13 +47,7 @@ dropped_at : (p r : Spot) → r.frame ≡ Some false → HeardAt p r → HeardAt
 dropped_at p r clean x4 = grind arith
 
 heard_drops : (s z : MarksStore) (t : ℕ) → is_clean by_plain (frame_at z t) ≡ true → Heard s z → Heard s (with_frame z t None)
-heard_drops s z t clean h = record {
-  cylinders = h.cylinders;
-  queue = h.queue;
-  half = h.half;
-  paired = h.paired;
-  spots = λ q. by_place q (cases_eq q t);
-} where
+heard_drops s z t clean h = record { cylinders = h.cylinders; queue = h.queue; half = h.half; paired = h.paired; spots = λ q. by_place q (cases_eq q t) } where
   by_place : (q : ℕ) → ((q ≡ t) ⊎ (q ≢ t)) → HeardAt (spot_at s q) (spot_at (with_frame z t None) q)
   by_place q (inr ne) = subst (HeardAt (spot_at s q)) (sym ((near_frame z t None).others q ne)) (h.spots q)
   by_place q (inl is) =
@@ -69,20 +62,14 @@ heard_so s = asks_had (hear_asks by_plain (Heard s) (heard_drops s) 960 (noted_b
 abbrev IsClean : Spot → Type 0
 IsClean p = p.frame ≡ Some false → p.half ≡ false → (p.lost ≡ false) × ((is_level p ≡ true) × (p.patched ≡ false))
 
-heard_weight : (p r : Spot) → IsClean p → HeardAt p r → weight r ≡ weight p
-heard_weight p r clean x4 = grind arith
-
 heard_least : (s z : MarksStore) → ((q : ℕ) → q < tracks_of s → IsClean (spot_at s q)) → Heard s z → left z ≤ left s
 heard_least s z clean h = grind (arith, sum_least)
 
 -- Good marks
 
-clean_has : (p lost loose level : Bool) → is_good (marks (Some false) p lost loose false level) ≡ true → (lost ≡ false) × ((level ≡ true) × (p ≡ false))
-clean_has p lost loose level e = grind arith
-
 well_clean : (s : MarksStore) → IsWell by_plain s → (q : ℕ) → q < tracks_of s → IsClean (spot_at s q)
 unfolding M.track_at
-well_clean s w q lt = grind (arith, clean_has, is_some, is_good, marks)
+well_clean s w q lt = grind (arith, is_some, is_good, marks)
 
 well_firm : (s : MarksStore) → IsWell by_plain s → (q : ℕ) → q < tracks_of s → half_is s.half q ≡ true → is_loose s q ≡ false
 unfolding M.track_at

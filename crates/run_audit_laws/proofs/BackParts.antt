@@ -1,5 +1,5 @@
 -- What a piece of work in the background makes of a device beside its history: a half write is open behind it where it says so, and only there.
-use Rattle.std.proofs.Common.{arith, ◌≡◌, ℕ, zero, suc, Bool, true, false, List, [], ◌∷◌, Option, Some, None, refl, sym, ap, subst, ◌∙◌, if◌then◌else◌}
+use Rattle.std.proofs.Common.{arith, ◌≡◌, ℕ, zero, suc, Bool, true, false, List, [], ◌∷◌, Option, Some, None, refl, sym, ap, ◌∙◌}
 use Rattle.std.specs.Prelude.{◌||◌, is_some}
 use Rattle.std.proofs.lemmas.Bool.{and_parts}
 use Rattle.ckd_types.specs.declared.paths.Side.{Side}
@@ -46,7 +46,8 @@ use Rattle.plain_defs.specs.History.{plain_of}
 use Rattle.run_audit_laws.specs.Standing.{audited, half_by}
 use Rattle.run_audit_laws.proofs.ResetDevices.{HasParts}
 use Rattle.run_audit_laws.proofs.StepParts.{begins, parts_by, stays_by}
-use Rattle.run_audit_laws.proofs.Lighter.{any_had}
+use Rattle.subsystem_laws.proofs.HadAnswers.{any_had}
+use Rattle.run_audit_laws.proofs.Lighter.{near_everywhere}
 use Rattle.device_laws.proofs.KeptEvents.{always_any, background_goes}
 use Rattle.subsystem_laws.proofs.LendBase.{IsStill}
 
@@ -75,7 +76,7 @@ ToldDown z k = is_some k.bytes ≡ true → is_some k.fault ≡ true → AIsDown
 second_told : (s : MarksStore) (fault : Option Side) → (is_some fault ≡ true → AIsDown s) → (r : Option Bool) →
     Had (second_read by_plain fault s r) (λ z k. ToldDown z k)
 second_told s fault down (Some r) = had_done (λ some fails. down fails)
-second_told s fault down None = had_then (any_had s B None) (λ z _ _. had_done (λ some fails. absurd (let none : false ≡ true = some in cc)))
+second_told s fault down None = had_then (any_had (call_failed by_plain s B None)) (λ z _ _. had_done (λ some fails. absurd (let none : false ≡ true = some in cc)))
 
 b_told : (s : MarksStore) (t : ℕ) (fault : Option Side) → (level_at s.b t ≡ true → is_some fault ≡ true → AIsDown s) →
     Had (read_b by_plain s t fault) (λ z k. ToldDown z k)
@@ -100,12 +101,7 @@ bytes_told s t alone = search (arith, had_if, had_read, first_told, b_told)
 -- A write that begins with side A down opens nothing
 
 firm_stays : (s : MarksStore) (t : ℕ) → Had (firm_first by_plain s t) (λ z (_ : Bool). z.a.up ≡ s.a.up)
-firm_stays s t = had_if (is_loose s t) (λ _. had_tell (had_done (up_same (hardened s t) t))) (λ _. had_done refl) where
-  up_same : (z : MarksStore) (q : ℕ) → (stale_everywhere z q).a.up ≡ z.a.up
-  up_same z q = by_pair z.paired where
-    by_pair : (b : Bool) → (if b then with_stale (with_stale z A q true) B q true else with_stale z A q true).a.up ≡ z.a.up
-    by_pair true = refl
-    by_pair false = refl
+firm_stays s t = had_if (is_loose s t) (λ _. had_tell (had_done (near_everywhere (hardened s t) t).a)) (λ _. had_done refl)
 
 abbrev OpensNot : Took → Type 0
 OpensNot Whole = Unit {0}
@@ -113,7 +109,7 @@ OpensNot Opened = ⊥
 OpensNot Unwritten = Unit {0}
 
 alone_opens_not : (t : ℕ) (fault : Option Side) (first : Side) (s : MarksStore) (ok : Bool) → Had (W.alone_b by_plain t fault first s ok) (λ z w. OpensNot w.took)
-alone_opens_not t fault first s ok = had_if ok (λ _. had_done tt) (λ _. had_then (any_had s B (Some t)) (λ z _ _. had_done tt))
+alone_opens_not t fault first s ok = had_if ok (λ _. had_done tt) (λ _. had_then (any_had (call_failed by_plain s B (Some t))) (λ z _ _. had_done tt))
 
 down_opens_not : (s : MarksStore) (t : ℕ) (r : Bool) → AIsDown s → Had (write_first by_plain s t r) (λ z w. OpensNot w.took)
 unfolding W.write_first
@@ -201,14 +197,8 @@ module _ (p : PlainState) (u : List Track) (g : Geometry) (n : ℕ) (lent : Opti
   copy_said t side s None w = stopped_said s (other side) (dids.Fault (other side)) tt w
   copy_said t side s (Some r) w = had_write (λ ok. copied_said t side (W.write_counted s ok) ok w)
 
-  copies_said : (s : MarksStore) (t : ℕ) (o : Option Side) → On s → Had (copy_by by_plain s t o) WorkIs
-  copies_said s t o w = search (arith, had_done, none_said, had_read, copy_said)
-
-  filled_stays : (s : MarksStore) (t : ℕ) (i : Image) → On s → Had (filled by_plain s t i) (λ z (_ : Unit {0}). On z)
-  filled_stays s t i w = search (arith, had_if, had_ask, had_done, same_on, framed_same)
-
   staged_said : (t : ℕ) (s : MarksStore) (k : Got Bool) (b : Option Bool) → On s → Had (staged_bytes by_plain t s k b) WorkIs
-  staged_said t s k b w = search (arith, had_ask, had_done, none_said, fault_none, had_try, had_then, filled_stays)
+  staged_said t s k b w = search (arith, had_ask, had_done, none_said, fault_none, had_try, had_then, had_if, same_on, framed_same)
 
   stage_said : (s : MarksStore) (t : ℕ) → On s → Had (stage by_plain s t) WorkIs
   stage_said s t w =
@@ -225,7 +215,7 @@ module _ (p : PlainState) (u : List Track) (g : Geometry) (n : ℕ) (lent : Opti
   stages_said s (t ∷ ts) w = stage_said (record s { queue = ts }) t w
 
   copy_first_said : (s : MarksStore) (o : Option ℕ) → On s → Had (copy_first by_plain s o) WorkIs
-  copy_first_said s o w = search (arith, stages_said, copies_said)
+  copy_first_said s o w = search (arith, stages_said, had_done, none_said, had_read, copy_said)
 
   recover_first_said : (s : MarksStore) (o : Option ℕ) → On s → IsAlone s → Had (recover_first by_plain s o) WorkIs
   recover_first_said s None w alone = copy_first_said s (to_copy s) w
@@ -240,10 +230,6 @@ module _ (p : PlainState) (u : List Track) (g : Geometry) (n : ℕ) (lent : Opti
 abbrev pub BackLeft : MarksDevice → MarksDevice → Option Did → Type 0
 BackLeft x y (Some d) = HasParts x y (back_half (audited x) (back_answer d))
 BackLeft x y None = ⊥
-
-said_half : (x : MarksDevice) → x.store.half ≡ None → (d : Did) (h : Option (store.HalfWrite (Unit {0}))) → IsSaid d h →
-    half_by h ≡ back_half (audited x) (back_answer d)
-said_half x none d h is = grind arith
 
 module _ (num : ℕ) (empty : PlainState) (x : MarksDevice) (f : Follows num empty x) (none : x.store.half ≡ None)
     (alone : x.store.paired ≡ false → x.store.b.up ≡ false) where
@@ -263,7 +249,7 @@ module _ (num : ℕ) (empty : PlainState) (x : MarksDevice) (f : Follows num emp
   HalfSaid y None = ⊥
 
   said_by : (y : MarksDevice) (a : Option Did) → WorkIs y.store a → HalfSaid y a
-  said_by y a said = grind (arith, said_half)
+  said_by y a said = grind arith
 
   stays_said : (y : MarksDevice) (a : Option Did) (z : MarksStore) → core_of z ≡ core_of y.store → HalfSaid y a → HalfSaid (record y { store = z }) a
   stays_said y a z e p = grind arith

@@ -3,7 +3,6 @@ use Rattle.std.proofs.Common.{arith, ◌≡◌, ℕ, true, List, [], ◌∷◌, 
 use Rattle.std.specs.Prelude.{All, IsSome, Ok}
 use Rattle.std.proofs.lemmas.List.Elements.{All-head, All-tail}
 use Rattle.deck_plan.specs.declared.event.EventLine.{EventLine}
-use Rattle.deck_plan.specs.declared.event.EventLine.TheVariants as events
 use Rattle.deck_text.specs.declared.line.DeviceLine.{DeviceLine}
 use Rattle.deck_text.specs.DeckLines.{DeckLines}
 use Rattle.deck_text.specs.Forms.{is_declared}
@@ -18,7 +17,7 @@ use Rattle.subsystem_defs.specs.Subsystem.{Subsystem, devices_of}
 use Rattle.subsystem_laws.specs.Served.{IsServed, IsServedDeck}
 use Rattle.subsystem_laws.proofs.GoodMarks.{Good, good_kept, opened_good}
 use Rattle.subsystem_laws.proofs.PlainRuns.{ArePlain, line_plain, opened_plain, plain_behind}
-use Rattle.subsystem_laws.proofs.ReadDecks.{read_served, read_small}
+use Rattle.subsystem_laws.proofs.ReadDecks.{read_served}
 use Rattle.subsystem_laws.proofs.RunLines.{AnyEvent, MayAsk, all_asked}
 use Rattle.subsystem_laws.proofs.Walks.{AreSo, line_keeps, lines_end_so}
 use Rattle.run_audit_laws.specs.Standing.{HasDevice}
@@ -64,13 +63,11 @@ opened_is_behind text deck read =
     }
 
 pub line_stays : (numbers : List ℕ) (s : Subsystem) (x : Asked) → IsServed x → IsBehind numbers s → IsBehind numbers (last_behind s (line_logged s x))
-line_stays numbers s x served k = record {
-  plain = line_plain empty_firsts x s served k.plain;
-  good = line_keeps Good AnyEvent good_kept (record { step = λ d. tt; back = λ d. tt }) x s (All-head (MayAsk AnyEvent) x [] (all_asked (x ∷ []))) k.good;
-  sized = line_keeps Sized AnyEvent sized_kept (record { step = λ d. tt; back = λ d. tt }) x s (All-head (MayAsk AnyEvent) x [] (all_asked (x ∷ []))) k.sized;
-  tied = line_tied numbers s x k.tied;
-  rises = k.rises;
-}
+line_stays numbers s x served k =
+    let may = All-head (MayAsk AnyEvent) x [] (all_asked (x ∷ [])) in
+    let good = line_keeps Good AnyEvent good_kept (record { step = λ d. tt; back = λ d. tt }) x s may k.good in
+    let sized = line_keeps Sized AnyEvent sized_kept (record { step = λ d. tt; back = λ d. tt }) x s may k.sized in
+    record { plain = line_plain empty_firsts x s served k.plain; good = good; sized = sized; tied = line_tied numbers s x k.tied; rises = k.rises }
 
 -- So what holds of each event line at such a subsystem holds along the whole deck
 
@@ -85,19 +82,7 @@ has_named lines s k e named = by_event e named where
   has d is = declared_has lines (devices_of s) d (numbers_are (map (λ (l : DeviceLine). l.number) lines) s k) is
 
   by_event : (e : EventLine) → OfNamed (λ d. is_declared lines d ≡ true) e → OfNamed (HasDevice s) e
-  by_event (events.Start path d) is = has d is
-  by_event (events.Step d) is = has d is
-  by_event (events.Run d) is = has d is
-  by_event (events.Back d) is = has d is
-  by_event (events.Settle d) is = has d is
-  by_event (events.Reset path d) is = has d is
-  by_event (events.FailVolume d side) is = has d is
-  by_event (events.Replace d side) is = has d is
-  by_event (events.Pair a b) is = (has a is.0, has b is.1)
-  by_event (events.Unpair d) is = has d is
-  by_event (events.Suspend d) is = has d is
-  by_event (events.Resume d) is = has d is
-  by_event e is = tt
+  by_event e is = grind (arith, has)
 
 module _ (lines : List DeviceLine) (P : Subsystem → EventLine → Type 0)
     (so : (s : Subsystem) (e : EventLine) → IsBehind (map (λ (l : DeviceLine). l.number) lines) s → IsServed (asked_by e) → OfNamed (HasDevice s) e → P s e) where

@@ -1,30 +1,24 @@
 -- What came of a command, and of acts, is what a plain device does: read off a history that is a plain device's before it and behind it.
-use Rattle.std.proofs.Common.{◌≡◌, ◌==◌, ◌++◌, ◌-◌, ℕ, suc, Bool, true, false, not, List, [], ◌∷◌, map, length, Option, Some, None, refl, sym, ap, subst, ◌∙◌, if◌then◌else◌, inl, inr, arith, append_assoc}
-use Rattle.std.specs.Prelude.{◌&&◌, ◌⊎◌, IsSome, IfSome}
+use Rattle.std.proofs.Common.{◌≡◌, ◌++◌, ◌-◌, ℕ, suc, Bool, true, false, List, [], ◌∷◌, map, length, Option, Some, None, refl, sym, ap, subst, ◌∙◌, if◌then◌else◌, inl, inr, arith, append_assoc}
+use Rattle.std.specs.Prelude.{◌⊎◌, IsSome, IfSome}
 use Rattle.std.proofs.lemmas.List.{append-nil, append_cancel_left}
 use Rattle.std.proofs.lemmas.Bool.{and_from}
 use Rattle.ckd_types.specs.declared.channel.Ccw.{Ccw}
 use Rattle.ckd_types.specs.declared.channel.CommandEnd.{CommandEnd}
-use Rattle.ckd_types.specs.declared.channel.Note.{Note}
-use Rattle.ckd_types.specs.declared.channel.Note.TheVariants.{Plain}
 use Rattle.ckd_types.specs.declared.record.Track.{Track}
 use Rattle.ckd_types.specs.declared.sense.Sense.{Sense}
-use Rattle.ckd_types.specs.declared.status.UnitStatus.{UnitStatus}
-use Rattle.ckd_types.specs.Ccw.{ccw_at}
 use Rattle.ckd_types.specs.Fixed.{Fixed}
 use Rattle.ckd_types.specs.Parameters.{is_provisional}
 use Rattle.ckd_types.specs.Sense.{data_check_sense, equipment_sense}
 use Rattle.ckd_rules.specs.declared.stance.Stance.{Stance}
-use Rattle.ckd_rules.specs.Ending.{check}
-use Rattle.ckd_rules.specs.Ends.{end_at_word}
 use Rattle.ckd_rules.specs.Walk.{TrackEdit}
 use Rattle.plain_defs.specs.declared.journal.Act.{Act}
 use Rattle.plain_defs.specs.declared.journal.Act.TheVariants.{Loosen, Harden, CfwLost}
 use Rattle.plain_defs.specs.declared.journal.Acted.{Acted}
-use Rattle.plain_defs.specs.declared.journal.How.TheVariants.{Full, Checked}
+use Rattle.plain_defs.specs.declared.journal.How.TheVariants.{Checked}
 use Rattle.plain_defs.specs.declared.journal.Item.{Item}
 use Rattle.plain_defs.specs.declared.journal.Item.TheVariants as items
-use Rattle.plain_defs.specs.Effect.{Effect, effect_on}
+use Rattle.plain_defs.specs.Effect.{effect_on}
 use Rattle.plain_defs.specs.History.{History, IsOpen, IsPlain, OpenEntry, checked, closed, ended, entry_of, resets_of, state_by, with_end}
 use Rattle.plain_defs.specs.Journal.{Plans, program_of, replay, replay_item}
 use Rattle.plain_defs.specs.Legal.{
@@ -41,11 +35,9 @@ use Rattle.plain_defs.specs.Legal.{
   track_of,
 }
 use Rattle.plain_defs.specs.Loose.{act_done, is_loose_there, is_loose_in}
-use Rattle.plain_defs.specs.PlainState.{LooseTrack, PathsState, PlainState}
-use Rattle.plain_defs.specs.Program as P
+use Rattle.plain_defs.specs.PlainState.{LooseTrack, PlainState}
 use Rattle.plain_defs.specs.Program.{Part, acts_at, acts_done, part_of}
 use Rattle.plain_defs.proofs.PartLemmas.{IsBeside, acted_beside, more_ends, part_more}
-use Rattle.device_defs.specs.Command.{is_loss}
 use Rattle.device_defs.specs.Device.{all_acted}
 use Rattle.device_laws.proofs.HistoryEnds.{one_longer}
 use Rattle.device_laws.proofs.OpenProgram.{bare_before, part_is_acted, state_here, with_one_act}
@@ -76,12 +68,9 @@ all_here : (n : ℕ) (acts : List Act) → acts_at (map (behind_ends n) acts) n 
 all_here n [] = refl
 all_here n (act ∷ acts) = grind (arith, all_here n acts, same_number)
 
-if_front : (b : Bool) (x : Act) (xs ys : List Act) → (if b then x ∷ (xs ++ ys) else xs ++ ys) ≡ (if b then x ∷ xs else xs) ++ ys
-if_front b x xs ys = grind arith
-
 at_ends : (n : ℕ) (acts : List Act) (xs : List Acted) → acts_at (xs ++ map (behind_ends n) acts) n ≡ acts_at xs n ++ acts
 at_ends n acts [] = all_here n acts
-at_ends n acts (x ∷ xs) = grind (arith, at_ends n acts xs, all_here, if_front)
+at_ends n acts (x ∷ xs) = grind (arith, at_ends n acts xs, all_here)
 
 same_bare : (s : PlainState) (path : ℕ) (ccws : List Ccw) (n : ℕ) (acts : List Act) (xs : List Acted) →
     bare_part s path ccws (xs ++ map (behind_ends n) acts) n ≡ bare_part s path ccws xs n
@@ -126,25 +115,18 @@ no_loss_front : (xs ys : List Act) → NoLoss (xs ++ ys) → NoLoss xs
 no_loss_front [] ys none = tt
 no_loss_front (x ∷ xs) ys none = (none.0, no_loss_front xs ys none.1)
 
--- they change neither a track nor the paths
-record IsUnchanged (s z : PlainState) : Type 0 where
-  volume : z.volume ≡ s.volume
-  paths : z.paths ≡ s.paths
-
-unchanged_by : (s : PlainState) (act : Act) → is_loss act ≡ false → IsUnchanged s (act_done s act)
-unchanged_by s act none = search arith
-
-unchanged : (acts : List Act) (s : PlainState) → NoLoss acts → IsUnchanged s (acts_done s acts)
-unchanged [] s none = record { volume = refl; paths = refl }
-unchanged (act ∷ acts) s none = search (arith, unchanged acts (act_done s act) none.1, unchanged_by)
+-- no command sees them
+unseen : (f : Fixed) (path : ℕ) (z : Stance) (c : Ccw) (acts : List Act) (s : PlainState) → NoLoss acts →
+    effect_on f (acts_done s acts) path z c ≡ effect_on f s path z c
+unseen f path z c [] s none = refl
+unseen f path z c (Loosen t ∷ acts) s none = unseen f path z c acts (act_done s (Loosen t)) none.1
+unseen f path z c (Harden t ∷ acts) s none = unseen f path z c acts (act_done s (Harden t)) none.1
+unseen f path z c (CfwLost ∷ acts) s none = absurd (let is : true ≡ false = none.0 in cc)
 
 -- A program with more acts behind its last end
 
 module _ (s : PlainState) (path : ℕ) (ccws : List Ccw) (xs : List Acted) (n : ℕ) (many : length (part_of s path ccws xs n).ends ≡ n)
     (runs : IsSome (part_of s path ccws xs n).next) (acts : List Act) where
-  abbrev more : List Acted
-  more = xs ++ map (behind_ends n) acts
-
   abbrev bare : Part
   bare = bare_part s path ccws xs n
 
@@ -176,20 +158,13 @@ module _ (s : PlainState) (path : ℕ) (ccws : List Ccw) (xs : List Acted) (n : 
   state_behind = grind (arith, state_here, same_ends, same_next, same_bare, at_ends, done_both)
 
   -- the legal acts of a point or of the end
-  acts_since : (edited : Option ℕ) → AreActs (bare_part s path ccws (xs ++ map (behind_ends n) acts) n).state edited
-      (acts_at (xs ++ map (behind_ends n) acts) n) → AreActs before.state edited acts
-  acts_since edited are = grind (arith, state_here, split_acts, at_ends, same_bare)
-
   module _ (none : NoLoss acts) where
     same_effect : (c : Ccw) → effect_on behind.fixed behind.state path behind.stance c ≡ effect_on before.fixed before.state path before.stance c
     same_effect c =
-        let kept = unchanged acts before.state none in
         ap (λ (f : Fixed). effect_on f behind.state path behind.stance c) same_fixed
         ∙ ap (λ (z : Stance). effect_on before.fixed behind.state path z c) same_stance
         ∙ ap (λ (z : PlainState). effect_on before.fixed z path before.stance c) state_behind
-        ∙ ap (λ (p : PathsState). effect_on before.fixed (record (acts_done before.state acts) { paths = p }) path before.stance c) kept.paths
-        ∙ ap (λ (v : List Track). effect_on before.fixed (record (acts_done before.state acts) { paths = before.state.paths; volume = v }) path before.stance c)
-        kept.volume
+        ∙ unseen before.fixed path before.stance c acts before.state none
 
     same_edit_at : (next : Option ℕ) → edit_at path ccws behind next ≡ edit_at path ccws before next
     same_edit_at next = grind (arith, same_effect)
@@ -215,18 +190,16 @@ item_in : (plans : Plans) (xs : List Item) (z : PlainState) (early : List Item) 
 item_in plans [] z early y ys legal = (early, legal.0)
 item_in plans (x ∷ xs) z early y ys legal = item_in plans xs (replay_item plans z x) (early ++ x ∷ []) y ys legal.1
 
+one_by_one : (plans : Plans) (l : List Act) (y : PlainState) (e : List Item) → IsLegalFrom plans y e (map (λ (act : Act). items.Act act) l) → AreActs y None l
+one_by_one plans [] y e legal = tt
+one_by_one plans (Loosen t ∷ l) y e legal = absurd (let none : None ≡ Some t = legal.0.1 in cc)
+one_by_one plans (Harden t ∷ l) y e legal = (legal.0.0, one_by_one plans l (act_done y (Harden t)) (e ++ items.Act (Harden t) ∷ []) legal.1)
+one_by_one plans (CfwLost ∷ l) y e legal = (legal.0.0, one_by_one plans l (act_done y CfwLost) (e ++ items.Act CfwLost ∷ []) legal.1)
+
 acts_in_journal : (plans : Plans) (xs : List Item) (z : PlainState) (early : List Item) (acts : List Act) →
     IsLegalFrom plans z early (xs ++ map (λ (act : Act). items.Act act) acts) → AreActs (replay plans z xs) None acts
+acts_in_journal plans [] z early acts legal = one_by_one plans acts z early legal
 acts_in_journal plans (x ∷ xs) z early acts legal = acts_in_journal plans xs (replay_item plans z x) (early ++ x ∷ []) acts legal.1
-acts_in_journal plans [] z early acts legal = by_acts acts z early legal where
-  first_act : (y : PlainState) (act : Act) (l : List Act) → AreActs y None (act ∷ []) → AreActs (act_done y act) None l → AreActs y None (act ∷ l)
-  first_act y (Loosen t) l one rest = absurd (let none : None ≡ Some t = one.1 in cc)
-  first_act y (Harden t) l one rest = (one.0, rest)
-  first_act y CfwLost l one rest = (one.0, rest)
-
-  by_acts : (l : List Act) (y : PlainState) (e : List Item) → IsLegalFrom plans y e (map (λ (act : Act). items.Act act) l) → AreActs y None l
-  by_acts [] y e legal = tt
-  by_acts (act ∷ l) y e legal = first_act y act l legal.0 (by_acts l (act_done y act) (e ++ items.Act act ∷ []) legal.1)
 
 pub idle_acts : (acts : List Act) (h : History) → all_acted (record h { running = None }) acts
     ≡ record h { items = h.items ++ map (λ (act : Act). items.Act act) acts; running = None }
@@ -284,7 +257,7 @@ module _ (a : AuditedDevice) (plainly : IsPlain a.plans a.empty a.history) (acts
 
     acts_are : (edited : Option ℕ) → AreActs (bare_part s o.path ccws (o.acts ++ map (behind_ends n) acts) n).state edited
         (acts_at (o.acts ++ map (behind_ends n) acts) n) → AreActs (state_of a) edited acts
-    acts_are edited are = grind (arith, state_is, acts_since, as_many)
+    acts_are edited are = grind (arith, state_is, state_here, split_acts, at_ends, same_bare, as_many)
 
     abbrev later : OpenEntry
     later = record o { acts = o.acts ++ map (behind_ends (length o.ends)) acts }
@@ -299,16 +272,8 @@ module _ (a : AuditedDevice) (plainly : IsPlain a.plans a.empty a.history) (acts
       longer : o.ends ++ e ∷ [] ≡ (part_of s o.path ccws (o.acts ++ map (behind_ends n) acts) (suc n)).ends
       point : IsPoint s o.path ccws (o.acts ++ map (behind_ends n) acts) n
 
-    one_more : (e : CommandEnd) (k : ℕ) → k ≡ suc n → o.ends ++ e ∷ [] ≡ (part_of s o.path ccws (o.acts ++ map (behind_ends n) acts) k).ends →
-        HasActs s o.path ccws (o.acts ++ map (behind_ends n) acts) k → HasOneMore e
-    one_more e k is ends has = search arith
-
-    by_over : (e : CommandEnd) (over : Bool) → IsPlain a.plans a.empty (if over then closed (record a.history { running = Some later }) (with_end later e) Full
-        else record a.history { running = Some (with_end later e) }) → HasOneMore e
-    by_over e over behind = grind (arith, item_in, one_more, one_longer)
-
     has_one_more : (e : CommandEnd) → IsPlain a.plans a.empty (ended (all_acted a.history acts) e) → HasOneMore e
-    has_one_more e behind = grind (arith, by_over, acts_run)
+    has_one_more e behind = grind (arith, item_in, one_longer, acts_run)
 
     module _ (none : NoLoss acts) (e : CommandEnd) (has : HasOneMore e) where
       end_plain : plain_end a o ≡ Some e
@@ -348,9 +313,6 @@ module _ (a : AuditedDevice) (plainly : IsPlain a.plans a.empty a.history) (acts
         let ends = it.1.0.ends in
         check_at e (length (o.ends ++ e ∷ []) - 1) (omega (arith, one_longer o.ends e)) ends.last ends.ends_are ends.next_is ends.checked it.1.0.acts
 
-    as_check : (e : CommandEnd) (sense : Sense) → IsCheck ccws e → e.sense ≡ Some sense → e ≡ check_end ccws e.index sense
-    as_check e sense c is = grind arith
-
     plain_at : (next : Option ℕ) (i : ℕ) → next ≡ Some i → (f : CommandEnd) × (plain_end_at o.path ccws p next ≡ Some f) × (f.index ≡ i)
     plain_at (Some j) i is = (_, refl, let same : j ≡ i = cc in same)
     plain_at None i is = absurd (cc)
@@ -358,7 +320,7 @@ module _ (a : AuditedDevice) (plainly : IsPlain a.plans a.empty a.history) (acts
     checks_by : (e : CommandEnd) (has : HasCheck e) (sense : Sense) → IsCheckSense sense → e.sense ≡ Some sense → ChecksSo a o e acts
     checks_by e has sense is sensed =
         let f = plain_at p.next e.index (sym (same_next s o.path ccws o.acts n as_many is_open.runs acts) ∙ has.next) in
-        (search (arith, as_check, acts_are))
+        (search (arith, acts_are))
 
     pub checks_so : (e : CommandEnd) → IsPlain a.plans a.empty (checked (all_acted a.history acts) e) → ChecksSo a o e acts
     checks_so e behind = by_sense (has_check e behind) (has_check e behind).is_check.sense where

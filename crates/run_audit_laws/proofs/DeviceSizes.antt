@@ -1,16 +1,15 @@
 -- In the run of a deck that was read each device keeps its number, its cylinders and its plans, is lent to a device, and has at most 64 tracks to stage.
-use Rattle.std.proofs.Common.{◌≡◌, ◌≤◌, ◌<◌, ℕ, Bool, List, [], ◌∷◌, length, map, Option, Ok, refl, sym, subst, ◌∙◌, arith}
+use Rattle.std.proofs.Common.{◌≡◌, ◌≤◌, ◌<◌, ℕ, Bool, List, [], ◌∷◌, length, map, Ok, refl, ◌∙◌, arith}
 use Rattle.std.specs.Prelude.{All, IfSome}
 use Rattle.std.proofs.lemmas.List.Elements.{All-head, All-tail}
 use Rattle.ckd_types.specs.declared.paths.Side.{Side}
-use Rattle.ckd_types.specs.declared.paths.Side.TheVariants as sides
 use Rattle.deck_text.specs.declared.line.DeviceLine.{DeviceLine}
 use Rattle.deck_text.specs.DeckLines.{DeckLines}
 use Rattle.deck_text.specs.Parse.{parsed}
 use Rattle.deck_text.proofs.DeckAgain.{Each, ProgramOk}
 use Rattle.deck_text.proofs.PlanLemmas.{plan_bound}
 use Rattle.deck_text.proofs.Reached.{parsed_good}
-use Rattle.plain_defs.specs.Journal.{Plans, planned, program_of}
+use Rattle.plain_defs.specs.Journal.{planned, program_of}
 use Rattle.loss_model.specs.declared.Loss.TheVariants as losses
 use Rattle.track_image.specs.Image.{Image}
 use Rattle.device_outside.specs.Interaction.{Interaction}
@@ -129,17 +128,11 @@ most_plans n k le few = omega (arith, le, few)
 
 opened_sized : (deck : DeckLines) → length deck.programs ≤ 512 → Each (ProgramOk deck.devices) deck.programs → (seen : List ℕ) (ds : List DeviceLine) → AreNumbered seen ds → All Small ds → AreSo Sized (map (opened_device deck) ds)
 opened_sized deck few ok seen [] n s = tt
-opened_sized deck few ok seen (d ∷ ds) n s = (
-  record {
-    device = n.1;
-    cylinders = All-head Small d ds s;
-    lent = tt;
-    plans = λ path. most_plans _ (length deck.programs) (plan_bound deck.programs d.number path) few;
-    words = planned_words deck.devices deck.programs d.number ok;
-    short = omega arith;
-  },
-  opened_sized deck few ok (d.number ∷ seen) ds n.2 (All-tail Small d ds s),
-)
+opened_sized deck few ok seen (d ∷ ds) n s =
+    let plans = λ (path : ℕ). most_plans _ (length deck.programs) (plan_bound deck.programs d.number path) few in
+    let words = planned_words deck.devices deck.programs d.number ok in
+    let first : Sized (opened_device deck d).device = record { device = n.1; cylinders = All-head Small d ds s; lent = tt; plans = plans; words = words; short = omega arith } in
+    (first, opened_sized deck few ok (d.number ∷ seen) ds n.2 (All-tail Small d ds s))
 
 module _ (text : List ℕ) (deck : DeckLines) (read : parsed text ≡ Ok deck) where
   pub first_sized : AreSo Sized (opened deck).mounted

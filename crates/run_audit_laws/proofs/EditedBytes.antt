@@ -1,8 +1,8 @@
 -- A look at a track that holds bytes, of a command whose word gives bytes, sends bytes, and edits the track to one that holds bytes.
-use Rattle.std.proofs.Common.{◌<◌, ◌==◌, ◌+◌, ℕ, zero, suc, Bool, true, false, List, [], length, Option, Some, None, arith}
+use Rattle.std.proofs.Common.{◌<◌, ◌==◌, ◌+◌, ℕ, zero, suc, Bool, true, false, List, length, Option, arith}
 use Rattle.std.specs.Prelude.{All, IfSome, is_some, take, ⊤}
 use Rattle.std.proofs.lemmas.Bool.{cond_both}
-use Rattle.std.proofs.lemmas.List.Elements.{All-cons, All-nil, All-push, All-set, All-take}
+use Rattle.std.proofs.lemmas.List.Elements.{All-push, All-set, All-take}
 use Rattle.ckd_types.specs.declared.channel.Ccw.{Ccw}
 use Rattle.ckd_types.specs.declared.command.ReadArea.{ReadArea}
 use Rattle.ckd_types.specs.declared.command.SearchArea.{SearchArea}
@@ -10,15 +10,13 @@ use Rattle.ckd_types.specs.declared.command.Write.{Write}
 use Rattle.ckd_types.specs.declared.command.Write.TheVariants.{Data, UpdateData, KeyData, UpdateKeyData, CountKeyData, NextTrack, Zero}
 use Rattle.ckd_types.specs.declared.geometry.Geometry.{Geometry}
 use Rattle.ckd_types.specs.declared.parameters.Domain.{Domain}
-use Rattle.ckd_types.specs.declared.record.Edit.TheVariants.{Format, Update, Zero as ZeroEdit}
+use Rattle.ckd_types.specs.declared.record.Edit.TheVariants.{Format, Update}
 use Rattle.ckd_types.specs.declared.record.Track.{Track}
 use Rattle.ckd_types.specs.Edit.{apply_edit}
 use Rattle.ckd_types.specs.Sense.{track_format_sense}
-use Rattle.ckd_types.specs.Track.{find_id}
 use Rattle.ckd_rules.specs.declared.finding.Sought.{Sought}
 use Rattle.ckd_rules.specs.declared.finding.Sought.TheVariants.{Here, Onward, Nowhere}
 use Rattle.ckd_rules.specs.declared.order.Look.{Look}
-use Rattle.ckd_rules.specs.declared.order.Look.TheVariants.{Finds, Searches, Reads, Writes}
 use Rattle.ckd_rules.specs.declared.stance.After.{After}
 use Rattle.ckd_rules.specs.declared.stance.After.TheVariants.{Other, Wrote}
 use Rattle.ckd_rules.specs.declared.stance.Stance.{Stance}
@@ -27,8 +25,7 @@ use Rattle.ckd_rules.specs.declared.turned.Turned.TheVariants as turns
 use Rattle.ckd_rules.specs.Area.{given_at}
 use Rattle.ckd_rules.specs.Control.{located}
 use Rattle.ckd_rules.specs.Ending.{refused}
-use Rattle.ckd_rules.specs.Formats.{body_given, count_given, format_behind, format_ended, has_room_behind, is_zero_given, key_given, record_given, zero_on}
-use Rattle.ckd_rules.specs.Look.{look_on}
+use Rattle.ckd_rules.specs.Formats.{body_given, format_behind, format_ended, has_room_behind, key_given, record_given, zero_on}
 use Rattle.ckd_rules.specs.Looked.{Looked, edits, ends}
 use Rattle.ckd_rules.specs.Reads.{read_bytes, read_sought, record_at}
 use Rattle.ckd_rules.specs.Searches.{search_sought}
@@ -76,15 +73,10 @@ module _ (c : Ccw) (gives : GivesBytes c) (t : Track) (all : TrackHolds t) (s : 
 
   update_holds : (key d : Bool) (i : ℕ) → LookHolds t (update_record key d s c i (record_at t.records i))
   update_holds true d i =
-      let r = record_at t.records i in (
-        rewritten i (given_at 0 (length r.key) c) (given_at (length r.key) (length r.body) c) (omega (
-          arith,
-          (at_holds t.records i all).few,
-          (given_length 0
-              (length r.key) c),
-        )) (given_are 0 (length r.key) c gives) (given_are (length r.key) (length r.body) c gives),
-        no_bytes,
-      )
+      let r = record_at t.records i in
+      let few : length (given_at 0 (length r.key) c) < 256 = omega (arith, (at_holds t.records i all).few, (given_length 0 (length r.key) c)) in
+      let key = given_are 0 (length r.key) c gives in
+      (rewritten i (given_at 0 (length r.key) c) (given_at (length r.key) (length r.body) c) few key (given_are (length r.key) (length r.body) c gives), no_bytes)
   update_holds false d i = data_holds d i
 
   updates_hold : (key d : Bool) (k : Sought) → LookHolds t (update_sought key d t.records s c k)
@@ -113,24 +105,14 @@ module _ (c : Ccw) (gives : GivesBytes c) (t : Track) (all : TrackHolds t) (s : 
   write_holds g NextTrack = format_holds g Other 0
   write_holds g Zero = zero_holds
 
-  finds_holds : (d : Domain) (o : Option ℕ) → LookHolds t (ends (located s c d o))
-  finds_holds d o = grind (arith, no_bytes)
-
-  look_holds : (g : Geometry) (look : Look) → LookHolds t (look_on g t s c look)
-  look_holds g look = grind (arith, finds_holds, search_holds, read_holds, write_holds)
-
 -- From track to track
 
 module _ (tracks : ℕ → Track) (hold : (t : ℕ) → TrackHolds (tracks t)) where
   abbrev pub WalkHolds : Walked → Type 0
   WalkHolds w = All IsByte w.outcome.ending.sent × IfSome w.edit (λ e. TrackHolds (apply_edit e.edit (tracks e.track)))
 
-  walked_holds : (t : ℕ) (on : Stance → Walked) (s : Stance) (k : Turned) → TurnHolds (tracks t) k → ((z : Stance) → WalkHolds (on z)) →
-      WalkHolds (walked t on s k)
-  walked_holds t on s k h go = grind arith
-
   pub walk_holds : (n : ℕ) (g : Geometry) (start : Stance) (c : Ccw) → GivesBytes c → (look : Look) (s : Stance) →
       WalkHolds (walk n g tracks start c look s)
   unfolding W.walk
   walk_holds zero g start c gives look s = (no_bytes, tt)
-  walk_holds (suc n) g start c gives look s = grind (arith, walk_holds n g start c gives look, walked_holds, look_holds)
+  walk_holds (suc n) g start c gives look s = grind (arith, walk_holds n g start c gives look, no_bytes, search_holds, read_holds, write_holds)

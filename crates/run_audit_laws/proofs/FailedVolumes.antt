@@ -16,8 +16,8 @@ use Rattle.report_text.specs.declared.line.ReportLine.{ReportLine}
 use Rattle.report_text.specs.declared.line.ReportLine.TheVariants as lines
 use Rattle.report_places.specs.declared.state.Did.{Did}
 use Rattle.report_places.specs.declared.state.Due.{Due}
-use Rattle.report_places.specs.declared.state.Due.TheVariants.{Behind, Next, OverOf}
-use Rattle.report_places.specs.Place.{first_event, holds, in_event, is_of_work, worker_of}
+use Rattle.report_places.specs.declared.state.Due.TheVariants.{Behind, Next}
+use Rattle.report_places.specs.Place.{holds, in_event, is_of_work, worker_of}
 use Rattle.deck_audit.specs.Device.{AuditedDevice, device_in, state_of, with_device}
 use Rattle.deck_audit.specs.History.{act_made, harden_made, is_legal}
 use Rattle.deck_audit.specs.State.{AuditState, is_event_over, outlines, over_by, settled, settled_by, settled_in, then_of, worked, worker, worker_number}
@@ -51,7 +51,7 @@ module _ (xs : List AuditedDevice) (w : EventLine) (d : ℕ) (side : Side) (late
 
   -- the audit waits behind the work of this device, or stands before the failure
   abbrev waits : AuditedDevice → Bool → AuditState
-  waits a more = at_work xs w (events.FailVolume d side ∷ later) n works first has a (Behind more did)
+  waits a more = at_work xs w (events.FailVolume d side ∷ later) a (Behind more did)
 
   abbrev before : List AuditedDevice → AuditState
   before ys = record { devices = ys; events = events.FailVolume d side ∷ later; due = Next }

@@ -1,72 +1,27 @@
 -- The text of a line of a report has no line feed in it.
-use Rattle.std.proofs.Common.{◌≡◌, ◌<◌, ◌^◌, ◌==◌, ◌/◌, ◌%◌, ◌++◌, ℕ, zero, suc, Bool, true, false, List, [], ◌∷◌, refl, arith, rules}
+use Rattle.std.proofs.Common.{◌≡◌, ◌<◌, ◌^◌, ◌==◌, ◌++◌, ℕ, zero, suc, Bool, true, List, [], ◌∷◌, refl, arith, rules}
 use Rattle.std.specs.Prelude.{◌&&◌, decimal, not, slice_index}
 use Rattle.std.proofs.lemmas.Bool.{and_from, and_parts}
-use Rattle.std.proofs.lemmas.Bool.Decides.{nat_tests}
 use Rattle.std.proofs.lemmas.Fmt.{digits_decimal}
 use Rattle.std.proofs.lemmas.Str.Parse.{IsNumeralModel, numerals_by_fold}
-use Rattle.ckd_types.specs.declared.channel.Note.{Note}
-use Rattle.ckd_types.specs.declared.channel.Note.TheVariants.{Plain, IncorrectLength, Limit}
 use Rattle.ckd_types.specs.declared.paths.Owner.{Owner}
 use Rattle.ckd_types.specs.declared.paths.Owner.TheVariants as owners
-use Rattle.ckd_types.specs.declared.paths.Side.{Side}
-use Rattle.ckd_types.specs.declared.paths.Side.TheVariants.{A, B}
 use Rattle.hex.specs.Hex.{encode_with, encode_upper, upper_digits}
 use Rattle.report_text.specs.declared.answers.BackAnswer.{BackAnswer}
-use Rattle.report_text.specs.declared.answers.BackAnswer.TheVariants as back
 use Rattle.report_text.specs.declared.answers.DeviceTotals.{DeviceTotals}
-use Rattle.report_text.specs.declared.answers.DeviceTotals.TheVariants as totals
-use Rattle.report_text.specs.declared.answers.HowOver.{HowOver}
-use Rattle.report_text.specs.declared.answers.HowOver.TheVariants as how
 use Rattle.report_text.specs.declared.answers.LooseAnswer.{LooseAnswer}
 use Rattle.report_text.specs.declared.answers.LooseAnswer.TheVariants as loose
 use Rattle.report_text.specs.declared.answers.OrderAnswer.{OrderAnswer}
-use Rattle.report_text.specs.declared.answers.OrderAnswer.TheVariants as order_answers
-use Rattle.report_text.specs.declared.answers.OrderRefusal.{OrderRefusal}
-use Rattle.report_text.specs.declared.answers.OrderRefusal.TheVariants as faults
 use Rattle.report_text.specs.declared.answers.StartAnswer.{StartAnswer}
-use Rattle.report_text.specs.declared.answers.StartAnswer.TheVariants as start
 use Rattle.report_text.specs.declared.answers.SumOf.{SumOf}
-use Rattle.report_text.specs.declared.answers.SumOf.TheVariants as sums
 use Rattle.report_text.specs.declared.line.ReportLine.{ReportLine}
 use Rattle.report_text.specs.declared.line.ReportLine.TheVariants as lines
 use Rattle.report_text.specs.declared.order.Order.{Order}
-use Rattle.report_text.specs.declared.order.Order.TheVariants as orders
 use Rattle.report_text.specs.Keywords.{keyword_text}
 use Rattle.report_text.specs.Lines.{key_of, text_of, words_in_line}
-use Rattle.report_text.specs.Numbers.{are_digits, is_digit, value_after}
-use Rattle.report_text.specs.Words.{
-  all_spaced,
-  answer_words,
-  back_words,
-  fault_words,
-  loose_words,
-  mark_key,
-  note_key,
-  over_words,
-  owner_words,
-  side_key,
-  start_words,
-  totals_words,
-}
-use Rattle.report_reading.specs.Ranges.{
-  IsAnswer,
-  IsBack,
-  IsCount,
-  IsDevice,
-  IsFault,
-  IsLine,
-  IsLong,
-  IsLoose,
-  IsOrder,
-  IsOver,
-  IsOwner,
-  IsPath,
-  IsShort,
-  IsStart,
-  IsTotals,
-  IsTrack,
-}
+use Rattle.report_text.specs.Numbers.{are_digits, value_after}
+use Rattle.report_text.specs.Words.{back_words, loose_words, mark_key, owner_words, start_words, totals_words}
+use Rattle.report_reading.specs.Ranges.{IsAnswer, IsBack, IsCount, IsDevice, IsLine, IsLong, IsLoose, IsOrder, IsOwner, IsPath, IsShort, IsStart, IsTotals, IsTrack}
 
 -- a text without a line feed
 abbrev pub is_whole : List ℕ → Bool
@@ -125,12 +80,6 @@ unfolding encode_with
 hex_whole [] = refl
 hex_whole (b ∷ bytes) = grind (arith, hex_whole bytes, and_from, hex_digit)
 
-side_whole : (side : Side) → is_whole (keyword_text (side_key side)) ≡ true
-side_whole side = grind arith
-
-note_whole : (note : Note) → is_whole (keyword_text (note_key note)) ≡ true
-note_whole note = grind arith
-
 owner_whole : (x : Owner) → IsOwner x → are_whole (owner_words x) ≡ true
 owner_whole (owners.Group id) h = rw (hex_whole id.bytes) refl
 owner_whole (owners.Path n) h = rw (path_whole n h) refl
@@ -139,18 +88,12 @@ start_whole : (x : StartAnswer) → IsStart x → are_whole (start_words x) ≡ 
 start_whole x h = grind (arith, short_whole, path_whole, device_whole, owner_whole)
 
 back_whole : (x : BackAnswer) → IsBack x → are_whole (back_words x) ≡ true
-back_whole x h = grind (arith, track_whole, side_whole)
+back_whole x h = grind (arith, track_whole)
 
 loose_whole : (x : LooseAnswer) → IsLoose x → are_whole (loose_words x) ≡ true
 loose_whole (loose.Harden n) h = rw (track_whole n h) refl
 loose_whole (loose.Loosen n) h = rw (track_whole n h) refl
 loose_whole (loose.Lost n id) h = rw (short_whole n h.0, hex_whole id) refl
-
-over_whole : (x : HowOver) → IsOver x → are_whole (over_words x) ≡ true
-over_whole x h = grind (arith, short_whole)
-
-answer_whole : (x : OrderAnswer) → IsAnswer x → are_whole (answer_words x) ≡ true
-answer_whole x h = grind (arith, count_whole)
 
 totals_whole : (x : DeviceTotals) → IsTotals x → are_whole (totals_words x) ≡ true
 totals_whole x h = grind (arith, long_whole, device_whole)
@@ -163,14 +106,14 @@ record Whole (line : ReportLine) : Type 0 where
   others : are_whole (words_in_line line) ≡ true
 
 order_whole : (order : Order) (a : OrderAnswer) → IsOrder order → IsAnswer a → Whole (lines.Order order a)
-order_whole order a h g = search (arith, device_whole, side_whole, answer_whole)
+order_whole order a h g = search (arith, device_whole, count_whole)
 
 sum_whole : (of : SumOf) (n : ℕ) → IsLong n → Whole (lines.Sum of n)
 sum_whole of n h = search (arith, long_whole)
 
 whole : (line : ReportLine) → IsLine line → Whole line
 whole (lines.Start path device answer) h = record { first = refl; others = rw (path_whole path h.0, device_whole device h.1, start_whole answer h.2) refl }
-whole (lines.End e) h = search (arith, path_whole, device_whole, short_whole, hex_whole, note_whole)
+whole (lines.End e) h = search (arith, path_whole, device_whole, short_whole, hex_whole)
 whole (lines.Data bytes) h = record { first = refl; others = rw (hex_whole bytes) refl }
 whole (lines.Sense sense) h = record { first = refl; others = rw (hex_whole sense.bytes) refl }
 whole (lines.Half path device track) h = record { first = refl; others = rw (path_whole path h.0, device_whole device h.1, track_whole track h.2) refl }
@@ -179,7 +122,7 @@ whole (lines.StepIdle device) h = record { first = refl; others = rw (device_who
 whole (lines.RunIdle device) h = record { first = refl; others = rw (device_whole device h) refl }
 whole (lines.Loose device answer) h = record { first = refl; others = rw (device_whole device h.0, loose_whole answer h.1) refl }
 whole (lines.Io reads writes) h = record { first = refl; others = rw (long_whole reads h.0, long_whole writes h.1) refl }
-whole (lines.Over path device ordinal how) h = search (arith, path_whole, device_whole, short_whole, over_whole)
+whole (lines.Over path device ordinal how) h = search (arith, path_whole, device_whole, short_whole)
 whole (lines.Reset path device) h = record { first = refl; others = rw (path_whole path h.0, device_whole device h.1) refl }
 whole (lines.Order order a) h = order_whole order a h.0 h.1
 whole (lines.Device device totals) h = record { first = refl; others = rw (device_whole device h.0, totals_whole totals h.1) refl }

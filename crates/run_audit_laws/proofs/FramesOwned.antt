@@ -1,12 +1,11 @@
 -- In a run each frame of the pool is of a device of the deck, and of a track that the devices come to.
-use Rattle.std.proofs.Common.{arith, ◌≡◌, ◌==◌, ◌⊎◌, ℕ, Bool, true, false, List, [], ◌∷◌, map, Option, Some, None, cond, refl, sym, ap, subst, ◌∙◌, inl, inr}
+use Rattle.std.proofs.Common.{arith, ◌≡◌, ◌==◌, ◌⊎◌, ℕ, Bool, true, false, List, [], ◌∷◌, map, Option, Some, None, refl, sym, subst, inl, inr}
 use Rattle.std.specs.Prelude.{All, IfSome, if◌then◌else◌}
 use Rattle.std.specs.Map.{lookup_entry, remove_entry, set_value}
 use Rattle.std.specs.Option.{option_map_or}
 use Rattle.std.proofs.lemmas.Bool.{cond_both, eq-eqb, eqb-true}
 use Rattle.std.proofs.lemmas.List.Elements.{All-cons, All-nil}
 use Rattle.ckd_types.specs.declared.paths.Side.{Side}
-use Rattle.ckd_types.specs.declared.paths.Side.TheVariants as sides
 use Rattle.deck_text.specs.DeckLines.{DeckLines}
 use Rattle.loss_model.specs.declared.Loss.TheVariants as losses
 use Rattle.track_image.specs.Image.{Image}
@@ -24,11 +23,9 @@ use Rattle.device_defs.specs.Marks.{MarksDevice}
 use Rattle.device_defs.specs.Orders.{lend}
 use Rattle.deck_audit.specs.Device.{outline_of}
 use Rattle.deck_audit.specs.State.{outlines}
-use Rattle.report_places.specs.declared.state.Outline.{Outline}
-use Rattle.report_places.specs.Place.{holds, is_declared, outline_in}
+use Rattle.report_places.specs.Place.{is_declared}
 use Rattle.subsystem_defs.specs.declared.end.EventEnd.{EventEnd}
 use Rattle.subsystem_defs.specs.declared.end.EventEnd.TheVariants as ends
-use Rattle.subsystem_defs.specs.declared.end.OrderFault.{OrderFault}
 use Rattle.subsystem_defs.specs.declared.event.Event.{Event}
 use Rattle.subsystem_defs.specs.declared.event.Event.TheVariants as events
 use Rattle.subsystem_defs.specs.Decks as D
@@ -37,7 +34,6 @@ use Rattle.subsystem_defs.specs.Deeds.{Asks, Becomes, Each, Ends, Lends, Repairs
 use Rattle.subsystem_defs.specs.Happening as H
 use Rattle.subsystem_defs.specs.Happening.{MarksDeed, Talk, asks, becomes, behind_outcome, happens, happens_by, held_with, joined, lends, replaced, replaced_at, replaced_by, sweep, told_to, unpaired, unpaired_at, unpaired_by}
 use Rattle.subsystem_defs.specs.Lines.{Logged, asked_by, run_lines}
-use Rattle.subsystem_defs.specs.Refusals.{replace_fault, unpair_fault}
 use Rattle.subsystem_defs.specs.Subsystem.{Mounted, Subsystem, devices_of, mounted_in, number_of, unfailing}
 use Rattle.subsystem_laws.proofs.DeedWalk.{IsDeedwise, Stands, deed_is}
 use Rattle.subsystem_laws.proofs.RunLines.{AnyEvent, Goes, lines_keep, logs_end}
@@ -73,12 +69,9 @@ module _ (P T : ℕ → Type 0) where
   abbrev IsOf : Frame → Type 0
   IsOf f = P f.0.0 × T f.0.1
 
-  found_if : (b : Bool) (f : Frame) (o : Option Frame) → IsOf f → IfSome o IsOf → IfSome (cond b (Some f) o) IsOf
-  found_if b f o p rest = grind arith
-
   looked_of : (test : ℕ × ℕ → Bool) (fs : List Frame) → AllOf fs → IfSome (lookup_entry test fs) IsOf
   looked_of test [] a = tt
-  looked_of test (f ∷ fs) a = found_if (test f.0) f (lookup_entry test fs) a.0 (looked_of test fs a.1)
+  looked_of test (f ∷ fs) a = grind (arith, looked_of test fs a.1, cond_both)
 
   front_by : (o : Option Frame) (fs rest : List Frame) → IfSome o IsOf → AllOf fs → AllOf rest → AllOf (option_map_or (λ f. f ∷ rest) o fs)
   front_by o fs rest p a b = grind arith
@@ -86,16 +79,10 @@ module _ (P T : ℕ → Type 0) where
   front_of : (fs : List Frame) (d t : ℕ) → AllOf fs → AllOf (in_front fs d t)
   front_of fs d t a = front_by (lookup_entry (is_of d t) fs) fs (frame_removed fs d t) (looked_of (is_of d t) fs a) a (removed_of (is_of d t) fs a)
 
-  less_of : (fs : List Frame) (o : Option (ℕ × ℕ)) → AllOf fs → AllOf (less_frame fs o)
-  less_of fs o a = grind (arith, removed_of)
-
-  wanted_of : (p : Pool) (d t : ℕ) → P d × T t → AllOf p.frames → AllOf (frames_wanted p d t)
-  wanted_of p d t own a = grind (arith, cond_both, front_of, less_of)
-
   module _ (n : ℕ) (has : P n) where
     after_of : (p : Pool) (call : Call) (a : AnswerTo call) → IsOwn T n call → AllOf p.frames → AllOf (after p call a).frames
     unfolding O.after
-    after_of p call a own all = grind (arith, front_of, wanted_of, set_of, removed_of)
+    after_of p call a own all = grind (arith, front_of, cond_both, removed_of, set_of)
 
     read_of : (w : Told) (side : Side) → AllOf w.pool.frames → AllOf (told_read w side).pool.frames
     read_of w side all = grind arith
@@ -153,9 +140,6 @@ module _ (P T : ℕ → Type 0) where
   some_at [] n m is has = absurd (cc)
   some_at (k ∷ ms) n m is has = grind (arith, some_at ms n m, eqb-true)
 
-  becomes_of : (s : Subsystem) (n : ℕ) (d : MarksDevice) (o : Option Mounted) → (becomes s n o d).pool ≡ s.pool
-  becomes_of s n d o = grind arith
-
   joined_of : (s : Subsystem) (n : ℕ) (volume : Calls) (o : Option Mounted) → (joined s n volume o).pool ≡ s.pool
   joined_of s n volume o = grind arith
 
@@ -176,7 +160,7 @@ module _ (P T : ℕ → Type 0) where
 
   happens_of : (s : Subsystem) (x : MarksDeed) → KeepsFrames s x → AreSome s.mounted → AllOf P T s.pool.frames →
       AllOf P T (happens_by s x).behind.pool.frames
-  happens_of s x h has all = grind (arith, becomes_of, asks_of, swept_of, lends_of)
+  happens_of s x h has all = grind (arith, asks_of, swept_of, lends_of)
 
   -- an answer asks nothing
   answered : {X Y : Type 0} (d : MarksDevice) (talk : Talk X) (f : X → Y) → OwnTalk d talk → OwnTalk d (and_then talk (λ z a. Done z (f a)))
@@ -186,20 +170,20 @@ module _ (P T : ℕ → Type 0) where
   repaired_of p q b same all = grind arith
 
   -- of devices of which this is so, whose commands and queues come to these tracks
-  module _ (In : ChainState → Type 0) (comes : Comes T In) (K : MarksDevice → Type 0)
-      (near : (d : MarksDevice) → K d → IfSome d.chain In × EachIs T d.store.queue) where
-    of_one : (s : Subsystem) → AreSo K s.mounted → (d : MarksDevice) → Stands s d → K d
-    of_one s all d x = subst (λ (o : Option MarksDevice). IfSome o K) x.found (device_so K s.mounted x.number all)
+  module _ (In : ChainState → Type 0) (comes : Comes T In) (K L : MarksDevice → Type 0)
+      (near : (d : MarksDevice) → K d → L d → IfSome d.chain In × EachIs T d.store.queue) where
+    of_one : (Q : MarksDevice → Type 0) (s : Subsystem) → AreSo Q s.mounted → (d : MarksDevice) → Stands s d → Q d
+    of_one Q s all d x = subst (λ (o : Option MarksDevice). IfSome o Q) x.found (device_so Q s.mounted x.number all)
 
-    frames_keep : (s : Subsystem) → AreSo K s.mounted → IsDeedwise s (KeepsFrames s)
-    frames_keep s so = record {
+    frames_keep : (s : Subsystem) → AreSo K s.mounted → AreSo L s.mounted → IsDeedwise s (KeepsFrames s)
+    frames_keep s so more = record {
       ended = λ end. tt;
       started = λ d x path fault. tt;
       seconded = λ d x h is. answered d (second by_plain d) (λ a. Some (ends.Second a)) (second_own T d.store.device by_plain d refl);
       commanded = λ d x whole o running.
-          answered d (command by_plain d) (end_of ends.Stepped) (command_own T d.store.device by_plain In comes d (near d (of_one s so d x)).0 refl);
+          answered d (command by_plain d) (end_of ends.Stepped) (command_own T d.store.device by_plain In comes d (near d (of_one K s so d x) (of_one L s more d x)).0 refl);
       worked = λ d x whole.
-          answered d (background by_plain d) (end_of ends.Back) (background_own T d.store.device by_plain d (near d (of_one s so d x)).1 refl);
+          answered d (background by_plain d) (end_of ends.Back) (background_own T d.store.device by_plain d (near d (of_one K s so d x) (of_one L s more d x)).1 refl);
       cut = λ d x path. answered d (reset by_plain d path) (λ a. Some (ends_done a)) (reset_own T d.store.device by_plain d path refl);
       lost_cache = ((λ all. tt), λ d. lose_own T d.store.device by_plain d losses.Cache refl);
       lost_store = ((λ all. all), λ d. lose_own T d.store.device by_plain d losses.Store refl);
@@ -221,11 +205,11 @@ all_some ns [] P T are has = tt
 all_some [] (m ∷ ms) P T are has = absurd (cc)
 all_some (n ∷ ns) (m ∷ ms) P T are has = grind (arith, all_some ns ms P T)
 
-module _ (T : ℕ → Type 0) (In : ChainState → Type 0) (comes : Comes T In) (K : MarksDevice → Type 0) (kept : IsKept K AnyEvent)
-    (near : (d : MarksDevice) → K d → IfSome d.chain In × EachIs T d.store.queue) where
+module _ (T : ℕ → Type 0) (In : ChainState → Type 0) (comes : Comes T In) (K L : MarksDevice → Type 0) (kept : IsKept K AnyEvent)
+    (too : IsKept L AnyEvent) (near : (d : MarksDevice) → K d → L d → IfSome d.chain In × EachIs T d.store.queue) where
   module _ (ns : List ℕ) where
     abbrev So : Subsystem → Type 0
-    So s = Tied ns (ties s.mounted) × AreSo K s.mounted × AllOf (IsOneOf ns) T s.pool.frames
+    So s = Tied ns (ties s.mounted) × AreSo K s.mounted × AreSo L s.mounted × AllOf (IsOneOf ns) T s.pool.frames
 
     abbrev Shown : Subsystem → Logged → Type 0
     Shown s t = Unit {0}
@@ -235,12 +219,10 @@ module _ (T : ℕ → Type 0) (In : ChainState → Type 0) (comes : Comes T In) 
 
     event_framed : (s : Subsystem) (e : Event) → So s → So (happens s e).behind
     unfolding H.happens
-    event_framed s e q = (
-      event_tied ns s e q.0,
-      event_so K AnyEvent kept s q.1 e tt,
-      happens_of (IsOneOf ns) T s (deed by_plain s.pool (devices_of s) e)
-          (deed_is s (KeepsFrames (IsOneOf ns) T s) (frames_keep (IsOneOf ns) T In comes K near s q.1) e) (some_of s q.0) q.2,
-    )
+    event_framed s e q =
+        let keeps = deed_is s (KeepsFrames (IsOneOf ns) T s) (frames_keep (IsOneOf ns) T In comes K L near s q.1 q.2) e in
+        let frames = happens_of (IsOneOf ns) T s (deed by_plain s.pool (devices_of s) e) keeps (some_of s q.0) q.3 in
+        (event_tied ns s e q.0, event_so K AnyEvent kept s q.1 e tt, event_so L AnyEvent too s q.2 e tt, frames)
 
     replaced_pool : (s : Subsystem) (n : ℕ) (side : Side) (o : Option Mounted) → (replaced_at s n side unfailing o).behind.pool ≡ s.pool
     replaced_pool s n side o = grind arith
@@ -248,8 +230,8 @@ module _ (T : ℕ → Type 0) (In : ChainState → Type 0) (comes : Comes T In) 
     unpaired_pool : (s : Subsystem) (n : ℕ) (o : Option Mounted) → (unpaired_at s n unfailing o).behind.pool ≡ s.pool
     unpaired_pool s n o = grind arith
 
-    same_frames : (p q : Pool) → p ≡ q → AllOf (IsOneOf ns) T q.frames → AllOf (IsOneOf ns) T p.frames
-    same_frames p q same all = subst (λ (x : Pool). AllOf (IsOneOf ns) T x.frames) (sym same) all
+    still : (s z : Subsystem) → z.pool ≡ s.pool → Tied ns (ties z.mounted) → AreSo K z.mounted → AreSo L z.mounted → So s → So z
+    still s z same tied so more q = (tied, so, more, rw same q.3)
 
     frames_go : Goes So Shown AnyEvent
     unfolding H.replaced H.unpaired
@@ -258,31 +240,27 @@ module _ (T : ℕ → Type 0) (In : ChainState → Type 0) (comes : Comes T In) 
       stepped = λ s d q. (event_framed s (events.Step d) q, tt);
       idle = λ s d q. (q, tt);
       backed = λ s d q. (event_framed s (events.Back d) q, tt);
-      replaces = λ s d side q. (
-        (
-          replaced_tied ns s d side (mounted_in s.mounted d) refl q.0,
-          replaced_so K AnyEvent kept s d side unfailing q.1 (mounted_in s.mounted d) (mounted_so K s.mounted d q.1),
-          same_frames (replaced_at s d side unfailing (mounted_in s.mounted d)).behind.pool s.pool (replaced_pool s d side (mounted_in s.mounted d)) q.2,
-        ),
+      replaces = λ s d side q. let o = mounted_in s.mounted d in (
+        still s (replaced_at s d side unfailing o).behind (replaced_pool s d side o) (replaced_tied ns s d side o refl q.0)
+            (replaced_so K AnyEvent kept s d side unfailing q.1 o (mounted_so K s.mounted d q.1))
+            (replaced_so L AnyEvent too s d side unfailing q.2 o (mounted_so L s.mounted d q.2)) q,
         tt,
       );
-      unpairs = λ s a q. (
-        (
-          unpaired_tied ns s a (mounted_in s.mounted a) refl q.0,
-          unpaired_so K AnyEvent kept s a unfailing q.1 (mounted_in s.mounted a) (mounted_so K s.mounted a q.1),
-          same_frames (unpaired_at s a unfailing (mounted_in s.mounted a)).behind.pool s.pool (unpaired_pool s a (mounted_in s.mounted a)) q.2,
-        ),
+      unpairs = λ s a q. let o = mounted_in s.mounted a in (
+        still s (unpaired_at s a unfailing o).behind (unpaired_pool s a o) (unpaired_tied ns s a o refl q.0)
+            (unpaired_so K AnyEvent kept s a unfailing q.1 o (mounted_so K s.mounted a q.1))
+            (unpaired_so L AnyEvent too s a unfailing q.2 o (mounted_so L s.mounted a q.2)) q,
         tt,
       );
     }
 
-  pub run_so : (deck : DeckLines) → AreSo K (opened deck).mounted → So (numbers_in deck) (run_of deck).behind
+  pub run_so : (deck : DeckLines) → AreSo K (opened deck).mounted → AreSo L (opened deck).mounted → So (numbers_in deck) (run_of deck).behind
   unfolding D.run_asked_on
-  run_so deck first =
+  run_so deck first second =
       let ns = numbers_in deck in
       let asked = map asked_by deck.events in
       logs_end (So ns) (Shown ns) (opened deck) (run_lines asked (opened deck))
-      (lines_keep (So ns) (Shown ns) (frames_go ns) asked (opened deck) (opened_tied deck, first, tt))
+      (lines_keep (So ns) (Shown ns) (frames_go ns) asked (opened deck) (opened_tied deck, first, second, tt))
 
 -- Any tracks
 
@@ -291,36 +269,15 @@ any_are [] = tt
 any_are (m ∷ ms) = (tt, any_are ms)
 
 any_kept : IsKept Any AnyEvent
-any_kept = record {
-  started = λ d path n may fault s. tt;
-  commanded = λ d o running whole s t. tt;
-  seconded = λ d h is s t. tt;
-  worked = λ d whole s t. tt;
-  cut = λ d path s t. tt;
-  lost_cache = λ d s t. tt;
-  lost_store = λ d s t. tt;
-  lost_side = λ d side fault s t. tt;
-  lost_power = λ d s t. tt;
-  held = λ d fault s. tt;
-  resumed = λ d fault s. tt;
-  replaced = λ d side fault s. tt;
-  lent = λ x y fault r s t. tt;
-  joins = λ d free s. tt;
-  splits = λ d fault s. tt;
-  restored = λ d a is s. tt;
-}
+any_kept = search arith
 
 -- They are declared
-
-declared_if : (b : Bool) (o : Option Outline) (x : Outline) → holds o (λ (a : Outline). true) ≡ true →
-    holds (if b then Some x else o) (λ (a : Outline). true) ≡ true
-declared_if b o x is = grind arith
 
 declared_at : (ms : List Mounted) (n : ℕ) → IsOneOf (map (λ (t : Tie). t.number) (ties ms)) n →
     is_declared (map outline_of (map audited (map (λ (m : Mounted). m.device) ms))) n ≡ true
 declared_at [] n is = absurd is
 declared_at (m ∷ ms) n (inl same) = grind (arith, eq-eqb)
-declared_at (m ∷ ms) n (inr more) = grind (arith, declared_at ms n more, declared_if)
+declared_at (m ∷ ms) n (inr more) = grind (arith, declared_at ms n more)
 
 all_declared : (s : Subsystem) (fs : List Frame) → AllOf (IsOneOf (map (λ (t : Tie). t.number) (ties s.mounted))) Any fs →
     All (λ (f : Frame). is_declared (outlines (stand s [])) f.0.0 ≡ true) fs
@@ -331,5 +288,7 @@ all_declared s (f ∷ fs) all =
 pub frames_are_declared : (deck : DeckLines) → FramesAreDeclared (run_of deck).behind
 frames_are_declared deck =
     let s = (run_of deck).behind in
-    let q = run_so Any Any any_comes Any any_kept (λ d k. (any_chain d.chain, any_queued d.store.queue)) deck (any_are (opened deck).mounted) in
-    all_declared s s.pool.frames (subst (λ (ns : List ℕ). AllOf (IsOneOf ns) Any s.pool.frames) (sym q.0.numbers_are) q.2)
+    let q = run_so Any Any any_comes Any Any any_kept any_kept (λ d k l. (any_chain d.chain, any_queued d.store.queue)) deck (any_are (opened deck).mounted)
+    (any_are (opened deck).mounted)
+    in
+    all_declared s s.pool.frames (subst (λ (ns : List ℕ). AllOf (IsOneOf ns) Any s.pool.frames) (sym q.0.numbers_are) q.3)

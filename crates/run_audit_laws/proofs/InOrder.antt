@@ -2,7 +2,6 @@
 use Rattle.std.proofs.Common.{◌≡◌, ◌≢◌, ◌<◌, ◌≤◌, ◌+◌, ◌⊎◌, ℕ, zero, suc, Bool, true, false, List, [], ◌∷◌, Option, Some, None, is_some, length, get_or, set, refl, sym, ap, subst, ◌∙◌, arith, inl, inr}
 use Rattle.std.proofs.lemmas.Bool.{cases_eq, or_left, or_right}
 use Rattle.std.specs.Prelude.{◌&&◌, ◌||◌, if◌then◌else◌, not}
-use Rattle.ckd_types.specs.declared.paths.Side.{Side}
 use Rattle.track_table.specs.Tracks.{least}
 use Rattle.device_defs.specs.declared.answers.Did.TheVariants as dids
 use Rattle.device_defs.specs.Background as G
@@ -15,9 +14,8 @@ use Rattle.device_defs.specs.Owed.{waits, waits_by}
 use Rattle.device_defs.specs.Store.{frame_at, is_lost, is_loose, patch_at, some_up, tracks_of, with_frame}
 use Rattle.device_laws.proofs.Had.{Had, had_ask, had_done, had_if, had_then, had_try}
 use Rattle.device_laws.proofs.Working.{least_found}
-use Rattle.subsystem_defs.specs.Lines.{stops}
 use Rattle.run_audit_laws.proofs.Weights.{Spot, copies, due_by, modified_by, one, sides, spot_at, sum_least, weight_at, works}
-use Rattle.run_audit_laws.proofs.Lighter.{GotSo, Lower, Same, WorkSo, as_least, bad_stops, copy_so, level_so, lower_all, near_frame, recover_so, same_least, same_weight, saved_so}
+use Rattle.run_audit_laws.proofs.Lighter.{GotSo, Lower, WorkSo, as_least, stopped, copy_so, level_so, lower_all, near_frame, recover_so, same_least, same_weight, saved_so}
 
 -- Staging
 
@@ -64,23 +62,10 @@ module _ (s : MarksStore) (t : ℕ) (ts : List ℕ) (queue : s.queue ≡ t ∷ t
   one_shorter : Lower s shorter
   one_shorter = lower_all s shorter refl (λ q _. as_least (weight_at s q) (weight_at s q) refl) (omega (arith, ap length queue))
 
-  filled_lower : (z : MarksStore) → Same shorter z → frame_at s t ≡ None → is_lost s t ≡ false → (m : Bool) → is_some (patch_at z t) ≡ m →
-      Lower s (with_frame z t (Some m))
-  filled_lower z e bare here m patched = grind (arith, one_shorter, same_least, sum_least, weight_at, framed_least)
-
-  staged_answer : (z : MarksStore) (f : Option Side) → (f ≡ None → Lower s z) → stops (did f (dids.Staged t)) ≡ false → Lower s z
-  staged_answer z f lower e = grind arith
-
-  got_same : (z : MarksStore) (f : Option Side) → GotSo shorter z f → f ≡ None → Same shorter z
-  got_same z f e is = grind arith
-
-  nothing_said : (z : MarksStore) (f : Option Side) → stops (did f dids.Nothing) ≡ false → Lower s z
-  nothing_said z f e = grind arith
-
   bytes_staged : (z : MarksStore) (g : Got Bool) → GotSo shorter z g.fault → frame_at s t ≡ None → is_lost s t ≡ false → (o : Option Bool) →
       Had (staged_bytes by_plain t z g o) (WorkSo s)
   bytes_staged z g e bare here o =
-      search (arith, had_ask, had_done, nothing_said, had_try, had_then, had_if, is_some, filled_lower, got_same, staged_answer, bad_stops)
+      search (arith, had_ask, had_done, had_try, had_then, had_if, is_some, one_shorter, same_least, sum_least, weight_at, framed_least, stopped)
 
   none_framed : (o : Option Bool) (lost : Bool) → (is_some o || lost) ≡ false → (o ≡ None) × (lost ≡ false)
   none_framed o lost e = grind arith

@@ -1,14 +1,13 @@
 -- A plain device whose programs give bytes keeps bytes: on its volume, on the tracks that loose ones go back to, and of its paths. So each of their
 -- commands sends bytes.
-use Rattle.std.proofs.Common.{arith, ◌≡◌, ◌-◌, ◌==◌, ◌++◌, ◌∙◌, ◌*◌, zero, suc, ℕ, Bool, true, false, List, [], ◌∷◌, length, map, Option, Some, None, refl, sym, ap, subst, inl, inr, if◌then◌else◌}
+use Rattle.std.proofs.Common.{get_or, arith, ◌≡◌, ◌-◌, ◌==◌, ◌++◌, ◌*◌, zero, suc, ℕ, Bool, true, false, List, [], ◌∷◌, length, Option, Some, None, refl, sym, subst, inl, inr, if◌then◌else◌}
 use Rattle.std.specs.Prelude.{◌⊎◌, All, IfSome, not}
 use Rattle.std.specs.List.{range_with_len}
-use Rattle.std.proofs.lemmas.List.Elements.{All-cons, All-filter, All-head, All-nil, All-push, All-replicate, All-set, All-tail}
+use Rattle.std.proofs.lemmas.List.Elements.{All-map, All-filter, All-head, All-nil, All-push, All-set, All-tail}
 use Rattle.hex.specs.Hex.{IsBytes}
 use Rattle.ckd_types.specs.declared.channel.Ccw.{Ccw}
 use Rattle.ckd_types.specs.declared.channel.CommandEnd.{CommandEnd}
 use Rattle.ckd_types.specs.declared.geometry.Geometry.{Geometry}
-use Rattle.ckd_types.specs.declared.paths.PathState.TheVariants.{Reset}
 use Rattle.ckd_types.specs.declared.record.Track.{Track}
 use Rattle.ckd_types.specs.declared.sense.Sense.{Sense}
 use Rattle.ckd_types.specs.Ccw.{ccw_at}
@@ -34,7 +33,7 @@ use Rattle.plain_defs.specs.declared.journal.Item.TheVariants as items
 use Rattle.plain_defs.specs.Acts.{act_fault}
 use Rattle.plain_defs.specs.Effect.{Effect, acted_by, behind_effect, edited_volume, effect_by, effect_on}
 use Rattle.plain_defs.specs.Entry.{ProgramEntry}
-use Rattle.plain_defs.specs.History.{History, IsOpen, IsPlain, OpenEntry, plain_of, state_by}
+use Rattle.plain_defs.specs.History.{History, IsPlain, plain_of}
 use Rattle.plain_defs.specs.Journal.{Plans, checked_paths, effects_of, entry_part, last_sense, program_of, replay, replay_item}
 use Rattle.plain_defs.specs.Legal.{EndsChecked, HasEnds, IsLegalFrom, IsLegalItem}
 use Rattle.plain_defs.specs.Loose.{act_done, lost_by_power, power_off, restored}
@@ -48,7 +47,7 @@ use Rattle.run_audit_laws.proofs.AnsweredBytes.{PathsKeep, act_sends, sensed_kee
 use Rattle.run_audit_laws.proofs.EditedBytes.{walk_holds}
 use Rattle.run_audit_laws.proofs.GivenBytes.{IsByte, as_bytes, at_or, no_bytes}
 use Rattle.run_audit_laws.proofs.KeptSenses.{SenseIn, check_sense_in, effect_senses, walk_sense, zero_in}
-use Rattle.run_audit_laws.proofs.NamedGroups.{Named, OpeningIn, effect_named, reset_named}
+use Rattle.run_audit_laws.proofs.NamedGroups.{OpeningIn, effect_named, reset_named}
 use Rattle.run_audit_laws.proofs.NamedOpenings.{opening_named}
 use Rattle.run_audit_laws.proofs.SentBytes.{TrackHolds, empty_holds}
 use Rattle.run_audit_laws.proofs.Tidy.{outcome_fits}
@@ -66,12 +65,9 @@ pub record KeepsBytes (state : PlainState) : Type 0 where
 fresh_keeps : PathsKeep fresh_paths
 fresh_keeps = search (arith, zero_in)
 
-all_empty : (ts : List ℕ) → All TrackHolds (map empty_track ts)
-all_empty [] = All-nil TrackHolds
-all_empty (t ∷ ts) = All-cons TrackHolds (empty_track t) (map empty_track ts) (empty_holds t) (all_empty ts)
-
 volume_holds : (cylinders : ℕ) → All TrackHolds (empty_volume cylinders)
-volume_holds cylinders = all_empty (range_with_len 0 (cylinders * 15))
+volume_holds cylinders =
+    All-map TrackHolds empty_track (range_with_len 0 (cylinders * 15)) (λ k d lt. empty_holds (get_or (range_with_len 0 (cylinders * 15)) k d))
 
 pub empty_keeps : (g : Geometry) (cylinders : ℕ) → KeepsBytes (empty_state g cylinders)
 empty_keeps g cylinders = record { paths = fresh_keeps; volume = volume_holds cylinders; loose = All-nil FirmHolds }
@@ -112,15 +108,10 @@ module _ (f : Fixed) (state : PlainState) (path : ℕ) (s : Stance) (c : Ccw) (g
   command_keeps is =
       let e = effect_on f state path s c in
       let o = opening_of f s c in
-      record {
-        paths = record {
-          named = effect_named state.paths path is k.paths.named f (track_in state.volume) s c o.stance o.opening (opening_named f s c gives);
-          senses = effect_senses state.paths path k.paths.senses f (track_in state.volume) s c o.stance o.opening
-              (walk_sense c e.outcome (outcome_fits f state path s c));
-        };
-        volume = edit_holds state.volume e.edit k.volume holds.1;
-        loose = k.loose;
-      }
+      let named = effect_named state.paths path is k.paths.named f (track_in state.volume) s c o.stance o.opening (opening_named f s c gives) in
+      let sense = walk_sense c e.outcome (outcome_fits f state path s c) in
+      let senses = effect_senses state.paths path k.paths.senses f (track_in state.volume) s c o.stance o.opening sense in
+      record { paths = record { named = named; senses = senses }; volume = edit_holds state.volume e.edit k.volume holds.1; loose = k.loose }
 
 -- Acts of cache fast write, and a loss of power
 
@@ -131,16 +122,12 @@ all_restored (l ∷ loose) v firm all =
     (all_restored loose v (All-tail FirmHolds l loose firm) all)
 
 act_keeps : (state : PlainState) (act : Act) → KeepsBytes state → KeepsBytes (act_done state act)
-act_keeps state (Loosen t) k = record {
-  paths = k.paths;
-  volume = k.volume;
-  loose = All-push FirmHolds state.loose (record { track = t; firm = track_in state.volume t }) k.loose (track_holds state.volume k.volume t);
-}
-act_keeps state (Harden t) k = record {
-  paths = k.paths;
-  volume = k.volume;
-  loose = All-filter (λ (l : LooseTrack). not (l.track == t)) FirmHolds state.loose k.loose;
-}
+act_keeps state (Loosen t) k =
+    let all = All-push FirmHolds state.loose (record { track = t; firm = track_in state.volume t }) k.loose (track_holds state.volume k.volume t) in
+    record { paths = k.paths; volume = k.volume; loose = all }
+act_keeps state (Harden t) k =
+    let all = All-filter (λ (l : LooseTrack). not (l.track == t)) FirmHolds state.loose k.loose in
+    record { paths = k.paths; volume = k.volume; loose = all }
 act_keeps state CfwLost k = record { paths = k.paths; volume = all_restored state.loose state.volume k.loose k.volume; loose = All-nil FirmHolds }
 
 acts_keep : (acts : List Act) (p : Part) → KeepsBytes p.state → KeepsBytes (with_acts acts p).state
@@ -199,14 +186,9 @@ module _ (plans : Plans) (gives : (path ordinal i : ℕ) → GivesBytes (ccw_at 
       (gives e.path e.ordinal) state e.acts (effects_of e.how e.ends) k
       in
       record { paths = checked_keeps state _ e e.how l.0.ends ran.paths; volume = ran.volume; loose = ran.loose }
-  item_keeps state earlier (items.Reset path) later l k = record {
-    paths = record {
-      named = reset_named state.paths path k.paths.named;
-      senses = All-set SenseIn state.paths.senses (path - 1) zero_sense zero_in k.paths.senses;
-    };
-    volume = k.volume;
-    loose = k.loose;
-  }
+  item_keeps state earlier (items.Reset path) later l k =
+      let senses = All-set SenseIn state.paths.senses (path - 1) zero_sense zero_in k.paths.senses in
+      record { paths = record { named = reset_named state.paths path k.paths.named; senses = senses }; volume = k.volume; loose = k.loose }
   item_keeps state earlier items.Fresh later l k = record { paths = k.paths; volume = volume_holds state.cylinders; loose = All-nil FirmHolds }
   item_keeps state earlier (items.Act act) later l k = act_keeps state act k
   item_keeps state earlier items.Power later l k = power_keeps state k
@@ -215,9 +197,5 @@ module _ (plans : Plans) (gives : (path ordinal i : ℕ) → GivesBytes (ccw_at 
   items_keep state earlier [] l k = k
   items_keep state earlier (x ∷ xs) l k = items_keep (replay_item plans state x) (earlier ++ x ∷ []) xs l.1 (item_keeps state earlier x xs l.0 k)
 
-  running_keeps : (state : PlainState) (xs : List Item) (o : Option OpenEntry) → IfSome o (IsOpen plans state xs) → KeepsBytes state →
-      KeepsBytes (state_by plans state o)
-  running_keeps state xs o runs k = search (arith, part_keeps)
-
   pub history_keeps : (empty : PlainState) (h : History) → IsPlain plans empty h → KeepsBytes empty → KeepsBytes (plain_of plans empty h)
-  history_keeps empty h plain k = grind (arith, running_keeps, items_keep)
+  history_keeps empty h plain k = grind (arith, part_keeps, items_keep)

@@ -61,6 +61,7 @@ mod DeckEvents
 mod Behind
 mod OrderedLines
 mod Texts
+mod EachLine
 mod Forms
 mod Feeds
 mod DeckTexts

@@ -24,9 +24,8 @@ use Rattle.device_defs.specs.Writing as W
 use Rattle.device_defs.specs.Writing.{alone_b, cleaned, firm_first, first_a, write_opened, slot_freed, taken_a, taken_b, write_done, write_first}
 use Rattle.device_laws.proofs.HeldPlaces.{none_at}
 use Rattle.device_laws.proofs.Had.{Had, had_ask, had_done, had_if, had_read, had_tell, had_then, had_try, had_weaker, had_write}
-use Rattle.device_laws.proofs.KeptEvents.{always_any}
-use Rattle.device_laws.proofs.PlainEvents.{had_always}
 use Rattle.subsystem_defs.specs.Lines.{stops}
+use Rattle.subsystem_laws.proofs.HadAnswers.{any_had}
 use Rattle.run_audit_laws.proofs.Weights.{copies, due_by, left, modified_by, one, sides, spot_at, sum, sum_least, sum_less, weight, weight_at, whole_weight, works}
 use Rattle.device_laws.proofs.Unlost.{clear}
 
@@ -132,6 +131,9 @@ pub idle : (lost : Bool) (f : Option Bool) (p l : Bool) → modified_by f ≡ fa
     ((not lost && due_by f p l) || (l || (modified_by f && p))) ≡ false
 idle lost f p l clean bare firm = grind arith
 
+pub only_copies : (y v : MarksStore) (t : ℕ) → v.a ≡ y.a → v.b ≡ y.b → v.held ≡ y.held → copies (spot_at v t) ≡ copies (spot_at y t)
+only_copies y v t a b held = grind arith
+
 -- A track is written
 
 abbrev FirmSo : MarksStore → ℕ → MarksStore → Type 0
@@ -175,79 +177,45 @@ taken_level s t = grind (arith, clear)
 taken_loose : (s : MarksStore) (t : ℕ) → (taken_a s t).loose ≡ s.loose
 taken_loose s t = grind arith
 
-some_sides : (a k : Bool) → a ≡ true → 1 ≤ one a + one k
-some_sides a k e = grind arith
-
-some_sides_b : (a k : Bool) → k ≡ true → 1 ≤ one a + one k
-some_sides_b a k e = grind arith
-
-both_sides : (a k : Bool) → a ≡ true → k ≡ true → one a + one k ≡ 2
-both_sides a k e f = grind arith
-
 pub takes_same : (s z : MarksStore) (t : ℕ) → Near s z t → takes_b z ≡ takes_b s
 takes_same s z t n = ap (λ (x : Bool). x && not z.held) n.b ∙ ap (λ (x : Bool). s.b.up && not x) n.held
 
-took_by : (s : MarksStore) (t : ℕ) (b : Bool) → takes_b s ≡ b → s.a.up ≡ true → Takes s t (taken_a s t) (W.wrote (if b then Opened else Whole) None)
-took_by s t true is up = record {
-  near = near_taken s t;
-  level = and_right (taken_a s t).a.up (stale_at (taken_a s t).a t) (taken_level s t);
-  both = both_sides s.a.up (takes_b s) up is;
-}
-took_by s t false is up =
-    let z = taken_a s t in record {
-      near = near_taken s t;
-      none = no_copies z.a.up (stale_at z.a t) (z.b.up && not (stale_at z.b t)) (takes_b z) (stale_at z.b t) (z.a.up && not (stale_at z.a t)) (taken_level s t)
-          (takes_same s z t (near_taken s t) ∙ is);
-      some = some_sides s.a.up (takes_b s) up;
-      loose = taken_loose s t;
-    }
+-- the counts of calls count for nothing here
+counted_near : (s z : MarksStore) (t : ℕ) → Near (W.write_counted s true) z t → Near s z t
+counted_near s z t n = search arith
 
--- what is failed is told
-pub any_had : (s : MarksStore) (side : Side) (w : Option ℕ) → Had (call_failed by_plain s side w) (λ z (_ : Unit {0}). Unit {0})
-any_had s side w = had_always (always_any (call_failed by_plain s side w))
+took_by : (s : MarksStore) (t : ℕ) (b : Bool) → takes_b s ≡ b → s.a.up ≡ true →
+    Takes s t (taken_a (W.write_counted s true) t) (W.wrote (if b then Opened else Whole) None)
+took_by s t true is up =
+    let w = W.write_counted s true in
+    let near = counted_near s (taken_a w t) t (near_taken w t) in
+    record { near = near; level = and_right (taken_a w t).a.up (stale_at (taken_a w t).a t) (taken_level w t); both = (grind arith) }
+took_by s t false is up =
+    let w = W.write_counted s true in
+    let z = taken_a w t in
+    let none = no_copies z.a.up (stale_at z.a t) (z.b.up && not (stale_at z.b t)) (takes_b z) (stale_at z.b t) (z.a.up && not (stale_at z.a t))
+    (taken_level w t) (takes_same w z t (near_taken w t) ∙ is)
+    in
+    record { near = counted_near s z t (near_taken w t); none = none; some = (grind arith); loose = taken_loose w t }
 
 late_b : (s : MarksStore) (t : ℕ) (z : MarksStore) (ok : Bool) → Had (alone_b by_plain t (Some A) A z ok) (Takes s t)
 late_b s t z true = had_done tt
-late_b s t z false = had_then (any_had z B (Some t)) (λ y _ _. had_done tt)
+late_b s t z false = had_then (any_had (call_failed by_plain z B (Some t))) (λ y _ _. had_done tt)
 
 first_so : (s : MarksStore) (t : ℕ) → s.a.up ≡ true → (r ok : Bool) → Had (first_a by_plain t r (W.write_counted s ok) ok) (Takes s t)
-first_so s t up r true = had_done (took_again (took_by (W.write_counted s true) t (takes_b s) refl up)) where
-  again : (b : Bool) → Takes (W.write_counted s true) t (taken_a (W.write_counted s true) t) (W.wrote (if b then Opened else Whole) None) →
-      Takes s t (taken_a (W.write_counted s true) t) (W.wrote (if b then Opened else Whole) None)
-  again true k = record {
-    near = near_on s (W.write_counted s true) (taken_a (W.write_counted s true) t) t counted k.near;
-    level = k.level;
-    both = k.both;
-  } where
-    counted : Near s (W.write_counted s true) t
-    counted = near_by refl (λ q ne. refl)
-  again false k = record {
-    near = near_on s (W.write_counted s true) (taken_a (W.write_counted s true) t) t counted k.near;
-    none = k.none;
-    some = k.some;
-    loose = k.loose;
-  } where
-    counted : Near s (W.write_counted s true) t
-    counted = near_by refl (λ q ne. refl)
-
-  took_again : Takes (W.write_counted s true) t (taken_a (W.write_counted s true) t) (W.wrote (if takes_b s then Opened else Whole) None) →
-      Takes s t (taken_a (W.write_counted s true) t) (W.wrote (if takes_b s then Opened else Whole) None)
-  took_again k = again (takes_b s) k
+first_so s t up r true = had_done (took_by s t (takes_b s) refl up)
 first_so s t up r false =
-    had_then (any_had (W.write_counted s false) A (Some t))
+    had_then (any_had (call_failed by_plain (W.write_counted s false) A (Some t)))
     (λ z _ _. had_if (takes_b (W.write_counted s false)) (λ _. had_write (λ ok. late_b s t (W.write_counted z ok) ok)) (λ _. had_done tt))
 
 alone_so : (s : MarksStore) (t : ℕ) → s.a.up ≡ false → takes_b s ≡ true → (ok : Bool) → Had (alone_b by_plain t None B (W.write_counted s ok) ok) (Takes s t)
 alone_so s t down is true =
     let z = taken_b (W.write_counted s true) t in
-    had_done (record {
-      near = near_by refl (near_stale_b s t false).others;
-      none = no_copies_b z.a.up (stale_at z.a t) (z.b.up && not (stale_at z.b t))
-          (takes_b z) (stale_at z.b t) (z.a.up && not (stale_at z.a t)) down (clear s.b.stale t);
-      some = some_sides_b s.a.up (takes_b s) is;
-      loose = refl;
-    })
-alone_so s t down is false = had_then (any_had (W.write_counted s false) B (Some t)) (λ z _ _. had_done tt)
+    let none = no_copies_b z.a.up (stale_at z.a t) (z.b.up && not (stale_at z.b t)) (takes_b z) (stale_at z.b t) (z.a.up && not (stale_at z.a t)) down
+    (clear s.b.stale t)
+    in
+    had_done (record { near = near_by refl (near_stale_b s t false).others; none = none; some = (grind arith); loose = refl })
+alone_so s t down is false = had_then (any_had (call_failed by_plain (W.write_counted s false) B (Some t))) (λ z _ _. had_done tt)
 
 write_so : (s : MarksStore) (t : ℕ) (r : Bool) → Had (write_first by_plain s t r) (Takes s t)
 unfolding W.write_first
@@ -268,27 +236,40 @@ pub freed_so : (s : MarksStore) (t : ℕ) (o : Option (Unit {0})) → patch_at s
 freed_so s t None e = had_done (record { near = near_self s t; a = refl; b = refl; loose = refl; frame = refl; bare = ap (λ (x : Option (Unit {0})). is_some x) e })
 freed_so s t (Some p) e = had_ask (λ _. had_done (search (arith, near_bare, none_at)))
 
-record DoneSo (s z : MarksStore) (t : ℕ) : Type 0 where
-  near : Near s z t
-  a : z.a ≡ s.a
-  b : z.b ≡ s.b
-  off : is_loose s t ≡ false → works (spot_at z t) ≡ false
+pub record Written (s z : MarksStore) (t : ℕ) : Type 0 where
+  pub near : Near s z t
+  pub a : z.a ≡ s.a
+  pub b : z.b ≡ s.b
 
-pub clean_off : (o : Option Bool) → is_some o ≡ false → modified_by o ≡ false
+-- of a store in which only tracks differ
+pub written_by : {s z : MarksStore} {t : ℕ} → around z ≡ around s → z.a ≡ s.a → z.b ≡ s.b → ((q : ℕ) → q ≢ t → spot_at z q ≡ spot_at s q) → Written s z t
+written_by same a b others = record { near = near_by same others; a = a; b = b }
+
+abbrev pub IsDone : MarksStore → MarksStore → ℕ → Type 0
+IsDone s z t = Written s z t × (works (spot_at z t) ≡ false)
+
+clean_off : (o : Option Bool) → is_some o ≡ false → modified_by o ≡ false
 clean_off o e = grind arith
 
-done_by : (s x z : MarksStore) (t : ℕ) → Near s x t → x.a ≡ s.a → x.b ≡ s.b → x.loose ≡ s.loose → modified_by (frame_at x t) ≡ false → Bared x z t → DoneSo s z t
-done_by s x z t n a b loose clean k = search (arith, near_on, idle, is_some, modified_by, get_or)
+written_bared : (s x z : MarksStore) (t : ℕ) → Near s x t → x.a ≡ s.a → x.b ≡ s.b → x.loose ≡ s.loose → modified_by (frame_at x t) ≡ false → is_loose s t ≡ false →
+    Bared x z t → IsDone s z t
+written_bared s x z t n a b loose clean firm k = grind (arith, near_on, idle)
 
-done_so : (s : MarksStore) (t : ℕ) (i : Image) → Had (write_done by_plain s t i false) (λ z (_ : Unit {0}). DoneSo s z t)
+pub write_is_done : (s : MarksStore) (t : ℕ) (i : Image) (bypass : Bool) → is_loose s t ≡ false →
+    Had (write_done by_plain s t i bypass) (λ z (_ : Unit {0}). IsDone s z t)
 unfolding W.write_done
-done_so s t i =
+write_is_done s t i bypass firm =
     had_if (is_some (frame_at s t))
-    (λ there. let x = with_frame s t (Some false) in
-    had_ask (λ _. had_weaker (freed_so x t (patch_at x t) refl)
-    (λ z _ k. done_by s x z t (near_frame s t (Some false)) refl refl refl (ap modified_by (some_at s.frames t false there)) k)))
+    (λ there. had_if bypass (λ _. had_ask (λ _. framed None (ap modified_by (none_at s.frames t))))
+    (λ _. had_ask (λ _. framed (Some false) (ap modified_by (some_at s.frames t false there)))))
     (λ none. had_weaker (freed_so s t (patch_at s t) refl)
-    (λ z _ k. done_by s s z t (near_self s t) refl refl refl (clean_off (frame_at s t) none) k))
+    (λ z _ k. written_bared s s z t (near_self s t) refl refl refl (clean_off (frame_at s t) none) firm k))
+  where
+    framed : (f : Option Bool) → modified_by (frame_at (with_frame s t f) t) ≡ false →
+        Had (slot_freed by_plain (with_frame s t f) t (slot_in by_plain (patch_at s t))) (λ z (_ : Unit {0}). IsDone s z t)
+    framed f clean =
+        had_weaker (freed_so (with_frame s t f) t (patch_at s t) refl)
+        (λ z _ k. written_bared s (with_frame s t f) z t (near_frame s t f) refl refl refl clean firm k)
 
 -- A half write is opened
 
@@ -311,15 +292,9 @@ opened_spot s t q whole ne = grind (arith, not_own)
 
 opened_so : (s : MarksStore) (t : ℕ) (i : Image) (was : Bool) → s.half ≡ None → Had (write_opened by_plain s t i OfBackground was) (λ z (_ : Unit {0}). OpenSo s z t)
 opened_so s t i true whole =
-    had_ask (λ _. had_done (record {
-      cylinders = refl;
-      queue = refl;
-      a = refl;
-      open_is = refl;
-      mine = own_is t;
-      others = λ q ne. opened_spot (with_frame s t
-          (cleaned by_plain (frame_at s t))) t q whole ne ∙ (near_frame s t (cleaned by_plain (frame_at s t))).others q ne;
-    }))
+    let z = with_frame s t (cleaned by_plain (frame_at s t)) in
+    let others = λ (q : ℕ) (ne : q ≢ t). opened_spot z t q whole ne ∙ (near_frame s t (cleaned by_plain (frame_at s t))).others q ne in
+    had_ask (λ _. had_done (record { cylinders = refl; queue = refl; a = refl; open_is = refl; mine = own_is t; others = others }))
 opened_so s t i false whole = had_done (search (arith, own_is))
 
 -- Answers
@@ -328,14 +303,23 @@ abbrev pub WorkSo : MarksStore → MarksStore → Option Did → Type 0
 WorkSo s z (Some d) = stops d ≡ false → Lower s z
 WorkSo s z None = ⊥
 
-fault_stops : (s z : MarksStore) (side : Side) (d : Did) → stops (did (Some side) d) ≡ false → Lower s z
-fault_stops s z side d e = absurd (cc)
+pub stopped : (s z : MarksStore) (f : Option Side) (d : Did) → stops d ≡ true → stops (did f d) ≡ false → Lower s z
+stopped s z f d is e = grind arith
 
-stopped : (s z : MarksStore) (f g : Option Side) → stops (did f (did g dids.Nothing)) ≡ false → Lower s z
-stopped s z f g e = grind arith
+-- once a call failed
+late_by : (s : MarksStore) (t : ℕ) (i : Image) (d : Did) (side : Side) (was : Bool) (failed : Option Side) (y : MarksStore) (took : Took) →
+    Had (saved_by by_plain t i d (Some side) was failed y took) (λ z e. stops e ≡ false → Lower s z)
+late_by s t i d side was failed y Whole = had_then (any_had (write_done by_plain y t i false)) (λ z _ _. had_done (stopped s z None (dids.Fault side) refl))
+late_by s t i d side was failed y Opened =
+    had_then (any_had (write_opened by_plain y t i OfBackground was)) (λ z _ _. had_done (stopped s z None (dids.Fault side) refl))
+late_by s t i d side was failed y Unwritten = had_done (stopped s y None (dids.Fault side) refl)
 
-pub bad_stops : (s z : MarksStore) (f : Option Side) (side : Side) → stops (did f (dids.BadBytes side)) ≡ false → Lower s z
-bad_stops s z f side e = grind arith
+late_saved : (s z : MarksStore) (t : ℕ) (i : Image) (d : Did) (side : Side) → Had (saved by_plain z t i d (Some side)) (WorkSo s)
+late_saved s z t i d side =
+    had_try (had_then {p = λ y e. stops e ≡ false → Lower s y}
+    (had_then (any_had (firm_first by_plain z t))
+    (λ x was _. had_then (any_had (write_first by_plain x t true)) (λ y w _. late_by s t i d side was w.fault y w.took)))
+    (λ y e h. had_done h))
 
 -- The weight of a track
 
@@ -368,63 +352,38 @@ same_weight s z q is = as_least (weight_at z q) (weight_at s q) (ap weight is)
 
 module _ (s : MarksStore) (whole : s.half ≡ None) (t : ℕ) (lt : t < tracks_of s) (due : works (spot_at s t) ≡ true) where
   -- in one event
-  written_lower : (x y z : MarksStore) → FirmSo s t x → Took1 x y t → DoneSo y z t → Lower s z
+  written_lower : (x y z : MarksStore) → FirmSo s t x → Took1 x y t → IsDone y z t → Lower s z
   written_lower x y z f k g =
-      let n = near_on s y z t (near_on s x y t f.0 k.near) g.near in
-      lower_at s z t lt n.cylinders (λ q ne. same_weight s z q (n.others q ne)) (omega (
-        arith,
-        light z t (n.half ∙ whole) (g.off (ap
-            (λ (l : List Bool). get_or l t false) k.loose ∙ f.1)) (ap (λ (m : store.SideMarks). copies (record
-            (spot_at z t) { a = m.up; a_stale = stale_at m t })) g.a ∙ ap (λ (m : store.SideMarks). copies (record
-            (spot_at z t) { a = y.a.up; a_stale = stale_at y.a t; b = m.up; b_stale = stale_at m t })) g.b ∙ ap (λ (h : Bool). copies (record
-            (spot_at y t) { held = h })) g.near.held ∙ k.none),
-        (works_weigh s t whole due),
-        k.some,
-        (sides_near s x t t f.0),
-        (none_open z (n.half ∙ whole)),
-        (ap length n.queue),
-      ))
+      let n = near_on s y z t (near_on s x y t f.0 k.near) g.0.near in
+      let empty = light z t (n.half ∙ whole) g.1 (only_copies y z t g.0.a g.0.b g.0.near.held ∙ k.none) in
+      let same = sides_near s x t t f.0 in
+      lower_at s z t lt n.cylinders (λ q ne. same_weight s z q (n.others q ne))
+      (omega (arith, empty, works_weigh s t whole due, k.some, same, none_open z (n.half ∙ whole), (ap length n.queue)))
 
   -- the first part of two
   opened_lower : (x y z : MarksStore) → FirmSo s t x → Took2 x y t → OpenSo y z t → Lower s z
   opened_lower x y z f k g =
       let n = near_on s x y t f.0 k.near in
-      lower_at s z t lt (g.cylinders ∙ n.cylinders) (λ q ne. same_weight s z q (g.others q ne ∙ n.others q ne)) (omega (
-        arith,
-        ap one (ap
-            (λ (m : store.SideMarks). m.up && stale_at m t) g.a ∙ k.level),
-        (half_on (half_is z.half t) (one (z.a.up && stale_at z.a t)) (whole_weight
-            (spot_at z t)) g.mine),
-        (works_weigh s t whole due),
-        k.both,
-        (sides_near s x t t f.0),
-        (ap one g.open_is),
-        (ap length (g.queue ∙ n.queue)),
-      ))
-
-  late_by : (i : Image) (d : Did) (side : Side) (was : Bool) (failed : Option Side) (y : MarksStore) (took : Took) →
-      Had (saved_by by_plain t i d (Some side) was failed y took) (λ z e. stops e ≡ false → Lower s z)
-  late_by i d side was failed y Whole = had_then (had_always (always_any (write_done by_plain y t i false))) (λ z _ _. had_done (fault_stops s z side (did failed d)))
-  late_by i d side was failed y Opened = had_then (had_always (always_any (write_opened by_plain y t i OfBackground was))) (λ z _ _. had_done (fault_stops s z side (dids.Half t)))
-  late_by i d side was failed y Unwritten = had_done (fault_stops s y side (did failed dids.Nothing))
+      let level = ap one (ap (λ (m : store.SideMarks). m.up && stale_at m t) g.a ∙ k.level) in
+      let open_is = half_on (half_is z.half t) (one (z.a.up && stale_at z.a t)) (whole_weight (spot_at z t)) g.mine in
+      lower_at s z t lt (g.cylinders ∙ n.cylinders) (λ q ne. same_weight s z q (g.others q ne ∙ n.others q ne))
+      (omega (arith, level, open_is, works_weigh s t whole due, k.both, sides_near s x t t f.0, (ap one g.open_is), (ap length (g.queue ∙ n.queue))))
 
   by_took : (i : Image) (d : Did) (x : MarksStore) (was : Bool) → FirmSo s t x → (failed : Option Side) (y : MarksStore) (took : Took) → TookSo x t y took failed →
       Had (saved_by by_plain t i d None was failed y took) (λ z e. stops e ≡ false → Lower s z)
-  by_took i d x was f None y Whole k = had_then (done_so y t i) (λ z _ g. had_done (λ _. written_lower x y z f k g))
-  by_took i d x was f (Some side) y Whole k = had_then (had_always (always_any (write_done by_plain y t i false))) (λ z _ _. had_done (fault_stops s z side d))
+  by_took i d x was f None y Whole k =
+      had_then (write_is_done y t i false (ap (λ (l : List Bool). get_or l t false) k.loose ∙ f.1)) (λ z _ g. had_done (λ _. written_lower x y z f k g))
+  by_took i d x was f (Some side) y Whole k =
+      had_then (any_had (write_done by_plain y t i false)) (λ z _ _. had_done (stopped s z None (dids.Fault side) refl))
   by_took i d x was f failed y Opened k =
       had_then (opened_so y t i was ((near_on s x y t f.0 k.near).half ∙ whole)) (λ z _ g. had_done (λ _. opened_lower x y z f k g))
-  by_took i d x was f failed y Unwritten k = had_done (stopped s y None failed)
-
-  by_fault : (i : Image) (d : Did) (fault : Option Side) (x : MarksStore) (was : Bool) → FirmSo s t x → (y : MarksStore) (w : W.Wrote) → Takes x t y w →
-      Had (saved_by by_plain t i d fault was w.fault y w.took) (λ z e. stops e ≡ false → Lower s z)
-  by_fault i d (Some side) x was f y w k = late_by i d side was w.fault y w.took
-  by_fault i d None x was f y w k = by_took i d x was f w.fault y w.took k
+  by_took i d x was f failed y Unwritten k = had_done (stopped s y failed dids.Nothing refl)
 
   pub saved_so : (i : Image) (d : Did) (fault : Option Side) → Had (saved by_plain s t i d fault) (WorkSo s)
-  saved_so i d fault =
+  saved_so i d (Some side) = late_saved s s t i d side
+  saved_so i d None =
       had_try (had_then {p = λ z e. stops e ≡ false → Lower s z}
-      (had_then (firm_so s t) (λ x was f. had_then (write_so x t true) (λ y w k. by_fault i d fault x was f y w k)))
+      (had_then (firm_so s t) (λ x was f. had_then (write_so x t true) (λ y w k. by_took i d x was f w.fault y w.took k)))
       (λ z e h. had_done h))
 
 -- What a level side gives
@@ -438,7 +397,7 @@ Gives s z g = GotSo s z g.fault
 
 late_read : (s z : MarksStore) (o : Option Bool) → Had (second_read by_plain (Some A) z o) (Gives s)
 late_read s z (Some r) = had_done tt
-late_read s z None = had_then (any_had z B None) (λ y _ _. had_done tt)
+late_read s z None = had_then (any_had (call_failed by_plain z B None)) (λ y _ _. had_done tt)
 
 late_got : (s z : MarksStore) (t : ℕ) → Had (read_b by_plain z t (Some A)) (Gives s)
 late_got s z t = had_if (level_at z.b t) (λ _. had_read (λ o. late_read s (I.read_counted z (is_some o)) o)) (λ _. had_done tt)
@@ -448,11 +407,11 @@ read_same s b = record { cylinders = refl; queue = refl; half = refl; spots = λ
 
 first_got : (s : MarksStore) (t : ℕ) (o : Option Bool) → Had (first_read by_plain t (I.read_counted s (is_some o)) o) (Gives s)
 first_got s t (Some r) = had_done (read_same s true)
-first_got s t None = had_then (any_had (I.read_counted s false) A None) (λ z _ _. late_got s z t)
+first_got s t None = had_then (any_had (call_failed by_plain (I.read_counted s false) A None)) (λ z _ _. late_got s z t)
 
 only_got : (s : MarksStore) (o : Option Bool) → Had (second_read by_plain None (I.read_counted s (is_some o)) o) (Gives s)
 only_got s (Some r) = had_done (read_same s true)
-only_got s None = had_then (any_had (I.read_counted s false) B None) (λ z _ _. had_done tt)
+only_got s None = had_then (any_had (call_failed by_plain (I.read_counted s false) B None)) (λ z _ _. had_done tt)
 
 pub level_so : (s : MarksStore) (t : ℕ) → Had (level_bytes by_plain s t) (Gives s)
 unfolding I.level_bytes
@@ -477,21 +436,13 @@ recovered_so : (s z : MarksStore) (t : ℕ) → s.half ≡ None → t < tracks_o
 recovered_so s z t whole lt due i None e =
     had_weaker (saved_so z (e.half ∙ whole) t (subst (λ (n : ℕ). t < n * 15) (sym e.cylinders) lt) (ap works (e.spots t) ∙ due) i (dids.Recovered t) None)
     (λ y a h. work_on s z y a (same_least s z e) h)
-recovered_so s z t whole lt due i (Some side) e =
-    had_try (had_then {p = λ y d. stops d ≡ false → Lower s y}
-    (had_then (had_always (always_any (firm_first by_plain z t)))
-    (λ x was _. had_then (had_always (always_any (write_first by_plain x t true)))
-    (λ y w _. late_by s whole t lt due i (dids.Recovered t) side was w.fault y w.took)))
-    (λ y d h. had_done h))
+recovered_so s z t whole lt due i (Some side) e = late_saved s z t i (dids.Recovered t) side
 
 bytes_so : (s z : MarksStore) (t : ℕ) → s.half ≡ None → t < tracks_of s → works (spot_at s t) ≡ true → (g : Got Bool) → GotSo s z g.fault → (o : Option Bool) →
     Had (recovered_bytes by_plain t z g o) (WorkSo s)
-bytes_so s z t whole lt due g e None = had_done (nothing_stops s z g.fault) where
-  nothing_stops : (x y : MarksStore) (f : Option Side) → stops (did f dids.Nothing) ≡ false → Lower x y
-  nothing_stops x y (Some side) h = absurd (cc)
-  nothing_stops x y None h = absurd (cc)
+bytes_so s z t whole lt due g e None = had_done (stopped s z g.fault dids.Nothing refl)
 bytes_so s z t whole lt due g e (Some true) = had_try (recovered_so s z t whole lt due _ g.fault e)
-bytes_so s z t whole lt due g e (Some false) = had_try (had_done (bad_stops s z g.fault g.side))
+bytes_so s z t whole lt due g e (Some false) = had_try (had_done (stopped s z g.fault (dids.BadBytes g.side) refl))
 
 pub recover_so : (s : MarksStore) (t : ℕ) (f : Option Bool) → s.half ≡ None → t < tracks_of s → works (spot_at s t) ≡ true → Had (recover by_plain s t f) (WorkSo s)
 recover_so s t (Some f) whole lt due = saved_so s whole t lt due _ (dids.Recovered t) None
@@ -511,17 +462,12 @@ copied_b a stale b b_stale held e = grind arith
 copy_lower : (s z : MarksStore) (t : ℕ) → s.half ≡ None → t < tracks_of s → Near s z t → works (spot_at z t) ≡ works (spot_at s t) → copies (spot_at s t) ≡ true →
     copies (spot_at z t) ≡ false → Lower s z
 copy_lower s z t whole lt n same before behind =
-    lower_at s z t lt n.cylinders (λ q ne. same_weight s z q (n.others q ne)) (omega (
-      arith,
-      whole_at s t whole,
-      whole_at z t (n.half ∙ whole),
-      (ap one before),
-      (ap one behind),
-      (ap (λ (b : Bool). if b then sides (spot_at z t) else 0) same ∙ ap (λ (k : ℕ). if works (spot_at s t) then k else 0)
-          (sides_near s z t t n)),
-      (ap (λ (h : Option (store.HalfWrite (Unit {0}))). one (is_some h)) n.half),
-      (ap length n.queue),
-    ))
+    let work = ap (λ (b : Bool). if b then sides (spot_at z t) else 0) same
+    ∙ ap (λ (k : ℕ). if works (spot_at s t) then k else 0) (sides_near s z t t n)
+    in
+    let opens = ap (λ (h : Option (store.HalfWrite (Unit {0}))). one (is_some h)) n.half in
+    lower_at s z t lt n.cylinders (λ q ne. same_weight s z q (n.others q ne))
+    (omega (arith, whole_at s t whole, whole_at z t (n.half ∙ whole), (ap one before), (ap one behind), work, opens, (ap length n.queue)))
 
 abbrev IsCopied : MarksStore → ℕ → Side → Type 0
 IsCopied s t A = (s.a.up && stale_at s.a t && level_at s.b t) ≡ true
@@ -539,43 +485,20 @@ copied_lower s t B whole lt is =
     (ap (λ (b : Bool). copies (record (spot_at z t) { b_stale = b })) (clear s.b.stale t)
     ∙ copied_b s.a.up (stale_at s.a t) s.b.up (stale_at s.b t) s.held is)
 
-lower_to : (s z y : MarksStore) → Same z y → Lower s z → Lower s y
-lower_to s z y e lower = let least = same_least z y e in omega (arith, least, lower)
-
--- the counts of calls count for nothing here
-stale_counts : (s z : MarksStore) (side : Side) (t : ℕ) → Same s z → z.a ≡ s.a → z.b ≡ s.b → Lower s (with_stale s side t false) →
-    ((q : ℕ) → spot_at (with_stale z side t false) q ≡ spot_at (with_stale s side t false) q) → Lower s (with_stale z side t false)
-stale_counts s z side t e a b lower spots = search (arith, lower_to)
-
-counted_spots : (s : MarksStore) (side : Side) (t : ℕ) (q : ℕ) →
-    spot_at (with_stale (W.write_counted (I.read_counted s true) true) side t false) q ≡ spot_at (with_stale s side t false) q
-counted_spots s side t q = grind arith
-
 copied_so : (s : MarksStore) (t : ℕ) (side : Side) → s.half ≡ None → t < tracks_of s → IsCopied s t side → (ok : Bool) →
     Had (copied by_plain t side (W.write_counted (I.read_counted s true) ok) ok) (WorkSo s)
-copied_so s t side whole lt is true =
-    had_done (λ _. stale_counts s (W.write_counted (I.read_counted s true) true) side t
-    (record { cylinders = refl; queue = refl; half = refl; spots = λ q. refl }) refl refl (copied_lower s t side whole lt is) (counted_spots s side t))
-copied_so s t side whole lt is false = had_then (any_had (W.write_counted (I.read_counted s true) false) side None) (λ y _ _. had_done (λ e. absurd (cc)))
+copied_so s t A whole lt is true = had_done (λ _. copied_lower s t A whole lt is)
+copied_so s t B whole lt is true = had_done (λ _. copied_lower s t B whole lt is)
+copied_so s t side whole lt is false = had_then (any_had (call_failed by_plain (W.write_counted (I.read_counted s true) false) side None)) (λ y _ _. had_done (λ e. absurd (cc)))
 
 copy_read_so : (s : MarksStore) (t : ℕ) (side : Side) → s.half ≡ None → t < tracks_of s → IsCopied s t side → (r : Option Bool) →
     Had (copy_read by_plain t side (I.read_counted s (is_some r)) r) (WorkSo s)
-copy_read_so s t side whole lt is None = had_then (any_had (I.read_counted s false) (other side) None) (λ y _ _. had_done (λ e. absurd (cc)))
+copy_read_so s t side whole lt is None = had_then (any_had (call_failed by_plain (I.read_counted s false) (other side) None)) (λ y _ _. had_done (λ e. absurd (cc)))
 copy_read_so s t side whole lt is (Some r) = had_write (λ ok. copied_so s t side whole lt is ok)
 
-abbrev IsOf : Bool → Bool → Side → Type 0
-IsOf x y A = x ≡ true
-IsOf x y B = y ≡ true
-
-copies_are : (x y : Bool) (side : Side) → (if x then Some A else if y then Some B else None) ≡ Some side → IsOf x y side
-copies_are x y side e = grind arith
-
-side_is : (s : MarksStore) (t : ℕ) (side : Side) →
-    IsOf (s.a.up && stale_at s.a t && level_at s.b t) (takes_b s && stale_at s.b t && level_at s.a t) side → IsCopied s t side
+side_is : (s : MarksStore) (t : ℕ) (side : Side) → copies_to s t ≡ Some side → IsCopied s t side
 side_is s t side e = grind arith
 
 pub copy_so : (s : MarksStore) (t : ℕ) → s.half ≡ None → t < tracks_of s → (o : Option Side) → copies_to s t ≡ o → Had (copy_by by_plain s t o) (WorkSo s)
 copy_so s t whole lt None is = had_done (λ e. absurd (cc))
-copy_so s t whole lt (Some side) is =
-    had_read (λ r. copy_read_so s t side whole lt
-    (side_is s t side (copies_are (s.a.up && stale_at s.a t && level_at s.b t) (takes_b s && stale_at s.b t && level_at s.a t) side is)) r)
+copy_so s t whole lt (Some side) is = had_read (λ r. copy_read_so s t side whole lt (side_is s t side is) r)

@@ -1,6 +1,6 @@
 -- The first line of an event isn't of the work before it, so lines that lead on from where that work is known to be done do so from where it isn't.
-use Rattle.std.proofs.Common.{arith, ◌≡◌, ◌==◌, ◌++◌, ℕ, Bool, true, false, not, List, [], ◌∷◌, Option, Some, None, refl, sym, ap, subst, ◌∙◌, if◌then◌else◌}
-use Rattle.std.specs.Prelude.{◌||◌, ◌&&◌, Result, Ok, Err}
+use Rattle.std.proofs.Common.{arith, ◌≡◌, ◌++◌, ℕ, Bool, true, false, List, [], ◌∷◌, Option, refl, sym, ap, subst, ◌∙◌, if◌then◌else◌}
+use Rattle.std.specs.Prelude.{Result, Ok, Err}
 use Rattle.std.proofs.lemmas.Bool.{or_from, and_right}
 use Rattle.deck_plan.specs.declared.event.EventLine.{EventLine}
 use Rattle.deck_plan.specs.declared.event.EventLine.TheVariants as events
@@ -9,19 +9,15 @@ use Rattle.report_text.specs.declared.answers.LooseAnswer.TheVariants as loose
 use Rattle.report_text.specs.declared.line.ReportLine.{ReportLine}
 use Rattle.report_text.specs.declared.line.ReportLine.TheVariants as lines
 use Rattle.report_text.specs.declared.order.Order.{Order}
-use Rattle.report_text.specs.declared.order.Order.TheVariants as orders
 use Rattle.report_places.specs.declared.state.Due.TheVariants.{Next, Behind, Nothing}
 use Rattle.report_places.specs.declared.state.HalfWrite.{HalfWrite}
-use Rattle.report_places.specs.declared.state.HalfWrite.TheVariants as half
 use Rattle.report_places.specs.declared.state.OpenProgram.{OpenProgram}
 use Rattle.report_places.specs.declared.state.Outline.{Outline}
-use Rattle.report_places.specs.Place.{holds, in_event, in_next, in_power, in_power_of, in_steps, is_act_of, is_back_line, is_cut, is_end, is_half, is_io, is_loss, is_loss_of, is_of_work, is_order, is_power_done, is_reset, is_second_line, is_start, may_back, may_reset, may_step, outline_in, second_of}
+use Rattle.report_places.specs.Place.{holds, in_next, in_power, in_power_of, is_act_of, is_back_line, is_cut, is_end, is_half, is_io, is_loss, is_loss_of, is_of_work, is_order, is_power_done, is_reset, is_second_line, is_start, may_reset, may_step, second_of}
 use Rattle.report_places.specs.Same.{says}
-use Rattle.deck_audit.specs.History.{next_made}
-use Rattle.deck_audit.specs.State.{AuditState, outlines, worker_number}
+use Rattle.deck_audit.specs.State.{AuditState, worker_number}
 use Rattle.report_auditor.specs.declared.status.AuditWhy.{AuditWhy}
 use Rattle.report_auditor.specs.declared.status.AuditWhy.TheVariants.{Place}
-use Rattle.report_auditor.specs.Verdict.{or_history}
 use Rattle.subsystem_defs.specs.Subsystem.{Subsystem}
 use Rattle.run_audit_laws.specs.Standing.{LeadsBy, stand}
 use Rattle.run_audit_laws.specs.Steps.{LeadsTowards, Reaches, is_there, is_waiting}
@@ -50,27 +46,18 @@ record BeginsNothing (line : ReportLine) : Type 0 where
   power : is_power_done line ≡ false
   totals : (s : List Outline) → in_next s line [] ≡ false
 
-never_holds : {T : Type 0} (o : Option T) (f : T → Bool) → ((x : T) → f x ≡ false) → holds o f ≡ false
+pub never_holds : {T : Type 0} (o : Option T) (f : T → Bool) → ((x : T) → f x ≡ false) → holds o f ≡ false
 never_holds o f no_one = grind arith
 
 module _ (line : ReportLine) (b : BeginsNothing line) where
-  in_no_steps : (a : Outline) (idle : ReportLine) → says idle line ≡ false → (r : Option OpenProgram) → in_steps a idle line r ≡ false
-  in_no_steps a idle no_idle r = grind (arith, or_from)
-
   no_second : (a : Outline) (r : Option OpenProgram) → second_of a line r ≡ false
   no_second a r = never_holds r (λ o. is_end a.number o line) (b.ends a.number)
 
   no_step : (a : Outline) (idle : ReportLine) → says idle line ≡ false → (h : HalfWrite) → may_step a idle line h ≡ false
-  no_step a idle no_idle h = grind (arith, in_no_steps, no_second)
-
-  no_back : (a : Outline) (h : HalfWrite) → may_back a line h ≡ false
-  no_back a h = grind (arith, no_second)
-
-  reset_by : (path d : ℕ) (o : OpenProgram) (own : Bool) → (if own then is_cut d o line else is_reset path d line) ≡ false
-  reset_by path d o own = grind arith
+  no_step a idle no_idle h = grind (arith, or_from, no_second)
 
   no_reset : (path d : ℕ) (a : Outline) (r : Option OpenProgram) → may_reset path d a line r ≡ false
-  no_reset path d a r = grind (arith, reset_by)
+  no_reset path d a r = grind arith
 
   no_power_of : (a : Outline) (below : Bool) → below ≡ false → (r : Option OpenProgram) → in_power_of a line below r ≡ false
   no_power_of a below none r = grind (arith, or_from, and_right)
@@ -79,13 +66,7 @@ module _ (line : ReportLine) (b : BeginsNothing line) where
   no_power [] = b.power
   no_power (a ∷ left) = no_power_of a (in_power line left) (no_power left) a.running
 
-  begins_none : (s : List Outline) (e : EventLine) → IsCalm e → in_event s line e ≡ false
-  begins_none s e calm = grind (arith, never_holds, no_step, no_back, no_reset, or_from, no_power)
-
 -- Lines of work behind its first one
-
-io_begins_none : (reads writes : ℕ) → BeginsNothing (lines.Io reads writes)
-io_begins_none reads writes = search arith
 
 loose_begins_none : (n : ℕ) (a : LooseAnswer) → ((s : List Outline) → is_loss s (lines.Loose n a) ≡ false) →
     ((d : ℕ) → is_loss_of d (lines.Loose n a) ≡ false) → BeginsNothing (lines.Loose n a)
@@ -93,12 +74,9 @@ loose_begins_none n a no_loss no_loss_of = search arith
 
 -- Every line
 
-no_act : (more : Bool) (d : ℕ) (line : ReportLine) → is_act_of true d line ≡ false → is_act_of more d line ≡ false
-no_act more d line is = grind arith
-
 pub of_none : (line : ReportLine) → is_io line ≡ false → ((d : ℕ) → is_act_of true d line ≡ false) → (more : Bool) (w : Option ℕ) →
     is_of_work more w line ≡ false
-of_none line no_io act more w = grind (arith, no_act)
+of_none line no_io act more w = grind arith
 
 -- the first event line that is left, if there is one, is no volume's failure
 abbrev pub BeginsCalmly : List EventLine → Type 0
@@ -107,7 +85,7 @@ BeginsCalmly (e ∷ later) = IsCalm e
 
 module _ (s : List Outline) (left : List EventLine) (calm : BeginsCalmly left) (more : Bool) (w : Option ℕ) where
   refuted_in : (line : ReportLine) → BeginsNothing line → (l : List EventLine) → BeginsCalmly l → in_next s line l ≡ true → is_of_work more w line ≡ false
-  refuted_in line b l calmly is = grind (arith, begins_none)
+  refuted_in line b l calmly is = grind (arith, never_holds, no_step, no_second, no_reset, or_from, no_power)
 
   refuted : (line : ReportLine) → BeginsNothing line → in_next s line left ≡ true → is_of_work more w line ≡ false
   refuted line b is = refuted_in line b left calm is
@@ -118,7 +96,7 @@ module _ (s : List Outline) (left : List EventLine) (calm : BeginsCalmly left) (
 
   -- a line that comes next is none of the work before
   next_is_other : (line : ReportLine) → in_next s line left ≡ true → is_of_work more w line ≡ false
-  next_is_other line is = grind (arith, loose_by, refuted, io_begins_none, of_none)
+  next_is_other line is = grind (arith, loose_by, refuted, of_none)
 
 -- From where a piece of work is known to be done at the next line
 

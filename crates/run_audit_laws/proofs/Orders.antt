@@ -1,7 +1,6 @@
 -- Orders that are refused, that wait, or that change nothing of what the audit knows.
-use Rattle.std.proofs.Common.{arith, ◌≡◌, ◌==◌, ◌++◌, ℕ, Bool, true, false, List, [], ◌∷◌, Option, Some, None, refl, sym, ap, subst, ◌∙◌, if◌then◌else◌}
+use Rattle.std.proofs.Common.{arith, ◌≡◌, ◌==◌, ◌++◌, ℕ, Bool, true, false, List, [], ◌∷◌, Option, Some, None, refl, sym, ap, ◌∙◌, if◌then◌else◌}
 use Rattle.ckd_types.specs.declared.paths.Side.{Side}
-use Rattle.ckd_types.specs.declared.paths.Side.TheVariants.{A, B}
 use Rattle.deck_plan.specs.declared.event.EventLine.{EventLine}
 use Rattle.deck_plan.specs.declared.event.EventLine.TheVariants as wanted
 use Rattle.device_outside.specs.Pool.{Pool, all_waiting, cache_repaired, store_repaired}
@@ -20,7 +19,7 @@ use Rattle.report_places.specs.declared.state.Outline.{Outline}
 use Rattle.report_places.specs.Place.{in_event}
 use Rattle.deck_audit.specs.Device.{AuditedDevice}
 use Rattle.deck_audit.specs.History.{event_made}
-use Rattle.deck_audit.specs.State.{AuditState, outlines, passed}
+use Rattle.deck_audit.specs.State.{AuditState, passed}
 use Rattle.run_report.specs.Answers.{order_answer, refused_as}
 use Rattle.run_report.specs.Beside.{over_lines}
 use Rattle.run_report.specs.Events.{event_lines, work_lines}
@@ -43,7 +42,6 @@ use Rattle.subsystem_laws.proofs.FoundDevices.{number_found}
 use Rattle.run_audit_laws.specs.Standing.{LeadsBy, audited, stand}
 use Rattle.run_audit_laws.proofs.Found.{mounted_too, put_same}
 use Rattle.run_audit_laws.proofs.Leading.{EventLeads, first_judged, one_leads, quiet_lines}
-use Rattle.run_audit_laws.proofs.Saying.{same_order}
 
 -- An event that is an order: where its line may stand, and what it makes where nothing was done
 
@@ -59,16 +57,12 @@ abbrev pub IsDone : EventLine → Order → Type 0
 IsDone e o = (z : AuditState) → event_made z (lines.Order o answers.Done) e ≡ Some (passed z)
 
 module _ (s : Subsystem) (e : EventLine) (o : Order) (asked : Asked) (is : IsOrder e o asked) where
-  order_judged : (later : List EventLine) (answer : OrderAnswer) (t : AuditState) →
-      event_made (stand s (e ∷ later)) (lines.Order o answer) e ≡ Some t → LeadsBy (stand s (e ∷ later)) (lines.Order o answer ∷ []) t
-  order_judged later answer t makes = search (arith, one_leads, first_judged)
-
   -- where of the devices nothing else is told
   pub told_leads : (z : Subsystem) (end : EventEnd) (later : List EventLine) →
       work_lines (did.Ordered o (order_answer end)) 0 0 (devices_of s) (devices_of z) ≡ lines.Order o (order_answer end) ∷ [] →
       event_made (stand s (e ∷ later)) (lines.Order o (order_answer end)) e ≡ Some (stand z later) →
       LeadsBy (stand s (e ∷ later)) (event_lines asked end 0 0 (devices_of s) (devices_of z)) (stand z later)
-  told_leads z end later told makes = search (arith, order_judged)
+  told_leads z end later told makes = search (arith, one_leads, first_judged)
 
   -- nothing was done
   pub refused_leads : (fault : OrderFault) → EventLeads s e asked (quietly s s (ends.Refused fault))

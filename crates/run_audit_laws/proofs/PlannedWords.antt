@@ -1,15 +1,13 @@
 -- The words of each program of a deck that was read: at most 256 of them, with counts of 16 bits, that give bytes; so the words that end have indices
 -- of 16 bits.
-use Rattle.std.proofs.Common.{◌≡◌, ◌≤◌, ◌<◌, ◌+◌, ◌-◌, ◌==◌, ◌++◌, ℕ, zero, suc, Bool, true, false, List, [], ◌∷◌, length, Option, Some, None, refl, sym, ap, subst, ◌∙◌, if◌then◌else◌, arith}
-use Rattle.std.specs.Prelude.{nat_lt, slice_index_or, slice_set}
+use Rattle.std.proofs.Common.{◌≡◌, ◌≤◌, ◌<◌, ◌-◌, ◌==◌, ◌++◌, ℕ, zero, suc, Bool, true, List, [], ◌∷◌, length, Option, Some, None, refl, sym, ap, subst, ◌∙◌, if◌then◌else◌, arith}
+use Rattle.std.specs.Prelude.{slice_index_or, slice_set}
 use Rattle.std.proofs.lemmas.Bool.{ltb-false}
 use Rattle.ckd_types.specs.declared.channel.Ccw.{Ccw}
-use Rattle.ckd_types.specs.declared.channel.Why.TheVariants.{Empty, TooLong}
-use Rattle.ckd_types.specs.Ccw.{ccw_at, is_chained, is_transfer}
-use Rattle.ckd_types.specs.Program.{IsProgram, fault_from, next_ccw, target}
-use Rattle.ckd_types.specs.Status.{has_status_modifier}
+use Rattle.ckd_types.specs.Ccw.{ccw_at, is_chained}
+use Rattle.ckd_types.specs.Program.{IsProgram, next_ccw, target}
 use Rattle.ckd_rules.specs.Ending.{Outcome}
-use Rattle.ckd_rules.specs.Ends.{goes_to, is_over}
+use Rattle.ckd_rules.specs.Ends.{goes_to}
 use Rattle.deck_plan.specs.Plans.{no_plans, plan_of, with_program}
 use Rattle.deck_text.specs.declared.line.DeviceLine.{DeviceLine}
 use Rattle.deck_text.specs.declared.line.PlannedProgram.{PlannedProgram}
@@ -32,15 +30,10 @@ pub record GoodWords (ccws : List Ccw) : Type 0 where
 
 -- A program that was read
 
-each_count : (ccws : List Ccw) → Each CcwFacts ccws → (i : ℕ) → (ccw_at ccws i).count < 65536
-each_count [] facts i = omega arith
-each_count (c ∷ ccws) facts zero = facts.0.count
-each_count (c ∷ ccws) facts (suc i) = each_count ccws facts.1 i
-
-each_gives : (ccws : List Ccw) → Each CcwFacts ccws → (i : ℕ) → GivesBytes (ccw_at ccws i)
-each_gives [] facts i = no_bytes
-each_gives (c ∷ ccws) facts zero = are_bytes c.given facts.0.given
-each_gives (c ∷ ccws) facts (suc i) = each_gives ccws facts.1 i
+each_fits : (ccws : List Ccw) → Each CcwFacts ccws → (i : ℕ) → ((ccw_at ccws i).count < 65536) × GivesBytes (ccw_at ccws i)
+each_fits [] facts i = (omega arith, no_bytes)
+each_fits (c ∷ ccws) facts zero = (facts.0.count, are_bytes c.given facts.0.given)
+each_fits (c ∷ ccws) facts (suc i) = each_fits ccws facts.1 i
 
 few_words : (ccws : List Ccw) → IsProgram ccws → length ccws ≤ 256
 few_words ccws is = grind (arith, ltb-false)
@@ -75,11 +68,8 @@ good_all : (devices : List DeviceLine) (d : ℕ) (plans : Plans) (ps : List Plan
     AllGood (planned_all d plans ps)
 good_all devices d plans [] h ok = h
 good_all devices d plans (p ∷ ps) h ok =
-    let one : GoodWords p.program = record {
-      words = few_words p.program ok.0.program;
-      counts = each_count p.program ok.0.ccws;
-      gives = each_gives p.program ok.0.ccws;
-    } in
+    let fits = each_fits p.program ok.0.ccws in
+    let one : GoodWords p.program = record { words = few_words p.program ok.0.program; counts = λ i. (fits i).0; gives = λ i. (fits i).1 } in
     good_all devices d (plan_added d plans p) ps
     (good_if (p.device == d) plans (with_program plans p.path p.program) h
     (λ j. good_set plans (p.path - 1) j (plan_of plans p.path ++ p.program ∷ []) (good_more (plan_of plans p.path) p.program (h (p.path - 1)) one) (h j)))
@@ -101,26 +91,8 @@ module _ (ccws : List Ccw) (good : GoodWords ccws) where
   among (c ∷ l) zero is = omega arith
   among (c ∷ l) (suc i) is = let less = among l i is in omega (arith, less)
 
-  target_small : (i : ℕ) → i < 65536 → target ccws i < 65536
-  target_small i less = grind arith
-
-  next_small : (i : ℕ) (modified : Bool) (j : ℕ) → next_ccw ccws i modified ≡ Some j → j < 65536
-  next_small i modified j = by_test (is_chained (ccw_at ccws i)) refl modified where
-    further : (k : ℕ) → k ≤ 2 → i < length ccws → length ccws ≤ 256 → i + k < 65536
-    further k few less most = omega (arith, few, less, most)
-
-    by_test : (b : Bool) → is_chained (ccw_at ccws i) ≡ b → (m : Bool) → (if b then Some (target ccws (i + (if m then 2 else 1))) else None) ≡ Some j →
-        j < 65536
-    by_test true is true some =
-        let same : target ccws (i + 2) ≡ j = cc in
-        subst (λ (n : ℕ). n < 65536) same (target_small (i + 2) (further 2 (omega arith) (among ccws i is) good.words))
-    by_test true is false some =
-        let same : target ccws (i + 1) ≡ j = cc in
-        subst (λ (n : ℕ). n < 65536) same (target_small (i + 1) (further 1 (omega arith) (among ccws i is) good.words))
-    by_test false is m some = absurd (cc)
-
   goes_small : (i : ℕ) (o : Outcome) (j : ℕ) → goes_to ccws i o ≡ Some j → j < 65536
-  goes_small i o j x4 = grind (arith, next_small)
+  goes_small i o j x4 = grind (arith, among)
 
   module _ (path : ℕ) (acts : List Acted) (state : PlainState) where
     more_small : (p : Part) (n : Option ℕ) → p.next ≡ n → (j : ℕ) → (one_more path ccws acts p).next ≡ Some j → j < 65536

@@ -1,48 +1,27 @@
 -- A track that becomes loose or firm in a plain device's history is one of the device's.
-use Rattle.std.proofs.Common.{◌≡◌, ◌≤◌, ◌<◌, ◌+◌, ◌*◌, ◌==◌, ◌++◌, zero, suc, ℕ, Bool, true, false, List, [], ◌∷◌, length, Option, Some, None, cond, refl, sym, ap, subst, ◌∙◌, inl, inr, arith}
-use Rattle.std.specs.Prelude.{◌⊎◌, IfSome, IsSome, not}
-use Rattle.std.proofs.lemmas.Bool.{cases_lt, eq-eqb, eqb-true}
+use Rattle.std.proofs.Common.{◌≡◌, ◌≤◌, ◌<◌, ◌+◌, ◌*◌, ◌++◌, zero, suc, ℕ, Bool, true, List, [], ◌∷◌, length, Option, Some, None, cond, refl, sym, ap, subst, ◌∙◌, arith}
+use Rattle.std.specs.Prelude.{◌⊎◌, IfSome, IsSome}
+use Rattle.std.proofs.lemmas.Bool.{cases_lt, eq-eqb}
 use Rattle.ckd_types.specs.declared.channel.Ccw.{Ccw}
-use Rattle.ckd_types.specs.declared.geometry.Geometry.{Geometry}
-use Rattle.ckd_types.specs.declared.record.Track.{Track}
-use Rattle.ckd_types.specs.Ccw.{ccw_at}
-use Rattle.ckd_types.specs.Fixed.{Fixed}
-use Rattle.ckd_rules.specs.declared.grouping.GroupFault.{GroupFault}
-use Rattle.ckd_rules.specs.declared.opening.Opening.{Opening}
-use Rattle.ckd_rules.specs.declared.opening.Opening.TheVariants as openings
-use Rattle.ckd_rules.specs.declared.order.LocalAct.{LocalAct}
-use Rattle.ckd_rules.specs.declared.order.LocalAct.TheVariants as acts
-use Rattle.ckd_rules.specs.declared.order.Look.{Look}
-use Rattle.ckd_rules.specs.declared.stance.Stance.{Stance}
-use Rattle.ckd_rules.specs.declared.turned.Turned.{Turned}
-use Rattle.ckd_rules.specs.declared.turned.Turned.TheVariants as turns
-use Rattle.ckd_rules.specs.Look.{look_on}
-use Rattle.ckd_rules.specs.Opening.{opening_of}
-use Rattle.ckd_rules.specs.Walk as W
-use Rattle.ckd_rules.specs.Walk.{TrackEdit, Walked, walk, walked}
+use Rattle.ckd_rules.specs.Walk.{TrackEdit}
 use Rattle.deck_text.proofs.DeckAgain.{Each}
 use Rattle.plain_defs.specs.declared.journal.Act.{Act}
 use Rattle.plain_defs.specs.declared.journal.Act.TheVariants.{CfwLost, Harden, Loosen}
 use Rattle.plain_defs.specs.declared.journal.Acted.{Acted}
 use Rattle.plain_defs.specs.declared.journal.How.{How}
-use Rattle.plain_defs.specs.declared.journal.How.TheVariants as hows
 use Rattle.plain_defs.specs.declared.journal.Item.{Item}
 use Rattle.plain_defs.specs.declared.journal.Item.TheVariants as items
-use Rattle.plain_defs.specs.Acts.{act_fault, act_outcome}
-use Rattle.plain_defs.specs.Effect.{Effect, acted_by, effect_by, effect_on}
 use Rattle.plain_defs.specs.Entry.{ProgramEntry}
 use Rattle.plain_defs.specs.History.{History, IsOpen, IsPlain, OpenEntry}
 use Rattle.plain_defs.specs.Journal.{Plans, effects_of, program_of, replay, replay_item}
-use Rattle.plain_defs.specs.Legal.{AreActs, AreInOrder, HasActs, HasEnds, IsLegalFrom, IsLegalItem, acts_stop, bare_part, edit_at, next_edit, track_of}
-use Rattle.plain_defs.specs.Loose.{act_done, is_loose_in, lost_by_power, without}
-use Rattle.plain_defs.specs.PlainState.{LooseTrack, PathsState, PlainState}
-use Rattle.plain_defs.specs.Program as G
-use Rattle.plain_defs.specs.Program.{Part, acts_made, acted_at, acts_at, acts_done, first_part, part_of, command_run, stepped_at}
+use Rattle.plain_defs.specs.Legal.{AreActs, AreInOrder, HasActs, HasEnds, IsLegalFrom, IsLegalItem, acts_stop, bare_part, next_edit, track_of}
+use Rattle.plain_defs.specs.Loose.{act_done, is_loose_in, without}
+use Rattle.plain_defs.specs.PlainState.{LooseTrack, PlainState}
+use Rattle.plain_defs.specs.Program.{Part, acted_at, acts_at, acts_done, part_of}
 use Rattle.plain_defs.proofs.PartLemmas.{acted_beside, part_counts}
-use Rattle.device_laws.proofs.ChainTracks.{whole_cylinders}
 use Rattle.device_laws.proofs.OpenProgram.{part_is_acted, with_acts_state}
 use Rattle.subsystem_defs.specs.Beside.{acts_in, acts_of_entry, acts_of_item, acts_of_items, acts_running, behind_first}
-use Rattle.subsystem_laws.proofs.StancePlaces.{On, Opens, SeeksOn, look_leaves_on, opening_is_on}
+use Rattle.run_audit_laws.proofs.Enough.{edit_on}
 
 each_append : {X : Type 0} (P : X → Type 0) (xs ys : List X) → Each P xs → Each P ys → Each P (xs ++ ys)
 each_append P [] ys a b = b
@@ -56,41 +35,6 @@ each_behind P (suc n) (x ∷ xs) a = each_behind P n xs a.1
 module _ (k : ℕ) (some : 0 < k) where
   abbrev n : ℕ
   n = k * 15
-
-  -- A command
-
-  record EditsOn (stance : Stance) (edit : Option TrackEdit) : Type 0 where
-    at : On n stance
-    edited : IfSome edit (λ e. e.track < n)
-
-  abbrev WalksOn : Walked → Type 0
-  WalksOn w = EditsOn w.outcome.stance w.edit
-
-  turned_on : (t : ℕ) → t < n → (on : Stance → Walked) (z : Stance) (turned : Turned) → On n z → WalksOn (on z) → WalksOn (walked t on z turned)
-  turned_on t lt on z turned f rest = search arith
-
-  walk_on : (m : ℕ) (g : Geometry) (tracks : ℕ → Track) (start : Stance) (c : Ccw) (look : Look) (s : Stance) → On n start → SeeksOn n look → On n s →
-      WalksOn (walk m g tracks start c look s)
-  unfolding W.walk
-  walk_on zero g tracks start c look s first seek on = record { at = record { track = first.track; extent = first.extent }; edited = tt }
-  walk_on (suc m) g tracks start c look s first seek on = grind (arith, walk_on m g tracks start c look, look_leaves_on, whole_cylinders, turned_on)
-
-  abbrev HasEdit : Effect → Type 0
-  HasEdit e = EditsOn e.outcome.stance e.edit
-
-  outcome_on : (s : Stance) (c : Ccw) (bytes : List ℕ) (act : LocalAct) → On n s → On n (act_outcome s c bytes act).stance
-  outcome_on s c bytes act on = search arith
-
-  acted_edits : (f : Fixed) (paths : PathsState) (path : ℕ) (s : Stance) (c : Ccw) (act : LocalAct) (o : Option GroupFault) → On n s →
-      HasEdit (acted_by f paths path s c act o)
-  acted_edits f paths path s c act o on = search (arith, outcome_on)
-
-  by_opening : (f : Fixed) (paths : PathsState) (tracks : ℕ → Track) (path : ℕ) (start : Stance) (c : Ccw) (z : Stance) (o : Opening) → On n start →
-      Opens n z o → HasEdit (effect_by f paths tracks path start c z o)
-  by_opening f paths tracks path start c z o first on = search (arith, walk_on, acted_edits)
-
-  effect_edits : (f : Fixed) → f.cylinders ≡ k → (state : PlainState) (path : ℕ) (s : Stance) (c : Ccw) → On n s → HasEdit (effect_on f state path s c)
-  effect_edits f same state path s c on = grind (arith, by_opening, opening_is_on)
 
   -- Acts
 
@@ -128,25 +72,7 @@ module _ (k : ℕ) (some : 0 < k) where
 
   -- A program
 
-  record PlaceOn (p : Part) : Type 0 where
-    fixed : p.fixed.cylinders ≡ k
-    at : On n p.stance
-
   module _ (state : PlainState) (on : StateOn state) (path : ℕ) (ccws : List Ccw) (acts : List Acted) where
-    beside_place : (p : Part) → PlaceOn p → PlaceOn (acts_made acts p)
-    beside_place p f = let b = acted_beside acts p in record { fixed = ap (λ (x : Fixed). x.cylinders) b.fixed ∙ f.fixed; at = rw b.stance f.at }
-
-    stepped_place : (p : Part) (next : Option ℕ) → PlaceOn p → PlaceOn (stepped_at path ccws p next)
-    stepped_place p next f = search (arith, effect_edits)
-
-    part_place : (j : ℕ) → PlaceOn (part_of state path ccws acts j)
-    unfolding G.part_of
-    part_place zero = beside_place (first_part state path ccws) (search arith)
-    part_place (suc j) = let p = part_of state path ccws acts j in beside_place (command_run path ccws p) (stepped_place p p.next (part_place j))
-
-    edit_on : (p : Part) (next : Option ℕ) → PlaceOn p → IfSome (edit_at path ccws p next) (λ e. e.track < n)
-    edit_on p next f = grind (arith, effect_edits)
-
     tracked : (o : Option TrackEdit) → IfSome o (λ e. e.track < n) → IfSome (track_of o) (λ t. t < n)
     tracked o lt = grind arith
 
@@ -174,21 +100,16 @@ module _ (k : ℕ) (some : 0 < k) where
             (subst (λ (m : ℕ). StateOn (acts_done b.state (acts_at acts m))) (sym many)
             (acts_on (acts_at acts j) b.state a.edited s a.below a.are).state)
 
-    stepped_state : (p : Part) (next : Option ℕ) → StateOn p.state → StateOn (stepped_at path ccws p next).state
-    stepped_state p next s = search arith
-
     bare_state : (j : ℕ) → ((i : ℕ) → i < j → ActsAt i) → StateOn (bare_part state path ccws acts j).state
     bare_state zero a = record { cylinders = on.cylinders; loose = on.loose }
-    bare_state (suc j) a = grind (arith, bare_state j, stepped_state, part_state)
+    bare_state (suc j) a = grind (arith, bare_state j, part_state)
 
     module _ (m : ℕ) (h : HasActs state path ccws acts m) where
       acts_below : (j : ℕ) → j < m → ActsAt j
       acts_below j lt =
-          let p = part_of state path ccws acts j in record {
-            edited = track_of (next_edit path ccws p);
-            below = tracked (next_edit path ccws p) (edit_on p p.next (part_place j));
-            are = (h.points j lt).acts_are;
-          }
+          let edit = next_edit path ccws (part_of state path ccws acts j) in
+          let below = tracked edit (edit_on k some state on.cylinders path ccws acts j) in
+          record { edited = track_of edit; below = below; are = (h.points j lt).acts_are }
 
       last_acts : ActsAt m
       last_acts = record { edited = None; below = tt; are = h.last }
@@ -223,9 +144,6 @@ module _ (k : ℕ) (some : 0 < k) where
     few_stops : (s : PlainState) (e : ProgramEntry) (how : How) → HasEnds plans s e how → acts_stop how e.ends ≤ suc (effects_of how e.ends)
     few_stops s e how h = grind arith
 
-    power_on : (s : PlainState) (l : List LooseTrack) → StateOn s → StateOn (lost_by_power s l)
-    power_on s l on = search arith
-
     item_on : (s : PlainState) (earlier : List Item) (x : Item) (later : List Item) → StateOn s → IsLegalItem plans s earlier x later →
         ActsOn (acts_of_item x) (replay_item plans s x)
     item_on s earlier (items.Program e) later on l =
@@ -239,7 +157,7 @@ module _ (k : ℕ) (some : 0 < k) where
     item_on s earlier (items.Reset path) later on l = record { each = tt; state = record { cylinders = on.cylinders; loose = on.loose } }
     item_on s earlier items.Fresh later on l = record { each = tt; state = record { cylinders = on.cylinders; loose = tt } }
     item_on s earlier (items.Act act) later on l = acts_on (act ∷ []) s None on tt l
-    item_on s earlier items.Power later on l = search (arith, power_on)
+    item_on s earlier items.Power later on l = search arith
 
     items_on : (s : PlainState) (earlier xs : List Item) → StateOn s → IsLegalFrom plans s earlier xs → ActsOn (acts_of_items xs) (replay plans s xs)
     items_on s earlier [] on l = record { each = tt; state = on }

@@ -1,5 +1,5 @@
 -- Index, status, residual, the bytes that are sent, and sense of a command's end are in their ranges, whatever event of a device ends it.
-use Rattle.std.proofs.Common.{◌≡◌, ◌<◌, ℕ, List, [], length, Option, Some, None, refl, sym, ap, subst, ◌∙◌, inl, inr, arith}
+use Rattle.std.proofs.Common.{◌≡◌, ◌<◌, ℕ, List, length, Option, Some, None, refl, sym, ap, subst, ◌∙◌, inl, inr, arith}
 use Rattle.std.specs.Prelude.{IfSome}
 use Rattle.hex.specs.Hex.{IsBytes}
 use Rattle.ckd_types.specs.declared.channel.Ccw.{Ccw}
@@ -82,21 +82,16 @@ rule_in : (i : ℕ) (f : Fixed) (state : PlainState) (path : ℕ) (s : Stance) (
     EndIn (end_at_word i c (effect_on f state path s c).outcome)
 rule_in i f state path s c index few gives keeps =
     by_fits (effect_on f state path s c).outcome (command_sends f state path s c gives keeps) (outcome_fits f state path s c) where
+      residual_by : (o : Outcome) → WalkFits c o → o.ending.residual < 65536
+      residual_by o (inl h) = fits_residual c o.ending o.ending.sense few h
+      residual_by o (inr h) = subst (λ (n : ℕ). n < 65536) (sym h.2) few
+
+      status_by : (o : Outcome) → WalkFits c o → o.ending.status.0 < 256
+      status_by o (inl h) = fits_status c o.ending o.ending.sense h
+      status_by o (inr h) = check_in o.ending.status h.1
+
       by_fits : (o : Outcome) → IsBytes o.ending.sent → WalkFits c o → EndIn (end_at_word i c o)
-      by_fits o sent (inl h) = record {
-        index = index;
-        residual = fits_residual c o.ending o.ending.sense few h;
-        status = fits_status c o.ending o.ending.sense h;
-        sent = sent;
-        sense = walk_sense c o (inl h);
-      }
-      by_fits o sent (inr h) = record {
-        index = index;
-        residual = subst (λ (n : ℕ). n < 65536) (sym h.2) few;
-        status = check_in o.ending.status h.1;
-        sent = sent;
-        sense = walk_sense c o (inr h);
-      }
+      by_fits o sent h = record { index = index; residual = residual_by o h; status = status_by o h; sent = sent; sense = walk_sense c o h }
 
 plain_in : (path : ℕ) (ccws : List Ccw) (p : Part) (next : Option ℕ) (e : CommandEnd) → GoodWords ccws → KeepsBytes p.state →
     ((j : ℕ) → next ≡ Some j → j < 65536) → plain_end_at path ccws p next ≡ Some e → EndIn e

@@ -1,21 +1,19 @@
 -- What a start and each order of a run answer is in its range.
-use Rattle.std.proofs.Common.{◌≡◌, ◌≤◌, ◌<◌, ◌+◌, ◌-◌, ◌*◌, ◌==◌, ℕ, Bool, true, false, List, [], ◌∷◌, length, map, Option, Some, None, is_some, refl, sym, subst, if◌then◌else◌, arith}
-use Rattle.std.specs.Prelude.{◌&&◌, All, IfSome, not}
+use Rattle.std.proofs.Common.{◌≡◌, ◌≤◌, ◌<◌, ◌+◌, ◌-◌, ◌*◌, ◌==◌, ℕ, Bool, true, false, List, [], ◌∷◌, length, map, Option, Some, None, is_some, refl, if◌then◌else◌, arith}
+use Rattle.std.specs.Prelude.{All, IfSome, not}
 use Rattle.std.proofs.lemmas.Bool.{eqb-false}
 use Rattle.std.proofs.lemmas.List.Elements.{All-head, All-tail}
 use Rattle.ckd_types.specs.declared.paths.Owner.{Owner}
 use Rattle.ckd_types.specs.declared.paths.Side.{Side}
 use Rattle.loss_model.specs.declared.Loss.TheVariants as losses
-use Rattle.plain_defs.specs.History.{IsOpen, OpenEntry, is_path_of}
-use Rattle.plain_defs.specs.Journal.{planned, replay}
+use Rattle.plain_defs.specs.History.{OpenEntry}
+use Rattle.plain_defs.specs.Journal.{planned}
 use Rattle.track_table.proofs.Counts.{few_marked}
-use Rattle.device_outside.specs.Interaction.{Ask, Done, Read, Tell, Try, Write, and_then}
-use Rattle.device_outside.specs.Keeper.{reply}
-use Rattle.device_outside.specs.Pool.{Pool, after, answer, cache_failed, store_failed}
+use Rattle.device_outside.specs.Interaction.{Done, and_then}
+use Rattle.device_outside.specs.Pool.{Pool, cache_failed, store_failed}
 use Rattle.device_outside.specs.Told as T
 use Rattle.device_outside.specs.Told.{Told, calls_of, told_read, read_fails, told_write, write_fails}
 use Rattle.device_defs.specs.declared.answers.StartFault.{StartFault}
-use Rattle.device_defs.specs.declared.answers.StartFault.TheVariants as refusals
 use Rattle.device_defs.specs.Contents.{by_plain}
 use Rattle.device_defs.specs.declared.answers.Did.{Did as BackDid}
 use Rattle.device_defs.specs.Command.{command}
@@ -24,7 +22,7 @@ use Rattle.device_defs.specs.Marks.{MarksDevice}
 use Rattle.device_defs.specs.Orders.{hold_side, resume}
 use Rattle.device_defs.specs.Start as S
 use Rattle.device_defs.specs.Start.{fault_by, idle_fault, is_shut, keeps_out, left, next_ordinal, reserved_fault, running_fault, start, start_fault, started_count}
-use Rattle.device_defs.specs.Store.{HalfWrite, side_of, stale_at, tracks_of}
+use Rattle.device_defs.specs.Store.{HalfWrite}
 use Rattle.device_laws.proofs.Had.{Had, had_done, had_then, held}
 use Rattle.device_laws.proofs.HistoryTold.{background_told}
 use Rattle.device_laws.proofs.PlainEvents.{had_always}
@@ -42,10 +40,10 @@ use Rattle.subsystem_defs.specs.Happening as H
 use Rattle.subsystem_defs.specs.Happening.{MarksDeed, Talk, asks, happens, happens_by, replaced, replaced_at, replaced_by, unpaired, unpaired_at, unpaired_by}
 use Rattle.subsystem_defs.specs.Happening.{told_end}
 use Rattle.subsystem_defs.specs.Lines.{Asked, Logged, Once, Replace, Run, Settle, Unpair}
-use Rattle.subsystem_defs.specs.Promised.{empty_of}
 use Rattle.subsystem_defs.specs.Refusals as R
 use Rattle.subsystem_defs.specs.Refusals.{active_by, fail_fault, first_cause, has_side, is_alike, lent_by, not_level_by, pair_fault, replace_fault, resume_fault, stale_count, suspend_fault, unpair_fault, where_so}
 use Rattle.subsystem_defs.specs.Subsystem.{Mounted, Subsystem, devices_of, mounted_in, unfailing}
+use Rattle.subsystem_laws.proofs.HadAnswers.{any_had}
 use Rattle.subsystem_laws.proofs.RunLines.{AnyEvent, Goes}
 use Rattle.run_audit_laws.proofs.RangedCommands.{EventIn, command_in, second_in}
 use Rattle.run_audit_laws.proofs.RangedDevices.{Ranged, device_ranged, few_programs}
@@ -62,26 +60,11 @@ module _ (P : EventEnd → Type 0) (done : P ends.Done) (idle : P ends.Idle) whe
   Fine (Repairs pool) = Unit {0}
   Fine (Lends x y) = Unit {0}
 
-  asks_fine : (s : Subsystem) (n : ℕ) (o : Option Mounted) (talk : Talk (Option EventEnd)) →
-      ((t : Told) → P (told_end (T.hold true talk t).answer)) → P (asks s n o talk).end
-  asks_fine s n o talk h = grind arith
-
   pub fine_end : (s : Subsystem) (x : MarksDeed) → Fine x → P (happens_by s x).end
-  fine_end s x h = grind (arith, asks_fine)
+  fine_end s x h = grind arith
 
   pub on_fine : (o : Option MarksDevice) (f : MarksDevice → MarksDeed) → IfSome o Ranged → ((d : MarksDevice) → Ranged d → Fine (f d)) → Fine (on_device o f)
   on_fine o f r h = grind arith
-
--- memory is had: an answer is handed on
-handed_on : {X : Type 0} (i : Talk X) (f : X → EventEnd) (t : Told) →
-    (T.hold true (and_then i (λ d a. Done d (Some (f a)))) t).answer ≡ Some (f (T.hold true i t).answer)
-unfolding T.hold
-handed_on (Done s a) f t = refl
-handed_on (Try k) f t = handed_on (k true) f t
-handed_on (Ask call k) f t = handed_on (k (answer t.pool call)) f (record t { pool = after t.pool call (answer t.pool call) })
-handed_on (Read side q k) f t = handed_on (k (if read_fails (calls_of t side) then None else Some true)) f (told_read t side)
-handed_on (Write side q r k) f t = handed_on (k (if write_fails (calls_of t side) then false else true)) f (told_write t side)
-handed_on (Tell m k) f t = handed_on (k (reply m)) f t
 
 -- Orders
 
@@ -110,23 +93,16 @@ first_then o h rest = search arith
 where_first : {l : List (Option OrderFault)} (b : Bool) (f : OrderFault) → FaultIn f → FirstIn l → FirstIn (where_so b f ∷ l)
 where_first b f h rest = first_then (where_so b f) (where_in b f h) rest
 
-lent_in : (o : Option ℕ) → IfSome o (λ n. n < 16) → CauseIn (lent_by o)
-lent_in o h = grind arith
-
-active_in : (d : MarksDevice) → Ranged d → (r : Option OpenEntry) → IfSome r (IsOpen d.plans (replay d.plans (empty_of d) d.history.items) d.history.items) →
-    CauseIn (active_by r)
-active_in d k r h = search arith
-
 level_in : (n k : ℕ) → k ≤ 64 → n ≤ k * 15 → CauseIn (not_level_by n)
 level_in n k most few = where_in (not (n == 0)) (faults.NotLevel n) (omega (arith, most, few))
 
 pair_in : (x y : MarksDevice) → Ranged x → Ranged y → CauseIn (pair_fault x y)
 unfolding R.pair_fault
-pair_in x y r s = grind (arith, where_first, first_then, lent_in, active_in, none_first)
+pair_in x y r s = grind (arith, where_first, first_then, none_first)
 
 unpair_in : (x : MarksDevice) → Ranged x → CauseIn (unpair_fault x)
 unfolding R.unpair_fault
-unpair_in x r = grind (arith, where_first, first_then, active_in, is_some, level_in, few_marked, none_first)
+unpair_in x r = grind (arith, where_first, first_then, is_some, level_in, few_marked, none_first)
 
 suspend_in : (x : MarksDevice) → CauseIn (suspend_fault x)
 unfolding R.suspend_fault
@@ -138,11 +114,11 @@ resume_in x = (where_first (not x.store.paired) faults.Unpaired tt (where_first 
 
 fail_in : (x : MarksDevice) (side : Side) → Ranged x → CauseIn (fail_fault x side)
 unfolding R.fail_fault
-fail_in x side r = grind (arith, first_then, lent_in, where_first, none_first)
+fail_in x side r = grind (arith, first_then, where_first, none_first)
 
 replace_in : (x : MarksDevice) (side : Side) → Ranged x → CauseIn (replace_fault x side)
 unfolding R.replace_fault
-replace_in x side r = grind (arith, first_then, lent_in, where_first, is_some, none_first)
+replace_in x side r = grind (arith, first_then, where_first, is_some, none_first)
 
 abbrev FineOrder : MarksDeed → Type 0
 FineOrder x = Fine OrderIn tt tt x
@@ -152,7 +128,11 @@ ordered o x h k = grind arith
 
 lost_in : (d : MarksDevice) (side : Side) (t : Told) →
     OrderIn (told_end (T.hold true (and_then (lose by_plain d (losses.Side side)) (λ z a. Done z (Some (ends_done a)))) t).answer)
-lost_in d side t = rw (handed_on (lose by_plain d (losses.Side side)) ends_done t) tt
+lost_in d side t =
+    let had : Had (and_then (lose by_plain d (losses.Side side)) (λ z a. Done z (Some (ends_done a)))) (λ (y : MarksDevice) o. OrderIn (told_end o))
+    = had_then (any_had (lose by_plain d (losses.Side side))) (λ z a _. had_done tt)
+    in
+    held true had t
 
 down_in : (b : Bool) (pool : Pool) (f : MarksDevice → Talk (Unit {0})) → FineOrder (E.order_if_not b faults.Down (Sweeps pool f))
 down_in b pool f = grind arith
@@ -172,15 +152,8 @@ module _ (d : MarksDevice) (k : Ranged d) (path : ℕ) where
   reserved_in : (o : Option Owner) → IfSome o IsOwner → Refused (reserved_fault d o)
   reserved_in o h = grind arith
 
-  idle_in : Refused (idle_fault d path)
-  idle_in = grind (arith, reserved_in)
-
-  running_in : (r : Option OpenEntry) → IfSome r (IsOpen d.plans (replay d.plans (empty_of d) d.history.items) d.history.items) →
-      Refused (running_fault d path r)
-  running_in r h = search (arith, idle_in)
-
   lent_start : (o : Option ℕ) → IfSome o (λ n. n < 16) → Refused (fault_by d path o)
-  lent_start o h = grind (arith, running_in)
+  lent_start o h = grind (arith, reserved_in)
 
   fault_in : Refused (start_fault d path)
   unfolding S.start_fault
@@ -189,25 +162,15 @@ module _ (d : MarksDevice) (k : Ranged d) (path : ℕ) where
   some_left : (n m : ℕ) → (n - m ≡ 0 → ⊥) → m + 1 ≤ n
   some_left n m apart = omega (arith, apart)
 
-  left_if : (b : Bool) → (left d path == 0) ≡ b → (if b then Some refusals.PlanDone else if keeps_out d path then reserved_fault d d.paths.owner else None) ≡ None →
-      next_ordinal d path ≤ length (planned d.plans path)
-  left_if b is none = grind (arith, some_left, eqb-false)
-
-  running_left : (r : Option OpenEntry) → running_fault d path r ≡ None → next_ordinal d path ≤ length (planned d.plans path)
-  running_left r none = grind (arith, left_if)
-
   lent_left : (o : Option ℕ) → fault_by d path o ≡ None → next_ordinal d path ≤ length (planned d.plans path)
-  lent_left o none = grind (arith, running_left)
+  lent_left o none = grind (arith, some_left, eqb-false)
 
   planned_next : start_fault d path ≡ None → next_ordinal d path ≤ length (planned d.plans path)
   unfolding S.start_fault
   planned_next none = lent_left d.store.lent none
 
-  start_by_in : (o : Option StartFault) → start_fault d path ≡ o → Refused o → FineStart (start_by d path o)
-  start_by_in o is h = grind (arith, few_programs, planned_next)
-
   starts_in : FineStart (starts path d)
-  starts_in = grind (arith, start_by_in, fault_in)
+  starts_in = grind (arith, few_programs, planned_next, fault_in)
 
 -- A piece of work
 
@@ -276,17 +239,20 @@ module _ (s : Subsystem) (all : All Ranged (devices_of s)) where
   there : (n : ℕ) → IfSome (device_in (devices_of s) n) Ranged
   there n = device_ranged (devices_of s) n all
 
+  at_device : (P : EventEnd → Type 0) (done : P ends.Done) (idle : P ends.Idle) (n : ℕ) (f : MarksDevice → MarksDeed) →
+      ((x : MarksDevice) → Ranged x → Fine P done idle (f x)) → P (happens_by s (on_device (device_in (devices_of s) n) f)).end
+  at_device P done idle n f h =
+      fine_end P done idle s (on_device (device_in (devices_of s) n) f) (on_fine P done idle (device_in (devices_of s) n) f (there n) h)
+
+  order_at : (n : ℕ) (fault : MarksDevice → Option OrderFault) (y : MarksDevice → MarksDeed) → ((x : MarksDevice) → Ranged x → CauseIn (fault x)) →
+      ((x : MarksDevice) → Ranged x → FineOrder (y x)) → OrderIn (happens_by s (on_device (device_in (devices_of s) n) (λ x. order (fault x) (y x)))).end
+  order_at n fault y causes fine = at_device OrderIn tt tt n (λ x. order (fault x) (y x)) (λ x k. ordered (fault x) (y x) (causes x k) (fine x k))
+
   once_answers : (e : Event) → AnswersOnce e (happens s e).end
   unfolding H.happens E.deed
-  once_answers (events.Start path d) =
-      fine_end StartIn tt tt s (on_device (device_in (devices_of s) d) (starts path))
-      (on_fine StartIn tt tt (device_in (devices_of s) d) (starts path) (there d) (λ x k. starts_in x k path))
-  once_answers (events.Step d) =
-      fine_end PieceIn nothing_in nothing_in s (on_device (device_in (devices_of s) d) (E.step by_plain))
-      (on_fine PieceIn nothing_in nothing_in (device_in (devices_of s) d) (E.step by_plain) (there d) steps_in)
-  once_answers (events.Back d) =
-      fine_end PieceIn nothing_in nothing_in s (on_device (device_in (devices_of s) d) (E.back by_plain))
-      (on_fine PieceIn nothing_in nothing_in (device_in (devices_of s) d) (E.back by_plain) (there d) backs_in)
+  once_answers (events.Start path d) = at_device StartIn tt tt d (starts path) (λ x k. starts_in x k path)
+  once_answers (events.Step d) = at_device PieceIn nothing_in nothing_in d (E.step by_plain) steps_in
+  once_answers (events.Back d) = at_device PieceIn nothing_in nothing_in d (E.back by_plain) backs_in
   once_answers (events.Reset path d) = tt
   once_answers events.FailCache =
       fine_end OrderIn tt tt s (E.order_if_not (not s.pool.cache_up) faults.Down (Sweeps (cache_failed s.pool) (λ x. lose by_plain x losses.Cache)))
@@ -295,26 +261,15 @@ module _ (s : Subsystem) (all : All Ranged (devices_of s)) where
       fine_end OrderIn tt tt s (E.order_if_not (not s.pool.store_up) faults.Down (Sweeps (store_failed s.pool) (λ x. lose by_plain x losses.Store)))
       (down_in (not s.pool.store_up) (store_failed s.pool) (λ x. lose by_plain x losses.Store))
   once_answers (events.FailVolume d side) =
-      let f = λ (x : MarksDevice). order (fail_fault x side) (Asks x (E.ends_by ends_done (lose by_plain x (losses.Side side)))) in
-      fine_end OrderIn tt tt s (on_device (device_in (devices_of s) d) f)
-      (on_fine OrderIn tt tt (device_in (devices_of s) d) f (there d) (λ x k. ordered (fail_fault x side)
-      (Asks x (E.ends_by ends_done (lose by_plain x (losses.Side side)))) (fail_in x side k) (lost_in x side)))
+      order_at d (λ x. fail_fault x side) (λ x. Asks x (E.ends_by ends_done (lose by_plain x (losses.Side side)))) (λ x k. fail_in x side k) (λ x k. lost_in x side)
   once_answers events.RepairCache = tt
   once_answers events.RepairStore = tt
   once_answers (events.Pair a b) =
       let g = λ (x y : MarksDevice). order (pair_fault x y) (Lends x y) in
-      let f = λ (x : MarksDevice). on_device (device_in (devices_of s) b) (g x) in
-      fine_end OrderIn tt tt s (on_device (device_in (devices_of s) a) f)
-      (on_fine OrderIn tt tt (device_in (devices_of s) a) f (there a) (λ x k. on_fine OrderIn tt tt (device_in (devices_of s) b) (g x) (there b)
-      (λ y l. ordered (pair_fault x y) (Lends x y) (pair_in x y k l) tt)))
-  once_answers (events.Suspend a) =
-      let f = λ (x : MarksDevice). order (suspend_fault x) (Becomes (hold_side x) ends.Done) in
-      fine_end OrderIn tt tt s (on_device (device_in (devices_of s) a) f)
-      (on_fine OrderIn tt tt (device_in (devices_of s) a) f (there a) (λ x k. ordered (suspend_fault x) (Becomes (hold_side x) ends.Done) (suspend_in x) tt))
-  once_answers (events.Resume a) =
-      let f = λ (x : MarksDevice). order (resume_fault x) (Becomes (resume x) ends.Done) in
-      fine_end OrderIn tt tt s (on_device (device_in (devices_of s) a) f)
-      (on_fine OrderIn tt tt (device_in (devices_of s) a) f (there a) (λ x k. ordered (resume_fault x) (Becomes (resume x) ends.Done) (resume_in x) tt))
+      at_device OrderIn tt tt a (λ x. on_device (device_in (devices_of s) b) (g x))
+      (λ x k. on_fine OrderIn tt tt (device_in (devices_of s) b) (g x) (there b) (λ y l. ordered (pair_fault x y) (Lends x y) (pair_in x y k l) tt))
+  once_answers (events.Suspend a) = order_at a suspend_fault (λ x. Becomes (hold_side x) ends.Done) (λ x k. suspend_in x) (λ x k. tt)
+  once_answers (events.Resume a) = order_at a resume_fault (λ x. Becomes (resume x) ends.Done) (λ x k. resume_in x) (λ x k. tt)
   once_answers events.Power = tt
 
   mounted_ranged : (ms : List Mounted) (n : ℕ) → All Ranged (map (λ (m : Mounted). m.device) ms) → IfSome (mounted_in ms n) (λ m. Ranged m.device)

@@ -1,52 +1,42 @@
 -- The paths and devices that the lines of an event name are in their ranges.
-use Rattle.std.proofs.Common.{◌≤◌, ◌==◌, ◌++◌, zero, suc, ℕ, Bool, true, false, List, [], ◌∷◌, length, map, Option, Some, None, refl, if◌then◌else◌, arith}
-use Rattle.std.specs.Prelude.{◌&&◌, not, All, IfSome, option_map}
-use Rattle.std.proofs.lemmas.List.Elements.{All-append, All-cons, All-head, All-nil, All-tail}
+use Rattle.std.proofs.Common.{◌≤◌, ◌++◌, zero, suc, ℕ, List, [], ◌∷◌, length, map, Option, refl, arith}
+use Rattle.std.specs.Prelude.{All, IfSome}
+use Rattle.std.proofs.lemmas.List.Elements.{All-append, All-cons, All-nil}
 use Rattle.ckd_types.specs.declared.channel.CommandEnd.{CommandEnd}
 use Rattle.ckd_types.specs.declared.sense.Sense.{Sense}
 use Rattle.hex.specs.Hex.{IsBytes}
 use Rattle.deck_text.proofs.DeckAgain.{Each}
 use Rattle.plain_defs.specs.declared.journal.Act.{Act}
-use Rattle.plain_defs.specs.declared.journal.Act.TheVariants.{CfwLost, Harden, Loosen}
-use Rattle.plain_defs.specs.declared.journal.How.{How}
-use Rattle.plain_defs.specs.declared.journal.How.TheVariants as hows
 use Rattle.plain_defs.specs.declared.journal.Item.{Item}
 use Rattle.plain_defs.specs.declared.journal.Item.TheVariants as items
-use Rattle.plain_defs.specs.Entry.{ProgramEntry}
-use Rattle.plain_defs.specs.History.{IsOpen, OpenEntry}
-use Rattle.plain_defs.specs.Journal.{Plans, planned, program_of, replay, replay_item}
-use Rattle.plain_defs.specs.Legal.{HasEnds, IsLegalFrom, IsLegalItem}
+use Rattle.plain_defs.specs.Journal.{Plans, planned, replay_item}
+use Rattle.plain_defs.specs.Legal.{IsLegalFrom, IsLegalItem}
 use Rattle.plain_defs.specs.PlainState.{PlainState}
-use Rattle.device_defs.specs.declared.answers.SecondEnd.TheVariants as seconds
-use Rattle.device_defs.specs.declared.answers.Stepped.TheVariants as stepped
 use Rattle.device_defs.specs.Marks.{MarksDevice}
-use Rattle.report_text.specs.declared.answers.BackAnswer.TheVariants as back
 use Rattle.report_text.specs.declared.event.Happened as report
 use Rattle.report_text.specs.declared.event.Happened.TheVariants as did
 use Rattle.report_text.specs.declared.line.ReportLine.{ReportLine}
 use Rattle.report_text.specs.declared.line.ReportLine.TheVariants as lines
-use Rattle.report_text.specs.declared.order.Order.TheVariants as orders
 use Rattle.report_text.specs.Ends.{data_lines, end_line, sense_lines}
-use Rattle.report_text.specs.Events.{first_lines, io_lines, last_line, line_if, loosed_line, program_over_lines}
+use Rattle.report_text.specs.Events.{first_lines, io_lines, last_line, line_if, loosed_line}
 use Rattle.report_reading.specs.Ranges.{AreBytes, IsAnswer, IsBack, IsDevice, IsLine, IsLong, IsOrder, IsOver, IsPath, IsShort, IsStart, IsTrack}
 use Rattle.run_report.specs.declared.told.RunningProgram.{RunningProgram}
-use Rattle.run_report.specs.Answers.{order_answer}
-use Rattle.run_report.specs.Beside.{how_over, id_of, loose_lines, loosed, of_each, over_lines, over_of, power_lines}
-use Rattle.run_report.specs.Events.{end_told, event_lines, half_told, running_by, running_in, running_program, told, work_lines, work_told}
+use Rattle.run_report.specs.Beside.{how_over, loose_lines, loosed, over_lines}
+use Rattle.run_report.specs.Events.{event_lines, running_by, running_in, told, work_told}
 use Rattle.subsystem_defs.specs.declared.end.EventEnd.{EventEnd}
-use Rattle.subsystem_defs.specs.declared.end.EventEnd.TheVariants as ends
 use Rattle.subsystem_defs.specs.declared.event.Event.{Event}
 use Rattle.subsystem_defs.specs.declared.event.Event.TheVariants as events
-use Rattle.subsystem_defs.specs.Beside.{acts_in, Hardened, LooseTold, Loosened, WentBack, behind_first, has_power, loose_count, loose_told, new_acts, new_items, power_told, told_act}
+use Rattle.subsystem_defs.specs.Beside.{acts_in, Hardened, LooseTold, Loosened, WentBack, behind_first, new_acts, told_act}
 use Rattle.subsystem_defs.specs.Deeds.{device_in}
-use Rattle.subsystem_defs.specs.Lines.{Asked, Once, Replace, Run, Settle, Unpair}
+use Rattle.subsystem_defs.specs.Lines.{Asked, Once}
 use Rattle.subsystem_defs.specs.Promised.{empty_of}
+use Rattle.run_audit_laws.proofs.EachLine.{event_all}
 use Rattle.run_audit_laws.proofs.NamedEvents.{Names}
 use Rattle.run_audit_laws.proofs.RangedActs.{ActOn, each_behind, history_on}
 use Rattle.run_audit_laws.proofs.RangedCommands.{EndIn, EventIn}
 use Rattle.run_audit_laws.proofs.RangedDevices.{Ranged, device_ranged, few_programs}
 use Rattle.run_audit_laws.proofs.RunEnds.{few_of}
-use Rattle.run_audit_laws.proofs.RangedEnds.{Answers, AnswersOnce, OrderIn}
+use Rattle.run_audit_laws.proofs.RangedEnds.{Answers, OrderIn}
 use Rattle.run_audit_laws.proofs.RangedSteps.{WorkIn}
 use Rattle.run_audit_laws.proofs.RangedWork.{track_in_range}
 
@@ -94,22 +84,12 @@ last_known : (h : report.Happened) → HasNames h → All IsLine (line_if (last_
 last_known h n = grind (arith, one)
 
 module _ (d : ℕ) (k : IsDevice d) where
-  end_names : (r : Option RunningProgram) → IfSome r HasPath → (e : CommandEnd) → EndIn e → HasNames (end_told d r e)
-  end_names r p e i = grind arith
-
-  half_names : (r : Option RunningProgram) → IfSome r HasPath → (t : ℕ) → IsTrack t → HasNames (half_told d r t)
-  half_names r p t lt = grind arith
-
   work_names : (r : Option RunningProgram) → IfSome r HasPath → (idle : report.Happened) → HasNames idle → (end : EventEnd) → EventIn end → WorkIn end →
       HasNames (work_told d r idle end)
-  work_names r p idle n end i o = grind (arith, end_names, half_names)
-
-path_of_open : (d : MarksDevice) → Ranged d → (state : PlainState) (xs : List Item) (r : Option OpenEntry) → IfSome r (IsOpen d.plans state xs) →
-    IfSome (option_map running_program r) HasPath
-path_of_open d k state xs r i = search (arith, few_programs)
+  work_names r p idle n end i o = grind arith
 
 running_path : (o : Option MarksDevice) → IfSome o Ranged → IfSome (running_by o) HasPath
-running_path o r = grind (arith, path_of_open)
+running_path o r = grind (arith, few_programs)
 
 abbrev Repairs : Event → EventEnd → Type 0
 Repairs events.RepairCache end = OrderIn end
@@ -125,11 +105,8 @@ module _ (xs : List MarksDevice) (all : All Ranged xs) where
   path_in : (d : ℕ) → IfSome (running_in xs d) HasPath
   path_in d = running_path (device_in xs d) (device_ranged xs d all)
 
-  once_names : (end : EventEnd) (e : Event) → Names (Once e) → AnswersOnce e end → Repairs e end → HasNames (told xs end (Once e))
-  once_names end e n a w = grind (arith, work_names, path_in)
-
   told_names : (end : EventEnd) (asked : Asked) → Names asked → Answers asked end → RepairsIn asked end → HasNames (told xs end asked)
-  told_names end asked n a w = grind (arith, once_names, work_names, path_in)
+  told_names end asked n a w = grind (arith, work_names, path_in)
 
 -- Beside it
 
@@ -139,15 +116,9 @@ TellsIn (Loosened t) = IsTrack t
 TellsIn (Hardened t) = IsTrack t
 TellsIn (WentBack count number) = IsShort count × IsShort number
 
-id_bytes : (n : ℕ) → IsShort n → AreBytes 2 (id_of n)
-id_bytes n short = search arith
-
-one_loosed : (d : ℕ) → IsDevice d → (l : LooseTold) → TellsIn l → IsLine (loosed_line (loosed d l))
-one_loosed d k l i = grind (arith, id_bytes)
-
 loosed_known : (d : ℕ) → IsDevice d → (ls : List LooseTold) → Each TellsIn ls → All IsLine (map loosed_line (map (loosed d) ls))
 loosed_known d k [] i = All-nil IsLine
-loosed_known d k (l ∷ ls) i = grind (arith, loosed_known d k ls i.1, one_loosed)
+loosed_known d k (l ∷ ls) i = grind (arith, loosed_known d k ls i.1)
 
 module _ (x y : MarksDevice) (r : Ranged x) (s : Ranged y) where
   abbrev OnDevice : Act → Type 0
@@ -155,9 +126,6 @@ module _ (x y : MarksDevice) (r : Ranged x) (s : Ranged y) where
 
   act_in : (act : Act) → OnDevice act → TellsIn (told_act x.store y.store act)
   act_in act lt = grind (arith, track_in_range)
-
-  power_in : (lost : Bool) → Each TellsIn (power_told x.store y.store lost)
-  power_in lost = grind arith
 
   acts_told : (acts : List Act) → Each OnDevice acts → (rest : List LooseTold) → Each TellsIn rest →
       Each TellsIn (map (told_act x.store y.store) acts ++ rest)
@@ -170,7 +138,7 @@ module _ (x y : MarksDevice) (r : Ranged x) (s : Ranged y) where
       (history_on y.store.cylinders s.some y.plans (empty_of y) y.history refl refl s.plain)
 
   loose_known : All IsLine (loose_lines x y)
-  loose_known = grind (arith, loosed_known, acts_told, new_on, power_in)
+  loose_known = grind (arith, loosed_known, acts_told, new_on)
 
 abbrev ItemHasPath : Item → Type 0
 ItemHasPath (items.Program e) = IsPath e.path × IsShort e.ordinal × IsOver (how_over e.how)
@@ -178,11 +146,8 @@ ItemHasPath _ = Unit {0}
 
 module _ (plans : Plans) (few : (path : ℕ) → length (planned plans path) ≤ 512) where
   -- a program that ran on behind fewer than 4,096 ends may have the effect of one command more
-  how_in : (state : PlainState) (e : ProgramEntry) (how : How) → HasEnds plans state e how → IsOver (how_over how)
-  how_in state e how h = grind (arith, few_of)
-
   item_path : (state : PlainState) (earlier : List Item) (x : Item) (later : List Item) → IsLegalItem plans state earlier x later → ItemHasPath x
-  item_path state earlier x later l = search (arith, few_programs, how_in)
+  item_path state earlier x later l = search (arith, few_programs, few_of)
 
   item_paths : (state : PlainState) (earlier xs : List Item) → IsLegalFrom plans state earlier xs → Each ItemHasPath xs
   item_paths state earlier [] l = tt
@@ -193,21 +158,8 @@ rest_paths zero xs p = p
 rest_paths (suc n) [] p = tt
 rest_paths (suc n) (x ∷ xs) p = rest_paths n xs p.1
 
-over_known : (d : ℕ) → IsDevice d → (xs : List Item) → Each ItemHasPath xs → All IsLine (program_over_lines (over_of d xs))
-over_known d k xs p = grind (arith, one)
-
 overs_known : (x y : MarksDevice) → Ranged x → Ranged y → All IsLine (over_lines x y)
-overs_known x y r s = grind (arith, over_known, rest_paths, item_paths)
-
-power_known : (x y : MarksDevice) → Ranged x → Ranged y → All IsLine (power_lines x y)
-power_known x y r s = All-append IsLine (over_lines x y) (loose_lines x y) (overs_known x y r s) (loose_known x y r s)
-
-each_known : (f : MarksDevice → MarksDevice → List ReportLine) → ((x y : MarksDevice) → Ranged x → Ranged y → All IsLine (f x y)) →
-    (xs ys : List MarksDevice) → All Ranged xs → All Ranged ys → All IsLine (of_each f xs ys)
-each_known f known (x ∷ xs) (y ∷ ys) r s =
-    All-append IsLine (f x y) (of_each f xs ys) (known x y (All-head Ranged x xs r) (All-head Ranged y ys s))
-    (each_known f known xs ys (All-tail Ranged x xs r) (All-tail Ranged y ys s))
-each_known f known xs ys r s = All-nil IsLine
+overs_known x y r s = grind (arith, one, rest_paths, item_paths)
 
 -- An event
 
@@ -215,22 +167,9 @@ module _ (reads writes : ℕ) (few : IsLong reads × IsLong writes) (xs ys : Lis
   io_known : All IsLine (io_lines reads writes)
   io_known = grind (arith, one)
 
-  work_known : (h : report.Happened) → HasNames h → All IsLine (work_lines h reads writes xs ys)
-  work_known h n =
-      let last = line_if (last_line h) in
-      let overs = of_each over_lines xs ys in
-      let looses = of_each loose_lines xs ys in
-      let io = io_lines reads writes in
-      All-append IsLine (first_lines h) (looses ++ (io ++ (overs ++ last))) (first_known h n)
-      (All-append IsLine looses (io ++ (overs ++ last)) (each_known loose_lines loose_known xs ys before behind)
-      (All-append IsLine io (overs ++ last) io_known
-      (All-append IsLine overs last (each_known over_lines overs_known xs ys before behind) (last_known h n))))
-
   pub event_known : (end : EventEnd) (asked : Asked) → Names asked → Answers asked end → RepairsIn asked end →
       All IsLine (event_lines asked end reads writes xs ys)
-  event_known end asked n a w = by_asked asked (told_names xs before end asked n a w) where
-    by_asked : (asked : Asked) → HasNames (told xs end asked) → All IsLine (event_lines asked end reads writes xs ys)
-    by_asked (Once events.Power) h =
-        All-append IsLine (of_each power_lines xs ys) (lines.Order orders.Power (order_answer end) ∷ []) (each_known power_lines power_known xs ys before behind)
-        (one (lines.Order orders.Power (order_answer end)) h)
-    by_asked asked h = work_known (told xs end asked) h
+  event_known end asked n a w =
+      let h = told_names xs before end asked n a w in
+      event_all IsLine Ranged loose_known overs_known xs ys before behind reads writes io_known end asked (first_known (told xs end asked) h)
+      (last_known (told xs end asked) h)

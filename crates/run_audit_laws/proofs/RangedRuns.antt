@@ -1,43 +1,37 @@
 -- The lines of a whole report are in their ranges.
-use Rattle.std.proofs.Common.{◌≡◌, ◌≤◌, ◌<◌, ◌+◌, ◌*◌, ◌==◌, ◌++◌, zero, suc, ℕ, Bool, true, false, List, [], ◌∷◌, length, map, Option, Some, None, Ok, is_some, refl, sym, subst, inl, inr, if◌then◌else◌, arith}
+use Rattle.std.proofs.Common.{get_or, ◌≡◌, ◌≤◌, ◌<◌, ◌+◌, ◌*◌, ◌++◌, zero, suc, ℕ, Bool, true, List, [], ◌∷◌, length, map, Option, Ok, is_some, sym, subst, if◌then◌else◌, arith}
 use Rattle.std.specs.Prelude.{◌^◌, All, IfSome}
 use Rattle.std.specs.List.{flat_map, range_with_len}
 use Rattle.std.proofs.lemmas.Bool.{eqb-true}
-use Rattle.std.proofs.lemmas.List.Elements.{All-append, All-cons, All-head, All-nil, All-tail}
+use Rattle.std.proofs.lemmas.List.Elements.{All-append, All-cons, All-head, All-map, All-nil, All-tail}
 use Rattle.deck_text.specs.DeckLines.{DeckLines}
 use Rattle.deck_text.specs.Parse.{parsed}
 use Rattle.track_table.proofs.Counts.{few_marked}
 use Rattle.deck_audit.specs.Device.{outline_of}
-use Rattle.deck_audit.specs.State.{outlines}
-use Rattle.device_outside.specs.Pool.{Frame}
 use Rattle.device_defs.specs.Contents.{by_plain}
 use Rattle.device_defs.specs.Marks.{MarksDevice, MarksStore}
 use Rattle.device_defs.specs.Owed.{waits}
-use Rattle.device_defs.specs.Store.{HalfWrite, is_lost, takes_b, tracks_of}
-use Rattle.device_defs.specs.Transfers.{both}
+use Rattle.device_defs.specs.Store.{is_lost, tracks_of}
 use Rattle.plain_defs.specs.History.{IsPlain}
-use Rattle.plain_defs.specs.PlainState.{PathsState, PlainState}
-use Rattle.report_places.specs.declared.state.Outline.{Outline}
-use Rattle.report_places.specs.Place.{holds, is_declared, outline_in}
-use Rattle.report_text.specs.declared.answers.DeviceTotals.TheVariants as totals
+use Rattle.plain_defs.specs.PlainState.{PlainState}
+use Rattle.report_places.specs.Place.{is_declared}
 use Rattle.report_text.specs.declared.line.ReportLine.TheVariants as lines
 use Rattle.report_reading.specs.Ranges.{IsDevice, IsLine, IsLong, IsOwner}
 use Rattle.run_report.specs.Closing.{device_lines, ending_lines, frame_line}
 use Rattle.run_report.specs.Events.{lines_of}
 use Rattle.run_report.specs.Report.{lines_of_run, report_lines}
-use Rattle.device_laws.specs.Moved.{NoTransfers, SecondTransfers, half_writing}
+use Rattle.device_laws.specs.Moved.{NoTransfers}
 use Rattle.subsystem_defs.specs.declared.end.EventEnd.{EventEnd}
-use Rattle.subsystem_defs.specs.declared.end.EventEnd.TheVariants as ends
 use Rattle.subsystem_defs.specs.declared.event.Event.{Event}
 use Rattle.subsystem_defs.specs.declared.event.Event.TheVariants as events
 use Rattle.subsystem_defs.specs.Closing.{device_end, device_end_by, ending, lost_tracks, where_true}
 use Rattle.subsystem_defs.specs.Decks as D
 use Rattle.subsystem_defs.specs.Decks.{empty_firsts, opened, run_of}
 use Rattle.subsystem_defs.specs.Deeds.{device_in}
-use Rattle.subsystem_defs.specs.Lines.{Asked, Logged, Once, Replace, Run, Settle, Unpair, asked_by, run_lines}
+use Rattle.subsystem_defs.specs.Lines.{Asked, Logged, Once, Run, Settle, asked_by, run_lines}
 use Rattle.subsystem_defs.specs.Subsystem.{Mounted, Subsystem, devices_of}
-use Rattle.subsystem_laws.specs.Waits.{RepairsBy, TellsWaiting, repair_end, waiting_in, waiting_of}
-use Rattle.subsystem_laws.specs.Transfers.{AskedTransfers, BackBy, BackTransfers, EventTransfers, MovesByTable, RunTransfers, RunningTransfers, StepBy, StepTransfers}
+use Rattle.subsystem_laws.specs.Waits.{TellsWaiting, waiting_in, waiting_of}
+use Rattle.subsystem_laws.specs.Transfers.{AskedTransfers, BackTransfers, EventTransfers, MovesByTable, RunTransfers, StepTransfers}
 use Rattle.subsystem_laws.proofs.CalmRuns.{AllSo}
 use Rattle.subsystem_laws.proofs.FailedCalls.{read_run_reads_few, read_run_writes_few}
 use Rattle.subsystem_laws.proofs.GoodMarks.{Good, good_kept, opened_good}
@@ -48,7 +42,7 @@ use Rattle.subsystem_laws.proofs.RunLines.{Logs, lines_keep}
 use Rattle.subsystem_laws.proofs.RunLinks.{Linked, lines_linked}
 use Rattle.subsystem_laws.proofs.Waiting.{run_tells_of_waiting}
 use Rattle.subsystem_laws.proofs.Walks.{AreSo, both_behind, run_keeps}
-use Rattle.run_audit_laws.specs.Standing.{FramesAreDeclared, audited, stand}
+use Rattle.run_audit_laws.specs.Standing.{FramesAreDeclared, audited}
 use Rattle.run_audit_laws.proofs.DeviceSizes.{Sized, first_sized, run_sized, sized_behind}
 use Rattle.run_audit_laws.proofs.FewDevices.{run_has_few}
 use Rattle.run_audit_laws.proofs.FramesOwned.{frames_are_declared}
@@ -56,9 +50,10 @@ use Rattle.run_audit_laws.proofs.FrameTracks.{OnTrack, frames_have_tracks}
 use Rattle.run_audit_laws.proofs.KeptBytes.{KeepsBytes, empty_keeps, history_keeps}
 use Rattle.run_audit_laws.proofs.LooseNumbers.{count_short, number_short}
 use Rattle.run_audit_laws.proofs.NamedEvents.{Names, run_names}
+use Rattle.run_audit_laws.proofs.EachLine.{all_flat}
 use Rattle.run_audit_laws.proofs.RangedDevices.{Ranged, device_ranged}
-use Rattle.run_audit_laws.proofs.RangedEnds.{Answers, AnswersSo, OrderIn, answers_go}
-use Rattle.run_audit_laws.proofs.RangedLines.{RepairsIn, event_known, one}
+use Rattle.run_audit_laws.proofs.RangedEnds.{Answers, AnswersSo, answers_go}
+use Rattle.run_audit_laws.proofs.RangedLines.{event_known, one}
 use Rattle.run_audit_laws.proofs.RangedSteps.{works_on}
 use Rattle.run_audit_laws.proofs.RangedWork.{WorksOn}
 
@@ -70,33 +65,12 @@ Few reads writes = (reads ≤ 1920) × (writes ≤ 2)
 no_calls : (r w : ℕ) → NoTransfers r w → Few r w
 no_calls r w n = (let a = n.0 in omega (arith, a), let b = n.1 in omega (arith, b))
 
-commanded : (a b : Bool) (c r w : ℕ) → c ≤ 64 → r ≤ c * 15 * both a b → w ≤ both a b → Few r w
-commanded a b c r w most reads writes = grind arith
-
-worked : (a b : Bool) (r w : ℕ) → r ≤ both a b → w ≤ both a b → Few r w
-worked a b r w reads writes = grind arith
-
-halved : (b : Bool) (r w : ℕ) → r ≡ 0 → w ≡ both b false → Few r w
-halved b r w reads writes = grind arith
-
 module _ (r w : ℕ) where
-  second_calls : (d : MarksDevice) (h : Option (HalfWrite (Unit {0}))) → SecondTransfers (half_writing d.store h) r w → Few r w
-  second_calls d h m = grind (arith, halved, no_calls)
-
-  running_calls : (d : MarksDevice) → Ranged d → (b : Bool) → RunningTransfers d b r w → Few r w
-  running_calls d k b m = grind (arith, commanded, no_calls)
-
-  stepped_calls : (d : MarksDevice) → Ranged d → (b : Bool) → StepBy d b r w → Few r w
-  stepped_calls d k b m = grind (arith, second_calls, running_calls, is_some)
-
   step_calls : (o : Option MarksDevice) → IfSome o Ranged → StepTransfers o r w → Few r w
-  step_calls o k m = grind (arith, stepped_calls, is_some, no_calls)
-
-  worked_calls : (d : MarksDevice) (b : Bool) (end : EventEnd) → BackBy d b end r w → Few r w
-  worked_calls d b end m = grind (arith, second_calls, worked)
+  step_calls o k m = grind (arith, no_calls, is_some)
 
   back_calls : (o : Option MarksDevice) (end : EventEnd) → BackTransfers o end r w → Few r w
-  back_calls o end m = grind (arith, worked_calls, is_some, no_calls)
+  back_calls o end m = grind (arith, no_calls, is_some)
 
   run_calls : (o : Option MarksDevice) → IfSome o Ranged → (end : EventEnd) → RunTransfers o end r w → Few r w
   run_calls o k end x4 = grind (arith, no_calls, step_calls)
@@ -154,14 +128,8 @@ all_waiting (d ∷ ds) r =
     few_waiting d.store.cylinders (waiting_of d) (waiting_in ds) (length ds) (All-head Ranged d ds r).sized.cylinders
     (few_marked (tracks_of d.store) (waits by_plain d.store)) (all_waiting ds (All-tail Ranged d ds r))
 
-repair_in : (up : Bool) (n k : ℕ) → n ≤ k * 960 → k ≤ 16 → OrderIn (repair_end up n)
-repair_in up n k few most = grind arith
-
 abbrev IsFew : Logged → Type 0
 IsFew t = length (devices_of t.happened.before) ≤ 16
-
-repairs_in : (t : Logged) → AllRanged t.happened.before → IsFew t → TellsWaiting t → RepairsIn t.asked t.happened.end
-repairs_in t r few w = grind (arith, repair_in, all_waiting)
 
 -- and of every event all that is known
 pub record Shows (t : Logged) : Type 0 where
@@ -173,23 +141,7 @@ pub record Shows (t : Logged) : Type 0 where
   pub waiting : TellsWaiting t
 
 one_known : (t : Logged) → Shows t → All IsLine (lines_of t)
-one_known t k = grind (arith, event_known, long_few, asked_calls, repairs_in)
-
-all_known : (ts : List Logged) → All BothRanged ts → All IsFew ts → All NamesLogged ts → All MovesByTable ts → All AnswersLogged ts →
-    All TellsWaiting ts → All IsLine (flat_map lines_of ts)
-all_known [] r f n m a w = All-nil IsLine
-all_known (t ∷ ts) r f n m a w =
-    All-append IsLine (lines_of t) (flat_map lines_of ts)
-    (one_known t (record {
-      ranged = All-head BothRanged t ts r;
-      few = All-head IsFew t ts f;
-      names = All-head NamesLogged t ts n;
-      moves = All-head MovesByTable t ts m;
-      answers = All-head AnswersLogged t ts a;
-      waiting = All-head TellsWaiting t ts w;
-    }))
-    (all_known ts (All-tail BothRanged t ts r) (All-tail IsFew t ts f) (All-tail NamesLogged t ts n) (All-tail MovesByTable t ts m)
-    (All-tail AnswersLogged t ts a) (All-tail TellsWaiting t ts w))
+one_known t k = grind (arith, event_known, long_few, asked_calls, all_waiting)
 
 owner_in : (d : MarksDevice) → Sized d → Plainly d → IfSome d.paths.owner IsOwner
 owner_in d s p =
@@ -205,16 +157,11 @@ fits : (d : MarksDevice) → Sized d → Good d → Fit d
 fits d s g = record { sized = s; works = works_on d g s; some = g.some }
 
 both_so : (d : MarksDevice) → Fit d → Plainly d → Ranged d
-both_so d f p = record {
-  sized = f.sized;
-  follows = p;
-  plain = subst (λ (x : PlainState). IsPlain d.plans x d.history) p.base p.follows.stands.plain;
-  loose = count_short d p f.sized.cylinders;
-  number = number_short d p;
-  works = f.works;
-  some = f.some;
-  owner = owner_in d f.sized p;
-}
+both_so d f p =
+    let plain = subst (λ (x : PlainState). IsPlain d.plans x d.history) p.base p.follows.stands.plain in
+    let loose = count_short d p f.sized.cylinders in
+    let owner = owner_in d f.sized p in
+    record { sized = f.sized; follows = p; plain = plain; loose = loose; number = number_short d p; works = f.works; some = f.some; owner = owner }
 
 all_so : (ms : List Mounted) → AreSo Plainly ms → AreSo Sized ms → AreSo Good ms → All Ranged (map (λ (m : Mounted). m.device) ms)
 all_so [] p s g = All-nil Ranged
@@ -237,10 +184,7 @@ few_true f a zero = omega arith
 few_true f a (suc n) = few_if (f a) a n (where_true f (range_with_len (a + 1) n)) (few_true f (a + 1) n)
 
 lost_known : (d : ℕ) → IsDevice d → (k : ℕ) → k ≤ 64 → (ts : List ℕ) → All (Under (0 + k * 15)) ts → All IsLine (map (lines.Lost d) ts)
-lost_known d n k most [] all = All-nil IsLine
-lost_known d n k most (t ∷ ts) all =
-    All-cons IsLine (lines.Lost d t) (map (lines.Lost d) ts) (n, omega (arith, most, All-head (Under (0 + k * 15)) t ts all)) (lost_known d n k most ts
-    (All-tail (Under (0 + k * 15)) t ts all))
+lost_known d n k most ts all = All-map IsLine (lines.Lost d) ts (λ i x lt. (n, let under = all i x lt in omega (arith, most, under)))
 
 module _ (s : MarksStore) (number : IsDevice s.device) (small : s.cylinders ≤ 64) (reads : s.counts.reads ≤ 1033065725952)
     (writes : s.counts.writes ≤ 1033065725952) where
@@ -272,20 +216,12 @@ declared_device [] s n is = absurd (cc)
 declared_device (m ∷ ms) s n is = grind (arith, declared_device ms s.1 n, eqb-true)
 
 module _ (s : Subsystem) (sized : AreSo Sized s.mounted) where
-  abbrev IsDeclared : Frame → Type 0
-  IsDeclared f = is_declared (outlines (stand s [])) f.0.0 ≡ true
-
-  frames_known : (fs : List Frame) → All IsDeclared fs → All OnTrack fs → All IsLine (map frame_line fs)
-  frames_known [] all on = All-nil IsLine
-  frames_known (f ∷ fs) all on =
-      All-cons IsLine (frame_line f) (map frame_line fs) (declared_device s.mounted sized f.0.0 (All-head IsDeclared f fs all), All-head OnTrack f fs on)
-      (frames_known fs (All-tail IsDeclared f fs all) (All-tail OnTrack f fs on))
-
   ending_known : FramesAreDeclared s → All OnTrack s.pool.frames → AllSo FewReads (devices_of s) → AllSo FewWrites (devices_of s) → All IsLine (ending_lines (ending s))
   ending_known frames on reads writes =
       let e = ending s in
       All-append IsLine (flat_map device_lines e.devices) (map frame_line e.frames ++ lines.Finish ∷ []) (ends_known s.mounted sized reads writes)
-      (All-append IsLine (map frame_line e.frames) (lines.Finish ∷ []) (frames_known e.frames frames on) (one lines.Finish tt))
+      (All-append IsLine (map frame_line e.frames) (lines.Finish ∷ []) (All-map IsLine frame_line e.frames
+      (λ k d lt. (declared_device s.mounted sized (get_or e.frames k d).0.0 (frames k d lt), on k d lt))) (one lines.Finish tt))
 
 -- The whole
 
@@ -306,9 +242,15 @@ module _ (text : List ℕ) (deck : DeckLines) (read : parsed text ≡ Ok deck) w
       (both_behind Fit Plainly Ranged both_so ts (both_behind Sized Good Fit fits ts (run_sized text deck read) good)
       (run_stays_plain deck (read_served text deck read)))
       in
-      all_known ts ranged (run_has_few text deck read) (run_names text deck read) (run_moves empty_firsts deck)
-      (all_answer (opened deck) ts linked (lines_keep (λ s. Unit {0}) AnswersSo answers_go asked (opened deck) tt) ranged)
-      (run_tells_of_waiting empty_firsts deck (read_served text deck read) (read_numbered text deck read))
+      let answers = all_answer (opened deck) ts linked (lines_keep (λ s. Unit {0}) AnswersSo answers_go asked (opened deck) tt) ranged in
+      all_flat IsLine lines_of ts (λ k d lt. one_known (get_or ts k d) (record {
+        ranged = ranged k d lt;
+        few = run_has_few text deck read k d lt;
+        names = run_names text deck read k d lt;
+        moves = run_moves empty_firsts deck k d lt;
+        answers = answers k d lt;
+        waiting = run_tells_of_waiting empty_firsts deck (read_served text deck read) (read_numbered text deck read) k d lt;
+      }))
 
   pub report_is_in_range : All IsLine (report_lines (run_of deck))
   report_is_in_range =

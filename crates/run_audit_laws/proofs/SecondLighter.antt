@@ -1,25 +1,18 @@
 -- The second part of a write leaves less to do, also where its call fails and takes side B down.
-use Rattle.std.proofs.Common.{◌≡◌, ◌≤◌, ◌+◌, ◌⊎◌, ℕ, Bool, true, false, Option, Some, None, is_some, get_or, set, refl, sym, ap, ◌∙◌, arith, inl, inr}
+use Rattle.std.proofs.Common.{◌≡◌, ◌≤◌, ◌+◌, ◌⊎◌, ℕ, Bool, true, false, Option, Some, None, is_some, get_or, set, refl, ap, ◌∙◌, arith, inl, inr}
 use Rattle.std.proofs.lemmas.List.{get_or-set_other}
 use Rattle.std.specs.Prelude.{◌&&◌, ◌||◌, if◌then◌else◌, not}
-use Rattle.std.proofs.lemmas.Bool.{or_left, or_right}
 use Rattle.device_defs.specs.Contents.{by_plain}
 use Rattle.device_defs.specs.Losses as L
 use Rattle.device_defs.specs.Losses.{by_frame, gives_up, hardened_by_loss, kept_by_frame, lost_now, settled, slot_in}
 use Rattle.device_defs.specs.Marks.{MarksStore}
-use Rattle.device_defs.specs.Store.{frame_at, half_is, has_level, is_lost, is_loose, patch_at, with_lost}
+use Rattle.device_defs.specs.Store.{frame_at, has_level, is_lost, is_loose, patch_at, with_lost}
 use Rattle.device_laws.proofs.HeldPlaces.{none_at}
-use Rattle.run_audit_laws.proofs.Weights.{Spot, modified_by, one, spot_at, weight, whole_weight, works}
-use Rattle.run_audit_laws.proofs.Lighter.{Near, half_off, half_on, near_firm, near_frame, near_self, some_at, near_by}
-use Rattle.run_audit_laws.proofs.InOrder.{works_by}
+use Rattle.run_audit_laws.proofs.Weights.{Spot, one, spot_at, weight, whole_weight, works}
+use Rattle.run_audit_laws.proofs.Lighter.{Written, written_by, half_off, half_on, near_firm, near_frame, some_at}
 use Rattle.device_laws.proofs.Unlost.{clear}
 
 -- Settling of a track
-
-pub record Settles (s z : MarksStore) (t : ℕ) : Type 0 where
-  pub near : Near s z t
-  pub a : z.a ≡ s.a
-  pub b : z.b ≡ s.b
 
 -- what it makes of the track
 abbrev pub is_level : Spot → Bool
@@ -38,42 +31,28 @@ abbrev pub Made : Spot → Spot → Type 0
 Made p r = (r ≡ p) ⊎ (BecomesFirm p r ⊎ (BecomesModified p r ⊎ BecomesLost p r))
 
 abbrev pub Settled : MarksStore → MarksStore → ℕ → Type 0
-Settled s z t = Settles s z t × Made (spot_at s t) (spot_at z t)
+Settled s z t = Written s z t × Made (spot_at s t) (spot_at z t)
 
 unchanged : (s : MarksStore) (t : ℕ) → Settled s s t
-unchanged s t = (record { near = near_self s t; a = refl; b = refl }, inl refl)
+unchanged s t = (written_by refl refl refl (λ q ne. refl), inl refl)
 
 settled_if : (s y z : MarksStore) (t : ℕ) (b : Bool) → (b ≡ true → Settled s y t) → (b ≡ false → Settled s z t) → Settled s (if b then y else z) t
 settled_if s y z t b f g = grind arith
 
 firm_settled : (s : MarksStore) (t : ℕ) → is_loose s t ≡ true → Settled s (hardened_by_loss s t) t
-firm_settled s t e = (
-  record {
-    near = near_by refl (near_firm s t).others;
-    a = refl;
-    b = refl;
-  },
-  inr (inl (e, ap (λ (x : Bool). record (spot_at s t) { loose = x }) (clear s.loose t))),
-)
+firm_settled s t e =
+    (written_by refl refl refl (near_firm s t).others, inr (inl (e, ap (λ (x : Bool). record (spot_at s t) { loose = x }) (clear s.loose t))))
 
 lost_given : (s : MarksStore) (t : ℕ) (o : Option (Unit {0})) → patch_at s t ≡ o → frame_at s t ≡ None →
     Settled s (gives_up (with_lost s t) t (slot_in by_plain o)) t
 lost_given s t None e bare = (
-  record {
-    near = near_by refl (λ q ne. ap (λ (x : Bool). record (spot_at s q) { lost = x }) (get_or-set_other s.lost t q true false ne));
-    a = refl;
-    b = refl;
-  },
+  written_by refl refl refl (λ q ne. ap (λ (x : Bool). record (spot_at s q) { lost = x }) (get_or-set_other s.lost t q true false ne)),
   inr (inr (inr (bare, (is_lost (with_lost s t) t, ap (λ (x : Option (Unit {0})). record (spot_at (with_lost s t) t) { patched = is_some x }) e)))),
 )
 lost_given s t (Some p) e bare = (
-  record {
-    near =
-        near_by refl (λ q ne. ap (λ (x : Bool). record (spot_at s q) { lost = x; patched = is_some (get_or (set s.patches t None) q None) }) (get_or-set_other s.lost t q true false ne)
-        ∙ ap (λ (x : Option (Unit {0})). record (spot_at s q) { patched = is_some x }) (get_or-set_other s.patches t q None None ne));
-    a = refl;
-    b = refl;
-  },
+  written_by refl refl refl (λ q ne. ap (λ (x : Bool). record (spot_at s q) { lost = x; patched = is_some (get_or (set s.patches t None) q None) })
+      (get_or-set_other s.lost t q true false ne)
+      ∙ ap (λ (x : Option (Unit {0})). record (spot_at s q) { patched = is_some x }) (get_or-set_other s.patches t q None None ne)),
   inr (inr (inr (bare, (is_lost (with_lost s t) t, ap (λ (x : Option (Unit {0})). record (spot_at (with_lost s t) t) { patched = is_some x }) (none_at s.patches t))))),
 )
 
@@ -84,20 +63,10 @@ frame_settled s t here off (Some m) is =
   where
     kept : (k : Bool) → frame_at s t ≡ Some k → is_loose s t ≡ false → Settled s (kept_by_frame by_plain s t k) t
     kept true e firm = unchanged s t
-    kept false e firm = (
-      record {
-        near = near_by refl (near_frame s t (Some true)).others;
-        a = refl;
-        b = refl;
-      },
-      inr (inr (inl (
-        e,
-        firm,
-        here,
-        off,
-        ap (λ (x : Option Bool). record (spot_at s t) { frame = x }) (some_at s.frames t true (ap (λ (x : Option Bool). is_some x) e)),
-      ))),
-    )
+    kept false e firm =
+        let there = some_at s.frames t true (ap (λ (x : Option Bool). is_some x) e) in
+        let made = ap (λ (x : Option Bool). record (spot_at s t) { frame = x }) there in
+        (written_by refl refl refl (near_frame s t (Some true)).others, inr (inr (inl (e, firm, here, off, made))))
 frame_settled s t here off None is = grind (arith, settled_if, unchanged, lost_given)
 
 pub settled_so : (s : MarksStore) (t : ℕ) → Settled s (settled by_plain s t) t
@@ -109,9 +78,6 @@ settled_so s t = grind (arith, settled_if, is_some, unchanged, frame_settled)
 abbrev weight_from : Bool → Bool → Bool → Bool → Bool → Bool → ℕ
 weight_from work a a_stale b b_stale held =
     (if work then one a + one (b && not held) else 0) + one ((a && a_stale && (b && not b_stale)) || ((b && not held) && b_stale && (a && not a_stale)))
-
-no_copy : (a stale b_stale : Bool) → one ((a && stale && (false && not b_stale)) || ((false && not false) && b_stale && (a && not stale))) ≡ 0
-no_copy a stale b_stale = grind arith
 
 fallen_least : (after before a a_stale b b_stale held : Bool) → b ≡ true →
     (a ≡ true → after ≡ true → (before ≡ true) ⊎ ((a_stale ≡ true) × (b_stale ≡ false))) →

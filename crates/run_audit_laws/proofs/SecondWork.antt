@@ -1,5 +1,5 @@
 -- The second part of a write leaves less to do.
-use Rattle.std.proofs.Common.{◌≡◌, ◌≢◌, ◌<◌, ◌≤◌, ◌+◌, ◌⊎◌, ◌==◌, ℕ, zero, suc, Bool, true, false, List, [], ◌∷◌, Option, Some, None, is_some, length, get_or, set, refl, sym, ap, subst, ◌∙◌, arith, inl, inr}
+use Rattle.std.proofs.Common.{◌≡◌, ◌≢◌, ◌<◌, ◌≤◌, ◌+◌, ◌⊎◌, ◌==◌, ℕ, zero, suc, Bool, true, false, Option, Some, None, is_some, length, refl, sym, ap, subst, ◌∙◌, arith, inl, inr}
 use Rattle.std.proofs.lemmas.Bool.{cases_eq, and_right, and_left, and_parts}
 use Rattle.std.specs.Prelude.{◌&&◌, ◌||◌, if◌then◌else◌, not}
 use Rattle.ckd_types.specs.declared.paths.Side.TheVariants.{B}
@@ -15,10 +15,11 @@ use Rattle.device_defs.specs.Store as store
 use Rattle.device_defs.specs.Store.{Origin, OfBackground, OfCommand, OfCut, frame_at, half_is, has_level, is_lost, is_loose, owed_at, patch_at, stale_at, takes_b, tracks_of, with_frame, with_stale}
 use Rattle.device_defs.specs.Writing as W
 use Rattle.device_defs.specs.Writing.{slot_freed, tried_b, write_done, write_second}
-use Rattle.device_laws.proofs.Had.{Had, had_ask, had_done, had_if, had_tell, had_then, had_weaker, had_write}
-use Rattle.run_audit_laws.proofs.Weights.{Spot, copies, modified_by, one, sides, spot_at, weight, weight_at, whole_weight, works}
-use Rattle.run_audit_laws.proofs.Lighter.{Bared, Lower, Near, as_least, clean_off, freed_so, half_off, half_on, idle, lower_all, near_bare, near_frame, near_on, near_self, near_stale_b, none_open, not_own, own_is, same_weight, whole_at, near_by}
-use Rattle.run_audit_laws.proofs.SecondLighter.{IsSafe, Made, Settles, fell, made_least, settled_so}
+use Rattle.device_laws.proofs.Had.{Had, had_done, had_if, had_tell, had_then, had_weaker, had_write}
+use Rattle.run_audit_laws.proofs.Weights.{Spot, copies, one, sides, spot_at, weight, weight_at, whole_weight, works}
+use Rattle.std.proofs.lemmas.Bool.{eqb-false}
+use Rattle.run_audit_laws.proofs.Lighter.{Written, written_by, write_is_done, only_copies, Lower, as_least, half_off, half_on, lower_all, near_bare, near_frame, near_on, near_self, near_stale_b, none_open, not_own, own_is, same_weight, whole_at, near_by}
+use Rattle.run_audit_laws.proofs.SecondLighter.{IsSafe, Made, made_least, settled_so}
 use Rattle.device_laws.proofs.Unlost.{clear}
 
 -- All tracks but that of the write
@@ -38,55 +39,38 @@ falls_self : (s : MarksStore) → Falls s s
 falls_self s = record { cylinders = refl; queue = refl; half = refl; a = refl; b = refl; held = refl }
 
 module _ (t : ℕ) where
-  each_by : (b : Bool) (k : ℕ) (w : MarksStore) → Falls w (if b then w else settled by_plain w k) ×
-      ((q : ℕ) → q ≢ k → spot_at (if b then w else settled by_plain w k) q ≡ spot_at w q)
-  each_by b k w = grind (arith, falls_self, settled_so)
+  -- the tracks before this one are settled, all but that of the write
+  record OverSo (k : ℕ) (w z : MarksStore) : Type 0 where
+    falls : Falls w z
+    own : spot_at z t ≡ spot_at w t
+    made : (q : ℕ) → Made (spot_at w q) (spot_at z q)
+    later : (q : ℕ) → k ≤ q → spot_at z q ≡ spot_at w q
 
-  over_falls : (k : ℕ) (s : MarksStore) → Falls s (over k (settled_but by_plain (Some t)) s)
+  written_falls : (s z : MarksStore) (k : ℕ) → Written s z k → Falls s z
+  written_falls s z k r = search arith
+
+  one_over : (k : ℕ) (w z : MarksStore) → OverSo k w z → (b : Bool) → (k == t) ≡ b → OverSo (suc k) w (if b then z else settled by_plain z k)
+  one_over k w z o true is = record { falls = o.falls; own = o.own; made = o.made; later = λ q le. o.later q (omega (arith, le)) }
+  one_over k w z o false is =
+      let y = settled by_plain z k in
+      let r = settled_so z k in
+      record {
+        falls = falls_on w z y o.falls (written_falls z y k r.0);
+        own = r.0.near.others t (λ e. eqb-false k t is (sym e)) ∙ o.own;
+        made = λ q. at_place q (cases_eq q k);
+        later = λ q le. r.0.near.others q (λ e. absurd (omega (arith, le, e))) ∙ o.later q (omega (arith, le));
+      }
+    where
+      at_place : (q : ℕ) → ((q ≡ k) ⊎ (q ≢ k)) → Made (spot_at w q) (spot_at (settled by_plain z k) q)
+      at_place q (inl e) =
+          subst (λ (i : ℕ). Made (spot_at w i) (spot_at (settled by_plain z k) i)) (sym e)
+          (subst (λ (p : Spot). Made p (spot_at (settled by_plain z k) k)) (o.later k (omega arith)) (settled_so z k).1)
+      at_place q (inr ne) = subst (λ (p : Spot). Made (spot_at w q) p) (sym ((settled_so z k).0.near.others q ne)) (o.made q)
+
+  over_so : (k : ℕ) (w : MarksStore) → OverSo k w (over k (settled_but by_plain (Some t)) w)
   unfolding L.over
-  over_falls zero s = falls_self s
-  over_falls (suc k) s = let w = over k (settled_but by_plain (Some t)) s in falls_on s w _ (over_falls k s) (each_by (k == t) k w).0
-
-  -- one that isn't come to yet is as it was
-  over_later : (k : ℕ) (s : MarksStore) (q : ℕ) → k ≤ q → spot_at (over k (settled_but by_plain (Some t)) s) q ≡ spot_at s q
-  unfolding L.over
-  over_later zero s q le = refl
-  over_later (suc k) s q le = grind (arith, over_later k s q (omega (arith, le)), each_by)
-
-  over_own : (k : ℕ) (s : MarksStore) → spot_at (over k (settled_but by_plain (Some t)) s) t ≡ spot_at s t
-  unfolding L.over
-  over_own zero s = refl
-  over_own (suc k) s = by_place (k == t) refl (over_own k s) where
-    by_place : (b : Bool) → (k == t) ≡ b → spot_at (over k (settled_but by_plain (Some t)) s) t ≡ spot_at s t →
-        spot_at (if b then over k (settled_but by_plain (Some t)) s else settled by_plain (over k (settled_but by_plain (Some t)) s) k) t ≡ spot_at s t
-    by_place true is rest = rest
-    by_place false is rest =
-        let w = over k (settled_but by_plain (Some t)) s in
-        (each_by false k w).1 t (λ e. absurd (let mine : (k == t) ≡ true = ap (λ (x : ℕ). x == t) (sym e) ∙ own_is t in let both : true ≡ false = sym mine ∙ is in cc)) ∙ rest
-
-  -- with side B down
-  over_least : (k : ℕ) (s : MarksStore) (q : ℕ) → q ≢ t → half_is s.half q ≡ false → s.b.up ≡ true → IsSafe (spot_at s q) →
-      weight_at (over k (settled_but by_plain (Some t)) (down s B)) q ≤ weight_at s q
-  unfolding L.over
-  over_least zero s q ne whole up safe = made_least (spot_at s q) (spot_at (down s B) q) whole up safe (inl refl)
-  over_least (suc k) s q ne whole up safe = by_place (k == t) refl (cases_eq q k) (over_least k s q ne whole up safe) where
-    w : MarksStore
-    w = over k (settled_but by_plain (Some t)) (down s B)
-
-    by_place : (b : Bool) → (k == t) ≡ b → ((q ≡ k) ⊎ (q ≢ k)) → weight_at (over k (settled_but by_plain (Some t)) (down s B)) q ≤ weight_at s q →
-        weight_at (if b then over k (settled_but by_plain (Some t)) (down s B) else settled by_plain (over k (settled_but by_plain (Some t)) (down s B)) k) q ≤ weight_at s q
-    by_place true mine here rest = rest
-    by_place false mine (inr other) rest =
-        let o = over k (settled_but by_plain (Some t)) (down s B) in
-        let same = ap weight ((each_by false k o).1 q other) in
-        omega (arith, same, rest)
-    by_place false mine (inl is) rest =
-        let o = over k (settled_but by_plain (Some t)) (down s B) in
-        let z = settled by_plain o k in
-        let before : spot_at o q ≡ fell (spot_at s q) = over_later k (down s B) q (omega (arith, is)) in
-        made_least (spot_at s q) (spot_at z q) whole up safe
-        (subst (λ (p : Spot). Made p (spot_at z q)) before
-        (subst (λ (i : ℕ). Made (spot_at o i) (spot_at z i)) (sym is) (settled_so o k).1))
+  over_so zero w = record { falls = falls_self w; own = refl; made = λ q. inl refl; later = λ q le. refl }
+  over_so (suc k) w = one_over k w (over k (settled_but by_plain (Some t)) w) (over_so k w) (k == t) refl
 
 -- The second part of a write
 
@@ -115,23 +99,17 @@ module _ (s : MarksStore) (t : ℕ) (paired : s.paired ≡ true) (whole : (q : �
   unfolding L.side_lost
   failed_so n is false e = absurd (cc)
   failed_so n is true e =
-      let f = over_falls t (tracks_of s) (down s B) in
-      had_weaker (told_falls n (over (tracks_of s) (settled_but by_plain (Some t)) (down s B))) (λ z _ g. record {
-        cylinders = g.0.cylinders
-            ∙ f.cylinders;
-        queue = g.0.queue ∙ f.queue;
-        half = g.0.half ∙ f.half;
-        a = g.0.a ∙ f.a;
-        shut = and_left (takes_b z) (stale_at z.b t) (and_left z.b.up
-            (not z.held) (ap (λ (m : store.SideMarks). m.up) (g.0.b ∙ f.b)));
-        loose = ap (λ (p : Spot). p.loose) (g.1 t ∙ over_own t (tracks_of s)
-            (down s B));
-        others = λ q lt ne. omega (
-          arith,
-          ap weight (g.1 q),
-          (over_least t (tracks_of s) s q ne (whole q ne) (and_parts s.b.up (not s.held) is).0
-              (safe q lt ne)),
-        );
+      let fallen = over (tracks_of s) (settled_but by_plain (Some t)) (down s B) in
+      let o = over_so t (tracks_of s) (down s B) in
+      let up = (and_parts s.b.up (not s.held) is).0 in
+      had_weaker (told_falls n fallen) (λ z _ g. let f = falls_on (down s B) fallen z o.falls g.0 in record {
+        cylinders = f.cylinders;
+        queue = f.queue;
+        half = f.half;
+        a = f.a;
+        shut = and_left (takes_b z) (stale_at z.b t) (and_left z.b.up (not z.held) (ap (λ (m : store.SideMarks). m.up) f.b));
+        loose = ap (λ (p : Spot). p.loose) (g.1 t ∙ o.own);
+        others = λ q lt ne. omega (arith, ap weight (g.1 q), made_least (spot_at s q) (spot_at fallen q) (whole q ne) up (safe q lt ne) (o.made q));
       })
 
 -- the counts of calls count for nothing here
@@ -141,15 +119,10 @@ again s t z k = search arith
 module _ (s : MarksStore) (t : ℕ) (paired : s.paired ≡ true) (whole : (q : ℕ) → q ≢ t → half_is s.half q ≡ false)
     (safe : (q : ℕ) → q < tracks_of s → q ≢ t → IsSafe (spot_at s q)) where
   tried_so : takes_b s ≡ true → (ok : Bool) → Had (tried_b by_plain t (W.write_counted s ok) ok) (λ z (_ : Unit {0}). Second s z t)
-  tried_so is true = had_done (record {
-    cylinders = refl;
-    queue = refl;
-    half = refl;
-    a = refl;
-    shut = and_right (takes_b s) _ (clear s.b.stale t);
-    loose = refl;
-    others = λ q lt ne. same_weight s (with_stale s B t false) q ((near_stale_b s t false).others q ne);
-  })
+  tried_so is true =
+      let others = λ (q : ℕ) (lt : q < tracks_of s) (ne : q ≢ t). same_weight s (with_stale s B t false) q ((near_stale_b s t false).others q ne) in
+      let shut = and_right (takes_b s) (stale_at (with_stale s B t false).b t) (clear s.b.stale t) in
+      had_done (record { cylinders = refl; queue = refl; half = refl; a = refl; shut = shut; loose = refl; others = others })
   tried_so is false = had_weaker (failed_so (W.write_counted s false) t paired whole safe (tracks_of s) is s.paired paired) (λ z _ k. again s t z k)
 
   second_so : (r : Bool) → Had (write_second by_plain s t r) (λ z (_ : Unit {0}). Second s z t)
@@ -157,35 +130,6 @@ module _ (s : MarksStore) (t : ℕ) (paired : s.paired ≡ true) (whole : (q : �
   second_so r = had_if (takes_b s) (λ is. had_write (λ ok. tried_so is ok)) (λ off. had_done (search (arith, and_left, as_least, weight_at)))
 
 -- The write is done, or no side has it
-
-pub record Written (s z : MarksStore) (t : ℕ) : Type 0 where
-  pub near : Near s z t
-  pub a : z.a ≡ s.a
-  pub b : z.b ≡ s.b
-
-written_bared : (s x z : MarksStore) (t : ℕ) → Near s x t → x.a ≡ s.a → x.b ≡ s.b → x.loose ≡ s.loose → modified_by (frame_at x t) ≡ false → is_loose s t ≡ false →
-    Bared x z t → Written s z t × (works (spot_at z t) ≡ false)
-written_bared s x z t n a b loose clean firm k = grind (arith, near_on, idle)
-
-modified_set : (l : List (Option Bool)) (t : ℕ) (x : Option Bool) → modified_by x ≡ false → is_some (get_or l t None) ≡ true → modified_by (get_or (set l t x) t None) ≡ false
-modified_set [] t x e some = absurd (cc)
-modified_set (y ∷ l) zero x e some = e
-modified_set (y ∷ l) (suc t) x e some = modified_set l t x e some
-
-write_is_done : (s : MarksStore) (t : ℕ) (i : Image) (bypass : Bool) → is_loose s t ≡ false →
-    Had (write_done by_plain s t i bypass) (λ z (_ : Unit {0}). Written s z t × (works (spot_at z t) ≡ false))
-unfolding W.write_done
-write_is_done s t i bypass firm =
-    had_if (is_some (frame_at s t))
-    (λ there. had_if bypass (λ _. had_ask (λ _. framed None refl there)) (λ _. had_ask (λ _. framed (Some false) refl there)))
-    (λ none. had_weaker (freed_so s t (patch_at s t) refl)
-    (λ z _ k. written_bared s s z t (near_self s t) refl refl refl (clean_off (frame_at s t) none) firm k))
-  where
-    framed : (f : Option Bool) → modified_by f ≡ false → is_some (frame_at s t) ≡ true →
-        Had (slot_freed by_plain (with_frame s t f) t (slot_in by_plain (patch_at s t))) (λ z (_ : Unit {0}). Written s z t × (works (spot_at z t) ≡ false))
-    framed f clean there =
-        had_weaker (freed_so (with_frame s t f) t (patch_at s t) refl)
-        (λ z _ k. written_bared s (with_frame s t f) z t (near_frame s t f) refl refl refl (modified_set s.frames t f clean there) firm k)
 
 -- at most what a stale side A leaves to copy
 done_copies : (a stale c k d e : Bool) → (k && d) ≡ false → one ((a && stale && c) || (k && d && e)) ≤ one (a && stale)
@@ -202,29 +146,22 @@ copies_same : (y v : MarksStore) (t : ℕ) → v.a ≡ y.a → v.b ≡ y.b → v
     sides (spot_at v t) + one (copies (spot_at v t)) ≡ sides (spot_at y t) + one (copies (spot_at y t))
 copies_same y v t a b held = grind arith
 
-only_copies : (y v : MarksStore) (t : ℕ) → v.a ≡ y.a → v.b ≡ y.b → v.held ≡ y.held → copies (spot_at v t) ≡ copies (spot_at y t)
-only_copies y v t a b held = grind arith
+written_self : (s : MarksStore) (t : ℕ) → Written s s t
+written_self s t = written_by refl refl refl (λ q ne. refl)
 
 written_on : (s z y : MarksStore) (t : ℕ) → Written s z t → Written z y t → Written s y t
 written_on s z y t f g = record { near = near_on s z y t f.near g.near; a = g.a ∙ f.a; b = g.b ∙ f.b }
 
 pub given_up : (s : MarksStore) (t : ℕ) (o : Option (Unit {0})) → Written s (L.gives_up s t (slot_in by_plain o)) t
-given_up s t None = record { near = near_self s t; a = refl; b = refl }
-given_up s t (Some p) = record {
-  near = near_by refl (near_bare s t).others;
-  a = refl;
-  b = refl;
-}
+given_up s t None = written_self s t
+given_up s t (Some p) = written_by refl refl refl (near_bare s t).others
 
 kept_written : (s : MarksStore) (t : ℕ) (i : Image) (o : Option Bool) → Written s (cut_kept by_plain s t i o) t
-kept_written s t i None = record { near = near_self s t; a = refl; b = refl }
+kept_written s t i None = written_self s t
 kept_written s t i (Some m) = let z = with_frame s t (Some m) in written_on s z _ t (search (arith, near_frame)) (given_up z t (patch_at z t))
 
 pub left_written : (s : MarksStore) (t : ℕ) (i : Image) (origin : Origin) → Written s (left_by by_plain s t i origin) t
 left_written s t i origin = search (arith, kept_written, near_self)
-
-settled_written : (s : MarksStore) (t : ℕ) → Written s (settled by_plain s t) t
-settled_written s t = let k = (settled_so s t).0 in record { near = k.near; a = k.a; b = k.b }
 
 module _ (s : MarksStore) (h : store.HalfWrite (Unit {0})) (is : s.half ≡ Some h) where
   mine : half_is s.half h.track ≡ true
@@ -257,15 +194,10 @@ module _ (s : MarksStore) (h : store.HalfWrite (Unit {0})) (is : s.half ≡ Some
   done_lower : (y v : MarksStore) → Second s y h.track → Written (half_closed y) v h.track → works (spot_at v h.track) ≡ false → Lower s v
   done_lower y v k g off =
       let t = h.track in
-      closing_lower y v k g (omega (
-        arith,
-        whole_at v t g.near.half,
-        half_off (works (spot_at v t)) (sides (spot_at v t)) 0 off,
-        (ap one (only_copies
-            (half_closed y) v t g.a g.b g.near.held)),
-        (done_copies y.a.up (stale_at y.a t) (y.b.up && not (stale_at y.b t)) (takes_b y) (stale_at y.b t)
-            (y.a.up && not (stale_at y.a t)) k.shut),
-      ))
+      let kept = ap one (only_copies (half_closed y) v t g.a g.b g.near.held) in
+      let level = y.a.up && not (stale_at y.a t) in
+      let copied = done_copies y.a.up (stale_at y.a t) (y.b.up && not (stale_at y.b t)) (takes_b y) (stale_at y.b t) level k.shut in
+      closing_lower y v k g (omega (arith, whole_at v t g.near.half, half_off (works (spot_at v t)) (sides (spot_at v t)) 0 off, kept, copied))
 
   absent_lower : (y v : MarksStore) → Second s y h.track → Written (half_closed y) v h.track → has_level y h.track ≡ false → Lower s v
   absent_lower y v k g off = grind (arith, closing_lower, whole_at, if_least, works, spot_at, sides, copies_same, absent_sides)
@@ -279,8 +211,8 @@ module _ (s : MarksStore) (h : store.HalfWrite (Unit {0})) (is : s.half ≡ Some
   done_so : (y : MarksStore) (i : Image) (origin : Origin) → Second s y h.track → is_loose y h.track ≡ false →
       Had (D.second_done by_plain (half_closed y) h.track i origin) (λ v (_ : Bool). Lower s v)
   done_so y i (OfCommand bypass e) k firm = had_tell (finished_so y _ i bypass k (search (arith, near_by)) firm)
-  done_so y i (OfCut bypass) k firm = finished_so y (half_closed y) i bypass k (record { near = near_self (half_closed y) h.track; a = refl; b = refl }) firm
-  done_so y i OfBackground k firm = finished_so y (half_closed y) i false k (record { near = near_self (half_closed y) h.track; a = refl; b = refl }) firm
+  done_so y i (OfCut bypass) k firm = finished_so y (half_closed y) i bypass k (written_self (half_closed y) h.track) firm
+  done_so y i OfBackground k firm = finished_so y (half_closed y) i false k (written_self (half_closed y) h.track) firm
 
   by_level : (y : MarksStore) (i : Image) (origin : Origin) → Second s y h.track → is_loose y h.track ≡ false →
       Had (second_by by_plain h.track i origin y) (λ v (_ : Bool). Lower s v)
@@ -288,7 +220,7 @@ module _ (s : MarksStore) (h : store.HalfWrite (Unit {0})) (is : s.half ≡ Some
       had_if (has_level y h.track) (λ _. done_so y i origin k firm)
       (λ off. had_done (absent_lower y (settled by_plain (left_by by_plain (half_closed y) h.track i origin) h.track) k
       (written_on (half_closed y) (left_by by_plain (half_closed y) h.track i origin) _ h.track (left_written (half_closed y) h.track i origin)
-      (settled_written (left_by by_plain (half_closed y) h.track i origin) h.track)) off))
+      (settled_so (left_by by_plain (half_closed y) h.track i origin) h.track).0) off))
 
   pub part_so : s.paired ≡ true → ((q : ℕ) → q < tracks_of s → q ≢ h.track → IsSafe (spot_at s q)) → is_loose s h.track ≡ false →
       Had (second_part by_plain s h) (λ v (_ : Bool). Lower s v)

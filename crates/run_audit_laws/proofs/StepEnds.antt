@@ -1,32 +1,30 @@
 -- The lines of a command that ends in a STEP.
-use Rattle.std.proofs.Common.{arith, ◌≡◌, ◌==◌, ◌++◌, ℕ, Bool, true, false, List, [], ◌∷◌, Option, Some, refl, ap, subst, ◌∙◌}
-use Rattle.std.specs.Prelude.{◌&&◌, option_map}
+use Rattle.std.proofs.Common.{arith, ◌≡◌, ◌++◌, true, List, [], ◌∷◌, Some, refl}
 use Rattle.std.proofs.lemmas.Bool.{or_left, and_from}
 use Rattle.ckd_types.specs.declared.channel.CommandEnd.{CommandEnd}
 use Rattle.deck_plan.specs.declared.event.EventLine.{EventLine}
-use Rattle.deck_plan.specs.declared.event.EventLine.TheVariants.{Step}
-use Rattle.plain_defs.specs.History.{OpenEntry, ended}
-use Rattle.device_defs.specs.Device.{all_acted}
-use Rattle.deck_audit.specs.Device.{is_next_legal}
+use Rattle.deck_plan.specs.declared.event.EventLine.TheVariants.{Back, Step}
+use Rattle.plain_defs.specs.History.{OpenEntry}
 use Rattle.plain_defs.specs.declared.journal.Act.TheVariants.{Loosen}
-use Rattle.report_text.specs.declared.answers.HowOver.TheVariants as how
 use Rattle.report_text.specs.declared.line.ReportLine.{ReportLine}
 use Rattle.report_text.specs.declared.line.ReportLine.TheVariants as lines
 use Rattle.report_text.specs.Ends.{end_line}
-use Rattle.report_places.specs.declared.state.Did.TheVariants.{Ended}
 use Rattle.report_places.specs.declared.state.Due.TheVariants.{Next}
-use Rattle.report_places.specs.declared.state.HalfWrite.TheVariants.{Closed}
-use Rattle.report_places.specs.declared.state.Outline.{Outline}
-use Rattle.report_places.specs.Place.{holds, in_event, in_steps, may_step}
-use Rattle.deck_audit.specs.Device.{AuditedDevice, device_in, open_program, outline_of}
+use Rattle.report_places.specs.declared.state.HalfWrite.{HalfWrite}
+use Rattle.report_places.specs.declared.state.HalfWrite.TheVariants.{Closed, OfBackground, OfCommand}
+use Rattle.report_text.specs.declared.answers.BackAnswer.{BackAnswer}
+use Rattle.report_places.specs.Place.{in_event, may_back}
+use Rattle.deck_audit.specs.Device.{AuditedDevice, check_end, device_in, outline_of, words_of_open}
 use Rattle.deck_audit.specs.History.{event_made, work_made}
 use Rattle.deck_audit.specs.State.{AuditState, outlines}
-use Rattle.run_audit_laws.specs.Steps.{Reaches, StepEnds, WholeStepLeads, acted_to, over_if, over_told, step_done}
-use Rattle.run_audit_laws.proofs.Commands.{check_command_leads, loose_command_leads, plain_command_leads, plain_end_is_tidy}
+use Rattle.run_audit_laws.specs.Steps.{BackLeads, HalfLeads, StepEnds, WholeStepLeads}
+use Rattle.run_audit_laws.proofs.CameOut.{firmly, loosely}
+use Rattle.run_audit_laws.proofs.Commands.{plain_end_is_tidy}
+use Rattle.run_audit_laws.proofs.NextLines.{never_holds}
+use Rattle.run_audit_laws.proofs.WorkEnds.{MayTell, back_tells, ends_lead, checks_lead, halves_lead, of_back, seconds_by, step_ends as steps, tells_lead}
 use Rattle.run_audit_laws.proofs.EndLines.{check_lead, plain_lead}
 use Rattle.run_audit_laws.proofs.Found.{outlined}
 use Rattle.run_audit_laws.proofs.Leading.{then_some}
-use Rattle.run_audit_laws.proofs.Work.{end_of}
 use Rattle.run_audit_laws.proofs.Saying.{same_number}
 
 module _ (xs : List AuditedDevice) (later : List EventLine) (a : AuditedDevice) (has : device_in xs a.number ≡ Some a) (closed : a.half ≡ Closed)
@@ -49,24 +47,26 @@ module _ (xs : List AuditedDevice) (later : List EventLine) (a : AuditedDevice) 
   pub step_leads : WholeStepLeads xs later a o
   step_leads p plain few plainly acts none are = record {
     plainly = λ reads writes legal.
-        let leads = plain_command_leads xs (Step a.number) later a has refl o running plainly stands makes p plain few acts none are reads writes legal in
-        (leads.0, leads.1, subst (λ (t : AuditState). Reaches (Some a.number) leads.0 t) (same_end legal p.over) leads.2);
+        ends_lead xs later a has o running (Step a.number) Closed steps closed plainly reads writes p acts (firmly acts plain none are legal) few;
     loosened = λ reads writes t may legal.
-        let leads = loose_command_leads xs (Step a.number) later a has refl o running plainly stands makes p plain few acts none are reads writes t may legal in
-        (leads.0, leads.1, subst (λ (z : AuditState). Reaches (Some a.number) leads.0 z) (loose_end t legal p.over) leads.2);
-    checked = λ reads writes sense is.
-        check_command_leads xs (Step a.number) later a has refl o running plainly stands makes p plain few acts none are reads writes sense is;
-  } where
-    same_end : (legal : is_next_legal (acted_to a acts) (all_acted a.history acts).running ≡ true) (over : Bool) →
-        end_of xs (Step a.number) later a.number refl a has (acted_to a acts) refl true (Ended p) legal (over_if over (over_told a o how.Full))
-        ≡ step_done xs later a (ended (all_acted a.history acts) p)
-    same_end legal true = refl
-    same_end legal false = refl
+        ends_lead xs later a has o running (Step a.number) Closed steps closed plainly reads writes p (acts ++ Loosen t ∷ [])
+        (loosely acts t plain none are may legal) few;
+    checked = λ reads writes sense is. let e = check_end (words_of_open a o) p.index sense in
+        checks_lead xs later a has o running (Step a.number) Closed steps closed plainly reads writes e acts none
+        (record { plain = p; is_plain = plain; sense = sense; is_check = is; is_so = refl; are = are }) few;
+  }
 
-    loose_end : (t : ℕ) (legal : is_next_legal (acted_to a (acts ++ Loosen t ∷ [])) (all_acted a.history (acts ++ Loosen t ∷ [])).running
-        ≡ true) (over : Bool) →
-        end_of xs (Step a.number) later a.number refl a has (acted_to a (acts ++ Loosen t ∷ [])) refl false (Ended p) legal
-        (over_if over (over_told a o how.Full))
-        ≡ step_done xs later a (ended (all_acted a.history (acts ++ Loosen t ∷ [])) p)
-    loose_end t legal true = refl
-    loose_end t legal false = refl
+  pub half_leads : HalfLeads xs later a o
+  half_leads plainly track acts none are reads writes =
+      halves_lead xs later a has o running (Step a.number) steps closed plainly track acts none are reads writes
+
+module _ (xs : List AuditedDevice) (later : List EventLine) (a : AuditedDevice) (has : device_in xs a.number ≡ Some a) where
+  tells : (answer : BackAnswer) (h : HalfWrite) → may_back (outline_of a) (lines.Back a.number answer) h ≡ true →
+      MayTell xs later a has (Back a.number) answer h
+  tells answer Closed fits = back_tells fits
+  tells answer OfCommand fits = absurd (grind (arith, never_holds))
+  tells answer OfBackground fits = seconds_by of_back fits
+
+  pub back_leads : BackLeads xs later a
+  back_leads plainly answer fits acts none are reads writes =
+      tells_lead xs later a has (Back a.number) answer a.half (tells answer a.half fits) refl plainly acts none are reads writes

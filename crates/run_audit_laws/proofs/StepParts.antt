@@ -1,18 +1,14 @@
 -- What a command, and the second part of a write, make of a device beside its history: it is the same device, with a half write or none.
-use Rattle.std.proofs.Common.{◌≡◌, ℕ, Bool, true, false, List, Option, Some, None, refl, sym, ap, subst, ◌∙◌, arith, if◌then◌else◌}
+use Rattle.std.proofs.Common.{◌≡◌, ℕ, Bool, List, Option, Some, None, refl, sym, ap, subst, ◌∙◌, arith, if◌then◌else◌}
 use Rattle.ckd_chain.specs.declared.progress.Progress.{Progress}
-use Rattle.ckd_chain.specs.declared.progress.Progress.TheVariants as progresses
-use Rattle.ckd_chain.specs.declared.progress.Settled.TheVariants.{Equipment}
 use Rattle.ckd_chain.specs.Fed.{Fed}
 use Rattle.ckd_chain.specs.State.{ChainState}
 use Rattle.ckd_chain.specs.Steps.{need_of, stepped}
-use Rattle.ckd_rules.specs.Walk.{TrackEdit}
 use Rattle.ckd_types.specs.declared.record.Track.{Track}
 use Rattle.plain_defs.specs.History.{OpenEntry, plain_of}
-use Rattle.plain_defs.specs.Journal.{replay}
 use Rattle.plain_defs.specs.Legal.{AreActs}
 use Rattle.plain_defs.specs.PlainState.{PlainState}
-use Rattle.plain_device.specs.Acted.{paths_behind, settled_act}
+use Rattle.plain_device.specs.Acted.{settled_act}
 use Rattle.track_image.specs.Image.{Image}
 use Rattle.device_outside.specs.Interaction.{Interaction}
 use Rattle.device_defs.specs.declared.answers.Came.{Came}
@@ -28,7 +24,7 @@ use Rattle.device_defs.specs.Device.{all_acted, event, event_begun, with_store}
 use Rattle.device_defs.specs.Events as V
 use Rattle.device_defs.specs.Events.{command_ended, second, second_ended, second_of, second_turn}
 use Rattle.device_defs.specs.Marks.{MarksDevice, MarksStore}
-use Rattle.device_defs.specs.Outcomes.{Turn, checks, settles, told_step, turned, turned_by}
+use Rattle.device_defs.specs.Outcomes.{Turn, turned}
 use Rattle.device_defs.specs.Owed.{noted_begin, waiting_count}
 use Rattle.device_defs.specs.Store as store
 use Rattle.device_defs.specs.Store.{Origin, OfBackground, OfCommand, OfCut, tracks_of}
@@ -40,11 +36,11 @@ use Rattle.device_laws.proofs.KeptEvents.{Continues, command_goes, second_goes}
 use Rattle.device_laws.proofs.KeptHistories.{extends_itself}
 use Rattle.device_laws.proofs.PlainCommand.{on, runs_on, walking_first}
 use Rattle.device_laws.proofs.PlainEvents.{had_always, had_both}
-use Rattle.device_laws.proofs.PlainLooks.{EditSo, FollowSo, TurnIs, data_check, ended_so, equipment, follow_so, from_itself, half_open}
+use Rattle.device_laws.proofs.PlainLooks.{FollowSo, TurnIs, follow_so, from_itself}
 use Rattle.device_laws.proofs.PlainSeconds.{SecondSo, holds_first, part_so}
 use Rattle.device_laws.proofs.PlainStores.{Core, Open, Walks, core_of}
-use Rattle.device_laws.proofs.PlainTurns.{Follows, Halfway, IsMid, IsMidOf, RunsAt, none_mid, some_none}
-use Rattle.device_laws.proofs.PlainWalks.{IsEdited, ended_same, firmly, hear_same, loosely, loosened}
+use Rattle.device_laws.proofs.PlainTurns.{Follows, Halfway, IsMid, IsMidOf, none_mid, some_none}
+use Rattle.device_laws.proofs.PlainWalks.{ended_same, hear_same}
 use Rattle.device_laws.proofs.WholeEvents.{turned_same}
 use Rattle.subsystem_defs.specs.Happening.{Talk}
 use Rattle.subsystem_laws.proofs.LendBase.{IsStill, stays_still}
@@ -74,10 +70,6 @@ HalfLeft y (Some (steps.Ended e)) = HasHalf y half.Closed
 HalfLeft y (Some (steps.Half t)) = HasHalf y half.OfCommand
 HalfLeft y None = ⊥
 
-turned_left : (w : MarksDevice) (path : ℕ) (chain : ChainState) (c : Came) → HasHalf w (half_after c) →
-    HalfLeft (turned_by w path chain c) (Some (told_step c))
-turned_left w path chain c p = grind (arith, turned_same)
-
 module _ (x : MarksDevice) where
   abbrev pub On : PlainState → Core → Type 0
   On p c = Walks p x.store.plain x.store.geometry x.store.cylinders (None, (x.store.lent, x.store.device)) c
@@ -102,43 +94,26 @@ module _ (x : MarksDevice) where
 
 module _ (num : ℕ) (empty : PlainState) (x : MarksDevice) (f : Follows num empty x) (o : OpenEntry) (running : x.history.running ≡ Some o) (chain : ChainState)
     (is : f.before ≡ Some chain) where
-  abbrev p : PlainState
-  p = plain_of x.plans empty x.history
-
-  edited_half : (provisional : Bool) (t : ℕ) (e : _) (c : Core) →
-      IsEdited (plain_of x.plans empty x.history) x.store.plain x.store.geometry x.store.cylinders (None, (x.store.lent, x.store.device)) provisional t e c →
-      half_by c.half ≡ half.Closed
-  edited_half provisional t e c x5 = grind (arith, walked_half)
-
   module _ (now : x.chain ≡ Some chain) (whole : x.store.half ≡ None) (s : MarksStore) (e : core_of s ≡ core_of (noted_begin x.store)) where
-    abbrev started : MarksDevice
-    started = record (event_begun x) { store = s }
-
     first_half : half_by s.half ≡ half.Closed
-    first_half = walked_half x p (core_of s) (walking_first num empty x f o running chain is now whole s e)
+    first_half = walked_half x (plain_of x.plans empty x.history) (core_of s) (walking_first num empty x f o running chain is now whole s e)
 
     -- it looked at tracks
-    module _ (first : ℕ) where
-      edit_half : (edit : Option TrackEdit) (c : Core) →
-          EditSo (plain_of x.plans empty x.history) x.store.plain x.store.geometry x.store.cylinders (None, (x.store.lent, x.store.device))
-          (settled_act chain.fixed.geometry x.paths o.path) chain (on num empty x f o running chain is).0 first edit c → half_by c.half ≡ half.Closed
-      edit_half edit c w = grind (arith, walked_half, edited_half)
-
-      turn_half : (k : List Track → Fed) (turn : Turn) (c : Core) →
-          TurnIs (plain_of x.plans empty x.history) x.store.plain x.store.geometry x.store.cylinders (None, (x.store.lent, x.store.device))
-          (settled_act chain.fixed.geometry x.paths o.path) chain (on num empty x f o running chain is).0 first k first turn c →
-          half_by c.half ≡ half_after turn.came
-      turn_half k turn c x4 = grind (arith, edit_half, walked_half)
+    turn_half : (first : ℕ) (k : List Track → Fed) (turn : Turn) (c : Core) →
+        TurnIs (plain_of x.plans empty x.history) x.store.plain x.store.geometry x.store.cylinders (None, (x.store.lent, x.store.device))
+        (settled_act chain.fixed.geometry x.paths o.path) chain (on num empty x f o running chain is).0 first k first turn c →
+        half_by c.half ≡ half_after turn.came
+    turn_half first k turn c x4 = grind (arith, walked_half)
 
     by_turn : (t : ℕ) (y : MarksStore) (a : Option Turn) →
         FollowSo (plain_of x.plans empty x.history) x.store.plain x.store.geometry x.store.cylinders (None, (x.store.lent, x.store.device))
         (settled_act chain.fixed.geometry x.paths o.path) chain (on num empty x f o running chain is).0 t (tracks_of s) chain t y a →
         Had (on_tracks by_plain (record (event_begun x) { store = s }) o.path chain y a) (λ z b. HalfLeft z b)
-    by_turn t y a w = search (arith, had_done, turned_left, turn_half, core_of)
+    by_turn t y a w = search (arith, had_done, turned_same, turn_half, core_of)
 
     -- or at none
     answered_left : (c : ChainState) (k : Progress) → Had (answered_by by_plain (record (event_begun x) { store = s }) o.path c k) (λ z b. HalfLeft z b)
-    answered_left c k = search (arith, had_done, turned_left)
+    answered_left c k = search (arith, had_done, turned_same)
 
     by_need : (k : Option ℕ) → need_of chain ≡ k → Had (command_at by_plain (record (event_begun x) { store = s }) o.path chain k) (λ z b. HalfLeft z b)
     by_need (Some t) needs =
@@ -151,11 +126,8 @@ module _ (num : ℕ) (empty : PlainState) (x : MarksDevice) (f : Follows num emp
         (walking_first num empty x f o running chain is now whole s e)) (λ y a w. by_turn t y a w)
     by_need None needs = had_try (answered_left (stepped chain None).chain (stepped chain None).progress)
 
-    begun_left : Had (command_by by_plain (record (event_begun x) { store = s }) (Some o) (Some chain)) (λ z b. HalfLeft z b)
-    begun_left = search (arith, had_if, had_done, turned_left, first_half, by_need)
-
     command_by_left : Had (command_by by_plain (record (event_begun x) { store = s }) x.history.running x.chain) (λ z b. HalfLeft z b)
-    command_by_left = search (arith, begun_left)
+    command_by_left = search (arith, had_if, had_done, turned_same, first_half, by_need)
 
 -- An event: its notes, its work, its end
 
@@ -212,9 +184,6 @@ abbrev HalfSecond : MarksDevice → Origin → SecondEnd → Type 0
 HalfSecond y origin a = HasHalf y half.Closed × IsToldBy origin a
 
 module _ (num : ℕ) (empty : PlainState) (x : MarksDevice) (f : Follows num empty x) where
-  abbrev at : PlainState
-  at = plain_of x.plans empty x.history
-
   second_half : (t : ℕ) (origin : Origin) (z : MarksStore) (done : Bool) →
       SecondSo (plain_of x.plans empty x.history) x.store.plain x.store.geometry x.store.cylinders (x.store.lent, x.store.device) t origin z done →
       half_by z.half ≡ half.Closed
@@ -228,7 +197,7 @@ module _ (num : ℕ) (empty : PlainState) (x : MarksDevice) (f : Follows num emp
   ended_second : (s z : MarksStore) (t : ℕ) (path : ℕ) (chain : ChainState) (bypass : Bool) (e : _) (done : Bool) → half_by z.half ≡ half.Closed →
       HalfSecond (turned (with_store (record (event_begun x) { store = s }) z) path (second_turn by_plain chain done)) (OfCommand bypass e)
       (V.second_told by_plain t (second_turn by_plain chain done).came)
-  ended_second s z t path chain bypass e done is = grind (arith, turned_left)
+  ended_second s z t path chain bypass e done is = grind (arith, turned_same)
 
   of_command : (s z : MarksStore) (t : ℕ) (bypass : Bool) (edit : _) (done : Bool) → Halfway (core_of x.store) t edit x.history.running f.before x.chain →
       half_by z.half ≡ half.Closed → AreActs (plain_of x.plans empty x.history) None z.acts → (o : OpenEntry) → x.history.running ≡ Some o →

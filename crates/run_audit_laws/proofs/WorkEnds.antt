@@ -1,13 +1,12 @@
 -- The lines of one piece of work, whichever event line has it.
-use Rattle.std.proofs.Common.{arith, ◌≡◌, ◌==◌, ◌++◌, ℕ, Bool, true, false, List, [], ◌∷◌, map, Option, Some, None, refl, sym, ap, subst, ◌∙◌, if◌then◌else◌}
-use Rattle.std.specs.Prelude.{◌&&◌, Err, option_map}
+use Rattle.std.proofs.Common.{arith, ◌≡◌, ◌==◌, ◌++◌, ℕ, Bool, true, false, List, ◌∷◌, map, Option, Some, None, refl, ap, ◌∙◌, if◌then◌else◌}
+use Rattle.std.specs.Prelude.{◌&&◌}
 use Rattle.std.proofs.lemmas.Bool.{or_left, or_right, and_from}
 use Rattle.ckd_types.specs.declared.channel.CommandEnd.{CommandEnd}
 use Rattle.ckd_types.specs.Sense.{equipment_sense}
 use Rattle.deck_plan.specs.declared.event.EventLine.{EventLine}
 use Rattle.deck_plan.specs.declared.event.EventLine.TheVariants as events
 use Rattle.plain_defs.specs.declared.journal.Act.{Act}
-use Rattle.plain_defs.specs.declared.journal.Act.TheVariants.{Loosen}
 use Rattle.plain_defs.specs.History.{IsPlain, OpenEntry, checked, ended}
 use Rattle.plain_defs.specs.Legal.{AreActs}
 use Rattle.device_defs.specs.Device.{all_acted}
@@ -23,16 +22,15 @@ use Rattle.report_places.specs.declared.state.Due.TheVariants.{Next}
 use Rattle.report_places.specs.declared.state.HalfWrite.{HalfWrite}
 use Rattle.report_places.specs.declared.state.HalfWrite.TheVariants as half
 use Rattle.report_places.specs.declared.state.Outline.{Outline}
-use Rattle.report_places.specs.Place.{holds, in_event, in_steps, is_back_line, is_second_line, may_back, may_step, outline_in, second_of, worker_of}
-use Rattle.deck_audit.specs.Device.{AuditedDevice, check_end, device_in, is_idle, open_program, outline_of, state_of, with_device, words_of_open}
-use Rattle.deck_audit.specs.History.{back_half, event_made, is_last, is_legal, work_made}
+use Rattle.report_places.specs.Place.{holds, in_event, is_back_line, is_second_line, may_back, may_step, outline_in, second_of, worker_of}
+use Rattle.deck_audit.specs.Device.{AuditedDevice, device_in, is_idle, open_program, outline_of, state_of, with_device}
+use Rattle.deck_audit.specs.History.{back_half, event_made, is_last, work_made}
 use Rattle.deck_audit.specs.State.{AuditState, outlines, worked}
-use Rattle.report_auditor.specs.declared.status.AuditWhy.TheVariants.{Place}
 use Rattle.report_auditor.specs.Verdict.{judged, or_history}
-use Rattle.run_audit_laws.specs.Steps.{LeadsTowards, NoLoss, Reaches, act_line, acted_to, over_if, over_told, step_lines}
+use Rattle.run_audit_laws.specs.Steps.{LeadsTowards, NoLoss, act_line, acted_to, over_if, over_told, step_lines}
 use Rattle.run_audit_laws.proofs.Backs.{over_halved, over_worked, work_leads}
-use Rattle.run_audit_laws.proofs.CameOut.{ChecksSo, EndsSo, firmly, loosely}
-use Rattle.run_audit_laws.proofs.Commands.{check_command_leads, loose_command_leads, plain_command_leads}
+use Rattle.run_audit_laws.proofs.CameOut.{ChecksSo, EndsSo}
+use Rattle.run_audit_laws.proofs.Commands.{check_leads, command_leads}
 use Rattle.run_audit_laws.proofs.Found.{outlined}
 use Rattle.run_audit_laws.proofs.Leading.{then_some}
 use Rattle.run_audit_laws.proofs.Saying.{same_number}
@@ -72,11 +70,11 @@ by_test : (l : List AuditedDevice) (w : EventLine) (later : List EventLine) (b :
 by_test l w later b = grind arith
 
 module _ (xs : List AuditedDevice) (later : List EventLine) (n : ℕ) (first : AuditedDevice) (has : device_in xs n ≡ Some first) where
-  settle_is : (b : AuditedDevice) (did : Did) → behind_event xs (events.Settle n) later n refl first has b did
+  settle_is : (b : AuditedDevice) (did : Did) → behind_event xs (events.Settle n) later b did
       ≡ behind_piece xs (events.Settle n) later b (last_of did)
   settle_is b did = grind (arith, by_test)
 
-  pub piece_is : (w : EventLine) (k : IsWork n w) (b : AuditedDevice) (did : Did) → behind_event xs w later n (works k) first has b did
+  pub piece_is : (w : EventLine) (k : IsWork n w) (b : AuditedDevice) (did : Did) → behind_event xs w later b did
       ≡ behind_piece xs w later b (last_of did)
   piece_is w of_step b did = refl
   piece_is w of_back b did = refl
@@ -160,35 +158,23 @@ module _ (xs : List AuditedDevice) (later : List EventLine) (a : AuditedDevice) 
     -- A command that ends
 
     module _ (w : EventLine) (h : HalfWrite) (k : MayEnd a.number w h) (is : a.half ≡ h) (plainly : IsPlain a.plans a.empty a.history) where
-      over_piece : (b : AuditedDevice) (same : b.number ≡ a.number) (more : Bool) (e : CommandEnd) (legal : is_legal (Ended e) b ≡ true)
-          (line : ReportLine) (over : Bool) →
-          end_of xs w later a.number (works (ends_work k)) a has b same more (Ended e) legal (over_if over line) ≡ behind_piece xs w later (worked b (Ended e)) false
-      over_piece b same more e legal line over = grind (arith, piece_is, ends_work)
+      over_piece : (b : AuditedDevice) (did : Did) (over : Option ReportLine) → last_of did ≡ false →
+          end_of xs w later b did over ≡ behind_piece xs w later (worked b did) false
+      over_piece b did over last = grind (arith, piece_is, ends_work)
 
       pub ends_lead : (reads writes : ℕ) (e : CommandEnd) (acts : List Act) → EndsSo a o e acts → (e.sense ≡ Some equipment_sense → ⊥) →
           LeadsTowards (record { devices = xs; events = w ∷ later; due = Next }) (step_lines a o e acts reads writes (over_if e.over (over_told a o how.Full)))
           (behind_piece xs w later (record a { history = ended (all_acted a.history acts) e; half = half.Closed }) false)
-      ends_lead reads writes e acts (firmly bs plain none are legal) few =
-          let leads = plain_command_leads xs w later a has (works (ends_work k)) o running plainly (end_stands w h k is) (makes w (ends_work k)) e plain few bs
-          none are reads writes legal in
-          (leads.0, leads.1, subst (λ (t : AuditState). Reaches (worker_of w) leads.0 t) (over_piece (acted_to a bs) refl true e legal (over_told a o how.Full) e.over) leads.2)
-      ends_lead reads writes e acts (loosely bs t plain none are may legal) few =
-          let leads = loose_command_leads xs w later a has (works (ends_work k)) o running plainly (end_stands w h k is) (makes w
-          (ends_work k)) e plain few bs none are reads writes t may legal in
-          (leads.0, leads.1, rw (← (over_piece (acted_to a (bs ++ Loosen t ∷ [])) refl false e legal (over_told a o how.Full) e.over)) leads.2)
+      ends_lead reads writes e acts so few =
+          let leads = command_leads xs w later a has (works (ends_work k)) o running plainly (end_stands w h k is) (makes w (ends_work k)) reads writes e acts so few in
+          (leads.0, leads.1, rw (← (over_piece (acted_to a acts) (Ended e) (over_if e.over (over_told a o how.Full)) refl)) leads.2)
 
       pub checks_lead : (reads writes : ℕ) (e : CommandEnd) (acts : List Act) → NoLoss acts → (c : ChecksSo a o e acts) → (c.plain.sense ≡ Some equipment_sense → ⊥) →
           LeadsTowards (record { devices = xs; events = w ∷ later; due = Next }) (step_lines a o e acts reads writes (Some (over_told a o how.Checked)))
           (behind_piece xs w later (record a { history = checked (all_acted a.history acts) e; half = half.Closed }) false)
       checks_lead reads writes e acts none c few =
-          let leads = check_command_leads xs w later a has (works (ends_work k)) o running plainly (end_stands w h k is) (makes w
-          (ends_work k)) c.plain c.is_plain few acts none c.are reads writes c.sense c.is_check in
-          rw c.is_so (
-            leads.0,
-            leads.1,
-            rw (← (piece_is xs later a.number a has w (ends_work k) (worked (acted_to a acts) (CheckEnded (check_end
-                (words_of_open a o) c.plain.index c.sense))) Halved)) leads.2,
-          )
+          let leads = check_leads xs w later a has (works (ends_work k)) o running plainly (end_stands w h k is) (makes w (ends_work k)) reads writes e acts none c few in
+          (leads.0, leads.1, rw (← (over_piece (acted_to a acts) (CheckEnded e) (Some (over_told a o how.Checked)) refl)) leads.2)
 
     -- The first part of a write
 

@@ -1,4 +1,4 @@
-use Rattle.run_audit_laws.proofs.Backs.{back_leads}
+use Rattle.run_audit_laws.proofs.StepEnds.{back_leads}
 use Rattle.run_audit_laws.proofs.law.back_leads.Goals as goal
 
 pub returns : goal.returns

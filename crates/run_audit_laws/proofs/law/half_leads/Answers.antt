@@ -1,4 +1,4 @@
-use Rattle.run_audit_laws.proofs.Backs.{half_leads}
+use Rattle.run_audit_laws.proofs.StepEnds.{half_leads}
 use Rattle.run_audit_laws.proofs.law.half_leads.Goals as goal
 
 pub returns : goal.returns
