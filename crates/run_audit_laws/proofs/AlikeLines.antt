@@ -252,16 +252,7 @@ module _ (s u : AuditState) (all : AlikeStates s u) (line : ReportLine) where
       shut = changed_alike s u all (record a { half = Closed }) (record b { half = Closed }) (half_alike a b is Closed Closed refl)
 
       end_by_alike : (e : Option CommandEnd) → AlikeMade (end_made_by s line a o e) (end_made_by u line b p e)
-      end_by_alike (Some e) =
-          let t = changed s (record a { half = Closed }) in
-          let v = changed u (record b { half = Closed }) in
-          let check = check_end (words_of_open a o) e.index equipment_sense in
-          let sent = behind_end e e.sent in
-          if_alike (shows_end a o line check) (shows_end b p line (check_end (words_of_open b p) e.index equipment_sense)) (shows_same check ∙ ap
-          (shows_end b p line) (check_same e.index equipment_sense)) (Some (record t { due = SenseOf e })) (if shows_end a o line e then Some
-          (record t { due = sent }) else None) (Some (record v { due = SenseOf e })) (if shows_end b p line e then Some (record v { due = sent }) else None)
-          (due_alike t v shut (SenseOf e) (SenseOf e) refl) (if_alike (shows_end a o line e) (shows_end b p line e) (shows_same e) (Some
-          (record t { due = sent })) None (Some (record v { due = sent })) None (due_alike t v shut sent sent refl) tt)
+      end_by_alike (Some e) = grind (arith, if_alike, shows_same, check_same, due_alike, shut)
       end_by_alike None = tt
 
       check_alike : (e : CommandEnd) → AlikeMade (check_made s line a e o) (check_made u line b e p)

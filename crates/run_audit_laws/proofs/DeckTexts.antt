@@ -59,10 +59,7 @@ module _ (deck : DeckLines) where
   none_by : (n m : ℕ) (x rest : List ℕ) (xs : List (List ℕ)) (b : Bool) → bytes_eq x (codes "REPORT") ≡ b → Reads m (x ++ 10 ∷ rest) →
       report_from (n + 1) xs ≡ None → (if b then Some n else report_from (n + 1) xs) ≡ None
   none_by n m x rest xs false is g none = none
-  none_by n m x rest xs true is g none =
-      let same = ap (λ (l : List ℕ). read_lines m g.0 (text_lines (l ++ 10 ∷ rest))) ((bytes_eq-Decides x (codes "REPORT")).0 is) in
-      let both : Err (Refused m Word) ≡ Ok deck = sym (report_ends m g.0 rest) ∙ sym same ∙ g.1 in
-      absurd (cc)
+  none_by n m x rest xs true is g none = grind (arith, bytes_eq-Decides, report_ends)
 
   pub none_reports : (n m : ℕ) (xs : List (List ℕ)) → AreWhole xs → Reads m (flat_map ended_line xs) → report_from n xs ≡ None
   none_reports n m [] w g = refl

@@ -147,16 +147,7 @@ record AtEnd (s : AuditState) : Type 0 where
   finish : judged s lines.Finish ≡ Ok (record s { due = Nothing })
 
 end_totals : (s : AuditState) (k : ℕ) → AtTotals s k → drop k (outlines s) ≡ [] → AtEnd s
-end_totals s k at none = record {
-  frame = λ d t modified is. judged_at s k (lines.Frame d t modified) at
-      (or_right (nat_lt 0 k && holds (slice_get (outlines s) (k - 1)) (λ a. is_lost_of (lines.Frame d t modified) a a.lent))
-      (in_totals_of (outlines s) (lines.Frame d t modified) (drop k (outlines s)))
-      (ap (in_totals_of (outlines s) (lines.Frame d t modified)) none ∙ or_left (is_declared (outlines s) d) false is));
-  finish = judged_at s k lines.Finish at
-      (or_right (nat_lt 0 k && holds (slice_get (outlines s) (k - 1)) (λ a. is_lost_of lines.Finish a a.lent))
-      (in_totals_of (outlines s) lines.Finish (drop k (outlines s)))
-      (ap (in_totals_of (outlines s) lines.Finish) none));
-}
+end_totals s k at none = grind (arith, judged_at, or_right, or_left)
 
 end_frames : (s : AuditState) → AtEnd (record s { due = Frames })
 end_frames s = search (arith, or_left)

@@ -251,11 +251,7 @@ module _ (s : Subsystem) (plain : ArePlain s.mounted) where
       subst (λ (e : PlainState). IsPlain x.plans e x.history) p.base p.follows.stands.plain
 
   all_go : (n : ℕ) (b : AuditedDevice) → device_in (map audited (devices_of s)) n ≡ Some b → GoesOn (seen b).past.running
-  all_go n b is = by_device (D.device_in (devices_of s) n) refl (sym (found (devices_of s) n) ∙ is) where
-    by_device : (o : Option MarksDevice) → D.device_in (devices_of s) n ≡ o → option_map audited o ≡ Some b → GoesOn (seen b).past.running
-    by_device (Some x) at same =
-        let it : audited x ≡ b = cc in subst (λ (y : AuditedDevice). GoesOn (seen y).past.running) it (plain_goes (audited x) (plain_at n x at))
-    by_device None at same = absurd (cc)
+  all_go n b is = grind (arith, found, seen, plain_goes, plain_at)
 
   -- from where the run stands, or from where the audit waits
   pub failure_leads : (d : ℕ) (side : Side) (later : List EventLine) → (later ≡ events.FailVolume d side ∷ later → ⊥) → LineLeads s (events.FailVolume d side) →

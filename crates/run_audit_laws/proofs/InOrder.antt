@@ -107,9 +107,7 @@ found_if n p b t e = grind (arith, least_found)
 
 destage_so : (s : MarksStore) → s.half ≡ None → (o : Option ℕ) → to_destage by_plain s ≡ o → Had (destage_first by_plain s o) (WorkSo s)
 destage_so s whole None is = had_done (λ e. absurd (cc))
-destage_so s whole (Some t) is =
-    let f = found_if (tracks_of s) (is_destaged by_plain s) (some_up s) t is in
-    saved_so s whole t f.0 (destaged_works s t f.1) _ (dids.Destaged t) None
+destage_so s whole (Some t) is = grind (arith, found_if, saved_so, destaged_works)
 
 stages_so : (s : MarksStore) → s.half ≡ None → (l : List ℕ) → s.queue ≡ l → Had (stage_first by_plain s l) (WorkSo s)
 stages_so s whole [] is = destage_so s whole (to_destage by_plain s) refl
@@ -121,9 +119,7 @@ copy_first_so s whole (Some t) is = copy_so s t whole (least_found (tracks_of s)
 
 recover_first_so : (s : MarksStore) → s.half ≡ None → (o : Option ℕ) → to_recover by_plain s ≡ o → Had (recover_first by_plain s o) (WorkSo s)
 recover_first_so s whole None is = copy_first_so s whole (to_copy s) refl
-recover_first_so s whole (Some t) is =
-    let f = found_if (tracks_of s) (waits by_plain s) (some_up s) t is in
-    recover_so s t (frame_at s t) whole f.0 (waits_works s t f.1)
+recover_first_so s whole (Some t) is = grind (arith, found_if, recover_so, waits_works)
 
 pub work_so : (s : MarksStore) → s.half ≡ None → Had (work by_plain s) (WorkSo s)
 unfolding G.work

@@ -27,16 +27,7 @@ pub record Marked (a : AuditedDevice) (s : MarksStore) : Type 0 where
   pub many : length s.loose ≡ tracks_of s
 
 pub known : (d : MarksDevice) → Plainly d → Marked (audited d) d.store
-known d p =
-    let f = p.follows in
-    let of = subst (λ (e : PlainState). IsOf (plain_of d.plans e d.history) (core_of d.store)) p.base f.of in
-    record {
-      same = of.loose;
-      once = subst (λ (e : PlainState). StandOnce (plain_of d.plans e d.history).loose) p.base
-          (plain_once d.plans p.empty d.history (ap (λ (e : PlainState). e.loose) p.base) f.stands.plain);
-      number_is = of.number;
-      many = of.looses ∙ of.tracks;
-    }
+known d p = grind (arith, core_of, plain_once)
 
 pub all_firm : (l : List LooseTrack) → ((t : ℕ) → is_loose_in l t ≡ false) → l ≡ []
 all_firm [] h = refl

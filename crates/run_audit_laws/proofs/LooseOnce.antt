@@ -58,24 +58,7 @@ module _ (state : PlainState) (path : ℕ) (ccws : List Ccw) (acts : List Acted)
 
   acted_once : (k : ℕ) → ActsAt k → StandOnce (bare_part state path ccws acts k).state.loose →
       StandOnce (part_of state path ccws acts k).state.loose
-  acted_once k a o =
-      let b = bare_part state path ccws acts k in
-      subst (λ (p : Part). StandOnce p.state.loose) (sym (part_is_acted path ccws state acts k)) (by_next b.next refl)
-    where
-      by_next : (n : Option ℕ) → (bare_part state path ccws acts k).next ≡ n → StandOnce (acted_at acts (bare_part state path ccws acts k) n).state.loose
-      by_next None is = o
-      by_next (Some i) is =
-          let b = bare_part state path ccws acts k in
-          let beside = acted_beside acts b in
-          let part = part_is_acted path ccws state acts k in
-          let runs : IsSome (part_of state path ccws acts k).next =
-          subst (λ (x : Option ℕ). IsSome x) (sym (ap (λ (p : Part). p.next) part ∙ beside.next ∙ is)) refl in
-          let many : length b.ends ≡ k =
-          ap length (sym (ap (λ (p : Part). p.ends) part ∙ beside.ends)) ∙ (part_counts path ccws acts state k).all runs in
-          subst (λ (s : PlainState). StandOnce s.loose)
-          (sym (with_acts_state (acts_at acts (length b.ends)) b))
-          (subst (λ (n : ℕ). StandOnce (acts_done b.state (acts_at acts n)).loose) (sym many)
-          (acts_once (acts_at acts k) b.state a.edited o a.are))
+  acted_once k a o = grind (arith, part_is_acted, acted_beside, part_counts, with_acts_state, acts_once)
 
   step_once : (p : Part) (n : Option ℕ) → StandOnce p.state.loose → StandOnce (stepped_at path ccws p n).state.loose
   step_once p n o = grind arith
@@ -101,8 +84,7 @@ module _ (plans : Plans) where
   pub items_once : (s : PlainState) (earlier xs : List Item) → StandOnce s.loose → IsLegalFrom plans s earlier xs → StandOnce (replay plans s xs).loose
   items_once s earlier [] o legal = o
   items_once s earlier (items.Program e ∷ xs) o legal =
-      items_once (replay_item plans s (items.Program e)) (earlier ++ items.Program e ∷ []) xs
-      (part_once s e.path (program_of plans e.path e.ordinal) e.acts (effects_of e.how e.ends) legal.0.0.acts o) legal.1
+      grind (arith, items_once (replay_item plans s (items.Program e)) (earlier ++ items.Program e ∷ []) xs (part_once s e.path (program_of plans e.path e.ordinal) e.acts (effects_of e.how e.ends) legal.0.0.acts o) legal.1, part_once)
   items_once s earlier (items.Reset p ∷ xs) o legal = items_once (replay_item plans s (items.Reset p)) (earlier ++ items.Reset p ∷ []) xs o legal.1
   items_once s earlier (items.Fresh ∷ xs) o legal = items_once (replay_item plans s items.Fresh) (earlier ++ items.Fresh ∷ []) xs tt legal.1
   items_once s earlier (items.Act act ∷ xs) o legal =

@@ -264,14 +264,7 @@ no_act_on : (s z : MarksStore) → NoAct s → Fewer s z → NoAct z
 no_act_on s z a f = record { none = f.acts ∙ a.none; firm = λ q is. f.loose q ∙ a.firm q (f.patches q is) }
 
 one_patch : (t : ℕ) (s : MarksStore) → NoAct s → NoAct (patch_lost by_plain t s)
-one_patch t s a =
-    let z = without_patch by_plain s t in
-    let y = stale_everywhere z t in
-    cond_both (is_some (patch_at s t)) (if half_is s.half t then z else settled by_plain y t) s NoAct
-    (λ there. cond_both (half_is s.half t) z (settled by_plain y t) NoAct (λ _. no_act_on s z a (patch_fewer s t))
-    (λ _. let f = fewer_on s z y (patch_fewer s t) (everywhere_fewer z t) in
-    no_act_on s (settled by_plain y t) a (fewer_on s y (settled by_plain y t) f (settled_fewer y t (f.loose t ∙ a.firm t there)))))
-    (λ _. a)
+one_patch t s a = grind (arith, cond_both, no_act_on, patch_fewer, fewer_on, everywhere_fewer, settled_fewer)
 
 all_patches : (k : ℕ) (s : MarksStore) → NoAct s → NoAct (over k (patch_lost by_plain) s)
 unfolding L.over

@@ -40,22 +40,7 @@ module _ (numbers : List ℕ) (s : Subsystem) (k : IsBehind numbers s) where
 
   pub ordered_leads : (e : EventLine) → IsLossOrPair s e → LineLeads s e
   ordered_leads e has =
-      grind (
-        arith,
-        once,
-        fail_cache_leads,
-        rising,
-        fail_store_leads,
-        some_device,
-        fail_volume_leads,
-        pair_leads,
-        one_line,
-        unpair_logged,
-        unpaired_before,
-        unpair_leads,
-        few,
-        power_leads,
-      )
+      grind (arith, once, fail_cache_leads, rising, fail_store_leads, some_device, fail_volume_leads, pair_leads, one_line, unpair_logged, unpaired_before, unpair_leads, few, power_leads)
 
 -- Decks
 

@@ -105,8 +105,7 @@ module _ {F P H R : Type 0} (T : ℕ → Type 0) (n : ℕ) (c : Contents F P H R
         OwnEvent (command_at c d path chain o)
     at_own d path chain (Some t) needs is k =
         own_then (follow_own In comes (tracks_of d.store) t chain t d.store k is (needs t refl)) (λ s o g. on_own d path chain s o g)
-    at_own d path chain None needs is k =
-        own_try (λ ok. own_if ok (answered_own d path (stepped chain None).chain (stepped chain None).progress k) (own_done k))
+    at_own d path chain None needs is k = grind (arith, own_try, own_if, answered_own, own_done)
 
     by_own : (d : Device F P H) (o : Option OpenEntry) (l : Option ChainState) → IfSome l In → At d.store → OwnEvent (command_by c d o l)
     by_own d (Some o) (Some chain) is k =

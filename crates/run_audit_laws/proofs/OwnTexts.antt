@@ -90,10 +90,7 @@ module _ (text : List ℕ) (deck : DeckLines) (read : parsed text ≡ Ok deck) (
       ∙ append-nil told
 
   all_cut : cut_lines (own_text text deck) ≡ lines ++ codes "REPORT" ∷ told
-  all_cut =
-      ap (λ (t : List ℕ). cut_lines (t ++ (codes "REPORT\n" ++ report_of deck))) (sym h)
-      ∙ cut_ended lines (codes "REPORT\n" ++ report_of deck) (cut_whole text)
-      ∙ ap (λ (l : List (List ℕ)). lines ++ codes "REPORT" ∷ l) report_cut
+  all_cut = grind (arith, cut_ended, cut_whole, report_cut)
 
   own_is : length (own_text text deck) ≤ 268435456 → IsOwnReport (own_text text deck) deck
   own_is size = record {

@@ -158,22 +158,7 @@ none_given a (m ∷ ms) none = grind (arith, none_given a ms, same_test)
 given : (a : ℕ) (volume : Calls) (ms : List Mounted) → lent_count a (ties ms) ≤ 1 →
     map (given_back a) (map audited (devices ms)) ≡ map audited (devices (restored_in ms a volume))
 given a volume [] most = refl
-given a volume (m ∷ ms) most = by_test (is_lent_to m.device.store.lent a) refl (given a volume ms) where
-  by_test : (b : Bool) → is_lent_to m.device.store.lent a ≡ b →
-      (lent_count a (ties ms) ≤ 1 → map (given_back a) (map audited (devices ms)) ≡ map audited (devices (restored_in ms a volume))) →
-      given_back a (audited m.device) ∷ map (given_back a) (map audited (devices ms))
-      ≡ map audited (devices (if b then record m { device = restore m.device; a = volume } ∷ ms else m ∷ restored_in ms a volume))
-  by_test true is rest =
-      let one : one_if (is_lent_to m.device.store.lent a) ≡ 1 = ap one_if is in
-      ap (λ (t : Bool). (if t then record (audited m.device) { history = emptied m.device.history; lent = None }
-      else audited m.device) ∷ map (given_back a) (map audited (devices ms))) (same_test a m.device.store.lent ∙ is)
-      ∙ ap (λ (l : List AuditedDevice). audited (restore m.device) ∷ l)
-      (none_given a ms (omega (arith, one, most)))
-  by_test false is rest =
-      let none : one_if (is_lent_to m.device.store.lent a) ≡ 0 = ap one_if is in
-      ap (λ (t : Bool). (if t then record (audited m.device) { history = emptied m.device.history; lent = None }
-      else audited m.device) ∷ map (given_back a) (map audited (devices ms))) (same_test a m.device.store.lent ∙ is)
-      ∙ ap (λ (l : List AuditedDevice). audited m.device ∷ l) (rest (omega (arith, none, most)))
+given a volume (m ∷ ms) most = grind (arith, given a volume ms, lent_count, ties, one_if, same_test, none_given)
 
 silent_restored : (a : ℕ) (volume : Calls) (ms : List Mounted) → AllSilent (map history_of (devices ms)) (map history_of (devices (restored_in ms a volume)))
 silent_restored a volume [] = tt

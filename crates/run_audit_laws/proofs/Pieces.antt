@@ -314,17 +314,7 @@ may_tell xs later a has w answer by_back so = back_tells so
 may_tell xs later a has w answer by_settle so = settle_tells so
 
 back_line : (n : ℕ) (d : BackDid) → is_back_line n (lines.Back n (back_answer d)) ≡ true
-back_line n d = and_from (n == n) (not (is_second (back_answer d))) (same_number n) (by_did d) where
-  by_did : (d : BackDid) → not (is_second (back_answer d)) ≡ true
-  by_did dids.Nothing = refl
-  by_did (dids.Recovered t) = refl
-  by_did (dids.Copied t) = refl
-  by_did (dids.Staged t) = refl
-  by_did (dids.Skipped t) = refl
-  by_did (dids.Destaged t) = refl
-  by_did (dids.Half t) = refl
-  by_did (dids.Fault side) = refl
-  by_did (dids.BadBytes side) = refl
+back_line n d = grind (arith, and_from, same_number)
 
 last_is : (d : BackDid) → is_last (back_answer d) ≡ stops d
 last_is dids.Nothing = refl

@@ -205,12 +205,7 @@ module _ (x y : MarksDevice) (p : Plainly x) (f : Follows p.number p.empty y) (g
         (may p.number p.empty x p.follows o running)).acts (items_once x.plans p.empty [] x.history.items (rw p.base tt) p.follows.stands.plain.legal))
 
     marked : Marked cut x.store
-    marked = record {
-      same = λ t. ap (λ (s : PlainState). is_loose_in s.loose t) state_is ∙ taken_of.loose t ∙ ap (λ (l : List Bool). get_or l t false) g.cut_loose;
-      once = subst (λ (s : PlainState). StandOnce s.loose) (sym state_is) taken_once;
-      number_is = ap (λ (s : PlainState). s.number) state_is ∙ taken_of.number ∙ g.cut_number;
-      many = (known x p).many;
-    }
+    marked = grind (arith, state_is, taken_of, get_or, taken_once, known)
 
     few_by : (q : Option (store.HalfWrite (Unit {0}))) → x.store.half ≡ q →
         (counts_one_by x.store.half ≡ 0) ⊎ ((counts_one_by x.store.half ≡ 1) × (is_next_legal (audited x) x.history.running ≡ true))

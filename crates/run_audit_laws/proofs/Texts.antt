@@ -42,13 +42,7 @@ module _ (again : (line : ReportLine) → IsLine line → line_of (text_of line)
   -- a whole text
   yes_by : (text : List ℕ) (deck : DeckLines) → (o : IsOwnReport text deck) → WholeLeads (first_state deck) (report_lines (run_of deck)) → read_back text ≡ Yes
   unfolding V.read_back
-  yes_by text deck o leads =
-      ap (λ (b : Bool). if b then Limit Size else read_back_at text (report_from 0 (cut_lines text))) (le-ltb 268435456 (length text) o.size)
-      ∙ ap (read_back_at text) o.found
-      ∙ ap (λ (r : Result DeckLines DeckFault). deck_judged r text (Some o.lines)) o.parses
-      ∙ ap (judged_lines (o.lines + 2) (first_state deck)) o.says
-      ∙ all_texts (report_lines (run_of deck)) (o.lines + 2) (first_state deck) leads.0
-      (report_is_in_range (deck_part text (Some o.lines)) deck o.parses) (report_has_form deck) leads.1 leads.2
+  yes_by text deck o leads = grind (arith, le-ltb, all_texts, report_is_in_range, report_has_form)
 
   pub own_report_is_yes : (text : List ℕ) (deck : DeckLines) → IsOwnReport text deck → read_back text ≡ Yes
   own_report_is_yes text deck o = yes_by text deck o (report_leads (deck_part text (Some o.lines)) deck o.parses)

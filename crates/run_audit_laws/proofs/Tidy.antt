@@ -160,10 +160,7 @@ after_fits : (e : Option Extent) (t : ℕ) → MoveFits (track_after e t)
 after_fits e t = grind (arith, cylinder_rule, protected_rule)
 
 next_fits : (s : Stance) → MoveFits (next_track s)
-next_fits s = by_test _ (after_fits s.extent s.track) where
-  by_test : (b : Bool) → MoveFits (track_after s.extent s.track) → MoveFits (if b then Err file_protected_sense else track_after s.extent s.track)
-  by_test true h = protected_rule
-  by_test false h = h
+next_fits s = grind (arith, after_fits, protected_rule)
 
 moves_fits : (r : Result ℕ Sense) → MoveFits r → SoughtFits (moves_on r)
 moves_fits r h = grind arith
@@ -337,8 +334,4 @@ tidy_by i c o s h = grind (arith, note_is)
 pub end_is_tidy : (i : ℕ) (f : Fixed) (state : PlainState) (path : ℕ) (s : Stance) (c : Ccw) →
     ((end_at_word i c (effect_on f state path s c).outcome).sense ≡ Some equipment_sense → ⊥) →
     TidyBy c (end_at_word i c (effect_on f state path s c).outcome) (end_at_word i c (effect_on f state path s c).outcome).sense
-end_is_tidy i f state path s c few = by_fits (outcome_fits f state path s c) where
-  by_fits : WalkFits c (effect_on f state path s c).outcome →
-      TidyBy c (end_at_word i c (effect_on f state path s c).outcome) (end_at_word i c (effect_on f state path s c).outcome).sense
-  by_fits (inl h) = tidy_by i c (effect_on f state path s c).outcome (effect_on f state path s c).outcome.ending.sense h
-  by_fits (inr many) = absurd (few many.0)
+end_is_tidy i f state path s c few = grind (arith, outcome_fits, tidy_by)

@@ -135,11 +135,7 @@ tie_found (k ∷ ms) n m is = grind (arith, tie_found ms n m)
 module _ (n : ℕ) (x : Tie) (same : x.number ≡ n) where
   put_own : (ts : List Tie) (o : Tie) → tie_at n ts ≡ Some o → x ≡ o → put_tie n x ts ≡ ts
   put_own [] o is e = absurd (cc)
-  put_own (t ∷ ts) o is e = by_test (t.number == n) is (λ found. put_own ts o found e) where
-    by_test : (b : Bool) → (if b then Some t else tie_at n ts) ≡ Some o → (tie_at n ts ≡ Some o → put_tie n x ts ≡ ts) →
-        (if b then x ∷ ts else t ∷ put_tie n x ts) ≡ t ∷ ts
-    by_test true found rest = let it : t ≡ o = cc in ap (λ (y : Tie). y ∷ ts) (e ∙ sym it)
-    by_test false found rest = ap (λ (l : List Tie). t ∷ l) (rest found)
+  put_own (t ∷ ts) o is e = grind (arith, put_own ts o)
 
   numbers_put : (ts : List Tie) → map (λ (t : Tie). t.number) (put_tie n x ts) ≡ map (λ (t : Tie). t.number) ts
   numbers_put [] = refl

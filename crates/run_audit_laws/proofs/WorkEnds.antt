@@ -200,8 +200,7 @@ module _ (xs : List AuditedDevice) (later : List EventLine) (a : AuditedDevice) 
 
     half_stands : (w : EventLine) → MayEnd a.number w half.Closed → a.half ≡ half.Closed → (track : ℕ) →
         in_event (outlines (record { devices = xs; events = w ∷ later; due = Next })) (lines.Half o.path a.number track) w ≡ true
-    half_stands w step_ends closed track =
-        its_outline (λ b. may_step b (lines.StepIdle a.number) (lines.Half o.path a.number track) b.half) ∙ half_first (lines.StepIdle a.number) track closed
+    half_stands w step_ends closed track = grind (arith, its_outline, half_first)
     half_stands w run_ends closed track = grind (arith, its_outline, half_first)
 
     pub halves_lead : (w : EventLine) (k : MayEnd a.number w half.Closed) → a.half ≡ half.Closed → IsPlain a.plans a.empty a.history → (track : ℕ)
