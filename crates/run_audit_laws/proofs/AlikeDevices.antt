@@ -198,9 +198,7 @@ module _ (a b : AuditedDevice) (is : Alike a b) where
       ∙ sym (count_bare path b.history.items 0))
 
   left_same : (path : ℕ) → has_left a path ≡ has_left b path
-  left_same path =
-      ap (λ (n : ℕ). nat_le n (length (planned a.plans path))) (next_same path)
-      ∙ ap (λ (l : Plans). nat_le (next_ordinal b path) (length (planned l path))) plans_same
+  left_same path = search (arith, next_same, plans_same)
 
   may_same : (path : ℕ) → may_start a path ≡ may_start b path
   may_same path =

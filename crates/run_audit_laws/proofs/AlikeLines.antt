@@ -294,9 +294,7 @@ module _ (s u : AuditState) (all : AlikeStates s u) (line : ReportLine) where
         if_alike (is_loose_there (state_of a) t) (is_loose_there (state_of b) t) (ap (λ (x : PlainState). is_loose_there x t) (state_same a b is)) _ _ _ _ (act_alike (Harden t) due) tt
 
     loosen_alike : (t : ℕ) (did : Did) → AlikeMade (loosen_made s a t did) (loosen_made u b t did)
-    loosen_alike t (Ended e) =
-        if_alike (may_loosen a a.history.running t) (may_loosen b b.history.running t) (may_loosen_same a b is t) _ _ _ _
-        (act_alike (Loosen t) (Behind false (Ended e))) tt
+    loosen_alike t (Ended e) = search (arith, if_alike, may_loosen_same, act_alike)
     loosen_alike t did = tt
 
     loss_alike : AlikeMade (loss_made s line a) (loss_made u line b)

@@ -95,9 +95,7 @@ module _ (s : Subsystem) (plain : ArePlain s.mounted) (good : AreSo Good s.mount
 
   pub fail_store_leads : EventLeads s wanted.FailStore (Once events.FailStore) (happens s events.FailStore)
   unfolding H.happens E.deed
-  fail_store_leads =
-      down_or s wanted.FailStore orders.FailStore (Once events.FailStore) fails_store (not s.pool.store_up)
-      (Each (store_failed s.pool) (λ x. lose by_plain x losses.Store)) store_leads
+  fail_store_leads = search (arith, down_or, fails_store, not, store_leads)
 
 -- FAIL VOLUME
 

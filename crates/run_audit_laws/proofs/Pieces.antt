@@ -298,8 +298,7 @@ module _ (num : ℕ) (empty : PlainState) (x : MarksDevice) (f : Follows num emp
 
   pub second_leads : (h : store.HalfWrite (Unit {0})) → x.store.half ≡ Some h → (w : EventLine) (idle : Happened) → IsWork x.store.device w →
       Had (ends_by ends.Second (second by_plain x)) (λ y end. ComesTo x y end w idle)
-  second_leads h there w idle k =
-      had_then (second_so h there) (λ y answer c. had_done (second_comes h there h.origin refl w idle k y answer c))
+  second_leads h there w idle k = search (arith, had_then, second_so, had_done, second_comes)
 
 -- Work in the background
 

@@ -71,11 +71,7 @@ module _ (x : MarksDevice) (path : ℕ) where
           half_is = cut.half_is;
         }))
     by_test false = always_done (same_parts (reset_noted by_plain x path 0) refl refl)
-  by_running None =
-      cond_both (has_used x.history path) (Done (record (reset_noted by_plain x path 0) { paths = reset_path x.paths path }) tt) (Done x tt)
-      (λ i. Always i (λ y (_ : Unit {0}). HasParts x y (half_by x.store.half)))
-      (λ used. always_done (same_parts (record (reset_noted by_plain x path 0) { paths = reset_path x.paths path }) refl refl))
-      (λ unused. always_done (same_parts x refl refl))
+  by_running None = search (arith, cond_both, always_done, same_parts)
 
   pub reset_parts : Always (reset by_plain x path) (λ y (_ : Unit {0}). HasParts x y (reset_half x path x.history.running))
   unfolding K.reset

@@ -489,14 +489,7 @@ module _ (ns : List ℕ) where
 
   ties_go : Goes So Shown AnyEvent
   unfolding H.replaced H.unpaired
-  ties_go = record {
-    once = λ s e may t. (event_tied s e t, t);
-    stepped = λ s d t. (event_tied s (events.Step d) t, t);
-    idle = λ s d t. (t, t);
-    backed = λ s d t. (event_tied s (events.Back d) t, t);
-    replaces = λ s d side t. (replaced_tied s d side (mounted_in s.mounted d) refl t, t);
-    unpairs = λ s a t. (unpaired_tied s a (mounted_in s.mounted a) refl t, t);
-  }
+  ties_go = search (arith, event_tied, replaced_tied, unpaired_tied)
 
 -- behind one line
 pub line_tied : (ns : List ℕ) (s : Subsystem) (x : Asked) → Tied ns (ties s.mounted) → Tied ns (ties (last_behind s (line_logged s x)).mounted)
