@@ -75,12 +75,9 @@ module _ (x y : MarksDevice) (acts : List Act) (is : y.history ≡ all_acted x.h
 abbrev pub Silent : History → History → Type 0
 Silent h k = (k ≡ h) ⊎ (k ≡ emptied h)
 
-fresh_acts : (h : History) → acts_in (emptied h) ≡ acts_in h
-fresh_acts h = grind (arith, acts_both, append-nil)
-
 silent_items : (h k : History) → Silent h k → (xs : List Item) × (new_items h k ≡ xs) × (has_power xs ≡ false) × ((n : ℕ) → over_of n xs ≡ None)
     × (acts_in k ≡ acts_in h)
-silent_items h k x3 = grind (arith, none_behind, behind_more, fresh_acts)
+silent_items h k x3 = grind (arith, none_behind, behind_more, acts_both, append-nil)
 
 silent_loose : (x y : MarksDevice) → Silent x.history y.history → loose_lines x y ≡ []
 silent_loose x y so = let s = silent_items x.history y.history so in none_loose x y s.0 s.1 s.2 s.4

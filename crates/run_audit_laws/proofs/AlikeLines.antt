@@ -83,35 +83,8 @@ use Rattle.deck_audit.specs.State.{AuditState, behind_work, is_event_over, outli
 use Rattle.report_auditor.specs.declared.status.AuditWhy.TheVariants.{Place}
 use Rattle.report_auditor.specs.Verdict.{judged, or_history}
 use Rattle.run_audit_laws.specs.Standing.{LeadsBy}
-use Rattle.run_audit_laws.proofs.AlikeDevices.{
-  Alike,
-  alike_self,
-  alike_then,
-  back_alike,
-  both,
-  dark_alike,
-  end_same,
-  event_over_same,
-  half_alike,
-  half_same,
-  history_alike,
-  legal_same,
-  lent_alike,
-  lent_runs_same,
-  loose_same,
-  loss_same,
-  may_loosen_same,
-  next_legal_same,
-  number_same,
-  outline_same,
-  over_same,
-  start_alike,
-  start_same,
-  state_same,
-  with_alike,
-  words_same,
-  worked_alike,
-}
+use Rattle.run_audit_laws.proofs.AlikeDevices.{Alike, alike_self, alike_then, back_alike, both, dark_alike, end_same, event_over_same, half_alike, half_same, history_alike, legal_same, lent_runs_same, loose_same, loss_same, may_loosen_same, next_legal_same, number_same, outline_same, over_same, start_alike, start_same, state_same, with_alike, words_same, worked_alike}
+
 use Rattle.run_audit_laws.proofs.Pasts.{Going, IsFew, act_is_read, cut, cut_in, cut_is_read, going_of, reset_is_read}
 
 abbrev pub AreAlike : List AuditedDevice → List AuditedDevice → Type 0
@@ -139,9 +112,6 @@ AlikeMade x y = ⊥
 if_alike : (c d : Bool) → c ≡ d → (s t u v : Option AuditState) → AlikeMade s u → AlikeMade t v → AlikeMade (if c then s else t) (if d then u else v)
 if_alike c d same s t u v one two = grind arith
 
-unless_alike : (c d : Bool) → c ≡ d → (t v : Option AuditState) → (c ≡ false → AlikeMade t v) → AlikeMade (if c then None else t) (if d then None else v)
-unless_alike c d same t v go = grind arith
-
 then_alike : (x y : Option AuditedDevice) → AlikeFound x y → (f g : AuditedDevice → Option AuditState) →
     ((a b : AuditedDevice) → Alike a b → AlikeMade (f a) (g b)) → AlikeMade (then_of x f) (then_of y g)
 then_alike x y is f g go = grind arith
@@ -150,22 +120,14 @@ holds_same : (x y : Option AuditedDevice) → AlikeFound x y → (f : AuditedDev
     holds x f ≡ holds y f
 holds_same x y is f go = grind arith
 
-found_if : (c d : Bool) → c ≡ d → (a b : AuditedDevice) (x y : Option AuditedDevice) → Alike a b → AlikeFound x y →
-    AlikeFound (if c then Some a else x) (if d then Some b else y)
-found_if c d same a b x y one two = grind arith
-
 pub found_alike : (xs ys : List AuditedDevice) → AreAlike xs ys → (n : ℕ) → AlikeFound (device_in xs n) (device_in ys n)
 found_alike [] [] all n = tt
-found_alike (a ∷ xs) (b ∷ ys) all n = grind (arith, found_alike xs ys all.1 n, found_if, number_same)
+found_alike (a ∷ xs) (b ∷ ys) all n = grind (arith, found_alike xs ys all.1 n, number_same)
 found_alike xs ys all n = absurd all
-
-put_if : (c d : Bool) → c ≡ d → (a b x y : AuditedDevice) (xs ys zs ws : List AuditedDevice) → Alike a b → Alike x y → AreAlike xs ys → AreAlike zs ws →
-    AreAlike (if c then a ∷ xs else x ∷ zs) (if d then b ∷ ys else y ∷ ws)
-put_if c d same a b x y xs ys zs ws one other all more = grind arith
 
 pub put_alike : (xs ys : List AuditedDevice) → AreAlike xs ys → (a b : AuditedDevice) → Alike a b → AreAlike (with_device xs a) (with_device ys b)
 put_alike [] [] all a b is = tt
-put_alike (x ∷ xs) (y ∷ ys) all a b is = grind (arith, put_alike xs ys all.1 a b is, put_if, number_same)
+put_alike (x ∷ xs) (y ∷ ys) all a b is = grind (arith, put_alike xs ys all.1 a b is, number_same)
 put_alike xs ys all a b is = absurd all
 
 place_same : (xs ys : List AuditedDevice) → AreAlike xs ys → (n : ℕ) → place_of xs n ≡ place_of ys n
@@ -229,9 +191,6 @@ module _ (s u : AuditState) (all : AlikeStates s u) (line : ReportLine) where
       AlikeMade (then_of (device_in s.devices n) f) (then_of (device_in u.devices n) g)
   in_device n f g go = then_alike (device_in s.devices n) (device_in u.devices n) (found_alike s.devices u.devices all.devices_are n) f g go
 
-  same_due : (due : Due) → AlikeMade (Some (record s { due = due })) (Some (record u { due = due }))
-  same_due due = due_alike s u all due due refl
-
   -- One device
 
   module _ (a b : AuditedDevice) (is : Alike a b) where
@@ -242,8 +201,6 @@ module _ (s u : AuditState) (all : AlikeStates s u) (line : ReportLine) where
     -- the command's end
     module _ (o p : OpenEntry) (going : going_of a.plans (replay a.plans a.empty a.history.items) o
         ≡ going_of b.plans (replay b.plans b.empty b.history.items) p) where
-      shows_same : (e : CommandEnd) → shows_end a o line e ≡ shows_end b p line e
-      shows_same e = grind (arith, number_same)
 
       check_same : (i : ℕ) (sense : Sense) → check_end (words_of_open a o) i sense ≡ check_end (words_of_open b p) i sense
       check_same i sense = ap (λ (l : List Ccw). check_end l i sense) (words_same a b is o p going)
@@ -252,7 +209,7 @@ module _ (s u : AuditState) (all : AlikeStates s u) (line : ReportLine) where
       shut = changed_alike s u all (record a { half = Closed }) (record b { half = Closed }) (half_alike a b is Closed Closed refl)
 
       end_by_alike : (e : Option CommandEnd) → AlikeMade (end_made_by s line a o e) (end_made_by u line b p e)
-      end_by_alike (Some e) = grind (arith, if_alike, shows_same, check_same, due_alike, shut)
+      end_by_alike (Some e) = grind (arith, if_alike, check_same, due_alike, shut, number_same)
       end_by_alike None = tt
 
       check_alike : (e : CommandEnd) → AlikeMade (check_made s line a e o) (check_made u line b e p)
@@ -281,7 +238,7 @@ module _ (s u : AuditState) (all : AlikeStates s u) (line : ReportLine) where
     end_made_alike = grind (arith, both, end_same, end_by_alike)
 
     sense_made_alike : (e : CommandEnd) → AlikeMade (sense_made s line e a) (sense_made u line e b)
-    sense_made_alike e = grind (arith, if_alike, same_due, both, check_alike)
+    sense_made_alike e = grind (arith, if_alike, both, check_alike)
 
     -- acts
     act_alike : (act : Act) (due : Due) → AlikeStates (act_made s a act due) (act_made u b act due)
@@ -308,7 +265,7 @@ module _ (s u : AuditState) (all : AlikeStates s u) (line : ReportLine) where
     power_loss_alike = grind (arith, if_alike, loose_same, loss_same, due_alike, number_same, place_same)
 
     lend_alike : (of : ℕ) → AlikeMade (lent_to s of a) (lent_to u of b)
-    lend_alike of = grind (arith, passed_alike, changed_alike, lent_alike)
+    lend_alike of = grind (arith, passed_alike, changed_alike)
 
     reset_alike : (path : ℕ) → AlikeMade (Some (passed (changed s (record a { history = reset_in_history a.history path 0 }))))
         (Some (passed (changed u (record b { history = reset_in_history b.history path 0 }))))
@@ -326,8 +283,6 @@ back_half_same : (a b : AuditedDevice) → Alike a b → (answer : BackAnswer) �
 back_half_same a b is answer = grind (arith, half_same)
 
 module _ (s u : AuditState) (all : AlikeStates s u) where
-  act_of_work_alike : (line : ReportLine) (did : Did) (a b : AuditedDevice) → Alike a b → AlikeMade (act_of_work s line did a) (act_of_work u line did b)
-  act_of_work_alike line did a b is = grind (arith, harden_alike, loosen_alike)
 
   work_alike : (line : ReportLine) (a b : AuditedDevice) → Alike a b → AlikeMade (work_made s line a) (work_made u line b)
   work_alike (lines.End e) a b is = end_made_alike s u all (lines.End e) a b is
@@ -343,7 +298,7 @@ module _ (s u : AuditState) (all : AlikeStates s u) where
   -- Orders
 
   done_alike : (line : ReportLine) (e : EventLine) → AlikeMade (done_order s e) (done_order u e)
-  done_alike line e = grind (arith, if_alike, passed_alike, in_device, lend_alike, unless_alike, any_lent_same, back_all)
+  done_alike line e = grind (arith, if_alike, passed_alike, in_device, lend_alike, any_lent_same, back_all)
 
   order_alike : (line : ReportLine) (e : EventLine) → AlikeMade (order_made s line e) (order_made u line e)
   order_alike (lines.Order order order_answers.Done) e = done_alike (lines.Order order order_answers.Done) e
@@ -371,38 +326,27 @@ module _ (s u : AuditState) (all : AlikeStates s u) where
   event_alike : (line : ReportLine) (e : EventLine) → AlikeMade (event_made s line e) (event_made u line e)
   event_alike line e = grind (arith, in_device, start_made_alike, work_alike, resets_alike, powers_alike, order_alike)
 
-  totals_alike : (line : ReportLine) (k : ℕ) → AlikeStates (totals_made s line k) (totals_made u line k)
-  totals_alike line k = grind (arith, due_alike)
-
   next_alike : (line : ReportLine) (events : List EventLine) → AlikeMade (next_made s line events) (next_made u line events)
-  next_alike line events = grind (arith, event_alike, totals_alike)
+  next_alike line events = grind (arith, event_alike, due_alike)
 
   -- The device at whose work the report is
 
   number_at_work : worker_number s ≡ worker_number u
   number_at_work = ap (λ (l : List EventLine). then_of (first_event l) worker_of) all.events_are
 
-  worker_by : (w : Option ℕ) → AlikeFound (then_of w (device_in s.devices)) (then_of w (device_in u.devices))
-  worker_by w = grind (arith, found_alike)
-
   pub worker_alike : AlikeFound (worker s) (worker u)
-  worker_alike = grind (arith, number_at_work, worker_by)
+  worker_alike = grind (arith, number_at_work, found_alike)
 
   first_same : first_event s.events ≡ first_event u.events
   first_same = ap first_event all.events_are
 
-two_states : (c d : Bool) → c ≡ d → (s t u v : AuditState) → AlikeStates s u → AlikeStates t v → AlikeStates (if c then s else t) (if d then u else v)
-two_states c d same s t u v one two = grind arith
-
 behind_alike : (s u : AuditState) → AlikeStates s u → (a b : AuditedDevice) → Alike a b → (did : Did) → AlikeStates (behind_work s a did) (behind_work u b did)
-behind_alike s u all a b is did = grind (arith, two_states, event_over_same, first_same, passed_alike, due_alike)
+behind_alike s u all a b is did = grind (arith, event_over_same, first_same, passed_alike, due_alike)
 
 module _ (s u : AuditState) (all : AlikeStates s u) where
-  work_done : (a b : AuditedDevice) → Alike a b → (did : Did) (over : Option ReportLine) → AlikeStates (settled_by s a did over) (settled_by u b did over)
-  work_done a b is did over = grind (arith, due_alike, changed_alike, worked_alike, behind_alike)
 
   settled_at : (x y : Option AuditedDevice) → AlikeFound x y → (did : Did) → AlikeStates (settled_in s did x) (settled_in u did y)
-  settled_at x y is did = grind (arith, over_same, work_done)
+  settled_at x y is did = grind (arith, over_same, due_alike, changed_alike, worked_alike, behind_alike)
 
   pub settled_alike : (did : Did) → AlikeStates (settled s did) (settled u did)
   settled_alike did = settled_at (worker s) (worker u) (worker_alike s u all) did
@@ -416,21 +360,7 @@ module _ (s u : AuditState) (all : AlikeStates s u) where
 
   due_made_alike : (line : ReportLine) (due : Due) → AlikeMade (due_made s line due) (due_made u line due)
   due_made_alike line due =
-      grind (
-        arith,
-        next_alike,
-        shown_alike,
-        due_alike,
-        then_alike,
-        worker_alike,
-        sense_made_alike,
-        over_wanted,
-        first_same,
-        first_order,
-        passed_alike,
-        powers_alike,
-        totals_alike,
-      )
+      grind (arith, next_alike, shown_alike, due_alike, then_alike, worker_alike, sense_made_alike, over_wanted, first_same, first_order, passed_alike, powers_alike)
 
 settled_due : (t v : AuditState) → AlikeStates t v → (line : ReportLine) → AlikeMade (due_made t line t.due) (due_made v line v.due)
 settled_due t v all line = grind (arith, due_made_alike)
@@ -446,7 +376,7 @@ module _ (s u : AuditState) (all : AlikeStates s u) (line : ReportLine) where
   legal_at_work did = holds_same (worker s) (worker u) (worker_alike s u all) (is_legal did) (λ a b is. legal_same a b is did)
 
   behind_made_alike : (more : Bool) (did : Did) → AlikeMade (behind_made s line more did) (behind_made u line more did)
-  behind_made_alike more did = grind (arith, settled_alike, if_alike, of_work_same, then_alike, worker_alike, act_of_work_alike, legal_at_work, settled_due)
+  behind_made_alike more did = grind (arith, settled_alike, if_alike, of_work_same, then_alike, worker_alike, legal_at_work, settled_due, harden_alike, loosen_alike)
 
   made_in_alike : (due : Due) → AlikeMade (made_in s line due) (made_in u line due)
   made_in_alike (Behind more did) = behind_made_alike more did

@@ -107,8 +107,6 @@ pub loss_told : (n c k m : ℕ) → c ≡ k → m ≡ next_number n → (d : ℕ
 loss_told n c k m count number d = grind arith
 
 module _ (x y : MarksDevice) (p : Plainly x) (g : IsLoss p.empty x y) where
-  quiet_device : y.store.acts ≡ [] → IsQuiet x y
-  quiet_device none = search (arith, acts_told, audited_by)
 
   lost_device : y.store.acts ≡ CfwLost ∷ [] → y.store.number ≡ next_number x.store.number → has_loose x.store ≡ true → IsLostNow x y
   lost_device one number some =
@@ -125,7 +123,7 @@ module _ (x y : MarksDevice) (p : Plainly x) (g : IsLoss p.empty x y) where
       }
 
   cache_told : (b : Bool) → has_loose x.store ≡ b → y.store.acts ≡ lost_acts b → y.store.number ≡ number_behind b x.store.number → IsTold x y
-  cache_told b some acts number = grind (arith, acts_over, lost_device, quiet_device)
+  cache_told b some acts number = grind (arith, acts_over, lost_device, acts_told, audited_by)
 
 abbrev AllTold : List MarksDevice → List MarksDevice → Type 0
 AllTold [] [] = Unit {0}
@@ -157,17 +155,15 @@ below_one low [] a b le = (omega arith, tt)
 below_one low (x ∷ all) a b le = let lt = b.0 in (omega (arith, lt, le), below_one low all a b.1 le)
 
 module _ (low : ℕ) (a : AuditedDevice) (least_is : low ≤ a.number) (rest : List AuditedDevice) where
-  other : (x : AuditedDevice) → x.number < low → (x.number == a.number) ≡ false
-  other x lt = ne_eqb x.number a.number (λ e. omega (arith, lt, least_is, e))
 
   pub found_here : (done : List AuditedDevice) → IsBelow low done → A.device_in (done ++ a ∷ rest) a.number ≡ Some a
   found_here [] b = ap (λ (c : Bool). if c then Some a else A.device_in rest a.number) (same_number a.number)
-  found_here (x ∷ done) b = grind (arith, found_here done b.1, same_number, other)
+  found_here (x ∷ done) b = grind (arith, found_here done b.1, same_number)
 
   pub put_here : (done : List AuditedDevice) (b : AuditedDevice) → b.number ≡ a.number → IsBelow low done →
       with_device (done ++ a ∷ rest) b ≡ done ++ b ∷ rest
   put_here [] b same low_done = ap (λ (c : Bool). if c then b ∷ rest else a ∷ with_device rest b) (eq-eqb a.number b.number (sym same))
-  put_here (x ∷ done) b same low_done = grind (arith, put_here done b same low_done.1, eq-eqb, other)
+  put_here (x ∷ done) b same low_done = grind (arith, put_here done b same low_done.1, eq-eqb)
 
   pub outline_here : (done : List AuditedDevice) → IsBelow low done → outline_in (map outline_of (done ++ a ∷ rest)) a.number ≡ Some (outline_of a)
   outline_here done b = grind (arith, outlined, found_here)

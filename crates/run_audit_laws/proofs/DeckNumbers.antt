@@ -20,11 +20,8 @@ abbrev pub RisesFrom : ℕ → List ℕ → Type 0
 RisesFrom low [] = Unit {0}
 RisesFrom low (n ∷ ns) = (low ≤ n) × RisesFrom (n + 1) ns
 
-if_so : (b : Bool) (x y : DeviceLine) → (if b then Ok x else Err Number) ≡ Ok y → (x ≡ y) × (b ≡ true)
-if_so b x y h = grind (arith, if_ok)
-
 rises_of : (before : List DeviceLine) (words : List (List ℕ)) (d : DeviceLine) → device_line before words ≡ Ok d → rises before d.number ≡ true
-rises_of before words d h = grind (arith, went, if_so)
+rises_of before words d h = grind (arith, went, if_ok)
 
 above_last : (before : List DeviceLine) (d : DeviceLine) (n : ℕ) → rises (before ++ d ∷ []) n ≡ true → d.number + 1 ≤ n
 above_last before d n up = grind (arith, and_parts, list_all-append, ltb-true)

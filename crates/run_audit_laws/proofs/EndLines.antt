@@ -55,11 +55,11 @@ use Rattle.report_auditor.specs.declared.status.AuditWhy.TheVariants.{Place}
 use Rattle.report_auditor.specs.Verdict.{judged, or_history}
 use Rattle.run_audit_laws.specs.Standing.{LeadsBy}
 use Rattle.run_audit_laws.specs.Steps.{IsCheckSense}
-use Rattle.run_audit_laws.proofs.Saying.{same_bytes, same_note, same_number}
+use Rattle.run_audit_laws.proofs.Saying.{same_bytes, same_number}
 use Rattle.run_audit_laws.proofs.Work.{at_work, worker_is}
 
 pub same_end : (e : EndLine) → is_same_end e e ≡ true
-same_end e = grind (arith, and_from, same_number, same_note)
+same_end e = grind (arith, and_from, same_number)
 
 -- one of these isn't so
 in_midst : (a s r n : Bool) → s ≡ false → (((a && s) && r) && n) ≡ false

@@ -94,12 +94,10 @@ abbrev totalled : AuditState → ℕ → AuditState
 totalled s k = record s { due = Totals (k + 1) }
 
 module _ (s : AuditState) (k : ℕ) (d : MarksDevice) (rest : List Outline) (left : drop k (outlines s) ≡ outline_of (audited d) ∷ rest) where
-  lost_stands : (t : ℕ) → d.store.lent ≡ None → in_totals (outlines s) (lines.Lost d.store.device t) (k + 1) ≡ true
-  lost_stands t home = grind (arith, nat_tests, or_left, and_from, get_here, same_number)
 
   lost_lead : (lost : List ℕ) → d.store.lent ≡ None → LeadsBy (totalled s k) (map (lines.Lost d.store.device) lost) (totalled s k)
   lost_lead [] home = refl
-  lost_lead (t ∷ lost) home = search (arith, lost_lead lost home, judged_at, at_more, lost_stands)
+  lost_lead (t ∷ lost) home = search (arith, lost_lead lost home, judged_at, at_more, nat_tests, or_left, and_from, get_here, same_number)
 
   total_stands : (x : DeviceTotals) → is_totals_of (lines.Device d.store.device x) (outline_of (audited d)) d.store.lent ≡ true →
       in_totals (outlines s) (lines.Device d.store.device x) k ≡ true

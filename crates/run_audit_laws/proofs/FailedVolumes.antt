@@ -34,7 +34,7 @@ use Rattle.run_audit_laws.specs.Steps.{Reaches, is_there, is_waiting}
 use Rattle.run_audit_laws.proofs.AlikeDevices.{Alike, alike_self, event_over_same, history_alike, seen, state_same, worked_alike}
 use Rattle.run_audit_laws.proofs.AlikeLines.{AlikeFound, AlikeStates, AreAlike, all_then, found_alike, leads_alike, put_alike}
 use Rattle.run_audit_laws.proofs.Found.{found}
-use Rattle.run_audit_laws.proofs.Hardens.{GoesOn, IsQuiet, done_tidy, firm_either, firm_goes, firm_legal, firm_over, firm_quiet, firm_tidy, firmer, loose_behind, over_none, plain_goes, quiet_of}
+use Rattle.run_audit_laws.proofs.Hardens.{GoesOn, IsQuiet, done_tidy, firm_either, firm_goes, firm_legal, firm_over, firm_quiet, firm_tidy, firmer, loose_behind, plain_goes, quiet_of}
 use Rattle.run_audit_laws.proofs.Leading.{waiting_leads}
 use Rattle.run_audit_laws.proofs.NextLines.{of_none, stands_so}
 use Rattle.run_audit_laws.proofs.Pasts.{IsTidy, act_is_read}
@@ -68,7 +68,7 @@ module _ (xs : List AuditedDevice) (w : EventLine) (d : ℕ) (side : Side) (late
   module _ (a : AuditedDevice) (ys : List AuditedDevice) (k : IsDone a ys) where
     settled_so : (more : Bool) → settled (waits a more) did
         ≡ record { devices = with_device xs (worked a did); events = events.FailVolume d side ∷ later; due = Next }
-    settled_so more = grind (arith, settled_plainly, over_none)
+    settled_so more = grind (arith, settled_plainly)
 
     -- a line that isn't of the work
     other_leads : (more : Bool) (line : ReportLine) (ls : List ReportLine) (t : AuditState) →
@@ -214,28 +214,16 @@ module _ (xs : List AuditedDevice) (d : ℕ) (side : Side) (later : List EventLi
           alike = subst (AreAlike (with_device xs done)) devices (put_alike xs xs selves done done (worked_alike a a self did));
         }) t leads past))
 
-    from_event : over_by a did a.history.running ≡ None → (b : Bool) → is_event_over (Some w) (worked a did) did ≡ b →
-        ◌≡◌ {A = AuditState} (if b then record { devices = with_device xs (worked a did); events = rest; due = Next }
-        else record { devices = with_device xs (worked a did); events = w ∷ rest; due = Next }) (record { devices = ys; events = events.FailVolume d side ∷ later; due = Next }) →
-        LeadsBeside (record { devices = xs; events = w ∷ rest; due = Behind more did }) ls t
-    from_event none b over same = search (arith, from_over)
-
     from_work : (o : Option ReportLine) → over_by a did a.history.running ≡ o →
         settled_by (record { devices = xs; events = w ∷ rest; due = Behind more did }) a did o ≡ record { devices = ys; events = events.FailVolume d side ∷ later; due = Next } →
         LeadsBeside (record { devices = xs; events = w ∷ rest; due = Behind more did }) ls t
-    from_work o none same = search (arith, from_event)
-
-  from_worker : (w : EventLine) (rest : List EventLine) (n : ℕ) → worker_of w ≡ Some n → (x : Option AuditedDevice) → device_in xs n ≡ x →
-      holds x (is_legal did) ≡ true → settled_in (record { devices = xs; events = w ∷ rest; due = Behind more did }) did x
-      ≡ record { devices = ys; events = events.FailVolume d side ∷ later; due = Next } →
-      LeadsBeside (record { devices = xs; events = w ∷ rest; due = Behind more did }) ls t
-  from_worker w rest n works x has legal same = search (arith, from_work)
+    from_work o none same = search (arith, from_over)
 
   from_number : (w : EventLine) (rest : List EventLine) (x : Option ℕ) → worker_of w ≡ x → holds (then_of x (device_in xs)) (is_legal did) ≡ true →
       settled_in (record { devices = xs; events = w ∷ rest; due = Behind more did }) did (then_of x (device_in xs))
       ≡ record { devices = ys; events = events.FailVolume d side ∷ later; due = Next } →
       LeadsBeside (record { devices = xs; events = w ∷ rest; due = Behind more did }) ls t
-  from_number w rest x works legal same = search (arith, from_worker)
+  from_number w rest x works legal same = search (arith, from_work)
 
   from_waiting : (l : List EventLine) → holds (worker (record { devices = xs; events = l; due = Behind more did })) (is_legal did) ≡ true →
       settled (record { devices = xs; events = l; due = Behind more did }) did ≡ record { devices = ys; events = events.FailVolume d side ∷ later; due = Next } →

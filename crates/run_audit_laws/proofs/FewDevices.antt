@@ -15,15 +15,12 @@ use Rattle.subsystem_laws.proofs.RunLines.{Logs}
 use Rattle.subsystem_laws.proofs.RunLinks.{Linked, lines_linked}
 use Rattle.run_audit_laws.proofs.Ties.{Tie, numbers_in, ties, So, Shown, run_tied}
 
-as_many : (a b c d e : ℕ) → a ≡ b → c ≡ b → d ≡ c → d ≡ e → e ≤ 16 → a ≤ 16
-as_many a b c d e f g h k most = omega (arith, f, g, h, k, most)
-
 module _ (ns : List ℕ) (most : length ns ≤ 16) where
   abbrev Few : Subsystem → Type 0
   Few s = length (devices_of s) ≤ 16
 
   few : (s : Subsystem) → So ns s → Few s
-  few s t = grind (arith, as_many, ties, length-map)
+  few s t = grind (arith, ties, length-map)
 
   abbrev IsFew : Logged → Type 0
   IsFew t = Few t.happened.before

@@ -12,13 +12,9 @@ use Rattle.device_laws.proofs.TrackMarks.{is_good, marks}
 use Rattle.subsystem_laws.proofs.GoodMarks.{Good, by_lent}
 use Rattle.run_audit_laws.proofs.LossDevices.{PatchedAreFirm}
 
-patched_firm : (frame : Option Bool) (patched lost loose half level : Bool) → is_good (marks frame patched lost loose half level) ≡ true →
-    patched ≡ true → loose ≡ false
-patched_firm frame patched lost loose half level e is = grind arith
-
 well_firm : (s : MarksStore) → IsWell by_plain s → PatchedAreFirm s
 unfolding M.track_at
-well_firm s w = grind (arith, patched_firm, is_some, get_or_past)
+well_firm s w = grind (arith, is_some, get_or_past)
 
 pub firm_of : (d : MarksDevice) → Good d → PatchedAreFirm d.store
 firm_of d g = grind (arith, by_lent, well_firm, is_some)

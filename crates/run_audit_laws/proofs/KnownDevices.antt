@@ -36,15 +36,12 @@ all_firm (x ∷ l) h = absurd (true≢false (sym (ap (λ (b : Bool). cond b true
 positive : (n : ℕ) → nat_lt 0 (suc n) ≡ true
 positive n = grind (arith, nat_tests)
 
-not_zero : (n : ℕ) → (suc n == 0) ≡ false
-not_zero n = grind (arith, nat_tests)
-
 some_long : (l : List LooseTrack) (t : ℕ) → is_loose_in l t ≡ true → nat_lt 0 (length l) ≡ true
 some_long [] t is = absurd (cc)
 some_long (x ∷ l) t is = positive (length l)
 
 long_count : (l : List LooseTrack) → nat_lt 0 (length l) ≡ true → (length l == 0) ≡ false
-long_count l is = grind (arith, not_zero)
+long_count l is = grind (arith, nat_tests)
 
 no_count : (l : List LooseTrack) → nat_lt 0 (length l) ≡ false → (length l == 0) ≡ true
 no_count l is = grind (arith, positive)

@@ -56,9 +56,6 @@ then_some o x go is = ap (λ (y : Option _). then_of y go) is
 abbrev pub judged_due : AuditState → ReportLine → Due → Result AuditState AuditWhy
 judged_due s line due = if in_due (outlines s) s.events line due then or_history (due_made s line due) else Err Place
 
-pub judged_next : (s : AuditState) (line : ReportLine) → s.due ≡ Next → judged s line ≡ judged_due s line s.due
-judged_next s line is = grind arith
-
 pub judged_over : (s : AuditState) (line wanted : ReportLine) → s.due ≡ OverOf wanted → judged s line ≡ judged_due s line s.due
 judged_over s line wanted is = grind arith
 
@@ -72,7 +69,7 @@ waiting_judged s line more did is other legal = grind (arith, or_parts)
 pub waiting_leads : (s t : AuditState) (line : ReportLine) (lines : List ReportLine) (more : Bool) (did : Did) → s.due ≡ Behind more did →
     is_of_work more (worker_number s) line ≡ false → holds (worker s) (is_legal did) ≡ true → (settled s did).due ≡ Next →
     LeadsBy (settled s did) (line ∷ lines) t → LeadsBy s (line ∷ lines) t
-waiting_leads s t line lines more did is other legal next leads = search (arith, waiting_judged, judged_next)
+waiting_leads s t line lines more did is other legal next leads = search (arith, waiting_judged)
 
 -- Lines of an event that changes no device
 

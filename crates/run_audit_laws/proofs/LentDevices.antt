@@ -31,9 +31,6 @@ record Kept (s z : MarksStore) : Type 0 where
   core : core_of z ≡ core_of s
   paired : z.paired ≡ s.paired
 
-kept_on : (s z y : MarksStore) → Kept s z → Kept z y → Kept s y
-kept_on s z y f g = record { core = g.core ∙ f.core; paired = g.paired ∙ f.paired }
-
 unframed_kept : (t : ℕ) (s : MarksStore) → Kept s (without_frame s t)
 unframed_kept t s = search (arith, cond_both, is_some, framed_same)
 
@@ -41,12 +38,12 @@ slot_kept : (s : MarksStore) (t : ℕ) (o : Option ℕ) → Kept s (gives_up s t
 slot_kept s t o = search (arith, patch_same)
 
 given_kept : (t : ℕ) (s : MarksStore) → Kept s (given_up by_plain t s)
-given_kept t s = grind (arith, kept_on, unframed_kept, slot_kept)
+given_kept t s = grind (arith, unframed_kept, slot_kept)
 
 over_kept : (k : ℕ) (s : MarksStore) → Kept s (over k (given_up by_plain) s)
 unfolding L.over
 over_kept zero s = record { core = refl; paired = refl }
-over_kept (suc k) s = grind (arith, over_kept k s, kept_on, given_kept)
+over_kept (suc k) s = grind (arith, over_kept k s, given_kept)
 
 ended_kept : (before : ℕ) (s : MarksStore) → Had (noted_end by_plain before s) (λ y (_ : Unit {0}). Kept s y)
 ended_kept before s = asks_had (ended_asks by_plain (Kept s) (λ z t e. (search arith)) before s (search arith))

@@ -60,12 +60,9 @@ module _ (state : PlainState) (path : ℕ) (ccws : List Ccw) (acts : List Acted)
       StandOnce (part_of state path ccws acts k).state.loose
   acted_once k a o = grind (arith, part_is_acted, acted_beside, part_counts, with_acts_state, acts_once)
 
-  step_once : (p : Part) (n : Option ℕ) → StandOnce p.state.loose → StandOnce (stepped_at path ccws p n).state.loose
-  step_once p n o = grind arith
-
   bare_once : (k : ℕ) → ((j : ℕ) → j < k → ActsAt j) → StandOnce state.loose → StandOnce (bare_part state path ccws acts k).state.loose
   bare_once zero a o = o
-  bare_once (suc k) a o = grind (arith, bare_once k, step_once, acted_once)
+  bare_once (suc k) a o = grind (arith, bare_once k, acted_once)
 
   pub part_once : (k : ℕ) → HasActs state path ccws acts k → StandOnce state.loose → StandOnce (part_of state path ccws acts k).state.loose
   part_once k h o =

@@ -215,9 +215,6 @@ loose_of c = is_some (least (c.cylinders * 15) (λ t. get_or c.loose t false))
 
 -- The store: a track with a patch isn't loose, so none becomes firm
 
-removed : (l : List (Option (Unit {0}))) (t q : ℕ) → is_some (get_or (set l t None) q None) ≡ true → is_some (get_or l q None) ≡ true
-removed l t q is = grind (arith, get_or-set_same, length-set, get_or_past, get_or-set_other, eqb-false)
-
 -- no act came, as many are loose, and no more have a patch
 record Fewer (s z : MarksStore) : Type 0 where
   acts : z.acts ≡ s.acts
@@ -231,7 +228,7 @@ fewer_on : (s z y : MarksStore) → Fewer s z → Fewer z y → Fewer s y
 fewer_on s z y f g = search arith
 
 slot_fewer : (s : MarksStore) (t : ℕ) (o : Option ℕ) → Fewer s (gives_up s t o)
-slot_fewer s t o = search (arith, fewer_same, removed)
+slot_fewer s t o = search (arith, fewer_same, get_or-set_same, length-set, get_or_past, get_or-set_other, eqb-false)
 
 patch_fewer : (s : MarksStore) (t : ℕ) → Fewer s (without_patch by_plain s t)
 patch_fewer s t = slot_fewer s t (slot_in by_plain (patch_at s t))

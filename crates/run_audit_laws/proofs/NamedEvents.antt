@@ -66,12 +66,9 @@ module _ (P : Asked → Type 0) where
   backs_of zero d s p = All-nil Of
   backs_of (suc n) d s p = grind (arith, backs_of n d, cond_both)
 
-  one_of : (t : Logged) → P t.asked → All Of (t ∷ [])
-  one_of t p = All-cons Of t [] p (All-nil Of)
-
   line_of : (x : Asked) (s : Subsystem) → P x → All Of (line_logged s x)
   unfolding L.line_logged
-  line_of x s p = grind (arith, cond_both, steps_of, one_of, backs_of)
+  line_of x s p = grind (arith, cond_both, steps_of, backs_of)
 
   pub lines_of : (xs : List Asked) (s : Subsystem) → All P xs → All Of (run_lines xs s)
   unfolding L.run_lines
@@ -86,13 +83,10 @@ declared_small : (seen : List ℕ) (ds : List DeviceLine) → AreNumbered seen d
 declared_small seen [] are n is = absurd (cc)
 declared_small seen (d ∷ ds) are n is = grind (arith, declared_small (d.number ∷ seen) ds are.2 n)
 
-path_range : (devices : List DeviceLine) (words : List (List ℕ)) (at : ℕ × ℕ) → path_and_device devices words ≡ Ok at → IsPath at.0
-path_range devices words at h = search (arith, went, number_range, needed_is, if_ok)
-
 module _ (f : ℕ → ℕ → EventLine) (same : (p q x y : ℕ) → ◌≡◌ {A = Result EventLine DeckWhy} (Ok (f p x)) (Ok (f q y)) → p ≡ q) where
   path_is : (devices : List DeviceLine) (words : List (List ℕ)) (path d : ℕ) →
       then_read (path_and_device devices words) (λ at. Ok (f at.0 at.1)) ≡ Ok (f path d) → IsPath path
-  path_is devices words path d h = grind (arith, went, path_range)
+  path_is devices words path d h = grind (arith, went, number_range, needed_is, if_ok)
 
 module _ (devices : List DeviceLine) (small : (n : ℕ) → is_declared devices n ≡ true → n < 16) where
   event_names : (e : EventLine) → EventOk devices e → OfNamed (λ d. is_declared devices d ≡ true) e → Names (asked_by e)

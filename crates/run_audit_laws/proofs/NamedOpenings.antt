@@ -58,21 +58,16 @@ abbrev ResultIn : Result CommandOrder Sense → Type 0
 ResultIn (Ok order) = OrderIn order
 ResultIn (Err sense) = Unit {0}
 
-some_if : (b : Bool) (order : CommandOrder) → OrderIn order → IfSome (if b then Some order else None) OrderIn
-some_if b order h = grind arith
-
 either_in : (b : Bool) (x y : Result CommandOrder Sense) → ResultIn x → ResultIn y → ResultIn (if b then x else y)
 either_in b x y h k = grind arith
 
 module _ (s : Stance) (c : Ccw) where
-  went : (look : Look) (t : Result ℕ Sense) → OpeningIn (moved s c look t).opening
-  went look t = grind arith
 
   read_in : (r : Read) (area : ReadArea) (place : Place) → OpeningIn (read_from s c r area place).opening
-  read_in r area place = grind (arith, went)
+  read_in r area place = grind arith
 
   look_in : (look : Look) → OpeningIn (look_from s c look).opening
-  look_in look = grind (arith, went, read_in)
+  look_in look = grind (arith, read_in)
 
   locating_in : (d : Domain) (o : Option Place) → OpeningIn (locating s c d o).opening
   locating_in d o = grind arith
@@ -82,7 +77,7 @@ module _ (s : Stance) (c : Ccw) where
 
 module _ (f : Fixed) (s : Stance) (c : Ccw) (gives : GivesBytes c) where
   control_in : (k : Control) → IfSome (C.control_order f s (given 16 c) k) OrderIn
-  control_in k = grind (arith, some_if)
+  control_in k = grind arith
 
   decoded_in : (k : Command) → IfSome (C.decoded_order f s c k) OrderIn
   decoded_in (commands.Control k) = control_in k

@@ -50,12 +50,9 @@ ordered_line_leads text deck read e has = grind (arith, ordered_leads, numbers_i
 
 -- Along a whole deck
 
-no_work_leads : (numbers : List ℕ) (s : Subsystem) → IsBehind numbers s → (e : EventLine) → OfNamed (HasDevice s) e → IsNoWork e → LineLeads s e
-no_work_leads numbers s k e has calm = grind (arith, still_leads, ordered_leads)
-
 all_lead : (events : List EventLine) (s : Subsystem) → AllSo (λ (z : Subsystem) (e : EventLine). IsNoWork e → LineLeads z e) s events → AllLead s events
 all_lead [] s so = tt
 all_lead (e ∷ later) s so = (so.0, all_lead later (last_behind s (line_logged s (asked_by e))) so.1)
 
 pub each_line_leads : (text : List ℕ) (deck : DeckLines) → parsed text ≡ Ok deck → AllLead (opened deck) deck.events
-each_line_leads text deck read = grind (arith, all_lead, deck_all_so, no_work_leads, numbers_in)
+each_line_leads text deck read = grind (arith, all_lead, deck_all_so, numbers_in, still_leads, ordered_leads)

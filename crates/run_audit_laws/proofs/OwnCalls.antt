@@ -167,13 +167,9 @@ module _ {F P H R : Type 0} (T : ℕ → Type 0) (n : ℕ) (c : Contents F P H R
   unfolding G.choose
   choose_own s u t k = own_if (is_loose s t) (loose_own s u t k) (firm_own s u t k)
 
-  -- a write is done: its frame is clean or gone, and so is its patch
-  unpatched_own : (s : Store F P H) (t : ℕ) (o : Option ℕ) → Is n s → Owns (slot_freed c s t o)
-  unpatched_own s t o k = search (arith, own_done, own_ask)
-
   pub done_own : (s : Store F P H) (t : ℕ) (i : Image) (bypass : Bool) → Is n s → Owns (write_done c s t i bypass)
   unfolding V.write_done
-  done_own s t i bypass k = search (arith, own_if, is_some, own_ask, unpatched_own)
+  done_own s t i bypass k = search (arith, own_if, is_some, own_ask, own_done)
 
   -- an image becomes a frame
   pub filled_own : (s : Store F P H) (t : ℕ) (i : Image) → Is n s → Owns (filled c s t i)

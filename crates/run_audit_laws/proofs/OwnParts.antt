@@ -137,11 +137,8 @@ module _ {F P H R : Type 0} (T : ℕ → Type 0) (n : ℕ) (c : Contents F P H R
   written_own : (s : Store F P H) (u : Usage) (first t : ℕ) (old : Image) (e : Edit) (choice : Choice) → At s → Owns (written c s u first t old e choice)
   written_own s u first t old e choice k = own_then (write_by_own u first t _ e s choice k) (λ z took g. own_done g)
 
-  clean_own : (s : Store F P H) (t : ℕ) → At s → Owns (clean_again c s t)
-  clean_own s t k = own_if _ (own_ask tt (λ _. own_done k)) (own_done k)
-
   unchosen_own : (s : Store F P H) (t : ℕ) (choice : Choice) → At s → Owns (unchosen c s t choice)
-  unchosen_own s t choice k = search (arith, own_ask, clean_own, own_done)
+  unchosen_own s t choice k = search (arith, own_ask, own_done)
 
   chosen_own : (u : Usage) (first t : ℕ) (old : Image) (e : Edit) (s : Store F P H) (choice : Choice) → At s → Owns (write_chosen c u first t old e s choice)
   chosen_own u first t old e s choice k = search (arith, own_if, own_tell, written_own, unchosen_own)
@@ -168,11 +165,8 @@ module _ {F P H R : Type 0} (T : ℕ → Type 0) (n : ℕ) (c : Contents F P H R
       (λ z was g. own_then (first_write_own z t (c.bytes i) g) (λ y w k. saved_by_own t i d fault was w.fault y w.took k)))
       (λ z e g. own_done g)) (own_done k))
 
-  recovered_own : (t : ℕ) (s : Store F P H) (g : Got R) (o : Option Image) → At s → Owns (recovered_image c t s g o)
-  recovered_own t s g o k = search (arith, own_done, saved_own)
-
   recovered_bytes_own : (t : ℕ) (s : Store F P H) (g : Got R) (o : Option R) → At s → Owns (recovered_bytes c t s g o)
-  recovered_bytes_own t s g o k = search (arith, own_done, own_tried, recovered_own)
+  recovered_bytes_own t s g o k = search (arith, own_done, own_tried, saved_own)
 
   recover_own : (s : Store F P H) (t : ℕ) (f : Option F) → At s → Owns (recover c s t f)
   recover_own s t (Some f) k = saved_own s t _ _ None k
@@ -243,8 +237,5 @@ module _ {F P H R : Type 0} (T : ℕ → Type 0) (n : ℕ) (c : Contents F P H R
   pub losing_own : (s : Store F P H) (loss : Loss) → At s → Owns (losing c s loss)
   losing_own s loss k = told_own (tracks_of s) (lost_by c (with_loss s loss) loss) (lost_is n c s loss k)
 
-  cut_by : (s : Store F P H) (h : HalfWrite H) (origin : Origin) → At s → Owns (origin_cut c s h origin)
-  cut_by s h origin k = search (arith, own_tell, own_done)
-
   pub cut_own : (s : Store F P H) (o : Option (HalfWrite H)) → At s → Owns (half_cut c s o)
-  cut_own s o k = grind (arith, cut_by, own_done)
+  cut_own s o k = grind (arith, own_done, own_tell)

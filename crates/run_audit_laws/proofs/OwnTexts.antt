@@ -36,12 +36,8 @@ cut_ended : (xs : List (List ℕ)) (rest : List ℕ) → AreWhole xs → cut_lin
 cut_ended [] rest h = refl
 cut_ended (x ∷ xs) rest h = grind (arith, cut_ended xs rest h.1, append_assoc, cut_one)
 
--- the lines of any text have none
-first_whole : (b : ℕ) → not (b == 10) ≡ true → (xs : List (List ℕ)) → AreWhole xs → AreWhole (onto_first b xs)
-first_whole b h xs w = grind (arith, is_whole)
-
 cut_if : (b : ℕ) (c : Bool) → (b == 10) ≡ c → (xs : List (List ℕ)) → AreWhole xs → AreWhole (if c then [] ∷ xs else onto_first b xs)
-cut_if b c is xs w = grind (arith, first_whole)
+cut_if b c is xs w = grind (arith, is_whole)
 
 cut_whole : (text : List ℕ) → AreWhole (cut_lines text)
 cut_whole [] = tt
@@ -49,12 +45,9 @@ cut_whole (b ∷ text) = cut_if b (b == 10) refl (cut_lines text) (cut_whole tex
 
 -- Finding REPORT
 
-found_by : (n : ℕ) (b : Bool) (o q : Option ℕ) (k : ℕ) → (if b then Some n else o) ≡ None → (o ≡ None → q ≡ Some k) → (if b then Some n else q) ≡ Some k
-found_by n b o q k none go = grind arith
-
 found : (n : ℕ) (xs rest : List (List ℕ)) → report_from n xs ≡ None → report_from n (xs ++ codes "REPORT" ∷ rest) ≡ Some (n + length xs)
 found n [] rest none = ap (λ (k : ℕ). Some k) (omega arith)
-found n (x ∷ xs) rest none = grind (arith, found (n + 1) xs rest, found_by)
+found n (x ∷ xs) rest none = grind (arith, found (n + 1) xs rest)
 
 front : {X : Type 0} (xs ys : List X) → take (length xs) (xs ++ ys) ≡ xs
 front [] ys = refl

@@ -140,25 +140,18 @@ module _ (s : Subsystem) (a b : ℕ) (x y : MarksDevice) (at_a : device_in (devi
 unpairs : (a : ℕ) → IsOrder (wanted.Unpair a) (orders.Unpair a) (Unpair a)
 unpairs a = search arith
 
--- a device that is lent runs nothing
-away_is_idle : (a : ℕ) (l : Option ℕ) (r : Option OpenEntry) → IsAtHome l r → (M.is_lent_to a l && runs r) ≡ false
-away_is_idle a l r home = grind arith
-
 none_runs : (a : ℕ) (ms : List Mounted) → ArePlain ms → list_any (runs_lent a) (map audited (devices ms)) ≡ false
 none_runs a [] p = refl
-none_runs a (m ∷ ms) p = grind (arith, none_runs a ms p.1, away_is_idle)
-
-same_test : (a : ℕ) (l : Option ℕ) → M.is_lent_to a l ≡ is_lent_to l a
-same_test a l = grind arith
+none_runs a (m ∷ ms) p = grind (arith, none_runs a ms p.1)
 
 none_given : (a : ℕ) (ms : List Mounted) → lent_count a (ties ms) ≡ 0 → map (given_back a) (map audited (devices ms)) ≡ map audited (devices ms)
 none_given a [] none = refl
-none_given a (m ∷ ms) none = grind (arith, none_given a ms, same_test)
+none_given a (m ∷ ms) none = grind (arith, none_given a ms)
 
 given : (a : ℕ) (volume : Calls) (ms : List Mounted) → lent_count a (ties ms) ≤ 1 →
     map (given_back a) (map audited (devices ms)) ≡ map audited (devices (restored_in ms a volume))
 given a volume [] most = refl
-given a volume (m ∷ ms) most = grind (arith, given a volume ms, lent_count, ties, one_if, same_test, none_given)
+given a volume (m ∷ ms) most = grind (arith, given a volume ms, lent_count, ties, one_if, none_given)
 
 silent_restored : (a : ℕ) (volume : Calls) (ms : List Mounted) → AllSilent (map history_of (devices ms)) (map history_of (devices (restored_in ms a volume)))
 silent_restored a volume [] = tt

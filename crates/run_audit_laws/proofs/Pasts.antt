@@ -100,16 +100,13 @@ module _ (path : ℕ) (ccws : List Ccw) (state : PlainState) (acts : List Acted)
       ≡ untold (act_now act (untold (part_of state path ccws acts n)))
   act_more act n = ap untold (act_at act n (at n).next refl) ∙ act_untold act (at n) (at n).next
 
-  step_untold : (p : Part) (next : Option ℕ) → untold (stepped_at path ccws p next) ≡ untold (stepped_at path ccws (untold p) next)
-  step_untold p next = grind arith
-
   -- no act comes behind one more end
   none_there : (n : ℕ) → AreInOrder 0 (n + 1) acts → (q : Part) → (is_some q.next ≡ true → length q.ends ≡ suc n) → acted_part acts q ≡ q
   none_there n order q many = grind (arith, no_acts)
 
   pub step_more : (n : ℕ) → AreInOrder 0 (n + 1) acts → untold (part_of state path ccws acts (suc n))
       ≡ untold (command_run path ccws (untold (part_of state path ccws acts n)))
-  step_more n order = grind (arith, acted_beside, part_more, none_there, part_counts, step_untold)
+  step_more n order = grind (arith, acted_beside, part_more, none_there, part_counts)
 
 -- the state behind the next command
 abbrev pub next_part : Plans → Going → Part
@@ -142,9 +139,6 @@ module _ (plans : Plans) (state : PlainState) (o : OpenEntry) (tidy : IsTidyOpen
 abbrev pub started_past : ℕ → ℕ → Plans → Past → Past
 started_past path n plans x =
     record x { running = Some (going_of plans x.state (record { path = path; ordinal = n; ends = []; acts = [] })) }
-
-pub start_is_read : (path n : ℕ) → IsRead (λ h. started h path n) (started_past path n)
-start_is_read path n = record { tidy = λ h tidy. tt; past = λ plans empty h tidy. refl }
 
 -- Behind more items, where no program runs
 
@@ -330,8 +324,6 @@ abbrev pub reset_past : ℕ → ℕ → Plans → Past → Past
 reset_past path more plans x = reset_by path more plans x x.running
 
 module _ (path more : ℕ) (few : IsFew more) (l : List Item) (w : List ℕ) where
-  idle_tidy : (used : Bool) → IsTidy (if used then record (with_parts l None w) { items = l ++ items.Reset path ∷ [] } else with_parts l None w)
-  idle_tidy used = grind arith
 
   module _ (o : OpenEntry) (tidy : IsTidyOpen o) where
     resets_tidy : (own used : Bool) → IsTidy (if own then cut_by (with_parts l (Some o) w) o more
@@ -377,7 +369,7 @@ module _ (path more : ℕ) (few : IsFew more) (l : List Item) (w : List ℕ) whe
 
 module _ (path more : ℕ) (few : IsFew more) (l : List Item) where
   reset_tidy : (r : Option OpenEntry) (w : List ℕ) → IsTidy (with_parts l r w) → IsTidy (reset_in_history (with_parts l r w) path more)
-  reset_tidy r w tidy = grind (arith, idle_tidy, resets_tidy)
+  reset_tidy r w tidy = grind (arith, resets_tidy)
 
   reset_is : (plans : Plans) (empty : PlainState) (r : Option OpenEntry) (w : List ℕ) → IsTidy (with_parts l r w) →
       past_of plans empty (reset_in_history (with_parts l r w) path more) ≡ reset_past path more plans (past_of plans empty (with_parts l r w))
@@ -399,9 +391,6 @@ abbrev pub lost_past : Plans → Past → Past
 lost_past plans x = lost_by plans x x.running
 
 module _ (l : List Item) (w : List ℕ) where
-  dark_tidy : (started : Bool) →
-      IsTidy (if started then record { items = l ++ items.Power ∷ []; running = None; waiting = [] } else with_parts l None w)
-  dark_tidy started = grind arith
 
   dark_past : (plans : Plans) (empty : PlainState) (started : Bool) →
       past_of plans empty (if started then record { items = l ++ items.Power ∷ []; running = None; waiting = [] } else with_parts l None w)
@@ -411,7 +400,7 @@ module _ (l : List Item) (w : List ℕ) where
   dark_past plans empty false = refl
 
   power_tidy : (r : Option OpenEntry) → IsTidy (lost_power (with_parts l r w) 0)
-  power_tidy r = grind (arith, dark_tidy)
+  power_tidy r = grind arith
 
   power_past : (plans : Plans) (empty : PlainState) (r : Option OpenEntry) → IsTidy (with_parts l r w) →
       past_of plans empty (lost_power (with_parts l r w) 0) ≡ lost_past plans (past_of plans empty (with_parts l r w))

@@ -33,11 +33,8 @@ record Spares (s z : MarksStore) : Type 0 where
   number : z.number ≡ s.number
   loose : z.loose ≡ s.loose
 
-spares_all : (s : MarksStore) → Spares s s
-spares_all s = record { device = refl; geometry = refl; cylinders = refl; lent = refl; number = refl; loose = refl }
-
 half_spares : (s : MarksStore) (h : Option (store.HalfWrite (Unit {0}))) → Had (half_cut by_plain s h) (λ z (_ : Unit {0}). Spares s z)
-half_spares s h = search (arith, had_tell, had_done, spares_all)
+half_spares s h = search (arith, had_tell, had_done)
 
 -- All frames go, and data of cache fast write where there are some
 
@@ -52,11 +49,8 @@ record OffCore (x : MarksStore) (n : ℕ) (c : Core) : Type 0 where
 off_hard : (x : MarksStore) (n : ℕ) (c : Core) (t : ℕ) → OffCore x n c → loose_at c t ≡ true → OffCore x n (hardened_core c t)
 off_hard x n c t w is = search arith
 
-ended_core : (z : MarksStore) (h : store.HalfWrite (Unit {0})) (origin : Origin) → core_of (half_ended by_plain z h origin) ≡ with_half (core_of z) None
-ended_core z h origin = grind (arith, patch_same)
-
 lost_core : (z : MarksStore) (h : Option (store.HalfWrite (Unit {0}))) → z.half ≡ h → core_of (half_lost by_plain z h) ≡ with_half (core_of z) None
-lost_core z h is = grind (arith, with_half, core_of, ended_core)
+lost_core z h is = grind (arith, with_half, core_of, patch_same)
 
 gone_off : (s : MarksStore) (b : Bool) → OffCore s (number_behind b s.number) (with_half (core_of (if b then gone_back s else s)) None)
 gone_off s b = search arith

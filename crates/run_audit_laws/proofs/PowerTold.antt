@@ -109,9 +109,6 @@ pub record IsOffTold (x y : MarksDevice) : Type 0 where
   pub over : IsUncut x y middle ⊎ IsCutNow x y middle
   pub loose : IsKept x y middle ⊎ IsGone x y middle
 
-next_differs : (n : ℕ) → next_number n ≡ n → ⊥
-next_differs n is = grind (arith, eqb-true)
-
 module _ (x y : MarksDevice) (p : Plainly x) (f : Follows p.number p.empty y) (g : IsOff p.number p.empty x p.follows y) where
   abbrev more : ℕ
   more = counts_one_by x.store.half
@@ -161,11 +158,8 @@ module _ (x y : MarksDevice) (p : Plainly x) (f : Follows p.number p.empty y) (g
           none = sym (has_is middle x.store k) ∙ none;
         })
 
-  half_is : half_by y.store.half ≡ Closed
-  half_is = ap half_by g.half
-
   as_audited : (k : History) → y.history ≡ k → audited y ≡ record (audited x) { history = k; half = Closed }
-  as_audited k is = grind (arith, audited_by, half_is)
+  as_audited k is = grind (arith, audited_by)
 
   -- A program runs
 
@@ -255,7 +249,7 @@ module _ (x y : MarksDevice) (p : Plainly x) (f : Follows p.number p.empty y) (g
 
     -- before the first start there are no such data
     firm : is_started false x.history.items ≡ false → has_loose x.store ≡ false
-    firm not_yet = grind (arith, stopped, next_differs)
+    firm not_yet = grind (arith, stopped, eqb-true)
 
     idle_told : IsOffTold x y
     idle_told =

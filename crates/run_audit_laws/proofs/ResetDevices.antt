@@ -38,16 +38,13 @@ record IsCutOf (s z : MarksStore) : Type 0 where
   lent : z.lent ≡ s.lent
   half_is : half_by z.half ≡ cut_half (half_by s.half)
 
-same_cut : (s : MarksStore) → cut_half (half_by s.half) ≡ half_by s.half → IsCutOf s s
-same_cut s is = record { number = refl; geometry = refl; cylinders = refl; lent = refl; half_is = sym is }
-
 module _ (s : MarksStore) where
   by_origin : (h : store.HalfWrite (Unit {0})) → s.half ≡ Some h → (o : Origin) → h.origin ≡ o →
       Always (origin_cut by_plain s h o) (λ z (_ : Unit {0}). IsCutOf s z)
-  by_origin h kept o is = search (arith, always_tell, always_done, same_cut)
+  by_origin h kept o is = search (arith, always_tell, always_done)
 
   by_half : (h : Option (store.HalfWrite (Unit {0}))) → s.half ≡ h → Always (half_cut by_plain s h) (λ z (_ : Unit {0}). IsCutOf s z)
-  by_half h kept = search (arith, by_origin, always_done, same_cut)
+  by_half h kept = search (arith, by_origin, always_done)
 
 abbrev pub reset_half : MarksDevice → ℕ → Option OpenEntry → HalfWrite
 reset_half x path (Some o) = if o.path == path then cut_half (half_by x.store.half) else half_by x.store.half

@@ -95,11 +95,8 @@ use Rattle.run_audit_laws.proofs.Saying.{same_number}
 
 -- What a command may edit, as the audit tests it
 
-by_loose : (l p : Bool) → (l ≡ true → p ≡ true) → (not l || p) ≡ true
-by_loose l p h = grind arith
-
 pub legal_by : (p : Part) (edit : Option TrackEdit) → MayEdit p.state p.stance edit → is_edit_legal p edit ≡ true
-legal_by p edit h = grind (arith, by_loose)
+legal_by p edit h = grind arith
 
 -- where the cut of a half write counts one command more, that command may be so
 pub next_legal : (x : MarksDevice) (p : Plainly x) (o : OpenEntry) → x.history.running ≡ Some o → counts_one_by x.store.half ≡ 1 →
@@ -186,15 +183,12 @@ module _ (s : Subsystem) (plain : ArePlain s.mounted) (path n : ℕ) (x : MarksD
       reset_made (stand s (wanted.Reset path n ∷ later)) line path (audited x) ≡ Some t → judged (stand s (wanted.Reset path n ∷ later)) line ≡ Ok t
   first_is line t fits makes = grind (arith, first_judged, outline_one, then_some, found_one)
 
-  is_reset_line : ((path == path) && (n == n)) ≡ true
-  is_reset_line = and_from (path == path) (n == n) (same_number path) (same_number n)
-
   -- The reset of another path, or while nothing runs
 
   module _ (other : (o : OpenEntry) → x.history.running ≡ Some o → (o.path == path) ≡ false) where
     may_by : (r : Option OpenEntry) → x.history.running ≡ r →
         may_reset path n (outline_of (audited x)) (lines.Reset path n) (open_program r) ≡ true
-    may_by r is = grind (arith, is_reset_line)
+    may_by r is = grind arith
 
     half_by_running : (r : Option OpenEntry) → x.history.running ≡ r → reset_half x path r ≡ half_by x.store.half
     half_by_running r is = grind arith
@@ -258,7 +252,7 @@ module _ (s : Subsystem) (plain : ArePlain s.mounted) (path n : ℕ) (x : MarksD
         (then_some x.history.running o (λ (k : OpenEntry). M.cut_by from (audited x) k (length o.ends + more)) running ∙ cut_made)
 
     reset_judged : (t : AuditState) → passed (cut_to more) ≡ t → judged (cut_to more) (lines.Reset path n) ≡ Ok t
-    reset_judged t is = grind (arith, is_reset_line)
+    reset_judged t is = grind arith
 
     pub own_leads : Leads s path n x later
     own_leads m it_is there z end g =

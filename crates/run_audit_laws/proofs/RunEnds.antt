@@ -63,11 +63,8 @@ use Rattle.run_audit_laws.proofs.StepParts.{IsLeft, IsSecond, command_left, seco
 
 -- A program that runs has fewer ends than may be
 
-none_there : (o : Option ℕ) → o ≡ None → IsSome o → ⊥
-none_there o is some = grind arith
-
 not_over : (b : Bool) (o : Option ℕ) → IsSome (if b then None else o) → b ≡ false
-not_over b o some = grind (arith, none_there)
+not_over b o some = grind arith
 
 below_limit : (c : Ccw) (o : Outcome) → is_over c o ≡ false → o.stance.commands < 4096
 below_limit c o is = grind (arith, leb-false, or_parts)
@@ -80,7 +77,7 @@ module _ (path : ℕ) (ccws : List Ccw) (acts : List Acted) (state : PlainState)
   more_few : (k : ℕ) (n : Option ℕ) → (part_of state path ccws acts k).next ≡ n →
       (IsSome (part_of state path ccws acts k).next → Few k (part_of state path ccws acts k)) →
       IsSome (one_more path ccws acts (part_of state path ccws acts k)).next → Few (suc k) (one_more path ccws acts (part_of state path ccws acts k))
-  more_few k n is before some = search (arith, none_there, acted_beside, not_over, below_limit, effect_counts)
+  more_few k n is before some = search (arith, acted_beside, not_over, below_limit, effect_counts)
 
   pub few_of : (k : ℕ) → IsSome (part_of state path ccws acts k).next → Few k (part_of state path ccws acts k)
   unfolding part_of

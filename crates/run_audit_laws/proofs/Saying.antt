@@ -23,20 +23,11 @@ same_number n = eq-eqb n n refl
 pub same_bytes : (bytes : List ℕ) → bytes_eq bytes bytes ≡ true
 same_bytes bytes = search rules
 
-pub same_owner : (o : Owner) → is_same_owner o o ≡ true
-same_owner o = grind (arith, same_bytes, same_number)
-
 pub same_start : (a : StartAnswer) → is_same_start a a ≡ true
-same_start a = grind (arith, same_number, same_owner)
+same_start a = grind (arith, same_number, same_bytes)
 
 pub same_loose : (a : LooseAnswer) → is_same_loose a a ≡ true
 same_loose a = grind (arith, same_number, and_from, same_bytes)
 
-pub same_note : (n : Note) → is_same_note n n ≡ true
-same_note n = grind arith
-
-pub same_side : (s : Side) → is_same_side s s ≡ true
-same_side s = grind arith
-
 pub same_order : (o : Order) → is_same_order o o ≡ true
-same_order o = grind (arith, and_from, same_side)
+same_order o = grind (arith, and_from)

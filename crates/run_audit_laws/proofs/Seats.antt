@@ -57,11 +57,8 @@ module _ {F P H : Type 0} (n : ℕ) where
     pub provisional_is : (s : Store F P H) (t : ℕ) (i : Image) (e : Edit) → Is s → Is (provisionally_written c s t i e)
     provisional_is s t i e k = is_if (is_loose s t) s (loosened s t) k k
 
-    cut_is : (s : Store F P H) (t : ℕ) (i : Image) (o : Option F) → Is s → Is (cut_kept c s t i o)
-    cut_is s t i o k = grind (arith, same_is, parts_count, unpatched_moves, stays)
-
     pub left_is : (s : Store F P H) (t : ℕ) (i : Image) (origin : Origin) → Is s → Is (left_by c s t i origin)
-    left_is s t i origin k = grind (arith, cut_is)
+    left_is s t i origin k = grind (arith, same_is, parts_count, unpatched_moves, stays)
 
     pub powerless_is : (s : Store F P H) → Is s → Is (powerless c s)
     powerless_is s k = same_is (parts_count c s (powerless_moves tt s stays)) k

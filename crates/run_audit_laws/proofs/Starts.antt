@@ -105,22 +105,12 @@ use Rattle.run_audit_laws.proofs.Saying.{same_number, same_start}
 
 -- Over plain Bools
 
-no_more : (c many : ℕ) → not (nat_le (c + 1) many) ≡ (many - c == 0)
-no_more c many = grind (arith, nat_tests)
-
-both_out : (a b : Bool) → (not a || not b) ≡ not (a && b)
-both_out a b = grind arith
-
 all_not : (f g : ℕ → Bool) → ((q : ℕ) → g q ≡ not (f q)) → (l : List ℕ) → list_all g l ≡ not (list_any f l)
 all_not f g h [] = refl
 all_not f g h (q ∷ l) = grind (arith, all_not f g h l)
 
 pub choice_not : {X : Type 0} (a b : Bool) (x y : X) → b ≡ not a → (if a then x else y) ≡ (if b then y else x)
 choice_not a b x y e = grind arith
-
--- who is admitted where nobody holds the device
-free_admits : (p : PathsState) (path : ℕ) (ccws : List Ccw) → p.owner ≡ None → is_admitted p path ccws ≡ true
-free_admits p path ccws free = grind arith
 
 abbrev answer_by : Option StartFault → ℕ → StartAnswer
 answer_by (Some fault) n = start_refused fault
@@ -141,17 +131,14 @@ module _ (x : MarksDevice) (p : Plainly x) where
     count_is : (path : ℕ) → started_count x.history path ≡ count_by (is_of_path path) x.history.items
     count_is path = grind arith
 
-    ordinal_is : (path : ℕ) → S.next_ordinal x path ≡ A.next_ordinal a path
-    ordinal_is path = ap (λ (n : ℕ). n + 1) (count_is path)
-
     left_is : (path : ℕ) → (left x path == 0) ≡ not (has_left a path)
-    left_is path = grind (arith, count_is, no_more)
+    left_is path = grind (arith, count_is, nat_tests)
 
     keeps_is : (path : ℕ) → keeps_out x path ≡ not (is_admitted (state_of a).paths path (program_of x.plans path (A.next_ordinal a path)))
-    keeps_is path = grind (arith, paths_are, ordinal_is)
+    keeps_is path = grind (arith, paths_are)
 
     out_is : (path : ℕ) → has_none_or_is_out x path ≡ not (may_start a path)
-    out_is path = grind (arith, left_is, keeps_is, both_out)
+    out_is path = grind (arith, left_is, keeps_is)
 
     shut_is : is_shut x ≡ not (list_any (may_start a) four_paths)
     shut_is = all_not (may_start a) (has_none_or_is_out x) out_is four_paths
@@ -170,7 +157,7 @@ module _ (x : MarksDevice) (p : Plainly x) where
               ≡ start_refused (if b then faults.Shut owner else faults.Reserved owner)
           by_shut true = refl
           by_shut false = refl
-      held_by None is out = grind (arith, free_admits)
+      held_by None is out = grind arith
 
       owner_is : (state_of a).paths.owner ≡ x.paths.owner
       owner_is = ap (λ (q : PathsState). q.owner) paths_are
@@ -178,7 +165,7 @@ module _ (x : MarksDevice) (p : Plainly x) where
       free_by : (l k : Bool) → has_left a path ≡ l → admits ≡ k → (if not l then answers.Done else if l && k then answers.Accepted (A.next_ordinal a path)
           else held_answer a (state_of a).paths.owner)
           ≡ answer_by (if not l then Some faults.PlanDone else if not k then reserved_fault x x.paths.owner else None) (S.next_ordinal x path)
-      free_by l k is out = grind (arith, ordinal_is, owner_is, held_by)
+      free_by l k is out = grind (arith, owner_is, held_by)
 
       free_is : free_answer a path ≡ answer_by (idle_fault x path) (S.next_ordinal x path)
       free_is = grind (arith, free_by, left_is, keeps_is)
@@ -207,14 +194,11 @@ module _ (s : Subsystem) (plain : ArePlain s.mounted) (path n : ℕ) (x : MarksD
   plainly : Plainly x
   plainly = subst (λ (o : Option MarksDevice). IfSome o Plainly) at (device_so Plainly s.mounted n plain)
 
-  shown_if : (b : Bool) (wanted line : ReportLine) (t : AuditState) → says wanted line ≡ true → shown wanted line t ≡ Some t
-  shown_if b wanted line t is = ap (λ (c : Bool). if c then Some t else None) is
-
   -- a line with the audit's own answer
   start_judged : (later : List EventLine) (answer : StartAnswer) → start_answer (audited x) path ≡ answer → (z : Subsystem) →
       with_device (map audited (devices_of s)) (after_start (audited x) path answer) ≡ map audited (devices_of z) →
       judged (stand s (wanted.Start path n ∷ later)) (lines.Start path n answer) ≡ Ok (stand z later)
-  start_judged later answer is z behind = grind (arith, first_judged, and_from, same_number, then_some, found_one, number_is, shown_if, same_start)
+  start_judged later answer is z behind = grind (arith, first_judged, and_from, same_number, then_some, found_one, number_is, same_start)
 
   -- nothing is changed
   back_there : with_device (map audited (devices_of s)) (audited x) ≡ map audited (devices_of s)

@@ -136,15 +136,6 @@ status_good body = grind (arith, good)
 ended_fits : (c : Ccw) (area : ℕ) (status : UnitStatus) → IsGood status → IsGood status × (c.count - min c.count area ≤ c.count)
 ended_fits c area status is = grind arith
 
-immediate_fits : (c : Ccw) → IsGood normal × (c.count ≤ c.count)
-immediate_fits c = grind (arith, good)
-
-search_good : (met : Bool) → IsGood (search_status met)
-search_good met = grind (arith, good)
-
-read_good : (area : ReadArea) (body : List ℕ) → IsGood (read_status area body)
-read_good area body = grind (arith, good, status_good)
-
 -- Where a record isn't found
 
 abbrev SoughtFits : Sought → Type 0
@@ -185,10 +176,10 @@ abbrev pub LookFits : Ccw → Looked → Type 0
 LookFits c l = TurnFits c l.turned
 
 search_fits : (t : Track) (area : SearchArea) (s : Stance) (c : Ccw) (k : Sought) → SoughtFits k → LookFits c (search_sought t area s c k)
-search_fits t area s c k h = grind (arith, ended_fits, search_good, refused_fits)
+search_fits t area s c k h = grind (arith, ended_fits, refused_fits, good)
 
 reads_fit : (t : Track) (area : ReadArea) (s : Stance) (c : Ccw) (k : Sought) → SoughtFits k → LookFits c (read_sought t area s c k)
-reads_fit t area s c k h = grind (arith, ended_fits, read_good, refused_fits)
+reads_fit t area s c k h = grind (arith, ended_fits, refused_fits, good, status_good)
 
 data_fits : (d : Bool) (s : Stance) (c : Ccw) (i : ℕ) (r : Record) → LookFits c (update_data d s c i r)
 data_fits d s c i r = grind (arith, cond_both, ended_fits, status_good)
@@ -225,15 +216,11 @@ look_fits g t s c look = grind (arith, found_record_fits, search_fits, found_fit
 abbrev pub WalkFits : Ccw → Outcome → Type 0
 WalkFits c o = Fits c o.ending ⊎ ((o.ending.sense ≡ Some equipment_sense) × (o.ending.status ≡ check) × (o.ending.residual ≡ c.count))
 
-turned_fits : (c : Ccw) (t : ℕ) (on : Stance → Walked) (s : Stance) (k : Turned) → TurnFits c k → ((z : Stance) → WalkFits c (on z).outcome) →
-    WalkFits c (walked t on s k).outcome
-turned_fits c t on s k h go = grind arith
-
 walk_fits : (n : ℕ) (g : Geometry) (tracks : ℕ → Track) (start : Stance) (c : Ccw) (look : Look) (s : Stance) →
     WalkFits c (walk n g tracks start c look s).outcome
 unfolding W.walk
 walk_fits zero g tracks start c look s = inr (refl, refl, refl)
-walk_fits (suc n) g tracks start c look s = grind (arith, walk_fits n g tracks start c look, turned_fits, look_fits)
+walk_fits (suc n) g tracks start c look s = grind (arith, walk_fits n g tracks start c look, look_fits)
 
 -- How a command begins
 
@@ -274,26 +261,20 @@ OpeningFits c (openings.Over e) = Fits c e
 OpeningFits c (openings.Looks look) = ⊤
 OpeningFits c (openings.Asks act) = ⊤
 
-moved_fits : (s : Stance) (c : Ccw) (look : Look) (r : Result ℕ Sense) → MoveFits r → OpeningFits c (moved s c look r).opening
-moved_fits s c look r h = grind (arith, refused_fits)
-
 track_from_fits : (s : Stance) (c : Ccw) (r : Read) (place : Place) → OpeningFits c (read_from s c r reads.Track place).opening
-track_from_fits s c r place = grind (arith, moved_fits, after_fits)
-
-read_from_fits : (s : Stance) (c : Ccw) (r : Read) (area : ReadArea) (place : Place) → OpeningFits c (read_from s c r area place).opening
-read_from_fits s c r area place = grind (arith, track_from_fits)
+track_from_fits s c r place = grind (arith, after_fits, refused_fits)
 
 write_from_fits : (s : Stance) (c : Ccw) (w : Write) → OpeningFits c (look_from s c (Writes w)).opening
-write_from_fits s c w = grind (arith, moved_fits, after_fits)
+write_from_fits s c w = grind (arith, after_fits, refused_fits)
 
 look_from_fits : (s : Stance) (c : Ccw) (look : Look) → OpeningFits c (look_from s c look).opening
-look_from_fits s c look = grind (arith, read_from_fits, write_from_fits)
+look_from_fits s c look = grind (arith, write_from_fits, track_from_fits)
 
 locating_fits : (s : Stance) (c : Ccw) (d : Domain) (o : Option Place) → OpeningFits c (locating s c d o).opening
 locating_fits s c d o = grind (arith, ended_fits, good)
 
 begun_fits : (s : Stance) (c : Ccw) (order : CommandOrder) → OpeningFits c (begun s c order).opening
-begun_fits s c order = grind (arith, immediate_fits, ended_fits, good, locating_fits, look_from_fits)
+begun_fits s c order = grind (arith, ended_fits, good, locating_fits, look_from_fits)
 
 opened_fits : (s : Stance) (c : Ccw) (r : Result CommandOrder Sense) → OrderFits r → OpeningFits c (opening_with s c r).opening
 opened_fits s c r h = grind (arith, begun_fits, refused_fits)
@@ -320,18 +301,12 @@ outcome_fits f state path s c = grind (arith, effect_fits, opening_fits)
 
 -- Its end
 
-no_more : (a b d : Bool) → (a && false && b && d) ≡ false
-no_more a b d = grind arith
-
 -- the chain of a command that ends with unit check doesn't go on
 note_is : (i : ℕ) (c : Ccw) (o : Outcome) → o.ending.status ≡ check → note_of c o ≡ o.ending.note
-note_is i c o is = grind (arith, no_more)
-
-tidy_by : (i : ℕ) (c : Ccw) (o : Outcome) (s : Option Sense) → FitsBy c o.ending s → TidyBy c (end_at_word i c o) s
-tidy_by i c o s h = grind (arith, note_is)
+note_is i c o is = grind arith
 
 -- an end of the plain device, of a command that ends before it has looked at more tracks than there are
 pub end_is_tidy : (i : ℕ) (f : Fixed) (state : PlainState) (path : ℕ) (s : Stance) (c : Ccw) →
     ((end_at_word i c (effect_on f state path s c).outcome).sense ≡ Some equipment_sense → ⊥) →
     TidyBy c (end_at_word i c (effect_on f state path s c).outcome) (end_at_word i c (effect_on f state path s c).outcome).sense
-end_is_tidy i f state path s c few = grind (arith, outcome_fits, tidy_by)
+end_is_tidy i f state path s c few = grind (arith, outcome_fits, note_is)

@@ -247,9 +247,6 @@ parted_tied ns ts a x o here own lent single t = record {
 
 -- What a device's own events keep
 
-same_tie : (d y : MarksDevice) → y.store.device ≡ d.store.device → y.store.lent ≡ d.store.lent → y.store.paired ≡ d.store.paired → tie y ≡ tie d
-same_tie d y n l p = grind arith
-
 abbrev IsPaired : Bool → Facts → Type 0
 IsPaired b x = x.paired ≡ b
 
@@ -262,7 +259,7 @@ pair_bears b = search arith
 kept_tie : {X : Type 0} (d : MarksDevice) (talk : Interaction Bool Image MarksDevice X) (b : Base) → b.device ≡ d.store.device →
     b.lent ≡ d.store.lent → Based base_in Any b talk → Always talk (λ y (_ : X). IsPaired d.store.paired (facts_of y.store)) → (t : Told) →
     tie (T.hold true talk t).state ≡ tie d
-kept_tie d talk b number lent based pair t = grind (arith, at, stays_still, same_tie)
+kept_tie d talk b number lent based pair t = grind (arith, at, stays_still)
 
 module _ (d : MarksDevice) where
   abbrev q : Facts → Type 0
@@ -283,16 +280,10 @@ module _ (d : MarksDevice) where
 
 -- Deeds
 
-not_of : (k a b : ℕ) (y : Mounted) (o : Option Mounted) → k ≡ b → (b == a) ≡ false → (if k == a then Some y else o) ≡ o
-not_of k a b y o e other = ap (λ (x : ℕ). if x == a then Some y else o) e ∙ ap (λ (t : Bool). if t then Some y else o) other
-
 -- another one's place
 pub others_stay : (ms : List Mounted) (a b : ℕ) (y : Mounted) → number_of y ≡ b → (b == a) ≡ false → mounted_in (put_in ms b y) a ≡ mounted_in ms a
 others_stay [] a b y number other = refl
-others_stay (k ∷ ms) a b y number other = grind (arith, others_stay ms a b y number other, not_of, eqb-true)
-
-put_same : (ms : List Mounted) (n : ℕ) (x m : Mounted) → mounted_in ms n ≡ Some m → tie x.device ≡ tie m.device → ties (put_in ms n x) ≡ ties ms
-put_same ms n x m there same = grind (arith, mounted_number, ties_put, put_own, tie_found)
+others_stay (k ∷ ms) a b y number other = grind (arith, others_stay ms a b y number other, eqb-true)
 
 -- so many are lent to each where the same is
 pub lent_stays : (ms : List Mounted) (n : ℕ) (x m : Mounted) → mounted_in ms n ≡ Some m → number_of x ≡ n →
@@ -320,15 +311,12 @@ pub record MayPair (x y : MarksDevice) : Type 0 where
   pub single : x.store.paired ≡ false
   pub alone : y.store.paired ≡ false
 
-lent_none : (l : Option ℕ) → R.lent_by l ≡ None → l ≡ None
-lent_none l is = grind arith
-
 pub turned : (a b : ℕ) → (a == b) ≡ false → (b == a) ≡ false
 turned a b is = ne_eqb b a (λ e. eqb-false a b is (sym e))
 
 pub may_pair : (x y : MarksDevice) → pair_fault x y ≡ None → MayPair x y
 unfolding R.pair_fault
-may_pair x y is = search (arith, first_none, turned, where_none, lent_none)
+may_pair x y is = search (arith, first_none, turned, where_none)
 
 abbrev KeepsTies : Subsystem → MarksDeed → Type 0
 KeepsTies s (Ends end) = Unit {0}
@@ -345,12 +333,12 @@ module _ (ns : List ℕ) where
   becomes_tied : (s : Subsystem) (d : MarksDevice) → ((m : Mounted) → mounted_in s.mounted d.store.device ≡ Some m → tie d ≡ tie m.device) →
       (o : Option Mounted) → mounted_in s.mounted d.store.device ≡ o → Tied ns (ties s.mounted) →
       Tied ns (ties (becomes s d.store.device o d).mounted)
-  becomes_tied s d same o there t = grind (arith, same_tied, put_same)
+  becomes_tied s d same o there t = grind (arith, same_tied, mounted_number, ties_put, put_own, tie_found)
 
   asks_tied : (s : Subsystem) (d : MarksDevice) (talk : Talk (Option EventEnd)) → IsSeat s d → ((t : Told) → tie (T.hold true talk t).state ≡ tie d) →
       (o : Option Mounted) → mounted_in s.mounted d.store.device ≡ o → Tied ns (ties s.mounted) →
       Tied ns (ties (asks s d.store.device o talk).behind.mounted)
-  asks_tied s d talk seat same o there t = grind (arith, same_tied, put_same)
+  asks_tied s d talk seat same o there t = grind (arith, same_tied, mounted_number, ties_put, put_own, tie_found)
 
   module _ (s : Subsystem) (x y : MarksDevice) (fault : pair_fault x y ≡ None) (stands_x : Stands s x) (stands_y : Stands s y) where
     abbrev a : ℕ
@@ -473,7 +461,7 @@ module _ (ns : List ℕ) where
 
   pub replaced_tied : (s : Subsystem) (n : ℕ) (side : Side) (o : Option Mounted) → mounted_in s.mounted n ≡ o → So s →
       So (replaced_at s n side unfailing o).behind
-  replaced_tied s n side o there t = grind (arith, same_tied, put_same, side_same)
+  replaced_tied s n side o there t = grind (arith, same_tied, side_same, mounted_number, ties_put, put_own, tie_found)
 
   pub unpaired_tied : (s : Subsystem) (n : ℕ) (o : Option Mounted) → mounted_in s.mounted n ≡ o → So s → So (unpaired_at s n unfailing o).behind
   unpaired_tied s n None there t = t

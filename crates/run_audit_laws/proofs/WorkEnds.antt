@@ -142,16 +142,13 @@ module _ (xs : List AuditedDevice) (later : List EventLine) (a : AuditedDevice) 
     its_end : (e : CommandEnd) → ((o.path == o.path) && (a.number == a.number) && (o.ordinal == o.ordinal)) ≡ true
     its_end e = grind (arith, and_from, same_number)
 
-    first_end : (idle : ReportLine) (e : CommandEnd) → a.half ≡ half.Closed → may_step (outline_of a) idle (end_told e) a.half ≡ true
-    first_end idle e closed = grind (arith, or_left, its_end)
-
     second_end : (e : CommandEnd) → second_of (outline_of a) (end_told e) (open_program a.history.running) ≡ true
     second_end e = ap (λ (r : Option OpenEntry). second_of (outline_of a) (end_told e) (open_program r)) running ∙ its_end e
 
     pub end_stands : (w : EventLine) (h : HalfWrite) → MayEnd a.number w h → a.half ≡ h → (e : CommandEnd) →
         in_event (outlines (record { devices = xs; events = w ∷ later; due = Next })) (lines.End (end_line o.path a.number o.ordinal e)) w ≡ true
-    end_stands w h step_ends is e = grind (arith, its_outline, first_end)
-    end_stands w h run_ends is e = grind (arith, its_outline, first_end)
+    end_stands w h step_ends is e = grind (arith, its_outline, or_left, its_end)
+    end_stands w h run_ends is e = grind (arith, its_outline, or_left, its_end)
     end_stands w h step_seconds is e = step_fits (lines.StepIdle a.number) (end_told e) is (second_end e)
     end_stands w h run_seconds is e = step_fits (lines.RunIdle a.number) (end_told e) is (second_end e)
     end_stands w h back_seconds is e = back_fits (end_told e) is (second_end e)
@@ -192,11 +189,8 @@ module _ (xs : List AuditedDevice) (later : List EventLine) (a : AuditedDevice) 
 
     -- The first part of a write
 
-    half_line : (track : ℕ) → ((o.path == o.path) && (a.number == a.number)) ≡ true
-    half_line track = and_from (o.path == o.path) (a.number == a.number) (same_number o.path) (same_number a.number)
-
     half_first : (idle : ReportLine) (track : ℕ) → a.half ≡ half.Closed → may_step (outline_of a) idle (lines.Half o.path a.number track) a.half ≡ true
-    half_first idle track closed = grind (arith, or_right, half_line)
+    half_first idle track closed = grind (arith, or_right)
 
     half_stands : (w : EventLine) → MayEnd a.number w half.Closed → a.half ≡ half.Closed → (track : ℕ) →
         in_event (outlines (record { devices = xs; events = w ∷ later; due = Next })) (lines.Half o.path a.number track) w ≡ true
