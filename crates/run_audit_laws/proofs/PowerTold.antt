@@ -73,7 +73,7 @@ use Rattle.run_audit_laws.proofs.LooseOnce.{StandOnce, items_once, part_once}
 use Rattle.run_audit_laws.proofs.LossDevices.{number_behind}
 use Rattle.run_audit_laws.proofs.PowerDevices.{IsOff}
 use Rattle.run_audit_laws.proofs.ResetDevices.{audited_by}
-use Rattle.run_audit_laws.proofs.Resets.{next_legal}
+use Rattle.run_audit_laws.proofs.Resets.{few_more}
 use Rattle.run_audit_laws.proofs.Ties.{one_if}
 
 -- The device between the two lines, and each line
@@ -201,16 +201,6 @@ module _ (x y : MarksDevice) (p : Plainly x) (f : Follows p.number p.empty y) (g
     marked : Marked cut x.store
     marked = grind (arith, state_is, taken_of, get_or, taken_once, known)
 
-    few_by : (q : Option (store.HalfWrite (Unit {0}))) → x.store.half ≡ q →
-        (counts_one_by x.store.half ≡ 0) ⊎ ((counts_one_by x.store.half ≡ 1) × (is_next_legal (audited x) x.history.running ≡ true))
-    few_by None is = inl (ap counts_one_by is)
-    few_by (Some w) is = by_test (is_of_command w.origin) refl where
-      by_test : (b : Bool) → is_of_command w.origin ≡ b →
-          (counts_one_by x.store.half ≡ 0) ⊎ ((counts_one_by x.store.half ≡ 1) × (is_next_legal (audited x) x.history.running ≡ true))
-      by_test true test =
-          let one : counts_one_by x.store.half ≡ 1 = ap counts_one_by is ∙ ap one_if test in inr (one, next_legal x p o running one)
-      by_test false test = inl (ap counts_one_by is ∙ ap one_if test)
-
     started : is_started false (x.history.items ++ entry ∷ []) ≡ true
     started = started-append false x.history.items (entry ∷ [])
 
@@ -229,7 +219,7 @@ module _ (x y : MarksDevice) (p : Plainly x) (f : Follows p.number p.empty y) (g
         running = running;
         line_is = ap (λ (l : List Item). program_over_lines (over_of x.store.device l)) items_are;
         middle_is = refl;
-        few = few_by x.store.half refl;
+        few = few_more x p o running;
       });
       loose = loose_of cut refl marked acts_are true (ap has_power items_are) (λ is. absurd (true≢false is));
     }

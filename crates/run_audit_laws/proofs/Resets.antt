@@ -105,6 +105,17 @@ next_legal x p o running one =
     ap (λ (r : Option OpenEntry). is_next_legal (audited x) r) running ∙ legal_by (part_of_open (audited x) o) (edit_of (audited x) o) (rw (← p.base) (subst
     (λ (k : ℕ). MayTake x.plans (replay x.plans p.empty x.history.items) o k) one (may p.number p.empty x p.follows o running)))
 
+few : (h : Option (store.HalfWrite (Unit {0}))) → (counts_one_by h ≡ 0) ⊎ (counts_one_by h ≡ 1)
+few h = grind arith
+
+pub few_more : (x : MarksDevice) → Plainly x → (o : OpenEntry) → x.history.running ≡ Some o →
+    (counts_one_by x.store.half ≡ 0) ⊎ ((counts_one_by x.store.half ≡ 1) × (is_next_legal (audited x) x.history.running ≡ true))
+few_more x p o running = by_count (few x.store.half) where
+  by_count : (counts_one_by x.store.half ≡ 0) ⊎ (counts_one_by x.store.half ≡ 1) →
+      (counts_one_by x.store.half ≡ 0) ⊎ ((counts_one_by x.store.half ≡ 1) × (is_next_legal (audited x) x.history.running ≡ true))
+  by_count (inl none) = inl none
+  by_count (inr one) = inr (one, next_legal x p o running one)
+
 -- Of a history alone
 
 module _ (h : History) (path more : ℕ) where
@@ -223,33 +234,15 @@ module _ (s : Subsystem) (plain : ArePlain s.mounted) (path n : ℕ) (x : MarksD
     cut_to k =
         record (changed from (record (audited x) { history = history_reset x.history o.path k; half = cut_half (half_by x.store.half) })) { due = ResetOf }
 
-    cut_zero : M.cut_by (stand s (wanted.Reset path n ∷ later)) (audited x) o (length o.ends + 0) ≡ Some (cut_to 0)
-    cut_zero = grind (arith, eq-eqb)
-
-    cut_one : is_next_legal (audited x) x.history.running ≡ true →
-        M.cut_by (stand s (wanted.Reset path n ∷ later)) (audited x) o (length o.ends + 1) ≡ Some (cut_to 1)
-    cut_one is = grind (arith, ne_eqb, and_from, same_number)
-
-    few : (h : Option (store.HalfWrite (Unit {0}))) → (counts_one_by h ≡ 0) ⊎ (counts_one_by h ≡ 1)
-    few h = grind arith
-
-    cut_made : M.cut_by (stand s (wanted.Reset path n ∷ later)) (audited x) o (length o.ends + counts_one_by x.store.half)
-        ≡ Some (cut_to (counts_one_by x.store.half))
-    cut_made = by_count (few x.store.half) where
-      by_count : (counts_one_by x.store.half ≡ 0) ⊎ (counts_one_by x.store.half ≡ 1) →
-          M.cut_by (stand s (wanted.Reset path n ∷ later)) (audited x) o (length o.ends + counts_one_by x.store.half)
-          ≡ Some (cut_to (counts_one_by x.store.half))
-      by_count (inl none) = subst (λ (k : ℕ). M.cut_by from (audited x) o (length o.ends + k) ≡ Some (cut_to k)) (sym none) cut_zero
-      by_count (inr one) = subst (λ (k : ℕ). M.cut_by from (audited x) o (length o.ends + k) ≡ Some (cut_to k)) (sym one) (cut_one (next_legal x plainly o running one))
+    cut_made : (k : ℕ) → (k ≡ 0) ⊎ ((k ≡ 1) × (is_next_legal (audited x) x.history.running ≡ true)) →
+        M.cut_by (stand s (wanted.Reset path n ∷ later)) (audited x) o (length o.ends + k) ≡ Some (cut_to k)
+    cut_made k x3 = grind (arith, eq-eqb, ne_eqb, and_from, same_number)
 
     over_judged : judged (stand s (wanted.Reset path n ∷ later)) over_line ≡ Ok (cut_to more)
     over_judged =
-        first_is over_line (cut_to more)
-        (ap (λ (r : Option OpenEntry). may_reset path n (outline_of (audited x)) over_line (open_program r)) running
-        ∙ ap (λ (b : Bool). if b then is_cut n (record { path = o.path; ordinal = o.ordinal }) over_line else false) own
-        ∙ and_from ((o.path == o.path) && (x.store.device == n)) (o.ordinal == o.ordinal)
-        (and_from (o.path == o.path) (x.store.device == n) (same_number o.path) (eq-eqb x.store.device n number_is)) (same_number o.ordinal))
-        (then_some x.history.running o (λ (k : OpenEntry). M.cut_by from (audited x) k (length o.ends + more)) running ∙ cut_made)
+        first_is over_line (cut_to more) (grind (arith, and_from, same_number, eq-eqb x.store.device n number_is))
+        (then_some x.history.running o (λ (k : OpenEntry). M.cut_by from (audited x) k (length o.ends + more)) running
+        ∙ cut_made more (few_more x plainly o running))
 
     reset_judged : (t : AuditState) → passed (cut_to more) ≡ t → judged (cut_to more) (lines.Reset path n) ≡ Ok t
     reset_judged t is = grind arith
