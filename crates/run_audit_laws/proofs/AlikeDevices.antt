@@ -89,20 +89,13 @@ module _ (a : AuditedDevice) (o : OpenEntry) where
   abbrev g : Going
   g = going_of a.plans (replay a.plans a.empty a.history.items) o
 
-  edit_is : edit_of a o ≡ edit_in a.plans (going_of a.plans (replay a.plans a.empty a.history.items) o)
-  edit_is = edit_untold o.path (words_of_open a o) (part_of_open a o) (part_of_open a o).next
-
   loosens_in : (t : ℕ) → loosens (part_of_open a o) (edit_of a o) t ≡ loosens (untold (part_of_open a o))
       (edit_in a.plans (going_of a.plans (replay a.plans a.empty a.history.items) o)) t
-  loosens_in t = grind (arith, untold, edit_is)
+  loosens_in t = grind (arith, untold)
 
 abbrev pub legal_by : Plans → Option Going → Bool
 legal_by plans (Some g) = is_edit_legal g.part (edit_in plans g)
 legal_by plans None = true
-
-pub legal_is : (a : AuditedDevice) (r : Option OpenEntry) →
-    is_next_legal a r ≡ legal_by a.plans (option_map (going_of a.plans (replay a.plans a.empty a.history.items)) r)
-legal_is a r = grind arith
 
 any_same : (f h : ℕ → Bool) → ((n : ℕ) → f n ≡ h n) → (l : List ℕ) → list_any f l ≡ list_any h l
 any_same f h same [] = refl
@@ -137,12 +130,6 @@ module _ (a b : AuditedDevice) (is : Alike a b) where
       b.history.running ≡ Some p → going_of a.plans (replay a.plans a.empty a.history.items) o
       ≡ going_of b.plans (replay b.plans b.empty b.history.items) p → P (Some o) (Some p)) → P a.history.running b.history.running
   both P none some = grind arith
-
-  pub outline_same : outline_of a ≡ outline_of b
-  outline_same = grind arith
-
-  pub runs_same : runs a.history.running ≡ runs b.history.running
-  runs_same = both (λ r q. runs r ≡ runs q) refl (λ o p one two going. refl)
 
   pub loss_same : loss_line a ≡ loss_line b
   loss_same = grind (arith, number_same, state_same)
@@ -186,14 +173,11 @@ module _ (a b : AuditedDevice) (is : Alike a b) where
       else if may_start b path then start.Accepted (next_ordinal b path)
       else w) (held_same (state_of a).paths.owner ∙ ap (λ (s : PlainState). held_answer b s.paths.owner) state_same)
 
-  lent_by : (path : ℕ) (l : Option ℕ) → lent_answer a path l ≡ lent_answer b path l
-  lent_by path l = grind (arith, both, free_same)
-
   pub own_same : (path : ℕ) → own_runs a.history.running path ≡ own_runs b.history.running path
   own_same path = both (λ r q. own_runs r path ≡ own_runs q path) refl (λ o p one two going. ap (λ (g : Going). g.path == path) going)
 
   pub start_same : (path : ℕ) → start_answer a path ≡ start_answer b path
-  start_same path = grind (arith, own_same, lent_by)
+  start_same path = grind (arith, own_same, both, free_same)
 
   -- The next command
 
@@ -209,7 +193,7 @@ module _ (a b : AuditedDevice) (is : Alike a b) where
     loosens_so t = grind (arith, loosens_in, untold, going_of, plans_same)
 
   pub next_legal_same : is_next_legal a a.history.running ≡ is_next_legal b b.history.running
-  next_legal_same = grind (arith, legal_is)
+  next_legal_same = grind arith
 
   pub may_loosen_same : (t : ℕ) → may_loosen a a.history.running t ≡ may_loosen b b.history.running t
   may_loosen_same t = both (λ r q. may_loosen a r t ≡ may_loosen b q t) refl (λ o p one two going. loosens_so o p going t)
@@ -234,9 +218,6 @@ module _ (a b : AuditedDevice) (is : Alike a b) where
   pub half_alike : (h k : HalfWrite) → h ≡ k → Alike (record a { half = h }) (record b { half = k })
   half_alike h k half_is = search arith
 
-  pub start_alike : (path : ℕ) (answer : StartAnswer) → Alike (after_start a path answer) (after_start b path answer)
-  start_alike path answer = grind (arith, history_alike)
-
   pub worked_alike : (did : Did) → Alike (worked a did) (worked b did)
   worked_alike (Ended e) = history_alike (λ h. _) _ (end_is_read e)
   worked_alike (CheckEnded e) = history_alike (λ h. _) _ (check_is_read e)
@@ -246,16 +227,12 @@ module _ (a b : AuditedDevice) (is : Alike a b) where
   dark_alike = with_alike (λ h. _) _ power_is_read _ _ refl
 
   pub lent_runs_same : (n : ℕ) → runs_lent n a ≡ runs_lent n b
-  lent_runs_same n = grind (arith, runs_same)
+  lent_runs_same n = grind arith
 
   empty_alike : runs a.history.running ≡ false →
       Alike (record a { history = emptied a.history; lent = None }) (record b { history = emptied b.history; lent = None })
-  empty_alike idle = search (arith, runs_same, emptied_alike)
-
-  back_by : (l : Bool) → (l && runs a.history.running) ≡ false →
-      Alike (if l then record a { history = emptied a.history; lent = None } else a) (if l then record b { history = emptied b.history; lent = None } else b)
-  back_by l idle = grind (arith, empty_alike)
+  empty_alike idle = search (arith, emptied_alike)
 
   -- a device that comes back empty runs no program
   pub back_alike : (n : ℕ) → runs_lent n a ≡ false → Alike (given_back n a) (given_back n b)
-  back_alike n idle = grind (arith, back_by)
+  back_alike n idle = grind (arith, empty_alike)

@@ -83,7 +83,7 @@ use Rattle.deck_audit.specs.State.{AuditState, behind_work, is_event_over, outli
 use Rattle.report_auditor.specs.declared.status.AuditWhy.TheVariants.{Place}
 use Rattle.report_auditor.specs.Verdict.{judged, or_history}
 use Rattle.run_audit_laws.specs.Standing.{LeadsBy}
-use Rattle.run_audit_laws.proofs.AlikeDevices.{Alike, alike_self, alike_then, back_alike, both, dark_alike, end_same, event_over_same, half_alike, half_same, history_alike, legal_same, lent_runs_same, loose_same, loss_same, may_loosen_same, next_legal_same, number_same, outline_same, over_same, start_alike, start_same, state_same, with_alike, words_same, worked_alike}
+use Rattle.run_audit_laws.proofs.AlikeDevices.{Alike, alike_self, alike_then, back_alike, both, dark_alike, end_same, event_over_same, half_alike, half_same, history_alike, legal_same, lent_runs_same, loose_same, loss_same, may_loosen_same, next_legal_same, number_same, over_same, start_same, state_same, with_alike, words_same, worked_alike}
 
 use Rattle.run_audit_laws.proofs.Pasts.{Going, IsFew, act_is_read, cut, cut_in, cut_is_read, going_of, reset_is_read}
 
@@ -137,7 +137,7 @@ place_same xs ys all n = absurd all
 
 outlines_same : (xs ys : List AuditedDevice) → AreAlike xs ys → map outline_of xs ≡ map outline_of ys
 outlines_same [] [] all = refl
-outlines_same (a ∷ xs) (b ∷ ys) all = grind (arith, outlines_same xs ys all.1, outline_same)
+outlines_same (a ∷ xs) (b ∷ ys) all = grind (arith, outlines_same xs ys all.1)
 outlines_same xs ys all = absurd all
 
 dark_all : (xs ys : List AuditedDevice) → AreAlike xs ys → AreAlike (map without_power xs) (map without_power ys)
@@ -196,24 +196,21 @@ module _ (s u : AuditState) (all : AlikeStates s u) (line : ReportLine) where
   module _ (a b : AuditedDevice) (is : Alike a b) where
     -- START
     start_made_alike : (path : ℕ) → AlikeMade (start_made s line path a) (start_made u line path b)
-    start_made_alike path = grind (arith, shown_alike, number_same, start_same, passed_alike, changed_alike, start_alike)
+    start_made_alike path = grind (arith, shown_alike, number_same, start_same, passed_alike, changed_alike, history_alike)
 
     -- the command's end
     module _ (o p : OpenEntry) (going : going_of a.plans (replay a.plans a.empty a.history.items) o
         ≡ going_of b.plans (replay b.plans b.empty b.history.items) p) where
 
-      check_same : (i : ℕ) (sense : Sense) → check_end (words_of_open a o) i sense ≡ check_end (words_of_open b p) i sense
-      check_same i sense = ap (λ (l : List Ccw). check_end l i sense) (words_same a b is o p going)
-
       shut : AlikeStates (changed s (record a { half = Closed })) (changed u (record b { half = Closed }))
       shut = changed_alike s u all (record a { half = Closed }) (record b { half = Closed }) (half_alike a b is Closed Closed refl)
 
       end_by_alike : (e : Option CommandEnd) → AlikeMade (end_made_by s line a o e) (end_made_by u line b p e)
-      end_by_alike (Some e) = grind (arith, if_alike, check_same, due_alike, shut, number_same)
+      end_by_alike (Some e) = grind (arith, if_alike, due_alike, shut, number_same)
       end_by_alike None = tt
 
       check_alike : (e : CommandEnd) → AlikeMade (check_made s line a e o) (check_made u line b e p)
-      check_alike e = grind (arith, due_alike, check_same, if_alike)
+      check_alike e = grind (arith, due_alike, if_alike)
 
       -- a program that is cut
       cuts : (more : ℕ) → IsFew more → AlikeStates
@@ -222,9 +219,6 @@ module _ (s u : AuditState) (all : AlikeStates s u) (line : ReportLine) where
       cuts more few =
           rw (← (ap (λ (g : Going). g.path) going)) (due_alike _ _ (changed_alike s u all _ _ (with_alike a b is (λ h. reset_in_history h o.path more) _
           (reset_is_read o.path more few) (cut_half a.half) (cut_half b.half) (ap cut_half (half_same a b is)))) ResetOf ResetOf refl)
-
-      cut_alike : (k : ℕ) → AlikeMade (cut_by s a o k) (cut_by u b p k)
-      cut_alike k = grind (arith, if_alike, cuts, next_legal_same)
 
       power_cuts : a.history.running ≡ Some o → b.history.running ≡ Some p → (more : ℕ) → IsFew more → AlikeStates
           (record (changed s (cut_by_power a o more)) { due = Powers (place_of s.devices a.number) })
@@ -236,9 +230,6 @@ module _ (s u : AuditState) (all : AlikeStates s u) (line : ReportLine) where
 
     end_made_alike : AlikeMade (end_made s line a a.history.running) (end_made u line b b.history.running)
     end_made_alike = grind (arith, both, end_same, end_by_alike)
-
-    sense_made_alike : (e : CommandEnd) → AlikeMade (sense_made s line e a) (sense_made u line e b)
-    sense_made_alike e = grind (arith, if_alike, both, check_alike)
 
     -- acts
     act_alike : (act : Act) (due : Due) → AlikeStates (act_made s a act due) (act_made u b act due)
@@ -263,9 +254,6 @@ module _ (s u : AuditState) (all : AlikeStates s u) (line : ReportLine) where
 
     power_loss_alike : AlikeMade (power_loss s line a) (power_loss u line b)
     power_loss_alike = grind (arith, if_alike, loose_same, loss_same, due_alike, number_same, place_same)
-
-    lend_alike : (of : ℕ) → AlikeMade (lent_to s of a) (lent_to u of b)
-    lend_alike of = grind (arith, passed_alike, changed_alike)
 
     reset_alike : (path : ℕ) → AlikeMade (Some (passed (changed s (record a { history = reset_in_history a.history path 0 }))))
         (Some (passed (changed u (record b { history = reset_in_history b.history path 0 }))))
@@ -293,12 +281,12 @@ module _ (s u : AuditState) (all : AlikeStates s u) where
   work_alike line a b is = passed_alike s u all
 
   resets_alike : (line : ReportLine) (path : ℕ) (a b : AuditedDevice) → Alike a b → AlikeMade (reset_made s line path a) (reset_made u line path b)
-  resets_alike line path a b is = grind (arith, both, cut_alike, reset_alike)
+  resets_alike line path a b is = grind (arith, both, reset_alike, if_alike, cuts, next_legal_same)
 
   -- Orders
 
   done_alike : (line : ReportLine) (e : EventLine) → AlikeMade (done_order s e) (done_order u e)
-  done_alike line e = grind (arith, if_alike, passed_alike, in_device, lend_alike, any_lent_same, back_all)
+  done_alike line e = grind (arith, if_alike, passed_alike, in_device, any_lent_same, back_all, changed_alike)
 
   order_alike : (line : ReportLine) (e : EventLine) → AlikeMade (order_made s line e) (order_made u line e)
   order_alike (lines.Order order order_answers.Done) e = done_alike (lines.Order order order_answers.Done) e
@@ -323,11 +311,8 @@ module _ (s u : AuditState) (all : AlikeStates s u) where
 
   -- An event's line
 
-  event_alike : (line : ReportLine) (e : EventLine) → AlikeMade (event_made s line e) (event_made u line e)
-  event_alike line e = grind (arith, in_device, start_made_alike, work_alike, resets_alike, powers_alike, order_alike)
-
   next_alike : (line : ReportLine) (events : List EventLine) → AlikeMade (next_made s line events) (next_made u line events)
-  next_alike line events = grind (arith, event_alike, due_alike)
+  next_alike line events = grind (arith, due_alike, in_device, start_made_alike, work_alike, resets_alike, powers_alike, order_alike)
 
   -- The device at whose work the report is
 
@@ -360,7 +345,7 @@ module _ (s u : AuditState) (all : AlikeStates s u) where
 
   due_made_alike : (line : ReportLine) (due : Due) → AlikeMade (due_made s line due) (due_made u line due)
   due_made_alike line due =
-      grind (arith, next_alike, shown_alike, due_alike, then_alike, worker_alike, sense_made_alike, over_wanted, first_same, first_order, passed_alike, powers_alike)
+      grind (arith, next_alike, shown_alike, due_alike, then_alike, worker_alike, over_wanted, first_same, first_order, passed_alike, powers_alike, if_alike, both, check_alike)
 
 settled_due : (t v : AuditState) → AlikeStates t v → (line : ReportLine) → AlikeMade (due_made t line t.due) (due_made v line v.due)
 settled_due t v all line = grind (arith, due_made_alike)

@@ -31,9 +31,6 @@ sensed_keeps p path o h k = search (arith, sense_kept)
 
 -- The state of a path
 
-reserved_few : (o : Option Owner) (here : Owner) → reserved_bits o here ≤ 48
-reserved_few o here = grind arith
-
 mode_few : (state : PathState) → mode_bit state ≤ 8
 mode_few state = grind arith
 
@@ -44,7 +41,7 @@ name_are : (state : PathState) → Named state → All IsByte (group_id_bytes st
 name_are state n = grind (arith, are_bytes)
 
 group_are : (state : PathState) → Named state → (path : ℕ) (owner : Option Owner) → All IsByte (group_bytes state path owner)
-group_are state n path owner = grind (arith, all_few, reserved_few, mode_few, name_are)
+group_are state n path owner = grind (arith, all_few, mode_few, name_are)
 
 -- Acts
 

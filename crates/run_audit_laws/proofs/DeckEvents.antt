@@ -42,14 +42,8 @@ OfNamed P _ = Unit {0}
 
 module _ (devices : List DeviceLine) where
 
-  of_pair : (words : List (List ℕ)) (at : ℕ × ℕ) → pair_words devices words ≡ Ok at → (is_declared devices at.0 ≡ true) × (is_declared devices at.1 ≡ true)
-  of_pair words at h = grind (arith, went)
-
-  same_side : (a : ℕ) (s : Side) (at : ℕ × Side) → ◌≡◌ {A = Result (ℕ × Side) DeckWhy} (Ok (a, s)) (Ok at) → a ≡ at.0
-  same_side a s at h = let same : (a, s) ≡ at = cc in ap (λ (x : ℕ × Side). x.0) same
-
   of_side : (device side : List ℕ) (at : ℕ × Side) → side_words devices device side ≡ Ok at → is_declared devices at.0 ≡ true
-  of_side device side at h = grind (arith, went, same_side)
+  of_side device side at h = grind (arith, went)
 
   -- an event of one device
   of_device : (f : ℕ → EventLine) → ((x y : ℕ) → ◌≡◌ {A = Result EventLine DeckWhy} (Ok (f x)) (Ok (f y)) → x ≡ y) → (words : List (List ℕ)) (d : ℕ) →
@@ -72,7 +66,7 @@ module _ (devices : List DeviceLine) where
   of_volume w words d side h = grind (arith, went)
 
   of_event : (e : EventLine) → EventOk devices e → OfNamed (λ d. is_declared devices d ≡ true) e
-  of_event e ok = grind (arith, went, of_side, pair_is, of_pair)
+  of_event e ok = grind (arith, went, of_side, pair_is)
 
   of_events : (es : List EventLine) → Each (EventOk devices) es → Each (OfNamed (λ d. is_declared devices d ≡ true)) es
   of_events [] h = tt

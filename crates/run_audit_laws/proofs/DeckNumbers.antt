@@ -20,9 +20,6 @@ abbrev pub RisesFrom : ℕ → List ℕ → Type 0
 RisesFrom low [] = Unit {0}
 RisesFrom low (n ∷ ns) = (low ≤ n) × RisesFrom (n + 1) ns
 
-rises_of : (before : List DeviceLine) (words : List (List ℕ)) (d : DeviceLine) → device_line before words ≡ Ok d → rises before d.number ≡ true
-rises_of before words d h = grind (arith, went, if_ok)
-
 above_last : (before : List DeviceLine) (d : DeviceLine) (n : ℕ) → rises (before ++ d ∷ []) n ≡ true → d.number + 1 ≤ n
 above_last before d n up = grind (arith, and_parts, list_all-append, ltb-true)
 
@@ -30,7 +27,7 @@ all_rise : (low : ℕ) (before ds : List DeviceLine) → ((n : ℕ) → rises be
     RisesFrom low (map (λ (d : DeviceLine). d.number) ds)
 all_rise low before [] above h = tt
 all_rise low before (d ∷ ds) above h =
-    grind (arith, all_rise (d.number + 1) (before ++ d ∷ []) ds (above_last before d) h.1, rises_of, device_words, above_last)
+    grind (arith, all_rise (d.number + 1) (before ++ d ∷ []) ds (above_last before d) h.1, device_words, above_last, went, if_ok)
 
 pub read_rises : (text : List ℕ) (deck : DeckLines) → parsed text ≡ Ok deck → RisesFrom 0 (numbers_in deck)
 read_rises text deck read = all_rise 0 [] deck.devices (λ n up. omega arith) (parsed_good text deck read).devices

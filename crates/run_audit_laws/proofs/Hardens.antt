@@ -24,7 +24,7 @@ use Rattle.deck_plan.specs.declared.event.EventLine.TheVariants as events
 use Rattle.deck_audit.specs.Device.{AuditedDevice, is_closed, is_edit_legal, is_idle, runs, state_of}
 use Rattle.deck_audit.specs.History.{is_legal}
 use Rattle.deck_audit.specs.State.{is_event_over, over_by, over_line, worked}
-use Rattle.run_audit_laws.proofs.AlikeDevices.{Alike, Seen, edit_in, legal_by, legal_is, seen, state_in}
+use Rattle.run_audit_laws.proofs.AlikeDevices.{Alike, Seen, edit_in, legal_by, seen, state_in}
 use Rattle.run_audit_laws.proofs.LooseOnce.{fewer_loose}
 use Rattle.run_audit_laws.proofs.Pasts.{Going, IsTidy, Past, act_by, act_is_read, act_now, acted_past, check_is_read, checked_past, end_is_read, ended_by, ended_past, goes_on, going_of, next_part, over_past, untold}
 
@@ -98,8 +98,6 @@ legal_did Halved plans r = true
 legal_did (Worked last) plans r = true
 
 module _ (plans : Plans) (k : ℕ) where
-  ended_on : (e : CommandEnd) (x : Past) (g : Going) → e.over ≡ false → ended_by e plans x (Some g) ≡ goes_on x g e (next_part plans g)
-  ended_on e x g more = grind (arith, over_past, next_part, goes_on)
 
   commutes : (did : Did) (x : Past) (r : Option Going) → IsQuiet did r → GoesOn (done_past did plans (with_going x r)).running →
       done_past did plans (acted_past (Harden k) plans (with_going x r)) ≡ acted_past (Harden k) plans (done_past did plans (with_going x r))
@@ -110,7 +108,7 @@ module _ (plans : Plans) (k : ℕ) where
 
   loose_done : (did : Did) (x : Past) (r : Option Going) → IsQuiet did r →
       (state_in (done_past did plans (with_going x r)).state (done_past did plans (with_going x r)).running).loose ≡ (state_in x.state r).loose
-  loose_done did x r quiet = grind (arith, state_in, ended_on)
+  loose_done did x r quiet = grind (arith, state_in, over_past, next_part, goes_on)
 
   still_quiet : (did : Did) (r : Option Going) → IsQuiet did r → IsQuiet did (firmed k r)
   still_quiet did r quiet = grind arith
@@ -137,7 +135,7 @@ seen_done a (CheckEnded e) tidy = ap (λ (x : Past). record (seen a) { past = x 
 seen_done a did tidy = refl
 
 legal_seen : (a : AuditedDevice) (did : Did) → is_legal did a ≡ legal_did did a.plans (seen a).past.running
-legal_seen a did = grind (arith, legal_is)
+legal_seen a did = grind arith
 
 module _ (a : AuditedDevice) where
 

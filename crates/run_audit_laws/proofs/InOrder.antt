@@ -64,9 +64,6 @@ module _ (s : MarksStore) (t : ℕ) (ts : List ℕ) (queue : s.queue ≡ t ∷ t
   one_shorter : Lower s shorter
   one_shorter = lower_all s shorter refl (λ q _. as_least (weight_at s q) (weight_at s q) refl) (omega (arith, ap length queue))
 
-  staged_answer : (z : MarksStore) (f : Option Side) → (f ≡ None → Lower s z) → stops (did f (dids.Staged t)) ≡ false → Lower s z
-  staged_answer z f lower e = grind arith
-
   got_same : (z : MarksStore) (f : Option Side) → GotSo shorter z f → f ≡ None → Same shorter z
   got_same z f e is = grind arith
 
@@ -76,7 +73,7 @@ module _ (s : MarksStore) (t : ℕ) (ts : List ℕ) (queue : s.queue ≡ t ∷ t
   bytes_staged : (z : MarksStore) (g : Got Bool) → GotSo shorter z g.fault → frame_at s t ≡ None → is_lost s t ≡ false → (o : Option Bool) →
       Had (staged_bytes by_plain t z g o) (WorkSo s)
   bytes_staged z g e bare here o =
-      search (arith, had_ask, had_done, nothing_said, had_try, had_then, had_if, is_some, got_same, staged_answer, bad_stops, one_shorter, same_least, sum_least, weight_at, framed_least)
+      search (arith, had_ask, had_done, nothing_said, had_try, had_then, had_if, is_some, got_same, bad_stops, one_shorter, same_least, sum_least, weight_at, framed_least)
 
   none_framed : (o : Option Bool) (lost : Bool) → (is_some o || lost) ≡ false → (o ≡ None) × (lost ≡ false)
   none_framed o lost e = grind arith
@@ -95,12 +92,9 @@ waits_works : (s : MarksStore) (t : ℕ) → waits by_plain s t ≡ true → wor
 unfolding O.waits
 waits_works s t e = grind (arith, or_left)
 
-found_if : (n : ℕ) (p : ℕ → Bool) (b : Bool) (t : ℕ) → (if b then least n p else None) ≡ Some t → (t < n) × (p t ≡ true)
-found_if n p b t e = grind (arith, least_found)
-
 destage_so : (s : MarksStore) → s.half ≡ None → (o : Option ℕ) → to_destage by_plain s ≡ o → Had (destage_first by_plain s o) (WorkSo s)
 destage_so s whole None is = had_done (λ e. absurd (cc))
-destage_so s whole (Some t) is = grind (arith, found_if, saved_so, or_right)
+destage_so s whole (Some t) is = grind (arith, saved_so, or_right, least_found)
 
 stages_so : (s : MarksStore) → s.half ≡ None → (l : List ℕ) → s.queue ≡ l → Had (stage_first by_plain s l) (WorkSo s)
 stages_so s whole [] is = destage_so s whole (to_destage by_plain s) refl
@@ -112,7 +106,7 @@ copy_first_so s whole (Some t) is = copy_so s t whole (least_found (tracks_of s)
 
 recover_first_so : (s : MarksStore) → s.half ≡ None → (o : Option ℕ) → to_recover by_plain s ≡ o → Had (recover_first by_plain s o) (WorkSo s)
 recover_first_so s whole None is = copy_first_so s whole (to_copy s) refl
-recover_first_so s whole (Some t) is = grind (arith, found_if, recover_so, waits_works)
+recover_first_so s whole (Some t) is = grind (arith, recover_so, waits_works, least_found)
 
 pub work_so : (s : MarksStore) → s.half ≡ None → Had (work by_plain s) (WorkSo s)
 unfolding G.work

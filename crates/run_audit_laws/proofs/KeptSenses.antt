@@ -39,11 +39,8 @@ check_sense_in sense x2 = grind (arith, equipment_in, data_check_in)
 
 -- By the rules
 
-fits_sense : (c : Ccw) (e : Ending) (o : Option Sense) → FitsBy c e o → IfSome o SenseIn
-fits_sense c e o h = grind arith
-
 pub walk_sense : (c : Ccw) (o : Outcome) → WalkFits c o → IfSome o.ending.sense SenseIn
-walk_sense c o x3 = grind (arith, fits_sense, equipment_in)
+walk_sense c o x3 = grind (arith, equipment_in)
 
 -- What a command leaves of them
 

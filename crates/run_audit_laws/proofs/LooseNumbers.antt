@@ -24,11 +24,8 @@ use Rattle.run_audit_laws.proofs.KnownDevices.{known}
 abbrev Small : PlainState → Type 0
 Small s = s.number < 65536
 
-next_small : (n : ℕ) → n < 65536 → next_number n < 65536
-next_small n less = grind (arith, eqb-false)
-
 act_small : (s : PlainState) (act : Act) → Small s → Small (act_done s act)
-act_small s act h = grind (arith, next_small)
+act_small s act h = grind (arith, eqb-false)
 
 with_small : (acts : List Act) (p : Part) → Small p.state → Small (with_acts acts p).state
 with_small [] p h = h
@@ -43,7 +40,7 @@ part_small s path ccws acts zero h = acted_small acts (first_part s path ccws) (
 part_small s path ccws acts (suc k) h = grind (arith, part_small s path ccws acts k h, acted_small)
 
 item_small : (plans : Plans) (s : PlainState) (x : Item) → Small s → Small (replay_item plans s x)
-item_small plans s x h = grind (arith, part_small, act_small, next_small)
+item_small plans s x h = grind (arith, part_small, act_small, eqb-false)
 
 replay_small : (plans : Plans) (s : PlainState) (xs : List Item) → Small s → Small (replay plans s xs)
 replay_small plans s [] h = h

@@ -221,14 +221,11 @@ record Fewer (s z : MarksStore) : Type 0 where
   loose : (q : ℕ) → is_loose z q ≡ is_loose s q
   patches : (q : ℕ) → is_some (patch_at z q) ≡ true → is_some (patch_at s q) ≡ true
 
-fewer_same : (s : MarksStore) → Fewer s s
-fewer_same s = record { acts = refl; loose = λ q. refl; patches = λ q is. is }
-
 fewer_on : (s z y : MarksStore) → Fewer s z → Fewer z y → Fewer s y
 fewer_on s z y f g = search arith
 
 slot_fewer : (s : MarksStore) (t : ℕ) (o : Option ℕ) → Fewer s (gives_up s t o)
-slot_fewer s t o = search (arith, fewer_same, get_or-set_same, length-set, get_or_past, get_or-set_other, eqb-false)
+slot_fewer s t o = search (arith, get_or-set_same, length-set, get_or_past, get_or-set_other, eqb-false)
 
 patch_fewer : (s : MarksStore) (t : ℕ) → Fewer s (without_patch by_plain s t)
 patch_fewer s t = slot_fewer s t (slot_in by_plain (patch_at s t))
@@ -237,17 +234,14 @@ lost_fewer : (s : MarksStore) (t : ℕ) → Fewer s (lost_now by_plain s t)
 lost_fewer s t = let z = with_lost s t in fewer_on s z (lost_now by_plain s t) (search arith) (patch_fewer z t)
 
 kept_fewer : (s : MarksStore) (t : ℕ) (m : Bool) → Fewer s (kept_by_frame by_plain s t m)
-kept_fewer s t m = search (arith, cond_both, fewer_same)
+kept_fewer s t m = search (arith, cond_both)
 
 frame_fewer : (s : MarksStore) (t : ℕ) → is_loose s t ≡ false → (o : Option Bool) → Fewer s (by_frame by_plain s t o)
-frame_fewer s t firm o = grind (arith, cond_both, kept_fewer, fewer_same, lost_fewer)
+frame_fewer s t firm o = grind (arith, cond_both, kept_fewer, lost_fewer)
 
 settled_fewer : (s : MarksStore) (t : ℕ) → is_loose s t ≡ false → Fewer s (settled by_plain s t)
 unfolding L.settled
-settled_fewer s t firm = grind (arith, cond_both, is_some, fewer_same, frame_fewer)
-
-everywhere_fewer : (s : MarksStore) (t : ℕ) → Fewer s (stale_everywhere s t)
-everywhere_fewer s t = search arith
+settled_fewer s t firm = grind (arith, cond_both, is_some, frame_fewer)
 
 -- whatever has a patch isn't loose
 abbrev pub PatchedAreFirm : MarksStore → Type 0
@@ -261,7 +255,7 @@ no_act_on : (s z : MarksStore) → NoAct s → Fewer s z → NoAct z
 no_act_on s z a f = record { none = f.acts ∙ a.none; firm = λ q is. f.loose q ∙ a.firm q (f.patches q is) }
 
 one_patch : (t : ℕ) (s : MarksStore) → NoAct s → NoAct (patch_lost by_plain t s)
-one_patch t s a = grind (arith, cond_both, no_act_on, patch_fewer, fewer_on, everywhere_fewer, settled_fewer)
+one_patch t s a = grind (arith, cond_both, no_act_on, patch_fewer, fewer_on, settled_fewer)
 
 all_patches : (k : ℕ) (s : MarksStore) → NoAct s → NoAct (over k (patch_lost by_plain) s)
 unfolding L.over

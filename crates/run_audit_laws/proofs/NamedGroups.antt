@@ -38,11 +38,8 @@ pub record AreNamed (p : PathsState) : Type 0 where
 owner_named : (state : PathState) (path : ℕ) → IsPath path → Named state → IsOwner (owner_by state path)
 owner_named state path p n = grind arith
 
-freed_if : (b : Bool) (o : Owner) → IsOwner o → IfSome (if b then None else Some o) IsOwner
-freed_if b o h = grind arith
-
 after_named : (paths : List PathState) (path : ℕ) (o : Option Owner) → IfSome o IsOwner → IfSome (owner_after paths path o) IsOwner
-after_named paths path o h = grind (arith, freed_if)
+after_named paths path o h = grind arith
 
 pub reset_named : (p : PathsState) (path : ℕ) → AreNamed p → AreNamed (reset_path p path)
 reset_named p path n = record {
@@ -70,9 +67,6 @@ module _ (id : GroupId) (bytes : AreBytes 11 id.bytes) where
     by_tests false true = All-set Named xs (path - 1) Ungrouped tt all
     by_tests false false = all_left xs all
 
-  joined : (path : ℕ) (o : Owner) → IsOwner o → IsOwner (owner_joined id path o)
-  joined path o h = grind arith
-
   left : (xs : List PathState) (path : ℕ) → IsPath path → (o : Owner) → IsOwner o → IsOwner (owner_left xs path o)
   left xs path p o h = grind arith
 
@@ -92,7 +86,7 @@ module _ (p : PathsState) (path : ℕ) (is : IsPath path) (n : AreNamed p) where
   reserved_named = owner_named (slice_index_or p.states (path - 1) Reset) path is (at_or Named Reset tt p.states (path - 1) n.states)
 
   pub act_named : (act : LocalAct) → ActNamed act → AreNamed (paths_after p path act)
-  act_named act h = search (arith, reserved_named, states_set, joined, left)
+  act_named act h = search (arith, reserved_named, states_set, left)
 
   acted_named : (device : Fixed) (s : Stance) (c : Ccw) (act : LocalAct) → ActNamed act → (o : Option GroupFault) →
       AreNamed (acted_by device p path s c act o).paths

@@ -63,11 +63,8 @@ either_in b x y h k = grind arith
 
 module _ (s : Stance) (c : Ccw) where
 
-  read_in : (r : Read) (area : ReadArea) (place : Place) → OpeningIn (read_from s c r area place).opening
-  read_in r area place = grind arith
-
   look_in : (look : Look) → OpeningIn (look_from s c look).opening
-  look_in look = grind (arith, read_in)
+  look_in look = grind arith
 
   locating_in : (d : Domain) (o : Option Place) → OpeningIn (locating s c d o).opening
   locating_in d o = grind arith
@@ -84,11 +81,8 @@ module _ (f : Fixed) (s : Stance) (c : Ccw) (gives : GivesBytes c) where
   decoded_in (commands.Device d) = device_named c gives d
   decoded_in k = tt
 
-  masked_in : (order : CommandOrder) → OrderIn order → (o : Option Sense) → ResultIn (C.masked_order s order o)
-  masked_in order k o = grind (arith, either_in)
-
   permitted_in : (k : Command) (o : Option CommandOrder) → IfSome o OrderIn → ResultIn (C.permitted_order s k o)
-  permitted_in k o h = grind (arith, masked_in)
+  permitted_in k o h = grind (arith, either_in)
 
   order_in : (o : Option Command) → ResultIn (C.order_by f s c o)
   order_in o = grind (arith, either_in, permitted_in, decoded_in)

@@ -181,8 +181,5 @@ module _ {F P H R : Type 0} (T : ℕ → Type 0) (n : ℕ) (c : Contents F P H R
   loaded_own : (s : Store F P H) (t : ℕ) (i : Image) (mode : Mode) → T t → Is n s → Owns (loaded c s t i mode)
   loaded_own s t i mode on k = own_if (loads mode) (own_tried s _ k (own_ask (k, on) (λ given. granted_own s t i given k))) (own_done k)
 
-  delivered_own : (u : Usage) (t : ℕ) (side : Side) (s : Store F P H) (o : Option Image) → T t → Is n s → Owns (delivered c u t side s o)
-  delivered_own u t side s o on k = search (arith, own_done, loaded_own, ahead_is)
-
   pub missed_own : (u : Usage) (t : ℕ) (s : Store F P H) (g : Got R) (o : Option R) → T t → Is n s → Owns (missed c u t s g o)
-  missed_own u t s g o on k = search (arith, own_done, own_tried, delivered_own)
+  missed_own u t s g o on k = search (arith, own_done, own_tried, loaded_own, ahead_is)

@@ -34,7 +34,7 @@ use Rattle.device_defs.specs.Writing as V
 use Rattle.device_defs.specs.Writing.{write_counted, firm_first, alone_b, first_a, write_first, tried_b, write_second, write_opened}
 use Rattle.deck_text.proofs.DeckAgain.{Each}
 use Rattle.run_audit_laws.proofs.OwnCalls.{Own, choose_own, done_own, filled_own, missed_own, own_ask, own_done, own_if, own_read, own_tell, own_then, own_tried, own_try, own_write}
-use Rattle.run_audit_laws.proofs.Seats.{Is, left_is, level_is, lost_is, provisional_is, settled_is, side_is, stale_is, taken_is, unwritten_is}
+use Rattle.run_audit_laws.proofs.Seats.{Is, left_is, level_is, lost_is, settled_is, side_is, stale_is, taken_is, unwritten_is}
 
 module _ {F P H R : Type 0} (T : ℕ → Type 0) (n : ℕ) (c : Contents F P H R) where
   abbrev At : Store F P H → Type 0
@@ -132,7 +132,7 @@ module _ {F P H R : Type 0} (T : ℕ → Type 0) (n : ℕ) (c : Contents F P H R
       (λ z was g. own_then (first_write_own z t (c.bytes i) g) (λ y w k. through_by_own t i e bypass opens was y w.took k))
 
   write_by_own : (u : Usage) (first t : ℕ) (i : Image) (e : Edit) (s : Store F P H) (choice : Choice) → At s → Owns (write_by c u first t i e s choice)
-  write_by_own u first t i e s choice k = search (arith, own_done, provisional_is, own_tell, through_own)
+  write_by_own u first t i e s choice k = search (arith, own_done, own_tell, through_own)
 
   written_own : (s : Store F P H) (u : Usage) (first t : ℕ) (old : Image) (e : Edit) (choice : Choice) → At s → Owns (written c s u first t old e choice)
   written_own s u first t old e choice k = own_then (write_by_own u first t _ e s choice k) (λ z took g. own_done g)
@@ -180,9 +180,6 @@ module _ {F P H R : Type 0} (T : ℕ → Type 0) (n : ℕ) (c : Contents F P H R
   read_own t side s None k = own_then (failed_own s (other side) None k) (λ z _ g. own_done g)
   read_own t side s (Some r) k = own_write (λ ok. copied_own t side (V.write_counted s ok) ok k)
 
-  copy_own : (s : Store F P H) (t : ℕ) (o : Option Side) → At s → Owns (copy_by c s t o)
-  copy_own s t o k = search (arith, own_done, own_read, read_own, is_some)
-
   unfilled_own : (s : Store F P H) (t : ℕ) (d : Option Did) → At s → Owns (unfilled c s t d)
   unfilled_own s t d k = own_ask tt (λ _. own_done k)
 
@@ -207,7 +204,7 @@ module _ {F P H R : Type 0} (T : ℕ → Type 0) (n : ℕ) (c : Contents F P H R
   stages_own s (t ∷ ts) on k = stage_own (record s { queue = ts }) t on.0 k
 
   copies_own : (s : Store F P H) (o : Option ℕ) → Each T s.queue → At s → Owns (copy_first c s o)
-  copies_own s o on k = search (arith, stages_own, copy_own)
+  copies_own s o on k = search (arith, stages_own, own_done, own_read, read_own, is_some)
 
   recovers_own : (s : Store F P H) (o : Option ℕ) → Each T s.queue → At s → Owns (recover_first c s o)
   recovers_own s o on k = search (arith, copies_own, recover_own)

@@ -100,13 +100,9 @@ module _ (path : ℕ) (ccws : List Ccw) (state : PlainState) (acts : List Acted)
       ≡ untold (act_now act (untold (part_of state path ccws acts n)))
   act_more act n = ap untold (act_at act n (at n).next refl) ∙ act_untold act (at n) (at n).next
 
-  -- no act comes behind one more end
-  none_there : (n : ℕ) → AreInOrder 0 (n + 1) acts → (q : Part) → (is_some q.next ≡ true → length q.ends ≡ suc n) → acted_part acts q ≡ q
-  none_there n order q many = grind (arith, no_acts)
-
   pub step_more : (n : ℕ) → AreInOrder 0 (n + 1) acts → untold (part_of state path ccws acts (suc n))
       ≡ untold (command_run path ccws (untold (part_of state path ccws acts n)))
-  step_more n order = grind (arith, acted_beside, part_more, none_there, part_counts)
+  step_more n order = grind (arith, acted_beside, part_more, part_counts, no_acts)
 
 -- the state behind the next command
 abbrev pub next_part : Plans → Going → Part
@@ -232,10 +228,6 @@ module _ (e : CommandEnd) (l : List Item) (o : OpenEntry) (w : List ℕ) (tidy :
   order_ended : IsTidyOpen (with_end o e)
   order_ended = let much = one_longer o.ends e in order_on 0 (length o.ends + 1) (length (o.ends ++ e ∷ []) + 1) o.acts tidy (omega (arith, much))
 
-  ended_tidy : (over : Bool) → IsTidy (if over then closed (with_parts l (Some o) w) (with_end o e) Full
-      else record (with_parts l (Some o) w) { running = Some (with_end o e) })
-  ended_tidy over = grind (arith, order_ended)
-
   module _ (plans : Plans) (empty : PlainState) where
     closed_past : past_of plans empty (closed (with_parts l (Some o) w) (with_end o e) Full)
         ≡ over_past plans (past_of plans empty (with_parts l (Some o) w)) (going_of plans (replay plans empty l) o) Full (o.ends ++ e ∷ [])
@@ -254,7 +246,7 @@ module _ (e : CommandEnd) (l : List Item) (o : OpenEntry) (w : List ℕ) (tidy :
     ended_is over = grind (arith, closed_past, part_ended)
 
 end_tidy : (e : CommandEnd) (l : List Item) (r : Option OpenEntry) (w : List ℕ) → IsTidy (with_parts l r w) → IsTidy (ended (with_parts l r w) e)
-end_tidy e l r w tidy = grind (arith, ended_tidy)
+end_tidy e l r w tidy = grind (arith, order_ended)
 
 end_past : (e : CommandEnd) (plans : Plans) (empty : PlainState) (l : List Item) (r : Option OpenEntry) (w : List ℕ) → IsTidy (with_parts l r w) →
     past_of plans empty (ended (with_parts l r w) e) ≡ ended_past e plans (past_of plans empty (with_parts l r w))
@@ -326,9 +318,6 @@ reset_past path more plans x = reset_by path more plans x x.running
 module _ (path more : ℕ) (few : IsFew more) (l : List Item) (w : List ℕ) where
 
   module _ (o : OpenEntry) (tidy : IsTidyOpen o) where
-    resets_tidy : (own used : Bool) → IsTidy (if own then cut_by (with_parts l (Some o) w) o more
-        else if used then record (with_parts l (Some o) w) { waiting = put path w } else with_parts l (Some o) w)
-    resets_tidy own used = grind arith
 
     module _ (plans : Plans) (empty : PlainState) where
       abbrev before : Past
@@ -344,17 +333,12 @@ module _ (path more : ℕ) (few : IsFew more) (l : List Item) (w : List ℕ) whe
           ∙ ap (λ (s : PlainState). behind_items plans before s (entry_past g (Cut (length o.ends + more)) o.ends) (items.Reset o.path ∷ resets_of w))
           (cut_state plans empty (with_parts l (Some o) w) o tidy more few)
 
-      waits_past : (used : Bool) →
-          past_of plans empty (if used then record (with_parts l (Some o) w) { waiting = put path w } else with_parts l (Some o) w)
-          ≡ (if used then record (past_of plans empty (with_parts l (Some o) w)) { waiting = put path w } else past_of plans empty (with_parts l (Some o) w))
-      waits_past used = grind arith
-
       resets_past : (own used : Bool) → past_of plans empty (if own then cut_by (with_parts l (Some o) w) o more
           else if used then record (with_parts l (Some o) w) { waiting = put path w } else with_parts l (Some o) w)
           ≡ (if own then cut_past more plans (past_of plans empty (with_parts l (Some o) w)) (going_of plans (replay plans empty l) o)
           else if used then record (past_of plans empty (with_parts l (Some o) w)) { waiting = put path w }
           else past_of plans empty (with_parts l (Some o) w))
-      resets_past own used = grind (arith, cuts_past, waits_past)
+      resets_past own used = grind (arith, cuts_past)
 
   idle_past : (plans : Plans) (empty : PlainState) (used : Bool) →
       past_of plans empty (if used then record (with_parts l None w) { items = l ++ items.Reset path ∷ [] } else with_parts l None w)
@@ -369,7 +353,7 @@ module _ (path more : ℕ) (few : IsFew more) (l : List Item) (w : List ℕ) whe
 
 module _ (path more : ℕ) (few : IsFew more) (l : List Item) where
   reset_tidy : (r : Option OpenEntry) (w : List ℕ) → IsTidy (with_parts l r w) → IsTidy (reset_in_history (with_parts l r w) path more)
-  reset_tidy r w tidy = grind (arith, resets_tidy)
+  reset_tidy r w tidy = grind arith
 
   reset_is : (plans : Plans) (empty : PlainState) (r : Option OpenEntry) (w : List ℕ) → IsTidy (with_parts l r w) →
       past_of plans empty (reset_in_history (with_parts l r w) path more) ≡ reset_past path more plans (past_of plans empty (with_parts l r w))

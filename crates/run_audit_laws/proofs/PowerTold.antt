@@ -188,9 +188,6 @@ module _ (x y : MarksDevice) (p : Plainly x) (f : Follows p.number p.empty y) (g
     state_is : state_of cut ≡ taken (audited x).empty
     state_is = replay-append x.plans (audited x).empty x.history.items (entry ∷ [])
 
-    taken_of : IsOf (taken (audited x).empty) g.cut
-    taken_of = grind (arith, taken_by)
-
     taken_once : StandOnce (taken (audited x).empty).loose
     taken_once =
         rw (← p.base) (let s = replay x.plans p.empty x.history.items in let k = counts_one_by x.store.half in part_once s o.path
@@ -199,7 +196,7 @@ module _ (x y : MarksDevice) (p : Plainly x) (f : Follows p.number p.empty y) (g
         (may p.number p.empty x p.follows o running)).acts (items_once x.plans p.empty [] x.history.items (rw p.base tt) p.follows.stands.plain.legal))
 
     marked : Marked cut x.store
-    marked = grind (arith, state_is, taken_of, get_or, taken_once, known)
+    marked = grind (arith, state_is, get_or, taken_once, known, taken_by)
 
     started : is_started false (x.history.items ++ entry ∷ []) ≡ true
     started = started-append false x.history.items (entry ∷ [])

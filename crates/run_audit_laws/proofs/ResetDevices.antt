@@ -39,12 +39,9 @@ record IsCutOf (s z : MarksStore) : Type 0 where
   half_is : half_by z.half ≡ cut_half (half_by s.half)
 
 module _ (s : MarksStore) where
-  by_origin : (h : store.HalfWrite (Unit {0})) → s.half ≡ Some h → (o : Origin) → h.origin ≡ o →
-      Always (origin_cut by_plain s h o) (λ z (_ : Unit {0}). IsCutOf s z)
-  by_origin h kept o is = search (arith, always_tell, always_done)
 
   by_half : (h : Option (store.HalfWrite (Unit {0}))) → s.half ≡ h → Always (half_cut by_plain s h) (λ z (_ : Unit {0}). IsCutOf s z)
-  by_half h kept = search (arith, by_origin, always_done)
+  by_half h kept = search (arith, always_done, always_tell)
 
 abbrev pub reset_half : MarksDevice → ℕ → Option OpenEntry → HalfWrite
 reset_half x path (Some o) = if o.path == path then cut_half (half_by x.store.half) else half_by x.store.half

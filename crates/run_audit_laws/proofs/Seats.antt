@@ -54,9 +54,6 @@ module _ {F P H : Type 0} (n : ℕ) where
     pub unwritten_is : (s : Store F P H) (t : ℕ) → Is s → Is (unwritten c s t)
     unwritten_is s t k = settled_is (if s.paired then s else with_stale s A t true) t (is_if s.paired _ _ k k)
 
-    pub provisional_is : (s : Store F P H) (t : ℕ) (i : Image) (e : Edit) → Is s → Is (provisionally_written c s t i e)
-    provisional_is s t i e k = is_if (is_loose s t) s (loosened s t) k k
-
     pub left_is : (s : Store F P H) (t : ℕ) (i : Image) (origin : Origin) → Is s → Is (left_by c s t i origin)
     left_is s t i origin k = grind (arith, same_is, parts_count, unpatched_moves, stays)
 

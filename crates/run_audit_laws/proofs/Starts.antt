@@ -128,11 +128,9 @@ module _ (x : MarksDevice) (p : Plainly x) where
   paths_are = grind arith
 
   module _ (none : x.history.running ≡ None) where
-    count_is : (path : ℕ) → started_count x.history path ≡ count_by (is_of_path path) x.history.items
-    count_is path = grind arith
 
     left_is : (path : ℕ) → (left x path == 0) ≡ not (has_left a path)
-    left_is path = grind (arith, count_is, nat_tests)
+    left_is path = grind (arith, nat_tests)
 
     keeps_is : (path : ℕ) → keeps_out x path ≡ not (is_admitted (state_of a).paths path (program_of x.plans path (A.next_ordinal a path)))
     keeps_is path = grind (arith, paths_are)
@@ -159,23 +157,16 @@ module _ (x : MarksDevice) (p : Plainly x) where
           by_shut false = refl
       held_by None is out = grind arith
 
-      owner_is : (state_of a).paths.owner ≡ x.paths.owner
-      owner_is = ap (λ (q : PathsState). q.owner) paths_are
-
       free_by : (l k : Bool) → has_left a path ≡ l → admits ≡ k → (if not l then answers.Done else if l && k then answers.Accepted (A.next_ordinal a path)
           else held_answer a (state_of a).paths.owner)
           ≡ answer_by (if not l then Some faults.PlanDone else if not k then reserved_fault x x.paths.owner else None) (S.next_ordinal x path)
-      free_by l k is out = grind (arith, owner_is, held_by)
+      free_by l k is out = grind (arith, held_by)
 
       free_is : free_answer a path ≡ answer_by (idle_fault x path) (S.next_ordinal x path)
       free_is = grind (arith, free_by, left_is, keeps_is)
 
-  running_is : (path : ℕ) (r : Option OpenEntry) → x.history.running ≡ r →
-      running_answer a path r ≡ answer_by (running_fault x path r) (S.next_ordinal x path)
-  running_is path r is = grind (arith, free_is)
-
   lent_is : (path : ℕ) (l : Option ℕ) → lent_answer a path l ≡ answer_by (fault_by x path l) (S.next_ordinal x path)
-  lent_is path l = grind (arith, running_is)
+  lent_is path l = grind (arith, free_is)
 
   -- where the path itself runs nothing
   pub answer_is : (path : ℕ) → lent_answer a path x.store.lent ≡ answer_by (start_fault x path) (S.next_ordinal x path)

@@ -126,11 +126,8 @@ format_rule = (refl, refl, sense_bytes 0 0x40 0 (omega arith) (omega arith) (ome
 refused_fits : (s : Stance) (c : Ccw) (sense : Sense) → IsRule sense → Fits c (refused s c sense).ending
 refused_fits s c sense rule = (refl, refl, refl, refl, rule)
 
-good : IsGood normal
-good = (refl, omega arith)
-
 status_good : (body : List ℕ) → IsGood (status_of body)
-status_good body = grind (arith, good)
+status_good body = grind arith
 
 -- at most its count is left
 ended_fits : (c : Ccw) (area : ℕ) (status : UnitStatus) → IsGood status → IsGood status × (c.count - min c.count area ≤ c.count)
@@ -147,20 +144,14 @@ abbrev MoveFits : Result ℕ Sense → Type 0
 MoveFits (Ok t) = ⊤
 MoveFits (Err sense) = IsRule sense
 
-after_fits : (e : Option Extent) (t : ℕ) → MoveFits (track_after e t)
-after_fits e t = grind (arith, cylinder_rule, protected_rule)
-
 next_fits : (s : Stance) → MoveFits (next_track s)
-next_fits s = grind (arith, after_fits, protected_rule)
-
-moves_fits : (r : Result ℕ Sense) → MoveFits r → SoughtFits (moves_on r)
-moves_fits r h = grind arith
+next_fits s = grind (arith, protected_rule, cylinder_rule)
 
 index_fits : (passes : ℕ) (o : Option ℕ) → SoughtFits (from_index passes o)
 index_fits passes o = grind (arith, no_record_rule)
 
 missed_fits : (b : Bool) (s : Stance) (again : Option ℕ) → SoughtFits (search_missed b s again)
-missed_fits b s again = grind (arith, moves_fits, next_fits, no_record_rule, index_fits)
+missed_fits b s again = grind (arith, next_fits, no_record_rule, index_fits)
 
 found_fits : (b : Bool) (s : Stance) (o again : Option ℕ) → SoughtFits (find_from b s o again)
 found_fits b s o again = grind (arith, missed_fits)
@@ -176,10 +167,10 @@ abbrev pub LookFits : Ccw → Looked → Type 0
 LookFits c l = TurnFits c l.turned
 
 search_fits : (t : Track) (area : SearchArea) (s : Stance) (c : Ccw) (k : Sought) → SoughtFits k → LookFits c (search_sought t area s c k)
-search_fits t area s c k h = grind (arith, ended_fits, refused_fits, good)
+search_fits t area s c k h = grind (arith, ended_fits, refused_fits)
 
 reads_fit : (t : Track) (area : ReadArea) (s : Stance) (c : Ccw) (k : Sought) → SoughtFits k → LookFits c (read_sought t area s c k)
-reads_fit t area s c k h = grind (arith, ended_fits, refused_fits, good, status_good)
+reads_fit t area s c k h = grind (arith, ended_fits, refused_fits, status_good)
 
 data_fits : (d : Bool) (s : Stance) (c : Ccw) (i : ℕ) (r : Record) → LookFits c (update_data d s c i r)
 data_fits d s c i r = grind (arith, cond_both, ended_fits, status_good)
@@ -191,10 +182,10 @@ updates_fit : (key d : Bool) (records : List Record) (s : Stance) (c : Ccw) (k :
 updates_fit key d records s c k h = grind (arith, record_fits, refused_fits)
 
 formats_fit : (g : Geometry) (records : List Record) (after : After) (s : Stance) (c : Ccw) (i : ℕ) → LookFits c (format_behind g records after s c i)
-formats_fit g records after s c i = grind (arith, cond_both, ended_fits, good, refused_fits, format_rule)
+formats_fit g records after s c i = grind (arith, cond_both, ended_fits, refused_fits, format_rule)
 
 zeros_fit : (s : Stance) (c : Ccw) → LookFits c (zero_on s c)
-zeros_fit s c = grind (arith, cond_both, ended_fits, good, refused_fits, format_rule)
+zeros_fit s c = grind (arith, cond_both, ended_fits, refused_fits, format_rule)
 
 writes_fit : (g : Geometry) (t : Track) (s : Stance) (c : Ccw) (w : Write) → LookFits c (write_on g t s c w)
 writes_fit g t s c Data = updates_fit false (is_some s.domain) t.records s c _ (found_fits (is_some s.domain) s _ _)
@@ -206,7 +197,7 @@ writes_fit g t s c NextTrack = formats_fit g t.records Other s c 0
 writes_fit g t s c Zero = zeros_fit s c
 
 found_record_fits : (s : Stance) (c : Ccw) (d : Domain) (o : Option ℕ) → Fits c (located s c d o).ending
-found_record_fits s c d o = grind (arith, ended_fits, good, refused_fits, no_record_rule)
+found_record_fits s c d o = grind (arith, ended_fits, refused_fits, no_record_rule)
 
 pub look_fits : (g : Geometry) (t : Track) (s : Stance) (c : Ccw) (look : Look) → LookFits c (look_on g t s c look)
 look_fits g t s c look = grind (arith, found_record_fits, search_fits, found_fits, reads_fit, writes_fit)
@@ -262,19 +253,19 @@ OpeningFits c (openings.Looks look) = ⊤
 OpeningFits c (openings.Asks act) = ⊤
 
 track_from_fits : (s : Stance) (c : Ccw) (r : Read) (place : Place) → OpeningFits c (read_from s c r reads.Track place).opening
-track_from_fits s c r place = grind (arith, after_fits, refused_fits)
+track_from_fits s c r place = grind (arith, refused_fits, cylinder_rule, protected_rule)
 
 write_from_fits : (s : Stance) (c : Ccw) (w : Write) → OpeningFits c (look_from s c (Writes w)).opening
-write_from_fits s c w = grind (arith, after_fits, refused_fits)
+write_from_fits s c w = grind (arith, refused_fits, cylinder_rule, protected_rule)
 
 look_from_fits : (s : Stance) (c : Ccw) (look : Look) → OpeningFits c (look_from s c look).opening
 look_from_fits s c look = grind (arith, write_from_fits, track_from_fits)
 
 locating_fits : (s : Stance) (c : Ccw) (d : Domain) (o : Option Place) → OpeningFits c (locating s c d o).opening
-locating_fits s c d o = grind (arith, ended_fits, good)
+locating_fits s c d o = grind (arith, ended_fits)
 
 begun_fits : (s : Stance) (c : Ccw) (order : CommandOrder) → OpeningFits c (begun s c order).opening
-begun_fits s c order = grind (arith, ended_fits, good, locating_fits, look_from_fits)
+begun_fits s c order = grind (arith, ended_fits, locating_fits, look_from_fits)
 
 opened_fits : (s : Stance) (c : Ccw) (r : Result CommandOrder Sense) → OrderFits r → OpeningFits c (opening_with s c r).opening
 opened_fits s c r h = grind (arith, begun_fits, refused_fits)
@@ -285,7 +276,7 @@ opening_fits f s c = opened_fits s c (order_of f s c) (order_fits f s c _)
 -- The whole effect
 
 done_fits : (s : Stance) (c : Ccw) (bytes : List ℕ) (act : LocalAct) → Fits c (act_outcome s c bytes act).ending
-done_fits s c bytes act = grind (arith, ended_fits, good)
+done_fits s c bytes act = grind (arith, ended_fits)
 
 pub act_fits : (f : Fixed) (paths : PathsState) (path : ℕ) (s : Stance) (c : Ccw) (act : LocalAct) (o : Option GroupFault) →
     Fits c (acted_by f paths path s c act o).outcome.ending
@@ -301,12 +292,8 @@ outcome_fits f state path s c = grind (arith, effect_fits, opening_fits)
 
 -- Its end
 
--- the chain of a command that ends with unit check doesn't go on
-note_is : (i : ℕ) (c : Ccw) (o : Outcome) → o.ending.status ≡ check → note_of c o ≡ o.ending.note
-note_is i c o is = grind arith
-
 -- an end of the plain device, of a command that ends before it has looked at more tracks than there are
 pub end_is_tidy : (i : ℕ) (f : Fixed) (state : PlainState) (path : ℕ) (s : Stance) (c : Ccw) →
     ((end_at_word i c (effect_on f state path s c).outcome).sense ≡ Some equipment_sense → ⊥) →
     TidyBy c (end_at_word i c (effect_on f state path s c).outcome) (end_at_word i c (effect_on f state path s c).outcome).sense
-end_is_tidy i f state path s c few = grind (arith, outcome_fits, note_is)
+end_is_tidy i f state path s c few = grind (arith, outcome_fits)

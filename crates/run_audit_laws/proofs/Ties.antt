@@ -456,12 +456,9 @@ module _ (ns : List ℕ) where
   unfolding H.happens
   event_tied s e t = happens_tied ns s (deed by_plain s.pool (devices_of s) e) (deed_is s (KeepsTies s) (ties_keep s) e) t
 
-  side_same : (m : Mounted) (side : Side) (volume : Calls) → tie (with_calls (record m { device = replace m.device side }) side volume).device ≡ tie m.device
-  side_same m side volume = grind arith
-
   pub replaced_tied : (s : Subsystem) (n : ℕ) (side : Side) (o : Option Mounted) → mounted_in s.mounted n ≡ o → So s →
       So (replaced_at s n side unfailing o).behind
-  replaced_tied s n side o there t = grind (arith, same_tied, side_same, mounted_number, ties_put, put_own, tie_found)
+  replaced_tied s n side o there t = grind (arith, same_tied, mounted_number, ties_put, put_own, tie_found)
 
   pub unpaired_tied : (s : Subsystem) (n : ℕ) (o : Option Mounted) → mounted_in s.mounted n ≡ o → So s → So (unpaired_at s n unfailing o).behind
   unpaired_tied s n None there t = t

@@ -189,13 +189,10 @@ module _ (xs : List AuditedDevice) (later : List EventLine) (a : AuditedDevice) 
 
     -- The first part of a write
 
-    half_first : (idle : ReportLine) (track : ℕ) → a.half ≡ half.Closed → may_step (outline_of a) idle (lines.Half o.path a.number track) a.half ≡ true
-    half_first idle track closed = grind (arith, or_right)
-
     half_stands : (w : EventLine) → MayEnd a.number w half.Closed → a.half ≡ half.Closed → (track : ℕ) →
         in_event (outlines (record { devices = xs; events = w ∷ later; due = Next })) (lines.Half o.path a.number track) w ≡ true
-    half_stands w step_ends closed track = grind (arith, its_outline, half_first)
-    half_stands w run_ends closed track = grind (arith, its_outline, half_first)
+    half_stands w step_ends closed track = grind (arith, its_outline, or_right)
+    half_stands w run_ends closed track = grind (arith, its_outline, or_right)
 
     pub halves_lead : (w : EventLine) (k : MayEnd a.number w half.Closed) → a.half ≡ half.Closed → IsPlain a.plans a.empty a.history → (track : ℕ)
         (acts : List Act) → NoLoss acts → AreActs (state_of a) None acts → (reads writes : ℕ) →
