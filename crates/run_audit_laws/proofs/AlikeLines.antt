@@ -84,7 +84,6 @@ use Rattle.report_auditor.specs.declared.status.AuditWhy.TheVariants.{Place}
 use Rattle.report_auditor.specs.Verdict.{judged, or_history}
 use Rattle.run_audit_laws.specs.Standing.{LeadsBy}
 use Rattle.run_audit_laws.proofs.AlikeDevices.{Alike, alike_self, alike_then, back_alike, both, dark_alike, end_same, event_over_same, half_alike, half_same, history_alike, legal_same, lent_runs_same, loose_same, loss_same, may_loosen_same, next_legal_same, number_same, over_same, start_same, state_same, with_alike, words_same, worked_alike}
-
 use Rattle.run_audit_laws.proofs.Pasts.{Going, IsFew, act_is_read, cut, cut_in, cut_is_read, going_of, reset_is_read}
 
 abbrev pub AreAlike : List AuditedDevice → List AuditedDevice → Type 0
@@ -201,7 +200,6 @@ module _ (s u : AuditState) (all : AlikeStates s u) (line : ReportLine) where
     -- the command's end
     module _ (o p : OpenEntry) (going : going_of a.plans (replay a.plans a.empty a.history.items) o
         ≡ going_of b.plans (replay b.plans b.empty b.history.items) p) where
-
       shut : AlikeStates (changed s (record a { half = Closed })) (changed u (record b { half = Closed }))
       shut = changed_alike s u all (record a { half = Closed }) (record b { half = Closed }) (half_alike a b is Closed Closed refl)
 
@@ -271,7 +269,6 @@ back_half_same : (a b : AuditedDevice) → Alike a b → (answer : BackAnswer) �
 back_half_same a b is answer = grind (arith, half_same)
 
 module _ (s u : AuditState) (all : AlikeStates s u) where
-
   work_alike : (line : ReportLine) (a b : AuditedDevice) → Alike a b → AlikeMade (work_made s line a) (work_made u line b)
   work_alike (lines.End e) a b is = end_made_alike s u all (lines.End e) a b is
   work_alike (lines.Half path d t) a b is = half_made_alike s u all (lines.Half path d t) a b is OfCommand OfCommand refl (Behind true Halved)
@@ -329,7 +326,6 @@ behind_alike : (s u : AuditState) → AlikeStates s u → (a b : AuditedDevice) 
 behind_alike s u all a b is did = grind (arith, event_over_same, first_same, passed_alike, due_alike)
 
 module _ (s u : AuditState) (all : AlikeStates s u) where
-
   settled_at : (x y : Option AuditedDevice) → AlikeFound x y → (did : Did) → AlikeStates (settled_in s did x) (settled_in u did y)
   settled_at x y is did = grind (arith, over_same, due_alike, changed_alike, worked_alike, behind_alike)
 

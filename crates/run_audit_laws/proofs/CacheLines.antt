@@ -107,7 +107,6 @@ pub loss_told : (n c k m : ℕ) → c ≡ k → m ≡ next_number n → (d : ℕ
 loss_told n c k m count number d = grind arith
 
 module _ (x y : MarksDevice) (p : Plainly x) (g : IsLoss p.empty x y) where
-
   lost_device : y.store.acts ≡ CfwLost ∷ [] → y.store.number ≡ next_number x.store.number → has_loose x.store ≡ true → IsLostNow x y
   lost_device one number some =
       let k = known x p in
@@ -155,7 +154,6 @@ below_one low [] a b le = (omega arith, tt)
 below_one low (x ∷ all) a b le = let lt = b.0 in (omega (arith, lt, le), below_one low all a b.1 le)
 
 module _ (low : ℕ) (a : AuditedDevice) (least_is : low ≤ a.number) (rest : List AuditedDevice) where
-
   pub found_here : (done : List AuditedDevice) → IsBelow low done → A.device_in (done ++ a ∷ rest) a.number ≡ Some a
   found_here [] b = ap (λ (c : Bool). if c then Some a else A.device_in rest a.number) (same_number a.number)
   found_here (x ∷ done) b = grind (arith, found_here done b.1, same_number)

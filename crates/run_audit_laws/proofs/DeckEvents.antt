@@ -41,7 +41,6 @@ OfNamed P (events.Resume d) = P d
 OfNamed P _ = Unit {0}
 
 module _ (devices : List DeviceLine) where
-
   of_side : (device side : List ℕ) (at : ℕ × Side) → side_words devices device side ≡ Ok at → is_declared devices at.0 ≡ true
   of_side device side at h = grind (arith, went)
 

@@ -94,7 +94,6 @@ abbrev totalled : AuditState → ℕ → AuditState
 totalled s k = record s { due = Totals (k + 1) }
 
 module _ (s : AuditState) (k : ℕ) (d : MarksDevice) (rest : List Outline) (left : drop k (outlines s) ≡ outline_of (audited d) ∷ rest) where
-
   lost_lead : (lost : List ℕ) → d.store.lent ≡ None → LeadsBy (totalled s k) (map (lines.Lost d.store.device) lost) (totalled s k)
   lost_lead [] home = refl
   lost_lead (t ∷ lost) home = search (arith, lost_lead lost home, judged_at, at_more, nat_tests, or_left, and_from, get_here, same_number)

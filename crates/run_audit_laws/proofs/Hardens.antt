@@ -82,7 +82,6 @@ module _ (plans : Plans) (k path ordinal : ℕ) (ends : List CommandEnd) (fixed 
 -- The same of any program
 
 module _ (plans : Plans) (k : ℕ) (g : Going) where
-
   legal_kept : legal_by plans (Some g) ≡ true → legal_by plans (Some (record g { part = firm_part k g.part })) ≡ true
   legal_kept legal = legal_firmed plans k g.path g.ordinal g.ends g.part.fixed g.part.state g.part.stance g.part.ends g.part.told g.part.next legal
 
@@ -98,7 +97,6 @@ legal_did Halved plans r = true
 legal_did (Worked last) plans r = true
 
 module _ (plans : Plans) (k : ℕ) where
-
   commutes : (did : Did) (x : Past) (r : Option Going) → IsQuiet did r → GoesOn (done_past did plans (with_going x r)).running →
       done_past did plans (acted_past (Harden k) plans (with_going x r)) ≡ acted_past (Harden k) plans (done_past did plans (with_going x r))
   commutes did x r quiet goes = grind (arith, acted_past)
@@ -138,7 +136,6 @@ legal_seen : (a : AuditedDevice) (did : Did) → is_legal did a ≡ legal_did di
 legal_seen a did = grind arith
 
 module _ (a : AuditedDevice) where
-
   pub quiet_of : (did : Did) (r : Option OpenEntry) → over_by a did r ≡ None →
       IsQuiet did (option_map (going_of a.plans (replay a.plans a.empty a.history.items)) r)
   quiet_of did r none = grind arith

@@ -62,7 +62,6 @@ either_in : (b : Bool) (x y : Result CommandOrder Sense) → ResultIn x → Resu
 either_in b x y h k = grind arith
 
 module _ (s : Stance) (c : Ccw) where
-
   look_in : (look : Look) → OpeningIn (look_from s c look).opening
   look_in look = grind arith
 

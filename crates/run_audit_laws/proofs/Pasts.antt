@@ -316,9 +316,7 @@ abbrev pub reset_past : ℕ → ℕ → Plans → Past → Past
 reset_past path more plans x = reset_by path more plans x x.running
 
 module _ (path more : ℕ) (few : IsFew more) (l : List Item) (w : List ℕ) where
-
   module _ (o : OpenEntry) (tidy : IsTidyOpen o) where
-
     module _ (plans : Plans) (empty : PlainState) where
       abbrev before : Past
       before = past_of plans empty (with_parts l (Some o) w)
@@ -375,7 +373,6 @@ abbrev pub lost_past : Plans → Past → Past
 lost_past plans x = lost_by plans x x.running
 
 module _ (l : List Item) (w : List ℕ) where
-
   dark_past : (plans : Plans) (empty : PlainState) (started : Bool) →
       past_of plans empty (if started then record { items = l ++ items.Power ∷ []; running = None; waiting = [] } else with_parts l None w)
       ≡ (if started then behind_items plans (past_of plans empty (with_parts l None w)) (power_off (replay plans empty l)) items.Power []

@@ -39,7 +39,6 @@ record IsCutOf (s z : MarksStore) : Type 0 where
   half_is : half_by z.half ≡ cut_half (half_by s.half)
 
 module _ (s : MarksStore) where
-
   by_half : (h : Option (store.HalfWrite (Unit {0}))) → s.half ≡ h → Always (half_cut by_plain s h) (λ z (_ : Unit {0}). IsCutOf s z)
   by_half h kept = search (arith, always_done, always_tell)
 

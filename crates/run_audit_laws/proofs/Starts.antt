@@ -128,7 +128,6 @@ module _ (x : MarksDevice) (p : Plainly x) where
   paths_are = grind arith
 
   module _ (none : x.history.running ≡ None) where
-
     left_is : (path : ℕ) → (left x path == 0) ≡ not (has_left a path)
     left_is path = grind (arith, nat_tests)
 
