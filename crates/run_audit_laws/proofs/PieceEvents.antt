@@ -1,5 +1,5 @@
 -- An event of a run that is a piece of work leads the audit on.
-use Rattle.std.proofs.Common.{arith, ◌≡◌, ◌==◌, ℕ, Bool, true, false, not, List, [], ◌∷◌, map, Option, Some, None, refl, sym, ap, subst, ◌∙◌, if◌then◌else◌}
+use Rattle.std.proofs.Common.{suc, arith, ◌≡◌, ◌==◌, ℕ, Bool, true, false, not, List, [], ◌∷◌, map, Option, Some, None, refl, sym, ap, subst, ◌∙◌, if◌then◌else◌}
 use Rattle.std.specs.Prelude.{◌||◌, ◌&&◌, is_some, option_map}
 use Rattle.std.proofs.lemmas.Bool.{eq-eqb}
 use Rattle.deck_plan.specs.declared.event.EventLine.{EventLine}
@@ -46,8 +46,9 @@ use Rattle.run_audit_laws.specs.Standing.{LeadsBy, audited, half_by, half_of, st
 use Rattle.run_audit_laws.specs.Steps.{LeadsTowards, is_there}
 use Rattle.run_audit_laws.proofs.Found.{found_one, mounted_too, outline_one, put_at}
 use Rattle.run_audit_laws.proofs.Leading.{one_leads, quiet_lines}
-use Rattle.run_audit_laws.proofs.Pieces.{ComesTo, IsBack, backs_lead, command_leads, second_leads}
+use Rattle.run_audit_laws.proofs.Pieces.{IsStepwise, ComesTo, IsBack, backs_lead, command_leads, second_leads}
 use Rattle.run_audit_laws.proofs.Saying.{same_number}
+use Rattle.run_audit_laws.proofs.StepsLeft.{Enough}
 use Rattle.run_audit_laws.proofs.WorkEnds.{IsWork, MayEnd, first_judged, left_by, of_back, of_run, of_settle, of_step, run_ends, step_ends}
 
 -- The pieces of work: whose line asks, what it asks for, and what is told where there is nothing to do
@@ -80,6 +81,8 @@ pub record PieceGoes (s : Subsystem) (n : ℕ) (w : EventLine) (asked : Asked) (
   pub goes : (later : List EventLine) →
       LeadsTowards (stand s (w ∷ later)) (event_lines asked h.end h.reads h.writes (devices_of s) (devices_of h.behind))
       (stand h.behind (left_by w its (is_settled h.end) later))
+  pub enough : (x : MarksDevice) → device_in (devices_of s) n ≡ Some x → IsStepwise w → (k : ℕ) →
+      Enough (suc k) x.history.running (half_by x.store.half) → Enough k there.0.device.history.running (half_by there.0.device.store.half)
 
 -- A device that is busy
 
@@ -121,6 +124,9 @@ module _ (s : Subsystem) (x : MarksDevice) (at : device_in (devices_of s) x.stor
             there = (z, put_found s.mounted n m z there c.number);
             busy = ap is_busy (put_found s.mounted n m z there c.number) ∙ busy_by y.store.half y.history.running;
             goes = λ later. leads later o z c;
+            enough = λ v found stepwise k. (let both : Some x ≡ Some v = sym at ∙ found in let it : x ≡ v = cc in
+                subst (λ (q : MarksDevice). Enough (suc k) q.history.running (half_by q.store.half) → Enough k y.history.running (half_by y.store.half)) it
+                (c.enough stepwise k));
           } where
             lines_same : (end : EventEnd) (reads writes : ℕ) (z : Mounted) →
                 event_lines asked end reads writes (devices_of s) (devices_of (with_mounted s x.store.device z))
@@ -185,6 +191,8 @@ module _ (s : Subsystem) (x : MarksDevice) (at : device_in (devices_of s) x.stor
           (λ z. refl) later),
       is_there refl,
     );
+    enough = λ v found stepwise k is. (let m = mounted_too s.mounted n x at in
+        let same : m.0.device ≡ x = m.2 in rw (same, none, whole) tt);
   }
 
   -- RUN is over then at once

@@ -55,7 +55,7 @@ use Rattle.run_audit_laws.proofs.Found.{mounted_too}
 use Rattle.run_audit_laws.proofs.NextLines.{towards_then}
 use Rattle.run_audit_laws.proofs.PieceEvents.{PieceGoes, back_goes, back_piece, run_idle_leads, run_step_goes, settle_piece, step_line_goes}
 use Rattle.run_audit_laws.proofs.Pieces.{by_back, by_settle}
-use Rattle.run_audit_laws.proofs.RunEnds.{run_is_over, device_there}
+use Rattle.run_audit_laws.proofs.RunEnds.{run_is_over, device_there, piece_of_run}
 use Rattle.run_audit_laws.proofs.BackEnds.{settle_over}
 use Rattle.run_audit_laws.proofs.DeviceSizes.{sized_behind}
 use Rattle.run_audit_laws.proofs.StillLines.{some_device}
@@ -116,16 +116,6 @@ one_step k d s busy = ap (λ (b : Bool). if b then step_logged s d (steps k d) e
 abbrev left_run : Subsystem → ℕ → List EventLine → List EventLine
 left_run s d later = if is_busy (mounted_in s.mounted d) then wanted.Run d ∷ later else later
 
-piece_of_run : (s : Subsystem) → ArePlain s.mounted → (d : ℕ) → is_busy (mounted_in s.mounted d) ≡ true →
-    PieceGoes s d (wanted.Run d) (Run d) (happens s (events.Step d))
-piece_of_run s plain d busy =
-    let m = busy_there (mounted_in s.mounted d) busy in
-    let x = m.0.device in
-    let at = device_there s.mounted d m.0 m.1 in
-    let number = number_found s.mounted d x at in
-    subst (λ (k : ℕ). PieceGoes s k (wanted.Run k) (Run k) (happens s (events.Step k))) number
-    (run_step_goes s x (own_place s d x at) (plain_of s plain d x at) (ap (λ (k : ℕ). is_busy (mounted_in s.mounted k)) number ∙ busy))
-
 module _ (d : ℕ) (later : List EventLine) (k : ℕ) where
   abbrev ended : Subsystem → AuditState
   ended z = stand (last_behind z (steps k d z)) (left_run (last_behind z (steps k d z)) d later)
@@ -160,7 +150,8 @@ steps_lead zero s plain d busy later = (
 )
 steps_lead (suc k) s plain d busy later =
     let h = happens s (events.Step d) in
-    let p = piece_of_run s plain d busy in
+    let m = busy_there (mounted_in s.mounted d) busy in
+    let p = piece_of_run s plain d m.0.device (device_there s.mounted d m.0 m.1) busy in
     subst (λ (ts : List Logged). LeadsTowards (stand s (wanted.Run d ∷ later)) (flat_map lines_of ts) (stand (last_behind s ts)
     (left_run (last_behind s ts) d later))) (sym (one_step k d s busy))
     (more_steps d later k s h.behind (lines_of (logged (Run d) h)) (left_by (wanted.Run d) p.its (is_settled h.end) later)

@@ -1,0 +1,124 @@
+-- How many events are enough for a RUN: one fewer behind each of its events.
+use Rattle.std.proofs.Common.{◌≡◌, ◌≤◌, ◌<◌, ◌+◌, ◌*◌, ◌==◌, ℕ, zero, suc, Bool, true, false, List, [], ◌∷◌, length, map, Option, Some, None, is_some, refl, sym, ap, subst, ◌∙◌, arith, inl, inr}
+use Rattle.std.specs.Prelude.{◌||◌, ◌⊎◌, IfSome, IsSome, if◌then◌else◌, nat_le, not}
+use Rattle.std.proofs.lemmas.Bool.{leb-false, or_parts}
+use Rattle.ckd_types.specs.declared.channel.Ccw.{Ccw}
+use Rattle.ckd_types.specs.declared.channel.CommandEnd.{CommandEnd}
+use Rattle.ckd_types.specs.Ccw.{ccw_at}
+use Rattle.ckd_rules.specs.declared.stance.Stance.{Stance}
+use Rattle.ckd_rules.specs.Ends.{at_limit, goes_to, is_over, would_go_on}
+use Rattle.ckd_rules.specs.Ending.{Outcome}
+use Rattle.plain_defs.specs.declared.journal.Act.{Act}
+use Rattle.plain_defs.specs.declared.journal.Acted.{Acted}
+use Rattle.plain_defs.specs.declared.journal.How.TheVariants.{Full}
+use Rattle.plain_defs.specs.Effect.{effect_on}
+use Rattle.plain_defs.specs.History as Y
+use Rattle.plain_defs.specs.History.{History, OpenEntry, acted_in, checked, closed, with_end}
+use Rattle.plain_defs.specs.Journal.{program_of, replay}
+use Rattle.plain_defs.specs.PlainState.{PlainState}
+use Rattle.plain_defs.specs.Program.{Part, first_part, one_more, part_of, command_run, stepped_at}
+use Rattle.plain_defs.proofs.PartLemmas.{acted_beside, over_stays}
+use Rattle.device_outside.specs.Interaction.{Done, and_then}
+use Rattle.device_outside.specs.Told as T
+use Rattle.device_outside.specs.Told.{Told}
+use Rattle.device_defs.specs.declared.answers.SecondEnd.{SecondEnd}
+use Rattle.device_defs.specs.declared.answers.SecondEnd.TheVariants as seconds
+use Rattle.device_defs.specs.declared.answers.Stepped.{Stepped}
+use Rattle.device_defs.specs.declared.answers.Stepped.TheVariants as steps_are
+use Rattle.device_defs.specs.Command.{command}
+use Rattle.device_defs.specs.Contents.{by_plain}
+use Rattle.device_defs.specs.Device.{all_acted}
+use Rattle.device_defs.specs.Events.{second}
+use Rattle.device_defs.specs.Marks.{MarksDevice}
+use Rattle.device_defs.specs.Store.{Origin, OfCommand, OfCut, OfBackground}
+use Rattle.device_defs.specs.Store as store
+use Rattle.device_laws.proofs.Had.{held}
+use Rattle.device_laws.proofs.HistoryEnds.{one_longer, running_is_open}
+use Rattle.device_laws.proofs.HistoryTold.{HasActed, HasEnded, SecondTold, StepTold, acted_so, checked_so, command_told, ended_so, second_event_told}
+use Rattle.device_laws.proofs.PlainEvents.{had_always, had_both}
+use Rattle.device_laws.proofs.PlainStores.{core_of}
+use Rattle.device_laws.proofs.PlainTurns.{IsMid, IsMidOf}
+use Rattle.report_places.specs.declared.state.HalfWrite.{HalfWrite}
+use Rattle.report_places.specs.declared.state.HalfWrite.TheVariants as half
+use Rattle.subsystem_defs.specs.declared.end.EventEnd.{EventEnd}
+use Rattle.subsystem_defs.specs.declared.end.EventEnd.TheVariants as ends
+use Rattle.subsystem_defs.specs.declared.event.Event.TheVariants as events
+use Rattle.subsystem_defs.specs.Deeds as E
+use Rattle.subsystem_defs.specs.Deeds.{Asks, Ends, device_in, end_of, may_end_by, on_device, seconds as seconds_of, step}
+use Rattle.subsystem_defs.specs.Happening as H
+use Rattle.subsystem_defs.specs.Happening.{Talk, asks, happens, happens_by, held_with, mounted_behind, quietly, told_to}
+use Rattle.subsystem_defs.specs.Lines as L
+use Rattle.subsystem_defs.specs.Lines.{Run, is_busy, last_behind, line_logged, logged, most_steps, step_logged, steps}
+use Rattle.subsystem_defs.specs.Subsystem.{Mounted, Subsystem, devices_of, mounted_in, number_of}
+use Rattle.subsystem_laws.proofs.FoundDevices.{number_found}
+use Rattle.subsystem_laws.proofs.PlainRuns.{ArePlain, Plainly, event_plain}
+use Rattle.subsystem_laws.proofs.Walks.{device_so, hold_answer}
+use Rattle.run_audit_laws.specs.Runs.{RunIsOver}
+use Rattle.run_audit_laws.specs.Standing.{HasDevice, half_by, half_of}
+use Rattle.run_audit_laws.proofs.CameOut.{acts_run, with_acts}
+
+-- So many events are enough
+
+abbrev pub Enough : ℕ → Option OpenEntry → HalfWrite → Type 0
+Enough k (Some o) half.Closed = 8192 ≤ k + 2 * length o.ends
+Enough k (Some o) half.OfCommand = 8192 ≤ k + 1 + 2 * length o.ends
+Enough k (Some o) half.OfBackground = 8193 ≤ k + 2 * length o.ends
+Enough k None half.Closed = Unit {0}
+Enough k None half.OfCommand = 1 ≤ k
+Enough k None half.OfBackground = 1 ≤ k
+
+-- What a history is behind an event
+
+-- the program is over, or one more command of it ended
+abbrev OneMore : OpenEntry → Option OpenEntry → Type 0
+OneMore o r = (r ≡ None) ⊎ ((z : OpenEntry) × (r ≡ Some z) × (length z.ends ≡ length o.ends + 1))
+
+over_by : (h : History) (o : OpenEntry) (e : CommandEnd) (b : Bool) →
+    OneMore o (if b then closed h (with_end o e) Full else record h { running = Some (with_end o e) }).running
+over_by h o e b = grind (arith, one_longer)
+
+pub ended_more : (h : History) (e : CommandEnd) (o : OpenEntry) → h.running ≡ Some o → {k : History} → HasEnded h e k → OneMore o k.running
+ended_more h e o is (ended_so acts) = rw (acts_run acts h o is) (over_by (record h { running = Some (with_acts o acts) }) (with_acts o acts) e e.over)
+ended_more h e o is (checked_so acts) = grind arith
+
+pub acted_more : (h : History) (o : OpenEntry) → h.running ≡ Some o → {k : History} → HasActed h k → (z : OpenEntry) × (k.running ≡ Some z) × (z.ends ≡ o.ends)
+acted_more h o is (acted_so acts) = (with_acts o acts, ap (λ (z : History). z.running) (acts_run acts h o is), refl)
+
+idle_by : (h : History) (act : Act) (r : Option OpenEntry) → r ≡ None → h.running ≡ None → (acted_in h act r).running ≡ None
+idle_by h act r is none = grind arith
+
+idle_acts : (acts : List Act) (h : History) → h.running ≡ None → (all_acted h acts).running ≡ None
+idle_acts [] h none = none
+idle_acts (act ∷ acts) h none = idle_acts acts (Y.acted h act) (idle_by h act h.running none none)
+
+acted_none : (h : History) → h.running ≡ None → {k : History} → HasActed h k → k.running ≡ None
+acted_none h none (acted_so acts) = idle_acts acts h none
+
+-- One event fewer is enough behind an event
+
+enough_as : (k : ℕ) (y : MarksDevice) (r : Option OpenEntry) (h : HalfWrite) → y.history.running ≡ r → half_by y.store.half ≡ h → Enough k r h →
+    Enough k y.history.running (half_by y.store.half)
+enough_as k y r h runs is enough = grind arith
+
+pub ended_enough : (k : ℕ) (o : OpenEntry) (y : MarksDevice) → OneMore o y.history.running → half_by y.store.half ≡ half.Closed →
+    8192 ≤ suc k + 1 + 2 * length o.ends → Enough k y.history.running (half_by y.store.half)
+ended_enough k o y x4 is enough = grind (arith, enough_as)
+
+pub acted_enough : (k : ℕ) (x y : MarksDevice) → HasActed x.history y.history → half_by y.store.half ≡ half.Closed → (r : Option OpenEntry) →
+    x.history.running ≡ r → Enough (suc k) r half.OfBackground → Enough k y.history.running (half_by y.store.half)
+acted_enough k x y acted is (Some o) runs enough =
+    let z = acted_more x.history o runs acted in
+    enough_as k y (Some z.0) half.Closed z.1 is (omega (arith, ap length z.2, enough))
+acted_enough k x y acted is None runs enough = enough_as k y None half.Closed (acted_none x.history runs acted) is tt
+
+pub halved_enough : (k : ℕ) (o : OpenEntry) (y : MarksDevice) → (z : OpenEntry) × (y.history.running ≡ Some z) × (z.ends ≡ o.ends) →
+    half_by y.store.half ≡ half.OfCommand → 8192 ≤ suc k + 2 * length o.ends → Enough k y.history.running (half_by y.store.half)
+halved_enough k o y z is enough = grind (arith, enough_as)
+
+-- where a command runs, with no half write open or with its own
+pub enough_whole : (k : ℕ) (r : Option OpenEntry) (h : HalfWrite) (o : OpenEntry) → r ≡ Some o → h ≡ half.Closed → Enough k r h → 8192 ≤ k + 2 * length o.ends
+enough_whole k r h o is whole enough = grind arith
+
+pub enough_second : (k : ℕ) (r : Option OpenEntry) (h : HalfWrite) (o : OpenEntry) → r ≡ Some o → h ≡ half.OfCommand → Enough k r h →
+    8192 ≤ k + 1 + 2 * length o.ends
+enough_second k r h o is open_half enough = grind arith
