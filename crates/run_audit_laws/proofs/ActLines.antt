@@ -83,9 +83,7 @@ silent_loose : (x y : MarksDevice) → Silent x.history y.history → loose_line
 silent_loose x y so = let s = silent_items x.history y.history so in none_loose x y s.0 s.1 s.2 s.4
 
 silent_over : (x y : MarksDevice) → Silent x.history y.history → over_lines x y ≡ []
-silent_over x y so =
-    let s = silent_items x.history y.history so in
-    ap (λ (l : List Item). program_over_lines (over_of x.store.device l)) s.1 ∙ ap program_over_lines (s.3 x.store.device)
+silent_over x y so = grind (arith, silent_items x.history y.history so)
 
 abbrev pub history_of : MarksDevice → History
 history_of d = d.history

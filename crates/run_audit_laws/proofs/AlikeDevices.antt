@@ -140,38 +140,20 @@ module _ (a b : AuditedDevice) (is : Alike a b) where
   -- START
 
   next_same : (path : ℕ) → next_ordinal a path ≡ next_ordinal b path
-  next_same path =
-      ap (λ (n : ℕ). n + 1) (count_bare path a.history.items 0 ∙ ap (λ (x : Seen). count_by (is_of_path path) x.past.items) is.same
-      ∙ sym (count_bare path b.history.items 0))
+  next_same path = grind (arith, count_bare path a.history.items 0, count_bare path b.history.items 0)
 
   left_same : (path : ℕ) → has_left a path ≡ has_left b path
   left_same path = search (arith, next_same, plans_same)
 
   may_same : (path : ℕ) → may_start a path ≡ may_start b path
-  may_same path =
-      ap (λ (l : Bool). l && is_admitted (state_of a).paths path (program_of a.plans path (next_ordinal a path))) (left_same path)
-      ∙ ap (λ (s : PlainState). has_left b path && is_admitted s.paths path (program_of a.plans path (next_ordinal a path))) state_same
-      ∙ ap (λ (n : ℕ). has_left b path && is_admitted (state_of b).paths path (program_of a.plans path n)) (next_same path)
-      ∙ ap (λ (l : Plans). has_left b path && is_admitted (state_of b).paths path (program_of l path (next_ordinal b path))) plans_same
+  may_same path = grind (arith, left_same path, state_same, next_same path, plans_same)
 
   held_same : (o : Option Owner) → held_answer a o ≡ held_answer b o
   held_same (Some owner) = ap (λ (m : Bool). if m then start.Reserved owner else start.Shut owner) (any_same (may_start a) (may_start b) may_same four_paths)
   held_same None = refl
 
   free_same : (path : ℕ) → free_answer a path ≡ free_answer b path
-  free_same path =
-      ap (λ (l : Bool). if not l then start.Done
-      else if may_start a path then start.Accepted (next_ordinal a path)
-      else held_answer a (state_of a).paths.owner) (left_same path)
-      ∙ ap (λ (m : Bool). if not (has_left b path) then start.Done
-      else if m then start.Accepted (next_ordinal a path)
-      else held_answer a (state_of a).paths.owner) (may_same path)
-      ∙ ap (λ (n : ℕ). if not (has_left b path) then start.Done
-      else if may_start b path then start.Accepted n
-      else held_answer a (state_of a).paths.owner) (next_same path)
-      ∙ ap (λ (w : StartAnswer). if not (has_left b path) then start.Done
-      else if may_start b path then start.Accepted (next_ordinal b path)
-      else w) (held_same (state_of a).paths.owner ∙ ap (λ (s : PlainState). held_answer b s.paths.owner) state_same)
+  free_same path = grind (arith, left_same path, may_same path, next_same path, held_same (state_of a).paths.owner, state_same)
 
   pub own_same : (path : ℕ) → own_runs a.history.running path ≡ own_runs b.history.running path
   own_same path = both (λ r q. own_runs r path ≡ own_runs q path) refl (λ o p one two going. ap (λ (g : Going). g.path == path) going)

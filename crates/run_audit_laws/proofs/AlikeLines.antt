@@ -214,9 +214,7 @@ module _ (s u : AuditState) (all : AlikeStates s u) (line : ReportLine) where
       cuts : (more : ℕ) → IsFew more → AlikeStates
           (record (changed s (record a { history = reset_in_history a.history o.path more; half = cut_half a.half })) { due = ResetOf })
           (record (changed u (record b { history = reset_in_history b.history p.path more; half = cut_half b.half })) { due = ResetOf })
-      cuts more few =
-          rw (← (ap (λ (g : Going). g.path) going)) (due_alike _ _ (changed_alike s u all _ _ (with_alike a b is (λ h. reset_in_history h o.path more) _
-          (reset_is_read o.path more few) (cut_half a.half) (cut_half b.half) (ap cut_half (half_same a b is)))) ResetOf ResetOf refl)
+      cuts more few = grind (arith, due_alike, changed_alike, with_alike, reset_is_read o.path more few, half_same a b is)
 
       power_cuts : a.history.running ≡ Some o → b.history.running ≡ Some p → (more : ℕ) → IsFew more → AlikeStates
           (record (changed s (cut_by_power a o more)) { due = Powers (place_of s.devices a.number) })
@@ -231,13 +229,10 @@ module _ (s u : AuditState) (all : AlikeStates s u) (line : ReportLine) where
 
     -- acts
     act_alike : (act : Act) (due : Due) → AlikeStates (act_made s a act due) (act_made u b act due)
-    act_alike act due =
-        due_alike _ _ (changed_alike s u all (record a { history = acted a.history act }) (record b { history = acted b.history act })
-        (history_alike a b is (λ h. acted h act) _ (act_is_read act))) due due refl
+    act_alike act due = grind (arith, due_alike, changed_alike, history_alike, act_is_read act)
 
     harden_alike : (t : ℕ) (due : Due) → AlikeMade (harden_made s a t due) (harden_made u b t due)
-    harden_alike t due =
-        if_alike (is_loose_there (state_of a) t) (is_loose_there (state_of b) t) (ap (λ (x : PlainState). is_loose_there x t) (state_same a b is)) _ _ _ _ (act_alike (Harden t) due) tt
+    harden_alike t due = grind (arith, if_alike, state_same a b is, act_alike (Harden t) due)
 
     loosen_alike : (t : ℕ) (did : Did) → AlikeMade (loosen_made s a t did) (loosen_made u b t did)
     loosen_alike t (Ended e) = search (arith, if_alike, may_loosen_same, act_alike)
@@ -255,9 +250,7 @@ module _ (s u : AuditState) (all : AlikeStates s u) (line : ReportLine) where
 
     reset_alike : (path : ℕ) → AlikeMade (Some (passed (changed s (record a { history = reset_in_history a.history path 0 }))))
         (Some (passed (changed u (record b { history = reset_in_history b.history path 0 }))))
-    reset_alike path =
-        passed_alike _ _ (changed_alike s u all (record a { history = reset_in_history a.history path 0 }) (record b { history = reset_in_history b.history path 0 })
-        (history_alike a b is (λ h. reset_in_history h path 0) _ (reset_is_read path 0 tt)))
+    reset_alike path = grind (arith, passed_alike, changed_alike, history_alike, reset_is_read path 0 tt)
 
     half_made_alike : (h k : HalfWrite) → h ≡ k → (due : Due) → AlikeMade (Some (record (changed s (record a { half = h })) { due = due }))
         (Some (record (changed u (record b { half = k })) { due = due }))

@@ -56,6 +56,5 @@ module _ (g : Geometry) (p : PathsState) (path : ℕ) (k : PathsKeep p) where
   act_sends s c acts.SenseId = sent_are c (sense_id_bytes g) (identity_are g)
   act_sends s c (acts.SetGroup function id) = no_bytes
   act_sends s c acts.SenseGroup =
-      sent_are c (group_bytes (state_in p.states path) path p.owner)
-      (group_are (state_in p.states path) (at_or Named Reset tt p.states (path - 1) k.named.states) path p.owner)
+      grind (arith, sent_are c (group_bytes (state_in p.states path) path p.owner) (group_are (state_in p.states path) (at_or Named Reset tt p.states (path - 1) k.named.states) path p.owner), group_are (state_in p.states path) (at_or Named Reset tt p.states (path - 1) k.named.states) path p.owner, at_or Named Reset tt p.states (path - 1) k.named.states)
   act_sends s c act = sent_are c (sense_for p path).bytes sense_are

@@ -188,16 +188,7 @@ module _ (later : List EventLine) where
       judged (at (done ++ a ∷ rest) (due_by last)) (loss_line a)
       ≡ Ok (at (done ++ record a { history = acted a.history CfwLost } ∷ rest) (Losses a.number))
   loss_judged low done rest a last b l le some =
-      grind (
-        arith,
-        outline_here low a le rest done b,
-        found_here low a le rest done b,
-        put_here low a le rest done (record a { history = acted a.history CfwLost }) refl b,
-        and_from,
-        same_number,
-        same_loose,
-        lt-ltb,
-      )
+      grind (arith, outline_here low a le rest done b, found_here low a le rest done b, put_here low a le rest done (record a { history = acted a.history CfwLost }) refl b, and_from, same_number, same_loose, lt-ltb)
 
   last_leads : (all : List AuditedDevice) (last : Option ℕ) →
       LeadsBy (at all (due_by last)) (lines.Order orders.FailCache answers.Done ∷ []) (record { devices = all; events = later; due = Next })
@@ -212,12 +203,7 @@ module _ (later : List EventLine) where
 
   one_step : (low : ℕ) (done rest : List AuditedDevice) (last : Option ℕ) (x y : MarksDevice) → IsBelow low done → LastBelow last low →
       low ≤ x.store.device → IsQuiet x y ⊎ IsLostNow x y → OnTo low done rest last x y
-  one_step low done rest last x y b l le (inl quiet) = record {
-    next = last;
-    below = last_more last low (x.store.device + 1) (omega (arith, le)) l;
-    number = ap (λ (a : AuditedDevice). a.number) quiet.audits;
-    leads = rw (quiet.lines_are, quiet.audits) refl;
-  }
+  one_step low done rest last x y b l le (inl quiet) = grind (arith, last_more last low (x.store.device + 1) (omega (arith, le)) l)
   one_step low done rest last x y b l le (inr lost) = record {
     next = Some x.store.device;
     below = omega arith;

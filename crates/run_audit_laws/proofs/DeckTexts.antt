@@ -29,13 +29,7 @@ begins_by b false bytes rest g = (b ∷ g.0, ap (onto_first b) g.1)
 begins : (x rest : List ℕ) → is_whole x ≡ true → BeginsLine (x ++ 10 ∷ rest) rest
 begins [] rest h = ([], refl)
 begins (b ∷ x) rest h =
-    let p = and_parts (not (b == 10)) (is_whole x) h in
-    let g = begins_by b (is_passed_over b (x ++ 10 ∷ rest)) (x ++ 10 ∷ rest) rest (begins x rest p.1) in (
-      g.0,
-      ap (λ (c : Bool). if c then [] ∷ text_lines (x ++ 10 ∷ rest)
-          else if is_passed_over b (x ++ 10 ∷ rest) then text_lines (x ++ 10 ∷ rest) else onto_first b (text_lines (x ++ 10 ∷ rest))) (not-true (b == 10) p.0)
-          ∙ g.1,
-    )
+    grind (arith, and_parts (not (b == 10)) (is_whole x) h, not (b == 10), is_whole x, begins_by b (is_passed_over b (x ++ 10 ∷ rest)) (x ++ 10 ∷ rest) rest (begins x rest (and_parts (not (b == 10)) (is_whole x) h).1), begins x rest (and_parts (not (b == 10)) (is_whole x) h).1, not-true (b == 10) (and_parts (not (b == 10)) (is_whole x) h).0)
 
 -- REPORT is no first word of a deck's line
 refused : (n : ℕ) (s : State) → take_line n (codes "REPORT") s ≡ Err (Refused n Word)

@@ -75,7 +75,7 @@ module _ (xs : List AuditedDevice) (w : EventLine) (d : ℕ) (side : Side) (late
         is_of_work more (worker_number (waits a more)) line ≡ false → LeadsBy (before ys) (line ∷ ls) t → LeadsBeside (waits a more) (line ∷ ls) t
     other_leads more line ls t other leads =
         let v = waits a more in
-        let from = leads_alike (line ∷ ls) (settled v did) (before ys) t (subst (λ (z : AuditState). AlikeStates z (before ys)) (sym (settled_so more))
+        let from = leads_alike (line ∷ ls) (settled v did) (before ys) t (rw (settled_so more)
         (search arith)) leads in (
           from.0,
           waiting_leads v from.0 line ls more did refl other (ap (λ (x : Option AuditedDevice). holds x (is_legal did))
@@ -114,12 +114,8 @@ module _ (xs : List AuditedDevice) (w : EventLine) (d : ℕ) (side : Side) (late
 
       by_test : (b : AuditedDevice) → Alike (worked a did) b → (u : AuditState) (c : Bool) → is_loose_there (state_of b) track ≡ c →
           or_history (if c then Some (act_made (before ys) b (Harden track) Next) else None) ≡ Ok u → Firmer u
-      by_test b is u true so made = record {
-        zs = with_device ys (firmer track b);
-        stands = cc;
-        is = sym (loose_behind a track did k.tidy k.quiet track) ∙ ap (λ (s : PlainState). is_loose_there s track) (state_same (worked a did) b is) ∙ so;
-        done = still_done b is;
-      }
+      by_test b is u true so made =
+          grind (arith, firmer track b, loose_behind a track did k.tidy k.quiet track, state_same (worked a did) b is, still_done b is)
       by_test b is u false so made = absurd (cc)
 
       by_device : (x : Option AuditedDevice) → AlikeFound (Some (worked a did)) x → (u : AuditState) →
@@ -138,7 +134,7 @@ module _ (xs : List AuditedDevice) (w : EventLine) (d : ℕ) (side : Side) (late
           LeadsBeside (waits a true) (lines.Loose n (loose.Harden track) ∷ ls) t
       firm_leads ls t leads rest =
           let f = firm_too leads.0 leads.1 in
-          let more = rest (firmer track a) f.zs f.done (subst (λ (z : AuditState). LeadsBy z ls t) f.stands leads.2) in
+          let more = rest (firmer track a) f.zs f.done (rw (← f.stands) leads.2) in
           (more.0, (waits (firmer track a) true, harden_judged xs w left n works first has a k.number did track f.is, more.1), more.2)
 
   -- no track becomes firm of the work of another device, or once another became loose
@@ -158,9 +154,9 @@ module _ (xs : List AuditedDevice) (w : EventLine) (d : ℕ) (side : Side) (late
       by_work false is rest = other_leads a ys k more (lines.Loose m (loose.Harden track)) ls t is leads
       by_work true is rest =
           let so = firm_other m track more is in
-          subst (λ (c : Bool). LeadsBeside (waits a c) (lines.Loose m (loose.Harden track) ∷ ls) t) (sym so.1)
-          (subst (λ (i : ℕ). LeadsBeside (waits a true) (lines.Loose i (loose.Harden track) ∷ ls) t) (sym so.0)
-          (firm_leads a ys k track ls t (subst (λ (i : ℕ). LeadsBy (before ys) (lines.Loose i (loose.Harden track) ∷ ls) t) so.0 leads) rest))
+          rw so.1
+          (rw so.0
+          (firm_leads a ys k track ls t (rw (← so.0) leads) rest))
   waits_lead (lines.Order order answer ∷ ls) a ys more k t leads past = search (arith, other_leads, of_none)
   waits_lead (line ∷ ls) a ys more k t leads past = absurd (cc)
 
@@ -202,8 +198,8 @@ module _ (xs : List AuditedDevice) (d : ℕ) (side : Side) (later : List EventLi
     from_over none over left devices =
         let tidy = self_at (device_in xs n) (found_alike xs xs selves n) a has in
         let self = alike_self a tidy in
-        subst (λ (l : List EventLine). LeadsBeside (waiting (w ∷ l)) ls t) (sym left)
-        (subst (λ (l : List AuditedDevice). LeadsBeside (record { devices = l; events = w ∷ failing; due = Behind more did }) ls t) own.1
+        rw left
+        (rw (← own.1)
         (waits_lead xs w d side later n works a has selves did ls a ys more (record {
           number = own.0;
           tidy = tidy;
@@ -252,5 +248,4 @@ module _ (s : Subsystem) (plain : ArePlain s.mounted) where
       let ls = flat_map lines_of (line_logged s (asked_by (events.FailVolume d side))) in
       let t = stand (line_behind s (events.FailVolume d side)) later in
       rw is (from_waiting v.devices d side later more did selves (map audited (devices_of s)) all_go ls t (leads later) past v.events (subst
-      (λ (q : Due). holds (worker (record v { due = q })) (is_legal did) ≡ true) is legal) (subst (λ (q : Due). settled (record v { due = q }) did ≡ stand s
-      (events.FailVolume d side ∷ later)) is same))
+      (λ (q : Due). holds (worker (record v { due = q })) (is_legal did) ≡ true) is legal) (rw (← is) same))

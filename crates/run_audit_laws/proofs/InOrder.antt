@@ -50,12 +50,12 @@ framed_least z t m patched bare here q = by_place (cases_eq q t) (set_there z.fr
   by_place : ((q ≡ t) ⊎ (q ≢ t)) → ((frame_at v t ≡ Some m) ⊎ (frame_at v t ≡ frame_at z t)) → weight_at v q ≤ weight_at z q
   by_place (inr ne) there = same_weight z v q ((near_frame z t (Some m)).others q ne)
   by_place (inl is) (inl there) =
-      subst (λ (k : ℕ). weight_at v k ≤ weight_at z k) (sym is)
+      rw is
       (at (Some m) there
       (ap (λ (k : Bool). works_by (is_lost z t) (Some k) (is_some (patch_at z t)) (is_loose z t)) (sym patched)
       ∙ filled_works (is_lost z t) (is_some (patch_at z t)) (is_loose z t) here
       ∙ ap (λ (o : Option Bool). works_by (is_lost z t) o (is_some (patch_at z t)) (is_loose z t)) (sym bare)))
-  by_place (inl is) (inr there) = subst (λ (k : ℕ). weight_at v k ≤ weight_at z k) (sym is) (at (frame_at z t) there refl)
+  by_place (inl is) (inr there) = rw is (at (frame_at z t) there refl)
 
 module _ (s : MarksStore) (t : ℕ) (ts : List ℕ) (queue : s.queue ≡ t ∷ ts) where
   abbrev shorter : MarksStore
@@ -79,12 +79,7 @@ module _ (s : MarksStore) (t : ℕ) (ts : List ℕ) (queue : s.queue ≡ t ∷ t
   none_framed o lost e = grind arith
 
   stage_so : Had (stage by_plain shorter t) (WorkSo s)
-  stage_so =
-      had_if (is_some (frame_at s t) || is_lost s t) (λ _. had_done (λ _. one_shorter))
-      (λ e. let f = none_framed (frame_at s t) (is_lost s t) e in
-      had_try (had_ask (λ given. had_if given
-      (λ _. had_then (level_so shorter t) (λ z g h. bytes_staged z g h f.0 f.1 g.bytes))
-      (λ _. had_done (λ _. one_shorter)))))
+  stage_so = grind (arith, had_if, had_done, one_shorter, none_framed, had_try, had_ask, had_then, level_so shorter t, bytes_staged)
 
 -- The order
 

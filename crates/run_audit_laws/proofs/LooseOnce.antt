@@ -85,9 +85,9 @@ module _ (plans : Plans) where
   items_once s earlier (items.Reset p ∷ xs) o legal = items_once (replay_item plans s (items.Reset p)) (earlier ++ items.Reset p ∷ []) xs o legal.1
   items_once s earlier (items.Fresh ∷ xs) o legal = items_once (replay_item plans s items.Fresh) (earlier ++ items.Fresh ∷ []) xs tt legal.1
   items_once s earlier (items.Act act ∷ xs) o legal =
-      items_once (replay_item plans s (items.Act act)) (earlier ++ items.Act act ∷ []) xs (acts_once (act ∷ []) s None o legal.0) legal.1
+      grind (arith, items_once (replay_item plans s (items.Act act)) (earlier ++ items.Act act ∷ []) xs (acts_once (act ∷ []) s None o legal.0) legal.1, acts_once (act ∷ []) s None o legal.0)
   items_once s earlier (items.Power ∷ xs) o legal =
-      items_once (replay_item plans s items.Power) (earlier ++ items.Power ∷ []) xs (power_once s s.loose refl) legal.1
+      grind (arith, items_once (replay_item plans s items.Power) (earlier ++ items.Power ∷ []) xs (power_once s s.loose refl) legal.1, power_once s s.loose refl)
 
   pub plain_once : (empty : PlainState) (h : History) → empty.loose ≡ [] → IsPlain plans empty h → StandOnce (plain_of plans empty h).loose
   plain_once empty h none plain = grind (arith, items_once, part_once)
@@ -121,7 +121,7 @@ marked_count (x ∷ l) marks o same =
     others q lt = by_test (x.track == q) refl where
       by_test : (b : Bool) → (x.track == q) ≡ b → is_loose_in l q ≡ get_or (set marks x.track false) q false
       by_test true test =
-          subst (λ (k : ℕ). is_loose_in l k ≡ get_or (set marks x.track false) k false) (eqb-true x.track q test)
+          rw (← (eqb-true x.track q test))
           (o.0 ∙ sym (get_or-set_same marks x.track false false lt))
       by_test false test =
           sym (ap (λ (b : Bool). cond b true (is_loose_in l q)) test) ∙ same q

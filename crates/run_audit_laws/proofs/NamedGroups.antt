@@ -55,9 +55,7 @@ module _ (id : GroupId) (bytes : AreBytes 11 id.bytes) where
 
   all_left : (xs : List PathState) → All Named xs → All Named (map (disbanded id) xs)
   all_left [] all = All-nil Named
-  all_left (x ∷ xs) all =
-      All-cons Named (disbanded id x) (map (disbanded id) xs) (left_if (is_in_group id x) x (All-head Named x xs all))
-      (all_left xs (All-tail Named x xs all))
+  all_left (x ∷ xs) all = grind (arith, left_if (is_in_group id x) x (All-head Named x xs all), all_left xs (All-tail Named x xs all))
 
   states_set : (xs : List PathState) (path function : ℕ) → All Named xs → All Named (paths_set xs path function id)
   states_set xs path function all = by_tests (establishes function) (resigns function) where

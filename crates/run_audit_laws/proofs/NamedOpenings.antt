@@ -41,11 +41,7 @@ use Rattle.run_audit_laws.proofs.NamedGroups.{ActNamed, OpeningIn}
 
 named_bytes : (c : Ccw) → GivesBytes c → AreBytes 11 (take 11 (drop 1 (given 16 c)))
 named_bytes c gives =
-    record {
-      count = omega (arith, padded_length 16 c.given, length-drop 1 (given 16 c), (length-take 11 (drop 1 (given 16 c))));
-      each = as_bytes (take 11
-          (drop 1 (given 16 c))) (All-take IsByte 11 (drop 1 (given 16 c)) (All-drop IsByte 1 (given 16 c) (padded_are 16 c.given gives)));
-    }
+    grind (arith, padded_length 16 c.given, length-drop 1 (given 16 c), length-take 11 (drop 1 (given 16 c)), as_bytes (take 11 (drop 1 (given 16 c))) (All-take IsByte 11 (drop 1 (given 16 c)) (All-drop IsByte 1 (given 16 c) (padded_are 16 c.given gives))), padded_are 16 c.given gives)
 
 device_named : (c : Ccw) → GivesBytes c → (d : DeviceCommand) → ActNamed (device_act (given 16 c) d)
 device_named c gives d = grind (arith, named_bytes)

@@ -103,14 +103,11 @@ module _ {F P H R : Type 0} (T : ℕ → Type 0) (n : ℕ) (c : Contents F P H R
   module _ (In : ChainState → Type 0) (comes : Comes T In) where
     at_own : (d : Device F P H) (path : ℕ) (chain : ChainState) (o : Option ℕ) → ((t : ℕ) → o ≡ Some t → T t) → In chain → At d.store →
         OwnEvent (command_at c d path chain o)
-    at_own d path chain (Some t) needs is k =
-        own_then (follow_own In comes (tracks_of d.store) t chain t d.store k is (needs t refl)) (λ s o g. on_own d path chain s o g)
+    at_own d path chain (Some t) needs is k = grind (arith, own_then, follow_own In comes (tracks_of d.store) t chain t d.store k is (needs t refl), on_own)
     at_own d path chain None needs is k = grind (arith, own_try, own_if, answered_own, own_done)
 
     by_own : (d : Device F P H) (o : Option OpenEntry) (l : Option ChainState) → IfSome l In → At d.store → OwnEvent (command_by c d o l)
-    by_own d (Some o) (Some chain) is k =
-        own_if (has_loss o.acts) (out_own d o.path (checks chain Equipment) k)
-        (at_own d o.path chain (need_of chain) (λ t e. comes.needs chain t is e) is k)
+    by_own d (Some o) (Some chain) is k = grind (arith, own_if, out_own d o.path (checks chain Equipment) k, at_own)
     by_own d o l is k = own_done k
 
   command_ended_own : (d : Device F P H) (t : ℕ) (o : Option OpenEntry) (l : Option ChainState) (done : Bool) → At d.store →

@@ -115,14 +115,12 @@ module _ {F P H R : Type 0} (T : ℕ → Type 0) (n : ℕ) (c : Contents F P H R
   whole_own s t i e bypass k = own_tell (λ _. own_then (done_own T n c _ t i bypass k) (λ z _ g. own_done g))
 
   at_once_own : (s : Store F P H) (t : ℕ) (i : Image) (e : Edit) (bypass : Bool) → At s → Owns (at_once c s t i e bypass)
-  at_once_own s t i e bypass k =
-      own_then (second_write_own s t (c.bytes i) k)
-      (λ z _ g. own_if (has_level z t) (whole_own z t i e bypass g) (own_done (settled_is n c z t g)))
+  at_once_own s t i e bypass k = grind (arith, own_then, second_write_own s t (c.bytes i) k, own_if, whole_own, own_done, settled_is)
 
   through_by_own : (t : ℕ) (i : Image) (e : Edit) (bypass opens was : Bool) (s : Store F P H) (took : Took) → At s → Owns (through_by c t i e bypass opens was s took)
   through_by_own t i e bypass opens was s Whole k = whole_own s t i e bypass k
   through_by_own t i e bypass opens was s Opened k =
-      own_if opens (own_then (opened_own s t i (OfCommand bypass e) was k) (λ z _ g. own_done g)) (at_once_own s t i e bypass k)
+      grind (arith, own_if, own_then, opened_own s t i (OfCommand bypass e) was k, own_done, at_once_own s t i e bypass k)
   through_by_own t i e bypass opens was s Unwritten k = own_done k
 
   through_own : (s : Store F P H) (t : ℕ) (i : Image) (e : Edit) (bypass opens : Bool) → At s → Owns (through c s t i e bypass opens)
@@ -223,11 +221,7 @@ module _ {F P H R : Type 0} (T : ℕ → Type 0) (n : ℕ) (c : Contents F P H R
 
   pub part_own : (s : Store F P H) (h : HalfWrite H) → At s → Owns (second_part c s h)
   unfolding D.second_part
-  part_own s h k =
-      let i = half_image_of c s h in
-      own_then (second_write_own s h.track (c.bytes i) k)
-      (λ z _ g. own_if (has_level z h.track) (second_done_own (half_closed z) h.track i h.origin g)
-      (own_done (settled_is n c (left_by c (half_closed z) h.track i h.origin) h.track (left_is n c (half_closed z) h.track i h.origin g))))
+  part_own s h k = grind (arith, own_then, second_write_own s h.track (c.bytes (half_image_of c s h)) k, own_if, second_done_own, own_done, settled_is, left_is)
 
   -- Losses and cuts
 

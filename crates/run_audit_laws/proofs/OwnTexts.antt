@@ -78,25 +78,14 @@ module _ (text : List ℕ) (deck : DeckLines) (read : parsed text ≡ Ok deck) (
 
   report_cut : cut_lines (report_of deck) ≡ told
   report_cut =
-      ap cut_lines (lines_ended (report_lines (run_of deck)) ∙ sym (append-nil (flat_map ended_line told)))
-      ∙ cut_ended told [] (written_whole (report_lines (run_of deck)) (report_is_in_range text deck read))
-      ∙ append-nil told
+      grind (arith, lines_ended (report_lines (run_of deck)), append-nil (flat_map ended_line told), cut_ended told [] (written_whole (report_lines (run_of deck)) (report_is_in_range text deck read)), written_whole (report_lines (run_of deck)) (report_is_in_range text deck read), report_is_in_range text deck read, append-nil told)
 
   all_cut : cut_lines (own_text text deck) ≡ lines ++ codes "REPORT" ∷ told
   all_cut = grind (arith, cut_ended, cut_whole, report_cut)
 
   own_is : length (own_text text deck) ≤ 268435456 → IsOwnReport (own_text text deck) deck
-  own_is size = record {
-    lines = length (cut_lines text);
-    size = size;
-    found = ap (report_from 0) all_cut ∙ found 0 lines told (read_has_none text deck lines (cut_whole text) h read) ∙ ap (λ (k : ℕ). Some k) (omega arith);
-    parses =
-        ap (λ (l : List (List ℕ)). parsed (flat_map ended_line (take (length lines) l))) all_cut
-        ∙ ap (λ (l : List (List ℕ)). parsed (flat_map ended_line l)) (front lines (codes "REPORT" ∷ told))
-        ∙ ap parsed h
-        ∙ read;
-    says = ap (λ (l : List (List ℕ)). drop (length lines + 1) l) all_cut ∙ behind lines (codes "REPORT") told;
-  }
+  own_is size =
+      grind (arith, found, all_cut, found 0 lines told (read_has_none text deck lines (cut_whole text) h read), read_has_none text deck lines (cut_whole text) h read, cut_whole text, front lines (codes "REPORT" ∷ told), behind lines (codes "REPORT") told)
 
 -- where what is written is read back
 pub own_text_is_yes : ((line : ReportLine) → IsLine line → line_of (text_of line) ≡ (if has_form line then Ok line else Err (form_fault line))) →

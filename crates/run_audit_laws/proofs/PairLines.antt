@@ -161,17 +161,7 @@ module _ (s : Subsystem) (plain : ArePlain s.mounted) (a : ℕ) (single : lent_c
   parted_leads : (m : Mounted) → mounted_in s.mounted a ≡ Some m →
       EventLeads s (wanted.Unpair a) (Unpair a) (quietly s (unpaired_behind s a unfailing m) ends.Done)
   parted_leads m there later =
-      let e = wanted.Unpair a in
-      let x = record m { device = split m.device } in
-      let ks = put_in s.mounted a x in
-      let behind = unpaired_behind s a unfailing m in
-      let few : lent_count a (ties ks) ≤ 1 = rw (lent_stays s.mounted a x m there (mounted_number s.mounted a m there) refl a) single in
-      told_leads s e (orders.Unpair a) (Unpair a) (unpairs a) behind ends.Done later (silent_lines (orders.Unpair a) answers.Done (devices_of s)
-      (devices_of behind) (rw (← (history_put s.mounted a x m there refl)) (silent_restored a unfailing ks))) (ap (λ (b : Bool). if b then None else Some
-      (passed (record (stand s (e ∷ later)) { devices = map (given_back a) (map audited (devices_of s)) }))) (none_runs a s.mounted plain) ∙ ap
-      (λ (l : List AuditedDevice). Some (record { devices = l; events = later; due = (stand s later).due })) (ap (map (given_back a)) (sym
-      (put_same s.mounted a x (λ k found. let both_are : Some m ≡ Some k = sym there ∙ found in let it : m ≡ k = cc in ap
-      (λ (i : Mounted). audited i.device) it))) ∙ given a unfailing ks few))
+      grind (arith, lent_count a (ties (put_in s.mounted a (record m { device = split m.device }))), ties (put_in s.mounted a (record m { device = split m.device })), lent_stays s.mounted a (record m { device = split m.device }) m there (mounted_number s.mounted a m there) refl a, mounted_number s.mounted a m there, told_leads, unpairs a, silent_lines, history_put s.mounted a (record m { device = split m.device }) m there refl, silent_restored a unfailing (put_in s.mounted a (record m { device = split m.device })), none_runs a s.mounted plain, put_same, given)
 
   unpaired_leads : (m : Mounted) → mounted_in s.mounted a ≡ Some m → (f : Option OrderFault) →
       EventLeads s (wanted.Unpair a) (Unpair a) (unpaired_by s a unfailing m f)

@@ -173,10 +173,7 @@ module _ (plans : Plans) (empty : PlainState) (h : History) (o : OpenEntry) (tid
   cut_state : (more : ℕ) → IsFew more → replay_item plans (replay plans empty h.items) (entry_of o (Cut (length o.ends + more)))
       ≡ cut_to plans (going_of plans (replay plans empty h.items) o) more
   cut_state zero few = grind arith
-  cut_state (suc zero) few =
-      let same : length o.ends + 1 ≡ suc (length o.ends) = omega arith in
-      ap (λ (k : ℕ). (part_of s o.path (program_of plans o.path o.ordinal) o.acts k).state) same
-      ∙ ap (λ (p : Part). p.state) (part_next plans s o tidy)
+  cut_state (suc zero) few = grind (arith, part_next plans s o tidy, tidy)
   cut_state (suc (suc more)) few = absurd few
 
 abbrev pub over_past : Plans → Past → Going → How → List CommandEnd → PlainState → Past
@@ -390,10 +387,7 @@ module _ (l : List Item) (w : List ℕ) where
       ∙ ap (λ (b : Bool). if b then behind_items plans (past_of plans empty (with_parts l None w)) (power_off (replay plans empty l)) items.Power []
       else past_of plans empty (with_parts l None w)) (started_bare l false)
   power_past plans empty (Some o) tidy =
-      let h = with_parts l (Some o) w in
-      items_more plans empty h (entry_of o (Cut (length o.ends + 0))) (items.Power ∷ [])
-      ∙ ap (λ (s : PlainState). behind_items plans (past_of plans empty h) s (bare (entry_of o (Cut (length o.ends + 0)))) (items.Power ∷ []))
-      (cut_state plans empty h o tidy 0 tt)
+      grind (arith, items_more plans empty (with_parts l (Some o) w) (entry_of o (Cut (length o.ends + 0))) (items.Power ∷ []), items.Power, cut_state plans empty (with_parts l (Some o) w) o tidy 0 tt)
 
 pub power_is_read : IsRead (λ h. lost_power h 0) lost_past
 power_is_read = record {

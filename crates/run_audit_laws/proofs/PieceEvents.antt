@@ -125,7 +125,7 @@ module _ (s : Subsystem) (x : MarksDevice) (at : device_in (devices_of s) x.stor
             busy = ap is_busy (put_found s.mounted n m z there c.number) ∙ busy_by y.store.half y.history.running;
             goes = λ later. leads later o z c;
             enough = λ v found stepwise k. (let both : Some x ≡ Some v = sym at ∙ found in let it : x ≡ v = cc in
-                subst (λ (q : MarksDevice). Enough (suc k) q.history.running (half_by q.store.half) → Enough k y.history.running (half_by y.store.half)) it
+                rw (← it)
                 (c.enough stepwise k));
           } where
             lines_same : (end : EventEnd) (reads writes : ℕ) (z : Mounted) →
@@ -144,12 +144,9 @@ module _ (s : Subsystem) (x : MarksDevice) (at : device_in (devices_of s) x.stor
                 (devices_of (with_mounted s x.store.device z)))
                 (stand (with_mounted s x.store.device z) (left_by w (audited z.device) (is_settled (told_end o.answer)) later))
             leads later o z c =
-                subst (λ (e : Option EventEnd). LeadsTowards (stand s (w ∷ later)) (lines_to (told_end e) o.told.reads o.told.writes z)
-                (stand (with_mounted s n z) (left_by w (audited z.device) (is_settled (told_end e)) later))) (sym c.is)
-                (subst (λ (l : List ReportLine). LeadsTowards (stand s (w ∷ later)) l
-                (stand (with_mounted s n z) (left_by w (audited z.device) (is_settled c.its) later))) (sym (lines_same c.its o.told.reads o.told.writes z))
-                (subst (λ (l : List AuditedDevice). LeadsTowards (stand s (w ∷ later)) (its_lines c.its o.told.reads o.told.writes z.device)
-                (record { devices = l; events = left_by w (audited z.device) (is_settled c.its) later; due = Next })) (put_at s.mounted n z c.number)
+                rw c.is
+                (rw (lines_same c.its o.told.reads o.told.writes z)
+                (rw (← (put_at s.mounted n z c.number))
                 (c.so (map audited (devices_of s)) later (found_one (devices_of s) n x at) o.told.reads o.told.writes)))
 
       pub asks_goes : PieceGoes s x.store.device w asked (asks s x.store.device (mounted_in s.mounted x.store.device) talk)
@@ -162,9 +159,7 @@ module _ (s : Subsystem) (x : MarksDevice) (at : device_in (devices_of s) x.stor
       ((z : AuditState) → work_made z line (audited x) ≡ Some (passed z)) →
       (later : List EventLine) → LeadsBy (stand s (w ∷ later)) (line ∷ []) (stand s later)
   idle_leads w line k whole fits made later =
-      one_leads (stand s (w ∷ later)) (stand s later) line
-      (first_judged (map audited (devices_of s)) later (audited x) (found_one (devices_of s) n x at) w k line fits
-      ∙ ap (λ (o : Option AuditState). or_history o) (made (stand s (w ∷ later))))
+      grind (arith, first_judged (map audited (devices_of s)) later (audited x) (found_one (devices_of s) n x at) w k line fits, found_one (devices_of s) n x at)
 
   idle_fits : (line : ReportLine) → says line line ≡ true → x.store.half ≡ None → x.history.running ≡ None →
       may_step (outline_of (audited x)) line line (audited x).half ≡ true
@@ -237,7 +232,7 @@ module _ (s : Subsystem) (x : MarksDevice) (at : device_in (devices_of s) x.stor
         PieceGoes s x.store.device w asked (happens s (events.Step x.store.device))
     unfolding H.happens E.deed
     step_goes w asked idle p k none =
-        subst (λ (o : Option MarksDevice). PieceGoes s x.store.device w asked (happens_by s (on_device o (step by_plain)))) (sym at)
+        rw at
         (step_by w asked idle p k none x.store.half refl x.history.running refl)
 
     pub step_line_goes : PieceGoes s x.store.device (wanted.Step x.store.device) (Once (events.Step x.store.device)) (happens s (events.Step x.store.device))
@@ -271,5 +266,5 @@ module _ (s : Subsystem) (x : MarksDevice) (at : device_in (devices_of s) x.stor
           PieceGoes s x.store.device w asked (happens s (events.Back x.store.device))
       unfolding H.happens E.deed
       back_goes w asked idle p k =
-          subst (λ (o : Option MarksDevice). PieceGoes s x.store.device w asked (happens_by s (on_device o (back_deed by_plain)))) (sym at)
+          rw at
           (back_by w asked idle p k x.store.half refl)

@@ -39,16 +39,7 @@ pub record TellsBeside (x y : MarksDevice) (acts : List Act) (over : Option Repo
 tells_by : (x y : MarksDevice) (acts : List Act) (over : Option ReportLine) (k : History) → y.history ≡ k → NoLoss acts → new_acts x.history k ≡ acts →
     has_power (new_items x.history k) ≡ false →
     program_over_lines (over_of x.store.device (new_items x.history k)) ≡ line_if over → TellsBeside x y acts over
-tells_by x y acts over k is none came power told = record {
-  loose =
-      ap (λ (h : History). map loosed_line (map (loosed x.store.device)
-      (map (told_act x.store y.store) (new_acts x.history h) ++ power_told x.store y.store (has_power (new_items x.history h))))) is
-      ∙ ap (λ (l : List Act). map loosed_line (map (loosed x.store.device)
-      (map (told_act x.store y.store) l ++ power_told x.store y.store (has_power (new_items x.history k))))) came
-      ∙ ap (λ (b : Bool). map loosed_line (map (loosed x.store.device) (map (told_act x.store y.store) acts ++ power_told x.store y.store b))) power
-      ∙ told_acts x.store.device x.store y.store acts none;
-  over_is = ap (λ (h : History). program_over_lines (over_of x.store.device (new_items x.history h))) is ∙ told;
-}
+tells_by x y acts over k is none came power told = grind (arith, told_acts x.store.device x.store y.store acts none)
 
 -- acts alone
 pub acts_no_power : (acts : List Act) → has_power (map (λ (act : Act). items.Act act) acts) ≡ false

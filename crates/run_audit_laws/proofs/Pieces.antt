@@ -114,8 +114,7 @@ module _ (num : ℕ) (empty : PlainState) (x y : MarksDevice) (f : Follows num e
 
   few : (o : OpenEntry) → x.history.running ≡ Some o → (e : CommandEnd) → plain_end (audited x) o ≡ Some e → e.sense ≡ Some equipment_sense → ⊥
   few o running e plain =
-      end_is_other o.path (words_of_open a o) o.acts (replay x.plans (audited x).empty x.history.items) (some_by o f.before running refl) (length o.ends)
-      (part_of_open a o).next e plain
+      grind (arith, end_is_other o.path (words_of_open a o) o.acts (replay x.plans (audited x).empty x.history.items) (some_by o f.before running refl) (length o.ends) (part_of_open a o).next e plain, some_by o f.before running refl)
 
   -- A command that ended
 
@@ -278,8 +277,8 @@ module _ (num : ℕ) (empty : PlainState) (x : MarksDevice) (f : Follows num emp
     is = refl;
     number = p.number;
     so = λ xs later has reads writes.
-        subst (λ (t : Happened). Does w xs later (device_lines t reads writes x y) (audited y) false) (sym (told (option_map running_program x.history.running)))
-        (subst (λ (b : Bool). Does w xs later (device_lines (did.Back x.store.device shown) reads writes x y) (audited y) b) not_last
+        rw (told (option_map running_program x.history.running))
+        (rw (← not_last)
         (told_by num empty x y f base g kept w shown half.OfBackground xs later has (seconds_by k second_is) (ap half_by there ∙ origin)
         (subst (HasParts x y) (sym closed) p) reads writes y.history acted refl));
     enough = λ _ n is.
@@ -369,7 +368,7 @@ module _ (num : ℕ) (empty : PlainState) (x : MarksDevice) (f : Follows num emp
     is = refl;
     number = c.left.number;
     so = λ xs later has reads writes.
-        subst (λ (b : Bool). Does w xs later (device_lines (did.Back x.store.device (back_answer d)) reads writes x y) (audited y) b) (last_is d)
+        rw (← (last_is d))
         (told_by num empty x y f base c.follows c.kept w (back_answer d) half.Closed xs later has
         (may_tell xs later (audited x) has w (back_answer d) k (back_line x.store.device d)) (ap half_by none) c.left reads writes y.history c.told refl);
     enough = λ stepwise. absurd (not_stepwise k stepwise);

@@ -89,12 +89,7 @@ module _ (num : ℕ) (empty : PlainState) (x : MarksDevice) (f : Follows num emp
 
   off_first : (s : MarksStore) → CutSo num empty x f x.history.running (counts_one_by x.store.half) (noted_begin x.store) s → Spares (noted_begin x.store) s →
       IsOff num empty x f (powered_off by_plain (event_begun x) s)
-  off_first s cut k =
-      let counted = with_loss s losses.Cache in
-      let w = powerless_off counted in
-      let loose_is : has_loose s ≡ has_loose x.store = ap (λ (l : List Bool). is_some (least (s.cylinders * 15) (λ t. get_or l t false))) k.loose ∙ ap
-      (λ (n : ℕ). is_some (least (n * 15) (λ t. get_or x.store.loose t false))) k.cylinders in
-      (search (arith, core_of))
+  off_first s cut k = grind (arith, powerless_off (with_loss s losses.Cache), get_or, core_of)
 
   pub power_makes : Had (power by_plain x) (λ y (_ : Unit {0}). IsOff num empty x f y)
   unfolding K.power

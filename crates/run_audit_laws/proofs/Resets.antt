@@ -101,9 +101,7 @@ legal_by p edit h = grind arith
 -- where the cut of a half write counts one command more, that command may be so
 pub next_legal : (x : MarksDevice) (p : Plainly x) (o : OpenEntry) → x.history.running ≡ Some o → counts_one_by x.store.half ≡ 1 →
     is_next_legal (audited x) x.history.running ≡ true
-next_legal x p o running one =
-    ap (λ (r : Option OpenEntry). is_next_legal (audited x) r) running ∙ legal_by (part_of_open (audited x) o) (edit_of (audited x) o) (rw (← p.base) (subst
-    (λ (k : ℕ). MayTake x.plans (replay x.plans p.empty x.history.items) o k) one (may p.number p.empty x p.follows o running)))
+next_legal x p o running one = grind (arith, legal_by, may p.number p.empty x p.follows o running)
 
 few : (h : Option (store.HalfWrite (Unit {0}))) → (counts_one_by h ≡ 0) ⊎ (counts_one_by h ≡ 1)
 few h = grind arith
@@ -150,10 +148,7 @@ idle_tells h path false = nothing_came h
 
 other_tells : (h : History) (path : ℕ) (r : Option OpenEntry) → h.running ≡ r → ((o : OpenEntry) → r ≡ Some o → (o.path == path) ≡ false) →
     TellsNoProgram h (history_reset h path 0)
-other_tells h path (Some o) is other =
-    rw (ap (λ (r : Option OpenEntry). reset_in h path 0 r) is ∙ ap
-    (λ (b : Bool). if b then cut_by h o 0 else if is_used path false h.items then record h { waiting = put path h.waiting } else h) (other o refl))
-    (waits_tells h path (is_used path false h.items))
+other_tells h path (Some o) is other = grind (arith, waits_tells h path (is_used path false h.items))
 other_tells h path None is other = rw (ap (λ (r : Option OpenEntry). reset_in h path 0 r) is) (idle_tells h path (is_used path false h.items))
 
 -- The event

@@ -50,10 +50,10 @@ module _ (xs : List AuditedDevice) (later : List EventLine) (a : AuditedDevice) 
   step_leads p plain few plainly acts none are = record {
     plainly = λ reads writes legal.
         let leads = plain_command_leads xs (Step a.number) later a has refl o running plainly stands makes p plain few acts none are reads writes legal in
-        (leads.0, leads.1, subst (λ (t : AuditState). Reaches (Some a.number) leads.0 t) (same_end legal p.over) leads.2);
+        (leads.0, leads.1, rw (← (same_end legal p.over)) leads.2);
     loosened = λ reads writes t may legal.
         let leads = loose_command_leads xs (Step a.number) later a has refl o running plainly stands makes p plain few acts none are reads writes t may legal in
-        (leads.0, leads.1, subst (λ (z : AuditState). Reaches (Some a.number) leads.0 z) (loose_end t legal p.over) leads.2);
+        (leads.0, leads.1, rw (← (loose_end t legal p.over)) leads.2);
     checked = λ reads writes sense is.
         check_command_leads xs (Step a.number) later a has refl o running plainly stands makes p plain few acts none are reads writes sense is;
   } where

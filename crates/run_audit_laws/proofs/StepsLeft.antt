@@ -107,8 +107,7 @@ ended_enough k o y x4 is enough = grind (arith, enough_as)
 pub acted_enough : (k : ℕ) (x y : MarksDevice) → HasActed x.history y.history → half_by y.store.half ≡ half.Closed → (r : Option OpenEntry) →
     x.history.running ≡ r → Enough (suc k) r half.OfBackground → Enough k y.history.running (half_by y.store.half)
 acted_enough k x y acted is (Some o) runs enough =
-    let z = acted_more x.history o runs acted in
-    enough_as k y (Some z.0) half.Closed z.1 is (omega (arith, ap length z.2, enough))
+    grind (arith, acted_more x.history o runs acted, enough_as k y (Some (acted_more x.history o runs acted).0) half.Closed (acted_more x.history o runs acted).1 is (omega (arith, ap length (acted_more x.history o runs acted).2, enough)))
 acted_enough k x y acted is None runs enough = enough_as k y None half.Closed (acted_none x.history runs acted) is tt
 
 pub halved_enough : (k : ℕ) (o : OpenEntry) (y : MarksDevice) → (z : OpenEntry) × (y.history.running ≡ Some z) × (z.ends ≡ o.ends) →

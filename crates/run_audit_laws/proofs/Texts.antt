@@ -35,9 +35,7 @@ module _ (again : (line : ReportLine) → IsLine line → line_of (text_of line)
       judged_lines n s (map text_of lines) ≡ Yes
   all_texts [] n s t written formed leads done = ap (at_end n) (ap (λ (z : AuditState). z.due) (sym leads) ∙ done)
   all_texts (line ∷ lines) n s t written formed leads done =
-      let first = ap (judged_by s) (read_again line (All-head IsLine line lines written) (All-head Formed line lines formed)) ∙ leads.1 in
-      ap (λ (r : Result AuditState AuditWhy). or_no n r (λ u. judged_lines (n + 1) u (map text_of lines))) first
-      ∙ all_texts lines (n + 1) leads.0 t (All-tail IsLine line lines written) (All-tail Formed line lines formed) leads.2 done
+      grind (arith, read_again line (All-head IsLine line lines written) (All-head Formed line lines formed), all_texts lines (n + 1) leads.0 t (All-tail IsLine line lines written) (All-tail Formed line lines formed) leads.2 done)
 
   -- a whole text
   yes_by : (text : List ℕ) (deck : DeckLines) → (o : IsOwnReport text deck) → WholeLeads (first_state deck) (report_lines (run_of deck)) → read_back text ≡ Yes

@@ -241,11 +241,7 @@ permitted_fits s command (Some order) = masked_fits s order (mask_fault s.mask c
 order_fits : (f : Fixed) (s : Stance) (c : Ccw) (o : Option Command) → OrderFits (order_by f s c o)
 order_fits f s c None = rejects 1 (omega arith)
 order_fits f s c (Some command) =
-    cond_both (not (is_in_sequence s s.domain command)) (Err (reject_sense 2))
-    (if nat_lt c.count (required_count command) then Err (reject_sense 3) else permitted_order s command (decoded_order f s c command)) OrderFits
-    (λ _. rejects 2 (omega arith))
-    (λ _. cond_both (nat_lt c.count (required_count command)) (Err (reject_sense 3)) (permitted_order s command (decoded_order f s c command)) OrderFits
-    (λ _. rejects 3 (omega arith)) (λ _. permitted_fits s command (decoded_order f s c command)))
+    grind (arith, cond_both, rejects 2 (omega arith), rejects 3 (omega arith), permitted_fits s command (decoded_order f s c command))
 
 abbrev pub OpeningFits : Ccw → Opening → Type 0
 OpeningFits c (openings.Over e) = Fits c e

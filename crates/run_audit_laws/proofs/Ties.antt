@@ -229,7 +229,7 @@ parted_tied ns ts a x o here own lent single t = record {
 
   by_test : (k : ℕ) (c : Bool) → (a == k) ≡ c → lent_count k (restored_tie a (put_tie a x ts)) ≤ pair_count k (restored_tie a (put_tie a x ts))
   by_test k true is =
-      subst (λ (i : ℕ). lent_count i (restored_tie a (put_tie a x ts)) ≤ pair_count i (restored_tie a (put_tie a x ts))) (eqb-true a k is)
+      rw (← (eqb-true a k is))
       (
       let many = counts a in
       let before = t.single a in
@@ -348,9 +348,7 @@ module _ (ns : List ℕ) where
     b = y.store.device
 
     found : (d : MarksDevice) → Stands s d → (m : Mounted) × (mounted_in s.mounted d.store.device ≡ Some m) × (m.device ≡ d)
-    found d stands =
-        mounted_too s.mounted d.store.device d
-        (ap (λ (n : ℕ). device_in (devices_of s) n) (number_found s.mounted stands.number d stands.found) ∙ stands.found)
+    found d stands = grind (arith, mounted_too, number_found s.mounted stands.number d stands.found)
 
     joined_tied : (z : Subsystem) (volume : Calls) (m : Mounted) → mounted_in z.mounted x.store.device ≡ Some m → m.device ≡ x →
         (w : Mounted) → IsLent x.store.device y w.device → z.mounted ≡ put_in s.mounted y.store.device w → Tied ns (ties s.mounted) →
@@ -462,15 +460,8 @@ module _ (ns : List ℕ) where
 
   pub unpaired_tied : (s : Subsystem) (n : ℕ) (o : Option Mounted) → mounted_in s.mounted n ≡ o → So s → So (unpaired_at s n unfailing o).behind
   unpaired_tied s n None there t = t
-  unpaired_tied s n (Some m) there t = by_fault (unpair_fault m.device) where
-    by_fault : (f : Option OrderFault) → So (unpaired_by s n unfailing m f).behind
-    by_fault (Some fault) = t
-    by_fault None =
-        let x = record m { device = split m.device } in
-        subst (Tied ns)
-        (sym (ties_restored (put_in s.mounted n x) n unfailing ∙ ap (restored_tie n) (ties_put s.mounted n x)))
-        (parted_tied ns (ties s.mounted) n (tie (split m.device)) (tie m.device) (tie_found s.mounted n m there) (mounted_number s.mounted n m there)
-        refl refl t)
+  unpaired_tied s n (Some m) there t =
+      grind (arith, ties_restored (put_in s.mounted n (record m { device = split m.device })) n unfailing, ties_put s.mounted n (record m { device = split m.device }), parted_tied ns (ties s.mounted) n (tie (split m.device)) (tie m.device) (tie_found s.mounted n m there) (mounted_number s.mounted n m there) refl refl t, tie_found s.mounted n m there, mounted_number s.mounted n m there)
 
   ties_go : Goes So Shown AnyEvent
   unfolding H.replaced H.unpaired
@@ -479,8 +470,7 @@ module _ (ns : List ℕ) where
 -- behind one line
 pub line_tied : (ns : List ℕ) (s : Subsystem) (x : Asked) → Tied ns (ties s.mounted) → Tied ns (ties (last_behind s (line_logged s x)).mounted)
 line_tied ns s x t =
-    logs_end (So ns) (Shown ns) s (line_logged s x)
-    (line_goes (So ns) (Shown ns) AnyEvent (ties_go ns) x s (All-head (MayAsk AnyEvent) x [] (all_asked (x ∷ []))) t)
+    grind (arith, logs_end (So ns) (Shown ns) s (line_logged s x) (line_goes (So ns) (Shown ns) AnyEvent (ties_go ns) x s (All-head (MayAsk AnyEvent) x [] (all_asked (x ∷ []))) t), line_goes (So ns) (Shown ns) AnyEvent (ties_go ns) x s (All-head (MayAsk AnyEvent) x [] (all_asked (x ∷ []))) t, all_asked (x ∷ []))
 
 -- Decks
 
@@ -497,10 +487,7 @@ opened_alone deck [] a = refl
 opened_alone deck (d ∷ ds) a = let rest = opened_alone deck ds a in omega (arith, rest)
 
 pub opened_tied : (deck : DeckLines) → Tied (numbers_in deck) (ties (opened deck).mounted)
-opened_tied deck = record {
-  numbers_are = opened_numbers deck deck.devices;
-  single = λ a. let none = opened_alone deck deck.devices a in omega (arith, none);
-}
+opened_tied deck = grind (arith, opened_numbers deck deck.devices, opened_alone)
 
 pub run_tied : (deck : DeckLines) →
     Logs (So (numbers_in deck)) (Shown (numbers_in deck)) (opened deck) (run_lines (map asked_by deck.events) (opened deck))

@@ -168,7 +168,7 @@ module _ (xs : List AuditedDevice) (later : List EventLine) (a : AuditedDevice) 
       ends_lead reads writes e acts (firmly bs plain none are legal) few =
           let leads = plain_command_leads xs w later a has (works (ends_work k)) o running plainly (end_stands w h k is) (makes w (ends_work k)) e plain few bs
           none are reads writes legal in
-          (leads.0, leads.1, subst (λ (t : AuditState). Reaches (worker_of w) leads.0 t) (over_piece (acted_to a bs) refl true e legal (over_told a o how.Full) e.over) leads.2)
+          (leads.0, leads.1, rw (← (over_piece (acted_to a bs) refl true e legal (over_told a o how.Full) e.over)) leads.2)
       ends_lead reads writes e acts (loosely bs t plain none are may legal) few =
           let leads = loose_command_leads xs w later a has (works (ends_work k)) o running plainly (end_stands w h k is) (makes w
           (ends_work k)) e plain few bs none are reads writes t may legal in

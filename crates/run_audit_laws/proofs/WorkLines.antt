@@ -152,12 +152,10 @@ steps_lead (suc k) s plain d busy later =
     let h = happens s (events.Step d) in
     let m = busy_there (mounted_in s.mounted d) busy in
     let p = piece_of_run s plain d m.0.device (device_there s.mounted d m.0 m.1) busy in
-    subst (λ (ts : List Logged). LeadsTowards (stand s (wanted.Run d ∷ later)) (flat_map lines_of ts) (stand (last_behind s ts)
-    (left_run (last_behind s ts) d later))) (sym (one_step k d s busy))
+    rw (one_step k d s busy)
     (more_steps d later k s h.behind (lines_of (logged (Run d) h)) (left_by (wanted.Run d) p.its (is_settled h.end) later)
     (choice_not (is_idle p.its) (is_busy (mounted_in h.behind.mounted d)) later (wanted.Run d ∷ later) p.busy)
-    (subst (λ (l : List ReportLine). LeadsTowards (stand s (wanted.Run d ∷ later)) l
-    (stand h.behind (left_by (wanted.Run d) p.its (is_settled h.end) later))) (told_from s (Run d) h (event_from s (events.Step d))) (p.goes later))
+    (rw (← (told_from s (Run d) h (event_from s (events.Step d)))) (p.goes later))
     (λ more. steps_lead k h.behind (event_plain s plain (events.Step d) tt) d more later))
 
 run_logged_is : (s : Subsystem) (d : ℕ) → line_logged s (Run d) ≡ run_logged s d
@@ -182,8 +180,7 @@ module _ (s : Subsystem) (plain : ArePlain s.mounted) (d : ℕ) where
       one_goes s (wanted.Run d) (quietly s s ends.Idle) (run_idle s d idle) refl
       (λ later. (
         stand s later,
-        subst (λ (k : ℕ). LeadsBy (stand s (wanted.Run k ∷ later)) (event_lines (Run k) ends.Idle 0 0 (devices_of s) (devices_of s)) (stand s later))
-            (number_found s.mounted d x at)
+        rw (← (number_found s.mounted d x at))
             (run_idle_leads s x (own_place s d x at) (not_some x.store.half each.0) (not_some x.history.running each.1) later),
         is_there refl,
       ))
@@ -234,13 +231,13 @@ module _ (s : Subsystem) (plain : ArePlain s.mounted) (good : AreSo Good s.mount
   piece_of_back : (d : ℕ) (x : MarksDevice) → device_in (devices_of s) d ≡ Some x →
       PieceGoes s d (wanted.Back d) (Once (events.Back d)) (happens s (events.Back d))
   piece_of_back d x at =
-      subst (λ (k : ℕ). PieceGoes s k (wanted.Back k) (Once (events.Back k)) (happens s (events.Back k))) (number_found s.mounted d x at)
+      rw (← (number_found s.mounted d x at))
       (back_goes s x (own_place s d x at) (plain_of s plain d x at) (good_of s good d x at) (wanted.Back x.store.device) (Once (events.Back x.store.device))
       (did.Back x.store.device back.Nothing) back_piece by_back)
 
   piece_of_settle : (d : ℕ) (x : MarksDevice) → device_in (devices_of s) d ≡ Some x → PieceGoes s d (wanted.Settle d) (Settle d) (happens s (events.Back d))
   piece_of_settle d x at =
-      subst (λ (k : ℕ). PieceGoes s k (wanted.Settle k) (Settle k) (happens s (events.Back k))) (number_found s.mounted d x at)
+      rw (← (number_found s.mounted d x at))
       (back_goes s x (own_place s d x at) (plain_of s plain d x at) (good_of s good d x at) (wanted.Settle x.store.device) (Settle x.store.device)
       (did.Back x.store.device back.Nothing) settle_piece by_settle)
 
@@ -263,12 +260,11 @@ module _ (d : ℕ) (later : List EventLine) where
       (settled_to s (logged (Settle d) h ∷ (if b then [] else backs k d h.behind)))
   unfolding left_settle
   more_backs s h k ls true is first rest =
-      subst (λ (l : List ReportLine). LeadsTowards (stand s (wanted.Settle d ∷ later)) l (settled_to s (logged (Settle d) h ∷ []))) (sym (append-nil ls))
-      (subst (λ (c : Bool). LeadsTowards (stand s (wanted.Settle d ∷ later)) ls (stand h.behind (if c then later else wanted.Settle d ∷ later))) (sym is) first)
+      rw (append-nil ls)
+      (rw is first)
   more_backs s h k ls false is first rest =
       let ts = backs k d h.behind in
-      subst (λ (c : Bool). LeadsTowards (stand s (wanted.Settle d ∷ later)) (ls ++ flat_map lines_of ts)
-      (stand (last_behind h.behind ts) (if c then later else wanted.Settle d ∷ later))) (sym (settled_behind (logged (Settle d) h) ts is))
+      rw (settled_behind (logged (Settle d) h) ts is)
       (towards_then h.behind (wanted.Settle d ∷ later) (Some d) tt (stand s (wanted.Settle d ∷ later)) (settled_to h.behind ts) ls (flat_map lines_of ts) refl refl first
       (rest refl))
 
@@ -281,11 +277,9 @@ all_backs_lead zero s plain good d x at later = (stand s (wanted.Settle d ∷ la
 all_backs_lead (suc k) s plain good d x at later =
     let h = happens s (events.Back d) in
     let p = piece_of_settle s plain good d x at in
-    subst (λ (ts : List Logged). LeadsTowards (stand s (wanted.Settle d ∷ later)) (flat_map lines_of ts) (stand (last_behind s ts)
-    (left_settle ts d later))) (sym (one_back k d s))
+    rw (one_back k d s)
     (more_backs d later s h k (lines_of (logged (Settle d) h)) (is_settled h.end) refl
-    (subst (λ (l : List ReportLine). LeadsTowards (stand s (wanted.Settle d ∷ later)) l
-    (stand h.behind (if is_settled h.end then later else wanted.Settle d ∷ later))) (told_from s (Settle d) h (event_from s (events.Back d))) (p.goes later))
+    (rw (← (told_from s (Settle d) h (event_from s (events.Back d)))) (p.goes later))
     (λ more. all_backs_lead k h.behind (event_plain s plain (events.Back d) tt) (event_so Good AnyEvent good_kept s good (events.Back d) tt) d
     p.there.0.device (device_there h.behind.mounted d p.there.0 p.there.1) later))
 
