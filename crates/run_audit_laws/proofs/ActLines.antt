@@ -1,5 +1,5 @@
 -- What is told of devices to which only acts came, or nothing, or an empty volume.
-use Rattle.std.proofs.Common.{arith, ◌≡◌, ◌⊎◌, ◌++◌, ℕ, Bool, true, false, List, [], ◌∷◌, map, Option, Some, None, length, refl, sym, ap, ◌∙◌, append_assoc, inl, inr}
+use Rattle.std.proofs.Common.{arith, ◌≡◌, ◌⊎◌, ◌++◌, ℕ, true, false, List, [], ◌∷◌, map, Option, Some, None, refl, sym, ap, ◌∙◌, append_assoc, inl}
 use Rattle.std.proofs.lemmas.List.{append-nil, map-append}
 use Rattle.plain_defs.specs.declared.journal.Act.{Act}
 use Rattle.plain_defs.specs.declared.journal.Act.TheVariants.{Loosen, Harden, CfwLost}
@@ -9,12 +9,12 @@ use Rattle.plain_defs.specs.History.{History, OpenEntry, acted, acted_in, emptie
 use Rattle.device_defs.specs.Device.{all_acted}
 use Rattle.device_defs.specs.Marks.{MarksDevice}
 use Rattle.report_text.specs.declared.line.ReportLine.{ReportLine}
-use Rattle.report_text.specs.Events.{loosed_line, program_over_lines}
+use Rattle.report_text.specs.Events.{loosed_line}
 use Rattle.run_report.specs.Beside.{loose_lines, loosed, of_each, over_lines, over_of}
 use Rattle.run_report.proofs.ActsCome.{acts_both, acts_come}
 use Rattle.run_report.proofs.OneDevice.{none_behind}
 use Rattle.run_report.proofs.Quiet.{behind_more}
-use Rattle.subsystem_defs.specs.Beside.{acts_in, acts_of_items, acts_running, behind_first, has_power, new_acts, new_items, power_told, told_act}
+use Rattle.subsystem_defs.specs.Beside.{acts_in, has_power, new_items, told_act}
 use Rattle.run_audit_laws.specs.Steps.{NoLoss, act_line}
 use Rattle.run_audit_laws.proofs.Quiet.{none_loose}
 use Rattle.run_audit_laws.proofs.PieceLines.{acts_no_power}

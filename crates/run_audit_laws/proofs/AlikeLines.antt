@@ -1,90 +1,37 @@
 -- Every line makes of states of an audit whose devices are alike states whose devices are alike, or of both none.
-use Rattle.std.proofs.Common.{arith, ◌≡◌, ◌+◌, ◌==◌, ℕ, Bool, true, false, List, [], ◌∷◌, map, drop, length, Option, Some, None, refl, sym, ap, subst, ◌∙◌, if◌then◌else◌}
-use Rattle.std.specs.Prelude.{◌||◌, ◌&&◌, not, Ok, Err}
+use Rattle.std.proofs.Common.{arith, ◌≡◌, ℕ, Bool, true, false, List, [], ◌∷◌, map, drop, Option, Some, None, refl, sym, ap, subst, ◌∙◌, if◌then◌else◌}
+use Rattle.std.specs.Prelude.{◌&&◌, Ok, Err}
 use Rattle.std.specs.List.{list_any}
 use Rattle.std.proofs.lemmas.Bool.{or_parts}
-use Rattle.ckd_types.specs.declared.channel.Ccw.{Ccw}
 use Rattle.ckd_types.specs.declared.channel.CommandEnd.{CommandEnd}
-use Rattle.ckd_types.specs.declared.sense.Sense.{Sense}
-use Rattle.ckd_types.specs.Sense.{data_check_sense, equipment_sense}
 use Rattle.deck_plan.specs.declared.event.EventLine.{EventLine}
-use Rattle.deck_plan.specs.declared.event.EventLine.TheVariants as events
 use Rattle.plain_defs.specs.declared.journal.Act.{Act}
-use Rattle.plain_defs.specs.declared.journal.Act.TheVariants.{CfwLost, Harden, Loosen}
-use Rattle.plain_defs.specs.History.{OpenEntry, acted, reset_in_history}
+use Rattle.plain_defs.specs.declared.journal.Act.TheVariants.{CfwLost, Harden}
+use Rattle.plain_defs.specs.History.{OpenEntry, reset_in_history}
 use Rattle.plain_defs.specs.Journal.{replay}
-use Rattle.plain_defs.specs.Loose.{is_loose_there}
-use Rattle.plain_defs.specs.PlainState.{PlainState}
 use Rattle.report_text.specs.declared.answers.BackAnswer.{BackAnswer}
-use Rattle.report_text.specs.declared.answers.BackAnswer.TheVariants as back
 use Rattle.report_text.specs.declared.answers.HowOver.TheVariants as how
 use Rattle.report_text.specs.declared.answers.LooseAnswer.TheVariants as loose
 use Rattle.report_text.specs.declared.answers.OrderAnswer.TheVariants as order_answers
-use Rattle.report_text.specs.declared.answers.StartAnswer.{StartAnswer}
 use Rattle.report_text.specs.declared.line.ReportLine.{ReportLine}
 use Rattle.report_text.specs.declared.line.ReportLine.TheVariants as lines
-use Rattle.report_text.specs.Ends.{end_line}
 use Rattle.report_places.specs.declared.state.Did.{Did}
-use Rattle.report_places.specs.declared.state.Did.TheVariants.{CheckEnded, Ended, Halved, Worked}
+use Rattle.report_places.specs.declared.state.Did.TheVariants.{Ended, Halved, Worked}
 use Rattle.report_places.specs.declared.state.Due.{Due}
-use Rattle.report_places.specs.declared.state.Due.TheVariants.{Behind, DataOf, Frames, Losses, Next, Nothing, OverOf, Powers, ResetOf, SenseOf, Totals}
+use Rattle.report_places.specs.declared.state.Due.TheVariants.{Behind, Losses, Next, Powers, ResetOf}
 use Rattle.report_places.specs.declared.state.HalfWrite.{HalfWrite}
 use Rattle.report_places.specs.declared.state.HalfWrite.TheVariants.{Closed, OfCommand}
-use Rattle.report_places.specs.declared.state.Outline.{Outline}
-use Rattle.report_places.specs.Place.{first_event, holds, in_due, is_io, is_of_work, worker_of}
+use Rattle.report_places.specs.Place.{first_event, holds, is_of_work, worker_of}
 use Rattle.report_places.specs.Same.{says}
-use Rattle.deck_audit.specs.Device.{AuditedDevice, check_end, device_in, has_loose, is_next_legal, may_loosen, outline_of, plain_end, start_answer, state_of, with_device, words_of_open}
-use Rattle.deck_audit.specs.History.{
-  act_made,
-  act_of_work,
-  after_start,
-  back_half,
-  behind_end,
-  behind_made,
-  changed,
-  check_made,
-  cut_by,
-  cut_by_power,
-  cut_half,
-  done_order,
-  due_made,
-  end_made,
-  end_made_by,
-  event_made,
-  given_back,
-  harden_made,
-  has_sense,
-  is_last,
-  is_legal,
-  lent_to,
-  loosen_made,
-  loss_line,
-  loss_made,
-  made,
-  made_in,
-  next_made,
-  order_made,
-  place_of,
-  power_cut,
-  power_loss,
-  power_made,
-  reset_made,
-  runs_lent,
-  sense_made,
-  shown,
-  shows_end,
-  start_made,
-  totals_made,
-  without_power,
-  work_made,
-}
+use Rattle.deck_audit.specs.Device.{AuditedDevice, device_in, has_loose, outline_of, with_device}
+use Rattle.deck_audit.specs.History.{act_made, back_half, behind_made, changed, check_made, cut_by_power, cut_half, done_order, due_made, end_made, end_made_by, given_back, harden_made, is_last, is_legal, loosen_made, loss_line, loss_made, made, made_in, next_made, order_made, place_of, power_cut, power_loss, power_made, reset_made, runs_lent, shown, start_made, without_power, work_made}
 use Rattle.deck_audit.specs.Stands.{in_state, stands, stands_in}
-use Rattle.deck_audit.specs.State.{AuditState, behind_work, is_event_over, outlines, over_by, passed, settled, settled_by, settled_in, then_of, worked, worker, worker_number}
+use Rattle.deck_audit.specs.State.{AuditState, behind_work, passed, settled, settled_in, then_of, worker, worker_number}
 use Rattle.report_auditor.specs.declared.status.AuditWhy.TheVariants.{Place}
 use Rattle.report_auditor.specs.Verdict.{judged, or_history}
 use Rattle.run_audit_laws.specs.Standing.{LeadsBy}
-use Rattle.run_audit_laws.proofs.AlikeDevices.{Alike, alike_self, alike_then, back_alike, both, dark_alike, end_same, event_over_same, half_alike, half_same, history_alike, legal_same, lent_runs_same, loose_same, loss_same, may_loosen_same, next_legal_same, number_same, over_same, start_same, state_same, with_alike, words_same, worked_alike}
-use Rattle.run_audit_laws.proofs.Pasts.{Going, IsFew, act_is_read, cut, cut_in, cut_is_read, going_of, reset_is_read}
+use Rattle.run_audit_laws.proofs.AlikeDevices.{Alike, alike_self, alike_then, back_alike, both, dark_alike, end_same, event_over_same, half_alike, half_same, history_alike, legal_same, lent_runs_same, loose_same, loss_same, may_loosen_same, next_legal_same, number_same, over_same, start_same, state_same, with_alike, worked_alike}
+use Rattle.run_audit_laws.proofs.Pasts.{IsFew, act_is_read, cut, cut_in, cut_is_read, going_of, reset_is_read}
 
 abbrev pub AreAlike : List AuditedDevice → List AuditedDevice → Type 0
 AreAlike [] [] = Unit {0}

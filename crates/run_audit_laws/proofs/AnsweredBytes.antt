@@ -1,20 +1,18 @@
 -- What a device answers of itself and of its paths are bytes, where it keeps names and senses of bytes.
-use Rattle.std.proofs.Common.{◌≤◌, ◌<◌, ◌+◌, ◌-◌, ℕ, Bool, true, false, Option, Some, None, if◌then◌else◌, arith}
+use Rattle.std.proofs.Common.{◌≤◌, ◌<◌, ◌+◌, ◌-◌, ℕ, Option, arith}
 use Rattle.std.specs.Prelude.{All, IfSome}
-use Rattle.std.proofs.lemmas.List.Elements.{All-cons, All-from_recursion, All-replicate}
 use Rattle.ckd_types.specs.declared.channel.Ccw.{Ccw}
 use Rattle.ckd_types.specs.declared.geometry.Geometry.{Geometry}
-use Rattle.ckd_types.specs.declared.geometry.Geometry.TheVariants.{D3380, D3390}
 use Rattle.ckd_types.specs.declared.paths.Owner.{Owner}
 use Rattle.ckd_types.specs.declared.paths.PathState.{PathState}
-use Rattle.ckd_types.specs.declared.paths.PathState.TheVariants.{Grouped, Reset, Ungrouped}
+use Rattle.ckd_types.specs.declared.paths.PathState.TheVariants.{Reset}
 use Rattle.ckd_types.specs.declared.sense.Sense.{Sense}
 use Rattle.ckd_types.specs.Sense.{zero_sense}
 use Rattle.ckd_rules.specs.declared.order.LocalAct.{LocalAct}
 use Rattle.ckd_rules.specs.declared.order.LocalAct.TheVariants as acts
 use Rattle.ckd_rules.specs.declared.stance.Stance.{Stance}
 use Rattle.ckd_rules.specs.Acts.{sense_id_bytes}
-use Rattle.ckd_rules.specs.Grouping.{group_bytes, group_id_bytes, is_same_owner, member_bits, mode_bit, owner_by, reserved_bits, state_byte, state_in}
+use Rattle.ckd_rules.specs.Grouping.{group_bytes, group_id_bytes, mode_bit, state_in}
 use Rattle.plain_defs.specs.Acts.{act_bytes, act_outcome}
 use Rattle.plain_defs.specs.PlainState.{PathsState, sense_for, with_sense}
 use Rattle.run_audit_laws.proofs.GivenBytes.{IsByte, are_bytes, at_or, no_bytes}

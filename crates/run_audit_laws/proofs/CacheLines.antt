@@ -1,39 +1,7 @@
 -- FAIL CACHE: that the data of cache fast write of a device are lost is told of one device after another.
-use Rattle.std.proofs.Common.{
-  ◌≡◌,
-  ◌≤◌,
-  ◌<◌,
-  ◌+◌,
-  ◌/◌,
-  ◌%◌,
-  ◌==◌,
-  ◌++◌,
-  ℕ,
-  Bool,
-  true,
-  false,
-  not,
-  List,
-  [],
-  ◌∷◌,
-  map,
-  length,
-  Option,
-  Some,
-  None,
-  refl,
-  sym,
-  ap,
-  subst,
-  ◌∙◌,
-  append_assoc,
-  if◌then◌else◌,
-  arith,
-  inl,
-  inr,
-}
-use Rattle.std.specs.Prelude.{◌||◌, ◌&&◌, ◌⊎◌, Ok, Err, nat_lt, option_map}
-use Rattle.std.proofs.lemmas.Bool.{eq-eqb, ne_eqb, lt-ltb, and_from}
+use Rattle.std.proofs.Common.{◌≡◌, ◌≤◌, ◌<◌, ◌+◌, ◌/◌, ◌%◌, ◌++◌, ℕ, Bool, true, List, [], ◌∷◌, map, length, Option, Some, None, refl, sym, ap, subst, ◌∙◌, append_assoc, if◌then◌else◌, arith, inl, inr}
+use Rattle.std.specs.Prelude.{◌⊎◌, Ok}
+use Rattle.std.proofs.lemmas.Bool.{eq-eqb, lt-ltb, and_from}
 use Rattle.deck_plan.specs.declared.event.EventLine.{EventLine}
 use Rattle.deck_plan.specs.declared.event.EventLine.TheVariants as wanted
 use Rattle.loss_model.specs.declared.Loss.TheVariants as losses
@@ -56,15 +24,12 @@ use Rattle.report_text.specs.declared.order.Order.TheVariants as orders
 use Rattle.report_text.specs.Events.{loosed_line}
 use Rattle.report_places.specs.declared.state.Due.{Due}
 use Rattle.report_places.specs.declared.state.Due.TheVariants.{Next, Losses}
-use Rattle.report_places.specs.declared.state.Outline.{Outline}
-use Rattle.report_places.specs.Place.{holds, outline_in}
-use Rattle.report_places.specs.Same.{says}
+use Rattle.report_places.specs.Place.{outline_in}
 use Rattle.deck_audit.specs.Device as A
 use Rattle.deck_audit.specs.Device.{AuditedDevice, outline_of, state_of, with_device}
-use Rattle.deck_audit.specs.History.{act_made, loss_line, loss_made, order_made}
+use Rattle.deck_audit.specs.History.{loss_line}
 use Rattle.deck_audit.specs.State.{AuditState}
-use Rattle.report_auditor.specs.declared.status.AuditWhy.TheVariants.{Place}
-use Rattle.report_auditor.specs.Verdict.{judged, or_history}
+use Rattle.report_auditor.specs.Verdict.{judged}
 use Rattle.run_report.specs.Beside.{id_of, loose_lines, loosed, of_each, over_lines}
 use Rattle.subsystem_defs.specs.Beside.{loose_count, told_act}
 use Rattle.subsystem_defs.specs.declared.end.EventEnd.TheVariants as ends
@@ -76,12 +41,12 @@ use Rattle.subsystem_defs.specs.Happening.{happens, held_with, quietly, sweep, s
 use Rattle.subsystem_defs.specs.Lines.{Once}
 use Rattle.subsystem_defs.specs.Subsystem.{Mounted, Subsystem, devices_of}
 use Rattle.subsystem_laws.proofs.PlainRuns.{ArePlain, Plainly}
-use Rattle.run_audit_laws.specs.Standing.{LeadsBy, audited, half_by, stand}
+use Rattle.run_audit_laws.specs.Standing.{LeadsBy, audited, half_by}
 use Rattle.run_audit_laws.proofs.ActLines.{acts_over, acts_told}
 use Rattle.run_audit_laws.proofs.DeckNumbers.{RisesFrom}
 use Rattle.run_audit_laws.proofs.Found.{devices, outlined}
 use Rattle.run_audit_laws.proofs.KnownDevices.{count_is, has_is, known}
-use Rattle.run_audit_laws.proofs.Leading.{EventLeads, leads_on, one_leads, then_some}
+use Rattle.run_audit_laws.proofs.Leading.{EventLeads, leads_on, one_leads}
 use Rattle.run_audit_laws.proofs.LossDevices.{IsLoss, cache_acts, lost_acts, number_behind}
 use Rattle.run_audit_laws.proofs.Orders.{IsOrder, down_or}
 use Rattle.run_audit_laws.proofs.ResetDevices.{audited_by}

@@ -1,24 +1,16 @@
 -- The devices that an event line of a deck that was read names are among the deck's.
-use Rattle.std.proofs.Common.{arith, ◌≡◌, ◌==◌, ℕ, Bool, true, false, List, [], ◌∷◌, map, Option, Some, None, Ok, Err, refl, sym, ap, subst, ◌∙◌}
-use Rattle.std.specs.Prelude.{◌||◌, IsSome, Result, if◌then◌else◌}
+use Rattle.std.proofs.Common.{arith, ◌≡◌, ℕ, true, List, [], ◌∷◌, map, Option, Ok}
+use Rattle.std.specs.Prelude.{IsSome, Result}
 use Rattle.ckd_types.specs.declared.paths.Side.{Side}
 use Rattle.deck_plan.specs.declared.event.EventLine.{EventLine}
 use Rattle.deck_plan.specs.declared.event.EventLine.TheVariants as events
-use Rattle.deck_text.specs.declared.keyword.EventPart.{EventPart}
-use Rattle.deck_text.specs.declared.keyword.EventPart.TheVariants as parts
 use Rattle.deck_text.specs.declared.line.DeckWhy.{DeckWhy}
-use Rattle.deck_text.specs.declared.line.DeckWhy.TheVariants.{Number, Words}
 use Rattle.deck_text.specs.declared.line.DeviceLine.{DeviceLine}
 use Rattle.deck_text.specs.DeckLines.{DeckLines}
-use Rattle.deck_text.specs.Events.{device_words, failed_part, fail_by, pair_words, part_words, side_words}
-use Rattle.deck_text.specs.Events as V
-use Rattle.deck_text.specs.Forms.{then_read, declared, device_of, is_declared, needed, path_and_device, path_of}
-use Rattle.deck_text.specs.Forms as F
-use Rattle.deck_text.specs.Numbers.{number_in}
+use Rattle.deck_text.specs.Events.{device_words, fail_by, side_words}
+use Rattle.deck_text.specs.Forms.{then_read, is_declared, path_and_device}
 use Rattle.deck_text.specs.Parse.{parsed}
-use Rattle.deck_text.specs.Words.{one_word, three_words, two_words}
 use Rattle.deck_text.proofs.DeckAgain.{Each, EventOk}
-use Rattle.deck_text.proofs.EventsAgain.{behind_of}
 use Rattle.deck_text.proofs.FormsAgain.{went}
 use Rattle.deck_text.proofs.Reached.{parsed_good}
 use Rattle.device_defs.specs.Marks.{MarksDevice}

@@ -1,15 +1,11 @@
 -- The devices of a deck that was read have rising numbers.
-use Rattle.std.proofs.Common.{◌≡◌, ◌≤◌, ◌<◌, ◌+◌, ℕ, Bool, true, false, List, [], ◌∷◌, ◌++◌, map, Ok, Err, refl, sym, subst, ◌∙◌, arith}
-use Rattle.std.specs.Prelude.{◌&&◌, nat_lt, if◌then◌else◌}
+use Rattle.std.proofs.Common.{◌≡◌, ◌≤◌, ◌+◌, ℕ, true, List, [], ◌∷◌, ◌++◌, map, Ok, arith}
 use Rattle.std.proofs.lemmas.Bool.{ltb-true, and_parts}
 use Rattle.std.proofs.lemmas.List.Folds.{list_all-append}
-use Rattle.deck_text.specs.declared.line.DeckWhy.TheVariants.{Words, Number}
 use Rattle.deck_text.specs.declared.line.DeviceLine.{DeviceLine}
 use Rattle.deck_text.specs.DeckLines.{DeckLines}
-use Rattle.deck_text.specs.Forms.{then_read, device_line, needed, rises, rising}
-use Rattle.deck_text.specs.Numbers.{geometry_of, number_in}
+use Rattle.deck_text.specs.Forms.{rises}
 use Rattle.deck_text.specs.Parse.{parsed}
-use Rattle.deck_text.specs.Words.{three_words}
 use Rattle.deck_text.proofs.DeckAgain.{AllDevices, device_words}
 use Rattle.deck_text.proofs.FormsAgain.{if_ok, went}
 use Rattle.deck_text.proofs.Reached.{parsed_good}

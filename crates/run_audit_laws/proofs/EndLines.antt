@@ -1,28 +1,5 @@
 -- The lines of a command's end, with what it sent and its sense.
-use Rattle.std.proofs.Common.{
-  arith,
-  ◌≡◌,
-  ◌==◌,
-  ◌++◌,
-  ℕ,
-  Bool,
-  true,
-  false,
-  List,
-  [],
-  ◌∷◌,
-  Option,
-  Some,
-  None,
-  refl,
-  sym,
-  ap,
-  subst,
-  ◌∙◌,
-  if◌then◌else◌,
-  inl,
-  inr,
-}
+use Rattle.std.proofs.Common.{arith, ◌≡◌, ◌==◌, ◌++◌, ℕ, Bool, true, false, List, [], ◌∷◌, Option, Some, None, refl, sym, ap, subst, ◌∙◌, if◌then◌else◌}
 use Rattle.std.specs.Prelude.{◌&&◌, Ok, Err}
 use Rattle.std.specs.Str.{bytes_eq}
 use Rattle.std.proofs.lemmas.Bool.{and_from}
@@ -49,7 +26,7 @@ use Rattle.report_places.specs.declared.state.HalfWrite.TheVariants.{Closed}
 use Rattle.report_places.specs.Place.{in_event, is_sense, worker_of}
 use Rattle.report_places.specs.Same.{is_same_end, is_same_note}
 use Rattle.deck_audit.specs.Device.{AuditedDevice, check_end, device_in, plain_end, words_of_open}
-use Rattle.deck_audit.specs.History.{behind_end, check_made, end_made, end_made_by, event_made, has_sense, sense_made, shows_end, work_made}
+use Rattle.deck_audit.specs.History.{behind_end, check_made, end_made_by, event_made, has_sense, sense_made, shows_end, work_made}
 use Rattle.deck_audit.specs.State.{AuditState, outlines, then_of}
 use Rattle.report_auditor.specs.declared.status.AuditWhy.TheVariants.{Place}
 use Rattle.report_auditor.specs.Verdict.{judged, or_history}

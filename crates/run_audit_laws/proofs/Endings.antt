@@ -1,31 +1,6 @@
 -- The lines at the end of a run: each device's totals and lost tracks, the frames, FINISH.
-use Rattle.std.proofs.Common.{
-  ◌≡◌,
-  ◌+◌,
-  ◌-◌,
-  ◌==◌,
-  ◌++◌,
-  ℕ,
-  zero,
-  suc,
-  Bool,
-  true,
-  false,
-  List,
-  [],
-  ◌∷◌,
-  map,
-  length,
-  Option,
-  Some,
-  None,
-  refl,
-  ap,
-  ◌∙◌,
-  if◌then◌else◌,
-  arith,
-}
-use Rattle.std.specs.Prelude.{◌&&◌, All, Ok, Err, drop, nat_lt, slice_get}
+use Rattle.std.proofs.Common.{◌≡◌, ◌+◌, ◌++◌, ℕ, zero, suc, Bool, true, List, [], ◌∷◌, map, length, Option, Some, None, refl, ap, ◌∙◌, if◌then◌else◌, arith}
+use Rattle.std.specs.Prelude.{All, Ok, Err, drop, slice_get}
 use Rattle.std.specs.List.{flat_map}
 use Rattle.std.proofs.lemmas.List.Elements.{All-head, All-tail}
 use Rattle.std.proofs.lemmas.Bool.Decides.{nat_tests}
@@ -39,13 +14,12 @@ use Rattle.report_text.specs.declared.line.ReportLine.TheVariants as lines
 use Rattle.report_places.specs.declared.state.Due.{Due}
 use Rattle.report_places.specs.declared.state.Due.TheVariants.{Totals, Frames, Nothing}
 use Rattle.report_places.specs.declared.state.Outline.{Outline}
-use Rattle.report_places.specs.Place.{holds, in_totals, in_totals_of, is_declared, is_lost_of, is_totals_of}
+use Rattle.report_places.specs.Place.{in_totals, is_declared, is_totals_of}
 use Rattle.deck_audit.specs.Device.{outline_of}
-use Rattle.deck_audit.specs.History.{made_in, totals_made}
-use Rattle.deck_audit.specs.Stands.{stands_in}
+use Rattle.deck_audit.specs.History.{totals_made}
 use Rattle.deck_audit.specs.State.{AuditState, outlines}
 use Rattle.report_auditor.specs.declared.status.AuditWhy.TheVariants.{Place}
-use Rattle.report_auditor.specs.Verdict.{judged, or_history}
+use Rattle.report_auditor.specs.Verdict.{judged}
 use Rattle.run_report.specs.Closing.{device_lines, ending_lines, frame_line}
 use Rattle.subsystem_defs.specs.Closing.{device_end, device_end_by, ending, lost_tracks}
 use Rattle.subsystem_defs.specs.Subsystem.{Mounted, Subsystem}

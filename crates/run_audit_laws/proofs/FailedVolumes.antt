@@ -1,6 +1,6 @@
 -- Behind a piece of work the lines of a volume's failure by which tracks become firm read as more of that work: the audit's devices are alike then.
 use Rattle.std.proofs.Common.{arith, ◌≡◌, ◌==◌, ℕ, Bool, true, false, List, [], ◌∷◌, map, Option, Some, None, refl, sym, ap, subst, ◌∙◌, if◌then◌else◌}
-use Rattle.std.specs.Prelude.{IfSome, Ok, option_map}
+use Rattle.std.specs.Prelude.{IfSome, Ok}
 use Rattle.std.specs.List.{flat_map}
 use Rattle.std.proofs.lemmas.Bool.{eqb-true}
 use Rattle.ckd_types.specs.declared.paths.Side.{Side}
@@ -16,8 +16,8 @@ use Rattle.report_text.specs.declared.line.ReportLine.{ReportLine}
 use Rattle.report_text.specs.declared.line.ReportLine.TheVariants as lines
 use Rattle.report_places.specs.declared.state.Did.{Did}
 use Rattle.report_places.specs.declared.state.Due.{Due}
-use Rattle.report_places.specs.declared.state.Due.TheVariants.{Behind, Next, OverOf}
-use Rattle.report_places.specs.Place.{first_event, holds, in_event, is_of_work, worker_of}
+use Rattle.report_places.specs.declared.state.Due.TheVariants.{Behind, Next}
+use Rattle.report_places.specs.Place.{holds, in_event, is_of_work, worker_of}
 use Rattle.deck_audit.specs.Device.{AuditedDevice, device_in, state_of, with_device}
 use Rattle.deck_audit.specs.History.{act_made, harden_made, is_legal}
 use Rattle.deck_audit.specs.State.{AuditState, is_event_over, outlines, over_by, settled, settled_by, settled_in, then_of, worked, worker, worker_number}

@@ -1,11 +1,8 @@
 -- Where a device's marks are good, a track with a patch isn't loose.
-use Rattle.std.proofs.Common.{◌≡◌, ◌<◌, ◌≤◌, Bool, true, false, length, Option, Some, None, is_some, refl, sym, ap, ◌∙◌, arith, inl, inr}
-use Rattle.std.specs.Prelude.{◌⊎◌}
-use Rattle.std.proofs.lemmas.Bool.{cases_lt, true≢false}
+use Rattle.std.proofs.Common.{is_some, arith}
 use Rattle.std.proofs.lemmas.List.{get_or_past}
 use Rattle.device_defs.specs.Contents.{by_plain}
 use Rattle.device_defs.specs.Marks.{MarksDevice, MarksStore}
-use Rattle.device_defs.specs.Store.{frame_at, half_is, has_level, is_loose, is_lost, patch_at, tracks_of}
 use Rattle.device_laws.proofs.FailedCall.{IsWell}
 use Rattle.device_laws.proofs.TrackMarks as M
 use Rattle.device_laws.proofs.TrackMarks.{is_good, marks}

@@ -1,5 +1,5 @@
 -- The devices of a run as the audit has them: by their numbers, and with another one in the place of one.
-use Rattle.std.proofs.Common.{arith, ◌≡◌, ◌==◌, ℕ, Bool, true, false, List, [], ◌∷◌, map, Option, Some, refl, ap, ◌∙◌, if◌then◌else◌}
+use Rattle.std.proofs.Common.{arith, ◌≡◌, ◌==◌, ℕ, Bool, List, [], ◌∷◌, map, Option, Some, refl, ap, ◌∙◌, if◌then◌else◌}
 use Rattle.std.specs.Prelude.{option_map}
 use Rattle.device_defs.specs.Marks.{MarksDevice}
 use Rattle.deck_audit.specs.Device as A

@@ -1,32 +1,26 @@
 -- A track that becomes firm behind the end of a command reads as one that became so before it.
-use Rattle.std.proofs.Common.{arith, ◌≡◌, ◌++◌, ℕ, Bool, true, false, not, List, [], ◌∷◌, Option, Some, None, refl, sym, ap, subst, ◌∙◌, if◌then◌else◌}
-use Rattle.std.specs.Prelude.{is_some, IfSome, option_map, ◌||◌, ◌&&◌}
+use Rattle.std.proofs.Common.{arith, ◌≡◌, ℕ, Bool, true, false, List, Option, Some, None, refl, sym, ap, subst, ◌∙◌}
+use Rattle.std.specs.Prelude.{is_some, option_map}
 use Rattle.std.proofs.lemmas.Bool.{or_right}
 use Rattle.ckd_types.specs.declared.channel.CommandEnd.{CommandEnd}
 use Rattle.ckd_types.specs.Fixed.{Fixed}
-use Rattle.ckd_types.specs.Parameters.{is_provisional}
 use Rattle.ckd_rules.specs.declared.stance.Stance.{Stance}
-use Rattle.ckd_rules.specs.Walk.{TrackEdit}
 use Rattle.plain_defs.specs.declared.journal.Act.TheVariants.{Harden}
-use Rattle.plain_defs.specs.declared.journal.How.TheVariants.{Full}
 use Rattle.plain_defs.specs.Acknowledged.{EditTold}
-use Rattle.plain_defs.specs.History.{IsOpen, IsPlain, OpenEntry, acted, acted_in}
+use Rattle.plain_defs.specs.History.{IsPlain, OpenEntry, acted, acted_in}
 use Rattle.plain_defs.specs.Journal.{Plans, replay}
-use Rattle.plain_defs.specs.Loose.{is_loose_there, is_loose_in}
-use Rattle.plain_defs.specs.PlainState.{LooseTrack, PlainState}
+use Rattle.plain_defs.specs.Loose.{is_loose_there}
+use Rattle.plain_defs.specs.PlainState.{PlainState}
 use Rattle.plain_defs.specs.Program.{Part}
-use Rattle.report_text.specs.declared.answers.HowOver.TheVariants as how
-use Rattle.report_text.specs.declared.line.ReportLine.{ReportLine}
 use Rattle.report_places.specs.declared.state.Did.{Did}
 use Rattle.report_places.specs.declared.state.Did.TheVariants.{CheckEnded, Ended, Halved, Worked}
 use Rattle.deck_plan.specs.declared.event.EventLine.{EventLine}
-use Rattle.deck_plan.specs.declared.event.EventLine.TheVariants as events
-use Rattle.deck_audit.specs.Device.{AuditedDevice, is_closed, is_edit_legal, is_idle, runs, state_of}
+use Rattle.deck_audit.specs.Device.{AuditedDevice, runs, state_of}
 use Rattle.deck_audit.specs.History.{is_legal}
-use Rattle.deck_audit.specs.State.{is_event_over, over_by, over_line, worked}
+use Rattle.deck_audit.specs.State.{is_event_over, over_by, worked}
 use Rattle.run_audit_laws.proofs.AlikeDevices.{Alike, Seen, edit_in, legal_by, seen, state_in}
 use Rattle.run_audit_laws.proofs.LooseOnce.{fewer_loose}
-use Rattle.run_audit_laws.proofs.Pasts.{Going, IsTidy, Past, act_by, act_is_read, act_now, acted_past, check_is_read, checked_past, end_is_read, ended_by, ended_past, goes_on, going_of, next_part, over_past, untold}
+use Rattle.run_audit_laws.proofs.Pasts.{Going, IsTidy, Past, act_by, act_is_read, act_now, acted_past, check_is_read, checked_past, end_is_read, ended_past, goes_on, going_of, next_part, over_past, untold}
 
 -- behind this piece of work no program is over
 abbrev pub IsQuiet : Did → Option Going → Type 0

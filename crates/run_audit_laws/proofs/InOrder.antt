@@ -1,9 +1,8 @@
 -- What a device does by itself, in its order: it leaves less to do, unless its answer is one that stops.
-use Rattle.std.proofs.Common.{◌≡◌, ◌≢◌, ◌<◌, ◌≤◌, ◌+◌, ◌⊎◌, ℕ, zero, suc, Bool, true, false, List, [], ◌∷◌, Option, Some, None, is_some, length, get_or, set, refl, sym, ap, subst, ◌∙◌, arith, inl, inr}
+use Rattle.std.proofs.Common.{◌≡◌, ◌≢◌, ◌≤◌, ◌+◌, ◌⊎◌, ℕ, zero, suc, Bool, true, false, List, [], ◌∷◌, Option, Some, None, is_some, length, get_or, set, refl, sym, ap, ◌∙◌, arith, inl, inr}
 use Rattle.std.proofs.lemmas.Bool.{cases_eq, or_left, or_right}
 use Rattle.std.specs.Prelude.{◌&&◌, ◌||◌, if◌then◌else◌, not}
 use Rattle.ckd_types.specs.declared.paths.Side.{Side}
-use Rattle.track_table.specs.Tracks.{least}
 use Rattle.device_defs.specs.declared.answers.Did.TheVariants as dids
 use Rattle.device_defs.specs.Background as G
 use Rattle.device_defs.specs.Background.{copies_to, copy_first, destage_first, did, is_destaged, recover_first, stage, stage_first, staged_bytes, to_copy, to_destage, to_recover, work}
@@ -12,7 +11,7 @@ use Rattle.device_defs.specs.Image.{Got}
 use Rattle.device_defs.specs.Marks.{MarksStore}
 use Rattle.device_defs.specs.Owed as O
 use Rattle.device_defs.specs.Owed.{waits, waits_by}
-use Rattle.device_defs.specs.Store.{frame_at, is_lost, is_loose, patch_at, some_up, tracks_of, with_frame}
+use Rattle.device_defs.specs.Store.{frame_at, is_lost, is_loose, patch_at, tracks_of, with_frame}
 use Rattle.device_laws.proofs.Had.{Had, had_ask, had_done, had_if, had_then, had_try}
 use Rattle.device_laws.proofs.Working.{least_found}
 use Rattle.subsystem_defs.specs.Lines.{stops}

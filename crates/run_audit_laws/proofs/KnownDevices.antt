@@ -1,15 +1,14 @@
 -- What an audit knows of a run's device is what the device has marked: its loose tracks, and the number of their data.
-use Rattle.std.proofs.Common.{◌≡◌, ◌==◌, ℕ, suc, Bool, true, false, List, [], ◌∷◌, length, Option, Some, None, is_some, cond, refl, sym, ap, subst, ◌∙◌, arith}
+use Rattle.std.proofs.Common.{◌≡◌, ◌==◌, ℕ, suc, Bool, true, false, List, [], ◌∷◌, length, Option, Some, None, is_some, cond, refl, sym, ap, ◌∙◌, arith}
 use Rattle.std.specs.Prelude.{nat_lt}
 use Rattle.std.proofs.lemmas.Bool.{eq-eqb, true≢false}
 use Rattle.std.proofs.lemmas.Bool.Decides.{nat_tests}
-use Rattle.plain_defs.specs.History.{plain_of}
 use Rattle.plain_defs.specs.Loose.{is_loose_in}
-use Rattle.plain_defs.specs.PlainState.{LooseTrack, PlainState}
+use Rattle.plain_defs.specs.PlainState.{LooseTrack}
 use Rattle.track_table.specs.Tracks.{least}
 use Rattle.device_defs.specs.Marks.{MarksDevice, MarksStore}
 use Rattle.device_defs.specs.Store.{has_loose, is_loose, tracks_of}
-use Rattle.device_laws.proofs.PlainStores.{IsOf, core_of}
+use Rattle.device_laws.proofs.PlainStores.{core_of}
 use Rattle.device_laws.proofs.Working.{least_found}
 use Rattle.deck_audit.specs.Device as A
 use Rattle.deck_audit.specs.Device.{AuditedDevice, state_of}

@@ -1,23 +1,21 @@
 -- How lines lead on: one after another, at an event's first line, and behind a piece of work that is taken as done.
-use Rattle.std.proofs.Common.{arith, ◌≡◌, ◌++◌, Bool, true, false, not, List, [], ◌∷◌, Option, Some, None, refl, sym, ap, subst, ◌∙◌, if◌then◌else◌}
-use Rattle.std.specs.Prelude.{◌||◌, ◌&&◌, Result, Ok, Err}
+use Rattle.std.proofs.Common.{arith, ◌≡◌, ◌++◌, Bool, true, false, List, [], ◌∷◌, Option, Some, refl, ap, subst, if◌then◌else◌}
+use Rattle.std.specs.Prelude.{Result, Ok, Err}
 use Rattle.std.proofs.lemmas.Bool.{or_parts}
 use Rattle.deck_plan.specs.declared.event.EventLine.{EventLine}
 use Rattle.report_text.specs.declared.event.Happened.{Happened}
 use Rattle.report_text.specs.declared.line.ReportLine.{ReportLine}
-use Rattle.report_text.specs.Events.{first_lines, io_lines, last_line, line_if}
+use Rattle.report_text.specs.Events.{first_lines, last_line, line_if}
 use Rattle.report_places.specs.declared.state.Did.{Did}
 use Rattle.report_places.specs.declared.state.Due.{Due}
 use Rattle.report_places.specs.declared.state.Due.TheVariants.{Next, Behind, OverOf}
-use Rattle.report_places.specs.Place.{holds, in_due, in_event, is_io, is_of_work}
-use Rattle.deck_audit.specs.History.{act_of_work, due_made, event_made, is_legal, made_in}
-use Rattle.deck_audit.specs.Stands.{stands_in}
+use Rattle.report_places.specs.Place.{holds, in_due, in_event, is_of_work}
+use Rattle.deck_audit.specs.History.{due_made, event_made, is_legal}
 use Rattle.deck_audit.specs.State.{AuditState, outlines, settled, then_of, worker, worker_number}
 use Rattle.device_defs.specs.Marks.{MarksDevice}
 use Rattle.report_auditor.specs.declared.status.AuditWhy.{AuditWhy}
 use Rattle.report_auditor.specs.declared.status.AuditWhy.TheVariants.{Place}
 use Rattle.report_auditor.specs.Verdict.{judged, or_history}
-use Rattle.run_report.specs.Beside.{loose_lines, over_lines, of_each}
 use Rattle.run_report.specs.Events.{event_lines, work_lines}
 use Rattle.run_report.proofs.OneDevice.{quiet_loose, quiet_over, of_same}
 use Rattle.subsystem_defs.specs.Happening.{EventHappened as Happening}

@@ -1,5 +1,5 @@
 -- What an order makes of a device that is lent.
-use Rattle.std.proofs.Common.{arith, ◌≡◌, ℕ, zero, suc, true, Option, Some, None, is_some, set, refl, ap, ◌∙◌}
+use Rattle.std.proofs.Common.{arith, ◌≡◌, ℕ, zero, suc, Option, Some, is_some, refl}
 use Rattle.std.proofs.lemmas.Bool.{cond_both}
 use Rattle.device_defs.specs.Contents.{by_plain}
 use Rattle.device_defs.specs.Device.{event_begun, event_ended}
@@ -9,9 +9,9 @@ use Rattle.device_defs.specs.Marks.{MarksDevice, MarksStore}
 use Rattle.device_defs.specs.Orders as O
 use Rattle.device_defs.specs.Orders.{given_up, lend, lent_to, with_tracks}
 use Rattle.device_defs.specs.Owed.{noted_end, waiting_count}
-use Rattle.device_defs.specs.Store.{frame_at, owed_at, patch_at, tracks_of, with_frame}
+use Rattle.device_defs.specs.Store.{tracks_of}
 use Rattle.device_laws.proofs.Had.{Had, had_done, had_then}
-use Rattle.device_laws.proofs.PlainStores.{Core, core_of}
+use Rattle.device_laws.proofs.PlainStores.{core_of}
 use Rattle.device_laws.proofs.PlainWalks.{framed_same, patch_same}
 use Rattle.device_laws.proofs.PoolWalks.{asks_had, ended_asks}
 use Rattle.run_audit_laws.specs.Standing.{half_by}

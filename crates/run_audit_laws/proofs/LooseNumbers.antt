@@ -1,23 +1,19 @@
 -- How many tracks of a device are loose, and the number of the data of cache fast write, are numbers of 16 bits.
-use Rattle.std.proofs.Common.{◌≡◌, ◌≤◌, ◌<◌, ◌+◌, ◌*◌, ◌==◌, zero, suc, ℕ, Bool, true, false, List, [], ◌∷◌, length, Option, Some, None, refl, subst, if◌then◌else◌, arith}
+use Rattle.std.proofs.Common.{◌≤◌, ◌<◌, zero, suc, ℕ, List, [], ◌∷◌, Option, arith}
 use Rattle.std.proofs.lemmas.Bool.{eqb-false}
 use Rattle.std.proofs.lemmas.List.Sums.{count_by-le-length}
 use Rattle.ckd_types.specs.declared.channel.Ccw.{Ccw}
 use Rattle.plain_defs.specs.declared.journal.Act.{Act}
-use Rattle.plain_defs.specs.declared.journal.Act.TheVariants.{CfwLost, Harden, Loosen}
 use Rattle.plain_defs.specs.declared.journal.Acted.{Acted}
 use Rattle.plain_defs.specs.declared.journal.Item.{Item}
-use Rattle.plain_defs.specs.declared.journal.Item.TheVariants as items
-use Rattle.plain_defs.specs.History.{OpenEntry, state_by}
-use Rattle.plain_defs.specs.Journal.{Plans, effects_of, program_of, replay, replay_item}
-use Rattle.plain_defs.specs.Loose.{act_done, lost_by_power, next_number}
-use Rattle.plain_defs.specs.PlainState.{LooseTrack, PlainState}
+use Rattle.plain_defs.specs.Journal.{Plans, replay, replay_item}
+use Rattle.plain_defs.specs.Loose.{act_done}
+use Rattle.plain_defs.specs.PlainState.{PlainState}
 use Rattle.plain_defs.specs.Program as G
 use Rattle.plain_defs.specs.Program.{Part, acted_at, acts_at, first_part, part_of, command_run, stepped_at, with_act, with_acts}
 use Rattle.device_defs.specs.Marks.{MarksDevice}
 use Rattle.report_reading.specs.Ranges.{IsShort}
 use Rattle.subsystem_defs.specs.Beside.{loose_count}
-use Rattle.subsystem_defs.specs.Promised.{empty_of}
 use Rattle.subsystem_laws.proofs.PlainRuns.{Plainly}
 use Rattle.run_audit_laws.proofs.KnownDevices.{known}
 

@@ -1,7 +1,7 @@
 -- Each loose track of a plain device stands once in its list, so they are as many as a run's device has marked.
-use Rattle.std.proofs.Common.{◌≡◌, ◌<◌, ◌≤◌, ◌+◌, ◌==◌, ◌++◌, ℕ, zero, suc, Bool, true, false, not, List, [], ◌∷◌, length, Option, Some, None, cond, set, get_or, refl, sym, ap, subst, ◌∙◌, arith, inl, inr}
-use Rattle.std.specs.Prelude.{◌⊎◌, IfSome, IsSome, count_by, fold}
-use Rattle.std.proofs.lemmas.Bool.{cases_lt, eq-eqb, eqb-false, eqb-true, ne_eqb, true≢false}
+use Rattle.std.proofs.Common.{◌≡◌, ◌<◌, ◌+◌, ◌==◌, ◌++◌, ℕ, zero, suc, Bool, true, false, List, [], ◌∷◌, length, Option, None, cond, set, get_or, refl, sym, ap, ◌∙◌, arith}
+use Rattle.std.specs.Prelude.{count_by, fold}
+use Rattle.std.proofs.lemmas.Bool.{eq-eqb, eqb-false, eqb-true, ne_eqb}
 use Rattle.std.proofs.lemmas.List.{get_or-set_other, get_or-set_same, get_or_past}
 use Rattle.std.proofs.lemmas.List.Sums.{sum_by-set}
 use Rattle.ckd_types.specs.declared.channel.Ccw.{Ccw}
@@ -10,12 +10,12 @@ use Rattle.plain_defs.specs.declared.journal.Act.TheVariants.{Loosen, Harden, Cf
 use Rattle.plain_defs.specs.declared.journal.Acted.{Acted}
 use Rattle.plain_defs.specs.declared.journal.Item.{Item}
 use Rattle.plain_defs.specs.declared.journal.Item.TheVariants as items
-use Rattle.plain_defs.specs.History.{History, IsOpen, IsPlain, OpenEntry, plain_of, state_by}
+use Rattle.plain_defs.specs.History.{History, IsPlain, plain_of}
 use Rattle.plain_defs.specs.Journal.{Plans, program_of, replay, replay_item, effects_of}
 use Rattle.plain_defs.specs.Legal.{AreActs, HasActs, IsLegalFrom, bare_part, next_edit, track_of}
 use Rattle.plain_defs.specs.Loose.{act_done, is_loose_in, lost_by_power, without}
 use Rattle.plain_defs.specs.PlainState.{LooseTrack, PlainState}
-use Rattle.plain_defs.specs.Program.{Part, acted_at, acts_at, acts_done, part_of, stepped_at}
+use Rattle.plain_defs.specs.Program.{acts_at, acts_done, part_of}
 use Rattle.plain_defs.proofs.PartLemmas.{acted_beside, part_counts}
 use Rattle.device_laws.proofs.OpenProgram.{part_is_acted, with_acts_state}
 

@@ -1,41 +1,9 @@
 -- What a loss of the cache, of the store or of a side makes of a device: acts of cache fast write, and nothing else that an audit knows.
-use Rattle.std.proofs.Common.{
-  ◌≡◌,
-  ◌<◌,
-  ◌≤◌,
-  ◌++◌,
-  ◌*◌,
-  ◌==◌,
-  ℕ,
-  zero,
-  suc,
-  Bool,
-  true,
-  false,
-  List,
-  [],
-  ◌∷◌,
-  length,
-  Option,
-  Some,
-  None,
-  is_some,
-  set,
-  get_or,
-  refl,
-  sym,
-  ap,
-  subst,
-  ◌∙◌,
-  arith,
-  inl,
-  inr,
-}
+use Rattle.std.proofs.Common.{◌≡◌, ◌<◌, ◌≤◌, ◌++◌, ◌*◌, ℕ, zero, suc, Bool, true, false, List, [], ◌∷◌, length, Option, None, is_some, get_or, refl, sym, ap, subst, ◌∙◌, arith, inl, inr}
 use Rattle.std.specs.Prelude.{◌⊎◌, if◌then◌else◌}
-use Rattle.std.proofs.lemmas.Bool.{cases_lt, cond_both, eqb-false, eqb-true, true≢false}
+use Rattle.std.proofs.lemmas.Bool.{cases_lt, cond_both, eqb-false, true≢false}
 use Rattle.std.proofs.lemmas.List.{get_or-set_other, get_or-set_same, get_or_past, length-set}
 use Rattle.ckd_types.specs.declared.paths.Side.{Side}
-use Rattle.ckd_types.specs.declared.paths.Side.TheVariants as sides
 use Rattle.loss_model.specs.declared.Loss.{Loss}
 use Rattle.loss_model.specs.declared.Loss.TheVariants as losses
 use Rattle.plain_defs.specs.declared.journal.Act.{Act}
@@ -75,25 +43,12 @@ use Rattle.device_defs.specs.Losses.{
 }
 use Rattle.device_defs.specs.Marks.{MarksDevice, MarksStore}
 use Rattle.device_defs.specs.Owed.{noted_begin, hear, waiting_count}
-use Rattle.device_defs.specs.Store.{
-  frame_at,
-  half_is,
-  has_level,
-  has_loose,
-  is_loose,
-  is_lost,
-  owed_at,
-  patch_at,
-  tracks_of,
-  with_frame,
-  with_lost,
-}
-use Rattle.device_defs.specs.Store as store
+use Rattle.device_defs.specs.Store.{has_loose, is_loose, patch_at, tracks_of, with_lost}
 use Rattle.device_laws.proofs.CacheLost.{none_below}
 use Rattle.device_laws.proofs.Had.{Had, had_done, had_if, had_tell, had_then, had_weaker}
 use Rattle.device_laws.proofs.PlainEvents.{had_both}
 use Rattle.device_laws.proofs.PlainLosses.{Walked, losing_goes, walks_first}
-use Rattle.device_laws.proofs.PlainStores.{Core, Open, Stays, core_of, hardened_core, loose_at}
+use Rattle.device_laws.proofs.PlainStores.{Core, core_of, hardened_core, loose_at}
 use Rattle.device_laws.proofs.PlainTurns.{Follows}
 use Rattle.device_laws.proofs.PlainWalks.{ended_same, framed_same, over_holds, settled_holds, side_holds, told_holds}
 use Rattle.device_laws.proofs.PoolWalks.{asks_had, hear_asks}

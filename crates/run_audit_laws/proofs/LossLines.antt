@@ -1,13 +1,13 @@
 -- FAIL STORE, which tells nothing of the devices, and FAIL VOLUME, which tells of each track that becomes firm.
-use Rattle.std.proofs.Common.{arith, ◌≡◌, ◌++◌, ℕ, Bool, true, false, not, List, [], ◌∷◌, map, Option, Some, None, refl, sym, ap, subst, ◌∙◌, if◌then◌else◌, inl}
-use Rattle.std.specs.Prelude.{◌||◌, IfSome, Ok, Err}
+use Rattle.std.proofs.Common.{arith, ◌≡◌, ◌++◌, ℕ, Bool, true, false, not, List, [], ◌∷◌, map, Option, Some, None, refl, sym, ap, subst, ◌∙◌, if◌then◌else◌}
+use Rattle.std.specs.Prelude.{IfSome, Ok, Err}
 use Rattle.ckd_types.specs.declared.paths.Side.{Side}
 use Rattle.deck_plan.specs.declared.event.EventLine.{EventLine}
 use Rattle.deck_plan.specs.declared.event.EventLine.TheVariants as wanted
 use Rattle.loss_model.specs.declared.Loss.TheVariants as losses
 use Rattle.plain_defs.specs.declared.journal.Act.{Act}
 use Rattle.plain_defs.specs.declared.journal.Act.TheVariants.{Loosen, Harden, CfwLost}
-use Rattle.plain_defs.specs.History.{IsPlain, acted, plain_of}
+use Rattle.plain_defs.specs.History.{IsPlain, acted}
 use Rattle.plain_defs.specs.Legal.{AreActs}
 use Rattle.plain_defs.specs.Loose.{is_loose_there}
 use Rattle.plain_defs.specs.PlainState.{PlainState}
@@ -30,11 +30,9 @@ use Rattle.report_text.specs.declared.order.Order.TheVariants as orders
 use Rattle.report_places.specs.declared.state.Due.TheVariants.{Next}
 use Rattle.deck_audit.specs.Device as A
 use Rattle.deck_audit.specs.Device.{AuditedDevice, state_of, with_device}
-use Rattle.deck_audit.specs.History.{act_made, harden_made}
-use Rattle.deck_audit.specs.State.{AuditState, passed, then_of}
+use Rattle.deck_audit.specs.State.{AuditState, passed}
 use Rattle.report_auditor.specs.declared.status.AuditWhy.TheVariants.{Place}
 use Rattle.report_auditor.specs.Verdict.{judged, or_history}
-use Rattle.run_report.specs.Answers.{order_answer}
 use Rattle.run_report.specs.Beside.{loose_lines, over_lines}
 use Rattle.run_report.specs.Events.{event_lines, work_lines}
 use Rattle.run_report.specs.OneDevice.{lines_at}

@@ -1,18 +1,14 @@
 -- The paths and devices that the events of a deck that was read name are in their ranges.
-use Rattle.std.proofs.Common.{arith, ◌≡◌, ◌<◌, ◌==◌, zero, suc, ℕ, Bool, true, false, List, [], ◌∷◌, map, Ok, refl, subst}
-use Rattle.std.specs.Prelude.{◌||◌, All, Result}
-use Rattle.std.proofs.lemmas.Bool.{cond_both, eqb-true}
+use Rattle.std.proofs.Common.{arith, ◌≡◌, ◌<◌, zero, suc, ℕ, true, List, [], ◌∷◌, map, Ok}
+use Rattle.std.specs.Prelude.{All, Result}
+use Rattle.std.proofs.lemmas.Bool.{cond_both}
 use Rattle.std.proofs.lemmas.List.Elements.{All-append, All-cons, All-head, All-nil, All-tail}
 use Rattle.deck_plan.specs.declared.event.EventLine.{EventLine}
-use Rattle.deck_plan.specs.declared.event.EventLine.TheVariants as wanted
 use Rattle.deck_text.specs.declared.line.DeckWhy.{DeckWhy}
-use Rattle.deck_text.specs.declared.line.DeckWhy.TheVariants.{Number, Words}
 use Rattle.deck_text.specs.declared.line.DeviceLine.{DeviceLine}
 use Rattle.deck_text.specs.DeckLines.{DeckLines}
-use Rattle.deck_text.specs.Forms.{then_read, device_of, is_declared, needed, path_and_device, path_of}
-use Rattle.deck_text.specs.Numbers.{number_in}
+use Rattle.deck_text.specs.Forms.{then_read, is_declared, path_and_device}
 use Rattle.deck_text.specs.Parse.{parsed}
-use Rattle.deck_text.specs.Words.{two_words}
 use Rattle.deck_text.proofs.DeckAgain.{Each, EventOk}
 use Rattle.deck_text.proofs.EventsAgain.{behind_of}
 use Rattle.deck_text.proofs.FormsAgain.{if_ok, needed_is, number_range, went}
@@ -22,12 +18,9 @@ use Rattle.subsystem_defs.specs.declared.event.Event.{Event}
 use Rattle.subsystem_defs.specs.declared.event.Event.TheVariants as events
 use Rattle.subsystem_defs.specs.Decks as D
 use Rattle.subsystem_defs.specs.Decks.{opened, run_of}
-use Rattle.subsystem_defs.specs.Happening.{happens}
 use Rattle.subsystem_defs.specs.Lines as L
 use Rattle.subsystem_defs.specs.Lines.{Asked, Logged, Once, Replace, Run, Settle, Unpair, asked_by, backs, is_busy, is_settled, last_behind, line_logged, logged, most_backs, most_steps, run_lines, step_logged, steps}
-use Rattle.subsystem_defs.specs.Subsystem.{Subsystem, mounted_in}
-use Rattle.subsystem_defs.specs.Happening.{quietly}
-use Rattle.subsystem_defs.specs.declared.end.EventEnd.TheVariants as ends
+use Rattle.subsystem_defs.specs.Subsystem.{Subsystem}
 use Rattle.subsystem_laws.specs.Waits.{AreNumbered}
 use Rattle.subsystem_laws.proofs.ReadDecks.{read_numbered}
 use Rattle.run_audit_laws.proofs.DeckEvents.{OfNamed, read_names}

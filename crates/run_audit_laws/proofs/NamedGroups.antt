@@ -1,12 +1,10 @@
 -- On a plain device whose programs give bytes each path group has a name of eleven bytes, and who holds the device is such a group or a path.
-use Rattle.std.proofs.Common.{arith, ◌≡◌, ◌==◌, ◌-◌, ℕ, Bool, true, false, List, [], ◌∷◌, map, Option, Some, None, if◌then◌else◌}
+use Rattle.std.proofs.Common.{arith, ◌≡◌, ◌-◌, ℕ, Bool, true, false, List, [], ◌∷◌, map, Option, if◌then◌else◌}
 use Rattle.std.specs.Prelude.{All, IfSome, slice_index_or, slice_set}
-use Rattle.std.specs.List.{list_any}
-use Rattle.std.proofs.lemmas.List.Elements.{All-cons, All-head, All-nil, All-set, All-tail}
+use Rattle.std.proofs.lemmas.List.Elements.{All-head, All-nil, All-set, All-tail}
 use Rattle.ckd_types.specs.declared.channel.Ccw.{Ccw}
 use Rattle.ckd_types.specs.declared.paths.GroupId.{GroupId}
 use Rattle.ckd_types.specs.declared.paths.Owner.{Owner}
-use Rattle.ckd_types.specs.declared.paths.Owner.TheVariants.{Group, Path}
 use Rattle.ckd_types.specs.declared.paths.PathState.{PathState}
 use Rattle.ckd_types.specs.declared.paths.PathState.TheVariants.{Grouped, Reset, Ungrouped}
 use Rattle.ckd_types.specs.Fixed.{Fixed}
@@ -15,9 +13,9 @@ use Rattle.ckd_rules.specs.declared.grouping.GroupFault.{GroupFault}
 use Rattle.ckd_rules.specs.declared.opening.Opening.{Opening}
 use Rattle.ckd_rules.specs.declared.opening.Opening.TheVariants as openings
 use Rattle.ckd_rules.specs.declared.order.LocalAct.{LocalAct}
-use Rattle.ckd_rules.specs.declared.order.LocalAct.TheVariants.{Release, Reserve, Sense, SenseGroup, SenseId, SetGroup, Steal}
+use Rattle.ckd_rules.specs.declared.order.LocalAct.TheVariants.{SetGroup}
 use Rattle.ckd_rules.specs.declared.stance.Stance.{Stance}
-use Rattle.ckd_rules.specs.Grouping.{disbanded, establishes, is_in_group, owner_after, owner_by, owner_joined, owner_left, owner_set, paths_set, resigns, asks_multipath}
+use Rattle.ckd_rules.specs.Grouping.{disbanded, establishes, is_in_group, owner_after, owner_by, owner_left, paths_set, resigns, asks_multipath}
 use Rattle.plain_defs.specs.Acts.{act_fault, paths_after}
 use Rattle.plain_defs.specs.Effect.{acted_by, effect_by}
 use Rattle.plain_defs.specs.PlainState.{PathsState, reset_path}

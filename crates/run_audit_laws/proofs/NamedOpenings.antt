@@ -1,39 +1,26 @@
 -- A command whose word gives bytes asks for a path group by eleven bytes, and sends none where it is over before it looks at a track or asks the device.
-use Rattle.std.proofs.Common.{ℕ, Bool, true, false, Option, Some, None, Result, Ok, Err, refl, if◌then◌else◌, arith}
-use Rattle.std.specs.Prelude.{IfSome, drop, nat_lt, not, take}
+use Rattle.std.proofs.Common.{Bool, Option, Result, Ok, Err, if◌then◌else◌, arith}
+use Rattle.std.specs.Prelude.{IfSome, drop, take}
 use Rattle.std.proofs.lemmas.List.{length-drop, length-take}
 use Rattle.std.proofs.lemmas.List.Elements.{All-drop, All-take}
 use Rattle.ckd_types.specs.declared.channel.Ccw.{Ccw}
 use Rattle.ckd_types.specs.declared.command.Command.{Command}
 use Rattle.ckd_types.specs.declared.command.Control.{Control}
 use Rattle.ckd_types.specs.declared.command.DeviceCommand.{DeviceCommand}
-use Rattle.ckd_types.specs.declared.command.DeviceCommand.TheVariants as devices
-use Rattle.ckd_types.specs.declared.command.Read.{Read}
-use Rattle.ckd_types.specs.declared.command.ReadArea.{ReadArea}
 use Rattle.ckd_types.specs.declared.parameters.Domain.{Domain}
-use Rattle.ckd_types.specs.declared.parameters.Extent.{Extent}
 use Rattle.ckd_types.specs.declared.sense.Sense.{Sense}
 use Rattle.ckd_types.specs.Commands.{command_of}
-use Rattle.ckd_types.specs.Commands.{required_count}
 use Rattle.ckd_types.specs.Fixed.{Fixed}
-use Rattle.ckd_types.specs.declared.parameters.ParamFault.{ParamFault}
 use Rattle.ckd_types.specs.Parameters.{given}
 use Rattle.ckd_rules.specs.declared.order.Look.{Look}
 use Rattle.ckd_rules.specs.declared.order.CommandOrder.{CommandOrder}
 use Rattle.ckd_rules.specs.declared.stance.Place.{Place}
 use Rattle.ckd_rules.specs.declared.stance.Stance.{Stance}
-use Rattle.ckd_rules.specs.Control.{unseen_place}
-use Rattle.ckd_rules.specs.Finding.{track_after}
 use Rattle.ckd_types.specs.declared.command.Command.TheVariants as commands
-use Rattle.ckd_types.specs.declared.command.Control.TheVariants as controls
-use Rattle.ckd_types.specs.declared.command.ReadArea.TheVariants as reads
-use Rattle.ckd_types.specs.declared.command.Write.TheVariants as writes
-use Rattle.ckd_rules.specs.declared.order.Look.TheVariants as looks
 use Rattle.ckd_rules.specs.declared.order.CommandOrder.TheVariants as orders
-use Rattle.ckd_rules.specs.declared.stance.Place.TheVariants as places
 use Rattle.ckd_rules.specs.Checks as C
 use Rattle.ckd_rules.specs.Checks.{device_act}
-use Rattle.ckd_rules.specs.Opening.{begun, locating, look_from, moved, opening_with, opening_of, read_from}
+use Rattle.ckd_rules.specs.Opening.{locating, look_from, opening_with, opening_of}
 use Rattle.plain_defs.specs.Whole.{GivesBytes}
 use Rattle.report_reading.specs.Ranges.{AreBytes}
 use Rattle.run_audit_laws.proofs.GivenBytes.{IsByte, as_bytes, padded_are, padded_length}

@@ -1,25 +1,19 @@
 -- An event line at which something is lost, or two devices become a pair or part, behind the run of a deck.
-use Rattle.std.proofs.Common.{◌≡◌, ◌≤◌, ℕ, List, [], ◌∷◌, Option, Some, None, refl, arith}
+use Rattle.std.proofs.Common.{◌≡◌, ◌≤◌, ℕ, List, [], ◌∷◌, refl, arith}
 use Rattle.std.specs.Prelude.{Ok}
 use Rattle.deck_plan.specs.declared.event.EventLine.{EventLine}
-use Rattle.deck_plan.specs.declared.event.EventLine.TheVariants as wanted
 use Rattle.deck_text.specs.DeckLines.{DeckLines}
 use Rattle.deck_text.specs.Parse.{parsed}
-use Rattle.subsystem_defs.specs.declared.end.OrderFault.{OrderFault}
-use Rattle.subsystem_defs.specs.declared.event.Event.TheVariants as events
 use Rattle.subsystem_defs.specs.Decks.{opened, run_of}
-use Rattle.subsystem_defs.specs.Deeds.{device_in}
 use Rattle.subsystem_defs.specs.Happening as H
 use Rattle.subsystem_defs.specs.Happening.{unpaired, unpaired_at, unpaired_by}
 use Rattle.subsystem_defs.specs.Lines as L
 use Rattle.subsystem_defs.specs.Lines.{Unpair, asked_by, last_behind, line_logged, logged}
-use Rattle.subsystem_defs.specs.Refusals.{unpair_fault}
-use Rattle.subsystem_defs.specs.Subsystem.{Mounted, Subsystem, devices_of, mounted_in, unfailing}
+use Rattle.subsystem_defs.specs.Subsystem.{Subsystem, unfailing}
 use Rattle.run_audit_laws.specs.Ordered.{AllLead, IsLossOrPair, IsNoWork}
-use Rattle.run_audit_laws.specs.Standing.{HasDevice, LineLeads}
+use Rattle.run_audit_laws.specs.Standing.{LineLeads}
 use Rattle.run_audit_laws.proofs.Behind.{AllSo, IsBehind, deck_all_so, rising, run_is_behind}
 use Rattle.run_audit_laws.proofs.CacheLines.{fail_cache_leads}
-use Rattle.run_audit_laws.proofs.DeckEvents.{OfNamed}
 use Rattle.run_audit_laws.proofs.LossLines.{fail_store_leads, fail_volume_leads}
 use Rattle.run_audit_laws.proofs.PairLines.{pair_leads, unpair_leads}
 use Rattle.run_audit_laws.proofs.PowerLines.{power_leads}

@@ -1,12 +1,11 @@
 -- Each frame that a device wants is one of its own tracks, and of those that it comes to: what this says of an interaction, and the calls of how an
 -- event begins and ends, of the choice of a write, of what a write that is done leaves and of what a miss does with its bytes.
-use Rattle.std.proofs.Common.{arith, ◌≡◌, ℕ, zero, suc, Bool, true, false, Option, Some, None, is_some}
+use Rattle.std.proofs.Common.{arith, ◌≡◌, ℕ, zero, suc, Bool, Option, Some, None, is_some}
 use Rattle.std.specs.Prelude.{◌==◌, ◌&&◌, if◌then◌else◌}
 use Rattle.ckd_types.specs.declared.parameters.Mode.{Mode}
 use Rattle.ckd_types.specs.declared.paths.Side.{Side}
 use Rattle.track_image.specs.Image.{Image}
 use Rattle.device_outside.specs.declared.port.SlotGrant.{SlotGrant}
-use Rattle.device_outside.specs.declared.port.SlotGrant.TheVariants as grants
 use Rattle.device_outside.specs.Interaction.{Interaction, Done, Try, Ask, Read, Write, Tell, and_then}
 use Rattle.device_outside.specs.Keeper.{Message, ReplyTo}
 use Rattle.device_outside.specs.Pool.{Call, WantFrame, AnswerTo}
@@ -16,7 +15,6 @@ use Rattle.device_defs.specs.Choosing as G
 use Rattle.device_defs.specs.Choosing.{slot_by, fast_by, may_be_fast, fast_or_through, choose_loose, choose_firm, choose}
 use Rattle.device_defs.specs.Image as I
 use Rattle.device_defs.specs.Image.{Got, ahead, delivered, filled, loaded, loads, missed}
-use Rattle.device_defs.specs.Losses.{slot_in}
 use Rattle.device_defs.specs.Memory.{and_had, had_by, tried}
 use Rattle.device_defs.specs.Owed as O
 use Rattle.device_defs.specs.Owed.{is_clean, is_modified, heard, hear, freed_told, settles_debt, is_owed, all_told, waiting_count, noted_end}

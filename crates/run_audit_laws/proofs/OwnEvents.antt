@@ -9,7 +9,6 @@ use Rattle.ckd_chain.specs.Steps.{need_of, stepped}
 use Rattle.loss_model.specs.declared.Loss.{Loss}
 use Rattle.loss_model.specs.declared.Loss.TheVariants as losses
 use Rattle.plain_defs.specs.History.{OpenEntry, has_used}
-use Rattle.plain_device.specs.Acted.{settled_act, paths_behind}
 use Rattle.track_image.specs.Image.{Image}
 use Rattle.device_outside.specs.Interaction.{Interaction, Done, and_then}
 use Rattle.device_defs.specs.declared.usage.Usage.{Usage}
@@ -22,13 +21,13 @@ use Rattle.device_defs.specs.Cutting.{half_cut, power, powered_off, reset, reset
 use Rattle.device_defs.specs.Device.{Device, with_store, event_begun, quiet_event, event}
 use Rattle.device_defs.specs.Events as E
 use Rattle.device_defs.specs.Events.{background, command_ended, lose, losing, second, second_ended, second_of, second_turn, with_loss}
-use Rattle.device_defs.specs.Image.{Imaged, Has, NoBytes, BadTrack}
+use Rattle.device_defs.specs.Image.{Imaged}
 use Rattle.device_defs.specs.Losses.{over}
 use Rattle.device_defs.specs.Orders as O
 use Rattle.device_defs.specs.Orders.{given_up, lend, lent_to, with_tracks}
-use Rattle.device_defs.specs.Outcomes.{Turn, ends_with, settles, checks, usage_of}
+use Rattle.device_defs.specs.Outcomes.{Turn, ends_with, checks, usage_of}
 use Rattle.device_defs.specs.Owed.{hear, waiting_count}
-use Rattle.device_defs.specs.Store.{Origin, OfCommand, OfCut, OfBackground, HalfWrite, Store, is_lost, tracks_of}
+use Rattle.device_defs.specs.Store.{Origin, OfCommand, HalfWrite, Store, is_lost, tracks_of}
 use Rattle.deck_text.proofs.DeckAgain.{Each}
 use Rattle.device_defs.specs.Memory.{had_by}
 use Rattle.device_laws.proofs.Based.{Base}

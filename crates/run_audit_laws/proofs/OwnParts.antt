@@ -4,21 +4,18 @@ use Rattle.std.specs.Prelude.{◌||◌}
 use Rattle.ckd_types.specs.declared.paths.Side.{Side}
 use Rattle.ckd_types.specs.declared.paths.Side.TheVariants.{A, B}
 use Rattle.ckd_types.specs.declared.record.Edit.{Edit}
-use Rattle.ckd_types.specs.Parameters.{is_bypass}
 use Rattle.loss_model.specs.declared.Loss.{Loss}
 use Rattle.track_image.specs.Image.{Image}
 use Rattle.device_outside.specs.Interaction.{Interaction}
 use Rattle.device_defs.specs.declared.answers.Choice.{Choice}
-use Rattle.device_defs.specs.declared.answers.Choice.TheVariants.{Provisional, Fast, Through}
 use Rattle.device_defs.specs.declared.answers.Did.{Did}
-use Rattle.device_defs.specs.declared.answers.Did.TheVariants.{Recovered}
 use Rattle.device_defs.specs.declared.answers.Took.{Took}
 use Rattle.device_defs.specs.declared.answers.Took.TheVariants.{Whole, Opened, Unwritten}
 use Rattle.device_defs.specs.declared.usage.Usage.{Usage}
 use Rattle.device_defs.specs.Background as B
 use Rattle.device_defs.specs.Background.{other, copies_to, to_copy, to_recover, to_destage, saved_by, saved, recovered_image, recovered_bytes, recover, copied, copy_read, copy_by, unfilled, staged_image, staged_bytes, stage, destage_first, stage_first, copy_first, recover_first, work}
 use Rattle.device_defs.specs.Contents.{Contents}
-use Rattle.device_defs.specs.Cutting.{origin_cut, half_cut}
+use Rattle.device_defs.specs.Cutting.{half_cut}
 use Rattle.device_defs.specs.Editing as E
 use Rattle.device_defs.specs.Editing.{whole, at_once, through_by, through, write_by, written, clean_again, unchosen, write_chosen, write}
 use Rattle.device_defs.specs.Effects.{hardened}
@@ -29,7 +26,7 @@ use Rattle.device_defs.specs.Losses as L
 use Rattle.device_defs.specs.Losses.{all_firm_told, side_lost, call_failed}
 use Rattle.device_defs.specs.Second as D
 use Rattle.device_defs.specs.Second.{half_image_of, half_closed, finished, second_done, left_by, second_part}
-use Rattle.device_defs.specs.Store.{Origin, OfCommand, OfCut, OfBackground, HalfWrite, Store, tracks_of, level_at, has_level, owed_at, takes_b, frame_at, is_lost, is_loose, with_frame}
+use Rattle.device_defs.specs.Store.{Origin, OfCommand, OfBackground, HalfWrite, Store, tracks_of, level_at, owed_at, takes_b, frame_at, is_lost, is_loose}
 use Rattle.device_defs.specs.Writing as V
 use Rattle.device_defs.specs.Writing.{write_counted, firm_first, alone_b, first_a, write_first, tried_b, write_second, write_opened}
 use Rattle.deck_text.proofs.DeckAgain.{Each}

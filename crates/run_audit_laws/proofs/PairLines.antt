@@ -1,31 +1,22 @@
 -- PAIR and UNPAIR: a device is lent, or comes back empty.
-use Rattle.std.proofs.Common.{◌≡◌, ◌≤◌, ◌==◌, ◌++◌, ℕ, Bool, true, false, List, [], ◌∷◌, map, Option, Some, None, refl, sym, ap, subst, ◌∙◌, if◌then◌else◌, arith, inl, inr}
-use Rattle.std.specs.Prelude.{◌&&◌, ◌||◌}
+use Rattle.std.proofs.Common.{◌≡◌, ◌≤◌, ◌==◌, ℕ, Bool, true, false, List, [], ◌∷◌, map, Option, Some, None, refl, sym, ap, subst, ◌∙◌, if◌then◌else◌, arith}
 use Rattle.std.specs.List.{list_any}
 use Rattle.deck_plan.specs.declared.event.EventLine.TheVariants as wanted
 use Rattle.device_outside.specs.Told.{Calls}
-use Rattle.plain_defs.specs.History.{History, OpenEntry, emptied}
-use Rattle.plain_defs.specs.Journal.{Plans}
-use Rattle.plain_defs.specs.PlainState.{empty_state}
-use Rattle.ckd_types.specs.declared.geometry.Geometry.{Geometry}
 use Rattle.device_defs.specs.Contents.{by_plain}
 use Rattle.device_defs.specs.Marks.{MarksDevice}
-use Rattle.device_defs.specs.Orders.{join, lend, restore, split}
+use Rattle.device_defs.specs.Orders.{join, lend, split}
 use Rattle.device_laws.proofs.Had.{held}
-use Rattle.device_laws.proofs.PlainTurns.{IsAtHome}
 use Rattle.report_text.specs.declared.answers.OrderAnswer.TheVariants as answers
 use Rattle.report_text.specs.declared.event.Happened.TheVariants as did
-use Rattle.report_text.specs.declared.line.ReportLine.{ReportLine}
 use Rattle.report_text.specs.declared.line.ReportLine.TheVariants as lines
 use Rattle.report_text.specs.declared.order.Order.{Order}
 use Rattle.report_text.specs.declared.order.Order.TheVariants as orders
-use Rattle.report_places.specs.declared.state.HalfWrite.{HalfWrite}
 use Rattle.deck_audit.specs.Device as A
 use Rattle.deck_audit.specs.Device.{AuditedDevice, runs, with_device}
 use Rattle.deck_audit.specs.History as M
 use Rattle.deck_audit.specs.History.{given_back, runs_lent}
 use Rattle.deck_audit.specs.State.{passed, then_of}
-use Rattle.run_report.specs.Beside.{of_each, over_lines}
 use Rattle.run_report.specs.Events.{work_lines}
 use Rattle.subsystem_defs.specs.declared.end.EventEnd.TheVariants as ends
 use Rattle.subsystem_defs.specs.declared.end.OrderFault.{OrderFault}
@@ -62,7 +53,6 @@ use Rattle.run_audit_laws.proofs.Found.{devices, found_one, mounted_too, put_at,
 use Rattle.run_audit_laws.proofs.Leading.{EventLeads, then_some}
 use Rattle.run_audit_laws.proofs.LentDevices.{IsLent, lend_makes}
 use Rattle.run_audit_laws.proofs.Orders.{IsOrder, ordered, refused_leads, told_leads}
-use Rattle.run_audit_laws.proofs.Saying.{same_order}
 use Rattle.run_audit_laws.proofs.Ties.{lent_count, lent_stays, may_pair, one_if, others_stay, ties, turned}
 
 -- Where no device tells anything

@@ -1,6 +1,6 @@
 -- What an audit reads of a device's past: behind which end of a command an act stood isn't read, only what the plain device then is.
-use Rattle.std.proofs.Common.{◌≡◌, ◌+◌, ◌-◌, ◌==◌, ◌++◌, ℕ, zero, suc, Bool, true, false, List, [], ◌∷◌, map, length, Option, Some, None, refl, arith, sym, ap, ◌∙◌, if◌then◌else◌}
-use Rattle.std.specs.Prelude.{IfSome, option_map, is_some}
+use Rattle.std.proofs.Common.{◌≡◌, ◌+◌, ◌==◌, ◌++◌, ℕ, zero, suc, Bool, true, false, List, [], ◌∷◌, map, length, Option, Some, None, refl, arith, sym, ap, ◌∙◌, if◌then◌else◌}
+use Rattle.std.specs.Prelude.{IfSome, option_map}
 use Rattle.std.proofs.lemmas.List.{map-append}
 use Rattle.ckd_types.specs.declared.channel.Ccw.{Ccw}
 use Rattle.ckd_types.specs.declared.channel.CommandEnd.{CommandEnd}
@@ -15,7 +15,7 @@ use Rattle.plain_defs.specs.Journal.{Plans, last_sense, program_of, replay, repl
 use Rattle.plain_defs.specs.Legal.{AreInOrder, is_started, is_used, started_by, used_by}
 use Rattle.plain_defs.specs.Loose.{act_done, power_off}
 use Rattle.plain_defs.specs.PlainState.{PlainState, reset_path, with_sense}
-use Rattle.plain_defs.specs.Program.{Part, acts_made as acted_part, acted_at, part_of, command_run, stepped_at, with_act, with_acts}
+use Rattle.plain_defs.specs.Program.{Part, part_of, command_run, with_act}
 use Rattle.plain_defs.proofs.JournalLaws.{replay-append}
 use Rattle.plain_defs.proofs.PartLemmas.{acted_beside, first_next, part_counts, part_more}
 use Rattle.device_laws.proofs.HistoryEnds.{one_longer}

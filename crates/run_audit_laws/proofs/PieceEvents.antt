@@ -18,16 +18,13 @@ use Rattle.report_text.specs.declared.event.Happened.{Happened}
 use Rattle.report_text.specs.declared.event.Happened.TheVariants as did
 use Rattle.report_text.specs.declared.line.ReportLine.{ReportLine}
 use Rattle.report_text.specs.declared.line.ReportLine.TheVariants as lines
-use Rattle.report_places.specs.declared.state.Due.TheVariants.{Next}
-use Rattle.report_places.specs.declared.state.HalfWrite.{HalfWrite}
 use Rattle.report_places.specs.declared.state.HalfWrite.TheVariants as half
 use Rattle.report_places.specs.declared.state.Outline.{Outline}
 use Rattle.report_places.specs.Same.{says}
-use Rattle.report_places.specs.Place.{holds, in_event, in_steps, may_step}
-use Rattle.deck_audit.specs.Device.{AuditedDevice, is_closed, is_idle, open_program, outline_of, runs}
+use Rattle.report_places.specs.Place.{holds, in_event, may_step}
+use Rattle.deck_audit.specs.Device.{AuditedDevice, is_closed, is_idle, outline_of, runs}
 use Rattle.deck_audit.specs.History.{work_made}
 use Rattle.deck_audit.specs.State.{AuditState, passed}
-use Rattle.report_auditor.specs.Verdict.{or_history}
 use Rattle.run_report.specs.Events.{event_lines, running_by, running_in, running_program, work_lines, work_told}
 use Rattle.run_report.specs.OneDevice.{device_lines, lines_at}
 use Rattle.run_report.proofs.OneDevice.{tells_alone}
@@ -42,10 +39,10 @@ use Rattle.subsystem_defs.specs.Lines.{Asked, Once, Run, Settle, is_busy, is_set
 use Rattle.subsystem_defs.specs.Subsystem.{Mounted, Subsystem, devices_of, mounted_in, number_of, put_in, with_mounted}
 use Rattle.subsystem_laws.proofs.GoodMarks.{Good, by_lent}
 use Rattle.subsystem_laws.proofs.PlainRuns.{Plainly}
-use Rattle.run_audit_laws.specs.Standing.{LeadsBy, audited, half_by, half_of, stand}
+use Rattle.run_audit_laws.specs.Standing.{LeadsBy, audited, half_by, stand}
 use Rattle.run_audit_laws.specs.Steps.{LeadsTowards, is_there}
 use Rattle.run_audit_laws.proofs.Found.{found_one, mounted_too, outline_one, put_at}
-use Rattle.run_audit_laws.proofs.Leading.{one_leads, quiet_lines}
+use Rattle.run_audit_laws.proofs.Leading.{quiet_lines}
 use Rattle.run_audit_laws.proofs.Pieces.{IsStepwise, ComesTo, IsBack, backs_lead, command_leads, second_leads}
 use Rattle.run_audit_laws.proofs.Saying.{same_number}
 use Rattle.run_audit_laws.proofs.StepsLeft.{Enough}

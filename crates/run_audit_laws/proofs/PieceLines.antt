@@ -1,5 +1,5 @@
 -- What an event of one device tells beside what it did: its acts, and the program that is over.
-use Rattle.std.proofs.Common.{arith, ◌≡◌, ◌++◌, ℕ, Bool, true, false, List, [], ◌∷◌, map, Option, Some, None, refl, sym, ap, ◌∙◌, append_assoc, if◌then◌else◌}
+use Rattle.std.proofs.Common.{arith, ◌≡◌, ◌++◌, ℕ, Bool, true, false, List, [], ◌∷◌, map, Option, Some, None, refl, ap, ◌∙◌, append_assoc, if◌then◌else◌}
 use Rattle.std.proofs.lemmas.List.{append-nil}
 use Rattle.ckd_types.specs.declared.channel.CommandEnd.{CommandEnd}
 use Rattle.plain_defs.specs.declared.journal.Act.{Act}
@@ -19,7 +19,7 @@ use Rattle.run_report.specs.OneDevice.{device_lines}
 use Rattle.run_report.proofs.ActsCome.{acts_before_check, acts_before_end, acts_come}
 use Rattle.run_report.proofs.OneDevice.{none_behind}
 use Rattle.run_report.proofs.Quiet.{behind_more}
-use Rattle.subsystem_defs.specs.Beside.{has_power, new_acts, new_items, power_told, told_act}
+use Rattle.subsystem_defs.specs.Beside.{has_power, new_acts, new_items, told_act}
 use Rattle.run_audit_laws.specs.Standing.{audited}
 use Rattle.run_audit_laws.specs.Steps.{NoLoss, act_line, over_if, over_told}
 use Rattle.run_audit_laws.proofs.CameOut.{acts_run, idle_acts, with_acts}

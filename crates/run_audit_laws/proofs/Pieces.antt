@@ -1,16 +1,15 @@
 -- The lines of a piece of work on a device of a run lead the audit from that device before it to that device behind it.
-use Rattle.std.proofs.Common.{suc, ◌≡◌, ◌<◌, ◌==◌, ◌++◌, ℕ, Bool, true, false, List, ◌∷◌, map, length, Option, Some, None, refl, sym, ap, subst, ◌∙◌, arith}
-use Rattle.std.specs.Prelude.{◌&&◌, not, option_map, IsSome}
+use Rattle.std.proofs.Common.{suc, ◌≡◌, ◌<◌, ◌==◌, ℕ, Bool, true, false, List, ◌∷◌, length, Option, Some, None, refl, sym, ap, subst, ◌∙◌, arith}
+use Rattle.std.specs.Prelude.{◌&&◌, option_map, IsSome}
 use Rattle.std.proofs.lemmas.Bool.{and_from}
 use Rattle.ckd_types.specs.declared.channel.CommandEnd.{CommandEnd}
-use Rattle.ckd_types.specs.Fixed.{Fixed}
 use Rattle.ckd_types.specs.Sense.{equipment_sense}
 use Rattle.ckd_chain.specs.State.{ChainState}
 use Rattle.deck_plan.specs.declared.event.EventLine.{EventLine}
 use Rattle.deck_plan.specs.declared.event.EventLine.TheVariants as wanted
 use Rattle.plain_defs.specs.declared.journal.Act.{Act}
 use Rattle.plain_defs.specs.History.{History, IsPlain, OpenEntry}
-use Rattle.plain_defs.specs.Journal.{Plans, program_of, replay}
+use Rattle.plain_defs.specs.Journal.{replay}
 use Rattle.plain_defs.specs.PlainState.{PlainState}
 use Rattle.device_defs.specs.declared.answers.Did.{Did as BackDid}
 use Rattle.device_defs.specs.declared.answers.Did.TheVariants as dids
@@ -32,7 +31,7 @@ use Rattle.device_laws.proofs.PlainCommand.{command_follows}
 use Rattle.device_laws.proofs.PlainEvents.{had_always, had_both}
 use Rattle.device_laws.proofs.PlainLosses.{background_follows}
 use Rattle.device_laws.proofs.PlainSeconds.{second_follows}
-use Rattle.device_laws.proofs.PlainTurns.{ChainOf, Follows, IsMid, IsMidOf, RunsAt, some_none}
+use Rattle.device_laws.proofs.PlainTurns.{Follows, IsMid, IsMidOf, some_none}
 use Rattle.device_laws.proofs.PlainStores.{core_of}
 use Rattle.device_laws.specs.Unharmed.{all_losses}
 use Rattle.report_text.specs.declared.answers.BackAnswer.{BackAnswer}
@@ -42,11 +41,10 @@ use Rattle.report_text.specs.declared.event.Happened.{Happened}
 use Rattle.report_text.specs.declared.event.Happened.TheVariants as did
 use Rattle.report_text.specs.declared.line.ReportLine.{ReportLine}
 use Rattle.report_text.specs.declared.line.ReportLine.TheVariants as lines
-use Rattle.report_text.specs.Events.{io_lines, line_if}
 use Rattle.report_places.specs.declared.state.Due.TheVariants.{Next}
 use Rattle.report_places.specs.declared.state.HalfWrite.{HalfWrite}
 use Rattle.report_places.specs.declared.state.HalfWrite.TheVariants as half
-use Rattle.report_places.specs.Place.{is_back_line, is_second, is_second_line}
+use Rattle.report_places.specs.Place.{is_back_line, is_second_line}
 use Rattle.deck_audit.specs.Device.{AuditedDevice, device_in, part_of_open, plain_end, words_of_open}
 use Rattle.deck_audit.specs.History.{back_half, is_last}
 use Rattle.run_report.specs.declared.told.RunningProgram.{RunningProgram}
@@ -60,7 +58,7 @@ use Rattle.subsystem_defs.specs.Beside.{acts_in}
 use Rattle.subsystem_defs.specs.Deeds.{end_of, ends_by, may_end_by}
 use Rattle.subsystem_defs.specs.Lines.{is_settled, stops}
 use Rattle.run_audit_laws.specs.Standing.{audited, half_by, half_of}
-use Rattle.run_audit_laws.specs.Steps.{LeadsTowards, NoLoss, act_line, over_if, over_told, step_lines}
+use Rattle.run_audit_laws.specs.Steps.{LeadsTowards, NoLoss, over_if, over_told}
 use Rattle.run_audit_laws.proofs.BackParts.{BackLeft, back_left}
 use Rattle.run_audit_laws.proofs.CameOut.{acts_so, checks_so, ends_plain, ends_so}
 use Rattle.run_audit_laws.proofs.Enough.{end_is_other, part_fixed}

@@ -1,16 +1,15 @@
 -- What a loss of power makes of a device, and what is told of it.
-use Rattle.std.proofs.Common.{arith, ◌≡◌, ◌*◌, ℕ, Bool, true, false, List, [], Option, Some, None, is_some, get_or, refl, sym, ap, subst, ◌∙◌, if◌then◌else◌}
+use Rattle.std.proofs.Common.{arith, ◌≡◌, ℕ, Bool, true, [], Option, None, get_or, refl, if◌then◌else◌}
 use Rattle.loss_model.specs.declared.Loss.TheVariants as losses
 use Rattle.plain_defs.specs.History.{lost_power}
 use Rattle.plain_defs.specs.PlainState.{PlainState}
-use Rattle.track_table.specs.Tracks.{least}
 use Rattle.device_defs.specs.Contents.{by_plain}
 use Rattle.device_defs.specs.Cutting as K
 use Rattle.device_defs.specs.Cutting.{counts_one_by, half_cut, half_ended, half_lost, loose_gone, origin_cut, power, powered_off, powerless}
 use Rattle.device_defs.specs.Device.{event_begun, event_ended}
 use Rattle.device_defs.specs.Effects.{gone_back}
 use Rattle.device_defs.specs.Events.{with_loss}
-use Rattle.device_defs.specs.Losses.{settled, slot_in, without_frame}
+use Rattle.device_defs.specs.Losses.{settled, without_frame}
 use Rattle.device_defs.specs.Marks.{MarksDevice, MarksStore}
 use Rattle.device_defs.specs.Owed.{noted_begin, waiting_count}
 use Rattle.device_defs.specs.Store.{Origin, OfCommand, OfCut, OfBackground, has_loose, patch_at, tracks_of}

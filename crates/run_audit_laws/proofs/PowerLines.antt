@@ -1,12 +1,11 @@
 -- POWER: what it does is told of one device after another.
-use Rattle.std.proofs.Common.{◌≡◌, ◌≤◌, ◌+◌, ◌/◌, ◌%◌, ◌==◌, ◌++◌, ℕ, Bool, true, false, not, List, [], ◌∷◌, map, length, drop, Option, Some, None, refl, sym, ap, subst, suc, zero, ◌∙◌, append_assoc, if◌then◌else◌, arith, inl, inr}
-use Rattle.std.specs.Prelude.{◌||◌, ◌&&◌, ◌⊎◌, Ok, Err}
+use Rattle.std.proofs.Common.{◌≡◌, ◌≤◌, ◌+◌, ◌++◌, ℕ, Bool, true, false, List, [], ◌∷◌, map, length, drop, Option, Some, None, refl, ap, subst, suc, zero, append_assoc, if◌then◌else◌, arith, inl, inr}
+use Rattle.std.specs.Prelude.{◌⊎◌, Ok}
 use Rattle.std.proofs.lemmas.Bool.{eq-eqb, ne_eqb, and_from, or_right}
 use Rattle.std.proofs.lemmas.List.{append-nil, map-append}
 use Rattle.deck_plan.specs.declared.event.EventLine.{EventLine}
 use Rattle.deck_plan.specs.declared.event.EventLine.TheVariants as wanted
 use Rattle.plain_defs.specs.History.{OpenEntry}
-use Rattle.plain_defs.specs.Loose.{next_number}
 use Rattle.device_outside.specs.Pool.{Pool, power_lost}
 use Rattle.device_defs.specs.Contents.{by_plain}
 use Rattle.device_defs.specs.Cutting.{power}
@@ -14,21 +13,18 @@ use Rattle.device_defs.specs.Marks.{MarksDevice}
 use Rattle.device_laws.proofs.Had.{held}
 use Rattle.device_laws.proofs.PlainEvents.{had_both}
 use Rattle.device_laws.proofs.PlainPower.{power_follows}
-use Rattle.report_text.specs.declared.answers.LooseAnswer.TheVariants as loose
 use Rattle.report_text.specs.declared.answers.OrderAnswer.TheVariants as answers
 use Rattle.report_text.specs.declared.line.ReportLine.{ReportLine}
 use Rattle.report_text.specs.declared.line.ReportLine.TheVariants as lines
 use Rattle.report_text.specs.declared.order.Order.TheVariants as orders
 use Rattle.report_places.specs.declared.state.Due.{Due}
 use Rattle.report_places.specs.declared.state.Due.TheVariants.{Next, Powers}
-use Rattle.report_places.specs.Place.{in_power, in_power_of, is_loss_of}
-use Rattle.report_places.specs.Same.{says}
+use Rattle.report_places.specs.Place.{in_power}
 use Rattle.deck_audit.specs.Device as A
 use Rattle.deck_audit.specs.Device.{AuditedDevice, is_next_legal, open_program, outline_of, state_of, with_device}
-use Rattle.deck_audit.specs.History.{cut_by_power, loss_line, place_of, power_cut, power_loss, power_made, without_power}
-use Rattle.deck_audit.specs.State.{AuditState, then_of}
-use Rattle.report_auditor.specs.declared.status.AuditWhy.TheVariants.{Place}
-use Rattle.report_auditor.specs.Verdict.{judged, or_history}
+use Rattle.deck_audit.specs.History.{cut_by_power, loss_line, place_of, power_cut, power_made, without_power}
+use Rattle.deck_audit.specs.State.{AuditState}
+use Rattle.report_auditor.specs.Verdict.{judged}
 use Rattle.run_report.specs.Beside.{loose_lines, of_each, over_lines, power_lines}
 use Rattle.subsystem_defs.specs.declared.event.Event.TheVariants as events
 use Rattle.subsystem_defs.specs.Deeds as E
@@ -41,7 +37,7 @@ use Rattle.run_audit_laws.specs.Standing.{LeadsBy, audited}
 use Rattle.run_audit_laws.proofs.CacheLines.{IsBelow, below_one, found_here, put_here}
 use Rattle.run_audit_laws.proofs.DeckNumbers.{RisesFrom}
 use Rattle.run_audit_laws.proofs.Found.{devices}
-use Rattle.run_audit_laws.proofs.Leading.{EventLeads, leads_on, one_leads, then_some}
+use Rattle.run_audit_laws.proofs.Leading.{EventLeads, leads_on, one_leads}
 use Rattle.run_audit_laws.proofs.PowerDevices.{power_makes}
 use Rattle.run_audit_laws.proofs.PowerTold.{IsCutNow, IsGone, IsKept, IsOffTold, IsUncut, cut_line, power_told_of}
 use Rattle.run_audit_laws.proofs.Saying.{same_loose, same_number}

@@ -1,34 +1,5 @@
 -- What a loss of power tells of a device: the program that it cuts, and the loss of its data of cache fast write.
-use Rattle.std.proofs.Common.{
-  ◌≡◌,
-  ◌+◌,
-  ◌==◌,
-  ◌++◌,
-  ℕ,
-  Bool,
-  true,
-  false,
-  not,
-  List,
-  [],
-  ◌∷◌,
-  map,
-  length,
-  Option,
-  Some,
-  None,
-  get_or,
-  refl,
-  sym,
-  ap,
-  subst,
-  ◌∙◌,
-  append_assoc,
-  if◌then◌else◌,
-  arith,
-  inl,
-  inr,
-}
+use Rattle.std.proofs.Common.{◌≡◌, ◌+◌, ◌==◌, ◌++◌, ℕ, Bool, true, false, not, List, [], ◌∷◌, map, length, Option, Some, None, get_or, refl, sym, ap, ◌∙◌, append_assoc, if◌then◌else◌, arith, inl, inr}
 use Rattle.std.specs.Prelude.{◌&&◌, ◌⊎◌}
 use Rattle.std.proofs.lemmas.Bool.{eqb-true, true≢false}
 use Rattle.std.proofs.lemmas.List.{append-nil}
@@ -36,20 +7,18 @@ use Rattle.plain_defs.specs.declared.journal.Act.{Act}
 use Rattle.plain_defs.specs.declared.journal.How.TheVariants.{Cut}
 use Rattle.plain_defs.specs.declared.journal.Item.{Item}
 use Rattle.plain_defs.specs.declared.journal.Item.TheVariants as items
-use Rattle.plain_defs.specs.History.{History, OpenEntry, entry_of, lost_power_in, plain_of}
-use Rattle.plain_defs.specs.Journal.{Plans, program_of, replay}
+use Rattle.plain_defs.specs.History.{History, OpenEntry, entry_of, lost_power_in}
+use Rattle.plain_defs.specs.Journal.{program_of, replay}
 use Rattle.plain_defs.specs.Legal.{is_started}
-use Rattle.plain_defs.specs.Loose.{is_loose_in, next_number}
+use Rattle.plain_defs.specs.Loose.{next_number}
 use Rattle.plain_defs.specs.PlainState.{PlainState}
 use Rattle.plain_defs.proofs.JournalLaws.{replay-append}
-use Rattle.device_defs.specs.Cutting.{counts_one_by, is_of_command}
+use Rattle.device_defs.specs.Cutting.{counts_one_by}
 use Rattle.device_defs.specs.Marks.{MarksDevice}
 use Rattle.device_defs.specs.Store.{has_loose}
-use Rattle.device_defs.specs.Store as store
 use Rattle.device_laws.proofs.HistoryCuts.{cut_entry, taken_state}
 use Rattle.device_laws.proofs.HistoryEnds.{running_is_open}
 use Rattle.device_laws.proofs.PlainCuts.{may, taken_by}
-use Rattle.device_laws.proofs.PlainStores.{IsOf}
 use Rattle.device_laws.proofs.PlainTurns.{Follows}
 use Rattle.device_laws.proofs.WaitingResets.{started-append}
 use Rattle.report_text.specs.declared.answers.HowOver.TheVariants as how
@@ -59,14 +28,14 @@ use Rattle.report_text.specs.Events.{loosed_line, program_over_lines}
 use Rattle.report_places.specs.declared.state.HalfWrite.TheVariants.{Closed}
 use Rattle.deck_audit.specs.Device as A
 use Rattle.deck_audit.specs.Device.{AuditedDevice, is_next_legal, state_of}
-use Rattle.deck_audit.specs.History.{cut_by_power, cut_open, loss_line, without_power}
+use Rattle.deck_audit.specs.History.{cut_by_power, loss_line, without_power}
 use Rattle.run_report.specs.Beside.{loose_lines, loosed, over_lines, over_of}
 use Rattle.run_report.proofs.ActsCome.{acts_both, same_program}
 use Rattle.run_report.proofs.OneDevice.{none_behind}
 use Rattle.run_report.proofs.Quiet.{behind_more}
-use Rattle.subsystem_defs.specs.Beside.{WentBack, acts_in, acts_of_entry, acts_of_items, behind_first, has_power, loose_count, new_items, power_told, told_act}
+use Rattle.subsystem_defs.specs.Beside.{WentBack, acts_in, behind_first, has_power, loose_count, new_items, power_told, told_act}
 use Rattle.subsystem_laws.proofs.PlainRuns.{Plainly}
-use Rattle.run_audit_laws.specs.Standing.{audited, half_by}
+use Rattle.run_audit_laws.specs.Standing.{audited}
 use Rattle.run_audit_laws.proofs.CacheLines.{loss_told}
 use Rattle.run_audit_laws.proofs.KnownDevices.{Marked, count_is, has_is, known, none_counted, some_counted}
 use Rattle.run_audit_laws.proofs.LooseOnce.{StandOnce, items_once, part_once}
@@ -74,7 +43,6 @@ use Rattle.run_audit_laws.proofs.LossDevices.{number_behind}
 use Rattle.run_audit_laws.proofs.PowerDevices.{IsOff}
 use Rattle.run_audit_laws.proofs.ResetDevices.{audited_by}
 use Rattle.run_audit_laws.proofs.Resets.{few_more}
-use Rattle.run_audit_laws.proofs.Ties.{one_if}
 
 -- The device between the two lines, and each line
 

@@ -1,5 +1,5 @@
 -- A device of a run: what it is by itself is in its ranges, and its history is one of a plain device.
-use Rattle.std.proofs.Common.{◌≤◌, ◌<◌, ◌==◌, ℕ, Bool, true, false, List, [], ◌∷◌, Option, Some, if◌then◌else◌, arith}
+use Rattle.std.proofs.Common.{◌≤◌, ◌<◌, ◌==◌, ℕ, Bool, List, [], ◌∷◌, Option, Some, if◌then◌else◌, arith}
 use Rattle.std.specs.Prelude.{All, IfSome}
 use Rattle.std.proofs.lemmas.List.Elements.{All-head, All-tail}
 use Rattle.device_defs.specs.Marks.{MarksDevice}

@@ -1,5 +1,5 @@
 -- Each track that a step or a piece of work of a run tells of is in its range.
-use Rattle.std.proofs.Common.{arith, ◌≡◌, ◌<◌, ◌∙◌, ℕ, List, Option, Some, None, refl, sym, subst}
+use Rattle.std.proofs.Common.{arith, ◌≡◌, ◌<◌, Option, refl}
 use Rattle.std.specs.Prelude.{IfSome}
 use Rattle.ckd_chain.specs.State.{ChainState}
 use Rattle.device_defs.specs.declared.answers.Did.{Did}

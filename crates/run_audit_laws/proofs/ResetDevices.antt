@@ -1,10 +1,7 @@
 -- What a reset makes of a device, as the audit has it.
-use Rattle.std.proofs.Common.{arith, ◌≡◌, ◌==◌, ℕ, Bool, true, false, Option, Some, None, refl, sym, ap, ◌∙◌, if◌then◌else◌}
+use Rattle.std.proofs.Common.{arith, ◌≡◌, ◌==◌, ℕ, Bool, true, false, Option, Some, None, refl, if◌then◌else◌}
 use Rattle.std.proofs.lemmas.Bool.{cond_both}
-use Rattle.ckd_types.specs.declared.geometry.Geometry.{Geometry}
-use Rattle.plain_defs.specs.History.{History, OpenEntry, has_used}
-use Rattle.plain_defs.specs.Journal.{Plans}
-use Rattle.plain_defs.specs.PlainState.{empty_state, reset_path}
+use Rattle.plain_defs.specs.History.{History, OpenEntry}
 use Rattle.device_outside.specs.Interaction.{Done}
 use Rattle.device_defs.specs.Contents.{by_plain}
 use Rattle.device_defs.specs.Cutting as K
@@ -15,7 +12,7 @@ use Rattle.device_defs.specs.Store as store
 use Rattle.device_laws.proofs.Always.{Always, always_done, always_tell, always_then}
 use Rattle.report_places.specs.declared.state.HalfWrite.{HalfWrite}
 use Rattle.deck_audit.specs.History.{cut_half}
-use Rattle.run_audit_laws.specs.Standing.{audited, half_by, half_of}
+use Rattle.run_audit_laws.specs.Standing.{audited, half_by}
 
 -- a device by its parts
 pub record HasParts (x y : MarksDevice) (half : HalfWrite) : Type 0 where

@@ -1,55 +1,23 @@
 -- RESET: the OVER line of a program that it cuts, and its own line.
-use Rattle.std.proofs.Common.{
-  ◌≡◌,
-  ◌+◌,
-  ◌==◌,
-  ◌++◌,
-  ℕ,
-  Bool,
-  true,
-  false,
-  not,
-  List,
-  [],
-  ◌∷◌,
-  map,
-  length,
-  Option,
-  Some,
-  None,
-  refl,
-  sym,
-  ap,
-  subst,
-  ◌∙◌,
-  if◌then◌else◌,
-  arith,
-  inl,
-  inr,
-}
-use Rattle.std.specs.Prelude.{◌||◌, ◌&&◌, ◌⊎◌, IfSome, Ok, Err}
+use Rattle.std.proofs.Common.{◌≡◌, ◌+◌, ◌==◌, ◌++◌, ℕ, Bool, true, false, List, [], ◌∷◌, map, length, Option, Some, None, refl, sym, ap, subst, ◌∙◌, if◌then◌else◌, arith, inl, inr}
+use Rattle.std.specs.Prelude.{◌⊎◌, IfSome, Ok}
 use Rattle.std.proofs.lemmas.Bool.{eqb-true, eq-eqb, ne_eqb, and_from}
-use Rattle.ckd_types.specs.Parameters.{is_provisional}
 use Rattle.deck_plan.specs.declared.event.EventLine.{EventLine}
 use Rattle.deck_plan.specs.declared.event.EventLine.TheVariants as wanted
 use Rattle.plain_defs.specs.declared.journal.How.TheVariants.{Cut}
 use Rattle.plain_defs.specs.declared.journal.Item.{Item}
 use Rattle.plain_defs.specs.declared.journal.Item.TheVariants as items
-use Rattle.plain_defs.specs.History.{History, OpenEntry, cut_by, entry_of, open_part, put, reset_in_history as history_reset, reset_in, resets_of}
-use Rattle.plain_defs.specs.Journal.{program_of, replay}
-use Rattle.plain_defs.specs.Legal.{MayEdit, is_used, next_edit}
-use Rattle.plain_defs.specs.Loose.{is_loose_there}
-use Rattle.plain_defs.specs.PlainState.{PlainState}
+use Rattle.plain_defs.specs.History.{History, OpenEntry, cut_by, entry_of, put, reset_in_history as history_reset, reset_in, resets_of}
+use Rattle.plain_defs.specs.Legal.{MayEdit, is_used}
 use Rattle.plain_defs.specs.Program.{Part}
 use Rattle.ckd_rules.specs.Walk.{TrackEdit}
 use Rattle.device_defs.specs.Contents.{by_plain}
-use Rattle.device_defs.specs.Cutting.{counts_one_by, is_of_command, reset}
+use Rattle.device_defs.specs.Cutting.{counts_one_by, reset}
 use Rattle.device_defs.specs.Marks.{MarksDevice}
 use Rattle.device_defs.specs.Store as store
 use Rattle.device_outside.specs.Interaction.{Done}
 use Rattle.device_laws.proofs.DeviceCuts.{reset_tells}
 use Rattle.device_laws.proofs.Had.{Had, held, had_done, had_then}
-use Rattle.device_laws.proofs.HistoryCuts.{MayTake}
 use Rattle.device_laws.proofs.PlainCuts.{may}
 use Rattle.device_laws.proofs.PlainEvents.{had_always, had_both}
 use Rattle.device_laws.proofs.counted.Counting.{counts_done, counts_then, held_moved}
@@ -60,13 +28,11 @@ use Rattle.report_text.specs.declared.line.ReportLine.{ReportLine}
 use Rattle.report_text.specs.declared.line.ReportLine.TheVariants as lines
 use Rattle.report_text.specs.Events.{program_over_lines}
 use Rattle.report_places.specs.declared.state.Due.TheVariants.{ResetOf}
-use Rattle.report_places.specs.declared.state.Outline.{Outline}
-use Rattle.report_places.specs.Place.{holds, is_cut, may_reset}
-use Rattle.deck_audit.specs.Device.{AuditedDevice, edit_of, is_edit_legal, is_next_legal, open_program, outline_of, part_of_open, with_device}
+use Rattle.report_places.specs.Place.{may_reset}
+use Rattle.deck_audit.specs.Device.{AuditedDevice, is_edit_legal, is_next_legal, open_program, outline_of, with_device}
 use Rattle.deck_audit.specs.History as M
 use Rattle.deck_audit.specs.History.{changed, cut_half, reset_made}
 use Rattle.deck_audit.specs.State.{AuditState, passed}
-use Rattle.report_auditor.specs.declared.status.AuditWhy.TheVariants.{Place}
 use Rattle.report_auditor.specs.Verdict.{judged}
 use Rattle.run_report.specs.Beside.{loose_lines, over_lines, over_of}
 use Rattle.run_report.specs.Events.{event_lines, work_lines}
@@ -76,7 +42,7 @@ use Rattle.run_report.proofs.Quiet.{behind_more}
 use Rattle.subsystem_defs.specs.declared.end.EventEnd.{EventEnd}
 use Rattle.subsystem_defs.specs.declared.end.EventEnd.TheVariants as ends
 use Rattle.subsystem_defs.specs.declared.event.Event.TheVariants as events
-use Rattle.subsystem_defs.specs.Beside.{acts_in, acts_running, has_power, new_items}
+use Rattle.subsystem_defs.specs.Beside.{acts_in, has_power, new_items}
 use Rattle.subsystem_defs.specs.Deeds as E
 use Rattle.subsystem_defs.specs.Deeds.{Asks, device_in, ends_by, ends_done, on_device}
 use Rattle.subsystem_defs.specs.Happening as H

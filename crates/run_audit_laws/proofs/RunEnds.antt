@@ -1,67 +1,39 @@
 -- A RUN comes to its end: of the program that runs at most 4,096 commands end, each in two events, and a half write may be open from before.
-use Rattle.std.proofs.Common.{◌≡◌, ◌≤◌, ◌<◌, ◌+◌, ◌*◌, ◌==◌, ℕ, zero, suc, Bool, true, false, List, [], ◌∷◌, length, map, Option, Some, None, is_some, refl, sym, ap, subst, ◌∙◌, arith, inl, inr}
-use Rattle.std.specs.Prelude.{◌||◌, ◌⊎◌, IfSome, IsSome, if◌then◌else◌, nat_le, not}
+use Rattle.std.proofs.Common.{◌≡◌, ◌<◌, ℕ, zero, suc, Bool, true, false, List, [], ◌∷◌, length, map, Option, Some, None, is_some, refl, sym, ap, subst, ◌∙◌, arith}
+use Rattle.std.specs.Prelude.{◌||◌, IfSome, IsSome, if◌then◌else◌}
 use Rattle.std.proofs.lemmas.Bool.{leb-false, or_parts}
 use Rattle.ckd_types.specs.declared.channel.Ccw.{Ccw}
-use Rattle.ckd_types.specs.declared.channel.CommandEnd.{CommandEnd}
-use Rattle.ckd_types.specs.Ccw.{ccw_at}
 use Rattle.ckd_rules.specs.declared.stance.Stance.{Stance}
-use Rattle.ckd_rules.specs.Ends.{at_limit, goes_to, is_over, would_go_on}
+use Rattle.ckd_rules.specs.Ends.{is_over}
 use Rattle.ckd_rules.specs.Ending.{Outcome}
-use Rattle.plain_defs.specs.declared.journal.Act.{Act}
 use Rattle.plain_defs.specs.declared.journal.Acted.{Acted}
-use Rattle.plain_defs.specs.declared.journal.How.TheVariants.{Full}
-use Rattle.plain_defs.specs.Effect.{effect_on}
-use Rattle.plain_defs.specs.History as Y
-use Rattle.plain_defs.specs.History.{History, OpenEntry, acted_in, checked, closed, with_end}
-use Rattle.plain_defs.specs.Journal.{program_of, replay}
+use Rattle.plain_defs.specs.History.{OpenEntry}
 use Rattle.plain_defs.specs.PlainState.{PlainState}
-use Rattle.plain_defs.specs.Program.{Part, first_part, one_more, part_of, command_run, stepped_at}
-use Rattle.plain_defs.proofs.PartLemmas.{acted_beside, over_stays}
-use Rattle.device_outside.specs.Interaction.{Done, and_then}
-use Rattle.device_outside.specs.Told as T
-use Rattle.device_outside.specs.Told.{Told}
-use Rattle.device_defs.specs.declared.answers.SecondEnd.{SecondEnd}
-use Rattle.device_defs.specs.declared.answers.SecondEnd.TheVariants as seconds
-use Rattle.device_defs.specs.declared.answers.Stepped.{Stepped}
-use Rattle.device_defs.specs.declared.answers.Stepped.TheVariants as steps_are
-use Rattle.device_defs.specs.Command.{command}
-use Rattle.device_defs.specs.Contents.{by_plain}
-use Rattle.device_defs.specs.Device.{all_acted}
-use Rattle.device_defs.specs.Events.{second}
+use Rattle.plain_defs.specs.Program.{Part, first_part, one_more, part_of}
+use Rattle.plain_defs.proofs.PartLemmas.{acted_beside}
 use Rattle.device_defs.specs.Marks.{MarksDevice}
 use Rattle.device_defs.specs.Store.{Origin, OfCommand, OfCut, OfBackground}
 use Rattle.device_defs.specs.Store as store
-use Rattle.device_laws.proofs.Had.{held}
-use Rattle.device_laws.proofs.HistoryEnds.{one_longer, running_is_open}
-use Rattle.device_laws.proofs.HistoryTold.{HasActed, HasEnded, SecondTold, StepTold, acted_so, checked_so, command_told, ended_so, second_event_told}
-use Rattle.device_laws.proofs.PlainEvents.{had_always, had_both}
-use Rattle.device_laws.proofs.PlainStores.{core_of}
-use Rattle.device_laws.proofs.PlainTurns.{IsMid, IsMidOf}
+use Rattle.device_laws.proofs.HistoryEnds.{running_is_open}
 use Rattle.report_places.specs.declared.state.HalfWrite.{HalfWrite}
 use Rattle.report_places.specs.declared.state.HalfWrite.TheVariants as half
-use Rattle.subsystem_defs.specs.declared.end.EventEnd.{EventEnd}
 use Rattle.subsystem_defs.specs.declared.end.EventEnd.TheVariants as ends
 use Rattle.deck_plan.specs.declared.event.EventLine.TheVariants as wanted
 use Rattle.subsystem_defs.specs.declared.event.Event.TheVariants as events
-use Rattle.subsystem_defs.specs.Deeds as E
-use Rattle.subsystem_defs.specs.Deeds.{Asks, Ends, device_in, end_of, may_end_by, on_device, seconds as seconds_of, step}
-use Rattle.subsystem_defs.specs.Happening as H
-use Rattle.subsystem_defs.specs.Happening.{Talk, asks, happens, happens_by, held_with, mounted_behind, quietly, told_to}
+use Rattle.subsystem_defs.specs.Deeds.{device_in}
+use Rattle.subsystem_defs.specs.Happening.{happens, quietly}
 use Rattle.subsystem_defs.specs.Lines as L
 use Rattle.subsystem_defs.specs.Lines.{Run, is_busy, last_behind, line_logged, logged, most_steps, step_logged, steps}
-use Rattle.subsystem_defs.specs.Subsystem.{Mounted, Subsystem, devices_of, mounted_in, number_of}
+use Rattle.subsystem_defs.specs.Subsystem.{Mounted, Subsystem, devices_of, mounted_in}
 use Rattle.subsystem_laws.proofs.FoundDevices.{number_found}
 use Rattle.subsystem_laws.proofs.PlainRuns.{ArePlain, Plainly, event_plain}
-use Rattle.subsystem_laws.proofs.Walks.{device_so, hold_answer}
+use Rattle.subsystem_laws.proofs.Walks.{device_so}
 use Rattle.run_audit_laws.specs.Runs.{RunIsOver}
-use Rattle.run_audit_laws.specs.Standing.{HasDevice, half_by, half_of}
-use Rattle.run_audit_laws.proofs.CameOut.{acts_run, with_acts}
+use Rattle.run_audit_laws.specs.Standing.{HasDevice, half_by}
 use Rattle.run_audit_laws.proofs.CommandCounts.{effect_counts}
 use Rattle.run_audit_laws.proofs.Found.{mounted_too}
 use Rattle.run_audit_laws.proofs.PieceEvents.{PieceGoes, run_step_goes}
 use Rattle.run_audit_laws.proofs.StepsLeft.{Enough}
-use Rattle.run_audit_laws.proofs.StepParts.{IsLeft, IsSecond, command_left, second_left}
 
 -- A program that runs has fewer ends than may be
 

@@ -2,20 +2,10 @@
 use Rattle.std.proofs.Common.{arith, ◌≡◌, ◌==◌, ℕ, true, List, refl, rules}
 use Rattle.std.specs.Str.{bytes_eq}
 use Rattle.std.proofs.lemmas.Bool.{eq-eqb, and_from}
-use Rattle.ckd_types.specs.declared.channel.Note.{Note}
-use Rattle.ckd_types.specs.declared.channel.Note.TheVariants as notes
-use Rattle.ckd_types.specs.declared.paths.Owner.{Owner}
-use Rattle.ckd_types.specs.declared.paths.Owner.TheVariants as owners
-use Rattle.ckd_types.specs.declared.paths.Side.{Side}
-use Rattle.ckd_types.specs.declared.paths.Side.TheVariants.{A, B}
-use Rattle.ckd_rules.specs.Grouping.{is_same_owner}
 use Rattle.report_text.specs.declared.answers.LooseAnswer.{LooseAnswer}
-use Rattle.report_text.specs.declared.answers.LooseAnswer.TheVariants as loose
 use Rattle.report_text.specs.declared.answers.StartAnswer.{StartAnswer}
-use Rattle.report_text.specs.declared.answers.StartAnswer.TheVariants as start
 use Rattle.report_text.specs.declared.order.Order.{Order}
-use Rattle.report_text.specs.declared.order.Order.TheVariants as orders
-use Rattle.report_places.specs.Same.{is_same_note, is_same_side, is_same_start, is_same_loose, is_same_order}
+use Rattle.report_places.specs.Same.{is_same_start, is_same_loose, is_same_order}
 
 pub same_number : (n : ℕ) → (n == n) ≡ true
 same_number n = eq-eqb n n refl

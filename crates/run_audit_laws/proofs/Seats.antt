@@ -1,23 +1,19 @@
 -- What is done on a device's tracks leaves its number.
-use Rattle.std.proofs.Common.{arith, ◌≡◌, ℕ, Bool, true, false, [], Option, Some, None, ap, ◌∙◌}
+use Rattle.std.proofs.Common.{arith, ◌≡◌, ℕ, Bool, true, false, Option, ap, ◌∙◌}
 use Rattle.std.specs.Prelude.{if◌then◌else◌}
 use Rattle.ckd_types.specs.declared.paths.Side.{Side}
-use Rattle.ckd_types.specs.declared.paths.Side.TheVariants.{A, B}
-use Rattle.ckd_types.specs.declared.record.Edit.{Edit}
+use Rattle.ckd_types.specs.declared.paths.Side.TheVariants.{A}
 use Rattle.loss_model.specs.declared.Loss.{Loss}
-use Rattle.loss_model.specs.declared.Loss.TheVariants as losses
 use Rattle.track_image.specs.Image.{Image}
 use Rattle.device_defs.specs.declared.usage.Usage.{Usage}
-use Rattle.device_defs.specs.Choosing.{provisionally_written}
 use Rattle.device_defs.specs.Contents.{Contents}
 use Rattle.device_defs.specs.Cutting.{powerless}
-use Rattle.device_defs.specs.Effects.{loose_lost, loosened}
 use Rattle.device_defs.specs.Events.{lost_by, with_loss}
 use Rattle.device_defs.specs.Image.{ahead}
 use Rattle.device_defs.specs.Losses as L
 use Rattle.device_defs.specs.Losses.{settled, side_lost, stale_everywhere}
-use Rattle.device_defs.specs.Second.{cut_kept, left_by}
-use Rattle.device_defs.specs.Store.{OfBackground, OfCommand, OfCut, Origin, Store, frame_at, has_loose, is_loose, tracks_of, with_frame, with_stale}
+use Rattle.device_defs.specs.Second.{left_by}
+use Rattle.device_defs.specs.Store.{Origin, Store, with_stale}
 use Rattle.device_defs.specs.Writing.{taken_a, unwritten}
 use Rattle.device_laws.proofs.Based.{Base, stale_base}
 use Rattle.device_laws.proofs.WholeImage.{ahead_only}

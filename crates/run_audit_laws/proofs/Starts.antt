@@ -1,43 +1,15 @@
 -- START: the audit answers as the device of the run.
-use Rattle.std.proofs.Common.{
-  ◌≡◌,
-  ◌+◌,
-  ◌-◌,
-  ◌==◌,
-  ◌++◌,
-  ℕ,
-  Bool,
-  true,
-  false,
-  not,
-  List,
-  [],
-  ◌∷◌,
-  map,
-  length,
-  Option,
-  Some,
-  None,
-  refl,
-  sym,
-  ap,
-  subst,
-  ◌∙◌,
-  if◌then◌else◌,
-  arith,
-}
-use Rattle.std.specs.Prelude.{◌||◌, ◌&&◌, nat_le, count_by, IfSome, Ok}
+use Rattle.std.proofs.Common.{◌≡◌, ◌==◌, ◌++◌, ℕ, Bool, true, false, not, List, [], ◌∷◌, map, Option, Some, None, refl, sym, ap, subst, ◌∙◌, if◌then◌else◌, arith}
+use Rattle.std.specs.Prelude.{◌&&◌, IfSome, Ok}
 use Rattle.std.specs.List.{list_all, list_any}
 use Rattle.std.proofs.lemmas.Bool.Decides.{nat_tests}
 use Rattle.std.proofs.lemmas.Bool.{and_from}
-use Rattle.ckd_types.specs.declared.channel.Ccw.{Ccw}
 use Rattle.ckd_types.specs.declared.paths.Owner.{Owner}
 use Rattle.deck_plan.specs.declared.event.EventLine.{EventLine}
 use Rattle.deck_plan.specs.declared.event.EventLine.TheVariants as wanted
-use Rattle.plain_defs.specs.History.{OpenEntry, is_path_of, plain_of, started}
-use Rattle.plain_defs.specs.Journal.{planned, program_of}
-use Rattle.plain_defs.specs.Legal.{is_of_path}
-use Rattle.plain_defs.specs.PlainState.{PathsState, PlainState, is_admitted}
+use Rattle.plain_defs.specs.History.{OpenEntry, is_path_of, started}
+use Rattle.plain_defs.specs.Journal.{program_of}
+use Rattle.plain_defs.specs.PlainState.{is_admitted}
 use Rattle.device_defs.specs.declared.answers.StartFault.{StartFault}
 use Rattle.device_defs.specs.declared.answers.StartFault.TheVariants as faults
 use Rattle.device_defs.specs.Marks.{MarksDevice}
@@ -61,7 +33,6 @@ use Rattle.report_text.specs.declared.answers.StartAnswer.TheVariants as answers
 use Rattle.report_text.specs.declared.event.Happened.TheVariants as did
 use Rattle.report_text.specs.declared.line.ReportLine.{ReportLine}
 use Rattle.report_text.specs.declared.line.ReportLine.TheVariants as lines
-use Rattle.report_places.specs.Same.{is_same_start, says}
 use Rattle.deck_audit.specs.Device as A
 use Rattle.deck_audit.specs.Device.{
   AuditedDevice,
@@ -77,8 +48,7 @@ use Rattle.deck_audit.specs.Device.{
   start_answer,
   with_device,
 }
-use Rattle.deck_audit.specs.History.{after_start, changed, shown, start_made}
-use Rattle.deck_audit.specs.State.{AuditState, passed}
+use Rattle.deck_audit.specs.History.{after_start}
 use Rattle.report_auditor.specs.Verdict.{judged}
 use Rattle.run_report.specs.Answers as R
 use Rattle.run_report.specs.Answers.{start_refused}
@@ -99,7 +69,7 @@ use Rattle.subsystem_laws.proofs.FoundDevices.{number_found}
 use Rattle.subsystem_laws.proofs.PlainRuns.{Plainly, ArePlain}
 use Rattle.subsystem_laws.proofs.Walks.{device_so}
 use Rattle.run_audit_laws.specs.Standing.{LeadsBy, audited, stand}
-use Rattle.run_audit_laws.proofs.Found.{devices, found_one, put_at, put_same, mounted_too}
+use Rattle.run_audit_laws.proofs.Found.{found_one, put_at, put_same, mounted_too}
 use Rattle.run_audit_laws.proofs.Leading.{EventLeads, first_judged, one_leads, quiet_lines, then_some}
 use Rattle.run_audit_laws.proofs.Saying.{same_number, same_start}
 

@@ -1,6 +1,5 @@
 -- The lines of a command that ends in a STEP.
-use Rattle.std.proofs.Common.{arith, ◌≡◌, ◌==◌, ◌++◌, ℕ, Bool, true, false, List, [], ◌∷◌, Option, Some, refl, ap, subst, ◌∙◌}
-use Rattle.std.specs.Prelude.{◌&&◌, option_map}
+use Rattle.std.proofs.Common.{arith, ◌≡◌, ◌++◌, ℕ, Bool, true, false, List, [], ◌∷◌, Some, refl}
 use Rattle.std.proofs.lemmas.Bool.{or_left, and_from}
 use Rattle.ckd_types.specs.declared.channel.CommandEnd.{CommandEnd}
 use Rattle.deck_plan.specs.declared.event.EventLine.{EventLine}
@@ -16,12 +15,11 @@ use Rattle.report_text.specs.Ends.{end_line}
 use Rattle.report_places.specs.declared.state.Did.TheVariants.{Ended}
 use Rattle.report_places.specs.declared.state.Due.TheVariants.{Next}
 use Rattle.report_places.specs.declared.state.HalfWrite.TheVariants.{Closed}
-use Rattle.report_places.specs.declared.state.Outline.{Outline}
-use Rattle.report_places.specs.Place.{holds, in_event, in_steps, may_step}
-use Rattle.deck_audit.specs.Device.{AuditedDevice, device_in, open_program, outline_of}
+use Rattle.report_places.specs.Place.{in_event}
+use Rattle.deck_audit.specs.Device.{AuditedDevice, device_in}
 use Rattle.deck_audit.specs.History.{event_made, work_made}
 use Rattle.deck_audit.specs.State.{AuditState, outlines}
-use Rattle.run_audit_laws.specs.Steps.{Reaches, StepEnds, WholeStepLeads, acted_to, over_if, over_told, step_done}
+use Rattle.run_audit_laws.specs.Steps.{StepEnds, WholeStepLeads, acted_to, over_if, over_told, step_done}
 use Rattle.run_audit_laws.proofs.Commands.{check_command_leads, loose_command_leads, plain_command_leads, plain_end_is_tidy}
 use Rattle.run_audit_laws.proofs.EndLines.{check_lead, plain_lead}
 use Rattle.run_audit_laws.proofs.Found.{outlined}

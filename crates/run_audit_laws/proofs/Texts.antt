@@ -1,20 +1,16 @@
 -- An audit says yes to a text of which the lines lead it to FINISH.
-use Rattle.std.proofs.Common.{arith, ◌≡◌, ◌+◌, ℕ, Bool, true, List, [], ◌∷◌, length, map, Some, sym, ap, ◌∙◌, if◌then◌else◌}
-use Rattle.std.specs.Prelude.{All, Result, Ok, Err}
+use Rattle.std.proofs.Common.{arith, ◌≡◌, ◌+◌, ℕ, true, List, [], ◌∷◌, map, Some, sym, ap, ◌∙◌, if◌then◌else◌}
+use Rattle.std.specs.Prelude.{All, Ok, Err}
 use Rattle.std.proofs.lemmas.List.Elements.{All-head, All-tail}
 use Rattle.std.proofs.lemmas.Bool.{le-ltb}
-use Rattle.deck_text.specs.declared.line.DeckFault.{DeckFault}
-use Rattle.deck_text.specs.declared.line.Which.TheVariants.{Size}
 use Rattle.deck_text.specs.DeckLines.{DeckLines}
-use Rattle.report_reading.specs.declared.fault.LineFault.{LineFault}
 use Rattle.report_reading.specs.Ranges.{IsLine, form_fault, has_form}
 use Rattle.report_reading.specs.Reading.{line_of}
 use Rattle.report_text.specs.declared.line.ReportLine.{ReportLine}
 use Rattle.report_text.specs.Lines.{text_of}
 use Rattle.report_places.specs.declared.state.Due.TheVariants.{Nothing}
 use Rattle.deck_audit.specs.State.{AuditState, first_state}
-use Rattle.report_auditor.specs.declared.status.AuditStatus.TheVariants.{Limit, Yes}
-use Rattle.report_auditor.specs.declared.status.AuditWhy.{AuditWhy}
+use Rattle.report_auditor.specs.declared.status.AuditStatus.TheVariants.{Yes}
 use Rattle.report_auditor.specs.Verdict as V
 use Rattle.report_auditor.specs.Verdict.{at_end, cut_lines, deck_judged, deck_part, judged_by, judged_lines, or_no, read_back, read_back_at, report_from}
 use Rattle.run_report.specs.Report.{report_lines}

@@ -1,12 +1,12 @@
 -- The form of an end on the plain device: with sense it has that of a check, and of another cause; without sense another status. Status, residual
 -- and sense are in their ranges.
-use Rattle.std.proofs.Common.{◌≡◌, ◌==◌, ◌+◌, ℕ, zero, suc, Bool, true, false, List, Option, Some, None, refl, ap, ◌∙◌, ◌*◌, inl, inr, arith}
-use Rattle.std.specs.Prelude.{◌%◌, ◌&&◌, ◌-◌, ◌≤◌, ◌<◌, [], ◌⊎◌, min, not, replicate, is_some, length, nat_le, nat_lt, Result, Ok, Err, ⊤, if◌then◌else◌}
+use Rattle.std.proofs.Common.{◌≡◌, ◌==◌, ℕ, zero, suc, Bool, true, false, List, Option, Some, None, refl, inr, arith}
+use Rattle.std.specs.Prelude.{◌-◌, ◌≤◌, ◌<◌, [], ◌⊎◌, min, replicate, is_some, Result, Ok, Err, ⊤}
 use Rattle.std.specs.Str.{bytes_eq}
 use Rattle.std.proofs.lemmas.Bool.{cond_both}
 use Rattle.std.proofs.lemmas.List.Elements.{All-replicate}
 use Rattle.ckd_types.specs.declared.channel.Ccw.{Ccw}
-use Rattle.ckd_types.specs.declared.channel.Note.TheVariants.{Plain, Limit}
+use Rattle.ckd_types.specs.declared.channel.Note.TheVariants.{Plain}
 use Rattle.ckd_types.specs.declared.command.Command.{Command}
 use Rattle.ckd_types.specs.declared.command.Command.TheVariants as commands
 use Rattle.ckd_types.specs.declared.command.ReadArea.{ReadArea}
@@ -17,7 +17,6 @@ use Rattle.ckd_types.specs.declared.command.Write.{Write}
 use Rattle.ckd_types.specs.declared.command.Write.TheVariants.{Data, UpdateData, KeyData, UpdateKeyData, CountKeyData, NextTrack, Zero}
 use Rattle.ckd_types.specs.declared.geometry.Geometry.{Geometry}
 use Rattle.ckd_types.specs.declared.parameters.Domain.{Domain}
-use Rattle.ckd_types.specs.declared.parameters.Extent.{Extent}
 use Rattle.ckd_types.specs.declared.record.Record.{Record}
 use Rattle.ckd_types.specs.declared.record.Track.{Track}
 use Rattle.ckd_types.specs.declared.sense.Sense.{Sense}
@@ -37,44 +36,36 @@ use Rattle.ckd_rules.specs.declared.finding.Sought.TheVariants.{Here, Onward, No
 use Rattle.ckd_rules.specs.declared.opening.Opening.{Opening}
 use Rattle.ckd_rules.specs.declared.opening.Opening.TheVariants as openings
 use Rattle.ckd_rules.specs.declared.order.LocalAct.{LocalAct}
-use Rattle.ckd_rules.specs.declared.order.LocalAct.TheVariants as acts
 use Rattle.ckd_rules.specs.declared.order.Look.{Look}
-use Rattle.ckd_rules.specs.declared.order.Look.TheVariants.{Finds, Searches, Reads, Writes}
+use Rattle.ckd_rules.specs.declared.order.Look.TheVariants.{Writes}
 use Rattle.ckd_rules.specs.declared.order.CommandOrder.{CommandOrder}
-use Rattle.ckd_rules.specs.declared.order.CommandOrder.TheVariants.{Nothing, Seeks, Recalibrates, SetsSector, SetsMask, Defines, Locates, Looks, Asks}
 use Rattle.ckd_rules.specs.declared.ending.Ending.{Ending}
 use Rattle.ckd_rules.specs.declared.grouping.GroupFault.{GroupFault}
 use Rattle.ckd_types.specs.Fixed.{Fixed}
-use Rattle.ckd_types.specs.Status.{has_unit_check, has_unit_exception}
 use Rattle.ckd_types.specs.Mask.{permits_write, permits_seek}
-use Rattle.ckd_types.specs.Commands.{required_count}
 use Rattle.ckd_rules.specs.declared.stance.After.{After}
 use Rattle.ckd_rules.specs.declared.stance.After.TheVariants.{Other, Wrote}
 use Rattle.ckd_rules.specs.declared.stance.Place.{Place}
-use Rattle.ckd_rules.specs.declared.stance.Place.TheVariants.{Index, Home, Count, Key, Body}
 use Rattle.ckd_rules.specs.declared.stance.Stance.{Stance}
 use Rattle.ckd_rules.specs.declared.turned.Turned.{Turned}
 use Rattle.ckd_rules.specs.declared.turned.Turned.TheVariants as turns
-use Rattle.ckd_rules.specs.Checks.{mask_fault, masked_order, order_by, order_of, permitted_order, placed_order, is_within, first_track, is_in_sequence, decoded_order}
-use Rattle.ckd_rules.specs.Control.{located, unseen_place}
-use Rattle.ckd_rules.specs.Ending.{Outcome, check, exception, normal, refused}
-use Rattle.ckd_rules.specs.Ends.{at_limit, end_at_word, is_plain, note_of}
-use Rattle.ckd_rules.specs.Finding.{find_from, from_index, search_missed, moves_on, next_track, track_after}
-use Rattle.ckd_rules.specs.Formats.{format_behind, format_ended, record_given, has_room_behind, is_zero_given, key_given, body_given, zero_on}
+use Rattle.ckd_rules.specs.Checks.{mask_fault, masked_order, order_by, order_of, permitted_order, placed_order, is_within, first_track, decoded_order}
+use Rattle.ckd_rules.specs.Control.{located}
+use Rattle.ckd_rules.specs.Ending.{Outcome, check, refused}
+use Rattle.ckd_rules.specs.Ends.{end_at_word}
+use Rattle.ckd_rules.specs.Finding.{find_from, from_index, search_missed, next_track}
+use Rattle.ckd_rules.specs.Formats.{format_behind, zero_on}
 use Rattle.ckd_rules.specs.Look.{look_on}
-use Rattle.ckd_rules.specs.Looked.{Looked, edits, ends}
-use Rattle.ckd_rules.specs.Opening.{begun, locating, look_from, moved, opening_with, opening_of, read_from}
-use Rattle.ckd_rules.specs.Reads.{read_sought, record_at, read_status, status_of}
-use Rattle.ckd_rules.specs.Searches.{search_sought, search_status}
-use Rattle.ckd_types.specs.declared.record.Edit.TheVariants.{Format, Update, Zero as ZeroEdit}
-use Rattle.ckd_types.specs.Ccw.{is_chained}
-use Rattle.ckd_rules.specs.Area.{given_at}
-use Rattle.ckd_rules.specs.Updates.{update_data, update_ended, update_record, update_sought}
+use Rattle.ckd_rules.specs.Looked.{Looked}
+use Rattle.ckd_rules.specs.Opening.{begun, locating, look_from, opening_with, opening_of, read_from}
+use Rattle.ckd_rules.specs.Reads.{read_sought, status_of}
+use Rattle.ckd_rules.specs.Searches.{search_sought}
+use Rattle.ckd_rules.specs.Updates.{update_data, update_record, update_sought}
 use Rattle.ckd_rules.specs.Walk as W
 use Rattle.ckd_rules.specs.Walk.{Walked, walk, walked}
 use Rattle.ckd_rules.specs.Writes.{write_on}
 use Rattle.hex.specs.Hex.{IsBytes}
-use Rattle.plain_defs.specs.Acts.{act_fault, act_outcome}
+use Rattle.plain_defs.specs.Acts.{act_outcome}
 use Rattle.plain_defs.specs.Effect.{acted_by, effect_by, effect_on}
 use Rattle.plain_defs.specs.PlainState.{PathsState, PlainState}
 use Rattle.report_reading.specs.Ranges.{AreBytes}

@@ -23,10 +23,9 @@ use Rattle.std.proofs.Common.{
   arith,
 }
 use Rattle.std.specs.Prelude.{if◌then◌else◌}
-use Rattle.std.proofs.lemmas.Bool.{eq-eqb, eqb-false, eqb-true, ne_eqb}
+use Rattle.std.proofs.lemmas.Bool.{eqb-false, eqb-true, ne_eqb}
 use Rattle.std.proofs.lemmas.List.Elements.{All-head}
 use Rattle.ckd_types.specs.declared.paths.Side.{Side}
-use Rattle.ckd_types.specs.declared.paths.Side.TheVariants as sides
 use Rattle.loss_model.specs.declared.Loss.{Loss}
 use Rattle.loss_model.specs.declared.Loss.TheVariants as losses
 use Rattle.deck_text.specs.declared.line.DeviceLine.{DeviceLine}
@@ -41,7 +40,7 @@ use Rattle.device_defs.specs.Contents.{by_plain}
 use Rattle.device_defs.specs.Cutting.{power, reset}
 use Rattle.device_defs.specs.Events.{background, lose, second}
 use Rattle.device_defs.specs.Marks.{MarksDevice}
-use Rattle.device_defs.specs.Orders.{hold_side, join, lend, replace, restore, resume, split}
+use Rattle.device_defs.specs.Orders.{hold_side, join, lend, resume, split}
 use Rattle.device_defs.specs.Start as S
 use Rattle.device_defs.specs.Start.{start}
 use Rattle.device_laws.proofs.Always.{Always}
@@ -50,34 +49,19 @@ use Rattle.device_laws.proofs.BasedEvents.{background_based, base_in, command_ba
 use Rattle.device_laws.proofs.Had.{held}
 use Rattle.subsystem_defs.specs.declared.end.EventEnd.{EventEnd}
 use Rattle.subsystem_defs.specs.declared.end.EventEnd.TheVariants as ends
-use Rattle.subsystem_defs.specs.declared.end.OrderFault.{OrderFault}
 use Rattle.subsystem_defs.specs.declared.event.Event.{Event}
-use Rattle.subsystem_defs.specs.declared.event.Event.TheVariants as events
 use Rattle.subsystem_defs.specs.Decks as D
 use Rattle.subsystem_defs.specs.Decks.{opened, opened_device, run_of}
-use Rattle.subsystem_defs.specs.Deeds.{Asks, Becomes, Each, Ends, Lends, Repairs, deed, device_in, end_of, ends_done}
+use Rattle.subsystem_defs.specs.Deeds.{Asks, Becomes, Each, Ends, Lends, Repairs, deed, end_of, ends_done}
 use Rattle.subsystem_defs.specs.Happening as H
 use Rattle.subsystem_defs.specs.Happening.{MarksDeed, Talk, asks, becomes, behind_outcome, happens, happens_by, held_with, is_lent_to, joined, lends, mounted_behind, replaced, replaced_at, replaced_by, restored_in, sweep, told_to, unpaired, unpaired_at, unpaired_by}
 use Rattle.subsystem_defs.specs.Lines.{Asked, Logged, asked_by, last_behind, line_logged, run_lines}
 use Rattle.subsystem_defs.specs.Refusals as R
 use Rattle.subsystem_defs.specs.Refusals.{pair_fault, replace_fault, unpair_fault}
-use Rattle.subsystem_defs.specs.Subsystem.{Mounted, Subsystem, devices_of, mounted_in, number_of, put_in, unfailing, with_calls}
-use Rattle.subsystem_defs.specs.declared.end.OrderFault.TheVariants.{Paired, Same}
+use Rattle.subsystem_defs.specs.Subsystem.{Mounted, Subsystem, devices_of, mounted_in, number_of, put_in, unfailing}
 use Rattle.subsystem_defs.proofs.Unrefused.{first_none, where_none}
 use Rattle.subsystem_laws.proofs.DeedWalk.{IsDeedwise, IsSeat, Stands, deed_is, seat_of}
-use Rattle.subsystem_laws.proofs.StoreFacts.{
-  Bears,
-  Facts,
-  facts_of,
-  failed_more,
-  fallen,
-  background_leaves,
-  command_leaves,
-  lose_leaves,
-  power_leaves,
-  reset_leaves,
-  second_leaves,
-}
+use Rattle.subsystem_laws.proofs.StoreFacts.{Bears, Facts, facts_of, fallen, background_leaves, command_leaves, lose_leaves, power_leaves, reset_leaves, second_leaves}
 use Rattle.subsystem_laws.proofs.FoundDevices.{number_found}
 use Rattle.subsystem_laws.proofs.LendBase.{at, stays_still}
 use Rattle.subsystem_laws.proofs.RunLines.{AnyEvent, Goes, MayAsk, all_asked, line_goes, lines_keep, logs_end, Logs}

@@ -1,6 +1,6 @@
 -- The lines of one piece of work, whichever event line has it.
-use Rattle.std.proofs.Common.{arith, ◌≡◌, ◌==◌, ◌++◌, ℕ, Bool, true, false, List, [], ◌∷◌, map, Option, Some, None, refl, sym, ap, subst, ◌∙◌, if◌then◌else◌}
-use Rattle.std.specs.Prelude.{◌&&◌, Err, option_map}
+use Rattle.std.proofs.Common.{arith, ◌≡◌, ◌==◌, ◌++◌, ℕ, Bool, true, false, List, [], ◌∷◌, map, Option, Some, None, refl, ap, ◌∙◌, if◌then◌else◌}
+use Rattle.std.specs.Prelude.{◌&&◌}
 use Rattle.std.proofs.lemmas.Bool.{or_left, or_right, and_from}
 use Rattle.ckd_types.specs.declared.channel.CommandEnd.{CommandEnd}
 use Rattle.ckd_types.specs.Sense.{equipment_sense}
@@ -23,13 +23,12 @@ use Rattle.report_places.specs.declared.state.Due.TheVariants.{Next}
 use Rattle.report_places.specs.declared.state.HalfWrite.{HalfWrite}
 use Rattle.report_places.specs.declared.state.HalfWrite.TheVariants as half
 use Rattle.report_places.specs.declared.state.Outline.{Outline}
-use Rattle.report_places.specs.Place.{holds, in_event, in_steps, is_back_line, is_second_line, may_back, may_step, outline_in, second_of, worker_of}
+use Rattle.report_places.specs.Place.{holds, in_event, is_back_line, is_second_line, may_back, may_step, outline_in, second_of, worker_of}
 use Rattle.deck_audit.specs.Device.{AuditedDevice, check_end, device_in, is_idle, open_program, outline_of, state_of, with_device, words_of_open}
 use Rattle.deck_audit.specs.History.{back_half, event_made, is_last, is_legal, work_made}
 use Rattle.deck_audit.specs.State.{AuditState, outlines, worked}
-use Rattle.report_auditor.specs.declared.status.AuditWhy.TheVariants.{Place}
 use Rattle.report_auditor.specs.Verdict.{judged, or_history}
-use Rattle.run_audit_laws.specs.Steps.{LeadsTowards, NoLoss, Reaches, act_line, acted_to, over_if, over_told, step_lines}
+use Rattle.run_audit_laws.specs.Steps.{LeadsTowards, NoLoss, act_line, acted_to, over_if, over_told, step_lines}
 use Rattle.run_audit_laws.proofs.Backs.{over_halved, over_worked, work_leads}
 use Rattle.run_audit_laws.proofs.CameOut.{ChecksSo, EndsSo, firmly, loosely}
 use Rattle.run_audit_laws.proofs.Commands.{check_command_leads, loose_command_leads, plain_command_leads}

@@ -49,11 +49,11 @@ use Rattle.subsystem_laws.proofs.RunLines.{AnyEvent}
 use Rattle.subsystem_laws.proofs.RunLinks.{event_from}
 use Rattle.subsystem_laws.proofs.Walks.{AreSo, device_so, event_so}
 use Rattle.run_audit_laws.specs.Runs.{LineGoes, RunIsOver, SettleIsOver, ends_settled}
-use Rattle.run_audit_laws.specs.Standing.{HasDevice, LeadsBy, stand}
+use Rattle.run_audit_laws.specs.Standing.{HasDevice, stand}
 use Rattle.run_audit_laws.specs.Steps.{LeadsTowards, is_there}
 use Rattle.run_audit_laws.proofs.Found.{mounted_too}
 use Rattle.run_audit_laws.proofs.NextLines.{towards_then}
-use Rattle.run_audit_laws.proofs.PieceEvents.{PieceGoes, back_goes, back_piece, run_idle_leads, run_step_goes, settle_piece, step_line_goes}
+use Rattle.run_audit_laws.proofs.PieceEvents.{PieceGoes, back_goes, back_piece, run_idle_leads, settle_piece, step_line_goes}
 use Rattle.run_audit_laws.proofs.Pieces.{by_back, by_settle}
 use Rattle.run_audit_laws.proofs.RunEnds.{run_is_over, device_there, piece_of_run}
 use Rattle.run_audit_laws.proofs.BackEnds.{settle_over}
