@@ -80,10 +80,6 @@ module _ (a : AuditedDevice) (o : OpenEntry) where
   abbrev g : Going
   g = going_of a.plans (replay a.plans a.empty a.history.items) o
 
-  loosens_in : (t : ℕ) → loosens (part_of_open a o) (edit_of a o) t ≡ loosens (untold (part_of_open a o))
-      (edit_in a.plans (going_of a.plans (replay a.plans a.empty a.history.items) o)) t
-  loosens_in t = grind (arith, untold)
-
 abbrev pub legal_by : Plans → Option Going → Bool
 legal_by plans (Some g) = is_edit_legal g.part (edit_in plans g)
 legal_by plans None = true
@@ -146,33 +142,24 @@ module _ (a b : AuditedDevice) (is : Alike a b) where
   free_same : (path : ℕ) → free_answer a path ≡ free_answer b path
   free_same path = grind (arith, left_same path, may_same path, next_same path, held_same (state_of a).paths.owner, state_same)
 
-  pub own_same : (path : ℕ) → own_runs a.history.running path ≡ own_runs b.history.running path
-  own_same path = both (λ r q. own_runs r path ≡ own_runs q path) refl (λ o p one two going. ap (λ (g : Going). g.path == path) going)
-
   pub start_same : (path : ℕ) → start_answer a path ≡ start_answer b path
-  start_same path = grind (arith, own_same, both, free_same)
+  start_same path = grind (arith, both, free_same)
 
   -- The next command
 
   module _ (o p : OpenEntry) (going : going_of a.plans (replay a.plans a.empty a.history.items) o
       ≡ going_of b.plans (replay b.plans b.empty b.history.items) p) where
-    pub words_same : words_of_open a o ≡ words_of_open b p
-    words_same = ap (λ (l : Plans). program_of l o.path o.ordinal) plans_same ∙ ap (words_in b.plans) going
-
     pub end_same : plain_end a o ≡ plain_end b p
-    end_same = grind (arith, untold, words_same)
+    end_same = grind (arith, untold)
 
     loosens_so : (t : ℕ) → loosens (part_of_open a o) (edit_of a o) t ≡ loosens (part_of_open b p) (edit_of b p) t
-    loosens_so t = grind (arith, loosens_in, untold, going_of, plans_same)
-
-  pub next_legal_same : is_next_legal a a.history.running ≡ is_next_legal b b.history.running
-  next_legal_same = grind arith
+    loosens_so t = grind (arith, untold, going_of, plans_same)
 
   pub may_loosen_same : (t : ℕ) → may_loosen a a.history.running t ≡ may_loosen b b.history.running t
   may_loosen_same t = both (λ r q. may_loosen a r t ≡ may_loosen b q t) refl (λ o p one two going. loosens_so o p going t)
 
   pub legal_same : (did : Did) → is_legal did a ≡ is_legal did b
-  legal_same did = grind (arith, next_legal_same)
+  legal_same did = grind arith
 
   pub over_same : (did : Did) → over_by a did a.history.running ≡ over_by b did b.history.running
   over_same did = grind (arith, both, number_same)
@@ -199,13 +186,6 @@ module _ (a b : AuditedDevice) (is : Alike a b) where
   pub dark_alike : Alike (without_power a) (without_power b)
   dark_alike = with_alike (λ h. _) _ power_is_read _ _ refl
 
-  pub lent_runs_same : (n : ℕ) → runs_lent n a ≡ runs_lent n b
-  lent_runs_same n = grind arith
-
-  empty_alike : runs a.history.running ≡ false →
-      Alike (record a { history = emptied a.history; lent = None }) (record b { history = emptied b.history; lent = None })
-  empty_alike idle = search (arith, emptied_alike)
-
   -- a device that comes back empty runs no program
   pub back_alike : (n : ℕ) → runs_lent n a ≡ false → Alike (given_back n a) (given_back n b)
-  back_alike n idle = grind (arith, empty_alike)
+  back_alike n idle = grind (arith, emptied_alike)

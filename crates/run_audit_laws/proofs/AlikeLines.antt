@@ -30,7 +30,7 @@ use Rattle.deck_audit.specs.State.{AuditState, behind_work, passed, settled, set
 use Rattle.report_auditor.specs.declared.status.AuditWhy.TheVariants.{Place}
 use Rattle.report_auditor.specs.Verdict.{judged, or_history}
 use Rattle.run_audit_laws.specs.Standing.{LeadsBy}
-use Rattle.run_audit_laws.proofs.AlikeDevices.{Alike, alike_self, alike_then, back_alike, both, dark_alike, end_same, event_over_same, half_alike, half_same, history_alike, legal_same, lent_runs_same, loose_same, loss_same, may_loosen_same, next_legal_same, number_same, over_same, start_same, state_same, with_alike, worked_alike}
+use Rattle.run_audit_laws.proofs.AlikeDevices.{Alike, alike_self, alike_then, back_alike, both, dark_alike, end_same, event_over_same, half_alike, half_same, history_alike, legal_same, loose_same, loss_same, may_loosen_same, number_same, over_same, start_same, state_same, with_alike, worked_alike}
 use Rattle.run_audit_laws.proofs.Pasts.{IsFew, act_is_read, cut, cut_in, cut_is_read, going_of, reset_is_read}
 
 abbrev pub AreAlike : List AuditedDevice → List AuditedDevice → Type 0
@@ -94,7 +94,7 @@ dark_all xs ys all = absurd all
 module _ (n : ℕ) where
   any_lent_same : (xs ys : List AuditedDevice) → AreAlike xs ys → list_any (runs_lent n) xs ≡ list_any (runs_lent n) ys
   any_lent_same [] [] all = refl
-  any_lent_same (a ∷ xs) (b ∷ ys) all = grind (arith, any_lent_same xs ys all.1, lent_runs_same)
+  any_lent_same (a ∷ xs) (b ∷ ys) all = grind (arith, any_lent_same xs ys all.1)
   any_lent_same xs ys all = absurd all
 
   back_all : (xs ys : List AuditedDevice) → AreAlike xs ys → list_any (runs_lent n) xs ≡ false → AreAlike (map (given_back n) xs) (map (given_back n) ys)
@@ -154,9 +154,6 @@ module _ (s u : AuditState) (all : AlikeStates s u) (line : ReportLine) where
       end_by_alike (Some e) = grind (arith, if_alike, due_alike, shut, number_same)
       end_by_alike None = tt
 
-      check_alike : (e : CommandEnd) → AlikeMade (check_made s line a e o) (check_made u line b e p)
-      check_alike e = grind (arith, due_alike, if_alike)
-
       -- a program that is cut
       cuts : (more : ℕ) → IsFew more → AlikeStates
           (record (changed s (record a { history = reset_in_history a.history o.path more; half = cut_half a.half })) { due = ResetOf })
@@ -169,7 +166,7 @@ module _ (s u : AuditState) (all : AlikeStates s u) (line : ReportLine) where
       power_cuts one two more few = grind (arith, due_alike, changed_alike, cut_in, cut, history_alike, cut_is_read, number_same, place_same)
 
       power_cut_alike : a.history.running ≡ Some o → b.history.running ≡ Some p → (k : ℕ) → AlikeMade (power_cut s a k o) (power_cut u b k p)
-      power_cut_alike one two k = grind (arith, if_alike, power_cuts, next_legal_same)
+      power_cut_alike one two k = grind (arith, if_alike, power_cuts)
 
     end_made_alike : AlikeMade (end_made s line a a.history.running) (end_made u line b b.history.running)
     end_made_alike = grind (arith, both, end_same, end_by_alike)
@@ -218,7 +215,7 @@ module _ (s u : AuditState) (all : AlikeStates s u) where
   work_alike line a b is = passed_alike s u all
 
   resets_alike : (line : ReportLine) (path : ℕ) (a b : AuditedDevice) → Alike a b → AlikeMade (reset_made s line path a) (reset_made u line path b)
-  resets_alike line path a b is = grind (arith, both, reset_alike, if_alike, cuts, next_legal_same)
+  resets_alike line path a b is = grind (arith, both, reset_alike, if_alike, cuts)
 
   -- Orders
 
@@ -281,7 +278,7 @@ module _ (s u : AuditState) (all : AlikeStates s u) where
 
   due_made_alike : (line : ReportLine) (due : Due) → AlikeMade (due_made s line due) (due_made u line due)
   due_made_alike line due =
-      grind (arith, next_alike, shown_alike, due_alike, then_alike, worker_alike, over_wanted, first_same, first_order, passed_alike, powers_alike, if_alike, both, check_alike)
+      grind (arith, next_alike, shown_alike, due_alike, then_alike, worker_alike, over_wanted, first_same, first_order, passed_alike, powers_alike, if_alike, both)
 
 settled_due : (t v : AuditState) → AlikeStates t v → (line : ReportLine) → AlikeMade (due_made t line t.due) (due_made v line v.due)
 settled_due t v all line = grind (arith, due_made_alike)

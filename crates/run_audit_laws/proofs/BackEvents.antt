@@ -1,6 +1,7 @@
 -- Each event of a device's work in the background that doesn't stop leaves less to do, and so a SETTLE comes to its end.
-use Rattle.std.proofs.Common.{◌≡◌, ◌≢◌, ◌<◌, ◌≤◌, ◌⊎◌, ℕ, Bool, true, false, Option, Some, None, is_some, refl, sym, ap, subst, ◌∙◌, arith, inl, inr}
+use Rattle.std.proofs.Common.{◌≡◌, ◌≢◌, ◌<◌, ◌≤◌, ◌*◌, ◌⊎◌, ℕ, Bool, true, false, length, Option, Some, None, is_some, refl, sym, ap, subst, ◌∙◌, arith, inl, inr}
 use Rattle.std.proofs.lemmas.Bool.{cases_eq}
+use Rattle.std.specs.Prelude.{if◌then◌else◌}
 use Rattle.device_defs.specs.declared.answers.Did.{Did}
 use Rattle.device_defs.specs.declared.answers.SecondEnd.{SecondEnd}
 use Rattle.device_defs.specs.Contents.{by_plain}
@@ -22,9 +23,9 @@ use Rattle.device_laws.proofs.TrackMarks as M
 use Rattle.device_laws.proofs.TrackMarks.{is_good, marks}
 use Rattle.device_laws.proofs.WholeEvents.{turned_same}
 use Rattle.subsystem_laws.proofs.GoodMarks.{Good, by_lent, half_home}
-use Rattle.run_audit_laws.proofs.Weights.{Spot, left, spot_at, sum_least, weight}
-use Rattle.run_audit_laws.proofs.Lighter.{Lower, Same, WorkSo, not_own, own_is, lower_on, near_frame, same_least, same_self, work_on}
-use Rattle.run_audit_laws.proofs.InOrder.{work_so}
+use Rattle.run_audit_laws.proofs.Weights.{Spot, left, one, spot_at, sum, sum_least, weight, weight_at}
+use Rattle.run_audit_laws.proofs.Lighter.{Lower, Same, WorkSo, as_least, not_own, own_is, lower_on, near_frame, same_least, same_self, work_on}
+use Rattle.run_audit_laws.proofs.InOrder.{weight_if, works_by, work_so}
 use Rattle.run_audit_laws.proofs.SecondLighter.{IsSafe, is_level}
 use Rattle.run_audit_laws.proofs.SecondWork.{part_so}
 

@@ -1,6 +1,6 @@
 -- The lines of the first part of a command's write, and of work in the background.
-use Rattle.std.proofs.Common.{arith, ◌≡◌, ◌++◌, ℕ, Bool, true, List, ◌∷◌, map, Option, Some, None, refl}
-use Rattle.std.specs.Prelude.{Ok}
+use Rattle.std.proofs.Common.{arith, ◌≡◌, ◌==◌, ◌++◌, ℕ, Bool, true, false, List, ◌∷◌, map, Option, Some, None, refl, ap, ◌∙◌, if◌then◌else◌}
+use Rattle.std.specs.Prelude.{◌&&◌, Ok, Err, option_map}
 use Rattle.std.proofs.lemmas.Bool.{or_right, and_from}
 use Rattle.deck_plan.specs.declared.event.EventLine.{EventLine}
 use Rattle.deck_plan.specs.declared.event.EventLine.TheVariants.{Back, Step}
@@ -17,11 +17,13 @@ use Rattle.report_places.specs.declared.state.Did.TheVariants.{Halved, Worked}
 use Rattle.report_places.specs.declared.state.Due.TheVariants.{Behind, Next}
 use Rattle.report_places.specs.declared.state.HalfWrite.{HalfWrite}
 use Rattle.report_places.specs.declared.state.HalfWrite.TheVariants.{Closed, OfCommand}
-use Rattle.report_places.specs.Place.{may_back, worker_of}
-use Rattle.deck_audit.specs.Device.{AuditedDevice, device_in, outline_of, state_of}
-use Rattle.deck_audit.specs.History.{back_half, is_last, is_legal}
+use Rattle.report_places.specs.declared.state.Outline.{Outline}
+use Rattle.report_places.specs.Place.{holds, in_steps, may_back, may_step, worker_of}
+use Rattle.deck_audit.specs.Device.{AuditedDevice, device_in, open_program, outline_of, state_of}
+use Rattle.deck_audit.specs.History.{back_half, event_made, is_last, is_legal, work_made}
 use Rattle.deck_audit.specs.State.{AuditState, over_by}
-use Rattle.report_auditor.specs.Verdict.{judged}
+use Rattle.report_auditor.specs.declared.status.AuditWhy.TheVariants.{Place}
+use Rattle.report_auditor.specs.Verdict.{judged, or_history}
 use Rattle.run_audit_laws.specs.Standing.{LeadsBy}
 use Rattle.run_audit_laws.specs.Steps.{BackLeads, HalfLeads, NoLoss, Reaches, act_line}
 use Rattle.run_audit_laws.proofs.Found.{outlined}

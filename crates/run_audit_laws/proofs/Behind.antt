@@ -18,7 +18,7 @@ use Rattle.subsystem_defs.specs.Subsystem.{Subsystem, devices_of}
 use Rattle.subsystem_laws.specs.Served.{IsServed, IsServedDeck}
 use Rattle.subsystem_laws.proofs.GoodMarks.{Good, good_kept, opened_good}
 use Rattle.subsystem_laws.proofs.PlainRuns.{ArePlain, line_plain, opened_plain, plain_behind}
-use Rattle.subsystem_laws.proofs.ReadDecks.{read_served}
+use Rattle.subsystem_laws.proofs.ReadDecks.{read_served, read_small}
 use Rattle.subsystem_laws.proofs.RunLines.{AnyEvent, MayAsk, all_asked}
 use Rattle.subsystem_laws.proofs.Walks.{AreSo, line_keeps, lines_end_so}
 use Rattle.run_audit_laws.specs.Standing.{HasDevice}

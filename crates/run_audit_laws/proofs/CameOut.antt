@@ -1,16 +1,22 @@
 -- What came of a command, and of acts, is what a plain device does: read off a history that is a plain device's before it and behind it.
-use Rattle.std.proofs.Common.{◌≡◌, ◌++◌, ◌-◌, ℕ, suc, Bool, true, false, List, [], ◌∷◌, map, length, Option, Some, None, refl, sym, ap, subst, ◌∙◌, if◌then◌else◌, inl, inr, arith, append_assoc}
-use Rattle.std.specs.Prelude.{◌⊎◌, IsSome, IfSome}
+use Rattle.std.proofs.Common.{◌≡◌, ◌==◌, ◌++◌, ◌-◌, ℕ, suc, Bool, true, false, not, List, [], ◌∷◌, map, length, Option, Some, None, refl, sym, ap, subst, ◌∙◌, if◌then◌else◌, inl, inr, arith, append_assoc}
+use Rattle.std.specs.Prelude.{◌&&◌, ◌⊎◌, IsSome, IfSome}
 use Rattle.std.proofs.lemmas.List.{append-nil, append_cancel_left}
 use Rattle.std.proofs.lemmas.Bool.{and_from}
 use Rattle.ckd_types.specs.declared.channel.Ccw.{Ccw}
 use Rattle.ckd_types.specs.declared.channel.CommandEnd.{CommandEnd}
+use Rattle.ckd_types.specs.declared.channel.Note.{Note}
+use Rattle.ckd_types.specs.declared.channel.Note.TheVariants.{Plain}
 use Rattle.ckd_types.specs.declared.record.Track.{Track}
 use Rattle.ckd_types.specs.declared.sense.Sense.{Sense}
+use Rattle.ckd_types.specs.declared.status.UnitStatus.{UnitStatus}
+use Rattle.ckd_types.specs.Ccw.{ccw_at}
 use Rattle.ckd_types.specs.Fixed.{Fixed}
 use Rattle.ckd_types.specs.Parameters.{is_provisional}
 use Rattle.ckd_types.specs.Sense.{data_check_sense, equipment_sense}
 use Rattle.ckd_rules.specs.declared.stance.Stance.{Stance}
+use Rattle.ckd_rules.specs.Ending.{check}
+use Rattle.ckd_rules.specs.Ends.{end_at_word}
 use Rattle.ckd_rules.specs.Walk.{TrackEdit}
 use Rattle.plain_defs.specs.declared.journal.Act.{Act}
 use Rattle.plain_defs.specs.declared.journal.Act.TheVariants.{Loosen, Harden, CfwLost}
@@ -18,7 +24,7 @@ use Rattle.plain_defs.specs.declared.journal.Acted.{Acted}
 use Rattle.plain_defs.specs.declared.journal.How.TheVariants.{Full, Checked}
 use Rattle.plain_defs.specs.declared.journal.Item.{Item}
 use Rattle.plain_defs.specs.declared.journal.Item.TheVariants as items
-use Rattle.plain_defs.specs.Effect.{effect_on}
+use Rattle.plain_defs.specs.Effect.{Effect, effect_on}
 use Rattle.plain_defs.specs.History.{History, IsOpen, IsPlain, OpenEntry, checked, closed, ended, entry_of, resets_of, state_by, with_end}
 use Rattle.plain_defs.specs.Journal.{Plans, program_of, replay, replay_item}
 use Rattle.plain_defs.specs.Legal.{
@@ -36,6 +42,7 @@ use Rattle.plain_defs.specs.Legal.{
 }
 use Rattle.plain_defs.specs.Loose.{act_done, is_loose_there, is_loose_in}
 use Rattle.plain_defs.specs.PlainState.{LooseTrack, PathsState, PlainState}
+use Rattle.plain_defs.specs.Program as P
 use Rattle.plain_defs.specs.Program.{Part, acts_at, acts_done, part_of}
 use Rattle.plain_defs.proofs.PartLemmas.{IsBeside, acted_beside, more_ends, part_more}
 use Rattle.device_defs.specs.Command.{is_loss}

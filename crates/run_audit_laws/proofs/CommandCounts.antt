@@ -1,38 +1,49 @@
 -- Each command of a program counts one more in its stance, so no more than 4,096 of them end.
-use Rattle.std.proofs.Common.{arith, ◌≡◌, ◌+◌, ℕ, zero, suc, Bool, List, Option, is_some, refl, ap}
-use Rattle.std.specs.Prelude.{if◌then◌else◌, Result}
+use Rattle.std.proofs.Common.{arith, ◌≡◌, ◌+◌, ◌*◌, ◌==◌, ℕ, zero, suc, Bool, true, false, List, Option, Some, None, is_some, Ok, Err, refl, sym, ap, ◌∙◌}
+use Rattle.std.specs.Prelude.{if◌then◌else◌, Result, length}
 use Rattle.ckd_types.specs.declared.channel.Ccw.{Ccw}
 use Rattle.ckd_types.specs.declared.command.Read.{Read}
 use Rattle.ckd_types.specs.declared.command.ReadArea.{ReadArea}
+use Rattle.ckd_types.specs.declared.command.ReadArea.TheVariants as reads
 use Rattle.ckd_types.specs.declared.command.SearchArea.{SearchArea}
 use Rattle.ckd_types.specs.declared.command.Write.{Write}
+use Rattle.ckd_types.specs.declared.command.Write.TheVariants as writes
 use Rattle.ckd_types.specs.declared.geometry.Geometry.{Geometry}
 use Rattle.ckd_types.specs.declared.parameters.Domain.{Domain}
 use Rattle.ckd_types.specs.declared.record.Record.{Record}
 use Rattle.ckd_types.specs.declared.record.Track.{Track}
 use Rattle.ckd_types.specs.declared.sense.Sense.{Sense}
 use Rattle.ckd_types.specs.Fixed.{Fixed}
+use Rattle.ckd_types.specs.Volume.{track_in}
 use Rattle.ckd_rules.specs.declared.order.LocalAct.{LocalAct}
+use Rattle.ckd_rules.specs.declared.order.LocalAct.TheVariants as acts
 use Rattle.ckd_rules.specs.declared.grouping.GroupFault.{GroupFault}
 use Rattle.ckd_rules.specs.declared.finding.Sought.{Sought}
+use Rattle.ckd_rules.specs.declared.finding.Sought.TheVariants as sought
 use Rattle.ckd_rules.specs.declared.opening.Opening.{Opening}
 use Rattle.ckd_rules.specs.declared.opening.Opening.TheVariants as openings
 use Rattle.ckd_rules.specs.declared.order.Look.{Look}
+use Rattle.ckd_rules.specs.declared.order.Look.TheVariants as looks
 use Rattle.ckd_rules.specs.declared.order.CommandOrder.{CommandOrder}
+use Rattle.ckd_rules.specs.declared.order.CommandOrder.TheVariants as orders
 use Rattle.ckd_rules.specs.declared.stance.After.{After}
+use Rattle.ckd_rules.specs.declared.stance.After.TheVariants as afters
 use Rattle.ckd_rules.specs.declared.stance.Place.{Place}
+use Rattle.ckd_rules.specs.declared.stance.Place.TheVariants as places
 use Rattle.ckd_rules.specs.declared.stance.Stance.{Stance}
 use Rattle.ckd_rules.specs.declared.turned.Turned.{Turned}
 use Rattle.ckd_rules.specs.declared.turned.Turned.TheVariants as turns
-use Rattle.ckd_rules.specs.Formats.{format_behind, zero_on}
-use Rattle.ckd_rules.specs.Control.{located}
+use Rattle.ckd_rules.specs.Checks.{order_of}
+use Rattle.ckd_rules.specs.Finding.{track_after}
+use Rattle.ckd_rules.specs.Formats.{key_given, body_given, has_room_behind, is_zero_given, format_behind, zero_on}
+use Rattle.ckd_rules.specs.Control.{located, unseen_place}
 use Rattle.ckd_rules.specs.Look.{look_on}
 use Rattle.ckd_rules.specs.Looked.{Looked}
-use Rattle.ckd_rules.specs.Opening.{moved, read_from, look_from, locating, begun}
-use Rattle.ckd_rules.specs.Reads.{read_sought}
+use Rattle.ckd_rules.specs.Opening.{moved, read_from, look_from, locating, begun, opening_with, opening_of}
+use Rattle.ckd_rules.specs.Reads.{record_at, read_place, read_passes, read_after, read_sought}
 use Rattle.ckd_rules.specs.Searches.{search_sought}
 use Rattle.ckd_rules.specs.Stance.{one_less}
-use Rattle.ckd_rules.specs.Updates.{update_data, update_record, update_sought}
+use Rattle.ckd_rules.specs.Updates.{after_update, update_data, update_record, update_sought}
 use Rattle.ckd_rules.specs.Walk as W
 use Rattle.ckd_rules.specs.Walk.{Walked, walk, walked}
 use Rattle.ckd_rules.specs.Writes.{write_on}

@@ -33,9 +33,6 @@ OfNamed P (events.Resume d) = P d
 OfNamed P _ = Unit {0}
 
 module _ (devices : List DeviceLine) where
-  of_side : (device side : List ℕ) (at : ℕ × Side) → side_words devices device side ≡ Ok at → is_declared devices at.0 ≡ true
-  of_side device side at h = grind (arith, went)
-
   -- an event of one device
   of_device : (f : ℕ → EventLine) → ((x y : ℕ) → ◌≡◌ {A = Result EventLine DeckWhy} (Ok (f x)) (Ok (f y)) → x ≡ y) → (words : List (List ℕ)) (d : ℕ) →
       then_read (device_words devices words) (λ x. Ok (f x)) ≡ Ok (f d) → is_declared devices d ≡ true
@@ -57,7 +54,7 @@ module _ (devices : List DeviceLine) where
   of_volume w words d side h = grind (arith, went)
 
   of_event : (e : EventLine) → EventOk devices e → OfNamed (λ d. is_declared devices d ≡ true) e
-  of_event e ok = grind (arith, went, of_side, pair_is)
+  of_event e ok = grind (arith, went, pair_is)
 
   of_events : (es : List EventLine) → Each (EventOk devices) es → Each (OfNamed (λ d. is_declared devices d ≡ true)) es
   of_events [] h = tt

@@ -1,15 +1,16 @@
 -- In the run of a deck that was read each device keeps its number, its cylinders and its plans, is lent to a device, and has at most 64 tracks to stage.
-use Rattle.std.proofs.Common.{◌≡◌, ◌≤◌, ◌<◌, ℕ, Bool, List, [], ◌∷◌, length, map, Ok, refl, ◌∙◌, arith}
+use Rattle.std.proofs.Common.{◌≡◌, ◌≤◌, ◌<◌, ℕ, Bool, List, [], ◌∷◌, length, map, Option, Ok, refl, sym, subst, ◌∙◌, arith}
 use Rattle.std.specs.Prelude.{All, IfSome}
 use Rattle.std.proofs.lemmas.List.Elements.{All-head, All-tail}
 use Rattle.ckd_types.specs.declared.paths.Side.{Side}
+use Rattle.ckd_types.specs.declared.paths.Side.TheVariants as sides
 use Rattle.deck_text.specs.declared.line.DeviceLine.{DeviceLine}
 use Rattle.deck_text.specs.DeckLines.{DeckLines}
 use Rattle.deck_text.specs.Parse.{parsed}
 use Rattle.deck_text.proofs.DeckAgain.{Each, ProgramOk}
 use Rattle.deck_text.proofs.PlanLemmas.{plan_bound}
 use Rattle.deck_text.proofs.Reached.{parsed_good}
-use Rattle.plain_defs.specs.Journal.{planned, program_of}
+use Rattle.plain_defs.specs.Journal.{Plans, planned, program_of}
 use Rattle.loss_model.specs.declared.Loss.TheVariants as losses
 use Rattle.track_image.specs.Image.{Image}
 use Rattle.device_outside.specs.Interaction.{Interaction}

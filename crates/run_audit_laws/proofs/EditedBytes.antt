@@ -1,8 +1,8 @@
 -- A look at a track that holds bytes, of a command whose word gives bytes, sends bytes, and edits the track to one that holds bytes.
-use Rattle.std.proofs.Common.{◌<◌, ◌==◌, ◌+◌, ℕ, zero, suc, Bool, true, false, List, length, Option, arith}
+use Rattle.std.proofs.Common.{◌<◌, ◌==◌, ◌+◌, ℕ, zero, suc, Bool, true, false, List, [], length, Option, Some, None, arith}
 use Rattle.std.specs.Prelude.{All, IfSome, is_some, take, ⊤}
 use Rattle.std.proofs.lemmas.Bool.{cond_both}
-use Rattle.std.proofs.lemmas.List.Elements.{All-push, All-set, All-take}
+use Rattle.std.proofs.lemmas.List.Elements.{All-cons, All-nil, All-push, All-set, All-take}
 use Rattle.ckd_types.specs.declared.channel.Ccw.{Ccw}
 use Rattle.ckd_types.specs.declared.command.ReadArea.{ReadArea}
 use Rattle.ckd_types.specs.declared.command.SearchArea.{SearchArea}
@@ -10,13 +10,15 @@ use Rattle.ckd_types.specs.declared.command.Write.{Write}
 use Rattle.ckd_types.specs.declared.command.Write.TheVariants.{Data, UpdateData, KeyData, UpdateKeyData, CountKeyData, NextTrack, Zero}
 use Rattle.ckd_types.specs.declared.geometry.Geometry.{Geometry}
 use Rattle.ckd_types.specs.declared.parameters.Domain.{Domain}
-use Rattle.ckd_types.specs.declared.record.Edit.TheVariants.{Format, Update}
+use Rattle.ckd_types.specs.declared.record.Edit.TheVariants.{Format, Update, Zero as ZeroEdit}
 use Rattle.ckd_types.specs.declared.record.Track.{Track}
 use Rattle.ckd_types.specs.Edit.{apply_edit}
 use Rattle.ckd_types.specs.Sense.{track_format_sense}
+use Rattle.ckd_types.specs.Track.{find_id}
 use Rattle.ckd_rules.specs.declared.finding.Sought.{Sought}
 use Rattle.ckd_rules.specs.declared.finding.Sought.TheVariants.{Here, Onward, Nowhere}
 use Rattle.ckd_rules.specs.declared.order.Look.{Look}
+use Rattle.ckd_rules.specs.declared.order.Look.TheVariants.{Finds, Searches, Reads, Writes}
 use Rattle.ckd_rules.specs.declared.stance.After.{After}
 use Rattle.ckd_rules.specs.declared.stance.After.TheVariants.{Other, Wrote}
 use Rattle.ckd_rules.specs.declared.stance.Stance.{Stance}
@@ -25,7 +27,7 @@ use Rattle.ckd_rules.specs.declared.turned.Turned.TheVariants as turns
 use Rattle.ckd_rules.specs.Area.{given_at}
 use Rattle.ckd_rules.specs.Control.{located}
 use Rattle.ckd_rules.specs.Ending.{refused}
-use Rattle.ckd_rules.specs.Formats.{body_given, format_behind, format_ended, has_room_behind, key_given, record_given, zero_on}
+use Rattle.ckd_rules.specs.Formats.{body_given, count_given, format_behind, format_ended, has_room_behind, is_zero_given, key_given, record_given, zero_on}
 use Rattle.ckd_rules.specs.Look.{look_on}
 use Rattle.ckd_rules.specs.Looked.{Looked, edits, ends}
 use Rattle.ckd_rules.specs.Reads.{read_bytes, read_sought, record_at}

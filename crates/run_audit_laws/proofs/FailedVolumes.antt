@@ -215,16 +215,10 @@ module _ (xs : List AuditedDevice) (d : ℕ) (side : Side) (later : List EventLi
         LeadsBeside (record { devices = xs; events = w ∷ rest; due = Behind more did }) ls t
     from_work o none same = search (arith, from_over)
 
-  from_number : (w : EventLine) (rest : List EventLine) (x : Option ℕ) → worker_of w ≡ x → holds (then_of x (device_in xs)) (is_legal did) ≡ true →
-      settled_in (record { devices = xs; events = w ∷ rest; due = Behind more did }) did (then_of x (device_in xs))
-      ≡ record { devices = ys; events = events.FailVolume d side ∷ later; due = Next } →
-      LeadsBeside (record { devices = xs; events = w ∷ rest; due = Behind more did }) ls t
-  from_number w rest x works legal same = search (arith, from_work)
-
   from_waiting : (l : List EventLine) → holds (worker (record { devices = xs; events = l; due = Behind more did })) (is_legal did) ≡ true →
       settled (record { devices = xs; events = l; due = Behind more did }) did ≡ record { devices = ys; events = events.FailVolume d side ∷ later; due = Next } →
       LeadsBeside (record { devices = xs; events = l; due = Behind more did }) ls t
-  from_waiting l legal same = search (arith, from_number)
+  from_waiting l legal same = search (arith, from_work)
 
 -- Before the failure each device of the run goes on
 

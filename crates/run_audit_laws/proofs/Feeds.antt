@@ -1,30 +1,72 @@
 -- The text of a line of a report has no line feed in it.
-use Rattle.std.proofs.Common.{◌≡◌, ◌<◌, ◌^◌, ◌==◌, ◌++◌, ℕ, zero, suc, Bool, true, List, [], ◌∷◌, refl, arith, rules}
+use Rattle.std.proofs.Common.{◌≡◌, ◌<◌, ◌^◌, ◌==◌, ◌/◌, ◌%◌, ◌++◌, ℕ, zero, suc, Bool, true, false, List, [], ◌∷◌, refl, arith, rules}
 use Rattle.std.specs.Prelude.{◌&&◌, decimal, not, slice_index}
 use Rattle.std.proofs.lemmas.Bool.{and_from, and_parts}
+use Rattle.std.proofs.lemmas.Bool.Decides.{nat_tests}
 use Rattle.std.proofs.lemmas.Fmt.{digits_decimal}
 use Rattle.std.proofs.lemmas.Str.Parse.{IsNumeralModel, numerals_by_fold}
 use Rattle.ckd_types.specs.declared.channel.Note.{Note}
+use Rattle.ckd_types.specs.declared.channel.Note.TheVariants.{Plain, IncorrectLength, Limit}
 use Rattle.ckd_types.specs.declared.paths.Owner.{Owner}
 use Rattle.ckd_types.specs.declared.paths.Owner.TheVariants as owners
 use Rattle.ckd_types.specs.declared.paths.Side.{Side}
+use Rattle.ckd_types.specs.declared.paths.Side.TheVariants.{A, B}
 use Rattle.hex.specs.Hex.{encode_with, encode_upper, upper_digits}
 use Rattle.report_text.specs.declared.answers.BackAnswer.{BackAnswer}
+use Rattle.report_text.specs.declared.answers.BackAnswer.TheVariants as back
 use Rattle.report_text.specs.declared.answers.DeviceTotals.{DeviceTotals}
+use Rattle.report_text.specs.declared.answers.DeviceTotals.TheVariants as totals
 use Rattle.report_text.specs.declared.answers.HowOver.{HowOver}
+use Rattle.report_text.specs.declared.answers.HowOver.TheVariants as how
 use Rattle.report_text.specs.declared.answers.LooseAnswer.{LooseAnswer}
 use Rattle.report_text.specs.declared.answers.LooseAnswer.TheVariants as loose
 use Rattle.report_text.specs.declared.answers.OrderAnswer.{OrderAnswer}
+use Rattle.report_text.specs.declared.answers.OrderAnswer.TheVariants as order_answers
+use Rattle.report_text.specs.declared.answers.OrderRefusal.{OrderRefusal}
+use Rattle.report_text.specs.declared.answers.OrderRefusal.TheVariants as faults
 use Rattle.report_text.specs.declared.answers.StartAnswer.{StartAnswer}
+use Rattle.report_text.specs.declared.answers.StartAnswer.TheVariants as start
 use Rattle.report_text.specs.declared.answers.SumOf.{SumOf}
+use Rattle.report_text.specs.declared.answers.SumOf.TheVariants as sums
 use Rattle.report_text.specs.declared.line.ReportLine.{ReportLine}
 use Rattle.report_text.specs.declared.line.ReportLine.TheVariants as lines
 use Rattle.report_text.specs.declared.order.Order.{Order}
+use Rattle.report_text.specs.declared.order.Order.TheVariants as orders
 use Rattle.report_text.specs.Keywords.{keyword_text}
 use Rattle.report_text.specs.Lines.{key_of, text_of, words_in_line}
-use Rattle.report_text.specs.Numbers.{are_digits, value_after}
-use Rattle.report_text.specs.Words.{answer_words, back_words, loose_words, mark_key, note_key, over_words, owner_words, side_key, start_words, totals_words}
-use Rattle.report_reading.specs.Ranges.{IsAnswer, IsBack, IsCount, IsDevice, IsLine, IsLong, IsLoose, IsOrder, IsOver, IsOwner, IsPath, IsShort, IsStart, IsTotals, IsTrack}
+use Rattle.report_text.specs.Numbers.{are_digits, is_digit, value_after}
+use Rattle.report_text.specs.Words.{
+  all_spaced,
+  answer_words,
+  back_words,
+  fault_words,
+  loose_words,
+  mark_key,
+  note_key,
+  over_words,
+  owner_words,
+  side_key,
+  start_words,
+  totals_words,
+}
+use Rattle.report_reading.specs.Ranges.{
+  IsAnswer,
+  IsBack,
+  IsCount,
+  IsDevice,
+  IsFault,
+  IsLine,
+  IsLong,
+  IsLoose,
+  IsOrder,
+  IsOver,
+  IsOwner,
+  IsPath,
+  IsShort,
+  IsStart,
+  IsTotals,
+  IsTrack,
+}
 
 -- a text without a line feed
 abbrev pub is_whole : List ℕ → Bool

@@ -1,35 +1,40 @@
 -- Each line of a run's report has its form: an IO line tells of a call, and an order POWER is done.
-use Rattle.std.proofs.Common.{arith, ◌≡◌, ◌++◌, ℕ, true, List, [], ◌∷◌, map, Option, refl, ap}
-use Rattle.std.specs.Prelude.{All}
+use Rattle.std.proofs.Common.{arith, ◌≡◌, ◌==◌, ◌++◌, ℕ, Bool, true, false, not, List, [], ◌∷◌, length, map, Option, Some, None, refl, ap, if◌then◌else◌}
+use Rattle.std.specs.Prelude.{◌&&◌, All}
 use Rattle.std.specs.List.{flat_map}
 use Rattle.std.proofs.lemmas.List.Elements.{All-append, All-cons, All-head, All-nil, All-tail}
+use Rattle.ckd_types.specs.declared.channel.CommandEnd.{CommandEnd}
 use Rattle.ckd_types.specs.declared.paths.Side.{Side}
 use Rattle.ckd_types.specs.declared.sense.Sense.{Sense}
 use Rattle.deck_text.specs.DeckLines.{DeckLines}
 use Rattle.device_outside.specs.Pool.{Frame}
+use Rattle.device_defs.specs.declared.answers.SecondEnd.TheVariants as seconds
+use Rattle.device_defs.specs.declared.answers.Stepped.TheVariants as stepped
 use Rattle.device_defs.specs.Marks.{MarksDevice}
+use Rattle.report_text.specs.declared.answers.BackAnswer.TheVariants as back
 use Rattle.report_text.specs.declared.event.Happened as report
 use Rattle.report_text.specs.declared.event.Happened.TheVariants as did
 use Rattle.report_text.specs.declared.event.Loosed.{Loosed}
 use Rattle.report_text.specs.declared.event.ProgramOver.{ProgramOver}
+use Rattle.report_text.specs.declared.answers.DeviceTotals.TheVariants as totals
 use Rattle.report_text.specs.declared.line.ReportLine.{ReportLine}
 use Rattle.report_text.specs.declared.line.ReportLine.TheVariants as lines
 use Rattle.report_text.specs.declared.order.Order.TheVariants as orders
-use Rattle.report_text.specs.Ends.{data_lines, sense_lines}
+use Rattle.report_text.specs.Ends.{data_lines, end_line, sense_lines}
 use Rattle.report_text.specs.Events.{first_lines, io_lines, last_line, line_if, loosed_line, program_over_lines}
 use Rattle.report_reading.specs.Ranges.{has_answer, has_form}
 use Rattle.run_report.specs.declared.told.RunningProgram.{RunningProgram}
 use Rattle.run_report.specs.Answers.{order_answer, start_answer}
 use Rattle.run_report.specs.Beside.{loose_lines, loosed, of_each, over_lines, over_of, power_lines}
 use Rattle.run_report.specs.Closing.{device_lines, ending_lines, frame_line}
-use Rattle.run_report.specs.Events.{event_lines, lines_of, running_in, work_lines, work_told}
+use Rattle.run_report.specs.Events.{end_told, event_lines, half_told, lines_of, running_in, work_lines, work_told}
 use Rattle.run_report.specs.Report.{report_lines}
 use Rattle.subsystem_defs.specs.declared.end.EventEnd.{EventEnd}
 use Rattle.subsystem_defs.specs.declared.end.EventEnd.TheVariants as ends
 use Rattle.subsystem_defs.specs.declared.event.Event.{Event}
 use Rattle.subsystem_defs.specs.declared.event.Event.TheVariants as events
 use Rattle.subsystem_defs.specs.Beside.{loose_told, new_items}
-use Rattle.subsystem_defs.specs.Closing.{DeviceEnd, RunEnding, ending}
+use Rattle.subsystem_defs.specs.Closing.{Counted, DeviceEnd, RunEnding, LentTo, ending}
 use Rattle.subsystem_defs.specs.Decks as D
 use Rattle.subsystem_defs.specs.Decks.{opened, run_of}
 use Rattle.subsystem_defs.specs.Deeds as E

@@ -1,5 +1,5 @@
 -- In the run of a deck that was read each frame of the pool is of one of the first 960 tracks.
-use Rattle.std.proofs.Common.{◌≡◌, ◌<◌, ◌≤◌, ◌*◌, ◌%◌, ℕ, List, [], ◌∷◌, Option, Ok, refl, arith}
+use Rattle.std.proofs.Common.{◌≡◌, ◌<◌, ◌≤◌, ◌*◌, ◌%◌, ℕ, List, [], ◌∷◌, Option, Some, None, Ok, refl, sym, subst, arith}
 use Rattle.std.specs.Prelude.{All, IfSome}
 use Rattle.std.proofs.lemmas.List.Elements.{All-cons, All-nil}
 use Rattle.ckd_chain.specs.State.{ChainState}
@@ -8,6 +8,7 @@ use Rattle.deck_text.specs.Parse.{parsed}
 use Rattle.deck_text.proofs.DeckAgain.{Each}
 use Rattle.device_outside.specs.Pool.{Frame}
 use Rattle.device_defs.specs.Marks.{MarksDevice}
+use Rattle.device_defs.specs.Store.{tracks_of}
 use Rattle.device_laws.specs.InOrder.{AreBelow}
 use Rattle.device_laws.specs.Standing.{IsWithin}
 use Rattle.device_laws.proofs.ChainTracks.{whole_cylinders, within_stays}

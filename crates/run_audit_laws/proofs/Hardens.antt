@@ -98,10 +98,6 @@ module _ (plans : Plans) (k : ℕ) where
   running_firmed : (x : Past) (r : Option Going) → (acted_past (Harden k) plans (with_going x r)).running ≡ firmed k r
   running_firmed x r = grind arith
 
-  loose_done : (did : Did) (x : Past) (r : Option Going) → IsQuiet did r →
-      (state_in (done_past did plans (with_going x r)).state (done_past did plans (with_going x r)).running).loose ≡ (state_in x.state r).loose
-  loose_done did x r quiet = grind (arith, state_in, over_past, next_part, goes_on)
-
   still_quiet : (did : Did) (r : Option Going) → IsQuiet did r → IsQuiet did (firmed k r)
   still_quiet did r quiet = grind arith
 
@@ -167,7 +163,7 @@ module _ (a : AuditedDevice) where
 
       -- which tracks are loose
       pub loose_behind : (t : ℕ) → is_loose_there (state_of (worked a did)) t ≡ is_loose_there (state_of a) t
-      loose_behind t = grind (arith, state_in, seen_done, loose_done, seen)
+      loose_behind t = grind (arith, state_in, seen_done, seen, over_past, next_part, goes_on)
 
       -- before the end as behind it
       pub firm_either : GoesOn (seen (worked a did)).past.running → Alike (worked (firmer k a) did) (firmer k (worked a did))

@@ -1,13 +1,14 @@
 -- A plain device whose programs give bytes keeps bytes: on its volume, on the tracks that loose ones go back to, and of its paths. So each of their
 -- commands sends bytes.
-use Rattle.std.proofs.Common.{arith, ◌≡◌, ◌-◌, ◌==◌, ◌++◌, ◌*◌, zero, suc, ℕ, Bool, true, false, List, [], ◌∷◌, length, map, Option, Some, None, refl, sym, subst, inl, inr, if◌then◌else◌}
+use Rattle.std.proofs.Common.{arith, ◌≡◌, ◌-◌, ◌==◌, ◌++◌, ◌∙◌, ◌*◌, zero, suc, ℕ, Bool, true, false, List, [], ◌∷◌, length, map, Option, Some, None, refl, sym, ap, subst, inl, inr, if◌then◌else◌}
 use Rattle.std.specs.Prelude.{◌⊎◌, All, IfSome, not}
 use Rattle.std.specs.List.{range_with_len}
-use Rattle.std.proofs.lemmas.List.Elements.{All-cons, All-filter, All-head, All-nil, All-push, All-set, All-tail}
+use Rattle.std.proofs.lemmas.List.Elements.{All-cons, All-filter, All-head, All-nil, All-push, All-replicate, All-set, All-tail}
 use Rattle.hex.specs.Hex.{IsBytes}
 use Rattle.ckd_types.specs.declared.channel.Ccw.{Ccw}
 use Rattle.ckd_types.specs.declared.channel.CommandEnd.{CommandEnd}
 use Rattle.ckd_types.specs.declared.geometry.Geometry.{Geometry}
+use Rattle.ckd_types.specs.declared.paths.PathState.TheVariants.{Reset}
 use Rattle.ckd_types.specs.declared.record.Track.{Track}
 use Rattle.ckd_types.specs.declared.sense.Sense.{Sense}
 use Rattle.ckd_types.specs.Ccw.{ccw_at}
@@ -47,7 +48,7 @@ use Rattle.run_audit_laws.proofs.AnsweredBytes.{PathsKeep, act_sends, sensed_kee
 use Rattle.run_audit_laws.proofs.EditedBytes.{walk_holds}
 use Rattle.run_audit_laws.proofs.GivenBytes.{IsByte, as_bytes, at_or, no_bytes}
 use Rattle.run_audit_laws.proofs.KeptSenses.{SenseIn, check_sense_in, effect_senses, walk_sense, zero_in}
-use Rattle.run_audit_laws.proofs.NamedGroups.{OpeningIn, effect_named, reset_named}
+use Rattle.run_audit_laws.proofs.NamedGroups.{Named, OpeningIn, effect_named, reset_named}
 use Rattle.run_audit_laws.proofs.NamedOpenings.{opening_named}
 use Rattle.run_audit_laws.proofs.SentBytes.{TrackHolds, empty_holds}
 use Rattle.run_audit_laws.proofs.Tidy.{outcome_fits}

@@ -31,11 +31,8 @@ record Kept (s z : MarksStore) : Type 0 where
   core : core_of z ≡ core_of s
   paired : z.paired ≡ s.paired
 
-slot_kept : (s : MarksStore) (t : ℕ) (o : Option ℕ) → Kept s (gives_up s t o)
-slot_kept s t o = search (arith, patch_same)
-
 given_kept : (t : ℕ) (s : MarksStore) → Kept s (given_up by_plain t s)
-given_kept t s = grind (arith, slot_kept, cond_both, is_some, framed_same)
+given_kept t s = grind (arith, cond_both, is_some, framed_same, patch_same)
 
 over_kept : (k : ℕ) (s : MarksStore) → Kept s (over k (given_up by_plain) s)
 unfolding L.over

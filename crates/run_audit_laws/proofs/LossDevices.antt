@@ -188,11 +188,8 @@ patch_fewer s t = slot_fewer s t (slot_in by_plain (patch_at s t))
 lost_fewer : (s : MarksStore) (t : ℕ) → Fewer s (lost_now by_plain s t)
 lost_fewer s t = let z = with_lost s t in fewer_on s z (lost_now by_plain s t) (search arith) (patch_fewer z t)
 
-kept_fewer : (s : MarksStore) (t : ℕ) (m : Bool) → Fewer s (kept_by_frame by_plain s t m)
-kept_fewer s t m = search (arith, cond_both)
-
 frame_fewer : (s : MarksStore) (t : ℕ) → is_loose s t ≡ false → (o : Option Bool) → Fewer s (by_frame by_plain s t o)
-frame_fewer s t firm o = grind (arith, cond_both, kept_fewer, lost_fewer)
+frame_fewer s t firm o = grind (arith, cond_both, lost_fewer)
 
 settled_fewer : (s : MarksStore) (t : ℕ) → is_loose s t ≡ false → Fewer s (settled by_plain s t)
 unfolding L.settled

@@ -63,9 +63,6 @@ module _ (id : GroupId) (bytes : AreBytes 11 id.bytes) where
     by_tests false true = All-set Named xs (path - 1) Ungrouped tt all
     by_tests false false = all_left xs all
 
-  left : (xs : List PathState) (path : ℕ) → IsPath path → (o : Owner) → IsOwner o → IsOwner (owner_left xs path o)
-  left xs path p o h = grind arith
-
 -- Acts and effects
 
 abbrev pub ActNamed : LocalAct → Type 0
@@ -82,7 +79,7 @@ module _ (p : PathsState) (path : ℕ) (is : IsPath path) (n : AreNamed p) where
   reserved_named = owner_named (slice_index_or p.states (path - 1) Reset) path is (at_or Named Reset tt p.states (path - 1) n.states)
 
   pub act_named : (act : LocalAct) → ActNamed act → AreNamed (paths_after p path act)
-  act_named act h = search (arith, reserved_named, states_set, left)
+  act_named act h = search (arith, reserved_named, states_set)
 
   acted_named : (device : Fixed) (s : Stance) (c : Ccw) (act : LocalAct) → ActNamed act → (o : Option GroupFault) →
       AreNamed (acted_by device p path s c act o).paths

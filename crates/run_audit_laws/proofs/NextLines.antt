@@ -1,6 +1,6 @@
 -- The first line of an event isn't of the work before it, so lines that lead on from where that work is known to be done do so from where it isn't.
-use Rattle.std.proofs.Common.{arith, ◌≡◌, ◌++◌, ℕ, Bool, true, false, List, [], ◌∷◌, Option, refl, sym, ap, subst, ◌∙◌, if◌then◌else◌}
-use Rattle.std.specs.Prelude.{Result, Ok, Err}
+use Rattle.std.proofs.Common.{arith, ◌≡◌, ◌==◌, ◌++◌, ℕ, Bool, true, false, not, List, [], ◌∷◌, Option, Some, None, refl, sym, ap, subst, ◌∙◌, if◌then◌else◌}
+use Rattle.std.specs.Prelude.{◌||◌, ◌&&◌, Result, Ok, Err}
 use Rattle.std.proofs.lemmas.Bool.{or_from, and_right}
 use Rattle.deck_plan.specs.declared.event.EventLine.{EventLine}
 use Rattle.deck_plan.specs.declared.event.EventLine.TheVariants as events
@@ -9,15 +9,19 @@ use Rattle.report_text.specs.declared.answers.LooseAnswer.TheVariants as loose
 use Rattle.report_text.specs.declared.line.ReportLine.{ReportLine}
 use Rattle.report_text.specs.declared.line.ReportLine.TheVariants as lines
 use Rattle.report_text.specs.declared.order.Order.{Order}
+use Rattle.report_text.specs.declared.order.Order.TheVariants as orders
 use Rattle.report_places.specs.declared.state.Due.TheVariants.{Next, Behind, Nothing}
 use Rattle.report_places.specs.declared.state.HalfWrite.{HalfWrite}
+use Rattle.report_places.specs.declared.state.HalfWrite.TheVariants as half
 use Rattle.report_places.specs.declared.state.OpenProgram.{OpenProgram}
 use Rattle.report_places.specs.declared.state.Outline.{Outline}
-use Rattle.report_places.specs.Place.{holds, in_event, in_next, in_power, in_power_of, in_steps, is_act_of, is_back_line, is_cut, is_end, is_half, is_io, is_loss, is_loss_of, is_of_work, is_order, is_power_done, is_reset, is_second_line, is_start, may_back, may_reset, may_step, second_of}
+use Rattle.report_places.specs.Place.{holds, in_event, in_next, in_power, in_power_of, in_steps, is_act_of, is_back_line, is_cut, is_end, is_half, is_io, is_loss, is_loss_of, is_of_work, is_order, is_power_done, is_reset, is_second_line, is_start, may_back, may_reset, may_step, outline_in, second_of}
 use Rattle.report_places.specs.Same.{says}
-use Rattle.deck_audit.specs.State.{AuditState, worker_number}
+use Rattle.deck_audit.specs.History.{next_made}
+use Rattle.deck_audit.specs.State.{AuditState, outlines, worker_number}
 use Rattle.report_auditor.specs.declared.status.AuditWhy.{AuditWhy}
 use Rattle.report_auditor.specs.declared.status.AuditWhy.TheVariants.{Place}
+use Rattle.report_auditor.specs.Verdict.{or_history}
 use Rattle.subsystem_defs.specs.Subsystem.{Subsystem}
 use Rattle.run_audit_laws.specs.Standing.{LeadsBy, stand}
 use Rattle.run_audit_laws.specs.Steps.{LeadsTowards, Reaches, is_there, is_waiting}

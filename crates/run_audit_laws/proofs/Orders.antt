@@ -1,6 +1,7 @@
 -- Orders that are refused, that wait, or that change nothing of what the audit knows.
-use Rattle.std.proofs.Common.{arith, ◌≡◌, ◌==◌, ◌++◌, ℕ, Bool, true, false, List, [], ◌∷◌, Option, Some, None, refl, sym, ap, ◌∙◌, if◌then◌else◌}
+use Rattle.std.proofs.Common.{arith, ◌≡◌, ◌==◌, ◌++◌, ℕ, Bool, true, false, List, [], ◌∷◌, Option, Some, None, refl, sym, ap, subst, ◌∙◌, if◌then◌else◌}
 use Rattle.ckd_types.specs.declared.paths.Side.{Side}
+use Rattle.ckd_types.specs.declared.paths.Side.TheVariants.{A, B}
 use Rattle.deck_plan.specs.declared.event.EventLine.{EventLine}
 use Rattle.deck_plan.specs.declared.event.EventLine.TheVariants as wanted
 use Rattle.device_outside.specs.Pool.{Pool, all_waiting, cache_repaired, store_repaired}
@@ -19,7 +20,7 @@ use Rattle.report_places.specs.declared.state.Outline.{Outline}
 use Rattle.report_places.specs.Place.{in_event}
 use Rattle.deck_audit.specs.Device.{AuditedDevice}
 use Rattle.deck_audit.specs.History.{event_made}
-use Rattle.deck_audit.specs.State.{AuditState, passed}
+use Rattle.deck_audit.specs.State.{AuditState, outlines, passed}
 use Rattle.run_report.specs.Answers.{order_answer, refused_as}
 use Rattle.run_report.specs.Beside.{over_lines}
 use Rattle.run_report.specs.Events.{event_lines, work_lines}
@@ -42,6 +43,7 @@ use Rattle.subsystem_laws.proofs.FoundDevices.{number_found}
 use Rattle.run_audit_laws.specs.Standing.{LeadsBy, audited, stand}
 use Rattle.run_audit_laws.proofs.Found.{mounted_too, put_same}
 use Rattle.run_audit_laws.proofs.Leading.{EventLeads, first_judged, one_leads, quiet_lines}
+use Rattle.run_audit_laws.proofs.Saying.{same_order}
 
 -- An event that is an order: where its line may stand, and what it makes where nothing was done
 

@@ -23,7 +23,7 @@ use Rattle.device_defs.specs.Writing as V
 use Rattle.device_defs.specs.Writing.{slot_freed, write_done}
 use Rattle.device_laws.proofs.Always as W
 use Rattle.device_laws.proofs.Always.{Always, Behind}
-use Rattle.run_audit_laws.proofs.Seats.{Is, ahead_is}
+use Rattle.run_audit_laws.proofs.Seats.{Is}
 
 -- the frame of one of these tracks of the device of this number
 abbrev pub IsOwn : (ℕ → Type 0) → ℕ → Call → Type 0
@@ -180,4 +180,4 @@ module _ {F P H R : Type 0} (T : ℕ → Type 0) (n : ℕ) (c : Contents F P H R
   loaded_own s t i mode on k = own_if (loads mode) (own_tried s _ k (own_ask (k, on) (λ given. granted_own s t i given k))) (own_done k)
 
   pub missed_own : (u : Usage) (t : ℕ) (s : Store F P H) (g : Got R) (o : Option R) → T t → Is n s → Owns (missed c u t s g o)
-  missed_own u t s g o on k = search (arith, own_done, own_tried, loaded_own, ahead_is)
+  missed_own u t s g o on k = search (arith, own_done, own_tried, loaded_own)

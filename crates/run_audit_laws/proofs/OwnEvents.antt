@@ -91,9 +91,6 @@ module _ {F P H R : Type 0} (T : ℕ → Type 0) (n : ℕ) (c : Contents F P H R
   out_own : (d : Device F P H) (path : ℕ) (turn : Turn) → At d.store → OwnEvent (came_out c d path turn)
   out_own d path turn k = own_done (subst (λ (s : Store F P H). At s) (sym (turned_same d path turn.chain turn.came)) k)
 
-  on_own : (d : Device F P H) (path : ℕ) (chain : ChainState) (s : Store F P H) (o : Option Turn) → At s → OwnEvent (on_tracks c d path chain s o)
-  on_own d path chain s o k = search (arith, out_own, own_done)
-
   answered_own : (d : Device F P H) (path : ℕ) (chain : ChainState) (p : Progress) → At d.store → OwnEvent (answered_by c d path chain p)
   answered_own d path chain (progresses.Ended e) k = out_own d path (ends_with chain e) k
   answered_own d path chain (progresses.Local act) k = search (arith, out_own)
@@ -102,7 +99,7 @@ module _ {F P H R : Type 0} (T : ℕ → Type 0) (n : ℕ) (c : Contents F P H R
   module _ (In : ChainState → Type 0) (comes : Comes T In) where
     at_own : (d : Device F P H) (path : ℕ) (chain : ChainState) (o : Option ℕ) → ((t : ℕ) → o ≡ Some t → T t) → In chain → At d.store →
         OwnEvent (command_at c d path chain o)
-    at_own d path chain (Some t) needs is k = grind (arith, own_then, follow_own In comes (tracks_of d.store) t chain t d.store k is (needs t refl), on_own)
+    at_own d path chain (Some t) needs is k = grind (arith, own_then, follow_own In comes (tracks_of d.store) t chain t d.store k is (needs t refl), out_own, own_done)
     at_own d path chain None needs is k = grind (arith, own_try, own_if, answered_own, own_done)
 
     by_own : (d : Device F P H) (o : Option OpenEntry) (l : Option ChainState) → IfSome l In → At d.store → OwnEvent (command_by c d o l)

@@ -198,11 +198,8 @@ module _ {F P H R : Type 0} (T : ℕ → Type 0) (n : ℕ) (c : Contents F P H R
   stages_own s [] on k = destage_own s (to_destage c s) k
   stages_own s (t ∷ ts) on k = stage_own (record s { queue = ts }) t on.0 k
 
-  copies_own : (s : Store F P H) (o : Option ℕ) → Each T s.queue → At s → Owns (copy_first c s o)
-  copies_own s o on k = search (arith, stages_own, own_done, own_read, read_own, is_some)
-
   recovers_own : (s : Store F P H) (o : Option ℕ) → Each T s.queue → At s → Owns (recover_first c s o)
-  recovers_own s o on k = search (arith, copies_own, recover_own)
+  recovers_own s o on k = search (arith, recover_own, stages_own, own_done, own_read, read_own, is_some)
 
   pub work_own : (s : Store F P H) → Each T s.queue → At s → Owns (work c s)
   unfolding B.work
@@ -213,12 +210,9 @@ module _ {F P H R : Type 0} (T : ℕ → Type 0) (n : ℕ) (c : Contents F P H R
   finished_own : (s : Store F P H) (t : ℕ) (i : Image) (bypass : Bool) → At s → Owns (finished c s t i bypass)
   finished_own s t i bypass k = own_then (done_own T n c s t i bypass k) (λ z _ g. own_done g)
 
-  second_done_own : (s : Store F P H) (t : ℕ) (i : Image) (origin : Origin) → At s → Owns (second_done c s t i origin)
-  second_done_own s t i origin k = search (arith, own_tell, finished_own)
-
   pub part_own : (s : Store F P H) (h : HalfWrite H) → At s → Owns (second_part c s h)
   unfolding D.second_part
-  part_own s h k = grind (arith, own_then, second_write_own s h.track (c.bytes (half_image_of c s h)) k, own_if, second_done_own, own_done, settled_is, left_is)
+  part_own s h k = grind (arith, own_then, second_write_own s h.track (c.bytes (half_image_of c s h)) k, own_if, own_done, settled_is, left_is, own_tell, finished_own)
 
   -- Losses and cuts
 

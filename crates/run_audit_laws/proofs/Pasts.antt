@@ -328,13 +328,6 @@ module _ (path more : ℕ) (few : IsFew more) (l : List Item) (w : List ℕ) whe
           ∙ ap (λ (s : PlainState). behind_items plans before s (entry_past g (Cut (length o.ends + more)) o.ends) (items.Reset o.path ∷ resets_of w))
           (cut_state plans empty (with_parts l (Some o) w) o tidy more few)
 
-      resets_past : (own used : Bool) → past_of plans empty (if own then cut_by (with_parts l (Some o) w) o more
-          else if used then record (with_parts l (Some o) w) { waiting = put path w } else with_parts l (Some o) w)
-          ≡ (if own then cut_past more plans (past_of plans empty (with_parts l (Some o) w)) (going_of plans (replay plans empty l) o)
-          else if used then record (past_of plans empty (with_parts l (Some o) w)) { waiting = put path w }
-          else past_of plans empty (with_parts l (Some o) w))
-      resets_past own used = grind (arith, cuts_past)
-
   idle_past : (plans : Plans) (empty : PlainState) (used : Bool) →
       past_of plans empty (if used then record (with_parts l None w) { items = l ++ items.Reset path ∷ [] } else with_parts l None w)
       ≡ (if used then record {
@@ -352,7 +345,7 @@ module _ (path more : ℕ) (few : IsFew more) (l : List Item) where
 
   reset_is : (plans : Plans) (empty : PlainState) (r : Option OpenEntry) (w : List ℕ) → IsTidy (with_parts l r w) →
       past_of plans empty (reset_in_history (with_parts l r w) path more) ≡ reset_past path more plans (past_of plans empty (with_parts l r w))
-  reset_is plans empty r w tidy = grind (arith, idle_past, used_bare, resets_past)
+  reset_is plans empty r w tidy = grind (arith, idle_past, used_bare, cuts_past)
 
 pub reset_is_read : (path more : ℕ) → IsFew more → IsRead (λ h. reset_in_history h path more) (reset_past path more)
 reset_is_read path more few = record {

@@ -1,13 +1,15 @@
 -- The words of each program of a deck that was read: at most 256 of them, with counts of 16 bits, that give bytes; so the words that end have indices
 -- of 16 bits.
 use Rattle.std.proofs.Common.{◌≡◌, ◌≤◌, ◌<◌, ◌+◌, ◌-◌, ◌==◌, ◌++◌, ℕ, zero, suc, Bool, true, false, List, [], ◌∷◌, length, Option, Some, None, refl, sym, ap, subst, ◌∙◌, if◌then◌else◌, arith}
-use Rattle.std.specs.Prelude.{slice_index_or, slice_set}
+use Rattle.std.specs.Prelude.{nat_lt, slice_index_or, slice_set}
 use Rattle.std.proofs.lemmas.Bool.{ltb-false}
 use Rattle.ckd_types.specs.declared.channel.Ccw.{Ccw}
-use Rattle.ckd_types.specs.Ccw.{ccw_at, is_chained}
-use Rattle.ckd_types.specs.Program.{IsProgram, next_ccw, target}
+use Rattle.ckd_types.specs.declared.channel.Why.TheVariants.{Empty, TooLong}
+use Rattle.ckd_types.specs.Ccw.{ccw_at, is_chained, is_transfer}
+use Rattle.ckd_types.specs.Program.{IsProgram, fault_from, next_ccw, target}
+use Rattle.ckd_types.specs.Status.{has_status_modifier}
 use Rattle.ckd_rules.specs.Ending.{Outcome}
-use Rattle.ckd_rules.specs.Ends.{goes_to}
+use Rattle.ckd_rules.specs.Ends.{goes_to, is_over}
 use Rattle.deck_plan.specs.Plans.{no_plans, plan_of, with_program}
 use Rattle.deck_text.specs.declared.line.DeviceLine.{DeviceLine}
 use Rattle.deck_text.specs.declared.line.PlannedProgram.{PlannedProgram}

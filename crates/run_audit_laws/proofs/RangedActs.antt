@@ -1,17 +1,23 @@
 -- A track that becomes loose or firm in a plain device's history is one of the device's.
-use Rattle.std.proofs.Common.{◌≡◌, ◌≤◌, ◌<◌, ◌+◌, ◌*◌, ◌++◌, zero, suc, ℕ, Bool, true, List, [], ◌∷◌, length, Option, Some, None, cond, refl, sym, ap, subst, ◌∙◌, arith}
-use Rattle.std.specs.Prelude.{◌⊎◌, IfSome, IsSome}
-use Rattle.std.proofs.lemmas.Bool.{cases_lt, eq-eqb}
+use Rattle.std.proofs.Common.{◌≡◌, ◌≤◌, ◌<◌, ◌+◌, ◌*◌, ◌==◌, ◌++◌, zero, suc, ℕ, Bool, true, false, List, [], ◌∷◌, length, Option, Some, None, cond, refl, sym, ap, subst, ◌∙◌, inl, inr, arith}
+use Rattle.std.specs.Prelude.{◌⊎◌, IfSome, IsSome, not}
+use Rattle.std.proofs.lemmas.Bool.{cases_lt, eq-eqb, eqb-true}
 use Rattle.ckd_types.specs.declared.channel.Ccw.{Ccw}
 use Rattle.ckd_types.specs.declared.geometry.Geometry.{Geometry}
 use Rattle.ckd_types.specs.declared.record.Track.{Track}
+use Rattle.ckd_types.specs.Ccw.{ccw_at}
 use Rattle.ckd_types.specs.Fixed.{Fixed}
 use Rattle.ckd_rules.specs.declared.grouping.GroupFault.{GroupFault}
 use Rattle.ckd_rules.specs.declared.opening.Opening.{Opening}
+use Rattle.ckd_rules.specs.declared.opening.Opening.TheVariants as openings
 use Rattle.ckd_rules.specs.declared.order.LocalAct.{LocalAct}
+use Rattle.ckd_rules.specs.declared.order.LocalAct.TheVariants as acts
 use Rattle.ckd_rules.specs.declared.order.Look.{Look}
 use Rattle.ckd_rules.specs.declared.stance.Stance.{Stance}
 use Rattle.ckd_rules.specs.declared.turned.Turned.{Turned}
+use Rattle.ckd_rules.specs.declared.turned.Turned.TheVariants as turns
+use Rattle.ckd_rules.specs.Look.{look_on}
+use Rattle.ckd_rules.specs.Opening.{opening_of}
 use Rattle.ckd_rules.specs.Walk as W
 use Rattle.ckd_rules.specs.Walk.{TrackEdit, Walked, walk, walked}
 use Rattle.deck_text.proofs.DeckAgain.{Each}
@@ -19,9 +25,10 @@ use Rattle.plain_defs.specs.declared.journal.Act.{Act}
 use Rattle.plain_defs.specs.declared.journal.Act.TheVariants.{CfwLost, Harden, Loosen}
 use Rattle.plain_defs.specs.declared.journal.Acted.{Acted}
 use Rattle.plain_defs.specs.declared.journal.How.{How}
+use Rattle.plain_defs.specs.declared.journal.How.TheVariants as hows
 use Rattle.plain_defs.specs.declared.journal.Item.{Item}
 use Rattle.plain_defs.specs.declared.journal.Item.TheVariants as items
-use Rattle.plain_defs.specs.Acts.{act_outcome}
+use Rattle.plain_defs.specs.Acts.{act_fault, act_outcome}
 use Rattle.plain_defs.specs.Effect.{Effect, acted_by, effect_by, effect_on}
 use Rattle.plain_defs.specs.Entry.{ProgramEntry}
 use Rattle.plain_defs.specs.History.{History, IsOpen, IsPlain, OpenEntry}

@@ -1,5 +1,5 @@
 -- Index, status, residual, the bytes that are sent, and sense of a command's end are in their ranges, whatever event of a device ends it.
-use Rattle.std.proofs.Common.{◌≡◌, ◌<◌, ℕ, List, length, Option, Some, None, refl, sym, ap, subst, ◌∙◌, inl, inr, arith}
+use Rattle.std.proofs.Common.{◌≡◌, ◌<◌, ℕ, List, [], length, Option, Some, None, refl, sym, ap, subst, ◌∙◌, inl, inr, arith}
 use Rattle.std.specs.Prelude.{IfSome}
 use Rattle.hex.specs.Hex.{IsBytes}
 use Rattle.ckd_types.specs.declared.channel.Ccw.{Ccw}

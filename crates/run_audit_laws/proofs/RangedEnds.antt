@@ -1,12 +1,12 @@
 -- What a start and each order of a run answer is in its range.
-use Rattle.std.proofs.Common.{◌≡◌, ◌≤◌, ◌<◌, ◌+◌, ◌-◌, ◌*◌, ◌==◌, ℕ, Bool, true, false, List, [], ◌∷◌, length, map, Option, Some, None, is_some, refl, if◌then◌else◌, arith}
-use Rattle.std.specs.Prelude.{All, IfSome, not}
+use Rattle.std.proofs.Common.{◌≡◌, ◌≤◌, ◌<◌, ◌+◌, ◌-◌, ◌*◌, ◌==◌, ℕ, Bool, true, false, List, [], ◌∷◌, length, map, Option, Some, None, is_some, refl, sym, subst, if◌then◌else◌, arith}
+use Rattle.std.specs.Prelude.{◌&&◌, All, IfSome, not}
 use Rattle.std.proofs.lemmas.Bool.{eqb-false}
 use Rattle.std.proofs.lemmas.List.Elements.{All-head, All-tail}
 use Rattle.ckd_types.specs.declared.paths.Owner.{Owner}
 use Rattle.ckd_types.specs.declared.paths.Side.{Side}
 use Rattle.loss_model.specs.declared.Loss.TheVariants as losses
-use Rattle.plain_defs.specs.History.{IsOpen, OpenEntry}
+use Rattle.plain_defs.specs.History.{IsOpen, OpenEntry, is_path_of}
 use Rattle.plain_defs.specs.Journal.{planned, replay}
 use Rattle.track_table.proofs.Counts.{few_marked}
 use Rattle.device_outside.specs.Interaction.{Ask, Done, Read, Tell, Try, Write, and_then}
@@ -24,7 +24,7 @@ use Rattle.device_defs.specs.Marks.{MarksDevice}
 use Rattle.device_defs.specs.Orders.{hold_side, resume}
 use Rattle.device_defs.specs.Start as S
 use Rattle.device_defs.specs.Start.{fault_by, idle_fault, is_shut, keeps_out, left, next_ordinal, reserved_fault, running_fault, start, start_fault, started_count}
-use Rattle.device_defs.specs.Store.{HalfWrite}
+use Rattle.device_defs.specs.Store.{HalfWrite, side_of, stale_at, tracks_of}
 use Rattle.device_laws.proofs.Had.{Had, had_done, had_then, held}
 use Rattle.device_laws.proofs.HistoryTold.{background_told}
 use Rattle.device_laws.proofs.PlainEvents.{had_always}

@@ -1,5 +1,5 @@
 -- The lines of a whole report are in their ranges.
-use Rattle.std.proofs.Common.{◌≡◌, ◌≤◌, ◌<◌, ◌+◌, ◌*◌, ◌++◌, zero, suc, ℕ, Bool, true, false, List, [], ◌∷◌, length, map, Option, Ok, is_some, sym, subst, if◌then◌else◌, arith}
+use Rattle.std.proofs.Common.{◌≡◌, ◌≤◌, ◌<◌, ◌+◌, ◌*◌, ◌==◌, ◌++◌, zero, suc, ℕ, Bool, true, false, List, [], ◌∷◌, length, map, Option, Some, None, Ok, is_some, refl, sym, subst, inl, inr, if◌then◌else◌, arith}
 use Rattle.std.specs.Prelude.{◌^◌, All, IfSome}
 use Rattle.std.specs.List.{flat_map, range_with_len}
 use Rattle.std.proofs.lemmas.Bool.{eqb-true}
@@ -13,11 +13,13 @@ use Rattle.device_outside.specs.Pool.{Frame}
 use Rattle.device_defs.specs.Contents.{by_plain}
 use Rattle.device_defs.specs.Marks.{MarksDevice, MarksStore}
 use Rattle.device_defs.specs.Owed.{waits}
-use Rattle.device_defs.specs.Store.{HalfWrite, is_lost, tracks_of}
+use Rattle.device_defs.specs.Store.{HalfWrite, is_lost, takes_b, tracks_of}
 use Rattle.device_defs.specs.Transfers.{both}
 use Rattle.plain_defs.specs.History.{IsPlain}
-use Rattle.plain_defs.specs.PlainState.{PlainState}
-use Rattle.report_places.specs.Place.{is_declared}
+use Rattle.plain_defs.specs.PlainState.{PathsState, PlainState}
+use Rattle.report_places.specs.declared.state.Outline.{Outline}
+use Rattle.report_places.specs.Place.{holds, is_declared, outline_in}
+use Rattle.report_text.specs.declared.answers.DeviceTotals.TheVariants as totals
 use Rattle.report_text.specs.declared.line.ReportLine.TheVariants as lines
 use Rattle.report_reading.specs.Ranges.{IsDevice, IsLine, IsLong, IsOwner}
 use Rattle.run_report.specs.Closing.{device_lines, ending_lines, frame_line}
@@ -25,15 +27,16 @@ use Rattle.run_report.specs.Events.{lines_of}
 use Rattle.run_report.specs.Report.{lines_of_run, report_lines}
 use Rattle.device_laws.specs.Moved.{NoTransfers, SecondTransfers, half_writing}
 use Rattle.subsystem_defs.specs.declared.end.EventEnd.{EventEnd}
+use Rattle.subsystem_defs.specs.declared.end.EventEnd.TheVariants as ends
 use Rattle.subsystem_defs.specs.declared.event.Event.{Event}
 use Rattle.subsystem_defs.specs.declared.event.Event.TheVariants as events
 use Rattle.subsystem_defs.specs.Closing.{device_end, device_end_by, ending, lost_tracks, where_true}
 use Rattle.subsystem_defs.specs.Decks as D
 use Rattle.subsystem_defs.specs.Decks.{empty_firsts, opened, run_of}
 use Rattle.subsystem_defs.specs.Deeds.{device_in}
-use Rattle.subsystem_defs.specs.Lines.{Asked, Logged, Once, Run, Settle, asked_by, run_lines}
+use Rattle.subsystem_defs.specs.Lines.{Asked, Logged, Once, Replace, Run, Settle, Unpair, asked_by, run_lines}
 use Rattle.subsystem_defs.specs.Subsystem.{Mounted, Subsystem, devices_of}
-use Rattle.subsystem_laws.specs.Waits.{TellsWaiting, repair_end, waiting_in, waiting_of}
+use Rattle.subsystem_laws.specs.Waits.{RepairsBy, TellsWaiting, repair_end, waiting_in, waiting_of}
 use Rattle.subsystem_laws.specs.Transfers.{AskedTransfers, BackBy, BackTransfers, EventTransfers, MovesByTable, RunTransfers, RunningTransfers, StepBy, StepTransfers}
 use Rattle.subsystem_laws.proofs.CalmRuns.{AllSo}
 use Rattle.subsystem_laws.proofs.FailedCalls.{read_run_reads_few, read_run_writes_few}

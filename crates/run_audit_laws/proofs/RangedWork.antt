@@ -1,20 +1,23 @@
 -- The tracks that a step and a piece of work tell of are the device's: that of its half write, of its chain, of its queue, or the least that needs something.
-use Rattle.std.proofs.Common.{◌≡◌, ◌≤◌, ◌<◌, ◌*◌, ℕ, Bool, List, Option, Some, None, if◌then◌else◌, arith}
+use Rattle.std.proofs.Common.{◌≡◌, ◌≤◌, ◌<◌, ◌*◌, ℕ, Bool, true, false, List, [], ◌∷◌, Option, Some, None, refl, sym, subst, if◌then◌else◌, arith}
 use Rattle.std.specs.Prelude.{IfSome}
 use Rattle.ckd_chain.specs.declared.progress.Progress.{Progress}
+use Rattle.ckd_chain.specs.declared.progress.Progress.TheVariants as progresses
 use Rattle.ckd_chain.specs.State.{ChainState}
 use Rattle.ckd_chain.specs.Steps.{need_of, stepped}
 use Rattle.plain_defs.specs.History.{OpenEntry}
 use Rattle.track_image.specs.Image.{Image}
 use Rattle.device_outside.specs.Interaction.{Done, Interaction, and_then}
 use Rattle.device_defs.specs.declared.answers.Came.{Came}
+use Rattle.device_defs.specs.declared.answers.Came.TheVariants as came
 use Rattle.device_defs.specs.declared.answers.Did.{Did}
 use Rattle.device_defs.specs.declared.answers.SecondEnd.{SecondEnd}
 use Rattle.device_defs.specs.declared.answers.SecondEnd.TheVariants as seconds
 use Rattle.device_defs.specs.declared.answers.Stepped.{Stepped}
 use Rattle.device_defs.specs.declared.answers.Stepped.TheVariants as steps
 use Rattle.device_defs.specs.declared.answers.Took.{Took}
-use Rattle.device_defs.specs.Background.{work}
+use Rattle.device_defs.specs.declared.answers.Took.TheVariants.{Opened, Unwritten, Whole}
+use Rattle.device_defs.specs.Background.{copied, work}
 use Rattle.device_defs.specs.Command as N
 use Rattle.device_defs.specs.Command.{answered_by, command, command_at, command_by, has_loss, on_tracks}
 use Rattle.device_defs.specs.Contents.{by_plain}
@@ -25,7 +28,7 @@ use Rattle.device_defs.specs.Marks.{MarksDevice, MarksStore}
 use Rattle.device_defs.specs.Outcomes.{Turn, told_step, wrote_turn}
 use Rattle.device_defs.specs.Owed.{noted_begin, noted_end, hear, waiting_count}
 use Rattle.device_defs.specs.Second.{second_part}
-use Rattle.device_defs.specs.Store.{HalfWrite, Origin, tracks_of}
+use Rattle.device_defs.specs.Store.{HalfWrite, OfBackground, OfCommand, OfCut, Origin, tracks_of}
 use Rattle.device_laws.specs.InOrder.{AreBelow}
 use Rattle.device_laws.specs.Standing.{IsWithin}
 use Rattle.device_laws.proofs.ChainTracks.{whole_cylinders, within_stays}

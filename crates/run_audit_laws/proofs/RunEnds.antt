@@ -40,9 +40,6 @@ use Rattle.run_audit_laws.proofs.StepsLeft.{Enough}
 not_over : (b : Bool) (o : Option ℕ) → IsSome (if b then None else o) → b ≡ false
 not_over b o some = grind arith
 
-below_limit : (c : Ccw) (o : Outcome) → is_over c o ≡ false → o.stance.commands < 4096
-below_limit c o is = grind (arith, leb-false, or_parts)
-
 pub record Few (k : ℕ) (p : Part) : Type 0 where
   pub counted : p.stance.commands ≡ k
   pub few : k < 4096
@@ -51,7 +48,7 @@ module _ (path : ℕ) (ccws : List Ccw) (acts : List Acted) (state : PlainState)
   more_few : (k : ℕ) (n : Option ℕ) → (part_of state path ccws acts k).next ≡ n →
       (IsSome (part_of state path ccws acts k).next → Few k (part_of state path ccws acts k)) →
       IsSome (one_more path ccws acts (part_of state path ccws acts k)).next → Few (suc k) (one_more path ccws acts (part_of state path ccws acts k))
-  more_few k n is before some = search (arith, acted_beside, not_over, below_limit, effect_counts)
+  more_few k n is before some = search (arith, acted_beside, not_over, effect_counts, leb-false, or_parts)
 
   pub few_of : (k : ℕ) → IsSome (part_of state path ccws acts k).next → Few k (part_of state path ccws acts k)
   unfolding part_of

@@ -59,6 +59,3 @@ module _ {F P H : Type 0} (n : ℕ) where
     pub lost_is : (s : Store F P H) (loss : Loss) → Is s → Is (lost_by c (with_loss s loss) loss)
     unfolding L.cache_lost
     lost_is s loss k = grind (arith, same_is, swept_base, is_if, store_base, side_is)
-
-  pub ahead_is : (u : Usage) (s : Store F P H) (t : ℕ) → Is s → Is (ahead u s t)
-  ahead_is u s t k = ap (λ (z : Store F P H). z.device) (ahead_only u s t) ∙ k

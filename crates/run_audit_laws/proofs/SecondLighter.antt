@@ -1,15 +1,17 @@
 -- The second part of a write leaves less to do, also where its call fails and takes side B down.
-use Rattle.std.proofs.Common.{◌≡◌, ◌≤◌, ◌+◌, ◌⊎◌, ℕ, Bool, true, false, Option, Some, None, is_some, get_or, set, refl, ap, ◌∙◌, arith, inl, inr}
+use Rattle.std.proofs.Common.{◌≡◌, ◌≤◌, ◌+◌, ◌⊎◌, ℕ, Bool, true, false, Option, Some, None, is_some, get_or, set, refl, sym, ap, ◌∙◌, arith, inl, inr}
 use Rattle.std.proofs.lemmas.List.{get_or-set_other}
 use Rattle.std.specs.Prelude.{◌&&◌, ◌||◌, if◌then◌else◌, not}
+use Rattle.std.proofs.lemmas.Bool.{or_left, or_right}
 use Rattle.device_defs.specs.Contents.{by_plain}
 use Rattle.device_defs.specs.Losses as L
 use Rattle.device_defs.specs.Losses.{by_frame, gives_up, hardened_by_loss, kept_by_frame, lost_now, settled, slot_in}
 use Rattle.device_defs.specs.Marks.{MarksStore}
-use Rattle.device_defs.specs.Store.{frame_at, has_level, is_lost, is_loose, patch_at, with_lost}
+use Rattle.device_defs.specs.Store.{frame_at, half_is, has_level, is_lost, is_loose, patch_at, with_lost}
 use Rattle.device_laws.proofs.HeldPlaces.{none_at}
-use Rattle.run_audit_laws.proofs.Weights.{Spot, one, spot_at, weight, whole_weight, works}
+use Rattle.run_audit_laws.proofs.Weights.{Spot, modified_by, one, spot_at, weight, whole_weight, works}
 use Rattle.run_audit_laws.proofs.Lighter.{Near, half_off, half_on, near_firm, near_frame, near_self, some_at, near_by}
+use Rattle.run_audit_laws.proofs.InOrder.{works_by}
 use Rattle.device_laws.proofs.Unlost.{clear}
 
 -- Settling of a track

@@ -18,7 +18,7 @@ use Rattle.device_defs.specs.Writing.{slot_freed, tried_b, write_done, write_sec
 use Rattle.device_laws.proofs.Had.{Had, had_ask, had_done, had_if, had_tell, had_then, had_weaker, had_write}
 use Rattle.run_audit_laws.proofs.Weights.{Spot, copies, modified_by, one, sides, spot_at, weight, weight_at, whole_weight, works}
 use Rattle.run_audit_laws.proofs.Lighter.{Bared, Lower, Near, as_least, clean_off, freed_so, half_off, half_on, idle, lower_all, near_bare, near_frame, near_on, near_self, near_stale_b, none_open, not_own, own_is, same_weight, whole_at, near_by}
-use Rattle.run_audit_laws.proofs.SecondLighter.{IsSafe, Made, fell, made_least, settled_so}
+use Rattle.run_audit_laws.proofs.SecondLighter.{IsSafe, Made, Settles, fell, made_least, settled_so}
 use Rattle.device_laws.proofs.Unlost.{clear}
 
 -- All tracks but that of the write

@@ -93,19 +93,12 @@ module _ (x : MarksDevice) (p : Plainly x) where
   abbrev a : AuditedDevice
   a = audited x
 
-  -- what is kept of the paths
-  paths_are : (state_of (audited x)).paths ≡ x.paths
-  paths_are = grind arith
-
   module _ (none : x.history.running ≡ None) where
-    left_is : (path : ℕ) → (left x path == 0) ≡ not (has_left a path)
-    left_is path = grind (arith, nat_tests)
-
     keeps_is : (path : ℕ) → keeps_out x path ≡ not (is_admitted (state_of a).paths path (program_of x.plans path (A.next_ordinal a path)))
-    keeps_is path = grind (arith, paths_are)
+    keeps_is path = grind arith
 
     out_is : (path : ℕ) → has_none_or_is_out x path ≡ not (may_start a path)
-    out_is path = grind (arith, left_is, keeps_is)
+    out_is path = grind (arith, keeps_is, nat_tests)
 
     shut_is : is_shut x ≡ not (list_any (may_start a) four_paths)
     shut_is = all_not (may_start a) (has_none_or_is_out x) out_is four_paths
@@ -132,7 +125,7 @@ module _ (x : MarksDevice) (p : Plainly x) where
       free_by l k is out = grind (arith, held_by)
 
       free_is : free_answer a path ≡ answer_by (idle_fault x path) (S.next_ordinal x path)
-      free_is = grind (arith, free_by, left_is, keeps_is)
+      free_is = grind (arith, free_by, keeps_is, nat_tests)
 
   lent_is : (path : ℕ) (l : Option ℕ) → lent_answer a path l ≡ answer_by (fault_by x path l) (S.next_ordinal x path)
   lent_is path l = grind (arith, free_is)

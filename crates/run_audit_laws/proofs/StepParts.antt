@@ -1,15 +1,18 @@
 -- What a command, and the second part of a write, make of a device beside its history: it is the same device, with a half write or none.
-use Rattle.std.proofs.Common.{◌≡◌, ℕ, Bool, List, Option, Some, None, refl, sym, ap, subst, ◌∙◌, arith, if◌then◌else◌}
+use Rattle.std.proofs.Common.{◌≡◌, ℕ, Bool, true, false, List, Option, Some, None, refl, sym, ap, subst, ◌∙◌, arith, if◌then◌else◌}
 use Rattle.ckd_chain.specs.declared.progress.Progress.{Progress}
+use Rattle.ckd_chain.specs.declared.progress.Progress.TheVariants as progresses
+use Rattle.ckd_chain.specs.declared.progress.Settled.TheVariants.{Equipment}
 use Rattle.ckd_chain.specs.Fed.{Fed}
 use Rattle.ckd_chain.specs.State.{ChainState}
 use Rattle.ckd_chain.specs.Steps.{need_of, stepped}
 use Rattle.ckd_rules.specs.Walk.{TrackEdit}
 use Rattle.ckd_types.specs.declared.record.Track.{Track}
 use Rattle.plain_defs.specs.History.{OpenEntry, plain_of}
+use Rattle.plain_defs.specs.Journal.{replay}
 use Rattle.plain_defs.specs.Legal.{AreActs}
 use Rattle.plain_defs.specs.PlainState.{PlainState}
-use Rattle.plain_device.specs.Acted.{settled_act}
+use Rattle.plain_device.specs.Acted.{paths_behind, settled_act}
 use Rattle.track_image.specs.Image.{Image}
 use Rattle.device_outside.specs.Interaction.{Interaction}
 use Rattle.device_defs.specs.declared.answers.Came.{Came}
@@ -25,7 +28,7 @@ use Rattle.device_defs.specs.Device.{all_acted, event, event_begun, with_store}
 use Rattle.device_defs.specs.Events as V
 use Rattle.device_defs.specs.Events.{command_ended, second, second_ended, second_of, second_turn}
 use Rattle.device_defs.specs.Marks.{MarksDevice, MarksStore}
-use Rattle.device_defs.specs.Outcomes.{Turn, told_step, turned, turned_by}
+use Rattle.device_defs.specs.Outcomes.{Turn, checks, settles, told_step, turned, turned_by}
 use Rattle.device_defs.specs.Owed.{noted_begin, waiting_count}
 use Rattle.device_defs.specs.Store as store
 use Rattle.device_defs.specs.Store.{Origin, OfBackground, OfCommand, OfCut, tracks_of}
@@ -37,11 +40,11 @@ use Rattle.device_laws.proofs.KeptEvents.{Continues, command_goes, second_goes}
 use Rattle.device_laws.proofs.KeptHistories.{extends_itself}
 use Rattle.device_laws.proofs.PlainCommand.{on, runs_on, walking_first}
 use Rattle.device_laws.proofs.PlainEvents.{had_always, had_both}
-use Rattle.device_laws.proofs.PlainLooks.{EditSo, FollowSo, TurnIs, follow_so, from_itself}
+use Rattle.device_laws.proofs.PlainLooks.{EditSo, FollowSo, TurnIs, data_check, ended_so, equipment, follow_so, from_itself, half_open}
 use Rattle.device_laws.proofs.PlainSeconds.{SecondSo, holds_first, part_so}
 use Rattle.device_laws.proofs.PlainStores.{Core, Open, Walks, core_of}
-use Rattle.device_laws.proofs.PlainTurns.{Follows, Halfway, IsMid, IsMidOf, none_mid, some_none}
-use Rattle.device_laws.proofs.PlainWalks.{IsEdited, ended_same, hear_same}
+use Rattle.device_laws.proofs.PlainTurns.{Follows, Halfway, IsMid, IsMidOf, RunsAt, none_mid, some_none}
+use Rattle.device_laws.proofs.PlainWalks.{IsEdited, ended_same, firmly, hear_same, loosely, loosened}
 use Rattle.device_laws.proofs.WholeEvents.{turned_same}
 use Rattle.subsystem_defs.specs.Happening.{Talk}
 use Rattle.subsystem_laws.proofs.LendBase.{IsStill, stays_still}

@@ -135,14 +135,11 @@ abbrev MoveFits : Result ℕ Sense → Type 0
 MoveFits (Ok t) = ⊤
 MoveFits (Err sense) = IsRule sense
 
-next_fits : (s : Stance) → MoveFits (next_track s)
-next_fits s = grind (arith, protected_rule, cylinder_rule)
-
 index_fits : (passes : ℕ) (o : Option ℕ) → SoughtFits (from_index passes o)
 index_fits passes o = grind (arith, no_record_rule)
 
 missed_fits : (b : Bool) (s : Stance) (again : Option ℕ) → SoughtFits (search_missed b s again)
-missed_fits b s again = grind (arith, next_fits, no_record_rule, index_fits)
+missed_fits b s again = grind (arith, no_record_rule, index_fits, protected_rule, cylinder_rule)
 
 found_fits : (b : Bool) (s : Stance) (o again : Option ℕ) → SoughtFits (find_from b s o again)
 found_fits b s o again = grind (arith, missed_fits)
@@ -239,20 +236,14 @@ OpeningFits c (openings.Over e) = Fits c e
 OpeningFits c (openings.Looks look) = ⊤
 OpeningFits c (openings.Asks act) = ⊤
 
-track_from_fits : (s : Stance) (c : Ccw) (r : Read) (place : Place) → OpeningFits c (read_from s c r reads.Track place).opening
-track_from_fits s c r place = grind (arith, refused_fits, cylinder_rule, protected_rule)
-
 write_from_fits : (s : Stance) (c : Ccw) (w : Write) → OpeningFits c (look_from s c (Writes w)).opening
 write_from_fits s c w = grind (arith, refused_fits, cylinder_rule, protected_rule)
 
 look_from_fits : (s : Stance) (c : Ccw) (look : Look) → OpeningFits c (look_from s c look).opening
-look_from_fits s c look = grind (arith, write_from_fits, track_from_fits)
-
-locating_fits : (s : Stance) (c : Ccw) (d : Domain) (o : Option Place) → OpeningFits c (locating s c d o).opening
-locating_fits s c d o = grind (arith, ended_fits)
+look_from_fits s c look = grind (arith, write_from_fits, refused_fits, cylinder_rule, protected_rule)
 
 begun_fits : (s : Stance) (c : Ccw) (order : CommandOrder) → OpeningFits c (begun s c order).opening
-begun_fits s c order = grind (arith, ended_fits, locating_fits, look_from_fits)
+begun_fits s c order = grind (arith, ended_fits, look_from_fits)
 
 opened_fits : (s : Stance) (c : Ccw) (r : Result CommandOrder Sense) → OrderFits r → OpeningFits c (opening_with s c r).opening
 opened_fits s c r h = grind (arith, begun_fits, refused_fits)

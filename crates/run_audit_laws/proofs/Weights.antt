@@ -1,6 +1,7 @@
 -- How much a device has to do by itself: of each track, once for each side that takes writes where it waits or is to be destaged, and once more
 -- where it is to be copied; the tracks to stage; and an open half write.
-use Rattle.std.proofs.Common.{◌≢◌, ◌<◌, ◌≤◌, ◌+◌, ◌*◌, ℕ, zero, suc, Bool, false, Option, Some, None, is_some, length, arith}
+use Rattle.std.proofs.Common.{◌≡◌, ◌≢◌, ◌<◌, ◌≤◌, ◌+◌, ◌*◌, ◌⊎◌, ℕ, zero, suc, Bool, true, false, Option, Some, None, is_some, length, ap, arith, inl, inr}
+use Rattle.std.proofs.lemmas.Bool.{cases_eq}
 use Rattle.std.specs.Prelude.{◌&&◌, ◌||◌, if◌then◌else◌, not}
 use Rattle.device_defs.specs.Marks.{MarksStore}
 use Rattle.device_defs.specs.Store.{frame_at, half_is, is_lost, is_loose, patch_at, stale_at, tracks_of}

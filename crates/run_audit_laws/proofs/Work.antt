@@ -1,5 +1,28 @@
 -- What the lines of a piece of work make of its device: acts of cache fast write, volume calls, the program that is over.
-use Rattle.std.proofs.Common.{arith, ◌≡◌, ◌==◌, ◌++◌, ℕ, Bool, true, false, not, List, [], ◌∷◌, map, Option, Some, None, refl, sym, ap, ◌∙◌, if◌then◌else◌}
+use Rattle.std.proofs.Common.{
+  arith,
+  ◌≡◌,
+  ◌==◌,
+  ◌++◌,
+  ℕ,
+  Bool,
+  true,
+  false,
+  not,
+  List,
+  [],
+  ◌∷◌,
+  map,
+  Option,
+  Some,
+  None,
+  refl,
+  sym,
+  ap,
+  subst,
+  ◌∙◌,
+  if◌then◌else◌,
+}
 use Rattle.std.specs.Prelude.{◌||◌, ◌&&◌, Ok, Err}
 use Rattle.std.proofs.lemmas.Bool.{eq-eqb}
 use Rattle.deck_plan.specs.declared.event.EventLine.{EventLine}
@@ -9,6 +32,7 @@ use Rattle.plain_defs.specs.declared.journal.Act.TheVariants.{Loosen, Harden, Cf
 use Rattle.plain_defs.specs.History.{History, IsPlain, acted}
 use Rattle.plain_defs.specs.Legal.{AreActs}
 use Rattle.plain_defs.specs.Loose.{is_loose_there}
+use Rattle.plain_defs.specs.PlainState.{PlainState}
 use Rattle.device_defs.specs.Device.{all_acted}
 use Rattle.device_laws.proofs.HistoryActs.{acted_plain, acted_state, acts_first, acts_rest}
 use Rattle.report_text.specs.declared.answers.LooseAnswer.TheVariants as loose
@@ -16,7 +40,7 @@ use Rattle.report_text.specs.declared.line.ReportLine.{ReportLine}
 use Rattle.report_text.specs.declared.line.ReportLine.TheVariants as lines
 use Rattle.report_text.specs.Events.{io_lines, line_if}
 use Rattle.report_places.specs.declared.state.Did.{Did}
-use Rattle.report_places.specs.declared.state.Did.TheVariants.{Ended, Halved}
+use Rattle.report_places.specs.declared.state.Did.TheVariants.{Ended, CheckEnded, Halved, Worked}
 use Rattle.report_places.specs.declared.state.Due.{Due}
 use Rattle.report_places.specs.declared.state.Due.TheVariants.{Next, Behind, OverOf}
 use Rattle.report_places.specs.Place.{holds, in_due, is_act_of, is_io, is_of_work, is_over, worker_of}
