@@ -150,10 +150,6 @@ module _ (s u : AuditState) (all : AlikeStates s u) (line : ReportLine) where
       shut : AlikeStates (changed s (record a { half = Closed })) (changed u (record b { half = Closed }))
       shut = changed_alike s u all (record a { half = Closed }) (record b { half = Closed }) (half_alike a b is Closed Closed refl)
 
-      end_by_alike : (e : Option CommandEnd) → AlikeMade (end_made_by s line a o e) (end_made_by u line b p e)
-      end_by_alike (Some e) = grind (arith, if_alike, due_alike, shut, number_same)
-      end_by_alike None = tt
-
       -- a program that is cut
       cuts : (more : ℕ) → IsFew more → AlikeStates
           (record (changed s (record a { history = reset_in_history a.history o.path more; half = cut_half a.half })) { due = ResetOf })
@@ -169,7 +165,7 @@ module _ (s u : AuditState) (all : AlikeStates s u) (line : ReportLine) where
       power_cut_alike one two k = grind (arith, if_alike, power_cuts)
 
     end_made_alike : AlikeMade (end_made s line a a.history.running) (end_made u line b b.history.running)
-    end_made_alike = grind (arith, both, end_same, end_by_alike)
+    end_made_alike = grind (arith, both, end_same, if_alike, due_alike, shut, number_same)
 
     -- acts
     act_alike : (act : Act) (due : Due) → AlikeStates (act_made s a act due) (act_made u b act due)
@@ -256,11 +252,8 @@ module _ (s u : AuditState) (all : AlikeStates s u) where
   pub worker_alike : AlikeFound (worker s) (worker u)
   worker_alike = grind (arith, number_at_work, found_alike)
 
-  first_same : first_event s.events ≡ first_event u.events
-  first_same = ap first_event all.events_are
-
 behind_alike : (s u : AuditState) → AlikeStates s u → (a b : AuditedDevice) → Alike a b → (did : Did) → AlikeStates (behind_work s a did) (behind_work u b did)
-behind_alike s u all a b is did = grind (arith, event_over_same, first_same, passed_alike, due_alike)
+behind_alike s u all a b is did = grind (arith, event_over_same, passed_alike, due_alike)
 
 module _ (s u : AuditState) (all : AlikeStates s u) where
   settled_at : (x y : Option AuditedDevice) → AlikeFound x y → (did : Did) → AlikeStates (settled_in s did x) (settled_in u did y)
@@ -278,10 +271,7 @@ module _ (s u : AuditState) (all : AlikeStates s u) where
 
   due_made_alike : (line : ReportLine) (due : Due) → AlikeMade (due_made s line due) (due_made u line due)
   due_made_alike line due =
-      grind (arith, next_alike, shown_alike, due_alike, then_alike, worker_alike, over_wanted, first_same, first_order, passed_alike, powers_alike, if_alike, both)
-
-settled_due : (t v : AuditState) → AlikeStates t v → (line : ReportLine) → AlikeMade (due_made t line t.due) (due_made v line v.due)
-settled_due t v all line = grind (arith, due_made_alike)
+      grind (arith, next_alike, shown_alike, due_alike, then_alike, worker_alike, over_wanted, first_order, passed_alike, powers_alike, if_alike, both)
 
 placed_same : (t v : AuditState) → AlikeStates t v → (line : ReportLine) → in_state t line ≡ in_state v line
 placed_same t v all line = grind (arith, outlines_same)
@@ -294,7 +284,7 @@ module _ (s u : AuditState) (all : AlikeStates s u) (line : ReportLine) where
   legal_at_work did = holds_same (worker s) (worker u) (worker_alike s u all) (is_legal did) (λ a b is. legal_same a b is did)
 
   behind_made_alike : (more : Bool) (did : Did) → AlikeMade (behind_made s line more did) (behind_made u line more did)
-  behind_made_alike more did = grind (arith, settled_alike, if_alike, of_work_same, then_alike, worker_alike, legal_at_work, settled_due, harden_alike, loosen_alike)
+  behind_made_alike more did = grind (arith, settled_alike, if_alike, of_work_same, then_alike, worker_alike, legal_at_work, harden_alike, loosen_alike, due_made_alike)
 
   made_in_alike : (due : Due) → AlikeMade (made_in s line due) (made_in u line due)
   made_in_alike (Behind more did) = behind_made_alike more did

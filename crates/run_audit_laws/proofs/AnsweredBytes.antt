@@ -29,14 +29,11 @@ sensed_keeps p path o h k = search (arith, sense_kept)
 
 -- The state of a path
 
-all_few : (a b c : ℕ) → a ≤ 192 → b ≤ 48 → c ≤ 8 → a + b + c < 256
-all_few a b c h k l = omega (arith, h, k, l)
-
 name_are : (state : PathState) → Named state → All IsByte (group_id_bytes state)
 name_are state n = grind (arith, are_bytes)
 
 group_are : (state : PathState) → Named state → (path : ℕ) (owner : Option Owner) → All IsByte (group_bytes state path owner)
-group_are state n path owner = grind (arith, all_few, name_are)
+group_are state n path owner = grind (arith, name_are)
 
 -- Acts
 

@@ -46,15 +46,12 @@ module _ (devices : List DeviceLine) where
   volume_is : (x y : ℕ) (s t : Side) → ◌≡◌ {A = Result EventLine DeckWhy} (Ok (events.FailVolume x s)) (Ok (events.FailVolume y t)) → x ≡ y
   volume_is x y s t h = cc
 
-  pair_is : (a b x y : ℕ) → ◌≡◌ {A = Result EventLine DeckWhy} (Ok (events.Pair a b)) (Ok (events.Pair x y)) → (a ≡ x) × (b ≡ y)
-  pair_is a b x y h = (let one : a ≡ x = cc in one, let two : b ≡ y = cc in two)
-
   of_volume : (w : Option (List ℕ × List ℕ × List ℕ)) (words : List (List ℕ)) (d : ℕ) (side : Side) →
       fail_by w devices words ≡ Ok (events.FailVolume d side) → is_declared devices d ≡ true
   of_volume w words d side h = grind (arith, went)
 
   of_event : (e : EventLine) → EventOk devices e → OfNamed (λ d. is_declared devices d ≡ true) e
-  of_event e ok = grind (arith, went, pair_is)
+  of_event e ok = grind (arith, went)
 
   of_events : (es : List EventLine) → Each (EventOk devices) es → Each (OfNamed (λ d. is_declared devices d ≡ true)) es
   of_events [] h = tt

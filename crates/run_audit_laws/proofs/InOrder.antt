@@ -60,22 +60,16 @@ module _ (s : MarksStore) (t : ℕ) (ts : List ℕ) (queue : s.queue ≡ t ∷ t
   abbrev shorter : MarksStore
   shorter = record s { queue = ts }
 
-  got_same : (z : MarksStore) (f : Option Side) → GotSo shorter z f → f ≡ None → Same shorter z
-  got_same z f e is = grind arith
-
   nothing_said : (z : MarksStore) (f : Option Side) → stops (did f dids.Nothing) ≡ false → Lower s z
   nothing_said z f e = grind arith
 
   bytes_staged : (z : MarksStore) (g : Got Bool) → GotSo shorter z g.fault → frame_at s t ≡ None → is_lost s t ≡ false → (o : Option Bool) →
       Had (staged_bytes by_plain t z g o) (WorkSo s)
   bytes_staged z g e bare here o =
-      search (arith, had_ask, had_done, nothing_said, had_try, had_then, had_if, is_some, got_same, bad_stops, same_least, sum_least, weight_at, framed_least)
-
-  none_framed : (o : Option Bool) (lost : Bool) → (is_some o || lost) ≡ false → (o ≡ None) × (lost ≡ false)
-  none_framed o lost e = grind arith
+      search (arith, had_ask, had_done, nothing_said, had_try, had_then, had_if, is_some, bad_stops, same_least, sum_least, weight_at, framed_least)
 
   stage_so : Had (stage by_plain shorter t) (WorkSo s)
-  stage_so = grind (arith, had_if, had_done, none_framed, had_try, had_ask, had_then, level_so shorter t, bytes_staged)
+  stage_so = grind (arith, had_if, had_done, had_try, had_ask, had_then, level_so shorter t, bytes_staged)
 
 -- The order
 

@@ -31,13 +31,10 @@ record Kept (s z : MarksStore) : Type 0 where
   core : core_of z ≡ core_of s
   paired : z.paired ≡ s.paired
 
-given_kept : (t : ℕ) (s : MarksStore) → Kept s (given_up by_plain t s)
-given_kept t s = grind (arith, cond_both, is_some, framed_same, patch_same)
-
 over_kept : (k : ℕ) (s : MarksStore) → Kept s (over k (given_up by_plain) s)
 unfolding L.over
 over_kept zero s = record { core = refl; paired = refl }
-over_kept (suc k) s = grind (arith, over_kept k s, given_kept)
+over_kept (suc k) s = grind (arith, over_kept k s, cond_both, is_some, framed_same, patch_same)
 
 ended_kept : (before : ℕ) (s : MarksStore) → Had (noted_end by_plain before s) (λ y (_ : Unit {0}). Kept s y)
 ended_kept before s = asks_had (ended_asks by_plain (Kept s) (λ z t e. (search arith)) before s (search arith))

@@ -188,12 +188,9 @@ patch_fewer s t = slot_fewer s t (slot_in by_plain (patch_at s t))
 lost_fewer : (s : MarksStore) (t : ℕ) → Fewer s (lost_now by_plain s t)
 lost_fewer s t = let z = with_lost s t in fewer_on s z (lost_now by_plain s t) (search arith) (patch_fewer z t)
 
-frame_fewer : (s : MarksStore) (t : ℕ) → is_loose s t ≡ false → (o : Option Bool) → Fewer s (by_frame by_plain s t o)
-frame_fewer s t firm o = grind (arith, cond_both, lost_fewer)
-
 settled_fewer : (s : MarksStore) (t : ℕ) → is_loose s t ≡ false → Fewer s (settled by_plain s t)
 unfolding L.settled
-settled_fewer s t firm = grind (arith, cond_both, is_some, frame_fewer)
+settled_fewer s t firm = grind (arith, cond_both, is_some, lost_fewer)
 
 -- whatever has a patch isn't loose
 abbrev pub PatchedAreFirm : MarksStore → Type 0
@@ -203,11 +200,8 @@ record NoAct (s : MarksStore) : Type 0 where
   none : s.acts ≡ []
   firm : PatchedAreFirm s
 
-no_act_on : (s z : MarksStore) → NoAct s → Fewer s z → NoAct z
-no_act_on s z a f = record { none = f.acts ∙ a.none; firm = λ q is. f.loose q ∙ a.firm q (f.patches q is) }
-
 one_patch : (t : ℕ) (s : MarksStore) → NoAct s → NoAct (patch_lost by_plain t s)
-one_patch t s a = grind (arith, cond_both, no_act_on, patch_fewer, fewer_on, settled_fewer)
+one_patch t s a = grind (arith, cond_both, patch_fewer, fewer_on, settled_fewer)
 
 all_patches : (k : ℕ) (s : MarksStore) → NoAct s → NoAct (over k (patch_lost by_plain) s)
 unfolding L.over

@@ -135,11 +135,8 @@ abbrev MoveFits : Result ℕ Sense → Type 0
 MoveFits (Ok t) = ⊤
 MoveFits (Err sense) = IsRule sense
 
-index_fits : (passes : ℕ) (o : Option ℕ) → SoughtFits (from_index passes o)
-index_fits passes o = grind (arith, no_record_rule)
-
 missed_fits : (b : Bool) (s : Stance) (again : Option ℕ) → SoughtFits (search_missed b s again)
-missed_fits b s again = grind (arith, no_record_rule, index_fits, protected_rule, cylinder_rule)
+missed_fits b s again = grind (arith, no_record_rule, protected_rule, cylinder_rule)
 
 found_fits : (b : Bool) (s : Stance) (o again : Option ℕ) → SoughtFits (find_from b s o again)
 found_fits b s o again = grind (arith, missed_fits)
@@ -236,17 +233,11 @@ OpeningFits c (openings.Over e) = Fits c e
 OpeningFits c (openings.Looks look) = ⊤
 OpeningFits c (openings.Asks act) = ⊤
 
-write_from_fits : (s : Stance) (c : Ccw) (w : Write) → OpeningFits c (look_from s c (Writes w)).opening
-write_from_fits s c w = grind (arith, refused_fits, cylinder_rule, protected_rule)
-
 look_from_fits : (s : Stance) (c : Ccw) (look : Look) → OpeningFits c (look_from s c look).opening
-look_from_fits s c look = grind (arith, write_from_fits, refused_fits, cylinder_rule, protected_rule)
-
-begun_fits : (s : Stance) (c : Ccw) (order : CommandOrder) → OpeningFits c (begun s c order).opening
-begun_fits s c order = grind (arith, ended_fits, look_from_fits)
+look_from_fits s c look = grind (arith, refused_fits, cylinder_rule, protected_rule)
 
 opened_fits : (s : Stance) (c : Ccw) (r : Result CommandOrder Sense) → OrderFits r → OpeningFits c (opening_with s c r).opening
-opened_fits s c r h = grind (arith, begun_fits, refused_fits)
+opened_fits s c r h = grind (arith, refused_fits, ended_fits, look_from_fits)
 
 pub opening_fits : (f : Fixed) (s : Stance) (c : Ccw) → OpeningFits c (opening_of f s c).opening
 opening_fits f s c = opened_fits s c (order_of f s c) (order_fits f s c _)
