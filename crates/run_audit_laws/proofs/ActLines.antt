@@ -1,5 +1,5 @@
 -- What is told of devices to which only acts came, or nothing, or an empty volume.
-use Rattle.std.proofs.Common.{arith, ◌≡◌, ◌⊎◌, ◌++◌, ℕ, Bool, true, false, List, [], ◌∷◌, map, Option, Some, None, length, refl, sym, ap, ◌∙◌, append_assoc, inl, inr}
+use Rattle.std.proofs.Common.{arith, ◌≡◌, ◌⊎◌, ◌++◌, ℕ, true, false, List, [], ◌∷◌, map, Option, Some, None, refl, sym, ap, ◌∙◌, append_assoc, inl}
 use Rattle.std.proofs.lemmas.List.{append-nil, map-append}
 use Rattle.plain_defs.specs.declared.journal.Act.{Act}
 use Rattle.plain_defs.specs.declared.journal.Act.TheVariants.{Loosen, Harden, CfwLost}
@@ -9,12 +9,12 @@ use Rattle.plain_defs.specs.History.{History, OpenEntry, acted, acted_in, emptie
 use Rattle.device_defs.specs.Device.{all_acted}
 use Rattle.device_defs.specs.Marks.{MarksDevice}
 use Rattle.report_text.specs.declared.line.ReportLine.{ReportLine}
-use Rattle.report_text.specs.Events.{loosed_line, program_over_lines}
+use Rattle.report_text.specs.Events.{loosed_line}
 use Rattle.run_report.specs.Beside.{loose_lines, loosed, of_each, over_lines, over_of}
 use Rattle.run_report.proofs.ActsCome.{acts_both, acts_come}
 use Rattle.run_report.proofs.OneDevice.{none_behind}
 use Rattle.run_report.proofs.Quiet.{behind_more}
-use Rattle.subsystem_defs.specs.Beside.{acts_in, acts_of_items, acts_running, behind_first, has_power, new_acts, new_items, power_told, told_act}
+use Rattle.subsystem_defs.specs.Beside.{acts_in, has_power, new_items, told_act}
 use Rattle.run_audit_laws.specs.Steps.{NoLoss, act_line}
 use Rattle.run_audit_laws.proofs.Quiet.{none_loose}
 use Rattle.run_audit_laws.proofs.PieceLines.{acts_no_power}
@@ -75,20 +75,15 @@ module _ (x y : MarksDevice) (acts : List Act) (is : y.history ≡ all_acted x.h
 abbrev pub Silent : History → History → Type 0
 Silent h k = (k ≡ h) ⊎ (k ≡ emptied h)
 
-fresh_acts : (h : History) → acts_in (emptied h) ≡ acts_in h
-fresh_acts h = grind (arith, acts_both, append-nil)
-
 silent_items : (h k : History) → Silent h k → (xs : List Item) × (new_items h k ≡ xs) × (has_power xs ≡ false) × ((n : ℕ) → over_of n xs ≡ None)
     × (acts_in k ≡ acts_in h)
-silent_items h k x3 = grind (arith, none_behind, behind_more, fresh_acts)
+silent_items h k x3 = grind (arith, none_behind, behind_more, acts_both, append-nil)
 
 silent_loose : (x y : MarksDevice) → Silent x.history y.history → loose_lines x y ≡ []
 silent_loose x y so = let s = silent_items x.history y.history so in none_loose x y s.0 s.1 s.2 s.4
 
 silent_over : (x y : MarksDevice) → Silent x.history y.history → over_lines x y ≡ []
-silent_over x y so =
-    let s = silent_items x.history y.history so in
-    ap (λ (l : List Item). program_over_lines (over_of x.store.device l)) s.1 ∙ ap program_over_lines (s.3 x.store.device)
+silent_over x y so = grind (arith, silent_items x.history y.history so)
 
 abbrev pub history_of : MarksDevice → History
 history_of d = d.history

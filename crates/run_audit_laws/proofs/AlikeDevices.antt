@@ -1,49 +1,26 @@
 -- Devices of an audit that differ at most in behind which ends of commands the acts of a program stand: every line finds both the same.
-use Rattle.std.proofs.Common.{arith, ◌≡◌, ◌+◌, ◌/◌, ◌%◌, ◌==◌, ◌++◌, ℕ, Bool, true, false, List, [], ◌∷◌, map, length, Option, Some, None, cond, refl, sym, ap, subst, ◌∙◌, if◌then◌else◌}
-use Rattle.std.specs.Prelude.{option_map, count_by, fold, nat_le, nat_lt, ◌||◌, ◌&&◌, not}
+use Rattle.std.proofs.Common.{arith, ◌≡◌, ◌+◌, ◌==◌, ℕ, Bool, true, false, List, [], ◌∷◌, map, length, Option, Some, None, cond, refl, ap, ◌∙◌, if◌then◌else◌}
+use Rattle.std.specs.Prelude.{fold, nat_lt, ◌||◌}
 use Rattle.std.specs.List.{list_any}
 use Rattle.ckd_types.specs.declared.channel.Ccw.{Ccw}
 use Rattle.ckd_types.specs.declared.paths.Owner.{Owner}
 use Rattle.ckd_rules.specs.Walk.{TrackEdit}
 use Rattle.deck_plan.specs.declared.event.EventLine.{EventLine}
-use Rattle.deck_plan.specs.declared.event.EventLine.TheVariants as events
 use Rattle.plain_defs.specs.declared.journal.Item.{Item}
-use Rattle.plain_defs.specs.declared.journal.Item.TheVariants as items
-use Rattle.plain_defs.specs.History.{History, OpenEntry, emptied, started, state_by}
-use Rattle.plain_defs.specs.Journal.{Plans, planned, program_of, replay, replay_item}
+use Rattle.plain_defs.specs.History.{History, OpenEntry, emptied}
+use Rattle.plain_defs.specs.Journal.{Plans, program_of, replay}
 use Rattle.plain_defs.specs.Legal.{edit_at, is_of_path, next_edit}
-use Rattle.plain_defs.specs.Loose.{next_number}
-use Rattle.plain_defs.specs.PlainState.{PlainState, is_admitted}
+use Rattle.plain_defs.specs.PlainState.{PlainState}
 use Rattle.plain_defs.specs.Program.{Part}
-use Rattle.report_text.specs.declared.answers.HowOver.{HowOver}
-use Rattle.report_text.specs.declared.answers.HowOver.TheVariants.{Full, Checked}
-use Rattle.report_text.specs.declared.answers.LooseAnswer.TheVariants as loose
-use Rattle.report_text.specs.declared.answers.StartAnswer.{StartAnswer}
 use Rattle.report_text.specs.declared.answers.StartAnswer.TheVariants as start
-use Rattle.report_text.specs.declared.line.ReportLine.{ReportLine}
-use Rattle.report_text.specs.declared.line.ReportLine.TheVariants as lines
 use Rattle.report_places.specs.declared.state.Did.{Did}
-use Rattle.report_places.specs.declared.state.Did.TheVariants.{CheckEnded, Ended, Halved, Worked}
+use Rattle.report_places.specs.declared.state.Did.TheVariants.{CheckEnded, Ended}
 use Rattle.report_places.specs.declared.state.HalfWrite.{HalfWrite}
 use Rattle.report_places.specs.declared.state.OpenProgram.{OpenProgram}
-use Rattle.deck_audit.specs.Device.{AuditedDevice, edit_of, four_paths, free_answer, has_left, has_loose, held_answer, is_closed, is_edit_legal, is_idle, is_next_legal, lent_answer, loosens, may_loosen, may_start, next_ordinal, open_program, outline_of, own_runs, part_of_open, plain_end, plain_end_at, running_answer, runs, start_answer, state_of, words_of_open}
-use Rattle.deck_audit.specs.History.{after_start, given_back, is_legal, is_lent_to, loss_line, runs_lent, without_power}
-use Rattle.deck_audit.specs.State.{is_event_over, over_by, over_line, worked}
-use Rattle.run_audit_laws.proofs.Pasts.{
-  Going,
-  IsRead,
-  IsTidy,
-  Past,
-  bare,
-  check_is_read,
-  emptied_alike,
-  end_is_read,
-  going_of,
-  past_of,
-  power_is_read,
-  start_is_read,
-  untold,
-}
+use Rattle.deck_audit.specs.Device.{AuditedDevice, edit_of, four_paths, free_answer, has_left, has_loose, held_answer, is_edit_legal, is_next_legal, loosens, may_loosen, may_start, next_ordinal, own_runs, part_of_open, plain_end, plain_end_at, runs, start_answer, state_of, words_of_open}
+use Rattle.deck_audit.specs.History.{given_back, is_legal, loss_line, runs_lent, without_power}
+use Rattle.deck_audit.specs.State.{is_event_over, over_by, worked}
+use Rattle.run_audit_laws.proofs.Pasts.{Going, IsRead, IsTidy, Past, bare, check_is_read, emptied_alike, end_is_read, going_of, past_of, power_is_read, untold}
 
 pub record Seen : Type 0 where
   pub number : ℕ
@@ -76,22 +53,12 @@ abbrev program_in : Option Going → Option OpenProgram
 program_in (Some g) = Some (record { path = g.path; ordinal = g.ordinal })
 program_in None = None
 
-module _ (plans : Plans) (s : PlainState) where
-  pub state_is : (r : Option OpenEntry) → state_by plans s r ≡ state_in s (option_map (going_of plans s) r)
-  state_is r = grind arith
-
-  program_is : (r : Option OpenEntry) → open_program r ≡ program_in (option_map (going_of plans s) r)
-  program_is r = grind arith
-
-path_bare : (path : ℕ) (item : Item) → is_of_path path item ≡ is_of_path path (bare item)
-path_bare path item = grind arith
-
 abbrev one_more : ℕ → ℕ → Item → ℕ
 one_more path n item = n + cond (is_of_path path item) 1 0
 
 count_bare : (path : ℕ) (l : List Item) (n : ℕ) → fold (one_more path) n l ≡ fold (one_more path) n (map bare l)
 count_bare path [] n = refl
-count_bare path (item ∷ l) n = grind (arith, count_bare path l, path_bare)
+count_bare path (item ∷ l) n = grind (arith, count_bare path l)
 
 end_untold : (path : ℕ) (ccws : List Ccw) (p : Part) (next : Option ℕ) → plain_end_at path ccws p next ≡ plain_end_at path ccws (untold p) next
 end_untold path ccws p next = grind arith
@@ -101,9 +68,6 @@ edit_untold path ccws p next = grind arith
 
 legal_untold : (p : Part) (e : Option TrackEdit) → is_edit_legal p e ≡ is_edit_legal (untold p) e
 legal_untold p e = grind arith
-
-loosens_untold : (p : Part) (e : Option TrackEdit) (t : ℕ) → loosens p e t ≡ loosens (untold p) e t
-loosens_untold p e t = grind arith
 
 abbrev pub words_in : Plans → Going → List Ccw
 words_in plans g = program_of plans g.path g.ordinal
@@ -116,27 +80,9 @@ module _ (a : AuditedDevice) (o : OpenEntry) where
   abbrev g : Going
   g = going_of a.plans (replay a.plans a.empty a.history.items) o
 
-  end_in : plain_end a o ≡ plain_end_at o.path (words_of_open a o) (untold (part_of_open a o)) (part_of_open a o).next
-  end_in = end_untold o.path (words_of_open a o) (part_of_open a o) (part_of_open a o).next
-
-  edit_is : edit_of a o ≡ edit_in a.plans (going_of a.plans (replay a.plans a.empty a.history.items) o)
-  edit_is = edit_untold o.path (words_of_open a o) (part_of_open a o) (part_of_open a o).next
-
-  legal_in : is_edit_legal (part_of_open a o) (edit_of a o) ≡ is_edit_legal (untold (part_of_open a o))
-      (edit_in a.plans (going_of a.plans (replay a.plans a.empty a.history.items) o))
-  legal_in = legal_untold (part_of_open a o) (edit_of a o) ∙ ap (is_edit_legal (untold (part_of_open a o))) edit_is
-
-  loosens_in : (t : ℕ) → loosens (part_of_open a o) (edit_of a o) t ≡ loosens (untold (part_of_open a o))
-      (edit_in a.plans (going_of a.plans (replay a.plans a.empty a.history.items) o)) t
-  loosens_in t = grind (arith, loosens_untold, untold, edit_is)
-
 abbrev pub legal_by : Plans → Option Going → Bool
 legal_by plans (Some g) = is_edit_legal g.part (edit_in plans g)
 legal_by plans None = true
-
-pub legal_is : (a : AuditedDevice) (r : Option OpenEntry) →
-    is_next_legal a r ≡ legal_by a.plans (option_map (going_of a.plans (replay a.plans a.empty a.history.items)) r)
-legal_is a r = grind (arith, legal_in)
 
 any_same : (f h : ℕ → Bool) → ((n : ℕ) → f n ≡ h n) → (l : List ℕ) → list_any f l ≡ list_any h l
 any_same f h same [] = refl
@@ -160,11 +106,8 @@ module _ (a b : AuditedDevice) (is : Alike a b) where
   pub half_same : a.half ≡ b.half
   half_same = ap (λ (x : Seen). x.half) is.same
 
-  pub lent_same : a.lent ≡ b.lent
-  lent_same = ap (λ (x : Seen). x.lent) is.same
-
   pub state_same : state_of a ≡ state_of b
-  state_same = grind (arith, state_is)
+  state_same = grind arith
 
   pub loose_same : has_loose a ≡ has_loose b
   loose_same = ap (λ (s : PlainState). nat_lt 0 (length s.loose)) state_same
@@ -175,99 +118,51 @@ module _ (a b : AuditedDevice) (is : Alike a b) where
       ≡ going_of b.plans (replay b.plans b.empty b.history.items) p → P (Some o) (Some p)) → P a.history.running b.history.running
   both P none some = grind arith
 
-  pub outline_same : outline_of a ≡ outline_of b
-  outline_same = grind (arith, program_is)
-
-  pub runs_same : runs a.history.running ≡ runs b.history.running
-  runs_same = both (λ r q. runs r ≡ runs q) refl (λ o p one two going. refl)
-
-  pub idle_same : is_idle a ≡ is_idle b
-  idle_same = ap (λ (r : Bool). not r && is_closed a.half) runs_same ∙ ap (λ (h : HalfWrite). not (runs b.history.running) && is_closed h) half_same
-
   pub loss_same : loss_line a ≡ loss_line b
   loss_same = grind (arith, number_same, state_same)
 
   pub event_over_same : (e : Option EventLine) (did : Did) → is_event_over e a did ≡ is_event_over e b did
-  event_over_same e did = grind (arith, idle_same)
+  event_over_same e did = grind arith
 
   -- START
 
   next_same : (path : ℕ) → next_ordinal a path ≡ next_ordinal b path
-  next_same path =
-      ap (λ (n : ℕ). n + 1) (count_bare path a.history.items 0 ∙ ap (λ (x : Seen). count_by (is_of_path path) x.past.items) is.same
-      ∙ sym (count_bare path b.history.items 0))
+  next_same path = grind (arith, count_bare path a.history.items 0, count_bare path b.history.items 0)
 
   left_same : (path : ℕ) → has_left a path ≡ has_left b path
-  left_same path =
-      ap (λ (n : ℕ). nat_le n (length (planned a.plans path))) (next_same path)
-      ∙ ap (λ (l : Plans). nat_le (next_ordinal b path) (length (planned l path))) plans_same
+  left_same path = search (arith, next_same, plans_same)
 
   may_same : (path : ℕ) → may_start a path ≡ may_start b path
-  may_same path =
-      ap (λ (l : Bool). l && is_admitted (state_of a).paths path (program_of a.plans path (next_ordinal a path))) (left_same path)
-      ∙ ap (λ (s : PlainState). has_left b path && is_admitted s.paths path (program_of a.plans path (next_ordinal a path))) state_same
-      ∙ ap (λ (n : ℕ). has_left b path && is_admitted (state_of b).paths path (program_of a.plans path n)) (next_same path)
-      ∙ ap (λ (l : Plans). has_left b path && is_admitted (state_of b).paths path (program_of l path (next_ordinal b path))) plans_same
+  may_same path = grind (arith, left_same path, state_same, next_same path, plans_same)
 
   held_same : (o : Option Owner) → held_answer a o ≡ held_answer b o
   held_same (Some owner) = ap (λ (m : Bool). if m then start.Reserved owner else start.Shut owner) (any_same (may_start a) (may_start b) may_same four_paths)
   held_same None = refl
 
   free_same : (path : ℕ) → free_answer a path ≡ free_answer b path
-  free_same path =
-      ap (λ (l : Bool). if not l then start.Done
-      else if may_start a path then start.Accepted (next_ordinal a path)
-      else held_answer a (state_of a).paths.owner) (left_same path)
-      ∙ ap (λ (m : Bool). if not (has_left b path) then start.Done
-      else if m then start.Accepted (next_ordinal a path)
-      else held_answer a (state_of a).paths.owner) (may_same path)
-      ∙ ap (λ (n : ℕ). if not (has_left b path) then start.Done
-      else if may_start b path then start.Accepted n
-      else held_answer a (state_of a).paths.owner) (next_same path)
-      ∙ ap (λ (w : StartAnswer). if not (has_left b path) then start.Done
-      else if may_start b path then start.Accepted (next_ordinal b path)
-      else w) (held_same (state_of a).paths.owner ∙ ap (λ (s : PlainState). held_answer b s.paths.owner) state_same)
-
-  running_same : (path : ℕ) → running_answer a path a.history.running ≡ running_answer b path b.history.running
-  running_same path = grind (arith, both, free_same)
-
-  lent_by : (path : ℕ) (l : Option ℕ) → lent_answer a path l ≡ lent_answer b path l
-  lent_by path l = grind (arith, running_same)
-
-  pub own_same : (path : ℕ) → own_runs a.history.running path ≡ own_runs b.history.running path
-  own_same path = both (λ r q. own_runs r path ≡ own_runs q path) refl (λ o p one two going. ap (λ (g : Going). g.path == path) going)
+  free_same path = grind (arith, left_same path, may_same path, next_same path, held_same (state_of a).paths.owner, state_same)
 
   pub start_same : (path : ℕ) → start_answer a path ≡ start_answer b path
-  start_same path = grind (arith, own_same, lent_by, lent_same)
+  start_same path = grind (arith, both, free_same)
 
   -- The next command
 
   module _ (o p : OpenEntry) (going : going_of a.plans (replay a.plans a.empty a.history.items) o
       ≡ going_of b.plans (replay b.plans b.empty b.history.items) p) where
-    pub words_same : words_of_open a o ≡ words_of_open b p
-    words_same = ap (λ (l : Plans). program_of l o.path o.ordinal) plans_same ∙ ap (words_in b.plans) going
-
     pub end_same : plain_end a o ≡ plain_end b p
-    end_same = grind (arith, end_in, untold, words_same)
+    end_same = grind (arith, untold)
 
     loosens_so : (t : ℕ) → loosens (part_of_open a o) (edit_of a o) t ≡ loosens (part_of_open b p) (edit_of b p) t
-    loosens_so t = grind (arith, loosens_in, untold, going_of, plans_same)
-
-  pub next_legal_same : is_next_legal a a.history.running ≡ is_next_legal b b.history.running
-  next_legal_same = grind (arith, legal_is)
+    loosens_so t = grind (arith, untold, going_of, plans_same)
 
   pub may_loosen_same : (t : ℕ) → may_loosen a a.history.running t ≡ may_loosen b b.history.running t
   may_loosen_same t = both (λ r q. may_loosen a r t ≡ may_loosen b q t) refl (λ o p one two going. loosens_so o p going t)
 
   pub legal_same : (did : Did) → is_legal did a ≡ is_legal did b
-  legal_same did = grind (arith, next_legal_same)
-
-  over_line_same : (how : HowOver) (o p : OpenEntry) → going_of a.plans (replay a.plans a.empty a.history.items) o
-      ≡ going_of b.plans (replay b.plans b.empty b.history.items) p → over_line a o how ≡ over_line b p how
-  over_line_same how o p going = grind (arith, number_same)
+  legal_same did = grind arith
 
   pub over_same : (did : Did) → over_by a did a.history.running ≡ over_by b did b.history.running
-  over_same did = grind (arith, both, over_line_same)
+  over_same did = grind (arith, both, number_same)
 
   -- What lines make of both
 
@@ -283,12 +178,6 @@ module _ (a b : AuditedDevice) (is : Alike a b) where
   pub half_alike : (h k : HalfWrite) → h ≡ k → Alike (record a { half = h }) (record b { half = k })
   half_alike h k half_is = search arith
 
-  pub lent_alike : (l : Option ℕ) → Alike (record a { lent = l }) (record b { lent = l })
-  lent_alike l = record { same = ap (λ (x : Seen). record x { lent = l }) is.same; tidy = is.tidy; tidy_too = is.tidy_too }
-
-  pub start_alike : (path : ℕ) (answer : StartAnswer) → Alike (after_start a path answer) (after_start b path answer)
-  start_alike path answer = grind (arith, history_alike, start_is_read)
-
   pub worked_alike : (did : Did) → Alike (worked a did) (worked b did)
   worked_alike (Ended e) = history_alike (λ h. _) _ (end_is_read e)
   worked_alike (CheckEnded e) = history_alike (λ h. _) _ (check_is_read e)
@@ -297,20 +186,6 @@ module _ (a b : AuditedDevice) (is : Alike a b) where
   pub dark_alike : Alike (without_power a) (without_power b)
   dark_alike = with_alike (λ h. _) _ power_is_read _ _ refl
 
-  pub lent_runs_same : (n : ℕ) → runs_lent n a ≡ runs_lent n b
-  lent_runs_same n = grind (arith, lent_same, runs_same)
-
-  none_runs : (r : Option OpenEntry) → runs r ≡ false → r ≡ None
-  none_runs r is = grind arith
-
-  empty_alike : runs a.history.running ≡ false →
-      Alike (record a { history = emptied a.history; lent = None }) (record b { history = emptied b.history; lent = None })
-  empty_alike idle = search (arith, none_runs, runs_same, emptied_alike)
-
-  back_by : (l : Bool) → (l && runs a.history.running) ≡ false →
-      Alike (if l then record a { history = emptied a.history; lent = None } else a) (if l then record b { history = emptied b.history; lent = None } else b)
-  back_by l idle = grind (arith, empty_alike)
-
   -- a device that comes back empty runs no program
   pub back_alike : (n : ℕ) → runs_lent n a ≡ false → Alike (given_back n a) (given_back n b)
-  back_alike n idle = grind (arith, lent_same, back_by)
+  back_alike n idle = grind (arith, emptied_alike)

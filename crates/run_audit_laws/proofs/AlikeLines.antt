@@ -1,118 +1,37 @@
 -- Every line makes of states of an audit whose devices are alike states whose devices are alike, or of both none.
-use Rattle.std.proofs.Common.{arith, ◌≡◌, ◌+◌, ◌==◌, ℕ, Bool, true, false, List, [], ◌∷◌, map, drop, length, Option, Some, None, refl, sym, ap, subst, ◌∙◌, if◌then◌else◌}
-use Rattle.std.specs.Prelude.{◌||◌, ◌&&◌, not, Ok, Err}
+use Rattle.std.proofs.Common.{arith, ◌≡◌, ℕ, Bool, true, false, List, [], ◌∷◌, map, drop, Option, Some, None, refl, sym, ap, subst, ◌∙◌, if◌then◌else◌}
+use Rattle.std.specs.Prelude.{◌&&◌, Ok, Err}
 use Rattle.std.specs.List.{list_any}
 use Rattle.std.proofs.lemmas.Bool.{or_parts}
-use Rattle.ckd_types.specs.declared.channel.Ccw.{Ccw}
 use Rattle.ckd_types.specs.declared.channel.CommandEnd.{CommandEnd}
-use Rattle.ckd_types.specs.declared.sense.Sense.{Sense}
-use Rattle.ckd_types.specs.Sense.{data_check_sense, equipment_sense}
 use Rattle.deck_plan.specs.declared.event.EventLine.{EventLine}
-use Rattle.deck_plan.specs.declared.event.EventLine.TheVariants as events
 use Rattle.plain_defs.specs.declared.journal.Act.{Act}
-use Rattle.plain_defs.specs.declared.journal.Act.TheVariants.{CfwLost, Harden, Loosen}
-use Rattle.plain_defs.specs.History.{OpenEntry, acted, reset_in_history}
+use Rattle.plain_defs.specs.declared.journal.Act.TheVariants.{CfwLost, Harden}
+use Rattle.plain_defs.specs.History.{OpenEntry, reset_in_history}
 use Rattle.plain_defs.specs.Journal.{replay}
-use Rattle.plain_defs.specs.Loose.{is_loose_there}
-use Rattle.plain_defs.specs.PlainState.{PlainState}
 use Rattle.report_text.specs.declared.answers.BackAnswer.{BackAnswer}
-use Rattle.report_text.specs.declared.answers.BackAnswer.TheVariants as back
 use Rattle.report_text.specs.declared.answers.HowOver.TheVariants as how
 use Rattle.report_text.specs.declared.answers.LooseAnswer.TheVariants as loose
 use Rattle.report_text.specs.declared.answers.OrderAnswer.TheVariants as order_answers
-use Rattle.report_text.specs.declared.answers.StartAnswer.{StartAnswer}
 use Rattle.report_text.specs.declared.line.ReportLine.{ReportLine}
 use Rattle.report_text.specs.declared.line.ReportLine.TheVariants as lines
-use Rattle.report_text.specs.Ends.{end_line}
 use Rattle.report_places.specs.declared.state.Did.{Did}
-use Rattle.report_places.specs.declared.state.Did.TheVariants.{CheckEnded, Ended, Halved, Worked}
+use Rattle.report_places.specs.declared.state.Did.TheVariants.{Ended, Halved, Worked}
 use Rattle.report_places.specs.declared.state.Due.{Due}
-use Rattle.report_places.specs.declared.state.Due.TheVariants.{Behind, DataOf, Frames, Losses, Next, Nothing, OverOf, Powers, ResetOf, SenseOf, Totals}
+use Rattle.report_places.specs.declared.state.Due.TheVariants.{Behind, Losses, Next, Powers, ResetOf}
 use Rattle.report_places.specs.declared.state.HalfWrite.{HalfWrite}
 use Rattle.report_places.specs.declared.state.HalfWrite.TheVariants.{Closed, OfCommand}
-use Rattle.report_places.specs.declared.state.Outline.{Outline}
-use Rattle.report_places.specs.Place.{first_event, holds, in_due, is_io, is_of_work, worker_of}
+use Rattle.report_places.specs.Place.{first_event, holds, is_of_work, worker_of}
 use Rattle.report_places.specs.Same.{says}
-use Rattle.deck_audit.specs.Device.{AuditedDevice, check_end, device_in, has_loose, is_next_legal, may_loosen, outline_of, plain_end, start_answer, state_of, with_device, words_of_open}
-use Rattle.deck_audit.specs.History.{
-  act_made,
-  act_of_work,
-  after_start,
-  back_half,
-  behind_end,
-  behind_made,
-  changed,
-  check_made,
-  cut_by,
-  cut_by_power,
-  cut_half,
-  done_order,
-  due_made,
-  end_made,
-  end_made_by,
-  event_made,
-  given_back,
-  harden_made,
-  has_sense,
-  is_last,
-  is_legal,
-  lent_to,
-  loosen_made,
-  loss_line,
-  loss_made,
-  made,
-  made_in,
-  next_made,
-  order_made,
-  place_of,
-  power_cut,
-  power_loss,
-  power_made,
-  reset_made,
-  runs_lent,
-  sense_made,
-  shown,
-  shows_end,
-  start_made,
-  totals_made,
-  without_power,
-  work_made,
-}
+use Rattle.deck_audit.specs.Device.{AuditedDevice, device_in, has_loose, outline_of, with_device}
+use Rattle.deck_audit.specs.History.{act_made, back_half, behind_made, changed, check_made, cut_by_power, cut_half, done_order, due_made, end_made, end_made_by, given_back, harden_made, is_last, is_legal, loosen_made, loss_line, loss_made, made, made_in, next_made, order_made, place_of, power_cut, power_loss, power_made, reset_made, runs_lent, shown, start_made, without_power, work_made}
 use Rattle.deck_audit.specs.Stands.{in_state, stands, stands_in}
-use Rattle.deck_audit.specs.State.{AuditState, behind_work, is_event_over, outlines, over_by, passed, settled, settled_by, settled_in, then_of, worked, worker, worker_number}
+use Rattle.deck_audit.specs.State.{AuditState, behind_work, passed, settled, settled_in, then_of, worker, worker_number}
 use Rattle.report_auditor.specs.declared.status.AuditWhy.TheVariants.{Place}
 use Rattle.report_auditor.specs.Verdict.{judged, or_history}
 use Rattle.run_audit_laws.specs.Standing.{LeadsBy}
-use Rattle.run_audit_laws.proofs.AlikeDevices.{
-  Alike,
-  alike_self,
-  alike_then,
-  back_alike,
-  both,
-  dark_alike,
-  end_same,
-  event_over_same,
-  half_alike,
-  half_same,
-  history_alike,
-  legal_same,
-  lent_alike,
-  lent_runs_same,
-  loose_same,
-  loss_same,
-  may_loosen_same,
-  next_legal_same,
-  number_same,
-  outline_same,
-  over_same,
-  start_alike,
-  start_same,
-  state_same,
-  with_alike,
-  words_same,
-  worked_alike,
-}
-use Rattle.run_audit_laws.proofs.Pasts.{Going, IsFew, act_is_read, cut, cut_in, cut_is_read, going_of, reset_is_read}
+use Rattle.run_audit_laws.proofs.AlikeDevices.{Alike, alike_self, alike_then, back_alike, both, dark_alike, end_same, event_over_same, half_alike, half_same, history_alike, legal_same, loose_same, loss_same, may_loosen_same, number_same, over_same, start_same, state_same, with_alike, worked_alike}
+use Rattle.run_audit_laws.proofs.Pasts.{IsFew, act_is_read, cut, cut_in, cut_is_read, going_of, reset_is_read}
 
 abbrev pub AreAlike : List AuditedDevice → List AuditedDevice → Type 0
 AreAlike [] [] = Unit {0}
@@ -139,9 +58,6 @@ AlikeMade x y = ⊥
 if_alike : (c d : Bool) → c ≡ d → (s t u v : Option AuditState) → AlikeMade s u → AlikeMade t v → AlikeMade (if c then s else t) (if d then u else v)
 if_alike c d same s t u v one two = grind arith
 
-unless_alike : (c d : Bool) → c ≡ d → (t v : Option AuditState) → (c ≡ false → AlikeMade t v) → AlikeMade (if c then None else t) (if d then None else v)
-unless_alike c d same t v go = grind arith
-
 then_alike : (x y : Option AuditedDevice) → AlikeFound x y → (f g : AuditedDevice → Option AuditState) →
     ((a b : AuditedDevice) → Alike a b → AlikeMade (f a) (g b)) → AlikeMade (then_of x f) (then_of y g)
 then_alike x y is f g go = grind arith
@@ -150,22 +66,14 @@ holds_same : (x y : Option AuditedDevice) → AlikeFound x y → (f : AuditedDev
     holds x f ≡ holds y f
 holds_same x y is f go = grind arith
 
-found_if : (c d : Bool) → c ≡ d → (a b : AuditedDevice) (x y : Option AuditedDevice) → Alike a b → AlikeFound x y →
-    AlikeFound (if c then Some a else x) (if d then Some b else y)
-found_if c d same a b x y one two = grind arith
-
 pub found_alike : (xs ys : List AuditedDevice) → AreAlike xs ys → (n : ℕ) → AlikeFound (device_in xs n) (device_in ys n)
 found_alike [] [] all n = tt
-found_alike (a ∷ xs) (b ∷ ys) all n = grind (arith, found_alike xs ys all.1 n, found_if, number_same)
+found_alike (a ∷ xs) (b ∷ ys) all n = grind (arith, found_alike xs ys all.1 n, number_same)
 found_alike xs ys all n = absurd all
-
-put_if : (c d : Bool) → c ≡ d → (a b x y : AuditedDevice) (xs ys zs ws : List AuditedDevice) → Alike a b → Alike x y → AreAlike xs ys → AreAlike zs ws →
-    AreAlike (if c then a ∷ xs else x ∷ zs) (if d then b ∷ ys else y ∷ ws)
-put_if c d same a b x y xs ys zs ws one other all more = grind arith
 
 pub put_alike : (xs ys : List AuditedDevice) → AreAlike xs ys → (a b : AuditedDevice) → Alike a b → AreAlike (with_device xs a) (with_device ys b)
 put_alike [] [] all a b is = tt
-put_alike (x ∷ xs) (y ∷ ys) all a b is = grind (arith, put_alike xs ys all.1 a b is, put_if, number_same)
+put_alike (x ∷ xs) (y ∷ ys) all a b is = grind (arith, put_alike xs ys all.1 a b is, number_same)
 put_alike xs ys all a b is = absurd all
 
 place_same : (xs ys : List AuditedDevice) → AreAlike xs ys → (n : ℕ) → place_of xs n ≡ place_of ys n
@@ -175,7 +83,7 @@ place_same xs ys all n = absurd all
 
 outlines_same : (xs ys : List AuditedDevice) → AreAlike xs ys → map outline_of xs ≡ map outline_of ys
 outlines_same [] [] all = refl
-outlines_same (a ∷ xs) (b ∷ ys) all = grind (arith, outlines_same xs ys all.1, outline_same)
+outlines_same (a ∷ xs) (b ∷ ys) all = grind (arith, outlines_same xs ys all.1)
 outlines_same xs ys all = absurd all
 
 dark_all : (xs ys : List AuditedDevice) → AreAlike xs ys → AreAlike (map without_power xs) (map without_power ys)
@@ -186,7 +94,7 @@ dark_all xs ys all = absurd all
 module _ (n : ℕ) where
   any_lent_same : (xs ys : List AuditedDevice) → AreAlike xs ys → list_any (runs_lent n) xs ≡ list_any (runs_lent n) ys
   any_lent_same [] [] all = refl
-  any_lent_same (a ∷ xs) (b ∷ ys) all = grind (arith, any_lent_same xs ys all.1, lent_runs_same)
+  any_lent_same (a ∷ xs) (b ∷ ys) all = grind (arith, any_lent_same xs ys all.1)
   any_lent_same xs ys all = absurd all
 
   back_all : (xs ys : List AuditedDevice) → AreAlike xs ys → list_any (runs_lent n) xs ≡ false → AreAlike (map (given_back n) xs) (map (given_back n) ys)
@@ -229,54 +137,24 @@ module _ (s u : AuditState) (all : AlikeStates s u) (line : ReportLine) where
       AlikeMade (then_of (device_in s.devices n) f) (then_of (device_in u.devices n) g)
   in_device n f g go = then_alike (device_in s.devices n) (device_in u.devices n) (found_alike s.devices u.devices all.devices_are n) f g go
 
-  same_due : (due : Due) → AlikeMade (Some (record s { due = due })) (Some (record u { due = due }))
-  same_due due = due_alike s u all due due refl
-
   -- One device
 
   module _ (a b : AuditedDevice) (is : Alike a b) where
     -- START
     start_made_alike : (path : ℕ) → AlikeMade (start_made s line path a) (start_made u line path b)
-    start_made_alike path = grind (arith, shown_alike, number_same, start_same, passed_alike, changed_alike, start_alike)
+    start_made_alike path = grind (arith, shown_alike, number_same, start_same, passed_alike, changed_alike, history_alike)
 
     -- the command's end
     module _ (o p : OpenEntry) (going : going_of a.plans (replay a.plans a.empty a.history.items) o
         ≡ going_of b.plans (replay b.plans b.empty b.history.items) p) where
-      shows_same : (e : CommandEnd) → shows_end a o line e ≡ shows_end b p line e
-      shows_same e = grind (arith, number_same)
-
-      check_same : (i : ℕ) (sense : Sense) → check_end (words_of_open a o) i sense ≡ check_end (words_of_open b p) i sense
-      check_same i sense = ap (λ (l : List Ccw). check_end l i sense) (words_same a b is o p going)
-
       shut : AlikeStates (changed s (record a { half = Closed })) (changed u (record b { half = Closed }))
       shut = changed_alike s u all (record a { half = Closed }) (record b { half = Closed }) (half_alike a b is Closed Closed refl)
-
-      end_by_alike : (e : Option CommandEnd) → AlikeMade (end_made_by s line a o e) (end_made_by u line b p e)
-      end_by_alike (Some e) =
-          let t = changed s (record a { half = Closed }) in
-          let v = changed u (record b { half = Closed }) in
-          let check = check_end (words_of_open a o) e.index equipment_sense in
-          let sent = behind_end e e.sent in
-          if_alike (shows_end a o line check) (shows_end b p line (check_end (words_of_open b p) e.index equipment_sense)) (shows_same check ∙ ap
-          (shows_end b p line) (check_same e.index equipment_sense)) (Some (record t { due = SenseOf e })) (if shows_end a o line e then Some
-          (record t { due = sent }) else None) (Some (record v { due = SenseOf e })) (if shows_end b p line e then Some (record v { due = sent }) else None)
-          (due_alike t v shut (SenseOf e) (SenseOf e) refl) (if_alike (shows_end a o line e) (shows_end b p line e) (shows_same e) (Some
-          (record t { due = sent })) None (Some (record v { due = sent })) None (due_alike t v shut sent sent refl) tt)
-      end_by_alike None = tt
-
-      check_alike : (e : CommandEnd) → AlikeMade (check_made s line a e o) (check_made u line b e p)
-      check_alike e = grind (arith, due_alike, check_same, if_alike)
 
       -- a program that is cut
       cuts : (more : ℕ) → IsFew more → AlikeStates
           (record (changed s (record a { history = reset_in_history a.history o.path more; half = cut_half a.half })) { due = ResetOf })
           (record (changed u (record b { history = reset_in_history b.history p.path more; half = cut_half b.half })) { due = ResetOf })
-      cuts more few =
-          rw (← (ap (λ (g : Going). g.path) going)) (due_alike _ _ (changed_alike s u all _ _ (with_alike a b is (λ h. reset_in_history h o.path more) _
-          (reset_is_read o.path more few) (cut_half a.half) (cut_half b.half) (ap cut_half (half_same a b is)))) ResetOf ResetOf refl)
-
-      cut_alike : (k : ℕ) → AlikeMade (cut_by s a o k) (cut_by u b p k)
-      cut_alike k = grind (arith, if_alike, cuts, next_legal_same)
+      cuts more few = grind (arith, due_alike, changed_alike, with_alike, reset_is_read o.path more few, half_same a b is)
 
       power_cuts : a.history.running ≡ Some o → b.history.running ≡ Some p → (more : ℕ) → IsFew more → AlikeStates
           (record (changed s (cut_by_power a o more)) { due = Powers (place_of s.devices a.number) })
@@ -284,28 +162,20 @@ module _ (s u : AuditState) (all : AlikeStates s u) (line : ReportLine) where
       power_cuts one two more few = grind (arith, due_alike, changed_alike, cut_in, cut, history_alike, cut_is_read, number_same, place_same)
 
       power_cut_alike : a.history.running ≡ Some o → b.history.running ≡ Some p → (k : ℕ) → AlikeMade (power_cut s a k o) (power_cut u b k p)
-      power_cut_alike one two k = grind (arith, if_alike, power_cuts, next_legal_same)
+      power_cut_alike one two k = grind (arith, if_alike, power_cuts)
 
     end_made_alike : AlikeMade (end_made s line a a.history.running) (end_made u line b b.history.running)
-    end_made_alike = grind (arith, both, end_same, end_by_alike)
-
-    sense_made_alike : (e : CommandEnd) → AlikeMade (sense_made s line e a) (sense_made u line e b)
-    sense_made_alike e = grind (arith, if_alike, same_due, both, check_alike)
+    end_made_alike = grind (arith, both, end_same, if_alike, due_alike, shut, number_same)
 
     -- acts
     act_alike : (act : Act) (due : Due) → AlikeStates (act_made s a act due) (act_made u b act due)
-    act_alike act due =
-        due_alike _ _ (changed_alike s u all (record a { history = acted a.history act }) (record b { history = acted b.history act })
-        (history_alike a b is (λ h. acted h act) _ (act_is_read act))) due due refl
+    act_alike act due = grind (arith, due_alike, changed_alike, history_alike, act_is_read act)
 
     harden_alike : (t : ℕ) (due : Due) → AlikeMade (harden_made s a t due) (harden_made u b t due)
-    harden_alike t due =
-        if_alike (is_loose_there (state_of a) t) (is_loose_there (state_of b) t) (ap (λ (x : PlainState). is_loose_there x t) (state_same a b is)) _ _ _ _ (act_alike (Harden t) due) tt
+    harden_alike t due = grind (arith, if_alike, state_same a b is, act_alike (Harden t) due)
 
     loosen_alike : (t : ℕ) (did : Did) → AlikeMade (loosen_made s a t did) (loosen_made u b t did)
-    loosen_alike t (Ended e) =
-        if_alike (may_loosen a a.history.running t) (may_loosen b b.history.running t) (may_loosen_same a b is t) _ _ _ _
-        (act_alike (Loosen t) (Behind false (Ended e))) tt
+    loosen_alike t (Ended e) = search (arith, if_alike, may_loosen_same, act_alike)
     loosen_alike t did = tt
 
     loss_alike : AlikeMade (loss_made s line a) (loss_made u line b)
@@ -318,14 +188,9 @@ module _ (s u : AuditState) (all : AlikeStates s u) (line : ReportLine) where
     power_loss_alike : AlikeMade (power_loss s line a) (power_loss u line b)
     power_loss_alike = grind (arith, if_alike, loose_same, loss_same, due_alike, number_same, place_same)
 
-    lend_alike : (of : ℕ) → AlikeMade (lent_to s of a) (lent_to u of b)
-    lend_alike of = grind (arith, passed_alike, changed_alike, lent_alike)
-
     reset_alike : (path : ℕ) → AlikeMade (Some (passed (changed s (record a { history = reset_in_history a.history path 0 }))))
         (Some (passed (changed u (record b { history = reset_in_history b.history path 0 }))))
-    reset_alike path =
-        passed_alike _ _ (changed_alike s u all (record a { history = reset_in_history a.history path 0 }) (record b { history = reset_in_history b.history path 0 })
-        (history_alike a b is (λ h. reset_in_history h path 0) _ (reset_is_read path 0 tt)))
+    reset_alike path = grind (arith, passed_alike, changed_alike, history_alike, reset_is_read path 0 tt)
 
     half_made_alike : (h k : HalfWrite) → h ≡ k → (due : Due) → AlikeMade (Some (record (changed s (record a { half = h })) { due = due }))
         (Some (record (changed u (record b { half = k })) { due = due }))
@@ -337,9 +202,6 @@ back_half_same : (a b : AuditedDevice) → Alike a b → (answer : BackAnswer) �
 back_half_same a b is answer = grind (arith, half_same)
 
 module _ (s u : AuditState) (all : AlikeStates s u) where
-  act_of_work_alike : (line : ReportLine) (did : Did) (a b : AuditedDevice) → Alike a b → AlikeMade (act_of_work s line did a) (act_of_work u line did b)
-  act_of_work_alike line did a b is = grind (arith, harden_alike, loosen_alike)
-
   work_alike : (line : ReportLine) (a b : AuditedDevice) → Alike a b → AlikeMade (work_made s line a) (work_made u line b)
   work_alike (lines.End e) a b is = end_made_alike s u all (lines.End e) a b is
   work_alike (lines.Half path d t) a b is = half_made_alike s u all (lines.Half path d t) a b is OfCommand OfCommand refl (Behind true Halved)
@@ -349,12 +211,12 @@ module _ (s u : AuditState) (all : AlikeStates s u) where
   work_alike line a b is = passed_alike s u all
 
   resets_alike : (line : ReportLine) (path : ℕ) (a b : AuditedDevice) → Alike a b → AlikeMade (reset_made s line path a) (reset_made u line path b)
-  resets_alike line path a b is = grind (arith, both, cut_alike, reset_alike)
+  resets_alike line path a b is = grind (arith, both, reset_alike, if_alike, cuts)
 
   -- Orders
 
   done_alike : (line : ReportLine) (e : EventLine) → AlikeMade (done_order s e) (done_order u e)
-  done_alike line e = grind (arith, if_alike, passed_alike, in_device, lend_alike, unless_alike, any_lent_same, back_all)
+  done_alike line e = grind (arith, if_alike, passed_alike, in_device, any_lent_same, back_all, changed_alike)
 
   order_alike : (line : ReportLine) (e : EventLine) → AlikeMade (order_made s line e) (order_made u line e)
   order_alike (lines.Order order order_answers.Done) e = done_alike (lines.Order order order_answers.Done) e
@@ -379,41 +241,23 @@ module _ (s u : AuditState) (all : AlikeStates s u) where
 
   -- An event's line
 
-  event_alike : (line : ReportLine) (e : EventLine) → AlikeMade (event_made s line e) (event_made u line e)
-  event_alike line e = grind (arith, in_device, start_made_alike, work_alike, resets_alike, powers_alike, order_alike)
-
-  totals_alike : (line : ReportLine) (k : ℕ) → AlikeStates (totals_made s line k) (totals_made u line k)
-  totals_alike line k = grind (arith, due_alike)
-
   next_alike : (line : ReportLine) (events : List EventLine) → AlikeMade (next_made s line events) (next_made u line events)
-  next_alike line events = grind (arith, event_alike, totals_alike)
+  next_alike line events = grind (arith, due_alike, in_device, start_made_alike, work_alike, resets_alike, powers_alike, order_alike)
 
   -- The device at whose work the report is
 
   number_at_work : worker_number s ≡ worker_number u
   number_at_work = ap (λ (l : List EventLine). then_of (first_event l) worker_of) all.events_are
 
-  worker_by : (w : Option ℕ) → AlikeFound (then_of w (device_in s.devices)) (then_of w (device_in u.devices))
-  worker_by w = grind (arith, found_alike)
-
   pub worker_alike : AlikeFound (worker s) (worker u)
-  worker_alike = grind (arith, number_at_work, worker_by)
-
-  first_same : first_event s.events ≡ first_event u.events
-  first_same = ap first_event all.events_are
-
-two_states : (c d : Bool) → c ≡ d → (s t u v : AuditState) → AlikeStates s u → AlikeStates t v → AlikeStates (if c then s else t) (if d then u else v)
-two_states c d same s t u v one two = grind arith
+  worker_alike = grind (arith, number_at_work, found_alike)
 
 behind_alike : (s u : AuditState) → AlikeStates s u → (a b : AuditedDevice) → Alike a b → (did : Did) → AlikeStates (behind_work s a did) (behind_work u b did)
-behind_alike s u all a b is did = grind (arith, two_states, event_over_same, first_same, passed_alike, due_alike)
+behind_alike s u all a b is did = grind (arith, event_over_same, passed_alike, due_alike)
 
 module _ (s u : AuditState) (all : AlikeStates s u) where
-  work_done : (a b : AuditedDevice) → Alike a b → (did : Did) (over : Option ReportLine) → AlikeStates (settled_by s a did over) (settled_by u b did over)
-  work_done a b is did over = grind (arith, due_alike, changed_alike, worked_alike, behind_alike)
-
   settled_at : (x y : Option AuditedDevice) → AlikeFound x y → (did : Did) → AlikeStates (settled_in s did x) (settled_in u did y)
-  settled_at x y is did = grind (arith, over_same, work_done)
+  settled_at x y is did = grind (arith, over_same, due_alike, changed_alike, worked_alike, behind_alike)
 
   pub settled_alike : (did : Did) → AlikeStates (settled s did) (settled u did)
   settled_alike did = settled_at (worker s) (worker u) (worker_alike s u all) did
@@ -427,24 +271,7 @@ module _ (s u : AuditState) (all : AlikeStates s u) where
 
   due_made_alike : (line : ReportLine) (due : Due) → AlikeMade (due_made s line due) (due_made u line due)
   due_made_alike line due =
-      grind (
-        arith,
-        next_alike,
-        shown_alike,
-        due_alike,
-        then_alike,
-        worker_alike,
-        sense_made_alike,
-        over_wanted,
-        first_same,
-        first_order,
-        passed_alike,
-        powers_alike,
-        totals_alike,
-      )
-
-settled_due : (t v : AuditState) → AlikeStates t v → (line : ReportLine) → AlikeMade (due_made t line t.due) (due_made v line v.due)
-settled_due t v all line = grind (arith, due_made_alike)
+      grind (arith, next_alike, shown_alike, due_alike, then_alike, worker_alike, over_wanted, first_order, passed_alike, powers_alike, if_alike, both)
 
 placed_same : (t v : AuditState) → AlikeStates t v → (line : ReportLine) → in_state t line ≡ in_state v line
 placed_same t v all line = grind (arith, outlines_same)
@@ -457,7 +284,7 @@ module _ (s u : AuditState) (all : AlikeStates s u) (line : ReportLine) where
   legal_at_work did = holds_same (worker s) (worker u) (worker_alike s u all) (is_legal did) (λ a b is. legal_same a b is did)
 
   behind_made_alike : (more : Bool) (did : Did) → AlikeMade (behind_made s line more did) (behind_made u line more did)
-  behind_made_alike more did = grind (arith, settled_alike, if_alike, of_work_same, then_alike, worker_alike, act_of_work_alike, legal_at_work, settled_due)
+  behind_made_alike more did = grind (arith, settled_alike, if_alike, of_work_same, then_alike, worker_alike, legal_at_work, harden_alike, loosen_alike, due_made_alike)
 
   made_in_alike : (due : Due) → AlikeMade (made_in s line due) (made_in u line due)
   made_in_alike (Behind more did) = behind_made_alike more did

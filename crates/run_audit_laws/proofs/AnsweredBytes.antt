@@ -1,20 +1,18 @@
 -- What a device answers of itself and of its paths are bytes, where it keeps names and senses of bytes.
-use Rattle.std.proofs.Common.{◌≤◌, ◌<◌, ◌+◌, ◌-◌, ℕ, Bool, true, false, Option, Some, None, if◌then◌else◌, arith}
+use Rattle.std.proofs.Common.{◌≤◌, ◌<◌, ◌+◌, ◌-◌, ℕ, Option, arith}
 use Rattle.std.specs.Prelude.{All, IfSome}
-use Rattle.std.proofs.lemmas.List.Elements.{All-cons, All-from_recursion, All-replicate}
 use Rattle.ckd_types.specs.declared.channel.Ccw.{Ccw}
 use Rattle.ckd_types.specs.declared.geometry.Geometry.{Geometry}
-use Rattle.ckd_types.specs.declared.geometry.Geometry.TheVariants.{D3380, D3390}
 use Rattle.ckd_types.specs.declared.paths.Owner.{Owner}
 use Rattle.ckd_types.specs.declared.paths.PathState.{PathState}
-use Rattle.ckd_types.specs.declared.paths.PathState.TheVariants.{Grouped, Reset, Ungrouped}
+use Rattle.ckd_types.specs.declared.paths.PathState.TheVariants.{Reset}
 use Rattle.ckd_types.specs.declared.sense.Sense.{Sense}
 use Rattle.ckd_types.specs.Sense.{zero_sense}
 use Rattle.ckd_rules.specs.declared.order.LocalAct.{LocalAct}
 use Rattle.ckd_rules.specs.declared.order.LocalAct.TheVariants as acts
 use Rattle.ckd_rules.specs.declared.stance.Stance.{Stance}
 use Rattle.ckd_rules.specs.Acts.{sense_id_bytes}
-use Rattle.ckd_rules.specs.Grouping.{group_bytes, group_id_bytes, is_same_owner, member_bits, mode_bit, owner_by, reserved_bits, state_byte, state_in}
+use Rattle.ckd_rules.specs.Grouping.{group_bytes, group_id_bytes, mode_bit, state_in}
 use Rattle.plain_defs.specs.Acts.{act_bytes, act_outcome}
 use Rattle.plain_defs.specs.PlainState.{PathsState, sense_for, with_sense}
 use Rattle.run_audit_laws.proofs.GivenBytes.{IsByte, are_bytes, at_or, no_bytes}
@@ -31,23 +29,11 @@ sensed_keeps p path o h k = search (arith, sense_kept)
 
 -- The state of a path
 
-member_few : (state : PathState) → member_bits state ≤ 192
-member_few state = grind arith
-
-reserved_few : (o : Option Owner) (here : Owner) → reserved_bits o here ≤ 48
-reserved_few o here = grind arith
-
-mode_few : (state : PathState) → mode_bit state ≤ 8
-mode_few state = grind arith
-
-all_few : (a b c : ℕ) → a ≤ 192 → b ≤ 48 → c ≤ 8 → a + b + c < 256
-all_few a b c h k l = omega (arith, h, k, l)
-
 name_are : (state : PathState) → Named state → All IsByte (group_id_bytes state)
 name_are state n = grind (arith, are_bytes)
 
 group_are : (state : PathState) → Named state → (path : ℕ) (owner : Option Owner) → All IsByte (group_bytes state path owner)
-group_are state n path owner = grind (arith, all_few, member_few, reserved_few, mode_few, name_are)
+group_are state n path owner = grind (arith, name_are)
 
 -- Acts
 
@@ -62,6 +48,5 @@ module _ (g : Geometry) (p : PathsState) (path : ℕ) (k : PathsKeep p) where
   act_sends s c acts.SenseId = sent_are c (sense_id_bytes g) (identity_are g)
   act_sends s c (acts.SetGroup function id) = no_bytes
   act_sends s c acts.SenseGroup =
-      sent_are c (group_bytes (state_in p.states path) path p.owner)
-      (group_are (state_in p.states path) (at_or Named Reset tt p.states (path - 1) k.named.states) path p.owner)
+      grind (arith, sent_are c (group_bytes (state_in p.states path) path p.owner) (group_are (state_in p.states path) (at_or Named Reset tt p.states (path - 1) k.named.states) path p.owner), group_are (state_in p.states path) (at_or Named Reset tt p.states (path - 1) k.named.states) path p.owner, at_or Named Reset tt p.states (path - 1) k.named.states)
   act_sends s c act = sent_are c (sense_for p path).bytes sense_are

@@ -1,39 +1,7 @@
 -- FAIL CACHE: that the data of cache fast write of a device are lost is told of one device after another.
-use Rattle.std.proofs.Common.{
-  ◌≡◌,
-  ◌≤◌,
-  ◌<◌,
-  ◌+◌,
-  ◌/◌,
-  ◌%◌,
-  ◌==◌,
-  ◌++◌,
-  ℕ,
-  Bool,
-  true,
-  false,
-  not,
-  List,
-  [],
-  ◌∷◌,
-  map,
-  length,
-  Option,
-  Some,
-  None,
-  refl,
-  sym,
-  ap,
-  subst,
-  ◌∙◌,
-  append_assoc,
-  if◌then◌else◌,
-  arith,
-  inl,
-  inr,
-}
-use Rattle.std.specs.Prelude.{◌||◌, ◌&&◌, ◌⊎◌, Ok, Err, nat_lt, option_map}
-use Rattle.std.proofs.lemmas.Bool.{eq-eqb, ne_eqb, lt-ltb, and_from}
+use Rattle.std.proofs.Common.{◌≡◌, ◌≤◌, ◌<◌, ◌+◌, ◌/◌, ◌%◌, ◌++◌, ℕ, Bool, true, List, [], ◌∷◌, map, length, Option, Some, None, refl, sym, ap, subst, ◌∙◌, append_assoc, if◌then◌else◌, arith, inl, inr}
+use Rattle.std.specs.Prelude.{◌⊎◌, Ok}
+use Rattle.std.proofs.lemmas.Bool.{eq-eqb, lt-ltb, and_from}
 use Rattle.deck_plan.specs.declared.event.EventLine.{EventLine}
 use Rattle.deck_plan.specs.declared.event.EventLine.TheVariants as wanted
 use Rattle.loss_model.specs.declared.Loss.TheVariants as losses
@@ -56,15 +24,12 @@ use Rattle.report_text.specs.declared.order.Order.TheVariants as orders
 use Rattle.report_text.specs.Events.{loosed_line}
 use Rattle.report_places.specs.declared.state.Due.{Due}
 use Rattle.report_places.specs.declared.state.Due.TheVariants.{Next, Losses}
-use Rattle.report_places.specs.declared.state.Outline.{Outline}
-use Rattle.report_places.specs.Place.{holds, outline_in}
-use Rattle.report_places.specs.Same.{says}
+use Rattle.report_places.specs.Place.{outline_in}
 use Rattle.deck_audit.specs.Device as A
 use Rattle.deck_audit.specs.Device.{AuditedDevice, outline_of, state_of, with_device}
-use Rattle.deck_audit.specs.History.{act_made, loss_line, loss_made, order_made}
+use Rattle.deck_audit.specs.History.{loss_line}
 use Rattle.deck_audit.specs.State.{AuditState}
-use Rattle.report_auditor.specs.declared.status.AuditWhy.TheVariants.{Place}
-use Rattle.report_auditor.specs.Verdict.{judged, or_history}
+use Rattle.report_auditor.specs.Verdict.{judged}
 use Rattle.run_report.specs.Beside.{id_of, loose_lines, loosed, of_each, over_lines}
 use Rattle.subsystem_defs.specs.Beside.{loose_count, told_act}
 use Rattle.subsystem_defs.specs.declared.end.EventEnd.TheVariants as ends
@@ -76,12 +41,12 @@ use Rattle.subsystem_defs.specs.Happening.{happens, held_with, quietly, sweep, s
 use Rattle.subsystem_defs.specs.Lines.{Once}
 use Rattle.subsystem_defs.specs.Subsystem.{Mounted, Subsystem, devices_of}
 use Rattle.subsystem_laws.proofs.PlainRuns.{ArePlain, Plainly}
-use Rattle.run_audit_laws.specs.Standing.{LeadsBy, audited, half_by, stand}
+use Rattle.run_audit_laws.specs.Standing.{LeadsBy, audited, half_by}
 use Rattle.run_audit_laws.proofs.ActLines.{acts_over, acts_told}
 use Rattle.run_audit_laws.proofs.DeckNumbers.{RisesFrom}
 use Rattle.run_audit_laws.proofs.Found.{devices, outlined}
 use Rattle.run_audit_laws.proofs.KnownDevices.{count_is, has_is, known}
-use Rattle.run_audit_laws.proofs.Leading.{EventLeads, one_leads, then_some}
+use Rattle.run_audit_laws.proofs.Leading.{EventLeads, leads_on, one_leads}
 use Rattle.run_audit_laws.proofs.LossDevices.{IsLoss, cache_acts, lost_acts, number_behind}
 use Rattle.run_audit_laws.proofs.Orders.{IsOrder, down_or}
 use Rattle.run_audit_laws.proofs.ResetDevices.{audited_by}
@@ -107,9 +72,6 @@ pub loss_told : (n c k m : ℕ) → c ≡ k → m ≡ next_number n → (d : ℕ
 loss_told n c k m count number d = grind arith
 
 module _ (x y : MarksDevice) (p : Plainly x) (g : IsLoss p.empty x y) where
-  quiet_device : y.store.acts ≡ [] → IsQuiet x y
-  quiet_device none = search (arith, acts_told, audited_by)
-
   lost_device : y.store.acts ≡ CfwLost ∷ [] → y.store.number ≡ next_number x.store.number → has_loose x.store ≡ true → IsLostNow x y
   lost_device one number some =
       let k = known x p in
@@ -125,7 +87,7 @@ module _ (x y : MarksDevice) (p : Plainly x) (g : IsLoss p.empty x y) where
       }
 
   cache_told : (b : Bool) → has_loose x.store ≡ b → y.store.acts ≡ lost_acts b → y.store.number ≡ number_behind b x.store.number → IsTold x y
-  cache_told b some acts number = grind (arith, acts_over, lost_device, quiet_device)
+  cache_told b some acts number = grind (arith, acts_over, lost_device, acts_told, audited_by)
 
 abbrev AllTold : List MarksDevice → List MarksDevice → Type 0
 AllTold [] [] = Unit {0}
@@ -157,17 +119,14 @@ below_one low [] a b le = (omega arith, tt)
 below_one low (x ∷ all) a b le = let lt = b.0 in (omega (arith, lt, le), below_one low all a b.1 le)
 
 module _ (low : ℕ) (a : AuditedDevice) (least_is : low ≤ a.number) (rest : List AuditedDevice) where
-  other : (x : AuditedDevice) → x.number < low → (x.number == a.number) ≡ false
-  other x lt = ne_eqb x.number a.number (λ e. omega (arith, lt, least_is, e))
-
   pub found_here : (done : List AuditedDevice) → IsBelow low done → A.device_in (done ++ a ∷ rest) a.number ≡ Some a
   found_here [] b = ap (λ (c : Bool). if c then Some a else A.device_in rest a.number) (same_number a.number)
-  found_here (x ∷ done) b = grind (arith, found_here done b.1, same_number, other)
+  found_here (x ∷ done) b = grind (arith, found_here done b.1, same_number)
 
   pub put_here : (done : List AuditedDevice) (b : AuditedDevice) → b.number ≡ a.number → IsBelow low done →
       with_device (done ++ a ∷ rest) b ≡ done ++ b ∷ rest
   put_here [] b same low_done = ap (λ (c : Bool). if c then b ∷ rest else a ∷ with_device rest b) (eq-eqb a.number b.number (sym same))
-  put_here (x ∷ done) b same low_done = grind (arith, put_here done b same low_done.1, eq-eqb, other)
+  put_here (x ∷ done) b same low_done = grind (arith, put_here done b same low_done.1, eq-eqb)
 
   pub outline_here : (done : List AuditedDevice) → IsBelow low done → outline_in (map outline_of (done ++ a ∷ rest)) a.number ≡ Some (outline_of a)
   outline_here done b = grind (arith, outlined, found_here)
@@ -193,44 +152,29 @@ module _ (later : List EventLine) where
       low ≤ a.number → A.has_loose a ≡ true →
       judged (at (done ++ a ∷ rest) (due_by last)) (loss_line a)
       ≡ Ok (at (done ++ record a { history = acted a.history CfwLost } ∷ rest) (Losses a.number))
-  loss_judged low done rest a last b l le some = by_last last l where
-    line : ReportLine
-    line = loss_line a
-
-    all : List AuditedDevice
-    all = done ++ a ∷ rest
-
-    made : (due : Due) → or_history (order_made (at (done ++ a ∷ rest) due) (loss_line a) wanted.FailCache)
-        ≡ Ok (at (done ++ record a { history = acted a.history CfwLost } ∷ rest) (Losses a.number))
-    made due =
-        let s = at (done ++ a ∷ rest) due in
-        ap or_history (then_some (A.device_in (done ++ a ∷ rest) a.number) a (loss_made s (loss_line a)) (found_here low a le rest done b))
-        ∙ ap (λ (c : Bool). or_history (if c then Some (act_made s a CfwLost (Losses a.number)) else None))
-        (and_from (A.has_loose a) (says (loss_line a) (loss_line a)) some
-        (and_from (a.number == a.number) _ (same_number a.number)
-        (same_loose (let id = next_number (state_of a).number in loose.Lost (length (state_of a).loose) (id / 256 ∷ id % 256 ∷ [])))))
-        ∙ ap (λ (l : List AuditedDevice). Ok (at l (Losses a.number)))
-        (put_here low a le rest done (record a { history = acted a.history CfwLost }) refl b)
-
-    by_last : (k : Option ℕ) → LastBelow k low → judged (at (done ++ a ∷ rest) (due_by k)) (loss_line a)
-        ≡ Ok (at (done ++ record a { history = acted a.history CfwLost } ∷ rest) (Losses a.number))
-    by_last None lt =
-        ap (λ (o : Option Outline). if holds o (λ (x : Outline). true) || false
-        then or_history (order_made (at (done ++ a ∷ rest) Next) (loss_line a) wanted.FailCache) else Err Place)
-        (outline_here low a le rest done b)
-        ∙ made Next
-    by_last (Some d) lt =
-        ap (λ (o : Option Outline). if (nat_lt d a.number && holds o (λ (x : Outline). true)) || false
-        then or_history (order_made (at (done ++ a ∷ rest) (Losses d)) (loss_line a) wanted.FailCache) else Err Place)
-        (outline_here low a le rest done b)
-        ∙ ap (λ (c : Bool). if (c && true) || false
-        then or_history (order_made (at (done ++ a ∷ rest) (Losses d)) (loss_line a) wanted.FailCache) else Err Place)
-        (lt-ltb d a.number (omega (arith, lt, le)))
-        ∙ made (Losses d)
+  loss_judged low done rest a last b l le some =
+      grind (arith, outline_here low a le rest done b, found_here low a le rest done b, put_here low a le rest done (record a { history = acted a.history CfwLost }) refl b, and_from, same_number, same_loose, lt-ltb)
 
   last_leads : (all : List AuditedDevice) (last : Option ℕ) →
       LeadsBy (at all (due_by last)) (lines.Order orders.FailCache answers.Done ∷ []) (record { devices = all; events = later; due = Next })
-  last_leads all last = search (arith, one_leads, devices)
+  last_leads all last = search (arith, one_leads)
+
+  -- where the audit is behind a device
+  record OnTo (low : ℕ) (done rest : List AuditedDevice) (last : Option ℕ) (x y : MarksDevice) : Type 0 where
+    next : Option ℕ
+    below : LastBelow next (x.store.device + 1)
+    number : (audited y).number ≡ x.store.device
+    leads : LeadsBy (at (done ++ audited x ∷ rest) (due_by last)) (loose_lines x y) (at (done ++ audited y ∷ rest) (due_by next))
+
+  one_step : (low : ℕ) (done rest : List AuditedDevice) (last : Option ℕ) (x y : MarksDevice) → IsBelow low done → LastBelow last low →
+      low ≤ x.store.device → IsQuiet x y ⊎ IsLostNow x y → OnTo low done rest last x y
+  one_step low done rest last x y b l le (inl quiet) = grind (arith, last_more last low (x.store.device + 1) (omega (arith, le)) l)
+  one_step low done rest last x y b l le (inr lost) = record {
+    next = Some x.store.device;
+    below = omega arith;
+    number = ap (λ (a : AuditedDevice). a.number) lost.audits;
+    leads = rw (lost.lines_are, lost.audits) (_, loss_judged low done rest (audited x) last b l le lost.some, refl);
+  }
 
   each_leads : (low : ℕ) (done : List AuditedDevice) (last : Option ℕ) (xs ys : List MarksDevice) → IsBelow low done → LastBelow last low →
       RisesFrom low (map (λ (d : MarksDevice). d.store.device) xs) → AllTold xs ys →
@@ -238,43 +182,11 @@ module _ (later : List EventLine) where
       (record { devices = done ++ map audited ys; events = later; due = Next })
   each_leads low done last [] [] b l rises told = last_leads (done ++ []) last
   each_leads low done last (x ∷ xs) (y ∷ ys) b l rises told =
-      by_told told.0.1 (λ (next : Option ℕ) (lb : LastBelow next (x.store.device + 1)) (same : (audited y).number ≡ x.store.device).
-      subst (λ (all : List AuditedDevice). LeadsBy (at (done ++ audited y ∷ map audited xs) (due_by next))
-      (of_each loose_lines xs ys ++ lines.Order orders.FailCache answers.Done ∷ []) (record { devices = all; events = later; due = Next }))
-      (append_assoc done (audited y ∷ []) (map audited ys))
-      (subst (λ (all : List AuditedDevice). LeadsBy (at all (due_by next))
-      (of_each loose_lines xs ys ++ lines.Order orders.FailCache answers.Done ∷ [])
-      (record { devices = (done ++ audited y ∷ []) ++ map audited ys; events = later; due = Next }))
-      (append_assoc done (audited y ∷ []) (map audited xs))
-      (each_leads (x.store.device + 1) (done ++ audited y ∷ []) next xs ys
-      (subst (λ (n : ℕ). IsBelow (n + 1) (done ++ audited y ∷ [])) same
-      (below_one low done (audited y) b (subst (λ (n : ℕ). low ≤ n) (sym same) rises.0)))
-      lb rises.1 told.1)))
-    where
-      by_told : IsQuiet x y ⊎ IsLostNow x y → ((next : Option ℕ) → LastBelow next (x.store.device + 1) → (audited y).number ≡ x.store.device →
-          LeadsBy (at (done ++ audited y ∷ map audited xs) (due_by next)) (of_each loose_lines xs ys ++ lines.Order orders.FailCache answers.Done ∷ [])
-          (record { devices = done ++ audited y ∷ map audited ys; events = later; due = Next })) →
-          LeadsBy (at (done ++ audited x ∷ map audited xs) (due_by last))
-          ((loose_lines x y ++ of_each loose_lines xs ys) ++ lines.Order orders.FailCache answers.Done ∷ [])
-          (record { devices = done ++ audited y ∷ map audited ys; events = later; due = Next })
-      by_told (inl quiet) more =
-          subst (λ (ls : List ReportLine). LeadsBy (at (done ++ audited x ∷ map audited xs) (due_by last))
-          ((ls ++ of_each loose_lines xs ys) ++ lines.Order orders.FailCache answers.Done ∷ [])
-          (record { devices = done ++ audited y ∷ map audited ys; events = later; due = Next })) (sym quiet.lines_are)
-          (subst (λ (a : AuditedDevice). LeadsBy (at (done ++ a ∷ map audited xs) (due_by last))
-          (of_each loose_lines xs ys ++ lines.Order orders.FailCache answers.Done ∷ [])
-          (record { devices = done ++ audited y ∷ map audited ys; events = later; due = Next })) quiet.audits
-          (more last (last_more last low (x.store.device + 1) (let le = rises.0 in omega (arith, le)) l) (ap (λ (a : AuditedDevice). a.number) quiet.audits)))
-      by_told (inr lost) more =
-          let a = audited x in
-          subst (λ (ls : List ReportLine). LeadsBy (at (done ++ audited x ∷ map audited xs) (due_by last))
-          ((ls ++ of_each loose_lines xs ys) ++ lines.Order orders.FailCache answers.Done ∷ [])
-          (record { devices = done ++ audited y ∷ map audited ys; events = later; due = Next })) (sym lost.lines_are) (
-            at (done ++ audited y ∷ map audited xs) (Losses x.store.device),
-            loss_judged low done (map audited xs) a last b l rises.0 lost.some
-                ∙ ap (λ (c : AuditedDevice). Ok (at (done ++ c ∷ map audited xs) (Losses x.store.device))) (sym lost.audits),
-            more (Some x.store.device) (omega arith) (ap (λ (c : AuditedDevice). c.number) lost.audits),
-          )
+      let o = one_step low done (map audited xs) last x y b l rises.0 told.0.1 in
+      let below = subst (λ (n : ℕ). IsBelow (n + 1) (done ++ audited y ∷ [])) o.number (below_one low done (audited y) b (rw o.number rises.0)) in
+      let more = each_leads (x.store.device + 1) (done ++ audited y ∷ []) o.next xs ys below o.below rises.1 told.1 in
+      rw (append_assoc (loose_lines x y) (of_each loose_lines xs ys) (lines.Order orders.FailCache answers.Done ∷ [])) (leads_on _ _ _ _ _ o.leads (rw
+      (← (append_assoc done (audited y ∷ []) (map audited xs)), ← (append_assoc done (audited y ∷ []) (map audited ys))) more))
   each_leads low done last xs ys b l rises told = absurd told
 
 -- The event

@@ -1,24 +1,16 @@
 -- The devices that an event line of a deck that was read names are among the deck's.
-use Rattle.std.proofs.Common.{arith, ◌≡◌, ◌==◌, ℕ, Bool, true, false, List, [], ◌∷◌, map, Option, Some, None, Ok, Err, refl, sym, ap, subst, ◌∙◌}
-use Rattle.std.specs.Prelude.{◌||◌, IsSome, Result, if◌then◌else◌}
+use Rattle.std.proofs.Common.{arith, ◌≡◌, ℕ, true, List, [], ◌∷◌, map, Option, Ok}
+use Rattle.std.specs.Prelude.{IsSome, Result}
 use Rattle.ckd_types.specs.declared.paths.Side.{Side}
 use Rattle.deck_plan.specs.declared.event.EventLine.{EventLine}
 use Rattle.deck_plan.specs.declared.event.EventLine.TheVariants as events
-use Rattle.deck_text.specs.declared.keyword.EventPart.{EventPart}
-use Rattle.deck_text.specs.declared.keyword.EventPart.TheVariants as parts
 use Rattle.deck_text.specs.declared.line.DeckWhy.{DeckWhy}
-use Rattle.deck_text.specs.declared.line.DeckWhy.TheVariants.{Number, Words}
 use Rattle.deck_text.specs.declared.line.DeviceLine.{DeviceLine}
 use Rattle.deck_text.specs.DeckLines.{DeckLines}
-use Rattle.deck_text.specs.Events.{device_words, failed_part, fail_by, pair_words, part_words, side_words}
-use Rattle.deck_text.specs.Events as V
-use Rattle.deck_text.specs.Forms.{then_read, declared, device_of, is_declared, needed, path_and_device, path_of}
-use Rattle.deck_text.specs.Forms as F
-use Rattle.deck_text.specs.Numbers.{number_in}
+use Rattle.deck_text.specs.Events.{device_words, fail_by, side_words}
+use Rattle.deck_text.specs.Forms.{then_read, is_declared, path_and_device}
 use Rattle.deck_text.specs.Parse.{parsed}
-use Rattle.deck_text.specs.Words.{one_word, three_words, two_words}
 use Rattle.deck_text.proofs.DeckAgain.{Each, EventOk}
-use Rattle.deck_text.proofs.EventsAgain.{behind_of}
 use Rattle.deck_text.proofs.FormsAgain.{went}
 use Rattle.deck_text.proofs.Reached.{parsed_good}
 use Rattle.device_defs.specs.Marks.{MarksDevice}
@@ -41,18 +33,6 @@ OfNamed P (events.Resume d) = P d
 OfNamed P _ = Unit {0}
 
 module _ (devices : List DeviceLine) where
-  of_word : (w : List ℕ) (d : ℕ) → device_of devices w ≡ Ok d → is_declared devices d ≡ true
-  of_word w d h = grind (arith, went)
-
-  of_pair : (words : List (List ℕ)) (at : ℕ × ℕ) → pair_words devices words ≡ Ok at → (is_declared devices at.0 ≡ true) × (is_declared devices at.1 ≡ true)
-  of_pair words at h = grind (arith, went, of_word)
-
-  same_side : (a : ℕ) (s : Side) (at : ℕ × Side) → ◌≡◌ {A = Result (ℕ × Side) DeckWhy} (Ok (a, s)) (Ok at) → a ≡ at.0
-  same_side a s at h = let same : (a, s) ≡ at = cc in ap (λ (x : ℕ × Side). x.0) same
-
-  of_side : (device side : List ℕ) (at : ℕ × Side) → side_words devices device side ≡ Ok at → is_declared devices at.0 ≡ true
-  of_side device side at h = grind (arith, went, same_side, of_word)
-
   -- an event of one device
   of_device : (f : ℕ → EventLine) → ((x y : ℕ) → ◌≡◌ {A = Result EventLine DeckWhy} (Ok (f x)) (Ok (f y)) → x ≡ y) → (words : List (List ℕ)) (d : ℕ) →
       then_read (device_words devices words) (λ x. Ok (f x)) ≡ Ok (f d) → is_declared devices d ≡ true
@@ -66,18 +46,12 @@ module _ (devices : List DeviceLine) where
   volume_is : (x y : ℕ) (s t : Side) → ◌≡◌ {A = Result EventLine DeckWhy} (Ok (events.FailVolume x s)) (Ok (events.FailVolume y t)) → x ≡ y
   volume_is x y s t h = cc
 
-  replace_is : (x y : ℕ) (s t : Side) → ◌≡◌ {A = Result EventLine DeckWhy} (Ok (events.Replace x s)) (Ok (events.Replace y t)) → x ≡ y
-  replace_is x y s t h = cc
-
-  pair_is : (a b x y : ℕ) → ◌≡◌ {A = Result EventLine DeckWhy} (Ok (events.Pair a b)) (Ok (events.Pair x y)) → (a ≡ x) × (b ≡ y)
-  pair_is a b x y h = (let one : a ≡ x = cc in one, let two : b ≡ y = cc in two)
-
   of_volume : (w : Option (List ℕ × List ℕ × List ℕ)) (words : List (List ℕ)) (d : ℕ) (side : Side) →
       fail_by w devices words ≡ Ok (events.FailVolume d side) → is_declared devices d ≡ true
   of_volume w words d side h = grind (arith, went)
 
   of_event : (e : EventLine) → EventOk devices e → OfNamed (λ d. is_declared devices d ≡ true) e
-  of_event e ok = grind (arith, went, replace_is, of_side, pair_is, of_pair)
+  of_event e ok = grind (arith, went)
 
   of_events : (es : List EventLine) → Each (EventOk devices) es → Each (OfNamed (λ d. is_declared devices d ≡ true)) es
   of_events [] h = tt

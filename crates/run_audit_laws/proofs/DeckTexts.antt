@@ -29,13 +29,7 @@ begins_by b false bytes rest g = (b ∷ g.0, ap (onto_first b) g.1)
 begins : (x rest : List ℕ) → is_whole x ≡ true → BeginsLine (x ++ 10 ∷ rest) rest
 begins [] rest h = ([], refl)
 begins (b ∷ x) rest h =
-    let p = and_parts (not (b == 10)) (is_whole x) h in
-    let g = begins_by b (is_passed_over b (x ++ 10 ∷ rest)) (x ++ 10 ∷ rest) rest (begins x rest p.1) in (
-      g.0,
-      ap (λ (c : Bool). if c then [] ∷ text_lines (x ++ 10 ∷ rest)
-          else if is_passed_over b (x ++ 10 ∷ rest) then text_lines (x ++ 10 ∷ rest) else onto_first b (text_lines (x ++ 10 ∷ rest))) (not-true (b == 10) p.0)
-          ∙ g.1,
-    )
+    grind (arith, and_parts (not (b == 10)) (is_whole x) h, not (b == 10), is_whole x, begins_by b (is_passed_over b (x ++ 10 ∷ rest)) (x ++ 10 ∷ rest) rest (begins x rest (and_parts (not (b == 10)) (is_whole x) h).1), begins x rest (and_parts (not (b == 10)) (is_whole x) h).1, not-true (b == 10) (and_parts (not (b == 10)) (is_whole x) h).0)
 
 -- REPORT is no first word of a deck's line
 refused : (n : ℕ) (s : State) → take_line n (codes "REPORT") s ≡ Err (Refused n Word)
@@ -59,10 +53,7 @@ module _ (deck : DeckLines) where
   none_by : (n m : ℕ) (x rest : List ℕ) (xs : List (List ℕ)) (b : Bool) → bytes_eq x (codes "REPORT") ≡ b → Reads m (x ++ 10 ∷ rest) →
       report_from (n + 1) xs ≡ None → (if b then Some n else report_from (n + 1) xs) ≡ None
   none_by n m x rest xs false is g none = none
-  none_by n m x rest xs true is g none =
-      let same = ap (λ (l : List ℕ). read_lines m g.0 (text_lines (l ++ 10 ∷ rest))) ((bytes_eq-Decides x (codes "REPORT")).0 is) in
-      let both : Err (Refused m Word) ≡ Ok deck = sym (report_ends m g.0 rest) ∙ sym same ∙ g.1 in
-      absurd (cc)
+  none_by n m x rest xs true is g none = grind (arith, bytes_eq-Decides, report_ends)
 
   pub none_reports : (n m : ℕ) (xs : List (List ℕ)) → AreWhole xs → Reads m (flat_map ended_line xs) → report_from n xs ≡ None
   none_reports n m [] w g = refl

@@ -32,11 +32,11 @@ use Rattle.report_auditor.specs.declared.status.AuditWhy.TheVariants.{Place}
 use Rattle.report_auditor.specs.Verdict.{judged, or_history}
 use Rattle.run_audit_laws.specs.Standing.{LeadsBy}
 use Rattle.run_audit_laws.specs.Steps.{IsCheckSense}
-use Rattle.run_audit_laws.proofs.Saying.{same_bytes, same_note, same_number}
+use Rattle.run_audit_laws.proofs.Saying.{same_bytes, same_number}
 use Rattle.run_audit_laws.proofs.Work.{at_work, worker_is}
 
 pub same_end : (e : EndLine) → is_same_end e e ≡ true
-same_end e = grind (arith, and_from, same_number, same_note)
+same_end e = grind (arith, and_from, same_number)
 
 -- one of these isn't so
 in_midst : (a s r n : Bool) → s ≡ false → (((a && s) && r) && n) ≡ false
@@ -77,17 +77,11 @@ module _ (xs : List AuditedDevice) (w : EventLine) (later : List EventLine) (a :
     -- its form is that of a check
     check_judged : (e : CommandEnd) → end_line o.path a.number o.ordinal checked_as ≡ end_line o.path a.number o.ordinal e →
         judged before_work (end_told e) ≡ Ok (at (SenseOf p))
-    check_judged e same =
-        first_is e
-        ∙ ap (λ (b : Bool). or_history (if b then Some (at (SenseOf p)) else if shows_end a o (end_told e) p then Some (at (behind_end p p.sent)) else None))
-        (ap (λ (l : EndLine). is_same_end (end_line o.path a.number o.ordinal checked_as) l) (sym same)
-        ∙ same_end (end_line o.path a.number o.ordinal checked_as))
+    check_judged e same = grind (arith, first_is e, same_end (end_line o.path a.number o.ordinal checked_as))
 
     sense_is : (line : ReportLine) → judged (at (SenseOf p)) line
         ≡ (if is_sense line then or_history (sense_made (at (SenseOf p)) line p (record a { half = Closed })) else Err Place)
-    sense_is line =
-        ap (λ (k : Option AuditedDevice). if is_sense line then or_history (then_of k (sense_made (at (SenseOf p)) line p)) else Err Place)
-        (worker_is xs w later a.number is_work a has (record a { half = Closed }) (SenseOf p) refl)
+    sense_is line = grind (arith, worker_is xs w later a.number is_work a has (record a { half = Closed }) (SenseOf p) refl)
 
     -- As on the plain device
 
@@ -139,17 +133,4 @@ module _ (xs : List AuditedDevice) (w : EventLine) (later : List EventLine) (a :
         LeadsBy before_work (ended_lines o.path a.number o.ordinal (check_end (words_of_open a o) p.index sense))
         (at (Behind true (CheckEnded (check_end (words_of_open a o) p.index sense))))
     check_lead tidy sense is =
-        let e = check_end (words_of_open a o) p.index sense in (
-          at (SenseOf p),
-          check_judged e refl,
-          (
-            at (Behind true (CheckEnded e)),
-            sense_is (lines.Sense sense)
-                ∙ ap (λ (b : Bool). or_history (if b then Some (at (Behind true (Ended p)))
-                else then_of a.history.running (check_made (at (SenseOf p)) (lines.Sense sense) (record a { half = Closed }) p)))
-                (not_its_sense p.sense tidy sense is)
-                ∙ ap (λ (r : Option OpenEntry). or_history (then_of r (check_made (at (SenseOf p)) (lines.Sense sense) (record a { half = Closed }) p))) running
-                ∙ ap (λ (k : Option AuditState). or_history k) (check_by sense is),
-            refl,
-          ),
-        )
+        grind (arith, check_judged (check_end (words_of_open a o) p.index sense) refl, sense_is (lines.Sense sense), not_its_sense p.sense tidy sense is, check_by sense is)

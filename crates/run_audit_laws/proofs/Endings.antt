@@ -1,31 +1,6 @@
 -- The lines at the end of a run: each device's totals and lost tracks, the frames, FINISH.
-use Rattle.std.proofs.Common.{
-  ◌≡◌,
-  ◌+◌,
-  ◌-◌,
-  ◌==◌,
-  ◌++◌,
-  ℕ,
-  zero,
-  suc,
-  Bool,
-  true,
-  false,
-  List,
-  [],
-  ◌∷◌,
-  map,
-  length,
-  Option,
-  Some,
-  None,
-  refl,
-  ap,
-  ◌∙◌,
-  if◌then◌else◌,
-  arith,
-}
-use Rattle.std.specs.Prelude.{◌&&◌, All, Ok, Err, drop, nat_lt, slice_get}
+use Rattle.std.proofs.Common.{◌≡◌, ◌+◌, ◌++◌, ℕ, zero, suc, Bool, true, List, [], ◌∷◌, map, length, Option, Some, None, refl, ap, ◌∙◌, if◌then◌else◌, arith}
+use Rattle.std.specs.Prelude.{All, Ok, Err, drop, slice_get}
 use Rattle.std.specs.List.{flat_map}
 use Rattle.std.proofs.lemmas.List.Elements.{All-head, All-tail}
 use Rattle.std.proofs.lemmas.Bool.Decides.{nat_tests}
@@ -39,13 +14,12 @@ use Rattle.report_text.specs.declared.line.ReportLine.TheVariants as lines
 use Rattle.report_places.specs.declared.state.Due.{Due}
 use Rattle.report_places.specs.declared.state.Due.TheVariants.{Totals, Frames, Nothing}
 use Rattle.report_places.specs.declared.state.Outline.{Outline}
-use Rattle.report_places.specs.Place.{holds, in_totals, in_totals_of, is_declared, is_lost_of, is_totals_of}
+use Rattle.report_places.specs.Place.{in_totals, is_declared, is_totals_of}
 use Rattle.deck_audit.specs.Device.{outline_of}
-use Rattle.deck_audit.specs.History.{made_in, totals_made}
-use Rattle.deck_audit.specs.Stands.{stands_in}
+use Rattle.deck_audit.specs.History.{totals_made}
 use Rattle.deck_audit.specs.State.{AuditState, outlines}
 use Rattle.report_auditor.specs.declared.status.AuditWhy.TheVariants.{Place}
-use Rattle.report_auditor.specs.Verdict.{judged, or_history}
+use Rattle.report_auditor.specs.Verdict.{judged}
 use Rattle.run_report.specs.Closing.{device_lines, ending_lines, frame_line}
 use Rattle.subsystem_defs.specs.Closing.{device_end, device_end_by, ending, lost_tracks}
 use Rattle.subsystem_defs.specs.Subsystem.{Mounted, Subsystem}
@@ -94,12 +68,9 @@ abbrev totalled : AuditState → ℕ → AuditState
 totalled s k = record s { due = Totals (k + 1) }
 
 module _ (s : AuditState) (k : ℕ) (d : MarksDevice) (rest : List Outline) (left : drop k (outlines s) ≡ outline_of (audited d) ∷ rest) where
-  lost_stands : (t : ℕ) → d.store.lent ≡ None → in_totals (outlines s) (lines.Lost d.store.device t) (k + 1) ≡ true
-  lost_stands t home = grind (arith, nat_tests, or_left, and_from, get_here, same_number)
-
   lost_lead : (lost : List ℕ) → d.store.lent ≡ None → LeadsBy (totalled s k) (map (lines.Lost d.store.device) lost) (totalled s k)
   lost_lead [] home = refl
-  lost_lead (t ∷ lost) home = search (arith, lost_lead lost home, judged_at, at_more, lost_stands)
+  lost_lead (t ∷ lost) home = search (arith, lost_lead lost home, judged_at, at_more, nat_tests, or_left, and_from, get_here, same_number)
 
   total_stands : (x : DeviceTotals) → is_totals_of (lines.Device d.store.device x) (outline_of (audited d)) d.store.lent ≡ true →
       in_totals (outlines s) (lines.Device d.store.device x) k ≡ true
@@ -147,16 +118,7 @@ record AtEnd (s : AuditState) : Type 0 where
   finish : judged s lines.Finish ≡ Ok (record s { due = Nothing })
 
 end_totals : (s : AuditState) (k : ℕ) → AtTotals s k → drop k (outlines s) ≡ [] → AtEnd s
-end_totals s k at none = record {
-  frame = λ d t modified is. judged_at s k (lines.Frame d t modified) at
-      (or_right (nat_lt 0 k && holds (slice_get (outlines s) (k - 1)) (λ a. is_lost_of (lines.Frame d t modified) a a.lent))
-      (in_totals_of (outlines s) (lines.Frame d t modified) (drop k (outlines s)))
-      (ap (in_totals_of (outlines s) (lines.Frame d t modified)) none ∙ or_left (is_declared (outlines s) d) false is));
-  finish = judged_at s k lines.Finish at
-      (or_right (nat_lt 0 k && holds (slice_get (outlines s) (k - 1)) (λ a. is_lost_of lines.Finish a a.lent))
-      (in_totals_of (outlines s) lines.Finish (drop k (outlines s)))
-      (ap (in_totals_of (outlines s) lines.Finish) none));
-}
+end_totals s k at none = grind (arith, judged_at, or_right, or_left)
 
 end_frames : (s : AuditState) → AtEnd (record s { due = Frames })
 end_frames s = search (arith, or_left)

@@ -1,6 +1,6 @@
 -- Behind a piece of work the lines of a volume's failure by which tracks become firm read as more of that work: the audit's devices are alike then.
 use Rattle.std.proofs.Common.{arith, ◌≡◌, ◌==◌, ℕ, Bool, true, false, List, [], ◌∷◌, map, Option, Some, None, refl, sym, ap, subst, ◌∙◌, if◌then◌else◌}
-use Rattle.std.specs.Prelude.{IfSome, Ok, option_map}
+use Rattle.std.specs.Prelude.{IfSome, Ok}
 use Rattle.std.specs.List.{flat_map}
 use Rattle.std.proofs.lemmas.Bool.{eqb-true}
 use Rattle.ckd_types.specs.declared.paths.Side.{Side}
@@ -34,7 +34,7 @@ use Rattle.run_audit_laws.specs.Steps.{Reaches, is_there, is_waiting}
 use Rattle.run_audit_laws.proofs.AlikeDevices.{Alike, alike_self, event_over_same, history_alike, seen, state_same, worked_alike}
 use Rattle.run_audit_laws.proofs.AlikeLines.{AlikeFound, AlikeStates, AreAlike, all_then, found_alike, leads_alike, put_alike}
 use Rattle.run_audit_laws.proofs.Found.{found}
-use Rattle.run_audit_laws.proofs.Hardens.{GoesOn, IsQuiet, done_tidy, firm_either, firm_goes, firm_legal, firm_over, firm_quiet, firm_tidy, firmer, loose_behind, over_none, plain_goes, quiet_of}
+use Rattle.run_audit_laws.proofs.Hardens.{GoesOn, IsQuiet, done_tidy, firm_either, firm_goes, firm_legal, firm_over, firm_quiet, firm_tidy, firmer, loose_behind, plain_goes, quiet_of}
 use Rattle.run_audit_laws.proofs.Leading.{waiting_leads}
 use Rattle.run_audit_laws.proofs.NextLines.{of_none, stands_so}
 use Rattle.run_audit_laws.proofs.Pasts.{IsTidy, act_is_read}
@@ -68,14 +68,14 @@ module _ (xs : List AuditedDevice) (w : EventLine) (d : ℕ) (side : Side) (late
   module _ (a : AuditedDevice) (ys : List AuditedDevice) (k : IsDone a ys) where
     settled_so : (more : Bool) → settled (waits a more) did
         ≡ record { devices = with_device xs (worked a did); events = events.FailVolume d side ∷ later; due = Next }
-    settled_so more = grind (arith, settled_plainly, over_none)
+    settled_so more = grind (arith, settled_plainly)
 
     -- a line that isn't of the work
     other_leads : (more : Bool) (line : ReportLine) (ls : List ReportLine) (t : AuditState) →
         is_of_work more (worker_number (waits a more)) line ≡ false → LeadsBy (before ys) (line ∷ ls) t → LeadsBeside (waits a more) (line ∷ ls) t
     other_leads more line ls t other leads =
         let v = waits a more in
-        let from = leads_alike (line ∷ ls) (settled v did) (before ys) t (subst (λ (z : AuditState). AlikeStates z (before ys)) (sym (settled_so more))
+        let from = leads_alike (line ∷ ls) (settled v did) (before ys) t (rw (settled_so more)
         (search arith)) leads in (
           from.0,
           waiting_leads v from.0 line ls more did refl other (ap (λ (x : Option AuditedDevice). holds x (is_legal did))
@@ -114,12 +114,8 @@ module _ (xs : List AuditedDevice) (w : EventLine) (d : ℕ) (side : Side) (late
 
       by_test : (b : AuditedDevice) → Alike (worked a did) b → (u : AuditState) (c : Bool) → is_loose_there (state_of b) track ≡ c →
           or_history (if c then Some (act_made (before ys) b (Harden track) Next) else None) ≡ Ok u → Firmer u
-      by_test b is u true so made = record {
-        zs = with_device ys (firmer track b);
-        stands = cc;
-        is = sym (loose_behind a track did k.tidy k.quiet track) ∙ ap (λ (s : PlainState). is_loose_there s track) (state_same (worked a did) b is) ∙ so;
-        done = still_done b is;
-      }
+      by_test b is u true so made =
+          grind (arith, firmer track b, loose_behind a track did k.tidy k.quiet track, state_same (worked a did) b is, still_done b is)
       by_test b is u false so made = absurd (cc)
 
       by_device : (x : Option AuditedDevice) → AlikeFound (Some (worked a did)) x → (u : AuditState) →
@@ -138,7 +134,7 @@ module _ (xs : List AuditedDevice) (w : EventLine) (d : ℕ) (side : Side) (late
           LeadsBeside (waits a true) (lines.Loose n (loose.Harden track) ∷ ls) t
       firm_leads ls t leads rest =
           let f = firm_too leads.0 leads.1 in
-          let more = rest (firmer track a) f.zs f.done (subst (λ (z : AuditState). LeadsBy z ls t) f.stands leads.2) in
+          let more = rest (firmer track a) f.zs f.done (rw (← f.stands) leads.2) in
           (more.0, (waits (firmer track a) true, harden_judged xs w left n works first has a k.number did track f.is, more.1), more.2)
 
   -- no track becomes firm of the work of another device, or once another became loose
@@ -158,9 +154,9 @@ module _ (xs : List AuditedDevice) (w : EventLine) (d : ℕ) (side : Side) (late
       by_work false is rest = other_leads a ys k more (lines.Loose m (loose.Harden track)) ls t is leads
       by_work true is rest =
           let so = firm_other m track more is in
-          subst (λ (c : Bool). LeadsBeside (waits a c) (lines.Loose m (loose.Harden track) ∷ ls) t) (sym so.1)
-          (subst (λ (i : ℕ). LeadsBeside (waits a true) (lines.Loose i (loose.Harden track) ∷ ls) t) (sym so.0)
-          (firm_leads a ys k track ls t (subst (λ (i : ℕ). LeadsBy (before ys) (lines.Loose i (loose.Harden track) ∷ ls) t) so.0 leads) rest))
+          rw so.1
+          (rw so.0
+          (firm_leads a ys k track ls t (rw (← so.0) leads) rest))
   waits_lead (lines.Order order answer ∷ ls) a ys more k t leads past = search (arith, other_leads, of_none)
   waits_lead (line ∷ ls) a ys more k t leads past = absurd (cc)
 
@@ -202,8 +198,8 @@ module _ (xs : List AuditedDevice) (d : ℕ) (side : Side) (later : List EventLi
     from_over none over left devices =
         let tidy = self_at (device_in xs n) (found_alike xs xs selves n) a has in
         let self = alike_self a tidy in
-        subst (λ (l : List EventLine). LeadsBeside (waiting (w ∷ l)) ls t) (sym left)
-        (subst (λ (l : List AuditedDevice). LeadsBeside (record { devices = l; events = w ∷ failing; due = Behind more did }) ls t) own.1
+        rw left
+        (rw (← own.1)
         (waits_lead xs w d side later n works a has selves did ls a ys more (record {
           number = own.0;
           tidy = tidy;
@@ -214,33 +210,15 @@ module _ (xs : List AuditedDevice) (d : ℕ) (side : Side) (later : List EventLi
           alike = subst (AreAlike (with_device xs done)) devices (put_alike xs xs selves done done (worked_alike a a self did));
         }) t leads past))
 
-    from_event : over_by a did a.history.running ≡ None → (b : Bool) → is_event_over (Some w) (worked a did) did ≡ b →
-        ◌≡◌ {A = AuditState} (if b then record { devices = with_device xs (worked a did); events = rest; due = Next }
-        else record { devices = with_device xs (worked a did); events = w ∷ rest; due = Next }) (record { devices = ys; events = events.FailVolume d side ∷ later; due = Next }) →
-        LeadsBeside (record { devices = xs; events = w ∷ rest; due = Behind more did }) ls t
-    from_event none b over same = search (arith, from_over)
-
     from_work : (o : Option ReportLine) → over_by a did a.history.running ≡ o →
         settled_by (record { devices = xs; events = w ∷ rest; due = Behind more did }) a did o ≡ record { devices = ys; events = events.FailVolume d side ∷ later; due = Next } →
         LeadsBeside (record { devices = xs; events = w ∷ rest; due = Behind more did }) ls t
-    from_work o none same = search (arith, from_event)
-
-  from_worker : (w : EventLine) (rest : List EventLine) (n : ℕ) → worker_of w ≡ Some n → (x : Option AuditedDevice) → device_in xs n ≡ x →
-      holds x (is_legal did) ≡ true → settled_in (record { devices = xs; events = w ∷ rest; due = Behind more did }) did x
-      ≡ record { devices = ys; events = events.FailVolume d side ∷ later; due = Next } →
-      LeadsBeside (record { devices = xs; events = w ∷ rest; due = Behind more did }) ls t
-  from_worker w rest n works x has legal same = search (arith, from_work)
-
-  from_number : (w : EventLine) (rest : List EventLine) (x : Option ℕ) → worker_of w ≡ x → holds (then_of x (device_in xs)) (is_legal did) ≡ true →
-      settled_in (record { devices = xs; events = w ∷ rest; due = Behind more did }) did (then_of x (device_in xs))
-      ≡ record { devices = ys; events = events.FailVolume d side ∷ later; due = Next } →
-      LeadsBeside (record { devices = xs; events = w ∷ rest; due = Behind more did }) ls t
-  from_number w rest x works legal same = search (arith, from_worker)
+    from_work o none same = search (arith, from_over)
 
   from_waiting : (l : List EventLine) → holds (worker (record { devices = xs; events = l; due = Behind more did })) (is_legal did) ≡ true →
       settled (record { devices = xs; events = l; due = Behind more did }) did ≡ record { devices = ys; events = events.FailVolume d side ∷ later; due = Next } →
       LeadsBeside (record { devices = xs; events = l; due = Behind more did }) ls t
-  from_waiting l legal same = search (arith, from_number)
+  from_waiting l legal same = search (arith, from_work)
 
 -- Before the failure each device of the run goes on
 
@@ -251,11 +229,7 @@ module _ (s : Subsystem) (plain : ArePlain s.mounted) where
       subst (λ (e : PlainState). IsPlain x.plans e x.history) p.base p.follows.stands.plain
 
   all_go : (n : ℕ) (b : AuditedDevice) → device_in (map audited (devices_of s)) n ≡ Some b → GoesOn (seen b).past.running
-  all_go n b is = by_device (D.device_in (devices_of s) n) refl (sym (found (devices_of s) n) ∙ is) where
-    by_device : (o : Option MarksDevice) → D.device_in (devices_of s) n ≡ o → option_map audited o ≡ Some b → GoesOn (seen b).past.running
-    by_device (Some x) at same =
-        let it : audited x ≡ b = cc in subst (λ (y : AuditedDevice). GoesOn (seen y).past.running) it (plain_goes (audited x) (plain_at n x at))
-    by_device None at same = absurd (cc)
+  all_go n b is = grind (arith, found, seen, plain_goes, plain_at)
 
   -- from where the run stands, or from where the audit waits
   pub failure_leads : (d : ℕ) (side : Side) (later : List EventLine) → (later ≡ events.FailVolume d side ∷ later → ⊥) → LineLeads s (events.FailVolume d side) →
@@ -268,5 +242,4 @@ module _ (s : Subsystem) (plain : ArePlain s.mounted) where
       let ls = flat_map lines_of (line_logged s (asked_by (events.FailVolume d side))) in
       let t = stand (line_behind s (events.FailVolume d side)) later in
       rw is (from_waiting v.devices d side later more did selves (map audited (devices_of s)) all_go ls t (leads later) past v.events (subst
-      (λ (q : Due). holds (worker (record v { due = q })) (is_legal did) ≡ true) is legal) (subst (λ (q : Due). settled (record v { due = q }) did ≡ stand s
-      (events.FailVolume d side ∷ later)) is same))
+      (λ (q : Due). holds (worker (record v { due = q })) (is_legal did) ≡ true) is legal) (rw (← is) same))

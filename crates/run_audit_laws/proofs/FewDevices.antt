@@ -1,29 +1,25 @@
 -- Before each event of the run of a deck that was read there are at most 16 devices.
-use Rattle.std.proofs.Common.{◌≡◌, ◌≤◌, ℕ, List, [], ◌∷◌, length, map, Ok, sym, ap, subst, arith}
+use Rattle.std.proofs.Common.{◌≡◌, ◌≤◌, ℕ, List, [], ◌∷◌, length, map, Ok, sym, subst, arith}
 use Rattle.std.specs.Prelude.{All}
 use Rattle.std.proofs.lemmas.List.{length-map}
 use Rattle.std.proofs.lemmas.List.Elements.{All-cons, All-nil}
-use Rattle.deck_text.specs.declared.line.DeviceLine.{DeviceLine}
 use Rattle.deck_text.specs.DeckLines.{DeckLines}
 use Rattle.deck_text.specs.Parse.{parsed}
 use Rattle.subsystem_defs.specs.Decks as D
 use Rattle.subsystem_defs.specs.Decks.{opened, run_of}
 use Rattle.subsystem_defs.specs.Lines.{Logged, asked_by, run_lines}
-use Rattle.subsystem_defs.specs.Subsystem.{Mounted, Subsystem, devices_of}
+use Rattle.subsystem_defs.specs.Subsystem.{Subsystem, devices_of}
 use Rattle.subsystem_laws.proofs.ReadDecks.{read_few_devices}
 use Rattle.subsystem_laws.proofs.RunLines.{Logs}
 use Rattle.subsystem_laws.proofs.RunLinks.{Linked, lines_linked}
-use Rattle.run_audit_laws.proofs.Ties.{Tie, numbers_in, ties, So, Shown, run_tied}
-
-as_many : (a b c d e : ℕ) → a ≡ b → c ≡ b → d ≡ c → d ≡ e → e ≤ 16 → a ≤ 16
-as_many a b c d e f g h k most = omega (arith, f, g, h, k, most)
+use Rattle.run_audit_laws.proofs.Ties.{numbers_in, ties, So, Shown, run_tied}
 
 module _ (ns : List ℕ) (most : length ns ≤ 16) where
   abbrev Few : Subsystem → Type 0
   Few s = length (devices_of s) ≤ 16
 
   few : (s : Subsystem) → So ns s → Few s
-  few s t = grind (arith, as_many, ties, length-map)
+  few s t = grind (arith, ties, length-map)
 
   abbrev IsFew : Logged → Type 0
   IsFew t = Few t.happened.before

@@ -1,5 +1,5 @@
 -- The devices of a run as the audit has them: by their numbers, and with another one in the place of one.
-use Rattle.std.proofs.Common.{arith, ◌≡◌, ◌==◌, ℕ, Bool, true, false, List, [], ◌∷◌, map, Option, Some, refl, ap, ◌∙◌, if◌then◌else◌}
+use Rattle.std.proofs.Common.{arith, ◌≡◌, ◌==◌, ℕ, Bool, List, [], ◌∷◌, map, Option, Some, refl, ap, ◌∙◌, if◌then◌else◌}
 use Rattle.std.specs.Prelude.{option_map}
 use Rattle.device_defs.specs.Marks.{MarksDevice}
 use Rattle.deck_audit.specs.Device as A
@@ -40,14 +40,10 @@ outline_one ds n d is = outlined (map audited ds) n ∙ ap (λ (o : Option Audit
 
 -- Another one in its place
 
-put_by : (b : Bool) (m x : Mounted) (ms rest : List Mounted) (all : List AuditedDevice) → all ≡ map audited (devices rest) →
-    (if b then audited x.device ∷ map audited (devices ms) else audited m.device ∷ all) ≡ map audited (devices (if b then x ∷ ms else m ∷ rest))
-put_by b m x ms rest all e = grind arith
-
 pub put_there : (ms : List Mounted) (x : Mounted) →
     with_device (map audited (devices ms)) (audited x.device) ≡ map audited (devices (put_in ms (number_of x) x))
 put_there [] x = refl
-put_there (m ∷ ms) x = grind (arith, put_there ms x, put_by)
+put_there (m ∷ ms) x = grind (arith, put_there ms x)
 
 pub put_at : (ms : List Mounted) (n : ℕ) (x : Mounted) → number_of x ≡ n →
     with_device (map audited (devices ms)) (audited x.device) ≡ map audited (devices (put_in ms n x))
@@ -65,13 +61,8 @@ pub put_same : (ms : List Mounted) (n : ℕ) (x : Mounted) → ((y : Mounted) �
 put_same [] n x same = refl
 put_same (m ∷ ms) n x same = same_by (number_of m == n) m x ms (put_in ms n x) (mounted_in ms n) same (put_same ms n x)
 
-mounted_by : (b : Bool) (m : Mounted) (d : MarksDevice) (o : Option MarksDevice) (q : Option Mounted) →
-    (if b then Some m.device else o) ≡ Some d → (o ≡ Some d → (y : Mounted) × (q ≡ Some y) × (y.device ≡ d)) →
-    (y : Mounted) × ((if b then Some m else q) ≡ Some y) × (y.device ≡ d)
-mounted_by b m d o q is go = grind arith
-
 -- a device that is found is mounted
 pub mounted_too : (ms : List Mounted) (n : ℕ) (d : MarksDevice) → device_in (devices ms) n ≡ Some d →
     (y : Mounted) × (mounted_in ms n ≡ Some y) × (y.device ≡ d)
 mounted_too [] n d is = absurd (cc)
-mounted_too (m ∷ ms) n d is = grind (arith, mounted_too ms n d, mounted_by)
+mounted_too (m ∷ ms) n d is = grind (arith, mounted_too ms n d)

@@ -1,32 +1,26 @@
 -- A track that becomes firm behind the end of a command reads as one that became so before it.
-use Rattle.std.proofs.Common.{arith, ◌≡◌, ◌++◌, ℕ, Bool, true, false, not, List, [], ◌∷◌, Option, Some, None, refl, sym, ap, subst, ◌∙◌, if◌then◌else◌}
-use Rattle.std.specs.Prelude.{is_some, IfSome, option_map, ◌||◌, ◌&&◌}
+use Rattle.std.proofs.Common.{arith, ◌≡◌, ℕ, Bool, true, false, List, Option, Some, None, refl, sym, ap, subst, ◌∙◌}
+use Rattle.std.specs.Prelude.{is_some, option_map}
 use Rattle.std.proofs.lemmas.Bool.{or_right}
 use Rattle.ckd_types.specs.declared.channel.CommandEnd.{CommandEnd}
 use Rattle.ckd_types.specs.Fixed.{Fixed}
-use Rattle.ckd_types.specs.Parameters.{is_provisional}
 use Rattle.ckd_rules.specs.declared.stance.Stance.{Stance}
-use Rattle.ckd_rules.specs.Walk.{TrackEdit}
 use Rattle.plain_defs.specs.declared.journal.Act.TheVariants.{Harden}
-use Rattle.plain_defs.specs.declared.journal.How.TheVariants.{Full}
 use Rattle.plain_defs.specs.Acknowledged.{EditTold}
-use Rattle.plain_defs.specs.History.{IsOpen, IsPlain, OpenEntry, acted, acted_in}
+use Rattle.plain_defs.specs.History.{IsPlain, OpenEntry, acted, acted_in}
 use Rattle.plain_defs.specs.Journal.{Plans, replay}
-use Rattle.plain_defs.specs.Loose.{is_loose_there, is_loose_in}
-use Rattle.plain_defs.specs.PlainState.{LooseTrack, PlainState}
+use Rattle.plain_defs.specs.Loose.{is_loose_there}
+use Rattle.plain_defs.specs.PlainState.{PlainState}
 use Rattle.plain_defs.specs.Program.{Part}
-use Rattle.report_text.specs.declared.answers.HowOver.TheVariants as how
-use Rattle.report_text.specs.declared.line.ReportLine.{ReportLine}
 use Rattle.report_places.specs.declared.state.Did.{Did}
 use Rattle.report_places.specs.declared.state.Did.TheVariants.{CheckEnded, Ended, Halved, Worked}
 use Rattle.deck_plan.specs.declared.event.EventLine.{EventLine}
-use Rattle.deck_plan.specs.declared.event.EventLine.TheVariants as events
-use Rattle.deck_audit.specs.Device.{AuditedDevice, is_closed, is_edit_legal, is_idle, runs, state_of}
+use Rattle.deck_audit.specs.Device.{AuditedDevice, runs, state_of}
 use Rattle.deck_audit.specs.History.{is_legal}
-use Rattle.deck_audit.specs.State.{is_event_over, over_by, over_line, worked}
-use Rattle.run_audit_laws.proofs.AlikeDevices.{Alike, Seen, edit_in, legal_by, legal_is, seen, state_in, state_is}
+use Rattle.deck_audit.specs.State.{is_event_over, over_by, worked}
+use Rattle.run_audit_laws.proofs.AlikeDevices.{Alike, Seen, edit_in, legal_by, seen, state_in}
 use Rattle.run_audit_laws.proofs.LooseOnce.{fewer_loose}
-use Rattle.run_audit_laws.proofs.Pasts.{Going, IsTidy, Past, act_by, act_is_read, act_now, acted_past, check_is_read, checked_past, end_is_read, ended_by, ended_past, goes_on, going_of, next_part, over_past, untold}
+use Rattle.run_audit_laws.proofs.Pasts.{Going, IsTidy, Past, act_by, act_is_read, act_now, acted_past, check_is_read, checked_past, end_is_read, ended_past, goes_on, going_of, next_part, over_past, untold}
 
 -- behind this piece of work no program is over
 abbrev pub IsQuiet : Did → Option Going → Type 0
@@ -54,10 +48,6 @@ firmed k None = None
 
 -- A command that may edit its track may do so where fewer are loose
 
-legal_fewer : (p q : Part) (e : Option TrackEdit) → q.stance ≡ p.stance → ((t : ℕ) → is_loose_there p.state t ≡ false → is_loose_there q.state t ≡ false) →
-    is_edit_legal p e ≡ true → is_edit_legal q e ≡ true
-legal_fewer p q e same fewer legal = grind (arith, or_right)
-
 -- Where the program then is
 
 module _ (plans : Plans) (k path ordinal : ℕ) (ends : List CommandEnd) (fixed : Fixed) (state : PlainState) (stance : Stance) (before : List CommandEnd)
@@ -81,20 +71,11 @@ module _ (plans : Plans) (k path ordinal : ℕ) (ends : List CommandEnd) (fixed 
   loose_stays next = grind arith
 
   legal_firmed : (next : Option ℕ) → legal_by plans (Some (at next)) ≡ true → legal_by plans (Some (record (at next) { part = firm_part k (at next).part })) ≡ true
-  legal_firmed next legal = grind (arith, legal_fewer, edit_in, fewer_loose)
+  legal_firmed next legal = grind (arith, edit_in, fewer_loose, or_right)
 
 -- The same of any program
 
 module _ (plans : Plans) (k : ℕ) (g : Going) where
-  first_firm : is_some (next_part plans g).next ≡ true → next_part plans (record g { part = firm_part k g.part }) ≡ firm_part k (next_part plans g)
-  first_firm more = firm_first plans k g.path g.ordinal g.ends g.part.fixed g.part.state g.part.stance g.part.ends g.part.told g.part.next more
-
-  next_stays : (firm_part k g.part).next ≡ g.part.next
-  next_stays = firm_goes_on plans k g.path g.ordinal g.ends g.part.fixed g.part.state g.part.stance g.part.ends g.part.told g.part.next
-
-  loose_kept : (next_part plans g).state.loose ≡ g.part.state.loose
-  loose_kept = loose_stays plans k g.path g.ordinal g.ends g.part.fixed g.part.state g.part.stance g.part.ends g.part.told g.part.next
-
   legal_kept : legal_by plans (Some g) ≡ true → legal_by plans (Some (record g { part = firm_part k g.part })) ≡ true
   legal_kept legal = legal_firmed plans k g.path g.ordinal g.ends g.part.fixed g.part.state g.part.stance g.part.ends g.part.told g.part.next legal
 
@@ -110,25 +91,18 @@ legal_did Halved plans r = true
 legal_did (Worked last) plans r = true
 
 module _ (plans : Plans) (k : ℕ) where
-  ended_on : (e : CommandEnd) (x : Past) (g : Going) → e.over ≡ false → ended_by e plans x (Some g) ≡ goes_on x g e (next_part plans g)
-  ended_on e x g more = grind (arith, over_past, next_part, goes_on)
-
   commutes : (did : Did) (x : Past) (r : Option Going) → IsQuiet did r → GoesOn (done_past did plans (with_going x r)).running →
       done_past did plans (acted_past (Harden k) plans (with_going x r)) ≡ acted_past (Harden k) plans (done_past did plans (with_going x r))
-  commutes did x r quiet goes = grind (arith, first_firm, acted_past)
+  commutes did x r quiet goes = grind (arith, acted_past)
 
   running_firmed : (x : Past) (r : Option Going) → (acted_past (Harden k) plans (with_going x r)).running ≡ firmed k r
   running_firmed x r = grind arith
-
-  loose_done : (did : Did) (x : Past) (r : Option Going) → IsQuiet did r →
-      (state_in (done_past did plans (with_going x r)).state (done_past did plans (with_going x r)).running).loose ≡ (state_in x.state r).loose
-  loose_done did x r quiet = grind (arith, state_in, ended_on, loose_kept)
 
   still_quiet : (did : Did) (r : Option Going) → IsQuiet did r → IsQuiet did (firmed k r)
   still_quiet did r quiet = grind arith
 
   still_goes : (r : Option Going) → GoesOn r → GoesOn (firmed k r)
-  still_goes r goes = grind (arith, next_stays)
+  still_goes r goes = grind arith
 
   still_legal : (did : Did) (r : Option Going) → legal_did did plans r ≡ true → legal_did did plans (firmed k r) ≡ true
   still_legal did r legal = grind (arith, legal_kept)
@@ -149,19 +123,12 @@ seen_done a (CheckEnded e) tidy = ap (λ (x : Past). record (seen a) { past = x 
 seen_done a did tidy = refl
 
 legal_seen : (a : AuditedDevice) (did : Did) → is_legal did a ≡ legal_did did a.plans (seen a).past.running
-legal_seen a did = grind (arith, legal_is)
+legal_seen a did = grind arith
 
 module _ (a : AuditedDevice) where
-  over_if : (e : CommandEnd) (line : ReportLine) (b : Bool) → e.over ≡ b → (if e.over then Some line else None) ≡ None → e.over ≡ false
-  over_if e line b is none = grind arith
-
   pub quiet_of : (did : Did) (r : Option OpenEntry) → over_by a did r ≡ None →
       IsQuiet did (option_map (going_of a.plans (replay a.plans a.empty a.history.items)) r)
-  quiet_of did r none = grind (arith, over_if)
-
-  pub over_none : (did : Did) (r : Option OpenEntry) → IsQuiet did (option_map (going_of a.plans (replay a.plans a.empty a.history.items)) r) →
-      over_by a did r ≡ None
-  over_none did r quiet = grind arith
+  quiet_of did r none = grind arith
 
   -- the program of a plain device that isn't over goes on
   pub plain_goes : IsPlain a.plans a.empty a.history → GoesOn (seen a).past.running
@@ -184,11 +151,8 @@ module _ (a : AuditedDevice) where
     firm_runs : (r : Option OpenEntry) → a.history.running ≡ r → runs (acted_in a.history (Harden k) r).running ≡ runs a.history.running
     firm_runs r is = grind arith
 
-    firm_idle : is_idle (firmer k a) ≡ is_idle a
-    firm_idle = ap (λ (b : Bool). not b && is_closed a.half) (firm_runs a.history.running refl)
-
     pub firm_over : (e : Option EventLine) (did : Did) → is_event_over e (firmer k a) did ≡ is_event_over e a did
-    firm_over e did = grind (arith, firm_idle)
+    firm_over e did = grind arith
 
     module _ (did : Did) (tidy : IsTidy a.history) (quiet : IsQuiet did (seen a).past.running) where
       pub firm_quiet : IsQuiet did (seen (firmer k a)).past.running
@@ -199,7 +163,7 @@ module _ (a : AuditedDevice) where
 
       -- which tracks are loose
       pub loose_behind : (t : ℕ) → is_loose_there (state_of (worked a did)) t ≡ is_loose_there (state_of a) t
-      loose_behind t = grind (arith, state_is, state_in, seen_done, loose_done, seen)
+      loose_behind t = grind (arith, state_in, seen_done, seen, over_past, next_part, goes_on)
 
       -- before the end as behind it
       pub firm_either : GoesOn (seen (worked a did)).past.running → Alike (worked (firmer k a) did) (firmer k (worked a did))

@@ -1,8 +1,9 @@
 -- What a device does by itself, in its order: it leaves less to do, unless its answer is one that stops.
-use Rattle.std.proofs.Common.{◌≡◌, ◌≢◌, ◌<◌, ◌≤◌, ◌+◌, ◌⊎◌, ℕ, zero, suc, Bool, true, false, List, [], ◌∷◌, Option, Some, None, is_some, length, get_or, set, refl, sym, ap, subst, ◌∙◌, arith, inl, inr}
+use Rattle.std.proofs.Common.{◌≡◌, ◌≢◌, ◌≤◌, ◌+◌, ◌⊎◌, ℕ, zero, suc, Bool, true, false, List, [], ◌∷◌, Option, Some, None, is_some, length, get_or, set, refl, sym, ap, ◌∙◌, arith, inl, inr}
 use Rattle.std.proofs.lemmas.Bool.{cases_eq, or_left, or_right}
 use Rattle.std.specs.Prelude.{◌&&◌, ◌||◌, if◌then◌else◌, not}
 use Rattle.track_table.specs.Tracks.{least}
+use Rattle.ckd_types.specs.declared.paths.Side.{Side}
 use Rattle.device_defs.specs.declared.answers.Did.TheVariants as dids
 use Rattle.device_defs.specs.Background as G
 use Rattle.device_defs.specs.Background.{copies_to, copy_first, destage_first, did, is_destaged, recover_first, stage, stage_first, staged_bytes, to_copy, to_destage, to_recover, work}
@@ -11,7 +12,7 @@ use Rattle.device_defs.specs.Image.{Got}
 use Rattle.device_defs.specs.Marks.{MarksStore}
 use Rattle.device_defs.specs.Owed as O
 use Rattle.device_defs.specs.Owed.{waits, waits_by}
-use Rattle.device_defs.specs.Store.{frame_at, is_lost, is_loose, patch_at, some_up, tracks_of, with_frame}
+use Rattle.device_defs.specs.Store.{frame_at, is_lost, is_loose, patch_at, tracks_of, with_frame}
 use Rattle.device_laws.proofs.Had.{Had, had_ask, had_done, had_if, had_then, had_try}
 use Rattle.device_laws.proofs.Working.{least_found}
 use Rattle.run_audit_laws.proofs.Weights.{Spot, copies, due_by, modified_by, one, sides, spot_at, sum_least, weight_at, works}
@@ -48,12 +49,12 @@ framed_least z t m patched bare here q = by_place (cases_eq q t) (set_there z.fr
   by_place : ((q ≡ t) ⊎ (q ≢ t)) → ((frame_at v t ≡ Some m) ⊎ (frame_at v t ≡ frame_at z t)) → weight_at v q ≤ weight_at z q
   by_place (inr ne) there = same_weight z v q ((near_frame z t (Some m)).others q ne)
   by_place (inl is) (inl there) =
-      subst (λ (k : ℕ). weight_at v k ≤ weight_at z k) (sym is)
+      rw is
       (at (Some m) there
       (ap (λ (k : Bool). works_by (is_lost z t) (Some k) (is_some (patch_at z t)) (is_loose z t)) (sym patched)
       ∙ filled_works (is_lost z t) (is_some (patch_at z t)) (is_loose z t) here
       ∙ ap (λ (o : Option Bool). works_by (is_lost z t) o (is_some (patch_at z t)) (is_loose z t)) (sym bare)))
-  by_place (inl is) (inr there) = subst (λ (k : ℕ). weight_at v k ≤ weight_at z k) (sym is) (at (frame_at z t) there refl)
+  by_place (inl is) (inr there) = rw is (at (frame_at z t) there refl)
 
 module _ (s : MarksStore) (t : ℕ) (ts : List ℕ) (queue : s.queue ≡ t ∷ ts) where
   abbrev shorter : MarksStore
@@ -71,12 +72,7 @@ module _ (s : MarksStore) (t : ℕ) (ts : List ℕ) (queue : s.queue ≡ t ∷ t
   none_framed o lost e = grind arith
 
   stage_so : Had (stage by_plain shorter t) (WorkSo s)
-  stage_so =
-      had_if (is_some (frame_at s t) || is_lost s t) (λ _. had_done (λ _. one_shorter))
-      (λ e. let f = none_framed (frame_at s t) (is_lost s t) e in
-      had_try (had_ask (λ given. had_if given
-      (λ _. had_then (level_so shorter t) (λ z g h. bytes_staged z g h f.0 f.1 g.bytes))
-      (λ _. had_done (λ _. one_shorter)))))
+  stage_so = grind (arith, had_if, had_done, had_try, had_ask, had_then, level_so shorter t, bytes_staged)
 
 -- The order
 
@@ -84,17 +80,9 @@ waits_works : (s : MarksStore) (t : ℕ) → waits by_plain s t ≡ true → wor
 unfolding O.waits
 waits_works s t e = grind (arith, or_left)
 
-destaged_works : (s : MarksStore) (t : ℕ) → is_destaged by_plain s t ≡ true → works (spot_at s t) ≡ true
-destaged_works s t e = grind (arith, or_right)
-
-found_if : (n : ℕ) (p : ℕ → Bool) (b : Bool) (t : ℕ) → (if b then least n p else None) ≡ Some t → (t < n) × (p t ≡ true)
-found_if n p b t e = grind (arith, least_found)
-
 destage_so : (s : MarksStore) → s.half ≡ None → (o : Option ℕ) → to_destage by_plain s ≡ o → Had (destage_first by_plain s o) (WorkSo s)
 destage_so s whole None is = had_done (λ e. absurd (cc))
-destage_so s whole (Some t) is =
-    let f = found_if (tracks_of s) (is_destaged by_plain s) (some_up s) t is in
-    saved_so s whole t f.0 (destaged_works s t f.1) _ (dids.Destaged t) None
+destage_so s whole (Some t) is = grind (arith, saved_so, or_right, least_found)
 
 stages_so : (s : MarksStore) → s.half ≡ None → (l : List ℕ) → s.queue ≡ l → Had (stage_first by_plain s l) (WorkSo s)
 stages_so s whole [] is = destage_so s whole (to_destage by_plain s) refl
@@ -106,9 +94,7 @@ copy_first_so s whole (Some t) is = copy_so s t whole (least_found (tracks_of s)
 
 recover_first_so : (s : MarksStore) → s.half ≡ None → (o : Option ℕ) → to_recover by_plain s ≡ o → Had (recover_first by_plain s o) (WorkSo s)
 recover_first_so s whole None is = copy_first_so s whole (to_copy s) refl
-recover_first_so s whole (Some t) is =
-    let f = found_if (tracks_of s) (waits by_plain s) (some_up s) t is in
-    recover_so s t (frame_at s t) whole f.0 (waits_works s t f.1)
+recover_first_so s whole (Some t) is = grind (arith, recover_so, waits_works, least_found)
 
 pub work_so : (s : MarksStore) → s.half ≡ None → Had (work by_plain s) (WorkSo s)
 unfolding G.work

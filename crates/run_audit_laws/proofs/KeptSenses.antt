@@ -1,5 +1,5 @@
 -- The senses that a plain device keeps of its paths are 32 bytes each.
-use Rattle.std.proofs.Common.{◌-◌, ℕ, Option, Some, None, sym, subst, inl, inr, arith}
+use Rattle.std.proofs.Common.{◌-◌, ℕ, Option, Some, None, arith}
 use Rattle.std.specs.Prelude.{All, IfSome}
 use Rattle.std.proofs.lemmas.List.Elements.{All-set}
 use Rattle.ckd_types.specs.declared.channel.Ccw.{Ccw}
@@ -7,7 +7,6 @@ use Rattle.ckd_types.specs.declared.record.Track.{Track}
 use Rattle.ckd_types.specs.declared.sense.Sense.{Sense}
 use Rattle.ckd_types.specs.Fixed.{Fixed}
 use Rattle.ckd_types.specs.Sense.{data_check_sense, equipment_sense, reject_sense, zero_sense}
-use Rattle.ckd_rules.specs.declared.ending.Ending.{Ending}
 use Rattle.ckd_rules.specs.declared.grouping.GroupFault.{GroupFault}
 use Rattle.ckd_rules.specs.declared.opening.Opening.{Opening}
 use Rattle.ckd_rules.specs.declared.opening.Opening.TheVariants as openings
@@ -20,7 +19,7 @@ use Rattle.plain_defs.specs.Effect.{acted_by, effect_by, walked_look}
 use Rattle.plain_defs.specs.PlainState.{PathsState, with_sense}
 use Rattle.report_reading.specs.Ranges.{AreBytes}
 use Rattle.run_audit_laws.specs.Steps.{IsCheckSense}
-use Rattle.run_audit_laws.proofs.Tidy.{FitsBy, WalkFits, sense_bytes}
+use Rattle.run_audit_laws.proofs.Tidy.{WalkFits, sense_bytes}
 
 abbrev pub SenseIn : Sense → Type 0
 SenseIn sense = AreBytes 32 sense.bytes
@@ -39,11 +38,8 @@ check_sense_in sense x2 = grind (arith, equipment_in, data_check_in)
 
 -- By the rules
 
-fits_sense : (c : Ccw) (e : Ending) (o : Option Sense) → FitsBy c e o → IfSome o SenseIn
-fits_sense c e o h = grind arith
-
 pub walk_sense : (c : Ccw) (o : Outcome) → WalkFits c o → IfSome o.ending.sense SenseIn
-walk_sense c o x3 = grind (arith, fits_sense, equipment_in)
+walk_sense c o x3 = grind (arith, equipment_in)
 
 -- What a command leaves of them
 

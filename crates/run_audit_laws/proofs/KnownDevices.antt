@@ -1,15 +1,14 @@
 -- What an audit knows of a run's device is what the device has marked: its loose tracks, and the number of their data.
-use Rattle.std.proofs.Common.{◌≡◌, ◌==◌, ℕ, suc, Bool, true, false, List, [], ◌∷◌, length, Option, Some, None, is_some, cond, refl, sym, ap, subst, ◌∙◌, arith}
+use Rattle.std.proofs.Common.{◌≡◌, ◌==◌, ℕ, suc, Bool, true, false, List, [], ◌∷◌, length, Option, Some, None, is_some, cond, refl, sym, ap, ◌∙◌, arith}
 use Rattle.std.specs.Prelude.{nat_lt}
 use Rattle.std.proofs.lemmas.Bool.{eq-eqb, true≢false}
 use Rattle.std.proofs.lemmas.Bool.Decides.{nat_tests}
-use Rattle.plain_defs.specs.History.{plain_of}
 use Rattle.plain_defs.specs.Loose.{is_loose_in}
-use Rattle.plain_defs.specs.PlainState.{LooseTrack, PlainState}
+use Rattle.plain_defs.specs.PlainState.{LooseTrack}
 use Rattle.track_table.specs.Tracks.{least}
 use Rattle.device_defs.specs.Marks.{MarksDevice, MarksStore}
 use Rattle.device_defs.specs.Store.{has_loose, is_loose, tracks_of}
-use Rattle.device_laws.proofs.PlainStores.{IsOf, core_of}
+use Rattle.device_laws.proofs.PlainStores.{core_of}
 use Rattle.device_laws.proofs.Working.{least_found}
 use Rattle.deck_audit.specs.Device as A
 use Rattle.deck_audit.specs.Device.{AuditedDevice, state_of}
@@ -27,16 +26,7 @@ pub record Marked (a : AuditedDevice) (s : MarksStore) : Type 0 where
   pub many : length s.loose ≡ tracks_of s
 
 pub known : (d : MarksDevice) → Plainly d → Marked (audited d) d.store
-known d p =
-    let f = p.follows in
-    let of = subst (λ (e : PlainState). IsOf (plain_of d.plans e d.history) (core_of d.store)) p.base f.of in
-    record {
-      same = of.loose;
-      once = subst (λ (e : PlainState). StandOnce (plain_of d.plans e d.history).loose) p.base
-          (plain_once d.plans p.empty d.history (ap (λ (e : PlainState). e.loose) p.base) f.stands.plain);
-      number_is = of.number;
-      many = of.looses ∙ of.tracks;
-    }
+known d p = grind (arith, core_of, plain_once)
 
 pub all_firm : (l : List LooseTrack) → ((t : ℕ) → is_loose_in l t ≡ false) → l ≡ []
 all_firm [] h = refl
@@ -45,15 +35,12 @@ all_firm (x ∷ l) h = absurd (true≢false (sym (ap (λ (b : Bool). cond b true
 positive : (n : ℕ) → nat_lt 0 (suc n) ≡ true
 positive n = grind (arith, nat_tests)
 
-not_zero : (n : ℕ) → (suc n == 0) ≡ false
-not_zero n = grind (arith, nat_tests)
-
 some_long : (l : List LooseTrack) (t : ℕ) → is_loose_in l t ≡ true → nat_lt 0 (length l) ≡ true
 some_long [] t is = absurd (cc)
 some_long (x ∷ l) t is = positive (length l)
 
 long_count : (l : List LooseTrack) → nat_lt 0 (length l) ≡ true → (length l == 0) ≡ false
-long_count l is = grind (arith, not_zero)
+long_count l is = grind (arith, nat_tests)
 
 no_count : (l : List LooseTrack) → nat_lt 0 (length l) ≡ false → (length l == 0) ≡ true
 no_count l is = grind (arith, positive)

@@ -1,23 +1,21 @@
 -- How lines lead on: one after another, at an event's first line, and behind a piece of work that is taken as done.
-use Rattle.std.proofs.Common.{arith, ◌≡◌, ◌++◌, Bool, true, false, not, List, [], ◌∷◌, Option, Some, None, refl, sym, ap, subst, ◌∙◌, if◌then◌else◌}
-use Rattle.std.specs.Prelude.{◌||◌, ◌&&◌, Result, Ok, Err}
+use Rattle.std.proofs.Common.{arith, ◌≡◌, ◌++◌, Bool, true, false, List, [], ◌∷◌, Option, Some, refl, ap, subst, if◌then◌else◌}
+use Rattle.std.specs.Prelude.{Result, Ok, Err}
 use Rattle.std.proofs.lemmas.Bool.{or_parts}
 use Rattle.deck_plan.specs.declared.event.EventLine.{EventLine}
 use Rattle.report_text.specs.declared.event.Happened.{Happened}
 use Rattle.report_text.specs.declared.line.ReportLine.{ReportLine}
-use Rattle.report_text.specs.Events.{first_lines, io_lines, last_line, line_if}
+use Rattle.report_text.specs.Events.{first_lines, last_line, line_if}
 use Rattle.report_places.specs.declared.state.Did.{Did}
 use Rattle.report_places.specs.declared.state.Due.{Due}
 use Rattle.report_places.specs.declared.state.Due.TheVariants.{Next, Behind, OverOf}
-use Rattle.report_places.specs.Place.{holds, in_due, in_event, is_io, is_of_work}
-use Rattle.deck_audit.specs.History.{act_of_work, due_made, event_made, is_legal, made_in}
-use Rattle.deck_audit.specs.Stands.{stands_in}
+use Rattle.report_places.specs.Place.{holds, in_due, in_event, is_of_work}
+use Rattle.deck_audit.specs.History.{due_made, event_made, is_legal}
 use Rattle.deck_audit.specs.State.{AuditState, outlines, settled, then_of, worker, worker_number}
 use Rattle.device_defs.specs.Marks.{MarksDevice}
 use Rattle.report_auditor.specs.declared.status.AuditWhy.{AuditWhy}
 use Rattle.report_auditor.specs.declared.status.AuditWhy.TheVariants.{Place}
 use Rattle.report_auditor.specs.Verdict.{judged, or_history}
-use Rattle.run_report.specs.Beside.{loose_lines, over_lines, of_each}
 use Rattle.run_report.specs.Events.{event_lines, work_lines}
 use Rattle.run_report.proofs.OneDevice.{quiet_loose, quiet_over, of_same}
 use Rattle.subsystem_defs.specs.Happening.{EventHappened as Happening}
@@ -56,9 +54,6 @@ then_some o x go is = ap (λ (y : Option _). then_of y go) is
 abbrev pub judged_due : AuditState → ReportLine → Due → Result AuditState AuditWhy
 judged_due s line due = if in_due (outlines s) s.events line due then or_history (due_made s line due) else Err Place
 
-pub judged_next : (s : AuditState) (line : ReportLine) → s.due ≡ Next → judged s line ≡ judged_due s line s.due
-judged_next s line is = grind arith
-
 pub judged_over : (s : AuditState) (line wanted : ReportLine) → s.due ≡ OverOf wanted → judged s line ≡ judged_due s line s.due
 judged_over s line wanted is = grind arith
 
@@ -72,7 +67,7 @@ waiting_judged s line more did is other legal = grind (arith, or_parts)
 pub waiting_leads : (s t : AuditState) (line : ReportLine) (lines : List ReportLine) (more : Bool) (did : Did) → s.due ≡ Behind more did →
     is_of_work more (worker_number s) line ≡ false → holds (worker s) (is_legal did) ≡ true → (settled s did).due ≡ Next →
     LeadsBy (settled s did) (line ∷ lines) t → LeadsBy s (line ∷ lines) t
-waiting_leads s t line lines more did is other legal next leads = search (arith, waiting_judged, judged_next)
+waiting_leads s t line lines more did is other legal next leads = search (arith, waiting_judged)
 
 -- Lines of an event that changes no device
 

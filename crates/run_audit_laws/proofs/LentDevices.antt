@@ -1,5 +1,5 @@
 -- What an order makes of a device that is lent.
-use Rattle.std.proofs.Common.{arith, ◌≡◌, ℕ, zero, suc, true, Option, Some, None, is_some, set, refl, ap, ◌∙◌}
+use Rattle.std.proofs.Common.{arith, ◌≡◌, ℕ, zero, suc, Option, Some, is_some, refl}
 use Rattle.std.proofs.lemmas.Bool.{cond_both}
 use Rattle.device_defs.specs.Contents.{by_plain}
 use Rattle.device_defs.specs.Device.{event_begun, event_ended}
@@ -9,9 +9,9 @@ use Rattle.device_defs.specs.Marks.{MarksDevice, MarksStore}
 use Rattle.device_defs.specs.Orders as O
 use Rattle.device_defs.specs.Orders.{given_up, lend, lent_to, with_tracks}
 use Rattle.device_defs.specs.Owed.{noted_end, waiting_count}
-use Rattle.device_defs.specs.Store.{frame_at, owed_at, patch_at, tracks_of, with_frame}
+use Rattle.device_defs.specs.Store.{tracks_of}
 use Rattle.device_laws.proofs.Had.{Had, had_done, had_then}
-use Rattle.device_laws.proofs.PlainStores.{Core, core_of}
+use Rattle.device_laws.proofs.PlainStores.{core_of}
 use Rattle.device_laws.proofs.PlainWalks.{framed_same, patch_same}
 use Rattle.device_laws.proofs.PoolWalks.{asks_had, ended_asks}
 use Rattle.run_audit_laws.specs.Standing.{half_by}
@@ -31,22 +31,10 @@ record Kept (s z : MarksStore) : Type 0 where
   core : core_of z ≡ core_of s
   paired : z.paired ≡ s.paired
 
-kept_on : (s z y : MarksStore) → Kept s z → Kept z y → Kept s y
-kept_on s z y f g = record { core = g.core ∙ f.core; paired = g.paired ∙ f.paired }
-
-unframed_kept : (t : ℕ) (s : MarksStore) → Kept s (without_frame s t)
-unframed_kept t s = search (arith, cond_both, is_some, framed_same)
-
-slot_kept : (s : MarksStore) (t : ℕ) (o : Option ℕ) → Kept s (gives_up s t o)
-slot_kept s t o = search (arith, patch_same)
-
-given_kept : (t : ℕ) (s : MarksStore) → Kept s (given_up by_plain t s)
-given_kept t s = grind (arith, kept_on, unframed_kept, slot_kept)
-
 over_kept : (k : ℕ) (s : MarksStore) → Kept s (over k (given_up by_plain) s)
 unfolding L.over
 over_kept zero s = record { core = refl; paired = refl }
-over_kept (suc k) s = grind (arith, over_kept k s, kept_on, given_kept)
+over_kept (suc k) s = grind (arith, over_kept k s, cond_both, is_some, framed_same, patch_same)
 
 ended_kept : (before : ℕ) (s : MarksStore) → Had (noted_end by_plain before s) (λ y (_ : Unit {0}). Kept s y)
 ended_kept before s = asks_had (ended_asks by_plain (Kept s) (λ z t e. (search arith)) before s (search arith))

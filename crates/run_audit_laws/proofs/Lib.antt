@@ -21,6 +21,7 @@ mod Enough
 mod StepParts
 mod WorkEnds
 mod Lossless
+mod StepsLeft
 mod PieceLines
 mod Pieces
 mod PieceEvents

@@ -1,37 +1,27 @@
 -- How many tracks of a device are loose, and the number of the data of cache fast write, are numbers of 16 bits.
-use Rattle.std.proofs.Common.{◌≡◌, ◌≤◌, ◌<◌, ◌+◌, ◌*◌, ◌==◌, zero, suc, ℕ, Bool, true, false, List, [], ◌∷◌, length, Option, Some, None, refl, subst, if◌then◌else◌, arith}
+use Rattle.std.proofs.Common.{◌≤◌, ◌<◌, zero, suc, ℕ, List, [], ◌∷◌, Option, arith}
 use Rattle.std.proofs.lemmas.Bool.{eqb-false}
 use Rattle.std.proofs.lemmas.List.Sums.{count_by-le-length}
 use Rattle.ckd_types.specs.declared.channel.Ccw.{Ccw}
 use Rattle.plain_defs.specs.declared.journal.Act.{Act}
-use Rattle.plain_defs.specs.declared.journal.Act.TheVariants.{CfwLost, Harden, Loosen}
 use Rattle.plain_defs.specs.declared.journal.Acted.{Acted}
 use Rattle.plain_defs.specs.declared.journal.Item.{Item}
-use Rattle.plain_defs.specs.declared.journal.Item.TheVariants as items
-use Rattle.plain_defs.specs.History.{OpenEntry, state_by}
-use Rattle.plain_defs.specs.Journal.{Plans, effects_of, program_of, replay, replay_item}
-use Rattle.plain_defs.specs.Loose.{act_done, lost_by_power, next_number}
-use Rattle.plain_defs.specs.PlainState.{LooseTrack, PlainState}
+use Rattle.plain_defs.specs.Journal.{Plans, replay, replay_item}
+use Rattle.plain_defs.specs.Loose.{act_done}
+use Rattle.plain_defs.specs.PlainState.{PlainState}
 use Rattle.plain_defs.specs.Program as G
 use Rattle.plain_defs.specs.Program.{Part, acted_at, acts_at, first_part, part_of, command_run, stepped_at, with_act, with_acts}
 use Rattle.device_defs.specs.Marks.{MarksDevice}
 use Rattle.report_reading.specs.Ranges.{IsShort}
 use Rattle.subsystem_defs.specs.Beside.{loose_count}
-use Rattle.subsystem_defs.specs.Promised.{empty_of}
 use Rattle.subsystem_laws.proofs.PlainRuns.{Plainly}
 use Rattle.run_audit_laws.proofs.KnownDevices.{known}
 
 abbrev Small : PlainState → Type 0
 Small s = s.number < 65536
 
-one_on : (n : ℕ) → n < 65536 → (n ≡ 65535 → ⊥) → n + 1 < 65536
-one_on n less apart = omega (arith, less, apart)
-
-next_small : (n : ℕ) → n < 65536 → next_number n < 65536
-next_small n less = grind (arith, one_on, eqb-false)
-
 act_small : (s : PlainState) (act : Act) → Small s → Small (act_done s act)
-act_small s act h = grind (arith, next_small)
+act_small s act h = grind (arith, eqb-false)
 
 with_small : (acts : List Act) (p : Part) → Small p.state → Small (with_acts acts p).state
 with_small [] p h = h
@@ -40,32 +30,20 @@ with_small (act ∷ acts) p h = with_small acts (with_act p act) (act_small p.st
 acted_small : (acts : List Acted) (p : Part) (o : Option ℕ) → Small p.state → Small (acted_at acts p o).state
 acted_small acts p o h = grind (arith, with_small)
 
-stepped_small : (path : ℕ) (ccws : List Ccw) (p : Part) (o : Option ℕ) → Small p.state → Small (stepped_at path ccws p o).state
-stepped_small path ccws p o h = grind arith
-
 part_small : (s : PlainState) (path : ℕ) (ccws : List Ccw) (acts : List Acted) (k : ℕ) → Small s → Small (part_of s path ccws acts k).state
 unfolding G.part_of
 part_small s path ccws acts zero h = acted_small acts (first_part s path ccws) (first_part s path ccws).next h
-part_small s path ccws acts (suc k) h = grind (arith, part_small s path ccws acts k h, acted_small, stepped_small)
-
-power_small : (s : PlainState) (l : List LooseTrack) → Small s → Small (lost_by_power s l)
-power_small s l h = grind (arith, next_small)
+part_small s path ccws acts (suc k) h = grind (arith, part_small s path ccws acts k h, acted_small)
 
 item_small : (plans : Plans) (s : PlainState) (x : Item) → Small s → Small (replay_item plans s x)
-item_small plans s x h = grind (arith, part_small, act_small, power_small)
+item_small plans s x h = grind (arith, part_small, act_small, eqb-false)
 
 replay_small : (plans : Plans) (s : PlainState) (xs : List Item) → Small s → Small (replay plans s xs)
 replay_small plans s [] h = h
 replay_small plans s (x ∷ xs) h = replay_small plans (replay_item plans s x) xs (item_small plans s x h)
 
-state_small : (plans : Plans) (s : PlainState) (o : Option OpenEntry) → Small s → Small (state_by plans s o)
-state_small plans s o h = grind (arith, part_small)
-
 pub number_short : (d : MarksDevice) → Plainly d → IsShort d.store.number
-number_short d p = grind (arith, known, state_small, replay_small)
-
-few_loose : (n k c : ℕ) → n ≤ k → k ≡ c * 15 → c ≤ 64 → IsShort n
-few_loose n k c le is small = omega (arith, le, is, small)
+number_short d p = grind (arith, known, replay_small, part_small)
 
 pub count_short : (d : MarksDevice) → Plainly d → d.store.cylinders ≤ 64 → IsShort (loose_count d.store)
-count_short d p small = grind (arith, few_loose, count_by-le-length, known)
+count_short d p small = grind (arith, count_by-le-length, known)

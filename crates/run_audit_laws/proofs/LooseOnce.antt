@@ -1,7 +1,7 @@
 -- Each loose track of a plain device stands once in its list, so they are as many as a run's device has marked.
-use Rattle.std.proofs.Common.{◌≡◌, ◌<◌, ◌≤◌, ◌+◌, ◌==◌, ◌++◌, ℕ, zero, suc, Bool, true, false, not, List, [], ◌∷◌, length, Option, Some, None, cond, set, get_or, refl, sym, ap, subst, ◌∙◌, arith, inl, inr}
-use Rattle.std.specs.Prelude.{◌⊎◌, IfSome, IsSome, count_by, fold}
-use Rattle.std.proofs.lemmas.Bool.{cases_lt, eq-eqb, eqb-false, eqb-true, ne_eqb, true≢false}
+use Rattle.std.proofs.Common.{◌≡◌, ◌<◌, ◌+◌, ◌==◌, ◌++◌, ℕ, zero, suc, Bool, true, false, List, [], ◌∷◌, length, Option, None, cond, set, get_or, refl, sym, ap, ◌∙◌, arith}
+use Rattle.std.specs.Prelude.{count_by, fold}
+use Rattle.std.proofs.lemmas.Bool.{eq-eqb, eqb-false, eqb-true, ne_eqb}
 use Rattle.std.proofs.lemmas.List.{get_or-set_other, get_or-set_same, get_or_past}
 use Rattle.std.proofs.lemmas.List.Sums.{sum_by-set}
 use Rattle.ckd_types.specs.declared.channel.Ccw.{Ccw}
@@ -10,12 +10,12 @@ use Rattle.plain_defs.specs.declared.journal.Act.TheVariants.{Loosen, Harden, Cf
 use Rattle.plain_defs.specs.declared.journal.Acted.{Acted}
 use Rattle.plain_defs.specs.declared.journal.Item.{Item}
 use Rattle.plain_defs.specs.declared.journal.Item.TheVariants as items
-use Rattle.plain_defs.specs.History.{History, IsOpen, IsPlain, OpenEntry, plain_of, state_by}
+use Rattle.plain_defs.specs.History.{History, IsPlain, plain_of}
 use Rattle.plain_defs.specs.Journal.{Plans, program_of, replay, replay_item, effects_of}
 use Rattle.plain_defs.specs.Legal.{AreActs, HasActs, IsLegalFrom, bare_part, next_edit, track_of}
 use Rattle.plain_defs.specs.Loose.{act_done, is_loose_in, lost_by_power, without}
 use Rattle.plain_defs.specs.PlainState.{LooseTrack, PlainState}
-use Rattle.plain_defs.specs.Program.{Part, acted_at, acts_at, acts_done, part_of, stepped_at}
+use Rattle.plain_defs.specs.Program.{acts_at, acts_done, part_of}
 use Rattle.plain_defs.proofs.PartLemmas.{acted_beside, part_counts}
 use Rattle.device_laws.proofs.OpenProgram.{part_is_acted, with_acts_state}
 
@@ -58,31 +58,11 @@ module _ (state : PlainState) (path : ℕ) (ccws : List Ccw) (acts : List Acted)
 
   acted_once : (k : ℕ) → ActsAt k → StandOnce (bare_part state path ccws acts k).state.loose →
       StandOnce (part_of state path ccws acts k).state.loose
-  acted_once k a o =
-      let b = bare_part state path ccws acts k in
-      subst (λ (p : Part). StandOnce p.state.loose) (sym (part_is_acted path ccws state acts k)) (by_next b.next refl)
-    where
-      by_next : (n : Option ℕ) → (bare_part state path ccws acts k).next ≡ n → StandOnce (acted_at acts (bare_part state path ccws acts k) n).state.loose
-      by_next None is = o
-      by_next (Some i) is =
-          let b = bare_part state path ccws acts k in
-          let beside = acted_beside acts b in
-          let part = part_is_acted path ccws state acts k in
-          let runs : IsSome (part_of state path ccws acts k).next =
-          subst (λ (x : Option ℕ). IsSome x) (sym (ap (λ (p : Part). p.next) part ∙ beside.next ∙ is)) refl in
-          let many : length b.ends ≡ k =
-          ap length (sym (ap (λ (p : Part). p.ends) part ∙ beside.ends)) ∙ (part_counts path ccws acts state k).all runs in
-          subst (λ (s : PlainState). StandOnce s.loose)
-          (sym (with_acts_state (acts_at acts (length b.ends)) b))
-          (subst (λ (n : ℕ). StandOnce (acts_done b.state (acts_at acts n)).loose) (sym many)
-          (acts_once (acts_at acts k) b.state a.edited o a.are))
-
-  step_once : (p : Part) (n : Option ℕ) → StandOnce p.state.loose → StandOnce (stepped_at path ccws p n).state.loose
-  step_once p n o = grind arith
+  acted_once k a o = grind (arith, part_is_acted, acted_beside, part_counts, with_acts_state, acts_once)
 
   bare_once : (k : ℕ) → ((j : ℕ) → j < k → ActsAt j) → StandOnce state.loose → StandOnce (bare_part state path ccws acts k).state.loose
   bare_once zero a o = o
-  bare_once (suc k) a o = grind (arith, bare_once k, step_once, acted_once)
+  bare_once (suc k) a o = grind (arith, bare_once k, acted_once)
 
   pub part_once : (k : ℕ) → HasActs state path ccws acts k → StandOnce state.loose → StandOnce (part_of state path ccws acts k).state.loose
   part_once k h o =
@@ -101,14 +81,13 @@ module _ (plans : Plans) where
   pub items_once : (s : PlainState) (earlier xs : List Item) → StandOnce s.loose → IsLegalFrom plans s earlier xs → StandOnce (replay plans s xs).loose
   items_once s earlier [] o legal = o
   items_once s earlier (items.Program e ∷ xs) o legal =
-      items_once (replay_item plans s (items.Program e)) (earlier ++ items.Program e ∷ []) xs
-      (part_once s e.path (program_of plans e.path e.ordinal) e.acts (effects_of e.how e.ends) legal.0.0.acts o) legal.1
+      grind (arith, items_once (replay_item plans s (items.Program e)) (earlier ++ items.Program e ∷ []) xs (part_once s e.path (program_of plans e.path e.ordinal) e.acts (effects_of e.how e.ends) legal.0.0.acts o) legal.1, part_once)
   items_once s earlier (items.Reset p ∷ xs) o legal = items_once (replay_item plans s (items.Reset p)) (earlier ++ items.Reset p ∷ []) xs o legal.1
   items_once s earlier (items.Fresh ∷ xs) o legal = items_once (replay_item plans s items.Fresh) (earlier ++ items.Fresh ∷ []) xs tt legal.1
   items_once s earlier (items.Act act ∷ xs) o legal =
-      items_once (replay_item plans s (items.Act act)) (earlier ++ items.Act act ∷ []) xs (acts_once (act ∷ []) s None o legal.0) legal.1
+      grind (arith, items_once (replay_item plans s (items.Act act)) (earlier ++ items.Act act ∷ []) xs (acts_once (act ∷ []) s None o legal.0) legal.1, acts_once (act ∷ []) s None o legal.0)
   items_once s earlier (items.Power ∷ xs) o legal =
-      items_once (replay_item plans s items.Power) (earlier ++ items.Power ∷ []) xs (power_once s s.loose refl) legal.1
+      grind (arith, items_once (replay_item plans s items.Power) (earlier ++ items.Power ∷ []) xs (power_once s s.loose refl) legal.1, power_once s s.loose refl)
 
   pub plain_once : (empty : PlainState) (h : History) → empty.loose ≡ [] → IsPlain plans empty h → StandOnce (plain_of plans empty h).loose
   plain_once empty h none plain = grind (arith, items_once, part_once)
@@ -142,7 +121,7 @@ marked_count (x ∷ l) marks o same =
     others q lt = by_test (x.track == q) refl where
       by_test : (b : Bool) → (x.track == q) ≡ b → is_loose_in l q ≡ get_or (set marks x.track false) q false
       by_test true test =
-          subst (λ (k : ℕ). is_loose_in l k ≡ get_or (set marks x.track false) k false) (eqb-true x.track q test)
+          rw (← (eqb-true x.track q test))
           (o.0 ∙ sym (get_or-set_same marks x.track false false lt))
       by_test false test =
           sym (ap (λ (b : Bool). cond b true (is_loose_in l q)) test) ∙ same q

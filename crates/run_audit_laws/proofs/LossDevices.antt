@@ -1,41 +1,9 @@
 -- What a loss of the cache, of the store or of a side makes of a device: acts of cache fast write, and nothing else that an audit knows.
-use Rattle.std.proofs.Common.{
-  ◌≡◌,
-  ◌<◌,
-  ◌≤◌,
-  ◌++◌,
-  ◌*◌,
-  ◌==◌,
-  ℕ,
-  zero,
-  suc,
-  Bool,
-  true,
-  false,
-  List,
-  [],
-  ◌∷◌,
-  length,
-  Option,
-  Some,
-  None,
-  is_some,
-  set,
-  get_or,
-  refl,
-  sym,
-  ap,
-  subst,
-  ◌∙◌,
-  arith,
-  inl,
-  inr,
-}
+use Rattle.std.proofs.Common.{◌≡◌, ◌<◌, ◌≤◌, ◌++◌, ◌*◌, ℕ, zero, suc, Bool, true, false, List, [], ◌∷◌, length, Option, None, is_some, get_or, refl, sym, ap, subst, ◌∙◌, arith, inl, inr}
 use Rattle.std.specs.Prelude.{◌⊎◌, if◌then◌else◌}
-use Rattle.std.proofs.lemmas.Bool.{cases_lt, cond_both, eqb-false, eqb-true, true≢false}
+use Rattle.std.proofs.lemmas.Bool.{cases_lt, cond_both, eqb-false, true≢false}
 use Rattle.std.proofs.lemmas.List.{get_or-set_other, get_or-set_same, get_or_past, length-set}
 use Rattle.ckd_types.specs.declared.paths.Side.{Side}
-use Rattle.ckd_types.specs.declared.paths.Side.TheVariants as sides
 use Rattle.loss_model.specs.declared.Loss.{Loss}
 use Rattle.loss_model.specs.declared.Loss.TheVariants as losses
 use Rattle.plain_defs.specs.declared.journal.Act.{Act}
@@ -75,25 +43,12 @@ use Rattle.device_defs.specs.Losses.{
 }
 use Rattle.device_defs.specs.Marks.{MarksDevice, MarksStore}
 use Rattle.device_defs.specs.Owed.{noted_begin, hear, waiting_count}
-use Rattle.device_defs.specs.Store.{
-  frame_at,
-  half_is,
-  has_level,
-  has_loose,
-  is_loose,
-  is_lost,
-  owed_at,
-  patch_at,
-  tracks_of,
-  with_frame,
-  with_lost,
-}
-use Rattle.device_defs.specs.Store as store
+use Rattle.device_defs.specs.Store.{has_loose, is_loose, patch_at, tracks_of, with_lost}
 use Rattle.device_laws.proofs.CacheLost.{none_below}
 use Rattle.device_laws.proofs.Had.{Had, had_done, had_if, had_tell, had_then, had_weaker}
 use Rattle.device_laws.proofs.PlainEvents.{had_both}
 use Rattle.device_laws.proofs.PlainLosses.{Walked, losing_goes, walks_first}
-use Rattle.device_laws.proofs.PlainStores.{Core, Open, Stays, core_of, hardened_core, loose_at}
+use Rattle.device_laws.proofs.PlainStores.{Core, core_of, hardened_core, loose_at}
 use Rattle.device_laws.proofs.PlainTurns.{Follows}
 use Rattle.device_laws.proofs.PlainWalks.{ended_same, framed_same, over_holds, settled_holds, side_holds, told_holds}
 use Rattle.device_laws.proofs.PoolWalks.{asks_had, hear_asks}
@@ -215,23 +170,17 @@ loose_of c = is_some (least (c.cylinders * 15) (λ t. get_or c.loose t false))
 
 -- The store: a track with a patch isn't loose, so none becomes firm
 
-removed : (l : List (Option (Unit {0}))) (t q : ℕ) → is_some (get_or (set l t None) q None) ≡ true → is_some (get_or l q None) ≡ true
-removed l t q is = grind (arith, get_or-set_same, length-set, get_or_past, get_or-set_other, eqb-false)
-
 -- no act came, as many are loose, and no more have a patch
 record Fewer (s z : MarksStore) : Type 0 where
   acts : z.acts ≡ s.acts
   loose : (q : ℕ) → is_loose z q ≡ is_loose s q
   patches : (q : ℕ) → is_some (patch_at z q) ≡ true → is_some (patch_at s q) ≡ true
 
-fewer_same : (s : MarksStore) → Fewer s s
-fewer_same s = record { acts = refl; loose = λ q. refl; patches = λ q is. is }
-
 fewer_on : (s z y : MarksStore) → Fewer s z → Fewer z y → Fewer s y
 fewer_on s z y f g = search arith
 
 slot_fewer : (s : MarksStore) (t : ℕ) (o : Option ℕ) → Fewer s (gives_up s t o)
-slot_fewer s t o = search (arith, fewer_same, removed)
+slot_fewer s t o = search (arith, get_or-set_same, length-set, get_or_past, get_or-set_other, eqb-false)
 
 patch_fewer : (s : MarksStore) (t : ℕ) → Fewer s (without_patch by_plain s t)
 patch_fewer s t = slot_fewer s t (slot_in by_plain (patch_at s t))
@@ -239,18 +188,9 @@ patch_fewer s t = slot_fewer s t (slot_in by_plain (patch_at s t))
 lost_fewer : (s : MarksStore) (t : ℕ) → Fewer s (lost_now by_plain s t)
 lost_fewer s t = let z = with_lost s t in fewer_on s z (lost_now by_plain s t) (search arith) (patch_fewer z t)
 
-kept_fewer : (s : MarksStore) (t : ℕ) (m : Bool) → Fewer s (kept_by_frame by_plain s t m)
-kept_fewer s t m = search (arith, cond_both, fewer_same)
-
-frame_fewer : (s : MarksStore) (t : ℕ) → is_loose s t ≡ false → (o : Option Bool) → Fewer s (by_frame by_plain s t o)
-frame_fewer s t firm o = grind (arith, cond_both, kept_fewer, fewer_same, lost_fewer)
-
 settled_fewer : (s : MarksStore) (t : ℕ) → is_loose s t ≡ false → Fewer s (settled by_plain s t)
 unfolding L.settled
-settled_fewer s t firm = grind (arith, cond_both, is_some, fewer_same, frame_fewer)
-
-everywhere_fewer : (s : MarksStore) (t : ℕ) → Fewer s (stale_everywhere s t)
-everywhere_fewer s t = search arith
+settled_fewer s t firm = grind (arith, cond_both, is_some, lost_fewer)
 
 -- whatever has a patch isn't loose
 abbrev pub PatchedAreFirm : MarksStore → Type 0
@@ -260,18 +200,8 @@ record NoAct (s : MarksStore) : Type 0 where
   none : s.acts ≡ []
   firm : PatchedAreFirm s
 
-no_act_on : (s z : MarksStore) → NoAct s → Fewer s z → NoAct z
-no_act_on s z a f = record { none = f.acts ∙ a.none; firm = λ q is. f.loose q ∙ a.firm q (f.patches q is) }
-
 one_patch : (t : ℕ) (s : MarksStore) → NoAct s → NoAct (patch_lost by_plain t s)
-one_patch t s a =
-    let z = without_patch by_plain s t in
-    let y = stale_everywhere z t in
-    cond_both (is_some (patch_at s t)) (if half_is s.half t then z else settled by_plain y t) s NoAct
-    (λ there. cond_both (half_is s.half t) z (settled by_plain y t) NoAct (λ _. no_act_on s z a (patch_fewer s t))
-    (λ _. let f = fewer_on s z y (patch_fewer s t) (everywhere_fewer z t) in
-    no_act_on s (settled by_plain y t) a (fewer_on s y (settled by_plain y t) f (settled_fewer y t (f.loose t ∙ a.firm t there)))))
-    (λ _. a)
+one_patch t s a = grind (arith, cond_both, patch_fewer, fewer_on, settled_fewer)
 
 all_patches : (k : ℕ) (s : MarksStore) → NoAct s → NoAct (over k (patch_lost by_plain) s)
 unfolding L.over

@@ -1,13 +1,13 @@
 -- FAIL STORE, which tells nothing of the devices, and FAIL VOLUME, which tells of each track that becomes firm.
-use Rattle.std.proofs.Common.{arith, ◌≡◌, ◌++◌, ℕ, Bool, true, false, not, List, [], ◌∷◌, map, Option, Some, None, refl, sym, ap, subst, ◌∙◌, if◌then◌else◌, inl}
-use Rattle.std.specs.Prelude.{◌||◌, IfSome, Ok, Err}
+use Rattle.std.proofs.Common.{arith, ◌≡◌, ◌++◌, ℕ, Bool, true, false, not, List, [], ◌∷◌, map, Option, Some, None, refl, sym, ap, subst, ◌∙◌, if◌then◌else◌}
+use Rattle.std.specs.Prelude.{IfSome, Ok, Err}
 use Rattle.ckd_types.specs.declared.paths.Side.{Side}
 use Rattle.deck_plan.specs.declared.event.EventLine.{EventLine}
 use Rattle.deck_plan.specs.declared.event.EventLine.TheVariants as wanted
 use Rattle.loss_model.specs.declared.Loss.TheVariants as losses
 use Rattle.plain_defs.specs.declared.journal.Act.{Act}
 use Rattle.plain_defs.specs.declared.journal.Act.TheVariants.{Loosen, Harden, CfwLost}
-use Rattle.plain_defs.specs.History.{IsPlain, acted, plain_of}
+use Rattle.plain_defs.specs.History.{IsPlain, acted}
 use Rattle.plain_defs.specs.Legal.{AreActs}
 use Rattle.plain_defs.specs.Loose.{is_loose_there}
 use Rattle.plain_defs.specs.PlainState.{PlainState}
@@ -30,11 +30,9 @@ use Rattle.report_text.specs.declared.order.Order.TheVariants as orders
 use Rattle.report_places.specs.declared.state.Due.TheVariants.{Next}
 use Rattle.deck_audit.specs.Device as A
 use Rattle.deck_audit.specs.Device.{AuditedDevice, state_of, with_device}
-use Rattle.deck_audit.specs.History.{act_made, harden_made}
-use Rattle.deck_audit.specs.State.{AuditState, passed, then_of}
+use Rattle.deck_audit.specs.State.{AuditState, passed}
 use Rattle.report_auditor.specs.declared.status.AuditWhy.TheVariants.{Place}
 use Rattle.report_auditor.specs.Verdict.{judged, or_history}
-use Rattle.run_report.specs.Answers.{order_answer}
 use Rattle.run_report.specs.Beside.{loose_lines, over_lines}
 use Rattle.run_report.specs.Events.{event_lines, work_lines}
 use Rattle.run_report.specs.OneDevice.{lines_at}
@@ -91,19 +89,11 @@ store_swept (m ∷ ms) pool p g =
 module _ (s : Subsystem) (plain : ArePlain s.mounted) (good : AreSo Good s.mounted) where
   store_leads : EventLeads s wanted.FailStore (Once events.FailStore)
       (quietly s (swept (sweep (λ x. lose by_plain x losses.Store) s.mounted (store_failed s.pool))) ends.Done)
-  store_leads later =
-      let e = wanted.FailStore in
-      let behind = swept (sweep (λ x. lose by_plain x losses.Store) s.mounted (store_failed s.pool)) in
-      let is = store_swept s.mounted (store_failed s.pool) plain good in
-      told_leads s e orders.FailStore (Once events.FailStore) fails_store behind ends.Done later
-      (silent_lines orders.FailStore answers.Done (devices_of s) (devices_of behind) is.silent)
-      (ap (λ (l : List AuditedDevice). Some (record { devices = l; events = later; due = (stand s later).due })) (sym is.audits))
+  store_leads later = grind (arith, store_swept, told_leads, fails_store, silent_lines)
 
   pub fail_store_leads : EventLeads s wanted.FailStore (Once events.FailStore) (happens s events.FailStore)
   unfolding H.happens E.deed
-  fail_store_leads =
-      down_or s wanted.FailStore orders.FailStore (Once events.FailStore) fails_store (not s.pool.store_up)
-      (Each (store_failed s.pool) (λ x. lose by_plain x losses.Store)) store_leads
+  fail_store_leads = search (arith, down_or, fails_store, not, store_leads)
 
 -- FAIL VOLUME
 
@@ -120,14 +110,7 @@ module _ (xs : List AuditedDevice) (n : ℕ) (side : Side) (later : List EventLi
 
   harden_judged : (a : AuditedDevice) → a.number ≡ n → (t : ℕ) → is_loose_there (state_of a) t ≡ true →
       judged (at a) (lines.Loose n (loose.Harden t)) ≡ Ok (at (record a { history = acted a.history (Harden t) }))
-  harden_judged a same t is =
-      let s = at a in
-      let line = lines.Loose n (loose.Harden t) in
-      let b = record a { history = acted a.history (Harden t) } in
-      ap (λ (c : Bool). if c || false then or_history (then_of (A.device_in s.devices n) (λ k. harden_made s k t Next)) else Err Place) (same_number n)
-      ∙ ap or_history (then_some (A.device_in s.devices n) a (λ k. harden_made s k t Next) (found_put xs n first a has same))
-      ∙ ap (λ (c : Bool). or_history (if c then Some (act_made s a (Harden t) Next) else None)) is
-      ∙ ap (λ (l : List AuditedDevice). Ok (record { devices = l; events = wanted.FailVolume n side ∷ later; due = s.due })) (put_again xs a b refl)
+  harden_judged a same t is = grind (arith, same_number, then_some, found_put, put_again)
 
   hardens_lead : (a : AuditedDevice) → a.number ≡ n → (acts : List Act) → IsPlain a.plans a.empty a.history → NoLoss acts → AreActs (state_of a) None acts →
       LeadsBy (at a) (map (act_line n) acts) (at (record a { history = all_acted a.history acts }))

@@ -1,18 +1,14 @@
 -- The paths and devices that the events of a deck that was read name are in their ranges.
-use Rattle.std.proofs.Common.{arith, ◌≡◌, ◌<◌, ◌==◌, zero, suc, ℕ, Bool, true, false, List, [], ◌∷◌, map, Ok, refl, subst}
-use Rattle.std.specs.Prelude.{◌||◌, All, Result}
-use Rattle.std.proofs.lemmas.Bool.{cond_both, eqb-true}
+use Rattle.std.proofs.Common.{arith, ◌≡◌, ◌<◌, zero, suc, ℕ, true, List, [], ◌∷◌, map, Ok}
+use Rattle.std.specs.Prelude.{All, Result}
+use Rattle.std.proofs.lemmas.Bool.{cond_both}
 use Rattle.std.proofs.lemmas.List.Elements.{All-append, All-cons, All-head, All-nil, All-tail}
 use Rattle.deck_plan.specs.declared.event.EventLine.{EventLine}
-use Rattle.deck_plan.specs.declared.event.EventLine.TheVariants as wanted
 use Rattle.deck_text.specs.declared.line.DeckWhy.{DeckWhy}
-use Rattle.deck_text.specs.declared.line.DeckWhy.TheVariants.{Number, Words}
 use Rattle.deck_text.specs.declared.line.DeviceLine.{DeviceLine}
 use Rattle.deck_text.specs.DeckLines.{DeckLines}
-use Rattle.deck_text.specs.Forms.{then_read, device_of, is_declared, needed, path_and_device, path_of}
-use Rattle.deck_text.specs.Numbers.{number_in}
+use Rattle.deck_text.specs.Forms.{then_read, is_declared, path_and_device}
 use Rattle.deck_text.specs.Parse.{parsed}
-use Rattle.deck_text.specs.Words.{two_words}
 use Rattle.deck_text.proofs.DeckAgain.{Each, EventOk}
 use Rattle.deck_text.proofs.EventsAgain.{behind_of}
 use Rattle.deck_text.proofs.FormsAgain.{if_ok, needed_is, number_range, went}
@@ -22,12 +18,9 @@ use Rattle.subsystem_defs.specs.declared.event.Event.{Event}
 use Rattle.subsystem_defs.specs.declared.event.Event.TheVariants as events
 use Rattle.subsystem_defs.specs.Decks as D
 use Rattle.subsystem_defs.specs.Decks.{opened, run_of}
-use Rattle.subsystem_defs.specs.Happening.{happens}
 use Rattle.subsystem_defs.specs.Lines as L
 use Rattle.subsystem_defs.specs.Lines.{Asked, Logged, Once, Replace, Run, Settle, Unpair, asked_by, backs, is_busy, is_settled, last_behind, line_logged, logged, most_backs, most_steps, run_lines, step_logged, steps}
-use Rattle.subsystem_defs.specs.Subsystem.{Subsystem, mounted_in}
-use Rattle.subsystem_defs.specs.Happening.{quietly}
-use Rattle.subsystem_defs.specs.declared.end.EventEnd.TheVariants as ends
+use Rattle.subsystem_defs.specs.Subsystem.{Subsystem}
 use Rattle.subsystem_laws.specs.Waits.{AreNumbered}
 use Rattle.subsystem_laws.proofs.ReadDecks.{read_numbered}
 use Rattle.run_audit_laws.proofs.DeckEvents.{OfNamed, read_names}
@@ -66,12 +59,9 @@ module _ (P : Asked → Type 0) where
   backs_of zero d s p = All-nil Of
   backs_of (suc n) d s p = grind (arith, backs_of n d, cond_both)
 
-  one_of : (t : Logged) → P t.asked → All Of (t ∷ [])
-  one_of t p = All-cons Of t [] p (All-nil Of)
-
   line_of : (x : Asked) (s : Subsystem) → P x → All Of (line_logged s x)
   unfolding L.line_logged
-  line_of x s p = grind (arith, cond_both, steps_of, one_of, backs_of)
+  line_of x s p = grind (arith, cond_both, steps_of, backs_of)
 
   pub lines_of : (xs : List Asked) (s : Subsystem) → All P xs → All Of (run_lines xs s)
   unfolding L.run_lines
@@ -86,13 +76,10 @@ declared_small : (seen : List ℕ) (ds : List DeviceLine) → AreNumbered seen d
 declared_small seen [] are n is = absurd (cc)
 declared_small seen (d ∷ ds) are n is = grind (arith, declared_small (d.number ∷ seen) ds are.2 n)
 
-path_range : (devices : List DeviceLine) (words : List (List ℕ)) (at : ℕ × ℕ) → path_and_device devices words ≡ Ok at → IsPath at.0
-path_range devices words at h = search (arith, went, number_range, needed_is, if_ok)
-
 module _ (f : ℕ → ℕ → EventLine) (same : (p q x y : ℕ) → ◌≡◌ {A = Result EventLine DeckWhy} (Ok (f p x)) (Ok (f q y)) → p ≡ q) where
   path_is : (devices : List DeviceLine) (words : List (List ℕ)) (path d : ℕ) →
       then_read (path_and_device devices words) (λ at. Ok (f at.0 at.1)) ≡ Ok (f path d) → IsPath path
-  path_is devices words path d h = grind (arith, went, path_range)
+  path_is devices words path d h = grind (arith, went, number_range, needed_is, if_ok)
 
 module _ (devices : List DeviceLine) (small : (n : ℕ) → is_declared devices n ≡ true → n < 16) where
   event_names : (e : EventLine) → EventOk devices e → OfNamed (λ d. is_declared devices d ≡ true) e → Names (asked_by e)

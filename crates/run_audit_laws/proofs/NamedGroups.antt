@@ -1,12 +1,10 @@
 -- On a plain device whose programs give bytes each path group has a name of eleven bytes, and who holds the device is such a group or a path.
-use Rattle.std.proofs.Common.{arith, ◌≡◌, ◌==◌, ◌-◌, ℕ, Bool, true, false, List, [], ◌∷◌, map, Option, Some, None, if◌then◌else◌}
+use Rattle.std.proofs.Common.{arith, ◌≡◌, ◌-◌, ℕ, Bool, true, false, List, [], ◌∷◌, map, Option, if◌then◌else◌}
 use Rattle.std.specs.Prelude.{All, IfSome, slice_index_or, slice_set}
-use Rattle.std.specs.List.{list_any}
-use Rattle.std.proofs.lemmas.List.Elements.{All-cons, All-head, All-nil, All-set, All-tail}
+use Rattle.std.proofs.lemmas.List.Elements.{All-head, All-nil, All-set, All-tail}
 use Rattle.ckd_types.specs.declared.channel.Ccw.{Ccw}
 use Rattle.ckd_types.specs.declared.paths.GroupId.{GroupId}
 use Rattle.ckd_types.specs.declared.paths.Owner.{Owner}
-use Rattle.ckd_types.specs.declared.paths.Owner.TheVariants.{Group, Path}
 use Rattle.ckd_types.specs.declared.paths.PathState.{PathState}
 use Rattle.ckd_types.specs.declared.paths.PathState.TheVariants.{Grouped, Reset, Ungrouped}
 use Rattle.ckd_types.specs.Fixed.{Fixed}
@@ -15,9 +13,9 @@ use Rattle.ckd_rules.specs.declared.grouping.GroupFault.{GroupFault}
 use Rattle.ckd_rules.specs.declared.opening.Opening.{Opening}
 use Rattle.ckd_rules.specs.declared.opening.Opening.TheVariants as openings
 use Rattle.ckd_rules.specs.declared.order.LocalAct.{LocalAct}
-use Rattle.ckd_rules.specs.declared.order.LocalAct.TheVariants.{Release, Reserve, Sense, SenseGroup, SenseId, SetGroup, Steal}
+use Rattle.ckd_rules.specs.declared.order.LocalAct.TheVariants.{SetGroup}
 use Rattle.ckd_rules.specs.declared.stance.Stance.{Stance}
-use Rattle.ckd_rules.specs.Grouping.{disbanded, establishes, is_in_group, owner_after, owner_by, owner_joined, owner_left, owner_set, paths_set, resigns, asks_multipath}
+use Rattle.ckd_rules.specs.Grouping.{disbanded, establishes, is_in_group, owner_after, owner_by, owner_left, paths_set, resigns, asks_multipath}
 use Rattle.plain_defs.specs.Acts.{act_fault, paths_after}
 use Rattle.plain_defs.specs.Effect.{acted_by, effect_by}
 use Rattle.plain_defs.specs.PlainState.{PathsState, reset_path}
@@ -38,14 +36,8 @@ pub record AreNamed (p : PathsState) : Type 0 where
 owner_named : (state : PathState) (path : ℕ) → IsPath path → Named state → IsOwner (owner_by state path)
 owner_named state path p n = grind arith
 
-kept_if : (b : Bool) (o : Owner) → IsOwner o → IfSome (if b then Some o else None) IsOwner
-kept_if b o h = grind arith
-
-freed_if : (b : Bool) (o : Owner) → IsOwner o → IfSome (if b then None else Some o) IsOwner
-freed_if b o h = grind arith
-
 after_named : (paths : List PathState) (path : ℕ) (o : Option Owner) → IfSome o IsOwner → IfSome (owner_after paths path o) IsOwner
-after_named paths path o h = grind (arith, freed_if, kept_if)
+after_named paths path o h = grind arith
 
 pub reset_named : (p : PathsState) (path : ℕ) → AreNamed p → AreNamed (reset_path p path)
 reset_named p path n = record {
@@ -61,9 +53,7 @@ module _ (id : GroupId) (bytes : AreBytes 11 id.bytes) where
 
   all_left : (xs : List PathState) → All Named xs → All Named (map (disbanded id) xs)
   all_left [] all = All-nil Named
-  all_left (x ∷ xs) all =
-      All-cons Named (disbanded id x) (map (disbanded id) xs) (left_if (is_in_group id x) x (All-head Named x xs all))
-      (all_left xs (All-tail Named x xs all))
+  all_left (x ∷ xs) all = grind (arith, left_if (is_in_group id x) x (All-head Named x xs all), all_left xs (All-tail Named x xs all))
 
   states_set : (xs : List PathState) (path function : ℕ) → All Named xs → All Named (paths_set xs path function id)
   states_set xs path function all = by_tests (establishes function) (resigns function) where
@@ -72,22 +62,6 @@ module _ (id : GroupId) (bytes : AreBytes 11 id.bytes) where
     by_tests true b = All-set Named xs (path - 1) (Grouped id (asks_multipath function)) bytes all
     by_tests false true = All-set Named xs (path - 1) Ungrouped tt all
     by_tests false false = all_left xs all
-
-  joined_if : (b : Bool) (q : ℕ) → IsPath q → IsOwner (if b then Group id else Path q)
-  joined_if b q p = grind arith
-
-  joined : (path : ℕ) (o : Owner) → IsOwner o → IsOwner (owner_joined id path o)
-  joined path o h = grind (arith, joined_if)
-
-  stays_if : (b : Bool) (g : GroupId) (path : ℕ) → IsPath path → AreBytes 11 g.bytes → IsOwner (if b then Group g else Path path)
-  stays_if b g path p h = grind arith
-
-  left : (xs : List PathState) (path : ℕ) → IsPath path → (o : Owner) → IsOwner o → IsOwner (owner_left xs path o)
-  left xs path p o h = grind (arith, stays_if)
-
-  set_owner : (xs : List PathState) (path function : ℕ) → IsPath path → (o : Option Owner) → IfSome o IsOwner →
-      IfSome (owner_set xs path function id o) IsOwner
-  set_owner xs path function p o h = grind (arith, joined, left)
 
 -- Acts and effects
 
@@ -105,7 +79,7 @@ module _ (p : PathsState) (path : ℕ) (is : IsPath path) (n : AreNamed p) where
   reserved_named = owner_named (slice_index_or p.states (path - 1) Reset) path is (at_or Named Reset tt p.states (path - 1) n.states)
 
   pub act_named : (act : LocalAct) → ActNamed act → AreNamed (paths_after p path act)
-  act_named act h = search (arith, reserved_named, states_set, set_owner)
+  act_named act h = search (arith, reserved_named, states_set)
 
   acted_named : (device : Fixed) (s : Stance) (c : Ccw) (act : LocalAct) → ActNamed act → (o : Option GroupFault) →
       AreNamed (acted_by device p path s c act o).paths

@@ -1,39 +1,26 @@
 -- A command whose word gives bytes asks for a path group by eleven bytes, and sends none where it is over before it looks at a track or asks the device.
-use Rattle.std.proofs.Common.{ℕ, Bool, true, false, Option, Some, None, Result, Ok, Err, refl, if◌then◌else◌, arith}
-use Rattle.std.specs.Prelude.{IfSome, drop, nat_lt, not, take}
+use Rattle.std.proofs.Common.{Bool, Option, Result, Ok, Err, if◌then◌else◌, arith}
+use Rattle.std.specs.Prelude.{IfSome, drop, take}
 use Rattle.std.proofs.lemmas.List.{length-drop, length-take}
 use Rattle.std.proofs.lemmas.List.Elements.{All-drop, All-take}
 use Rattle.ckd_types.specs.declared.channel.Ccw.{Ccw}
 use Rattle.ckd_types.specs.declared.command.Command.{Command}
 use Rattle.ckd_types.specs.declared.command.Control.{Control}
 use Rattle.ckd_types.specs.declared.command.DeviceCommand.{DeviceCommand}
-use Rattle.ckd_types.specs.declared.command.DeviceCommand.TheVariants as devices
-use Rattle.ckd_types.specs.declared.command.Read.{Read}
-use Rattle.ckd_types.specs.declared.command.ReadArea.{ReadArea}
 use Rattle.ckd_types.specs.declared.parameters.Domain.{Domain}
-use Rattle.ckd_types.specs.declared.parameters.Extent.{Extent}
 use Rattle.ckd_types.specs.declared.sense.Sense.{Sense}
 use Rattle.ckd_types.specs.Commands.{command_of}
-use Rattle.ckd_types.specs.Commands.{required_count}
 use Rattle.ckd_types.specs.Fixed.{Fixed}
-use Rattle.ckd_types.specs.declared.parameters.ParamFault.{ParamFault}
 use Rattle.ckd_types.specs.Parameters.{given}
 use Rattle.ckd_rules.specs.declared.order.Look.{Look}
 use Rattle.ckd_rules.specs.declared.order.CommandOrder.{CommandOrder}
 use Rattle.ckd_rules.specs.declared.stance.Place.{Place}
 use Rattle.ckd_rules.specs.declared.stance.Stance.{Stance}
-use Rattle.ckd_rules.specs.Control.{unseen_place}
-use Rattle.ckd_rules.specs.Finding.{track_after}
 use Rattle.ckd_types.specs.declared.command.Command.TheVariants as commands
-use Rattle.ckd_types.specs.declared.command.Control.TheVariants as controls
-use Rattle.ckd_types.specs.declared.command.ReadArea.TheVariants as reads
-use Rattle.ckd_types.specs.declared.command.Write.TheVariants as writes
-use Rattle.ckd_rules.specs.declared.order.Look.TheVariants as looks
 use Rattle.ckd_rules.specs.declared.order.CommandOrder.TheVariants as orders
-use Rattle.ckd_rules.specs.declared.stance.Place.TheVariants as places
 use Rattle.ckd_rules.specs.Checks as C
 use Rattle.ckd_rules.specs.Checks.{device_act}
-use Rattle.ckd_rules.specs.Opening.{begun, locating, look_from, moved, opening_with, opening_of, read_from}
+use Rattle.ckd_rules.specs.Opening.{locating, look_from, opening_with, opening_of}
 use Rattle.plain_defs.specs.Whole.{GivesBytes}
 use Rattle.report_reading.specs.Ranges.{AreBytes}
 use Rattle.run_audit_laws.proofs.GivenBytes.{IsByte, as_bytes, padded_are, padded_length}
@@ -41,11 +28,7 @@ use Rattle.run_audit_laws.proofs.NamedGroups.{ActNamed, OpeningIn}
 
 named_bytes : (c : Ccw) → GivesBytes c → AreBytes 11 (take 11 (drop 1 (given 16 c)))
 named_bytes c gives =
-    record {
-      count = omega (arith, padded_length 16 c.given, length-drop 1 (given 16 c), (length-take 11 (drop 1 (given 16 c))));
-      each = as_bytes (take 11
-          (drop 1 (given 16 c))) (All-take IsByte 11 (drop 1 (given 16 c)) (All-drop IsByte 1 (given 16 c) (padded_are 16 c.given gives)));
-    }
+    grind (arith, padded_length 16 c.given, length-drop 1 (given 16 c), length-take 11 (drop 1 (given 16 c)), as_bytes (take 11 (drop 1 (given 16 c))) (All-take IsByte 11 (drop 1 (given 16 c)) (All-drop IsByte 1 (given 16 c) (padded_are 16 c.given gives))), padded_are 16 c.given gives)
 
 device_named : (c : Ccw) → GivesBytes c → (d : DeviceCommand) → ActNamed (device_act (given 16 c) d)
 device_named c gives d = grind (arith, named_bytes)
@@ -58,21 +41,12 @@ abbrev ResultIn : Result CommandOrder Sense → Type 0
 ResultIn (Ok order) = OrderIn order
 ResultIn (Err sense) = Unit {0}
 
-some_if : (b : Bool) (order : CommandOrder) → OrderIn order → IfSome (if b then Some order else None) OrderIn
-some_if b order h = grind arith
-
 either_in : (b : Bool) (x y : Result CommandOrder Sense) → ResultIn x → ResultIn y → ResultIn (if b then x else y)
 either_in b x y h k = grind arith
 
 module _ (s : Stance) (c : Ccw) where
-  went : (look : Look) (t : Result ℕ Sense) → OpeningIn (moved s c look t).opening
-  went look t = grind arith
-
-  read_in : (r : Read) (area : ReadArea) (place : Place) → OpeningIn (read_from s c r area place).opening
-  read_in r area place = grind (arith, went)
-
   look_in : (look : Look) → OpeningIn (look_from s c look).opening
-  look_in look = grind (arith, went, read_in)
+  look_in look = grind arith
 
   locating_in : (d : Domain) (o : Option Place) → OpeningIn (locating s c d o).opening
   locating_in d o = grind arith
@@ -82,18 +56,15 @@ module _ (s : Stance) (c : Ccw) where
 
 module _ (f : Fixed) (s : Stance) (c : Ccw) (gives : GivesBytes c) where
   control_in : (k : Control) → IfSome (C.control_order f s (given 16 c) k) OrderIn
-  control_in k = grind (arith, some_if)
+  control_in k = grind arith
 
   decoded_in : (k : Command) → IfSome (C.decoded_order f s c k) OrderIn
   decoded_in (commands.Control k) = control_in k
   decoded_in (commands.Device d) = device_named c gives d
   decoded_in k = tt
 
-  masked_in : (order : CommandOrder) → OrderIn order → (o : Option Sense) → ResultIn (C.masked_order s order o)
-  masked_in order k o = grind (arith, either_in)
-
   permitted_in : (k : Command) (o : Option CommandOrder) → IfSome o OrderIn → ResultIn (C.permitted_order s k o)
-  permitted_in k o h = grind (arith, masked_in)
+  permitted_in k o h = grind (arith, either_in)
 
   order_in : (o : Option Command) → ResultIn (C.order_by f s c o)
   order_in o = grind (arith, either_in, permitted_in, decoded_in)

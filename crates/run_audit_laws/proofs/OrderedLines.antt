@@ -1,25 +1,19 @@
 -- An event line at which something is lost, or two devices become a pair or part, behind the run of a deck.
-use Rattle.std.proofs.Common.{◌≡◌, ◌≤◌, ℕ, List, [], ◌∷◌, Option, Some, None, refl, arith}
+use Rattle.std.proofs.Common.{◌≡◌, ◌≤◌, ℕ, List, [], ◌∷◌, refl, arith}
 use Rattle.std.specs.Prelude.{Ok}
 use Rattle.deck_plan.specs.declared.event.EventLine.{EventLine}
-use Rattle.deck_plan.specs.declared.event.EventLine.TheVariants as wanted
 use Rattle.deck_text.specs.DeckLines.{DeckLines}
 use Rattle.deck_text.specs.Parse.{parsed}
-use Rattle.subsystem_defs.specs.declared.end.OrderFault.{OrderFault}
-use Rattle.subsystem_defs.specs.declared.event.Event.TheVariants as events
 use Rattle.subsystem_defs.specs.Decks.{opened, run_of}
-use Rattle.subsystem_defs.specs.Deeds.{device_in}
 use Rattle.subsystem_defs.specs.Happening as H
 use Rattle.subsystem_defs.specs.Happening.{unpaired, unpaired_at, unpaired_by}
 use Rattle.subsystem_defs.specs.Lines as L
 use Rattle.subsystem_defs.specs.Lines.{Unpair, asked_by, last_behind, line_logged, logged}
-use Rattle.subsystem_defs.specs.Refusals.{unpair_fault}
-use Rattle.subsystem_defs.specs.Subsystem.{Mounted, Subsystem, devices_of, mounted_in, unfailing}
+use Rattle.subsystem_defs.specs.Subsystem.{Subsystem, unfailing}
 use Rattle.run_audit_laws.specs.Ordered.{AllLead, IsLossOrPair, IsNoWork}
-use Rattle.run_audit_laws.specs.Standing.{HasDevice, LineLeads}
+use Rattle.run_audit_laws.specs.Standing.{LineLeads}
 use Rattle.run_audit_laws.proofs.Behind.{AllSo, IsBehind, deck_all_so, rising, run_is_behind}
 use Rattle.run_audit_laws.proofs.CacheLines.{fail_cache_leads}
-use Rattle.run_audit_laws.proofs.DeckEvents.{OfNamed}
 use Rattle.run_audit_laws.proofs.LossLines.{fail_store_leads, fail_volume_leads}
 use Rattle.run_audit_laws.proofs.PairLines.{pair_leads, unpair_leads}
 use Rattle.run_audit_laws.proofs.PowerLines.{power_leads}
@@ -40,22 +34,7 @@ module _ (numbers : List ℕ) (s : Subsystem) (k : IsBehind numbers s) where
 
   pub ordered_leads : (e : EventLine) → IsLossOrPair s e → LineLeads s e
   ordered_leads e has =
-      grind (
-        arith,
-        once,
-        fail_cache_leads,
-        rising,
-        fail_store_leads,
-        some_device,
-        fail_volume_leads,
-        pair_leads,
-        one_line,
-        unpair_logged,
-        unpaired_before,
-        unpair_leads,
-        few,
-        power_leads,
-      )
+      grind (arith, once, fail_cache_leads, rising, fail_store_leads, some_device, fail_volume_leads, pair_leads, one_line, unpair_logged, unpaired_before, unpair_leads, few, power_leads)
 
 -- Decks
 
@@ -65,12 +44,9 @@ ordered_line_leads text deck read e has = grind (arith, ordered_leads, numbers_i
 
 -- Along a whole deck
 
-no_work_leads : (numbers : List ℕ) (s : Subsystem) → IsBehind numbers s → (e : EventLine) → OfNamed (HasDevice s) e → IsNoWork e → LineLeads s e
-no_work_leads numbers s k e has calm = grind (arith, still_leads, ordered_leads)
-
 all_lead : (events : List EventLine) (s : Subsystem) → AllSo (λ (z : Subsystem) (e : EventLine). IsNoWork e → LineLeads z e) s events → AllLead s events
 all_lead [] s so = tt
 all_lead (e ∷ later) s so = (so.0, all_lead later (last_behind s (line_logged s (asked_by e))) so.1)
 
 pub each_line_leads : (text : List ℕ) (deck : DeckLines) → parsed text ≡ Ok deck → AllLead (opened deck) deck.events
-each_line_leads text deck read = grind (arith, all_lead, deck_all_so, no_work_leads, numbers_in)
+each_line_leads text deck read = grind (arith, all_lead, deck_all_so, numbers_in, still_leads, ordered_leads)

@@ -1,12 +1,11 @@
 -- Each frame that a device wants is one of its own tracks, and of those that it comes to: what this says of an interaction, and the calls of how an
 -- event begins and ends, of the choice of a write, of what a write that is done leaves and of what a miss does with its bytes.
-use Rattle.std.proofs.Common.{arith, ◌≡◌, ℕ, zero, suc, Bool, true, false, Option, Some, None, is_some}
+use Rattle.std.proofs.Common.{arith, ◌≡◌, ℕ, zero, suc, Bool, Option, Some, None, is_some}
 use Rattle.std.specs.Prelude.{◌==◌, ◌&&◌, if◌then◌else◌}
 use Rattle.ckd_types.specs.declared.parameters.Mode.{Mode}
 use Rattle.ckd_types.specs.declared.paths.Side.{Side}
 use Rattle.track_image.specs.Image.{Image}
 use Rattle.device_outside.specs.declared.port.SlotGrant.{SlotGrant}
-use Rattle.device_outside.specs.declared.port.SlotGrant.TheVariants as grants
 use Rattle.device_outside.specs.Interaction.{Interaction, Done, Try, Ask, Read, Write, Tell, and_then}
 use Rattle.device_outside.specs.Keeper.{Message, ReplyTo}
 use Rattle.device_outside.specs.Pool.{Call, WantFrame, AnswerTo}
@@ -16,7 +15,6 @@ use Rattle.device_defs.specs.Choosing as G
 use Rattle.device_defs.specs.Choosing.{slot_by, fast_by, may_be_fast, fast_or_through, choose_loose, choose_firm, choose}
 use Rattle.device_defs.specs.Image as I
 use Rattle.device_defs.specs.Image.{Got, ahead, delivered, filled, loaded, loads, missed}
-use Rattle.device_defs.specs.Losses.{slot_in}
 use Rattle.device_defs.specs.Memory.{and_had, had_by, tried}
 use Rattle.device_defs.specs.Owed as O
 use Rattle.device_defs.specs.Owed.{is_clean, is_modified, heard, hear, freed_told, settles_debt, is_owed, all_told, waiting_count, noted_end}
@@ -25,7 +23,7 @@ use Rattle.device_defs.specs.Writing as V
 use Rattle.device_defs.specs.Writing.{slot_freed, write_done}
 use Rattle.device_laws.proofs.Always as W
 use Rattle.device_laws.proofs.Always.{Always, Behind}
-use Rattle.run_audit_laws.proofs.Seats.{Is, ahead_is}
+use Rattle.run_audit_laws.proofs.Seats.{Is}
 
 -- the frame of one of these tracks of the device of this number
 abbrev pub IsOwn : (ℕ → Type 0) → ℕ → Call → Type 0
@@ -167,13 +165,9 @@ module _ {F P H R : Type 0} (T : ℕ → Type 0) (n : ℕ) (c : Contents F P H R
   unfolding G.choose
   choose_own s u t k = own_if (is_loose s t) (loose_own s u t k) (firm_own s u t k)
 
-  -- a write is done: its frame is clean or gone, and so is its patch
-  unpatched_own : (s : Store F P H) (t : ℕ) (o : Option ℕ) → Is n s → Owns (slot_freed c s t o)
-  unpatched_own s t o k = search (arith, own_done, own_ask)
-
   pub done_own : (s : Store F P H) (t : ℕ) (i : Image) (bypass : Bool) → Is n s → Owns (write_done c s t i bypass)
   unfolding V.write_done
-  done_own s t i bypass k = search (arith, own_if, is_some, own_ask, unpatched_own)
+  done_own s t i bypass k = search (arith, own_if, is_some, own_ask, own_done)
 
   -- an image becomes a frame
   pub filled_own : (s : Store F P H) (t : ℕ) (i : Image) → Is n s → Owns (filled c s t i)
@@ -185,8 +179,5 @@ module _ {F P H R : Type 0} (T : ℕ → Type 0) (n : ℕ) (c : Contents F P H R
   loaded_own : (s : Store F P H) (t : ℕ) (i : Image) (mode : Mode) → T t → Is n s → Owns (loaded c s t i mode)
   loaded_own s t i mode on k = own_if (loads mode) (own_tried s _ k (own_ask (k, on) (λ given. granted_own s t i given k))) (own_done k)
 
-  delivered_own : (u : Usage) (t : ℕ) (side : Side) (s : Store F P H) (o : Option Image) → T t → Is n s → Owns (delivered c u t side s o)
-  delivered_own u t side s o on k = search (arith, own_done, loaded_own, ahead_is)
-
   pub missed_own : (u : Usage) (t : ℕ) (s : Store F P H) (g : Got R) (o : Option R) → T t → Is n s → Owns (missed c u t s g o)
-  missed_own u t s g o on k = search (arith, own_done, own_tried, delivered_own)
+  missed_own u t s g o on k = search (arith, own_done, own_tried, loaded_own)

@@ -9,7 +9,6 @@ use Rattle.ckd_chain.specs.Steps.{need_of, stepped}
 use Rattle.loss_model.specs.declared.Loss.{Loss}
 use Rattle.loss_model.specs.declared.Loss.TheVariants as losses
 use Rattle.plain_defs.specs.History.{OpenEntry, has_used}
-use Rattle.plain_device.specs.Acted.{settled_act, paths_behind}
 use Rattle.track_image.specs.Image.{Image}
 use Rattle.device_outside.specs.Interaction.{Interaction, Done, and_then}
 use Rattle.device_defs.specs.declared.usage.Usage.{Usage}
@@ -22,13 +21,13 @@ use Rattle.device_defs.specs.Cutting.{half_cut, power, powered_off, reset, reset
 use Rattle.device_defs.specs.Device.{Device, with_store, event_begun, quiet_event, event}
 use Rattle.device_defs.specs.Events as E
 use Rattle.device_defs.specs.Events.{background, command_ended, lose, losing, second, second_ended, second_of, second_turn, with_loss}
-use Rattle.device_defs.specs.Image.{Imaged, Has, NoBytes, BadTrack}
+use Rattle.device_defs.specs.Image.{Imaged}
 use Rattle.device_defs.specs.Losses.{over}
 use Rattle.device_defs.specs.Orders as O
 use Rattle.device_defs.specs.Orders.{given_up, lend, lent_to, with_tracks}
-use Rattle.device_defs.specs.Outcomes.{Turn, ends_with, settles, checks, usage_of}
+use Rattle.device_defs.specs.Outcomes.{Turn, ends_with, checks, usage_of}
 use Rattle.device_defs.specs.Owed.{hear, waiting_count}
-use Rattle.device_defs.specs.Store.{Origin, OfCommand, OfCut, OfBackground, HalfWrite, Store, is_lost, tracks_of}
+use Rattle.device_defs.specs.Store.{Origin, OfCommand, HalfWrite, Store, is_lost, tracks_of}
 use Rattle.deck_text.proofs.DeckAgain.{Each}
 use Rattle.device_defs.specs.Memory.{had_by}
 use Rattle.device_laws.proofs.Based.{Base}
@@ -92,9 +91,6 @@ module _ {F P H R : Type 0} (T : ℕ → Type 0) (n : ℕ) (c : Contents F P H R
   out_own : (d : Device F P H) (path : ℕ) (turn : Turn) → At d.store → OwnEvent (came_out c d path turn)
   out_own d path turn k = own_done (subst (λ (s : Store F P H). At s) (sym (turned_same d path turn.chain turn.came)) k)
 
-  on_own : (d : Device F P H) (path : ℕ) (chain : ChainState) (s : Store F P H) (o : Option Turn) → At s → OwnEvent (on_tracks c d path chain s o)
-  on_own d path chain s o k = search (arith, out_own, own_done)
-
   answered_own : (d : Device F P H) (path : ℕ) (chain : ChainState) (p : Progress) → At d.store → OwnEvent (answered_by c d path chain p)
   answered_own d path chain (progresses.Ended e) k = out_own d path (ends_with chain e) k
   answered_own d path chain (progresses.Local act) k = search (arith, out_own)
@@ -103,15 +99,11 @@ module _ {F P H R : Type 0} (T : ℕ → Type 0) (n : ℕ) (c : Contents F P H R
   module _ (In : ChainState → Type 0) (comes : Comes T In) where
     at_own : (d : Device F P H) (path : ℕ) (chain : ChainState) (o : Option ℕ) → ((t : ℕ) → o ≡ Some t → T t) → In chain → At d.store →
         OwnEvent (command_at c d path chain o)
-    at_own d path chain (Some t) needs is k =
-        own_then (follow_own In comes (tracks_of d.store) t chain t d.store k is (needs t refl)) (λ s o g. on_own d path chain s o g)
-    at_own d path chain None needs is k =
-        own_try (λ ok. own_if ok (answered_own d path (stepped chain None).chain (stepped chain None).progress k) (own_done k))
+    at_own d path chain (Some t) needs is k = grind (arith, own_then, follow_own In comes (tracks_of d.store) t chain t d.store k is (needs t refl), out_own, own_done)
+    at_own d path chain None needs is k = grind (arith, own_try, own_if, answered_own, own_done)
 
     by_own : (d : Device F P H) (o : Option OpenEntry) (l : Option ChainState) → IfSome l In → At d.store → OwnEvent (command_by c d o l)
-    by_own d (Some o) (Some chain) is k =
-        own_if (has_loss o.acts) (out_own d o.path (checks chain Equipment) k)
-        (at_own d o.path chain (need_of chain) (λ t e. comes.needs chain t is e) is k)
+    by_own d (Some o) (Some chain) is k = grind (arith, own_if, out_own d o.path (checks chain Equipment) k, at_own)
     by_own d o l is k = own_done k
 
   command_ended_own : (d : Device F P H) (t : ℕ) (o : Option OpenEntry) (l : Option ChainState) (done : Bool) → At d.store →

@@ -4,21 +4,18 @@ use Rattle.std.specs.Prelude.{◌||◌}
 use Rattle.ckd_types.specs.declared.paths.Side.{Side}
 use Rattle.ckd_types.specs.declared.paths.Side.TheVariants.{A, B}
 use Rattle.ckd_types.specs.declared.record.Edit.{Edit}
-use Rattle.ckd_types.specs.Parameters.{is_bypass}
 use Rattle.loss_model.specs.declared.Loss.{Loss}
 use Rattle.track_image.specs.Image.{Image}
 use Rattle.device_outside.specs.Interaction.{Interaction}
 use Rattle.device_defs.specs.declared.answers.Choice.{Choice}
-use Rattle.device_defs.specs.declared.answers.Choice.TheVariants.{Provisional, Fast, Through}
 use Rattle.device_defs.specs.declared.answers.Did.{Did}
-use Rattle.device_defs.specs.declared.answers.Did.TheVariants.{Recovered}
 use Rattle.device_defs.specs.declared.answers.Took.{Took}
 use Rattle.device_defs.specs.declared.answers.Took.TheVariants.{Whole, Opened, Unwritten}
 use Rattle.device_defs.specs.declared.usage.Usage.{Usage}
 use Rattle.device_defs.specs.Background as B
 use Rattle.device_defs.specs.Background.{other, copies_to, to_copy, to_recover, to_destage, saved_by, saved, recovered_image, recovered_bytes, recover, copied, copy_read, copy_by, unfilled, staged_image, staged_bytes, stage, destage_first, stage_first, copy_first, recover_first, work}
 use Rattle.device_defs.specs.Contents.{Contents}
-use Rattle.device_defs.specs.Cutting.{origin_cut, half_cut}
+use Rattle.device_defs.specs.Cutting.{half_cut}
 use Rattle.device_defs.specs.Editing as E
 use Rattle.device_defs.specs.Editing.{whole, at_once, through_by, through, write_by, written, clean_again, unchosen, write_chosen, write}
 use Rattle.device_defs.specs.Effects.{hardened}
@@ -29,12 +26,12 @@ use Rattle.device_defs.specs.Losses as L
 use Rattle.device_defs.specs.Losses.{all_firm_told, side_lost, call_failed}
 use Rattle.device_defs.specs.Second as D
 use Rattle.device_defs.specs.Second.{half_image_of, half_closed, finished, second_done, left_by, second_part}
-use Rattle.device_defs.specs.Store.{Origin, OfCommand, OfCut, OfBackground, HalfWrite, Store, tracks_of, level_at, has_level, owed_at, takes_b, frame_at, is_lost, is_loose, with_frame}
+use Rattle.device_defs.specs.Store.{Origin, OfCommand, OfBackground, HalfWrite, Store, tracks_of, level_at, owed_at, takes_b, frame_at, is_lost, is_loose}
 use Rattle.device_defs.specs.Writing as V
 use Rattle.device_defs.specs.Writing.{write_counted, firm_first, alone_b, first_a, write_first, tried_b, write_second, write_opened}
 use Rattle.deck_text.proofs.DeckAgain.{Each}
 use Rattle.run_audit_laws.proofs.OwnCalls.{Own, choose_own, done_own, filled_own, missed_own, own_ask, own_done, own_if, own_read, own_tell, own_then, own_tried, own_try, own_write}
-use Rattle.run_audit_laws.proofs.Seats.{Is, left_is, level_is, lost_is, provisional_is, settled_is, side_is, stale_is, taken_is, unwritten_is}
+use Rattle.run_audit_laws.proofs.Seats.{Is, left_is, level_is, lost_is, settled_is, side_is, stale_is, taken_is, unwritten_is}
 
 module _ {F P H R : Type 0} (T : ℕ → Type 0) (n : ℕ) (c : Contents F P H R) where
   abbrev At : Store F P H → Type 0
@@ -115,14 +112,12 @@ module _ {F P H R : Type 0} (T : ℕ → Type 0) (n : ℕ) (c : Contents F P H R
   whole_own s t i e bypass k = own_tell (λ _. own_then (done_own T n c _ t i bypass k) (λ z _ g. own_done g))
 
   at_once_own : (s : Store F P H) (t : ℕ) (i : Image) (e : Edit) (bypass : Bool) → At s → Owns (at_once c s t i e bypass)
-  at_once_own s t i e bypass k =
-      own_then (second_write_own s t (c.bytes i) k)
-      (λ z _ g. own_if (has_level z t) (whole_own z t i e bypass g) (own_done (settled_is n c z t g)))
+  at_once_own s t i e bypass k = grind (arith, own_then, second_write_own s t (c.bytes i) k, own_if, whole_own, own_done, settled_is)
 
   through_by_own : (t : ℕ) (i : Image) (e : Edit) (bypass opens was : Bool) (s : Store F P H) (took : Took) → At s → Owns (through_by c t i e bypass opens was s took)
   through_by_own t i e bypass opens was s Whole k = whole_own s t i e bypass k
   through_by_own t i e bypass opens was s Opened k =
-      own_if opens (own_then (opened_own s t i (OfCommand bypass e) was k) (λ z _ g. own_done g)) (at_once_own s t i e bypass k)
+      grind (arith, own_if, own_then, opened_own s t i (OfCommand bypass e) was k, own_done, at_once_own s t i e bypass k)
   through_by_own t i e bypass opens was s Unwritten k = own_done k
 
   through_own : (s : Store F P H) (t : ℕ) (i : Image) (e : Edit) (bypass opens : Bool) → At s → Owns (through c s t i e bypass opens)
@@ -132,16 +127,13 @@ module _ {F P H R : Type 0} (T : ℕ → Type 0) (n : ℕ) (c : Contents F P H R
       (λ z was g. own_then (first_write_own z t (c.bytes i) g) (λ y w k. through_by_own t i e bypass opens was y w.took k))
 
   write_by_own : (u : Usage) (first t : ℕ) (i : Image) (e : Edit) (s : Store F P H) (choice : Choice) → At s → Owns (write_by c u first t i e s choice)
-  write_by_own u first t i e s choice k = search (arith, own_done, provisional_is, own_tell, through_own)
+  write_by_own u first t i e s choice k = search (arith, own_done, own_tell, through_own)
 
   written_own : (s : Store F P H) (u : Usage) (first t : ℕ) (old : Image) (e : Edit) (choice : Choice) → At s → Owns (written c s u first t old e choice)
   written_own s u first t old e choice k = own_then (write_by_own u first t _ e s choice k) (λ z took g. own_done g)
 
-  clean_own : (s : Store F P H) (t : ℕ) → At s → Owns (clean_again c s t)
-  clean_own s t k = own_if _ (own_ask tt (λ _. own_done k)) (own_done k)
-
   unchosen_own : (s : Store F P H) (t : ℕ) (choice : Choice) → At s → Owns (unchosen c s t choice)
-  unchosen_own s t choice k = search (arith, own_ask, clean_own, own_done)
+  unchosen_own s t choice k = search (arith, own_ask, own_done)
 
   chosen_own : (u : Usage) (first t : ℕ) (old : Image) (e : Edit) (s : Store F P H) (choice : Choice) → At s → Owns (write_chosen c u first t old e s choice)
   chosen_own u first t old e s choice k = search (arith, own_if, own_tell, written_own, unchosen_own)
@@ -168,11 +160,8 @@ module _ {F P H R : Type 0} (T : ℕ → Type 0) (n : ℕ) (c : Contents F P H R
       (λ z was g. own_then (first_write_own z t (c.bytes i) g) (λ y w k. saved_by_own t i d fault was w.fault y w.took k)))
       (λ z e g. own_done g)) (own_done k))
 
-  recovered_own : (t : ℕ) (s : Store F P H) (g : Got R) (o : Option Image) → At s → Owns (recovered_image c t s g o)
-  recovered_own t s g o k = search (arith, own_done, saved_own)
-
   recovered_bytes_own : (t : ℕ) (s : Store F P H) (g : Got R) (o : Option R) → At s → Owns (recovered_bytes c t s g o)
-  recovered_bytes_own t s g o k = search (arith, own_done, own_tried, recovered_own)
+  recovered_bytes_own t s g o k = search (arith, own_done, own_tried, saved_own)
 
   recover_own : (s : Store F P H) (t : ℕ) (f : Option F) → At s → Owns (recover c s t f)
   recover_own s t (Some f) k = saved_own s t _ _ None k
@@ -185,9 +174,6 @@ module _ {F P H R : Type 0} (T : ℕ → Type 0) (n : ℕ) (c : Contents F P H R
   read_own : (t : ℕ) (side : Side) (s : Store F P H) (o : Option R) → At s → Owns (copy_read c t side s o)
   read_own t side s None k = own_then (failed_own s (other side) None k) (λ z _ g. own_done g)
   read_own t side s (Some r) k = own_write (λ ok. copied_own t side (V.write_counted s ok) ok k)
-
-  copy_own : (s : Store F P H) (t : ℕ) (o : Option Side) → At s → Owns (copy_by c s t o)
-  copy_own s t o k = search (arith, own_done, own_read, read_own, is_some)
 
   unfilled_own : (s : Store F P H) (t : ℕ) (d : Option Did) → At s → Owns (unfilled c s t d)
   unfilled_own s t d k = own_ask tt (λ _. own_done k)
@@ -212,11 +198,8 @@ module _ {F P H R : Type 0} (T : ℕ → Type 0) (n : ℕ) (c : Contents F P H R
   stages_own s [] on k = destage_own s (to_destage c s) k
   stages_own s (t ∷ ts) on k = stage_own (record s { queue = ts }) t on.0 k
 
-  copies_own : (s : Store F P H) (o : Option ℕ) → Each T s.queue → At s → Owns (copy_first c s o)
-  copies_own s o on k = search (arith, stages_own, copy_own)
-
   recovers_own : (s : Store F P H) (o : Option ℕ) → Each T s.queue → At s → Owns (recover_first c s o)
-  recovers_own s o on k = search (arith, copies_own, recover_own)
+  recovers_own s o on k = search (arith, recover_own, stages_own, own_done, own_read, read_own, is_some)
 
   pub work_own : (s : Store F P H) → Each T s.queue → At s → Owns (work c s)
   unfolding B.work
@@ -227,24 +210,14 @@ module _ {F P H R : Type 0} (T : ℕ → Type 0) (n : ℕ) (c : Contents F P H R
   finished_own : (s : Store F P H) (t : ℕ) (i : Image) (bypass : Bool) → At s → Owns (finished c s t i bypass)
   finished_own s t i bypass k = own_then (done_own T n c s t i bypass k) (λ z _ g. own_done g)
 
-  second_done_own : (s : Store F P H) (t : ℕ) (i : Image) (origin : Origin) → At s → Owns (second_done c s t i origin)
-  second_done_own s t i origin k = search (arith, own_tell, finished_own)
-
   pub part_own : (s : Store F P H) (h : HalfWrite H) → At s → Owns (second_part c s h)
   unfolding D.second_part
-  part_own s h k =
-      let i = half_image_of c s h in
-      own_then (second_write_own s h.track (c.bytes i) k)
-      (λ z _ g. own_if (has_level z h.track) (second_done_own (half_closed z) h.track i h.origin g)
-      (own_done (settled_is n c (left_by c (half_closed z) h.track i h.origin) h.track (left_is n c (half_closed z) h.track i h.origin g))))
+  part_own s h k = grind (arith, own_then, second_write_own s h.track (c.bytes (half_image_of c s h)) k, own_if, own_done, settled_is, left_is, own_tell, finished_own)
 
   -- Losses and cuts
 
   pub losing_own : (s : Store F P H) (loss : Loss) → At s → Owns (losing c s loss)
   losing_own s loss k = told_own (tracks_of s) (lost_by c (with_loss s loss) loss) (lost_is n c s loss k)
 
-  cut_by : (s : Store F P H) (h : HalfWrite H) (origin : Origin) → At s → Owns (origin_cut c s h origin)
-  cut_by s h origin k = search (arith, own_tell, own_done)
-
   pub cut_own : (s : Store F P H) (o : Option (HalfWrite H)) → At s → Owns (half_cut c s o)
-  cut_own s o k = grind (arith, cut_by, own_done)
+  cut_own s o k = grind (arith, own_done, own_tell)

@@ -1,8 +1,7 @@
 -- The text of a deck, a line REPORT and the report of its run is cut into these lines.
-use Rattle.std.proofs.Common.{◌≡◌, ◌≤◌, ◌+◌, ◌==◌, ◌++◌, ℕ, suc, Bool, true, false, not, List, [], ◌∷◌, drop, length, map, take, Option, Some, None, refl, sym, ap, ◌∙◌, append_assoc, arith, if◌then◌else◌}
-use Rattle.std.specs.Prelude.{◌&&◌, All, codes, Ok, Err}
+use Rattle.std.proofs.Common.{◌≡◌, ◌≤◌, ◌+◌, ◌==◌, ◌++◌, ℕ, suc, Bool, true, List, [], ◌∷◌, drop, length, map, take, Some, None, refl, ap, ◌∙◌, append_assoc, arith, if◌then◌else◌}
+use Rattle.std.specs.Prelude.{All, codes, Ok, Err}
 use Rattle.std.specs.List.{flat_map}
-use Rattle.std.specs.Str.{bytes_eq}
 use Rattle.std.proofs.lemmas.Bool.{and_parts, not-true}
 use Rattle.std.proofs.lemmas.List.{append-nil}
 use Rattle.std.proofs.lemmas.List.Elements.{All-head, All-tail}
@@ -36,12 +35,8 @@ cut_ended : (xs : List (List ℕ)) (rest : List ℕ) → AreWhole xs → cut_lin
 cut_ended [] rest h = refl
 cut_ended (x ∷ xs) rest h = grind (arith, cut_ended xs rest h.1, append_assoc, cut_one)
 
--- the lines of any text have none
-first_whole : (b : ℕ) → not (b == 10) ≡ true → (xs : List (List ℕ)) → AreWhole xs → AreWhole (onto_first b xs)
-first_whole b h xs w = grind (arith, is_whole)
-
 cut_if : (b : ℕ) (c : Bool) → (b == 10) ≡ c → (xs : List (List ℕ)) → AreWhole xs → AreWhole (if c then [] ∷ xs else onto_first b xs)
-cut_if b c is xs w = grind (arith, first_whole)
+cut_if b c is xs w = grind (arith, is_whole)
 
 cut_whole : (text : List ℕ) → AreWhole (cut_lines text)
 cut_whole [] = tt
@@ -49,12 +44,9 @@ cut_whole (b ∷ text) = cut_if b (b == 10) refl (cut_lines text) (cut_whole tex
 
 -- Finding REPORT
 
-found_by : (n : ℕ) (b : Bool) (o q : Option ℕ) (k : ℕ) → (if b then Some n else o) ≡ None → (o ≡ None → q ≡ Some k) → (if b then Some n else q) ≡ Some k
-found_by n b o q k none go = grind arith
-
 found : (n : ℕ) (xs rest : List (List ℕ)) → report_from n xs ≡ None → report_from n (xs ++ codes "REPORT" ∷ rest) ≡ Some (n + length xs)
 found n [] rest none = ap (λ (k : ℕ). Some k) (omega arith)
-found n (x ∷ xs) rest none = grind (arith, found (n + 1) xs rest, found_by)
+found n (x ∷ xs) rest none = grind (arith, found (n + 1) xs rest)
 
 front : {X : Type 0} (xs ys : List X) → take (length xs) (xs ++ ys) ≡ xs
 front [] ys = refl
@@ -85,28 +77,14 @@ module _ (text : List ℕ) (deck : DeckLines) (read : parsed text ≡ Ok deck) (
 
   report_cut : cut_lines (report_of deck) ≡ told
   report_cut =
-      ap cut_lines (lines_ended (report_lines (run_of deck)) ∙ sym (append-nil (flat_map ended_line told)))
-      ∙ cut_ended told [] (written_whole (report_lines (run_of deck)) (report_is_in_range text deck read))
-      ∙ append-nil told
+      grind (arith, lines_ended (report_lines (run_of deck)), append-nil (flat_map ended_line told), cut_ended told [] (written_whole (report_lines (run_of deck)) (report_is_in_range text deck read)), written_whole (report_lines (run_of deck)) (report_is_in_range text deck read), report_is_in_range text deck read, append-nil told)
 
   all_cut : cut_lines (own_text text deck) ≡ lines ++ codes "REPORT" ∷ told
-  all_cut =
-      ap (λ (t : List ℕ). cut_lines (t ++ (codes "REPORT\n" ++ report_of deck))) (sym h)
-      ∙ cut_ended lines (codes "REPORT\n" ++ report_of deck) (cut_whole text)
-      ∙ ap (λ (l : List (List ℕ)). lines ++ codes "REPORT" ∷ l) report_cut
+  all_cut = grind (arith, cut_ended, cut_whole, report_cut)
 
   own_is : length (own_text text deck) ≤ 268435456 → IsOwnReport (own_text text deck) deck
-  own_is size = record {
-    lines = length (cut_lines text);
-    size = size;
-    found = ap (report_from 0) all_cut ∙ found 0 lines told (read_has_none text deck lines (cut_whole text) h read) ∙ ap (λ (k : ℕ). Some k) (omega arith);
-    parses =
-        ap (λ (l : List (List ℕ)). parsed (flat_map ended_line (take (length lines) l))) all_cut
-        ∙ ap (λ (l : List (List ℕ)). parsed (flat_map ended_line l)) (front lines (codes "REPORT" ∷ told))
-        ∙ ap parsed h
-        ∙ read;
-    says = ap (λ (l : List (List ℕ)). drop (length lines + 1) l) all_cut ∙ behind lines (codes "REPORT") told;
-  }
+  own_is size =
+      grind (arith, found, all_cut, found 0 lines told (read_has_none text deck lines (cut_whole text) h read), read_has_none text deck lines (cut_whole text) h read, cut_whole text, front lines (codes "REPORT" ∷ told), behind lines (codes "REPORT") told)
 
 -- where what is written is read back
 pub own_text_is_yes : ((line : ReportLine) → IsLine line → line_of (text_of line) ≡ (if has_form line then Ok line else Err (form_fault line))) →

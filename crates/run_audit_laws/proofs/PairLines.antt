@@ -1,31 +1,22 @@
 -- PAIR and UNPAIR: a device is lent, or comes back empty.
-use Rattle.std.proofs.Common.{◌≡◌, ◌≤◌, ◌==◌, ◌++◌, ℕ, Bool, true, false, List, [], ◌∷◌, map, Option, Some, None, refl, sym, ap, subst, ◌∙◌, if◌then◌else◌, arith, inl, inr}
-use Rattle.std.specs.Prelude.{◌&&◌, ◌||◌}
+use Rattle.std.proofs.Common.{◌≡◌, ◌≤◌, ◌==◌, ℕ, Bool, true, false, List, [], ◌∷◌, map, Option, Some, None, refl, sym, ap, subst, ◌∙◌, if◌then◌else◌, arith}
 use Rattle.std.specs.List.{list_any}
 use Rattle.deck_plan.specs.declared.event.EventLine.TheVariants as wanted
 use Rattle.device_outside.specs.Told.{Calls}
-use Rattle.plain_defs.specs.History.{History, OpenEntry, emptied}
-use Rattle.plain_defs.specs.Journal.{Plans}
-use Rattle.plain_defs.specs.PlainState.{empty_state}
-use Rattle.ckd_types.specs.declared.geometry.Geometry.{Geometry}
 use Rattle.device_defs.specs.Contents.{by_plain}
 use Rattle.device_defs.specs.Marks.{MarksDevice}
-use Rattle.device_defs.specs.Orders.{join, lend, restore, split}
+use Rattle.device_defs.specs.Orders.{join, lend, split}
 use Rattle.device_laws.proofs.Had.{held}
-use Rattle.device_laws.proofs.PlainTurns.{IsAtHome}
 use Rattle.report_text.specs.declared.answers.OrderAnswer.TheVariants as answers
 use Rattle.report_text.specs.declared.event.Happened.TheVariants as did
-use Rattle.report_text.specs.declared.line.ReportLine.{ReportLine}
 use Rattle.report_text.specs.declared.line.ReportLine.TheVariants as lines
 use Rattle.report_text.specs.declared.order.Order.{Order}
 use Rattle.report_text.specs.declared.order.Order.TheVariants as orders
-use Rattle.report_places.specs.declared.state.HalfWrite.{HalfWrite}
 use Rattle.deck_audit.specs.Device as A
 use Rattle.deck_audit.specs.Device.{AuditedDevice, runs, with_device}
 use Rattle.deck_audit.specs.History as M
 use Rattle.deck_audit.specs.History.{given_back, runs_lent}
 use Rattle.deck_audit.specs.State.{passed, then_of}
-use Rattle.run_report.specs.Beside.{of_each, over_lines}
 use Rattle.run_report.specs.Events.{work_lines}
 use Rattle.subsystem_defs.specs.declared.end.EventEnd.TheVariants as ends
 use Rattle.subsystem_defs.specs.declared.end.OrderFault.{OrderFault}
@@ -62,7 +53,6 @@ use Rattle.run_audit_laws.proofs.Found.{devices, found_one, mounted_too, put_at,
 use Rattle.run_audit_laws.proofs.Leading.{EventLeads, then_some}
 use Rattle.run_audit_laws.proofs.LentDevices.{IsLent, lend_makes}
 use Rattle.run_audit_laws.proofs.Orders.{IsOrder, ordered, refused_leads, told_leads}
-use Rattle.run_audit_laws.proofs.Saying.{same_order}
 use Rattle.run_audit_laws.proofs.Ties.{lent_count, lent_stays, may_pair, one_if, others_stay, ties, turned}
 
 -- Where no device tells anything
@@ -140,40 +130,18 @@ module _ (s : Subsystem) (a b : ℕ) (x y : MarksDevice) (at_a : device_in (devi
 unpairs : (a : ℕ) → IsOrder (wanted.Unpair a) (orders.Unpair a) (Unpair a)
 unpairs a = search arith
 
--- a device that is lent runs nothing
-away_is_idle : (a : ℕ) (l : Option ℕ) (r : Option OpenEntry) → IsAtHome l r → (M.is_lent_to a l && runs r) ≡ false
-away_is_idle a l r home = grind arith
-
 none_runs : (a : ℕ) (ms : List Mounted) → ArePlain ms → list_any (runs_lent a) (map audited (devices ms)) ≡ false
 none_runs a [] p = refl
-none_runs a (m ∷ ms) p = grind (arith, none_runs a ms p.1, away_is_idle)
-
-same_test : (a : ℕ) (l : Option ℕ) → M.is_lent_to a l ≡ is_lent_to l a
-same_test a l = grind arith
+none_runs a (m ∷ ms) p = grind (arith, none_runs a ms p.1)
 
 none_given : (a : ℕ) (ms : List Mounted) → lent_count a (ties ms) ≡ 0 → map (given_back a) (map audited (devices ms)) ≡ map audited (devices ms)
 none_given a [] none = refl
-none_given a (m ∷ ms) none = grind (arith, none_given a ms, same_test)
+none_given a (m ∷ ms) none = grind (arith, none_given a ms)
 
 given : (a : ℕ) (volume : Calls) (ms : List Mounted) → lent_count a (ties ms) ≤ 1 →
     map (given_back a) (map audited (devices ms)) ≡ map audited (devices (restored_in ms a volume))
 given a volume [] most = refl
-given a volume (m ∷ ms) most = by_test (is_lent_to m.device.store.lent a) refl (given a volume ms) where
-  by_test : (b : Bool) → is_lent_to m.device.store.lent a ≡ b →
-      (lent_count a (ties ms) ≤ 1 → map (given_back a) (map audited (devices ms)) ≡ map audited (devices (restored_in ms a volume))) →
-      given_back a (audited m.device) ∷ map (given_back a) (map audited (devices ms))
-      ≡ map audited (devices (if b then record m { device = restore m.device; a = volume } ∷ ms else m ∷ restored_in ms a volume))
-  by_test true is rest =
-      let one : one_if (is_lent_to m.device.store.lent a) ≡ 1 = ap one_if is in
-      ap (λ (t : Bool). (if t then record (audited m.device) { history = emptied m.device.history; lent = None }
-      else audited m.device) ∷ map (given_back a) (map audited (devices ms))) (same_test a m.device.store.lent ∙ is)
-      ∙ ap (λ (l : List AuditedDevice). audited (restore m.device) ∷ l)
-      (none_given a ms (omega (arith, one, most)))
-  by_test false is rest =
-      let none : one_if (is_lent_to m.device.store.lent a) ≡ 0 = ap one_if is in
-      ap (λ (t : Bool). (if t then record (audited m.device) { history = emptied m.device.history; lent = None }
-      else audited m.device) ∷ map (given_back a) (map audited (devices ms))) (same_test a m.device.store.lent ∙ is)
-      ∙ ap (λ (l : List AuditedDevice). audited m.device ∷ l) (rest (omega (arith, none, most)))
+given a volume (m ∷ ms) most = grind (arith, given a volume ms, lent_count, ties, one_if, none_given)
 
 silent_restored : (a : ℕ) (volume : Calls) (ms : List Mounted) → AllSilent (map history_of (devices ms)) (map history_of (devices (restored_in ms a volume)))
 silent_restored a volume [] = tt
@@ -183,17 +151,7 @@ module _ (s : Subsystem) (plain : ArePlain s.mounted) (a : ℕ) (single : lent_c
   parted_leads : (m : Mounted) → mounted_in s.mounted a ≡ Some m →
       EventLeads s (wanted.Unpair a) (Unpair a) (quietly s (unpaired_behind s a unfailing m) ends.Done)
   parted_leads m there later =
-      let e = wanted.Unpair a in
-      let x = record m { device = split m.device } in
-      let ks = put_in s.mounted a x in
-      let behind = unpaired_behind s a unfailing m in
-      let few : lent_count a (ties ks) ≤ 1 = rw (lent_stays s.mounted a x m there (mounted_number s.mounted a m there) refl a) single in
-      told_leads s e (orders.Unpair a) (Unpair a) (unpairs a) behind ends.Done later (silent_lines (orders.Unpair a) answers.Done (devices_of s)
-      (devices_of behind) (rw (← (history_put s.mounted a x m there refl)) (silent_restored a unfailing ks))) (ap (λ (b : Bool). if b then None else Some
-      (passed (record (stand s (e ∷ later)) { devices = map (given_back a) (map audited (devices_of s)) }))) (none_runs a s.mounted plain) ∙ ap
-      (λ (l : List AuditedDevice). Some (record { devices = l; events = later; due = (stand s later).due })) (ap (map (given_back a)) (sym
-      (put_same s.mounted a x (λ k found. let both_are : Some m ≡ Some k = sym there ∙ found in let it : m ≡ k = cc in ap
-      (λ (i : Mounted). audited i.device) it))) ∙ given a unfailing ks few))
+      grind (arith, lent_count a (ties (put_in s.mounted a (record m { device = split m.device }))), ties (put_in s.mounted a (record m { device = split m.device })), lent_stays s.mounted a (record m { device = split m.device }) m there (mounted_number s.mounted a m there) refl a, mounted_number s.mounted a m there, told_leads, unpairs a, silent_lines, history_put s.mounted a (record m { device = split m.device }) m there refl, silent_restored a unfailing (put_in s.mounted a (record m { device = split m.device })), none_runs a s.mounted plain, put_same, given)
 
   unpaired_leads : (m : Mounted) → mounted_in s.mounted a ≡ Some m → (f : Option OrderFault) →
       EventLeads s (wanted.Unpair a) (Unpair a) (unpaired_by s a unfailing m f)

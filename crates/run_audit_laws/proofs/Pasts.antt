@@ -1,6 +1,6 @@
 -- What an audit reads of a device's past: behind which end of a command an act stood isn't read, only what the plain device then is.
-use Rattle.std.proofs.Common.{◌≡◌, ◌+◌, ◌-◌, ◌==◌, ◌++◌, ℕ, zero, suc, Bool, true, false, List, [], ◌∷◌, map, length, Option, Some, None, refl, arith, sym, ap, ◌∙◌, if◌then◌else◌}
-use Rattle.std.specs.Prelude.{IfSome, option_map, is_some}
+use Rattle.std.proofs.Common.{◌≡◌, ◌+◌, ◌==◌, ◌++◌, ℕ, zero, suc, Bool, true, false, List, [], ◌∷◌, map, length, Option, Some, None, refl, arith, sym, ap, ◌∙◌, if◌then◌else◌}
+use Rattle.std.specs.Prelude.{IfSome, option_map}
 use Rattle.std.proofs.lemmas.List.{map-append}
 use Rattle.ckd_types.specs.declared.channel.Ccw.{Ccw}
 use Rattle.ckd_types.specs.declared.channel.CommandEnd.{CommandEnd}
@@ -15,7 +15,7 @@ use Rattle.plain_defs.specs.Journal.{Plans, last_sense, program_of, replay, repl
 use Rattle.plain_defs.specs.Legal.{AreInOrder, is_started, is_used, started_by, used_by}
 use Rattle.plain_defs.specs.Loose.{act_done, power_off}
 use Rattle.plain_defs.specs.PlainState.{PlainState, reset_path, with_sense}
-use Rattle.plain_defs.specs.Program.{Part, acts_made as acted_part, acted_at, part_of, command_run, stepped_at, with_act, with_acts}
+use Rattle.plain_defs.specs.Program.{Part, part_of, command_run, with_act}
 use Rattle.plain_defs.proofs.JournalLaws.{replay-append}
 use Rattle.plain_defs.proofs.PartLemmas.{acted_beside, first_next, part_counts, part_more}
 use Rattle.device_laws.proofs.HistoryEnds.{one_longer}
@@ -100,16 +100,9 @@ module _ (path : ℕ) (ccws : List Ccw) (state : PlainState) (acts : List Acted)
       ≡ untold (act_now act (untold (part_of state path ccws acts n)))
   act_more act n = ap untold (act_at act n (at n).next refl) ∙ act_untold act (at n) (at n).next
 
-  step_untold : (p : Part) (next : Option ℕ) → untold (stepped_at path ccws p next) ≡ untold (stepped_at path ccws (untold p) next)
-  step_untold p next = grind arith
-
-  -- no act comes behind one more end
-  none_there : (n : ℕ) → AreInOrder 0 (n + 1) acts → (q : Part) → (is_some q.next ≡ true → length q.ends ≡ suc n) → acted_part acts q ≡ q
-  none_there n order q many = grind (arith, no_acts)
-
   pub step_more : (n : ℕ) → AreInOrder 0 (n + 1) acts → untold (part_of state path ccws acts (suc n))
       ≡ untold (command_run path ccws (untold (part_of state path ccws acts n)))
-  step_more n order = grind (arith, acted_beside, part_more, none_there, part_counts, step_untold)
+  step_more n order = grind (arith, acted_beside, part_more, part_counts, no_acts)
 
 -- the state behind the next command
 abbrev pub next_part : Plans → Going → Part
@@ -142,9 +135,6 @@ module _ (plans : Plans) (state : PlainState) (o : OpenEntry) (tidy : IsTidyOpen
 abbrev pub started_past : ℕ → ℕ → Plans → Past → Past
 started_past path n plans x =
     record x { running = Some (going_of plans x.state (record { path = path; ordinal = n; ends = []; acts = [] })) }
-
-pub start_is_read : (path n : ℕ) → IsRead (λ h. started h path n) (started_past path n)
-start_is_read path n = record { tidy = λ h tidy. tt; past = λ plans empty h tidy. refl }
 
 -- Behind more items, where no program runs
 
@@ -183,10 +173,7 @@ module _ (plans : Plans) (empty : PlainState) (h : History) (o : OpenEntry) (tid
   cut_state : (more : ℕ) → IsFew more → replay_item plans (replay plans empty h.items) (entry_of o (Cut (length o.ends + more)))
       ≡ cut_to plans (going_of plans (replay plans empty h.items) o) more
   cut_state zero few = grind arith
-  cut_state (suc zero) few =
-      let same : length o.ends + 1 ≡ suc (length o.ends) = omega arith in
-      ap (λ (k : ℕ). (part_of s o.path (program_of plans o.path o.ordinal) o.acts k).state) same
-      ∙ ap (λ (p : Part). p.state) (part_next plans s o tidy)
+  cut_state (suc zero) few = grind (arith, part_next plans s o tidy, tidy)
   cut_state (suc (suc more)) few = absurd few
 
 abbrev pub over_past : Plans → Past → Going → How → List CommandEnd → PlainState → Past
@@ -238,10 +225,6 @@ module _ (e : CommandEnd) (l : List Item) (o : OpenEntry) (w : List ℕ) (tidy :
   order_ended : IsTidyOpen (with_end o e)
   order_ended = let much = one_longer o.ends e in order_on 0 (length o.ends + 1) (length (o.ends ++ e ∷ []) + 1) o.acts tidy (omega (arith, much))
 
-  ended_tidy : (over : Bool) → IsTidy (if over then closed (with_parts l (Some o) w) (with_end o e) Full
-      else record (with_parts l (Some o) w) { running = Some (with_end o e) })
-  ended_tidy over = grind (arith, order_ended)
-
   module _ (plans : Plans) (empty : PlainState) where
     closed_past : past_of plans empty (closed (with_parts l (Some o) w) (with_end o e) Full)
         ≡ over_past plans (past_of plans empty (with_parts l (Some o) w)) (going_of plans (replay plans empty l) o) Full (o.ends ++ e ∷ [])
@@ -260,7 +243,7 @@ module _ (e : CommandEnd) (l : List Item) (o : OpenEntry) (w : List ℕ) (tidy :
     ended_is over = grind (arith, closed_past, part_ended)
 
 end_tidy : (e : CommandEnd) (l : List Item) (r : Option OpenEntry) (w : List ℕ) → IsTidy (with_parts l r w) → IsTidy (ended (with_parts l r w) e)
-end_tidy e l r w tidy = grind (arith, ended_tidy)
+end_tidy e l r w tidy = grind (arith, order_ended)
 
 end_past : (e : CommandEnd) (plans : Plans) (empty : PlainState) (l : List Item) (r : Option OpenEntry) (w : List ℕ) → IsTidy (with_parts l r w) →
     past_of plans empty (ended (with_parts l r w) e) ≡ ended_past e plans (past_of plans empty (with_parts l r w))
@@ -330,14 +313,7 @@ abbrev pub reset_past : ℕ → ℕ → Plans → Past → Past
 reset_past path more plans x = reset_by path more plans x x.running
 
 module _ (path more : ℕ) (few : IsFew more) (l : List Item) (w : List ℕ) where
-  idle_tidy : (used : Bool) → IsTidy (if used then record (with_parts l None w) { items = l ++ items.Reset path ∷ [] } else with_parts l None w)
-  idle_tidy used = grind arith
-
   module _ (o : OpenEntry) (tidy : IsTidyOpen o) where
-    resets_tidy : (own used : Bool) → IsTidy (if own then cut_by (with_parts l (Some o) w) o more
-        else if used then record (with_parts l (Some o) w) { waiting = put path w } else with_parts l (Some o) w)
-    resets_tidy own used = grind arith
-
     module _ (plans : Plans) (empty : PlainState) where
       abbrev before : Past
       before = past_of plans empty (with_parts l (Some o) w)
@@ -352,18 +328,6 @@ module _ (path more : ℕ) (few : IsFew more) (l : List Item) (w : List ℕ) whe
           ∙ ap (λ (s : PlainState). behind_items plans before s (entry_past g (Cut (length o.ends + more)) o.ends) (items.Reset o.path ∷ resets_of w))
           (cut_state plans empty (with_parts l (Some o) w) o tidy more few)
 
-      waits_past : (used : Bool) →
-          past_of plans empty (if used then record (with_parts l (Some o) w) { waiting = put path w } else with_parts l (Some o) w)
-          ≡ (if used then record (past_of plans empty (with_parts l (Some o) w)) { waiting = put path w } else past_of plans empty (with_parts l (Some o) w))
-      waits_past used = grind arith
-
-      resets_past : (own used : Bool) → past_of plans empty (if own then cut_by (with_parts l (Some o) w) o more
-          else if used then record (with_parts l (Some o) w) { waiting = put path w } else with_parts l (Some o) w)
-          ≡ (if own then cut_past more plans (past_of plans empty (with_parts l (Some o) w)) (going_of plans (replay plans empty l) o)
-          else if used then record (past_of plans empty (with_parts l (Some o) w)) { waiting = put path w }
-          else past_of plans empty (with_parts l (Some o) w))
-      resets_past own used = grind (arith, cuts_past, waits_past)
-
   idle_past : (plans : Plans) (empty : PlainState) (used : Bool) →
       past_of plans empty (if used then record (with_parts l None w) { items = l ++ items.Reset path ∷ [] } else with_parts l None w)
       ≡ (if used then record {
@@ -377,11 +341,11 @@ module _ (path more : ℕ) (few : IsFew more) (l : List Item) (w : List ℕ) whe
 
 module _ (path more : ℕ) (few : IsFew more) (l : List Item) where
   reset_tidy : (r : Option OpenEntry) (w : List ℕ) → IsTidy (with_parts l r w) → IsTidy (reset_in_history (with_parts l r w) path more)
-  reset_tidy r w tidy = grind (arith, idle_tidy, resets_tidy)
+  reset_tidy r w tidy = grind arith
 
   reset_is : (plans : Plans) (empty : PlainState) (r : Option OpenEntry) (w : List ℕ) → IsTidy (with_parts l r w) →
       past_of plans empty (reset_in_history (with_parts l r w) path more) ≡ reset_past path more plans (past_of plans empty (with_parts l r w))
-  reset_is plans empty r w tidy = grind (arith, idle_past, used_bare, resets_past)
+  reset_is plans empty r w tidy = grind (arith, idle_past, used_bare, cuts_past)
 
 pub reset_is_read : (path more : ℕ) → IsFew more → IsRead (λ h. reset_in_history h path more) (reset_past path more)
 reset_is_read path more few = record {
@@ -399,10 +363,6 @@ abbrev pub lost_past : Plans → Past → Past
 lost_past plans x = lost_by plans x x.running
 
 module _ (l : List Item) (w : List ℕ) where
-  dark_tidy : (started : Bool) →
-      IsTidy (if started then record { items = l ++ items.Power ∷ []; running = None; waiting = [] } else with_parts l None w)
-  dark_tidy started = grind arith
-
   dark_past : (plans : Plans) (empty : PlainState) (started : Bool) →
       past_of plans empty (if started then record { items = l ++ items.Power ∷ []; running = None; waiting = [] } else with_parts l None w)
       ≡ (if started then behind_items plans (past_of plans empty (with_parts l None w)) (power_off (replay plans empty l)) items.Power []
@@ -411,7 +371,7 @@ module _ (l : List Item) (w : List ℕ) where
   dark_past plans empty false = refl
 
   power_tidy : (r : Option OpenEntry) → IsTidy (lost_power (with_parts l r w) 0)
-  power_tidy r = grind (arith, dark_tidy)
+  power_tidy r = grind arith
 
   power_past : (plans : Plans) (empty : PlainState) (r : Option OpenEntry) → IsTidy (with_parts l r w) →
       past_of plans empty (lost_power (with_parts l r w) 0) ≡ lost_past plans (past_of plans empty (with_parts l r w))
@@ -420,10 +380,7 @@ module _ (l : List Item) (w : List ℕ) where
       ∙ ap (λ (b : Bool). if b then behind_items plans (past_of plans empty (with_parts l None w)) (power_off (replay plans empty l)) items.Power []
       else past_of plans empty (with_parts l None w)) (started_bare l false)
   power_past plans empty (Some o) tidy =
-      let h = with_parts l (Some o) w in
-      items_more plans empty h (entry_of o (Cut (length o.ends + 0))) (items.Power ∷ [])
-      ∙ ap (λ (s : PlainState). behind_items plans (past_of plans empty h) s (bare (entry_of o (Cut (length o.ends + 0)))) (items.Power ∷ []))
-      (cut_state plans empty h o tidy 0 tt)
+      grind (arith, items_more plans empty (with_parts l (Some o) w) (entry_of o (Cut (length o.ends + 0))) (items.Power ∷ []), items.Power, cut_state plans empty (with_parts l (Some o) w) o tidy 0 tt)
 
 pub power_is_read : IsRead (λ h. lost_power h 0) lost_past
 power_is_read = record {

@@ -1,5 +1,5 @@
 -- An event of a run that is a piece of work leads the audit on.
-use Rattle.std.proofs.Common.{arith, ◌≡◌, ◌==◌, ℕ, Bool, true, false, not, List, [], ◌∷◌, map, Option, Some, None, refl, sym, ap, subst, ◌∙◌, if◌then◌else◌}
+use Rattle.std.proofs.Common.{suc, arith, ◌≡◌, ◌==◌, ℕ, Bool, true, false, not, List, [], ◌∷◌, map, Option, Some, None, refl, sym, ap, subst, ◌∙◌, if◌then◌else◌}
 use Rattle.std.specs.Prelude.{◌||◌, ◌&&◌, is_some, option_map}
 use Rattle.std.proofs.lemmas.Bool.{eq-eqb}
 use Rattle.deck_plan.specs.declared.event.EventLine.{EventLine}
@@ -18,16 +18,13 @@ use Rattle.report_text.specs.declared.event.Happened.{Happened}
 use Rattle.report_text.specs.declared.event.Happened.TheVariants as did
 use Rattle.report_text.specs.declared.line.ReportLine.{ReportLine}
 use Rattle.report_text.specs.declared.line.ReportLine.TheVariants as lines
-use Rattle.report_places.specs.declared.state.Due.TheVariants.{Next}
-use Rattle.report_places.specs.declared.state.HalfWrite.{HalfWrite}
 use Rattle.report_places.specs.declared.state.HalfWrite.TheVariants as half
 use Rattle.report_places.specs.declared.state.Outline.{Outline}
 use Rattle.report_places.specs.Same.{says}
-use Rattle.report_places.specs.Place.{holds, in_event, in_steps, may_step}
-use Rattle.deck_audit.specs.Device.{AuditedDevice, is_closed, is_idle, open_program, outline_of, runs}
+use Rattle.report_places.specs.Place.{holds, in_event, may_step}
+use Rattle.deck_audit.specs.Device.{AuditedDevice, is_closed, is_idle, outline_of, runs}
 use Rattle.deck_audit.specs.History.{work_made}
 use Rattle.deck_audit.specs.State.{AuditState, passed}
-use Rattle.report_auditor.specs.Verdict.{or_history}
 use Rattle.run_report.specs.Events.{event_lines, running_by, running_in, running_program, work_lines, work_told}
 use Rattle.run_report.specs.OneDevice.{device_lines, lines_at}
 use Rattle.run_report.proofs.OneDevice.{tells_alone}
@@ -42,12 +39,13 @@ use Rattle.subsystem_defs.specs.Lines.{Asked, Once, Run, Settle, is_busy, is_set
 use Rattle.subsystem_defs.specs.Subsystem.{Mounted, Subsystem, devices_of, mounted_in, number_of, put_in, with_mounted}
 use Rattle.subsystem_laws.proofs.GoodMarks.{Good, by_lent}
 use Rattle.subsystem_laws.proofs.PlainRuns.{Plainly}
-use Rattle.run_audit_laws.specs.Standing.{LeadsBy, audited, half_by, half_of, stand}
+use Rattle.run_audit_laws.specs.Standing.{LeadsBy, audited, half_by, stand}
 use Rattle.run_audit_laws.specs.Steps.{LeadsTowards, is_there}
 use Rattle.run_audit_laws.proofs.Found.{found_one, mounted_too, outline_one, put_at}
-use Rattle.run_audit_laws.proofs.Leading.{one_leads, quiet_lines}
-use Rattle.run_audit_laws.proofs.Pieces.{ComesTo, IsBack, backs_lead, command_leads, second_leads}
+use Rattle.run_audit_laws.proofs.Leading.{quiet_lines}
+use Rattle.run_audit_laws.proofs.Pieces.{IsStepwise, ComesTo, IsBack, backs_lead, command_leads, second_leads}
 use Rattle.run_audit_laws.proofs.Saying.{same_number}
+use Rattle.run_audit_laws.proofs.StepsLeft.{Enough}
 use Rattle.run_audit_laws.proofs.WorkEnds.{IsWork, MayEnd, first_judged, left_by, of_back, of_run, of_settle, of_step, run_ends, step_ends}
 
 -- The pieces of work: whose line asks, what it asks for, and what is told where there is nothing to do
@@ -80,6 +78,8 @@ pub record PieceGoes (s : Subsystem) (n : ℕ) (w : EventLine) (asked : Asked) (
   pub goes : (later : List EventLine) →
       LeadsTowards (stand s (w ∷ later)) (event_lines asked h.end h.reads h.writes (devices_of s) (devices_of h.behind))
       (stand h.behind (left_by w its (is_settled h.end) later))
+  pub enough : (x : MarksDevice) → device_in (devices_of s) n ≡ Some x → IsStepwise w → (k : ℕ) →
+      Enough (suc k) x.history.running (half_by x.store.half) → Enough k there.0.device.history.running (half_by there.0.device.store.half)
 
 -- A device that is busy
 
@@ -121,6 +121,9 @@ module _ (s : Subsystem) (x : MarksDevice) (at : device_in (devices_of s) x.stor
             there = (z, put_found s.mounted n m z there c.number);
             busy = ap is_busy (put_found s.mounted n m z there c.number) ∙ busy_by y.store.half y.history.running;
             goes = λ later. leads later o z c;
+            enough = λ v found stepwise k. (let both : Some x ≡ Some v = sym at ∙ found in let it : x ≡ v = cc in
+                rw (← it)
+                (c.enough stepwise k));
           } where
             lines_same : (end : EventEnd) (reads writes : ℕ) (z : Mounted) →
                 event_lines asked end reads writes (devices_of s) (devices_of (with_mounted s x.store.device z))
@@ -138,12 +141,9 @@ module _ (s : Subsystem) (x : MarksDevice) (at : device_in (devices_of s) x.stor
                 (devices_of (with_mounted s x.store.device z)))
                 (stand (with_mounted s x.store.device z) (left_by w (audited z.device) (is_settled (told_end o.answer)) later))
             leads later o z c =
-                subst (λ (e : Option EventEnd). LeadsTowards (stand s (w ∷ later)) (lines_to (told_end e) o.told.reads o.told.writes z)
-                (stand (with_mounted s n z) (left_by w (audited z.device) (is_settled (told_end e)) later))) (sym c.is)
-                (subst (λ (l : List ReportLine). LeadsTowards (stand s (w ∷ later)) l
-                (stand (with_mounted s n z) (left_by w (audited z.device) (is_settled c.its) later))) (sym (lines_same c.its o.told.reads o.told.writes z))
-                (subst (λ (l : List AuditedDevice). LeadsTowards (stand s (w ∷ later)) (its_lines c.its o.told.reads o.told.writes z.device)
-                (record { devices = l; events = left_by w (audited z.device) (is_settled c.its) later; due = Next })) (put_at s.mounted n z c.number)
+                rw c.is
+                (rw (lines_same c.its o.told.reads o.told.writes z)
+                (rw (← (put_at s.mounted n z c.number))
                 (c.so (map audited (devices_of s)) later (found_one (devices_of s) n x at) o.told.reads o.told.writes)))
 
       pub asks_goes : PieceGoes s x.store.device w asked (asks s x.store.device (mounted_in s.mounted x.store.device) talk)
@@ -156,9 +156,7 @@ module _ (s : Subsystem) (x : MarksDevice) (at : device_in (devices_of s) x.stor
       ((z : AuditState) → work_made z line (audited x) ≡ Some (passed z)) →
       (later : List EventLine) → LeadsBy (stand s (w ∷ later)) (line ∷ []) (stand s later)
   idle_leads w line k whole fits made later =
-      one_leads (stand s (w ∷ later)) (stand s later) line
-      (first_judged (map audited (devices_of s)) later (audited x) (found_one (devices_of s) n x at) w k line fits
-      ∙ ap (λ (o : Option AuditState). or_history o) (made (stand s (w ∷ later))))
+      grind (arith, first_judged (map audited (devices_of s)) later (audited x) (found_one (devices_of s) n x at) w k line fits, found_one (devices_of s) n x at)
 
   idle_fits : (line : ReportLine) → says line line ≡ true → x.store.half ≡ None → x.history.running ≡ None →
       may_step (outline_of (audited x)) line line (audited x).half ≡ true
@@ -185,6 +183,8 @@ module _ (s : Subsystem) (x : MarksDevice) (at : device_in (devices_of s) x.stor
           (λ z. refl) later),
       is_there refl,
     );
+    enough = λ v found stepwise k is. (let m = mounted_too s.mounted n x at in
+        let same : m.0.device ≡ x = m.2 in rw (same, none, whole) tt);
   }
 
   -- RUN is over then at once
@@ -229,7 +229,7 @@ module _ (s : Subsystem) (x : MarksDevice) (at : device_in (devices_of s) x.stor
         PieceGoes s x.store.device w asked (happens s (events.Step x.store.device))
     unfolding H.happens E.deed
     step_goes w asked idle p k none =
-        subst (λ (o : Option MarksDevice). PieceGoes s x.store.device w asked (happens_by s (on_device o (step by_plain)))) (sym at)
+        rw at
         (step_by w asked idle p k none x.store.half refl x.history.running refl)
 
     pub step_line_goes : PieceGoes s x.store.device (wanted.Step x.store.device) (Once (events.Step x.store.device)) (happens s (events.Step x.store.device))
@@ -263,5 +263,5 @@ module _ (s : Subsystem) (x : MarksDevice) (at : device_in (devices_of s) x.stor
           PieceGoes s x.store.device w asked (happens s (events.Back x.store.device))
       unfolding H.happens E.deed
       back_goes w asked idle p k =
-          subst (λ (o : Option MarksDevice). PieceGoes s x.store.device w asked (happens_by s (on_device o (back_deed by_plain)))) (sym at)
+          rw at
           (back_by w asked idle p k x.store.half refl)

@@ -1,5 +1,5 @@
 -- What an event of one device tells beside what it did: its acts, and the program that is over.
-use Rattle.std.proofs.Common.{arith, ◌≡◌, ◌++◌, ℕ, Bool, true, false, List, [], ◌∷◌, map, Option, Some, None, refl, sym, ap, ◌∙◌, append_assoc, if◌then◌else◌}
+use Rattle.std.proofs.Common.{arith, ◌≡◌, ◌++◌, ℕ, Bool, true, false, List, [], ◌∷◌, map, Option, Some, None, refl, ap, ◌∙◌, append_assoc, if◌then◌else◌}
 use Rattle.std.proofs.lemmas.List.{append-nil}
 use Rattle.ckd_types.specs.declared.channel.CommandEnd.{CommandEnd}
 use Rattle.plain_defs.specs.declared.journal.Act.{Act}
@@ -19,7 +19,7 @@ use Rattle.run_report.specs.OneDevice.{device_lines}
 use Rattle.run_report.proofs.ActsCome.{acts_before_check, acts_before_end, acts_come}
 use Rattle.run_report.proofs.OneDevice.{none_behind}
 use Rattle.run_report.proofs.Quiet.{behind_more}
-use Rattle.subsystem_defs.specs.Beside.{has_power, new_acts, new_items, power_told, told_act}
+use Rattle.subsystem_defs.specs.Beside.{has_power, new_acts, new_items, told_act}
 use Rattle.run_audit_laws.specs.Standing.{audited}
 use Rattle.run_audit_laws.specs.Steps.{NoLoss, act_line, over_if, over_told}
 use Rattle.run_audit_laws.proofs.CameOut.{acts_run, idle_acts, with_acts}
@@ -39,16 +39,7 @@ pub record TellsBeside (x y : MarksDevice) (acts : List Act) (over : Option Repo
 tells_by : (x y : MarksDevice) (acts : List Act) (over : Option ReportLine) (k : History) → y.history ≡ k → NoLoss acts → new_acts x.history k ≡ acts →
     has_power (new_items x.history k) ≡ false →
     program_over_lines (over_of x.store.device (new_items x.history k)) ≡ line_if over → TellsBeside x y acts over
-tells_by x y acts over k is none came power told = record {
-  loose =
-      ap (λ (h : History). map loosed_line (map (loosed x.store.device)
-      (map (told_act x.store y.store) (new_acts x.history h) ++ power_told x.store y.store (has_power (new_items x.history h))))) is
-      ∙ ap (λ (l : List Act). map loosed_line (map (loosed x.store.device)
-      (map (told_act x.store y.store) l ++ power_told x.store y.store (has_power (new_items x.history k))))) came
-      ∙ ap (λ (b : Bool). map loosed_line (map (loosed x.store.device) (map (told_act x.store y.store) acts ++ power_told x.store y.store b))) power
-      ∙ told_acts x.store.device x.store y.store acts none;
-  over_is = ap (λ (h : History). program_over_lines (over_of x.store.device (new_items x.history h))) is ∙ told;
-}
+tells_by x y acts over k is none came power told = grind (arith, told_acts x.store.device x.store y.store acts none)
 
 -- acts alone
 pub acts_no_power : (acts : List Act) → has_power (map (λ (act : Act). items.Act act) acts) ≡ false

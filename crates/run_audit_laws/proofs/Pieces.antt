@@ -1,5 +1,5 @@
 -- The lines of a piece of work on a device of a run lead the audit from that device before it to that device behind it.
-use Rattle.std.proofs.Common.{◌≡◌, ◌<◌, ◌==◌, ℕ, Bool, true, false, List, ◌∷◌, length, Option, Some, None, refl, sym, ap, subst, ◌∙◌, arith}
+use Rattle.std.proofs.Common.{suc, ◌≡◌, ◌<◌, ◌==◌, ℕ, Bool, true, false, List, ◌∷◌, length, Option, Some, None, refl, sym, ap, subst, ◌∙◌, arith}
 use Rattle.std.specs.Prelude.{◌&&◌, not, option_map, IsSome}
 use Rattle.std.proofs.lemmas.Bool.{and_from}
 use Rattle.ckd_types.specs.declared.channel.CommandEnd.{CommandEnd}
@@ -44,7 +44,7 @@ use Rattle.report_text.specs.declared.line.ReportLine.TheVariants as lines
 use Rattle.report_places.specs.declared.state.Due.TheVariants.{Next}
 use Rattle.report_places.specs.declared.state.HalfWrite.{HalfWrite}
 use Rattle.report_places.specs.declared.state.HalfWrite.TheVariants as half
-use Rattle.report_places.specs.Place.{is_back_line, is_second, is_second_line}
+use Rattle.report_places.specs.Place.{is_back_line, is_second_line}
 use Rattle.deck_audit.specs.Device.{AuditedDevice, device_in, part_of_open, plain_end, words_of_open}
 use Rattle.deck_audit.specs.History.{back_half, is_last}
 use Rattle.run_report.specs.declared.told.RunningProgram.{RunningProgram}
@@ -66,6 +66,7 @@ use Rattle.run_audit_laws.proofs.Lossless.{none_lost}
 use Rattle.run_audit_laws.proofs.PieceLines.{acted_tells, checked_tells, ended_tells, lines_are}
 use Rattle.run_audit_laws.proofs.ResetDevices.{HasParts, audited_by}
 use Rattle.run_audit_laws.proofs.Saying.{same_number}
+use Rattle.run_audit_laws.proofs.StepsLeft.{Enough, acted_enough, acted_more, ended_enough, ended_more, enough_second, enough_whole, halved_enough}
 use Rattle.run_audit_laws.proofs.StepParts.{IsLeft, IsSecond, command_left, second_left}
 use Rattle.run_audit_laws.proofs.WorkEnds.{IsWork, MayEnd, MayTell, back_seconds, back_tells, behind_piece, checks_lead, ends_lead, halves_lead, of_back, of_run, of_settle, of_step, run_seconds, seconds_by, settle_seconds, settle_tells, step_seconds, tells_lead}
 
@@ -79,12 +80,19 @@ PieceSo x y end w idle =
     (xs : List AuditedDevice) (later : List EventLine) → device_in xs x.store.device ≡ Some (audited x) → (reads writes : ℕ) →
     Does w xs later (device_lines (work_told x.store.device (option_map running_program x.history.running) idle end) reads writes x y) (audited y) (is_settled end)
 
+-- a line that goes command by command
+abbrev pub IsStepwise : EventLine → Type 0
+IsStepwise (wanted.Step d) = Unit {0}
+IsStepwise (wanted.Run d) = Unit {0}
+IsStepwise w = ⊥
+
 -- the device behind it
 pub record ComesTo (x y : MarksDevice) (end : Option EventEnd) (w : EventLine) (idle : Happened) : Type 0 where
   pub its : EventEnd
   pub is : end ≡ Some its
   pub number : y.store.device ≡ x.store.device
   pub so : PieceSo x y its w idle
+  pub enough : IsStepwise w → (k : ℕ) → Enough (suc k) x.history.running (half_by x.store.half) → Enough k y.history.running (half_by y.store.half)
 
 module _ (num : ℕ) (empty : PlainState) (x y : MarksDevice) (f : Follows num empty x)
     (base : empty ≡ (audited x).empty) (g : Follows num empty y) where
@@ -195,6 +203,8 @@ module _ (num : ℕ) (empty : PlainState) (x : MarksDevice) (f : Follows num emp
     so = λ xs later has reads writes.
         ends_told num empty x y f base c.follows o running c.kept w half.Closed k (closed_half whole) c.left xs later has reads writes idle (ends.Stepped (stepped.Ended e)) e refl
         c.told;
+    enough = λ _ n is. (let most = enough_whole (suc n) _ _ o running (closed_half whole) is in
+        ended_enough n o y (ended_more x.history e o running c.told) c.left.half_is (omega (arith, most)));
   }
   command_comes o running whole w idle k y (Some (stepped.Half t)) c = record {
     its = ends.Stepped (stepped.Half t);
@@ -204,6 +214,8 @@ module _ (num : ℕ) (empty : PlainState) (x : MarksDevice) (f : Follows num emp
         subst (λ (r : Option OpenEntry). Does w xs later
         (device_lines (work_told x.store.device (option_map running_program r) idle (ends.Stepped (stepped.Half t))) reads writes x y) (audited y) false) (sym running)
         (halved_by num empty x y f base c.follows o running c.kept w k (closed_half whole) c.left xs later has reads writes t y.history c.told refl);
+    enough = λ _ n is.
+        halved_enough n o y (acted_more x.history o running c.told) c.left.half_is (enough_whole (suc n) _ _ o running (closed_half whole) is);
   }
   command_comes o running whole w idle k y None c = absurd c.left
 
@@ -245,6 +257,9 @@ module _ (num : ℕ) (empty : PlainState) (x : MarksDevice) (f : Follows num emp
     so = λ xs later has reads writes.
         ends_told num empty x y f base c.follows o running c.kept w half.OfCommand (ends_by_command k) (ap half_by there ∙ ap half_of origin) c.left.parts xs later
         has reads writes idle (ends.Second (seconds.Ended e)) e refl c.told;
+    enough = λ _ n is.
+        ended_enough n o y (ended_more x.history e o running c.told) c.left.parts.half_is
+        (enough_second (suc n) _ _ o running (ap half_by there ∙ ap half_of origin) is);
   }
   ended_comes h there bypass edit origin w idle k None running some y e c = absurd (some_none None some refl)
 
@@ -261,10 +276,12 @@ module _ (num : ℕ) (empty : PlainState) (x : MarksDevice) (f : Follows num emp
     is = refl;
     number = p.number;
     so = λ xs later has reads writes.
-        subst (λ (t : Happened). Does w xs later (device_lines t reads writes x y) (audited y) false) (sym (told (option_map running_program x.history.running)))
-        (subst (λ (b : Bool). Does w xs later (device_lines (did.Back x.store.device shown) reads writes x y) (audited y) b) not_last
+        rw (told (option_map running_program x.history.running))
+        (rw (← not_last)
         (told_by num empty x y f base g kept w shown half.OfBackground xs later has (seconds_by k second_is) (ap half_by there ∙ origin)
         (subst (HasParts x y) (sym closed) p) reads writes y.history acted refl));
+    enough = λ _ n is.
+        acted_enough n x y acted p.half_is x.history.running refl (subst (Enough (suc n) x.history.running) (ap half_by there ∙ origin) is);
   }
 
   second_line : (t : ℕ) → ((x.store.device == x.store.device) && true) ≡ true
@@ -296,8 +313,7 @@ module _ (num : ℕ) (empty : PlainState) (x : MarksDevice) (f : Follows num emp
 
   pub second_leads : (h : store.HalfWrite (Unit {0})) → x.store.half ≡ Some h → (w : EventLine) (idle : Happened) → IsWork x.store.device w →
       Had (ends_by ends.Second (second by_plain x)) (λ y end. ComesTo x y end w idle)
-  second_leads h there w idle k =
-      had_then (second_so h there) (λ y answer c. had_done (second_comes h there h.origin refl w idle k y answer c))
+  second_leads h there w idle k = search (arith, had_then, second_so, had_done, second_comes)
 
 -- Work in the background
 
@@ -306,23 +322,17 @@ pub data IsBack (n : ℕ) : EventLine → Type 0 where
   by_back : IsBack n (wanted.Back n)
   by_settle : IsBack n (wanted.Settle n)
 
+not_stepwise : {n : ℕ} {w : EventLine} → IsBack n w → IsStepwise w → ⊥
+not_stepwise by_back is = is
+not_stepwise by_settle is = is
+
 may_tell : (xs : List AuditedDevice) (later : List EventLine) (a : AuditedDevice) (has : device_in xs a.number ≡ Some a) (w : EventLine) (answer : BackAnswer) →
     IsBack a.number w → is_back_line a.number (lines.Back a.number answer) ≡ true → MayTell xs later a has w answer half.Closed
 may_tell xs later a has w answer by_back so = back_tells so
 may_tell xs later a has w answer by_settle so = settle_tells so
 
 back_line : (n : ℕ) (d : BackDid) → is_back_line n (lines.Back n (back_answer d)) ≡ true
-back_line n d = and_from (n == n) (not (is_second (back_answer d))) (same_number n) (by_did d) where
-  by_did : (d : BackDid) → not (is_second (back_answer d)) ≡ true
-  by_did dids.Nothing = refl
-  by_did (dids.Recovered t) = refl
-  by_did (dids.Copied t) = refl
-  by_did (dids.Staged t) = refl
-  by_did (dids.Skipped t) = refl
-  by_did (dids.Destaged t) = refl
-  by_did (dids.Half t) = refl
-  by_did (dids.Fault side) = refl
-  by_did (dids.BadBytes side) = refl
+back_line n d = grind (arith, and_from, same_number)
 
 last_is : (d : BackDid) → is_last (back_answer d) ≡ stops d
 last_is dids.Nothing = refl
@@ -357,9 +367,10 @@ module _ (num : ℕ) (empty : PlainState) (x : MarksDevice) (f : Follows num emp
     is = refl;
     number = c.left.number;
     so = λ xs later has reads writes.
-        subst (λ (b : Bool). Does w xs later (device_lines (did.Back x.store.device (back_answer d)) reads writes x y) (audited y) b) (last_is d)
+        rw (← (last_is d))
         (told_by num empty x y f base c.follows c.kept w (back_answer d) half.Closed xs later has
         (may_tell xs later (audited x) has w (back_answer d) k (back_line x.store.device d)) (ap half_by none) c.left reads writes y.history c.told refl);
+    enough = λ stepwise. absurd (not_stepwise k stepwise);
   }
   back_comes w idle k y None c = absurd c.left
 

@@ -1,16 +1,15 @@
 -- What a loss of power makes of a device, and what is told of it.
-use Rattle.std.proofs.Common.{arith, ◌≡◌, ◌*◌, ℕ, Bool, true, false, List, [], Option, Some, None, is_some, get_or, refl, sym, ap, subst, ◌∙◌, if◌then◌else◌}
+use Rattle.std.proofs.Common.{arith, ◌≡◌, ℕ, Bool, true, [], Option, None, get_or, refl, if◌then◌else◌}
 use Rattle.loss_model.specs.declared.Loss.TheVariants as losses
 use Rattle.plain_defs.specs.History.{lost_power}
 use Rattle.plain_defs.specs.PlainState.{PlainState}
-use Rattle.track_table.specs.Tracks.{least}
 use Rattle.device_defs.specs.Contents.{by_plain}
 use Rattle.device_defs.specs.Cutting as K
 use Rattle.device_defs.specs.Cutting.{counts_one_by, half_cut, half_ended, half_lost, loose_gone, origin_cut, power, powered_off, powerless}
 use Rattle.device_defs.specs.Device.{event_begun, event_ended}
 use Rattle.device_defs.specs.Effects.{gone_back}
 use Rattle.device_defs.specs.Events.{with_loss}
-use Rattle.device_defs.specs.Losses.{settled, slot_in, without_frame}
+use Rattle.device_defs.specs.Losses.{settled, without_frame}
 use Rattle.device_defs.specs.Marks.{MarksDevice, MarksStore}
 use Rattle.device_defs.specs.Owed.{noted_begin, waiting_count}
 use Rattle.device_defs.specs.Store.{Origin, OfCommand, OfCut, OfBackground, has_loose, patch_at, tracks_of}
@@ -33,11 +32,8 @@ record Spares (s z : MarksStore) : Type 0 where
   number : z.number ≡ s.number
   loose : z.loose ≡ s.loose
 
-spares_all : (s : MarksStore) → Spares s s
-spares_all s = record { device = refl; geometry = refl; cylinders = refl; lent = refl; number = refl; loose = refl }
-
 half_spares : (s : MarksStore) (h : Option (store.HalfWrite (Unit {0}))) → Had (half_cut by_plain s h) (λ z (_ : Unit {0}). Spares s z)
-half_spares s h = search (arith, had_tell, had_done, spares_all)
+half_spares s h = search (arith, had_tell, had_done)
 
 -- All frames go, and data of cache fast write where there are some
 
@@ -52,11 +48,8 @@ record OffCore (x : MarksStore) (n : ℕ) (c : Core) : Type 0 where
 off_hard : (x : MarksStore) (n : ℕ) (c : Core) (t : ℕ) → OffCore x n c → loose_at c t ≡ true → OffCore x n (hardened_core c t)
 off_hard x n c t w is = search arith
 
-ended_core : (z : MarksStore) (h : store.HalfWrite (Unit {0})) (origin : Origin) → core_of (half_ended by_plain z h origin) ≡ with_half (core_of z) None
-ended_core z h origin = grind (arith, patch_same)
-
 lost_core : (z : MarksStore) (h : Option (store.HalfWrite (Unit {0}))) → z.half ≡ h → core_of (half_lost by_plain z h) ≡ with_half (core_of z) None
-lost_core z h is = grind (arith, with_half, core_of, ended_core)
+lost_core z h is = grind (arith, with_half, core_of, patch_same)
 
 gone_off : (s : MarksStore) (b : Bool) → OffCore s (number_behind b s.number) (with_half (core_of (if b then gone_back s else s)) None)
 gone_off s b = search arith
@@ -95,12 +88,7 @@ module _ (num : ℕ) (empty : PlainState) (x : MarksDevice) (f : Follows num emp
 
   off_first : (s : MarksStore) → CutSo num empty x f x.history.running (counts_one_by x.store.half) (noted_begin x.store) s → Spares (noted_begin x.store) s →
       IsOff num empty x f (powered_off by_plain (event_begun x) s)
-  off_first s cut k =
-      let counted = with_loss s losses.Cache in
-      let w = powerless_off counted in
-      let loose_is : has_loose s ≡ has_loose x.store = ap (λ (l : List Bool). is_some (least (s.cylinders * 15) (λ t. get_or l t false))) k.loose ∙ ap
-      (λ (n : ℕ). is_some (least (n * 15) (λ t. get_or x.store.loose t false))) k.cylinders in
-      (search (arith, core_of))
+  off_first s cut k = grind (arith, powerless_off (with_loss s losses.Cache), get_or, core_of)
 
   pub power_makes : Had (power by_plain x) (λ y (_ : Unit {0}). IsOff num empty x f y)
   unfolding K.power

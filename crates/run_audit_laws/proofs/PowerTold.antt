@@ -1,34 +1,5 @@
 -- What a loss of power tells of a device: the program that it cuts, and the loss of its data of cache fast write.
-use Rattle.std.proofs.Common.{
-  ◌≡◌,
-  ◌+◌,
-  ◌==◌,
-  ◌++◌,
-  ℕ,
-  Bool,
-  true,
-  false,
-  not,
-  List,
-  [],
-  ◌∷◌,
-  map,
-  length,
-  Option,
-  Some,
-  None,
-  get_or,
-  refl,
-  sym,
-  ap,
-  subst,
-  ◌∙◌,
-  append_assoc,
-  if◌then◌else◌,
-  arith,
-  inl,
-  inr,
-}
+use Rattle.std.proofs.Common.{◌≡◌, ◌+◌, ◌==◌, ◌++◌, ℕ, Bool, true, false, not, List, [], ◌∷◌, map, length, Option, Some, None, get_or, refl, sym, ap, ◌∙◌, append_assoc, if◌then◌else◌, arith, inl, inr}
 use Rattle.std.specs.Prelude.{◌&&◌, ◌⊎◌}
 use Rattle.std.proofs.lemmas.Bool.{eqb-true, true≢false}
 use Rattle.std.proofs.lemmas.List.{append-nil}
@@ -36,20 +7,18 @@ use Rattle.plain_defs.specs.declared.journal.Act.{Act}
 use Rattle.plain_defs.specs.declared.journal.How.TheVariants.{Cut}
 use Rattle.plain_defs.specs.declared.journal.Item.{Item}
 use Rattle.plain_defs.specs.declared.journal.Item.TheVariants as items
-use Rattle.plain_defs.specs.History.{History, OpenEntry, entry_of, lost_power_in, plain_of}
-use Rattle.plain_defs.specs.Journal.{Plans, program_of, replay}
+use Rattle.plain_defs.specs.History.{History, OpenEntry, entry_of, lost_power_in}
+use Rattle.plain_defs.specs.Journal.{program_of, replay}
 use Rattle.plain_defs.specs.Legal.{is_started}
-use Rattle.plain_defs.specs.Loose.{is_loose_in, next_number}
+use Rattle.plain_defs.specs.Loose.{next_number}
 use Rattle.plain_defs.specs.PlainState.{PlainState}
 use Rattle.plain_defs.proofs.JournalLaws.{replay-append}
-use Rattle.device_defs.specs.Cutting.{counts_one_by, is_of_command}
+use Rattle.device_defs.specs.Cutting.{counts_one_by}
 use Rattle.device_defs.specs.Marks.{MarksDevice}
 use Rattle.device_defs.specs.Store.{has_loose}
-use Rattle.device_defs.specs.Store as store
 use Rattle.device_laws.proofs.HistoryCuts.{cut_entry, taken_state}
 use Rattle.device_laws.proofs.HistoryEnds.{running_is_open}
 use Rattle.device_laws.proofs.PlainCuts.{may, taken_by}
-use Rattle.device_laws.proofs.PlainStores.{IsOf}
 use Rattle.device_laws.proofs.PlainTurns.{Follows}
 use Rattle.device_laws.proofs.WaitingResets.{started-append}
 use Rattle.report_text.specs.declared.answers.HowOver.TheVariants as how
@@ -59,22 +28,21 @@ use Rattle.report_text.specs.Events.{loosed_line, program_over_lines}
 use Rattle.report_places.specs.declared.state.HalfWrite.TheVariants.{Closed}
 use Rattle.deck_audit.specs.Device as A
 use Rattle.deck_audit.specs.Device.{AuditedDevice, is_next_legal, state_of}
-use Rattle.deck_audit.specs.History.{cut_by_power, cut_open, loss_line, without_power}
+use Rattle.deck_audit.specs.History.{cut_by_power, loss_line, without_power}
 use Rattle.run_report.specs.Beside.{loose_lines, loosed, over_lines, over_of}
 use Rattle.run_report.proofs.ActsCome.{acts_both, same_program}
 use Rattle.run_report.proofs.OneDevice.{none_behind}
 use Rattle.run_report.proofs.Quiet.{behind_more}
-use Rattle.subsystem_defs.specs.Beside.{WentBack, acts_in, acts_of_entry, acts_of_items, behind_first, has_power, loose_count, new_items, power_told, told_act}
+use Rattle.subsystem_defs.specs.Beside.{WentBack, acts_in, behind_first, has_power, loose_count, new_items, power_told, told_act}
 use Rattle.subsystem_laws.proofs.PlainRuns.{Plainly}
-use Rattle.run_audit_laws.specs.Standing.{audited, half_by}
+use Rattle.run_audit_laws.specs.Standing.{audited}
 use Rattle.run_audit_laws.proofs.CacheLines.{loss_told}
 use Rattle.run_audit_laws.proofs.KnownDevices.{Marked, count_is, has_is, known, none_counted, some_counted}
 use Rattle.run_audit_laws.proofs.LooseOnce.{StandOnce, items_once, part_once}
 use Rattle.run_audit_laws.proofs.LossDevices.{number_behind}
 use Rattle.run_audit_laws.proofs.PowerDevices.{IsOff}
 use Rattle.run_audit_laws.proofs.ResetDevices.{audited_by}
-use Rattle.run_audit_laws.proofs.Resets.{next_legal}
-use Rattle.run_audit_laws.proofs.Ties.{one_if}
+use Rattle.run_audit_laws.proofs.Resets.{few_more}
 
 -- The device between the two lines, and each line
 
@@ -108,9 +76,6 @@ pub record IsOffTold (x y : MarksDevice) : Type 0 where
   pub behind : without_power middle ≡ audited y
   pub over : IsUncut x y middle ⊎ IsCutNow x y middle
   pub loose : IsKept x y middle ⊎ IsGone x y middle
-
-next_differs : (n : ℕ) → next_number n ≡ n → ⊥
-next_differs n is = grind (arith, eqb-true)
 
 module _ (x y : MarksDevice) (p : Plainly x) (f : Follows p.number p.empty y) (g : IsOff p.number p.empty x p.follows y) where
   abbrev more : ℕ
@@ -161,11 +126,8 @@ module _ (x y : MarksDevice) (p : Plainly x) (f : Follows p.number p.empty y) (g
           none = sym (has_is middle x.store k) ∙ none;
         })
 
-  half_is : half_by y.store.half ≡ Closed
-  half_is = ap half_by g.half
-
   as_audited : (k : History) → y.history ≡ k → audited y ≡ record (audited x) { history = k; half = Closed }
-  as_audited k is = grind (arith, audited_by, half_is)
+  as_audited k is = grind (arith, audited_by)
 
   -- A program runs
 
@@ -194,9 +156,6 @@ module _ (x y : MarksDevice) (p : Plainly x) (f : Follows p.number p.empty y) (g
     state_is : state_of cut ≡ taken (audited x).empty
     state_is = replay-append x.plans (audited x).empty x.history.items (entry ∷ [])
 
-    taken_of : IsOf (taken (audited x).empty) g.cut
-    taken_of = grind (arith, taken_by)
-
     taken_once : StandOnce (taken (audited x).empty).loose
     taken_once =
         rw (← p.base) (let s = replay x.plans p.empty x.history.items in let k = counts_one_by x.store.half in part_once s o.path
@@ -205,22 +164,7 @@ module _ (x y : MarksDevice) (p : Plainly x) (f : Follows p.number p.empty y) (g
         (may p.number p.empty x p.follows o running)).acts (items_once x.plans p.empty [] x.history.items (rw p.base tt) p.follows.stands.plain.legal))
 
     marked : Marked cut x.store
-    marked = record {
-      same = λ t. ap (λ (s : PlainState). is_loose_in s.loose t) state_is ∙ taken_of.loose t ∙ ap (λ (l : List Bool). get_or l t false) g.cut_loose;
-      once = subst (λ (s : PlainState). StandOnce s.loose) (sym state_is) taken_once;
-      number_is = ap (λ (s : PlainState). s.number) state_is ∙ taken_of.number ∙ g.cut_number;
-      many = (known x p).many;
-    }
-
-    few_by : (q : Option (store.HalfWrite (Unit {0}))) → x.store.half ≡ q →
-        (counts_one_by x.store.half ≡ 0) ⊎ ((counts_one_by x.store.half ≡ 1) × (is_next_legal (audited x) x.history.running ≡ true))
-    few_by None is = inl (ap counts_one_by is)
-    few_by (Some w) is = by_test (is_of_command w.origin) refl where
-      by_test : (b : Bool) → is_of_command w.origin ≡ b →
-          (counts_one_by x.store.half ≡ 0) ⊎ ((counts_one_by x.store.half ≡ 1) × (is_next_legal (audited x) x.history.running ≡ true))
-      by_test true test =
-          let one : counts_one_by x.store.half ≡ 1 = ap counts_one_by is ∙ ap one_if test in inr (one, next_legal x p o running one)
-      by_test false test = inl (ap counts_one_by is ∙ ap one_if test)
+    marked = grind (arith, state_is, get_or, taken_once, known, taken_by)
 
     started : is_started false (x.history.items ++ entry ∷ []) ≡ true
     started = started-append false x.history.items (entry ∷ [])
@@ -240,7 +184,7 @@ module _ (x y : MarksDevice) (p : Plainly x) (f : Follows p.number p.empty y) (g
         running = running;
         line_is = ap (λ (l : List Item). program_over_lines (over_of x.store.device l)) items_are;
         middle_is = refl;
-        few = few_by x.store.half refl;
+        few = few_more x p o running;
       });
       loose = loose_of cut refl marked acts_are true (ap has_power items_are) (λ is. absurd (true≢false is));
     }
@@ -260,7 +204,7 @@ module _ (x y : MarksDevice) (p : Plainly x) (f : Follows p.number p.empty y) (g
 
     -- before the first start there are no such data
     firm : is_started false x.history.items ≡ false → has_loose x.store ≡ false
-    firm not_yet = grind (arith, stopped, next_differs)
+    firm not_yet = grind (arith, stopped, eqb-true)
 
     idle_told : IsOffTold x y
     idle_told =

@@ -1,18 +1,16 @@
 -- What an event tells beside what it did, by the items and the acts that came to a history.
-use Rattle.std.proofs.Common.{arith, ◌≡◌, ◌++◌, ◌+◌, ℕ, Bool, false, List, [], ◌∷◌, map, Some, length, refl, ap, ◌∙◌}
+use Rattle.std.proofs.Common.{arith, ◌≡◌, ◌++◌, ◌+◌, ℕ, false, List, [], ◌∷◌, Some, length, refl, ◌∙◌}
 use Rattle.std.proofs.lemmas.List.{append-nil}
-use Rattle.plain_defs.specs.declared.journal.Act.{Act}
 use Rattle.plain_defs.specs.declared.journal.How.TheVariants.{Cut}
 use Rattle.plain_defs.specs.declared.journal.Item.{Item}
 use Rattle.plain_defs.specs.declared.journal.Item.TheVariants as items
 use Rattle.plain_defs.specs.History.{History, OpenEntry, cut_by, entry_of, resets_of}
 use Rattle.device_defs.specs.Marks.{MarksDevice}
-use Rattle.report_text.specs.Events.{loosed_line}
-use Rattle.run_report.specs.Beside.{loose_lines, loosed}
+use Rattle.run_report.specs.Beside.{loose_lines}
 use Rattle.run_report.proofs.ActsCome.{acts_both, no_act, same_program}
 use Rattle.run_report.proofs.OneDevice.{none_behind}
 use Rattle.run_report.proofs.Quiet.{behind_more}
-use Rattle.subsystem_defs.specs.Beside.{acts_in, acts_of_entry, acts_of_items, behind_first, has_power, new_items, power_told, told_act}
+use Rattle.subsystem_defs.specs.Beside.{acts_in, acts_of_items, has_power, new_items}
 
 -- no act came, and no loss of power
 pub none_loose : (b a : MarksDevice) (xs : List Item) → new_items b.history a.history ≡ xs → has_power xs ≡ false →

@@ -27,7 +27,7 @@ found_ranged b d o r rest = grind arith
 pub device_ranged : (ds : List MarksDevice) (n : ℕ) → All Ranged ds → IfSome (device_in ds n) Ranged
 device_ranged [] n all = tt
 device_ranged (d ∷ ds) n all =
-    found_ranged (d.store.device == n) d (device_in ds n) (All-head Ranged d ds all) (device_ranged ds n (All-tail Ranged d ds all))
+    grind (arith, found_ranged (d.store.device == n) d (device_in ds n) (All-head Ranged d ds all) (device_ranged ds n (All-tail Ranged d ds all)), device_ranged ds n (All-tail Ranged d ds all))
 
 -- the ordinal of a program that is planned
 pub few_programs : (n m : ℕ) → n ≤ m → m ≤ 512 → IsShort n

@@ -1,10 +1,7 @@
 -- What a reset makes of a device, as the audit has it.
-use Rattle.std.proofs.Common.{arith, ◌≡◌, ◌==◌, ℕ, Bool, true, false, Option, Some, None, refl, sym, ap, ◌∙◌, if◌then◌else◌}
+use Rattle.std.proofs.Common.{arith, ◌≡◌, ◌==◌, ℕ, Bool, true, false, Option, Some, None, refl, if◌then◌else◌}
 use Rattle.std.proofs.lemmas.Bool.{cond_both}
-use Rattle.ckd_types.specs.declared.geometry.Geometry.{Geometry}
-use Rattle.plain_defs.specs.History.{History, OpenEntry, has_used}
-use Rattle.plain_defs.specs.Journal.{Plans}
-use Rattle.plain_defs.specs.PlainState.{empty_state, reset_path}
+use Rattle.plain_defs.specs.History.{History, OpenEntry}
 use Rattle.device_outside.specs.Interaction.{Done}
 use Rattle.device_defs.specs.Contents.{by_plain}
 use Rattle.device_defs.specs.Cutting as K
@@ -15,7 +12,7 @@ use Rattle.device_defs.specs.Store as store
 use Rattle.device_laws.proofs.Always.{Always, always_done, always_tell, always_then}
 use Rattle.report_places.specs.declared.state.HalfWrite.{HalfWrite}
 use Rattle.deck_audit.specs.History.{cut_half}
-use Rattle.run_audit_laws.specs.Standing.{audited, half_by, half_of}
+use Rattle.run_audit_laws.specs.Standing.{audited, half_by}
 
 -- a device by its parts
 pub record HasParts (x y : MarksDevice) (half : HalfWrite) : Type 0 where
@@ -38,16 +35,9 @@ record IsCutOf (s z : MarksStore) : Type 0 where
   lent : z.lent ≡ s.lent
   half_is : half_by z.half ≡ cut_half (half_by s.half)
 
-same_cut : (s : MarksStore) → cut_half (half_by s.half) ≡ half_by s.half → IsCutOf s s
-same_cut s is = record { number = refl; geometry = refl; cylinders = refl; lent = refl; half_is = sym is }
-
 module _ (s : MarksStore) where
-  by_origin : (h : store.HalfWrite (Unit {0})) → s.half ≡ Some h → (o : Origin) → h.origin ≡ o →
-      Always (origin_cut by_plain s h o) (λ z (_ : Unit {0}). IsCutOf s z)
-  by_origin h kept o is = search (arith, always_tell, always_done, same_cut)
-
   by_half : (h : Option (store.HalfWrite (Unit {0}))) → s.half ≡ h → Always (half_cut by_plain s h) (λ z (_ : Unit {0}). IsCutOf s z)
-  by_half h kept = search (arith, by_origin, always_done, same_cut)
+  by_half h kept = search (arith, always_done, always_tell)
 
 abbrev pub reset_half : MarksDevice → ℕ → Option OpenEntry → HalfWrite
 reset_half x path (Some o) = if o.path == path then cut_half (half_by x.store.half) else half_by x.store.half
@@ -71,11 +61,7 @@ module _ (x : MarksDevice) (path : ℕ) where
           half_is = cut.half_is;
         }))
     by_test false = always_done (same_parts (reset_noted by_plain x path 0) refl refl)
-  by_running None =
-      cond_both (has_used x.history path) (Done (record (reset_noted by_plain x path 0) { paths = reset_path x.paths path }) tt) (Done x tt)
-      (λ i. Always i (λ y (_ : Unit {0}). HasParts x y (half_by x.store.half)))
-      (λ used. always_done (same_parts (record (reset_noted by_plain x path 0) { paths = reset_path x.paths path }) refl refl))
-      (λ unused. always_done (same_parts x refl refl))
+  by_running None = search (arith, cond_both, always_done, same_parts)
 
   pub reset_parts : Always (reset by_plain x path) (λ y (_ : Unit {0}). HasParts x y (reset_half x path x.history.running))
   unfolding K.reset

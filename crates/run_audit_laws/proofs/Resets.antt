@@ -1,55 +1,23 @@
 -- RESET: the OVER line of a program that it cuts, and its own line.
-use Rattle.std.proofs.Common.{
-  ◌≡◌,
-  ◌+◌,
-  ◌==◌,
-  ◌++◌,
-  ℕ,
-  Bool,
-  true,
-  false,
-  not,
-  List,
-  [],
-  ◌∷◌,
-  map,
-  length,
-  Option,
-  Some,
-  None,
-  refl,
-  sym,
-  ap,
-  subst,
-  ◌∙◌,
-  if◌then◌else◌,
-  arith,
-  inl,
-  inr,
-}
-use Rattle.std.specs.Prelude.{◌||◌, ◌&&◌, ◌⊎◌, IfSome, Ok, Err}
+use Rattle.std.proofs.Common.{◌≡◌, ◌+◌, ◌==◌, ◌++◌, ℕ, Bool, true, false, List, [], ◌∷◌, map, length, Option, Some, None, refl, sym, ap, subst, ◌∙◌, if◌then◌else◌, arith, inl, inr}
+use Rattle.std.specs.Prelude.{◌⊎◌, IfSome, Ok}
 use Rattle.std.proofs.lemmas.Bool.{eqb-true, eq-eqb, ne_eqb, and_from}
-use Rattle.ckd_types.specs.Parameters.{is_provisional}
 use Rattle.deck_plan.specs.declared.event.EventLine.{EventLine}
 use Rattle.deck_plan.specs.declared.event.EventLine.TheVariants as wanted
 use Rattle.plain_defs.specs.declared.journal.How.TheVariants.{Cut}
 use Rattle.plain_defs.specs.declared.journal.Item.{Item}
 use Rattle.plain_defs.specs.declared.journal.Item.TheVariants as items
-use Rattle.plain_defs.specs.History.{History, OpenEntry, cut_by, entry_of, open_part, put, reset_in_history as history_reset, reset_in, resets_of}
-use Rattle.plain_defs.specs.Journal.{program_of, replay}
-use Rattle.plain_defs.specs.Legal.{MayEdit, is_used, next_edit}
-use Rattle.plain_defs.specs.Loose.{is_loose_there}
-use Rattle.plain_defs.specs.PlainState.{PlainState}
+use Rattle.plain_defs.specs.History.{History, OpenEntry, cut_by, entry_of, put, reset_in_history as history_reset, reset_in, resets_of}
+use Rattle.plain_defs.specs.Legal.{MayEdit, is_used}
 use Rattle.plain_defs.specs.Program.{Part}
 use Rattle.ckd_rules.specs.Walk.{TrackEdit}
 use Rattle.device_defs.specs.Contents.{by_plain}
-use Rattle.device_defs.specs.Cutting.{counts_one_by, is_of_command, reset}
+use Rattle.device_defs.specs.Cutting.{counts_one_by, reset}
 use Rattle.device_defs.specs.Marks.{MarksDevice}
 use Rattle.device_defs.specs.Store as store
 use Rattle.device_outside.specs.Interaction.{Done}
 use Rattle.device_laws.proofs.DeviceCuts.{reset_tells}
 use Rattle.device_laws.proofs.Had.{Had, held, had_done, had_then}
-use Rattle.device_laws.proofs.HistoryCuts.{MayTake}
 use Rattle.device_laws.proofs.PlainCuts.{may}
 use Rattle.device_laws.proofs.PlainEvents.{had_always, had_both}
 use Rattle.device_laws.proofs.counted.Counting.{counts_done, counts_then, held_moved}
@@ -60,13 +28,11 @@ use Rattle.report_text.specs.declared.line.ReportLine.{ReportLine}
 use Rattle.report_text.specs.declared.line.ReportLine.TheVariants as lines
 use Rattle.report_text.specs.Events.{program_over_lines}
 use Rattle.report_places.specs.declared.state.Due.TheVariants.{ResetOf}
-use Rattle.report_places.specs.declared.state.Outline.{Outline}
-use Rattle.report_places.specs.Place.{holds, is_cut, may_reset}
-use Rattle.deck_audit.specs.Device.{AuditedDevice, edit_of, is_edit_legal, is_next_legal, open_program, outline_of, part_of_open, with_device}
+use Rattle.report_places.specs.Place.{may_reset}
+use Rattle.deck_audit.specs.Device.{AuditedDevice, is_edit_legal, is_next_legal, open_program, outline_of, with_device}
 use Rattle.deck_audit.specs.History as M
 use Rattle.deck_audit.specs.History.{changed, cut_half, reset_made}
 use Rattle.deck_audit.specs.State.{AuditState, passed}
-use Rattle.report_auditor.specs.declared.status.AuditWhy.TheVariants.{Place}
 use Rattle.report_auditor.specs.Verdict.{judged}
 use Rattle.run_report.specs.Beside.{loose_lines, over_lines, over_of}
 use Rattle.run_report.specs.Events.{event_lines, work_lines}
@@ -76,7 +42,7 @@ use Rattle.run_report.proofs.Quiet.{behind_more}
 use Rattle.subsystem_defs.specs.declared.end.EventEnd.{EventEnd}
 use Rattle.subsystem_defs.specs.declared.end.EventEnd.TheVariants as ends
 use Rattle.subsystem_defs.specs.declared.event.Event.TheVariants as events
-use Rattle.subsystem_defs.specs.Beside.{acts_in, acts_running, has_power, new_items}
+use Rattle.subsystem_defs.specs.Beside.{acts_in, has_power, new_items}
 use Rattle.subsystem_defs.specs.Deeds as E
 use Rattle.subsystem_defs.specs.Deeds.{Asks, device_in, ends_by, ends_done, on_device}
 use Rattle.subsystem_defs.specs.Happening as H
@@ -95,18 +61,24 @@ use Rattle.run_audit_laws.proofs.Saying.{same_number}
 
 -- What a command may edit, as the audit tests it
 
-by_loose : (l p : Bool) → (l ≡ true → p ≡ true) → (not l || p) ≡ true
-by_loose l p h = grind arith
-
 pub legal_by : (p : Part) (edit : Option TrackEdit) → MayEdit p.state p.stance edit → is_edit_legal p edit ≡ true
-legal_by p edit h = grind (arith, by_loose)
+legal_by p edit h = grind arith
 
 -- where the cut of a half write counts one command more, that command may be so
 pub next_legal : (x : MarksDevice) (p : Plainly x) (o : OpenEntry) → x.history.running ≡ Some o → counts_one_by x.store.half ≡ 1 →
     is_next_legal (audited x) x.history.running ≡ true
-next_legal x p o running one =
-    ap (λ (r : Option OpenEntry). is_next_legal (audited x) r) running ∙ legal_by (part_of_open (audited x) o) (edit_of (audited x) o) (rw (← p.base) (subst
-    (λ (k : ℕ). MayTake x.plans (replay x.plans p.empty x.history.items) o k) one (may p.number p.empty x p.follows o running)))
+next_legal x p o running one = grind (arith, legal_by, may p.number p.empty x p.follows o running)
+
+few : (h : Option (store.HalfWrite (Unit {0}))) → (counts_one_by h ≡ 0) ⊎ (counts_one_by h ≡ 1)
+few h = grind arith
+
+pub few_more : (x : MarksDevice) → Plainly x → (o : OpenEntry) → x.history.running ≡ Some o →
+    (counts_one_by x.store.half ≡ 0) ⊎ ((counts_one_by x.store.half ≡ 1) × (is_next_legal (audited x) x.history.running ≡ true))
+few_more x p o running = by_count (few x.store.half) where
+  by_count : (counts_one_by x.store.half ≡ 0) ⊎ (counts_one_by x.store.half ≡ 1) →
+      (counts_one_by x.store.half ≡ 0) ⊎ ((counts_one_by x.store.half ≡ 1) × (is_next_legal (audited x) x.history.running ≡ true))
+  by_count (inl none) = inl none
+  by_count (inr one) = inr (one, next_legal x p o running one)
 
 -- Of a history alone
 
@@ -142,10 +114,7 @@ idle_tells h path false = nothing_came h
 
 other_tells : (h : History) (path : ℕ) (r : Option OpenEntry) → h.running ≡ r → ((o : OpenEntry) → r ≡ Some o → (o.path == path) ≡ false) →
     TellsNoProgram h (history_reset h path 0)
-other_tells h path (Some o) is other =
-    rw (ap (λ (r : Option OpenEntry). reset_in h path 0 r) is ∙ ap
-    (λ (b : Bool). if b then cut_by h o 0 else if is_used path false h.items then record h { waiting = put path h.waiting } else h) (other o refl))
-    (waits_tells h path (is_used path false h.items))
+other_tells h path (Some o) is other = grind (arith, waits_tells h path (is_used path false h.items))
 other_tells h path None is other = rw (ap (λ (r : Option OpenEntry). reset_in h path 0 r) is) (idle_tells h path (is_used path false h.items))
 
 -- The event
@@ -186,15 +155,12 @@ module _ (s : Subsystem) (plain : ArePlain s.mounted) (path n : ℕ) (x : MarksD
       reset_made (stand s (wanted.Reset path n ∷ later)) line path (audited x) ≡ Some t → judged (stand s (wanted.Reset path n ∷ later)) line ≡ Ok t
   first_is line t fits makes = grind (arith, first_judged, outline_one, then_some, found_one)
 
-  is_reset_line : ((path == path) && (n == n)) ≡ true
-  is_reset_line = and_from (path == path) (n == n) (same_number path) (same_number n)
-
   -- The reset of another path, or while nothing runs
 
   module _ (other : (o : OpenEntry) → x.history.running ≡ Some o → (o.path == path) ≡ false) where
     may_by : (r : Option OpenEntry) → x.history.running ≡ r →
         may_reset path n (outline_of (audited x)) (lines.Reset path n) (open_program r) ≡ true
-    may_by r is = grind (arith, is_reset_line)
+    may_by r is = grind arith
 
     half_by_running : (r : Option OpenEntry) → x.history.running ≡ r → reset_half x path r ≡ half_by x.store.half
     half_by_running r is = grind arith
@@ -229,36 +195,18 @@ module _ (s : Subsystem) (plain : ArePlain s.mounted) (path n : ℕ) (x : MarksD
     cut_to k =
         record (changed from (record (audited x) { history = history_reset x.history o.path k; half = cut_half (half_by x.store.half) })) { due = ResetOf }
 
-    cut_zero : M.cut_by (stand s (wanted.Reset path n ∷ later)) (audited x) o (length o.ends + 0) ≡ Some (cut_to 0)
-    cut_zero = grind (arith, eq-eqb)
-
-    cut_one : is_next_legal (audited x) x.history.running ≡ true →
-        M.cut_by (stand s (wanted.Reset path n ∷ later)) (audited x) o (length o.ends + 1) ≡ Some (cut_to 1)
-    cut_one is = grind (arith, ne_eqb, and_from, same_number)
-
-    few : (h : Option (store.HalfWrite (Unit {0}))) → (counts_one_by h ≡ 0) ⊎ (counts_one_by h ≡ 1)
-    few h = grind arith
-
-    cut_made : M.cut_by (stand s (wanted.Reset path n ∷ later)) (audited x) o (length o.ends + counts_one_by x.store.half)
-        ≡ Some (cut_to (counts_one_by x.store.half))
-    cut_made = by_count (few x.store.half) where
-      by_count : (counts_one_by x.store.half ≡ 0) ⊎ (counts_one_by x.store.half ≡ 1) →
-          M.cut_by (stand s (wanted.Reset path n ∷ later)) (audited x) o (length o.ends + counts_one_by x.store.half)
-          ≡ Some (cut_to (counts_one_by x.store.half))
-      by_count (inl none) = subst (λ (k : ℕ). M.cut_by from (audited x) o (length o.ends + k) ≡ Some (cut_to k)) (sym none) cut_zero
-      by_count (inr one) = subst (λ (k : ℕ). M.cut_by from (audited x) o (length o.ends + k) ≡ Some (cut_to k)) (sym one) (cut_one (next_legal x plainly o running one))
+    cut_made : (k : ℕ) → (k ≡ 0) ⊎ ((k ≡ 1) × (is_next_legal (audited x) x.history.running ≡ true)) →
+        M.cut_by (stand s (wanted.Reset path n ∷ later)) (audited x) o (length o.ends + k) ≡ Some (cut_to k)
+    cut_made k x3 = grind (arith, eq-eqb, ne_eqb, and_from, same_number)
 
     over_judged : judged (stand s (wanted.Reset path n ∷ later)) over_line ≡ Ok (cut_to more)
     over_judged =
-        first_is over_line (cut_to more)
-        (ap (λ (r : Option OpenEntry). may_reset path n (outline_of (audited x)) over_line (open_program r)) running
-        ∙ ap (λ (b : Bool). if b then is_cut n (record { path = o.path; ordinal = o.ordinal }) over_line else false) own
-        ∙ and_from ((o.path == o.path) && (x.store.device == n)) (o.ordinal == o.ordinal)
-        (and_from (o.path == o.path) (x.store.device == n) (same_number o.path) (eq-eqb x.store.device n number_is)) (same_number o.ordinal))
-        (then_some x.history.running o (λ (k : OpenEntry). M.cut_by from (audited x) k (length o.ends + more)) running ∙ cut_made)
+        first_is over_line (cut_to more) (grind (arith, and_from, same_number, eq-eqb x.store.device n number_is))
+        (then_some x.history.running o (λ (k : OpenEntry). M.cut_by from (audited x) k (length o.ends + more)) running
+        ∙ cut_made more (few_more x plainly o running))
 
     reset_judged : (t : AuditState) → passed (cut_to more) ≡ t → judged (cut_to more) (lines.Reset path n) ≡ Ok t
-    reset_judged t is = grind (arith, is_reset_line)
+    reset_judged t is = grind arith
 
     pub own_leads : Leads s path n x later
     own_leads m it_is there z end g =

@@ -1,5 +1,5 @@
 -- Where the lines of each event line lead an audit on, those of the whole run do.
-use Rattle.std.proofs.Common.{◌≡◌, ◌++◌, ℕ, List, [], ◌∷◌, Option, None, map, length, arith, refl, sym, ap, subst, ◌∙◌, append_assoc}
+use Rattle.std.proofs.Common.{◌≡◌, ◌++◌, ℕ, List, [], ◌∷◌, Option, None, map, length, arith, refl, sym, ap, subst, append_assoc}
 use Rattle.std.specs.List.{flat_map}
 use Rattle.std.specs.Prelude.{Ok}
 use Rattle.ckd_types.specs.declared.paths.Side.{Side}
@@ -133,8 +133,7 @@ lines_towards (e ∷ later) before s u does b =
     let us = run_lines (map asked_by later) z in
     let first = one_line before s later u e b does.0 in
     let rest = lines_towards later (worker_of e) z first.to does.1 first.beside in
-    subst (λ (l : List ReportLine). ReachesEnd u l (last_behind s (ts ++ us))) (sym (lines_both ts us)) (subst (λ (k : Subsystem). ReachesEnd u
-    (flat_map lines_of ts ++ flat_map lines_of us) k) (sym (behind_both s ts us)) (search (arith, leads_on)))
+    rw (lines_both ts us) (rw (behind_both s ts us) (search (arith, leads_on)))
 
 -- and those at the end
 lines_end : (events : List EventLine) (s : Subsystem) → AreAlike (stand s events).devices (stand s events).devices → AllSo DoesPlainly s events →

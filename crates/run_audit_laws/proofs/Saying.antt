@@ -2,20 +2,10 @@
 use Rattle.std.proofs.Common.{arith, ◌≡◌, ◌==◌, ℕ, true, List, refl, rules}
 use Rattle.std.specs.Str.{bytes_eq}
 use Rattle.std.proofs.lemmas.Bool.{eq-eqb, and_from}
-use Rattle.ckd_types.specs.declared.channel.Note.{Note}
-use Rattle.ckd_types.specs.declared.channel.Note.TheVariants as notes
-use Rattle.ckd_types.specs.declared.paths.Owner.{Owner}
-use Rattle.ckd_types.specs.declared.paths.Owner.TheVariants as owners
-use Rattle.ckd_types.specs.declared.paths.Side.{Side}
-use Rattle.ckd_types.specs.declared.paths.Side.TheVariants.{A, B}
-use Rattle.ckd_rules.specs.Grouping.{is_same_owner}
 use Rattle.report_text.specs.declared.answers.LooseAnswer.{LooseAnswer}
-use Rattle.report_text.specs.declared.answers.LooseAnswer.TheVariants as loose
 use Rattle.report_text.specs.declared.answers.StartAnswer.{StartAnswer}
-use Rattle.report_text.specs.declared.answers.StartAnswer.TheVariants as start
 use Rattle.report_text.specs.declared.order.Order.{Order}
-use Rattle.report_text.specs.declared.order.Order.TheVariants as orders
-use Rattle.report_places.specs.Same.{is_same_note, is_same_side, is_same_start, is_same_loose, is_same_order}
+use Rattle.report_places.specs.Same.{is_same_start, is_same_loose, is_same_order}
 
 pub same_number : (n : ℕ) → (n == n) ≡ true
 same_number n = eq-eqb n n refl
@@ -23,20 +13,11 @@ same_number n = eq-eqb n n refl
 pub same_bytes : (bytes : List ℕ) → bytes_eq bytes bytes ≡ true
 same_bytes bytes = search rules
 
-pub same_owner : (o : Owner) → is_same_owner o o ≡ true
-same_owner o = grind (arith, same_bytes, same_number)
-
 pub same_start : (a : StartAnswer) → is_same_start a a ≡ true
-same_start a = grind (arith, same_number, same_owner)
+same_start a = grind (arith, same_number, same_bytes)
 
 pub same_loose : (a : LooseAnswer) → is_same_loose a a ≡ true
 same_loose a = grind (arith, same_number, and_from, same_bytes)
 
-pub same_note : (n : Note) → is_same_note n n ≡ true
-same_note n = grind arith
-
-pub same_side : (s : Side) → is_same_side s s ≡ true
-same_side s = grind arith
-
 pub same_order : (o : Order) → is_same_order o o ≡ true
-same_order o = grind (arith, and_from, same_side)
+same_order o = grind (arith, and_from)

@@ -1,23 +1,19 @@
 -- What is done on a device's tracks leaves its number.
-use Rattle.std.proofs.Common.{arith, ◌≡◌, ℕ, Bool, true, false, [], Option, Some, None, ap, ◌∙◌}
+use Rattle.std.proofs.Common.{arith, ◌≡◌, ℕ, Bool, true, false, Option, ap, ◌∙◌}
 use Rattle.std.specs.Prelude.{if◌then◌else◌}
 use Rattle.ckd_types.specs.declared.paths.Side.{Side}
-use Rattle.ckd_types.specs.declared.paths.Side.TheVariants.{A, B}
-use Rattle.ckd_types.specs.declared.record.Edit.{Edit}
+use Rattle.ckd_types.specs.declared.paths.Side.TheVariants.{A}
 use Rattle.loss_model.specs.declared.Loss.{Loss}
-use Rattle.loss_model.specs.declared.Loss.TheVariants as losses
 use Rattle.track_image.specs.Image.{Image}
 use Rattle.device_defs.specs.declared.usage.Usage.{Usage}
-use Rattle.device_defs.specs.Choosing.{provisionally_written}
 use Rattle.device_defs.specs.Contents.{Contents}
 use Rattle.device_defs.specs.Cutting.{powerless}
-use Rattle.device_defs.specs.Effects.{loose_lost, loosened}
 use Rattle.device_defs.specs.Events.{lost_by, with_loss}
 use Rattle.device_defs.specs.Image.{ahead}
 use Rattle.device_defs.specs.Losses as L
 use Rattle.device_defs.specs.Losses.{settled, side_lost, stale_everywhere}
-use Rattle.device_defs.specs.Second.{cut_kept, left_by}
-use Rattle.device_defs.specs.Store.{OfBackground, OfCommand, OfCut, Origin, Store, frame_at, has_loose, is_loose, tracks_of, with_frame, with_stale}
+use Rattle.device_defs.specs.Second.{left_by}
+use Rattle.device_defs.specs.Store.{Origin, Store, with_stale}
 use Rattle.device_defs.specs.Writing.{taken_a, unwritten}
 use Rattle.device_laws.proofs.Based.{Base, stale_base}
 use Rattle.device_laws.proofs.WholeImage.{ahead_only}
@@ -54,14 +50,8 @@ module _ {F P H : Type 0} (n : ℕ) where
     pub unwritten_is : (s : Store F P H) (t : ℕ) → Is s → Is (unwritten c s t)
     unwritten_is s t k = settled_is (if s.paired then s else with_stale s A t true) t (is_if s.paired _ _ k k)
 
-    pub provisional_is : (s : Store F P H) (t : ℕ) (i : Image) (e : Edit) → Is s → Is (provisionally_written c s t i e)
-    provisional_is s t i e k = is_if (is_loose s t) s (loosened s t) k k
-
-    cut_is : (s : Store F P H) (t : ℕ) (i : Image) (o : Option F) → Is s → Is (cut_kept c s t i o)
-    cut_is s t i o k = grind (arith, same_is, parts_count, unpatched_moves, stays)
-
     pub left_is : (s : Store F P H) (t : ℕ) (i : Image) (origin : Origin) → Is s → Is (left_by c s t i origin)
-    left_is s t i origin k = grind (arith, cut_is)
+    left_is s t i origin k = grind (arith, same_is, parts_count, unpatched_moves, stays)
 
     pub powerless_is : (s : Store F P H) → Is s → Is (powerless c s)
     powerless_is s k = same_is (parts_count c s (powerless_moves tt s stays)) k
@@ -69,6 +59,3 @@ module _ {F P H : Type 0} (n : ℕ) where
     pub lost_is : (s : Store F P H) (loss : Loss) → Is s → Is (lost_by c (with_loss s loss) loss)
     unfolding L.cache_lost
     lost_is s loss k = grind (arith, same_is, swept_base, is_if, store_base, side_is)
-
-  pub ahead_is : (u : Usage) (s : Store F P H) (t : ℕ) → Is s → Is (ahead u s t)
-  ahead_is u s t k = ap (λ (z : Store F P H). z.device) (ahead_only u s t) ∙ k

@@ -53,9 +53,7 @@ at_holds rs i all = at_or HoldsBytes (empty_zero 0) (zero_holds 0) rs i all
 
 pub read_are : (t : Track) (area : ReadArea) (i : ℕ) → TrackHolds t → All IsByte (read_bytes t area i)
 read_are t areas.Home i all = All-cons IsByte 0 (cchh_bytes t.home) (omega arith) (cchh_are t.home)
-read_are t areas.Zero i all =
-    let h = at_holds t.records i all in
-    All-append IsByte (count_area (record_at t.records i)) (record_at t.records i).body (count_are (record_at t.records i) h) h.body
+read_are t areas.Zero i all = grind (arith, at_holds t.records i all, count_are (record_at t.records i) (at_holds t.records i all))
 read_are t areas.Count i all = count_are (record_at t.records i) (at_holds t.records i all)
 read_are t areas.Data i all = (at_holds t.records i all).body
 read_are t areas.KeyData i all = let h = at_holds t.records i all in All-append IsByte (record_at t.records i).key (record_at t.records i).body h.key h.body

@@ -1,43 +1,15 @@
 -- START: the audit answers as the device of the run.
-use Rattle.std.proofs.Common.{
-  ◌≡◌,
-  ◌+◌,
-  ◌-◌,
-  ◌==◌,
-  ◌++◌,
-  ℕ,
-  Bool,
-  true,
-  false,
-  not,
-  List,
-  [],
-  ◌∷◌,
-  map,
-  length,
-  Option,
-  Some,
-  None,
-  refl,
-  sym,
-  ap,
-  subst,
-  ◌∙◌,
-  if◌then◌else◌,
-  arith,
-}
-use Rattle.std.specs.Prelude.{◌||◌, ◌&&◌, nat_le, count_by, IfSome, Ok}
+use Rattle.std.proofs.Common.{◌≡◌, ◌==◌, ◌++◌, ℕ, Bool, true, false, not, List, [], ◌∷◌, map, Option, Some, None, refl, sym, ap, subst, ◌∙◌, if◌then◌else◌, arith}
+use Rattle.std.specs.Prelude.{◌&&◌, IfSome, Ok}
 use Rattle.std.specs.List.{list_all, list_any}
 use Rattle.std.proofs.lemmas.Bool.Decides.{nat_tests}
 use Rattle.std.proofs.lemmas.Bool.{and_from}
-use Rattle.ckd_types.specs.declared.channel.Ccw.{Ccw}
 use Rattle.ckd_types.specs.declared.paths.Owner.{Owner}
 use Rattle.deck_plan.specs.declared.event.EventLine.{EventLine}
 use Rattle.deck_plan.specs.declared.event.EventLine.TheVariants as wanted
-use Rattle.plain_defs.specs.History.{OpenEntry, is_path_of, plain_of, started}
-use Rattle.plain_defs.specs.Journal.{planned, program_of}
-use Rattle.plain_defs.specs.Legal.{is_of_path}
-use Rattle.plain_defs.specs.PlainState.{PathsState, PlainState, is_admitted}
+use Rattle.plain_defs.specs.History.{OpenEntry, is_path_of, started}
+use Rattle.plain_defs.specs.Journal.{program_of}
+use Rattle.plain_defs.specs.PlainState.{is_admitted}
 use Rattle.device_defs.specs.declared.answers.StartFault.{StartFault}
 use Rattle.device_defs.specs.declared.answers.StartFault.TheVariants as faults
 use Rattle.device_defs.specs.Marks.{MarksDevice}
@@ -61,7 +33,6 @@ use Rattle.report_text.specs.declared.answers.StartAnswer.TheVariants as answers
 use Rattle.report_text.specs.declared.event.Happened.TheVariants as did
 use Rattle.report_text.specs.declared.line.ReportLine.{ReportLine}
 use Rattle.report_text.specs.declared.line.ReportLine.TheVariants as lines
-use Rattle.report_places.specs.Same.{is_same_start, says}
 use Rattle.deck_audit.specs.Device as A
 use Rattle.deck_audit.specs.Device.{
   AuditedDevice,
@@ -77,8 +48,7 @@ use Rattle.deck_audit.specs.Device.{
   start_answer,
   with_device,
 }
-use Rattle.deck_audit.specs.History.{after_start, changed, shown, start_made}
-use Rattle.deck_audit.specs.State.{AuditState, passed}
+use Rattle.deck_audit.specs.History.{after_start}
 use Rattle.report_auditor.specs.Verdict.{judged}
 use Rattle.run_report.specs.Answers as R
 use Rattle.run_report.specs.Answers.{start_refused}
@@ -99,17 +69,11 @@ use Rattle.subsystem_laws.proofs.FoundDevices.{number_found}
 use Rattle.subsystem_laws.proofs.PlainRuns.{Plainly, ArePlain}
 use Rattle.subsystem_laws.proofs.Walks.{device_so}
 use Rattle.run_audit_laws.specs.Standing.{LeadsBy, audited, stand}
-use Rattle.run_audit_laws.proofs.Found.{devices, found_one, put_at, put_same, mounted_too}
+use Rattle.run_audit_laws.proofs.Found.{found_one, put_at, put_same, mounted_too}
 use Rattle.run_audit_laws.proofs.Leading.{EventLeads, first_judged, one_leads, quiet_lines, then_some}
 use Rattle.run_audit_laws.proofs.Saying.{same_number, same_start}
 
 -- Over plain Bools
-
-no_more : (c many : ℕ) → not (nat_le (c + 1) many) ≡ (many - c == 0)
-no_more c many = grind (arith, nat_tests)
-
-both_out : (a b : Bool) → (not a || not b) ≡ not (a && b)
-both_out a b = grind arith
 
 all_not : (f g : ℕ → Bool) → ((q : ℕ) → g q ≡ not (f q)) → (l : List ℕ) → list_all g l ≡ not (list_any f l)
 all_not f g h [] = refl
@@ -117,10 +81,6 @@ all_not f g h (q ∷ l) = grind (arith, all_not f g h l)
 
 pub choice_not : {X : Type 0} (a b : Bool) (x y : X) → b ≡ not a → (if a then x else y) ≡ (if b then y else x)
 choice_not a b x y e = grind arith
-
--- who is admitted where nobody holds the device
-free_admits : (p : PathsState) (path : ℕ) (ccws : List Ccw) → p.owner ≡ None → is_admitted p path ccws ≡ true
-free_admits p path ccws free = grind arith
 
 abbrev answer_by : Option StartFault → ℕ → StartAnswer
 answer_by (Some fault) n = start_refused fault
@@ -133,25 +93,12 @@ module _ (x : MarksDevice) (p : Plainly x) where
   abbrev a : AuditedDevice
   a = audited x
 
-  -- what is kept of the paths
-  paths_are : (state_of (audited x)).paths ≡ x.paths
-  paths_are = grind arith
-
   module _ (none : x.history.running ≡ None) where
-    count_is : (path : ℕ) → started_count x.history path ≡ count_by (is_of_path path) x.history.items
-    count_is path = grind arith
-
-    ordinal_is : (path : ℕ) → S.next_ordinal x path ≡ A.next_ordinal a path
-    ordinal_is path = ap (λ (n : ℕ). n + 1) (count_is path)
-
-    left_is : (path : ℕ) → (left x path == 0) ≡ not (has_left a path)
-    left_is path = grind (arith, count_is, no_more)
-
     keeps_is : (path : ℕ) → keeps_out x path ≡ not (is_admitted (state_of a).paths path (program_of x.plans path (A.next_ordinal a path)))
-    keeps_is path = grind (arith, paths_are, ordinal_is)
+    keeps_is path = grind arith
 
     out_is : (path : ℕ) → has_none_or_is_out x path ≡ not (may_start a path)
-    out_is path = grind (arith, left_is, keeps_is, both_out)
+    out_is path = grind (arith, keeps_is, nat_tests)
 
     shut_is : is_shut x ≡ not (list_any (may_start a) four_paths)
     shut_is = all_not (may_start a) (has_none_or_is_out x) out_is four_paths
@@ -170,25 +117,18 @@ module _ (x : MarksDevice) (p : Plainly x) where
               ≡ start_refused (if b then faults.Shut owner else faults.Reserved owner)
           by_shut true = refl
           by_shut false = refl
-      held_by None is out = grind (arith, free_admits)
-
-      owner_is : (state_of a).paths.owner ≡ x.paths.owner
-      owner_is = ap (λ (q : PathsState). q.owner) paths_are
+      held_by None is out = grind arith
 
       free_by : (l k : Bool) → has_left a path ≡ l → admits ≡ k → (if not l then answers.Done else if l && k then answers.Accepted (A.next_ordinal a path)
           else held_answer a (state_of a).paths.owner)
           ≡ answer_by (if not l then Some faults.PlanDone else if not k then reserved_fault x x.paths.owner else None) (S.next_ordinal x path)
-      free_by l k is out = grind (arith, ordinal_is, owner_is, held_by)
+      free_by l k is out = grind (arith, held_by)
 
       free_is : free_answer a path ≡ answer_by (idle_fault x path) (S.next_ordinal x path)
-      free_is = grind (arith, free_by, left_is, keeps_is)
-
-  running_is : (path : ℕ) (r : Option OpenEntry) → x.history.running ≡ r →
-      running_answer a path r ≡ answer_by (running_fault x path r) (S.next_ordinal x path)
-  running_is path r is = grind (arith, free_is)
+      free_is = grind (arith, free_by, keeps_is, nat_tests)
 
   lent_is : (path : ℕ) (l : Option ℕ) → lent_answer a path l ≡ answer_by (fault_by x path l) (S.next_ordinal x path)
-  lent_is path l = grind (arith, running_is)
+  lent_is path l = grind (arith, free_is)
 
   -- where the path itself runs nothing
   pub answer_is : (path : ℕ) → lent_answer a path x.store.lent ≡ answer_by (start_fault x path) (S.next_ordinal x path)
@@ -207,14 +147,11 @@ module _ (s : Subsystem) (plain : ArePlain s.mounted) (path n : ℕ) (x : MarksD
   plainly : Plainly x
   plainly = subst (λ (o : Option MarksDevice). IfSome o Plainly) at (device_so Plainly s.mounted n plain)
 
-  shown_if : (b : Bool) (wanted line : ReportLine) (t : AuditState) → says wanted line ≡ true → shown wanted line t ≡ Some t
-  shown_if b wanted line t is = ap (λ (c : Bool). if c then Some t else None) is
-
   -- a line with the audit's own answer
   start_judged : (later : List EventLine) (answer : StartAnswer) → start_answer (audited x) path ≡ answer → (z : Subsystem) →
       with_device (map audited (devices_of s)) (after_start (audited x) path answer) ≡ map audited (devices_of z) →
       judged (stand s (wanted.Start path n ∷ later)) (lines.Start path n answer) ≡ Ok (stand z later)
-  start_judged later answer is z behind = grind (arith, first_judged, and_from, same_number, then_some, found_one, number_is, shown_if, same_start)
+  start_judged later answer is z behind = grind (arith, first_judged, and_from, same_number, then_some, found_one, number_is, same_start)
 
   -- nothing is changed
   back_there : with_device (map audited (devices_of s)) (audited x) ≡ map audited (devices_of s)

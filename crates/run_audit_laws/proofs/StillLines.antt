@@ -1,29 +1,24 @@
 -- An event line at which no command runs, behind the run of a deck.
-use Rattle.std.proofs.Common.{arith, ◌≡◌, ℕ, List, [], ◌∷◌, Option, Some, None, refl, sym, ap, subst, ◌∙◌}
+use Rattle.std.proofs.Common.{arith, ◌≡◌, ℕ, List, [], ◌∷◌, Option, Some, refl}
 use Rattle.std.specs.Prelude.{IsSome, Ok}
 use Rattle.std.proofs.lemmas.List.{append-nil}
-use Rattle.std.specs.List.{flat_map}
 use Rattle.deck_plan.specs.declared.event.EventLine.{EventLine}
 use Rattle.deck_plan.specs.declared.event.EventLine.TheVariants as wanted
 use Rattle.deck_text.specs.DeckLines.{DeckLines}
 use Rattle.deck_text.specs.Parse.{parsed}
 use Rattle.device_defs.specs.Marks.{MarksDevice}
-use Rattle.report_text.specs.declared.line.ReportLine.{ReportLine}
-use Rattle.run_report.specs.Events.{event_lines, lines_of}
 use Rattle.subsystem_defs.specs.declared.event.Event.{Event}
 use Rattle.subsystem_defs.specs.declared.event.Event.TheVariants as events
-use Rattle.subsystem_defs.specs.declared.end.OrderFault.{OrderFault}
 use Rattle.subsystem_defs.specs.Decks.{run_of}
 use Rattle.subsystem_defs.specs.Deeds.{device_in}
 use Rattle.subsystem_defs.specs.Happening as H
 use Rattle.subsystem_defs.specs.Happening.{EventHappened, happens, replaced, replaced_at, replaced_by}
 use Rattle.subsystem_defs.specs.Lines as L
 use Rattle.subsystem_defs.specs.Lines.{Asked, Logged, Once, Replace, asked_by, last_behind, line_logged, logged}
-use Rattle.subsystem_defs.specs.Refusals.{replace_fault}
-use Rattle.subsystem_defs.specs.Subsystem.{Mounted, Subsystem, devices_of, mounted_in, unfailing}
+use Rattle.subsystem_defs.specs.Subsystem.{Subsystem, devices_of, unfailing}
 use Rattle.subsystem_laws.proofs.PlainRuns.{ArePlain, plain_behind}
 use Rattle.subsystem_laws.proofs.ReadDecks.{read_served}
-use Rattle.run_audit_laws.specs.Standing.{IsStill, LeadsBy, LineLeads, stand}
+use Rattle.run_audit_laws.specs.Standing.{IsStill, LineLeads}
 use Rattle.run_audit_laws.proofs.Leading.{EventLeads}
 use Rattle.run_audit_laws.proofs.Orders.{repair_cache_leads, repair_store_leads, replace_leads, resume_leads, suspend_leads}
 use Rattle.run_audit_laws.proofs.Resets.{reset_leads}

@@ -1,20 +1,16 @@
 -- An audit says yes to a text of which the lines lead it to FINISH.
-use Rattle.std.proofs.Common.{arith, ◌≡◌, ◌+◌, ℕ, Bool, true, List, [], ◌∷◌, length, map, Some, sym, ap, ◌∙◌, if◌then◌else◌}
-use Rattle.std.specs.Prelude.{All, Result, Ok, Err}
+use Rattle.std.proofs.Common.{arith, ◌≡◌, ◌+◌, ℕ, true, List, [], ◌∷◌, map, Some, sym, ap, ◌∙◌, if◌then◌else◌}
+use Rattle.std.specs.Prelude.{All, Ok, Err}
 use Rattle.std.proofs.lemmas.List.Elements.{All-head, All-tail}
 use Rattle.std.proofs.lemmas.Bool.{le-ltb}
-use Rattle.deck_text.specs.declared.line.DeckFault.{DeckFault}
-use Rattle.deck_text.specs.declared.line.Which.TheVariants.{Size}
 use Rattle.deck_text.specs.DeckLines.{DeckLines}
-use Rattle.report_reading.specs.declared.fault.LineFault.{LineFault}
 use Rattle.report_reading.specs.Ranges.{IsLine, form_fault, has_form}
 use Rattle.report_reading.specs.Reading.{line_of}
 use Rattle.report_text.specs.declared.line.ReportLine.{ReportLine}
 use Rattle.report_text.specs.Lines.{text_of}
 use Rattle.report_places.specs.declared.state.Due.TheVariants.{Nothing}
 use Rattle.deck_audit.specs.State.{AuditState, first_state}
-use Rattle.report_auditor.specs.declared.status.AuditStatus.TheVariants.{Limit, Yes}
-use Rattle.report_auditor.specs.declared.status.AuditWhy.{AuditWhy}
+use Rattle.report_auditor.specs.declared.status.AuditStatus.TheVariants.{Yes}
 use Rattle.report_auditor.specs.Verdict as V
 use Rattle.report_auditor.specs.Verdict.{at_end, cut_lines, deck_judged, deck_part, judged_by, judged_lines, or_no, read_back, read_back_at, report_from}
 use Rattle.run_report.specs.Report.{report_lines}
@@ -35,20 +31,12 @@ module _ (again : (line : ReportLine) → IsLine line → line_of (text_of line)
       judged_lines n s (map text_of lines) ≡ Yes
   all_texts [] n s t written formed leads done = ap (at_end n) (ap (λ (z : AuditState). z.due) (sym leads) ∙ done)
   all_texts (line ∷ lines) n s t written formed leads done =
-      let first = ap (judged_by s) (read_again line (All-head IsLine line lines written) (All-head Formed line lines formed)) ∙ leads.1 in
-      ap (λ (r : Result AuditState AuditWhy). or_no n r (λ u. judged_lines (n + 1) u (map text_of lines))) first
-      ∙ all_texts lines (n + 1) leads.0 t (All-tail IsLine line lines written) (All-tail Formed line lines formed) leads.2 done
+      grind (arith, read_again line (All-head IsLine line lines written) (All-head Formed line lines formed), all_texts lines (n + 1) leads.0 t (All-tail IsLine line lines written) (All-tail Formed line lines formed) leads.2 done)
 
   -- a whole text
   yes_by : (text : List ℕ) (deck : DeckLines) → (o : IsOwnReport text deck) → WholeLeads (first_state deck) (report_lines (run_of deck)) → read_back text ≡ Yes
   unfolding V.read_back
-  yes_by text deck o leads =
-      ap (λ (b : Bool). if b then Limit Size else read_back_at text (report_from 0 (cut_lines text))) (le-ltb 268435456 (length text) o.size)
-      ∙ ap (read_back_at text) o.found
-      ∙ ap (λ (r : Result DeckLines DeckFault). deck_judged r text (Some o.lines)) o.parses
-      ∙ ap (judged_lines (o.lines + 2) (first_state deck)) o.says
-      ∙ all_texts (report_lines (run_of deck)) (o.lines + 2) (first_state deck) leads.0
-      (report_is_in_range (deck_part text (Some o.lines)) deck o.parses) (report_has_form deck) leads.1 leads.2
+  yes_by text deck o leads = grind (arith, le-ltb, all_texts, report_is_in_range, report_has_form)
 
   pub own_report_is_yes : (text : List ℕ) (deck : DeckLines) → IsOwnReport text deck → read_back text ≡ Yes
   own_report_is_yes text deck o = yes_by text deck o (report_leads (deck_part text (Some o.lines)) deck o.parses)

@@ -1,12 +1,12 @@
 -- The form of an end on the plain device: with sense it has that of a check, and of another cause; without sense another status. Status, residual
 -- and sense are in their ranges.
-use Rattle.std.proofs.Common.{◌≡◌, ◌==◌, ◌+◌, ℕ, zero, suc, Bool, true, false, List, Option, Some, None, refl, ap, ◌∙◌, ◌*◌, inl, inr, arith}
-use Rattle.std.specs.Prelude.{◌%◌, ◌&&◌, ◌-◌, ◌≤◌, ◌<◌, [], ◌⊎◌, min, not, replicate, is_some, length, nat_le, nat_lt, Result, Ok, Err, ⊤, if◌then◌else◌}
+use Rattle.std.proofs.Common.{◌≡◌, ◌==◌, ℕ, zero, suc, Bool, true, false, List, Option, Some, None, refl, inr, arith}
+use Rattle.std.specs.Prelude.{◌-◌, ◌≤◌, ◌<◌, [], ◌⊎◌, min, replicate, is_some, Result, Ok, Err, ⊤}
 use Rattle.std.specs.Str.{bytes_eq}
 use Rattle.std.proofs.lemmas.Bool.{cond_both}
 use Rattle.std.proofs.lemmas.List.Elements.{All-replicate}
 use Rattle.ckd_types.specs.declared.channel.Ccw.{Ccw}
-use Rattle.ckd_types.specs.declared.channel.Note.TheVariants.{Plain, Limit}
+use Rattle.ckd_types.specs.declared.channel.Note.TheVariants.{Plain}
 use Rattle.ckd_types.specs.declared.command.Command.{Command}
 use Rattle.ckd_types.specs.declared.command.Command.TheVariants as commands
 use Rattle.ckd_types.specs.declared.command.ReadArea.{ReadArea}
@@ -17,7 +17,6 @@ use Rattle.ckd_types.specs.declared.command.Write.{Write}
 use Rattle.ckd_types.specs.declared.command.Write.TheVariants.{Data, UpdateData, KeyData, UpdateKeyData, CountKeyData, NextTrack, Zero}
 use Rattle.ckd_types.specs.declared.geometry.Geometry.{Geometry}
 use Rattle.ckd_types.specs.declared.parameters.Domain.{Domain}
-use Rattle.ckd_types.specs.declared.parameters.Extent.{Extent}
 use Rattle.ckd_types.specs.declared.record.Record.{Record}
 use Rattle.ckd_types.specs.declared.record.Track.{Track}
 use Rattle.ckd_types.specs.declared.sense.Sense.{Sense}
@@ -37,44 +36,36 @@ use Rattle.ckd_rules.specs.declared.finding.Sought.TheVariants.{Here, Onward, No
 use Rattle.ckd_rules.specs.declared.opening.Opening.{Opening}
 use Rattle.ckd_rules.specs.declared.opening.Opening.TheVariants as openings
 use Rattle.ckd_rules.specs.declared.order.LocalAct.{LocalAct}
-use Rattle.ckd_rules.specs.declared.order.LocalAct.TheVariants as acts
 use Rattle.ckd_rules.specs.declared.order.Look.{Look}
-use Rattle.ckd_rules.specs.declared.order.Look.TheVariants.{Finds, Searches, Reads, Writes}
+use Rattle.ckd_rules.specs.declared.order.Look.TheVariants.{Writes}
 use Rattle.ckd_rules.specs.declared.order.CommandOrder.{CommandOrder}
-use Rattle.ckd_rules.specs.declared.order.CommandOrder.TheVariants.{Nothing, Seeks, Recalibrates, SetsSector, SetsMask, Defines, Locates, Looks, Asks}
 use Rattle.ckd_rules.specs.declared.ending.Ending.{Ending}
 use Rattle.ckd_rules.specs.declared.grouping.GroupFault.{GroupFault}
 use Rattle.ckd_types.specs.Fixed.{Fixed}
-use Rattle.ckd_types.specs.Status.{has_unit_check, has_unit_exception}
 use Rattle.ckd_types.specs.Mask.{permits_write, permits_seek}
-use Rattle.ckd_types.specs.Commands.{required_count}
 use Rattle.ckd_rules.specs.declared.stance.After.{After}
 use Rattle.ckd_rules.specs.declared.stance.After.TheVariants.{Other, Wrote}
 use Rattle.ckd_rules.specs.declared.stance.Place.{Place}
-use Rattle.ckd_rules.specs.declared.stance.Place.TheVariants.{Index, Home, Count, Key, Body}
 use Rattle.ckd_rules.specs.declared.stance.Stance.{Stance}
 use Rattle.ckd_rules.specs.declared.turned.Turned.{Turned}
 use Rattle.ckd_rules.specs.declared.turned.Turned.TheVariants as turns
-use Rattle.ckd_rules.specs.Checks.{mask_fault, masked_order, order_by, order_of, permitted_order, placed_order, is_within, first_track, is_in_sequence, decoded_order}
-use Rattle.ckd_rules.specs.Control.{located, unseen_place}
-use Rattle.ckd_rules.specs.Ending.{Outcome, check, exception, normal, refused}
-use Rattle.ckd_rules.specs.Ends.{at_limit, end_at_word, is_plain, note_of}
-use Rattle.ckd_rules.specs.Finding.{find_from, from_index, search_missed, moves_on, next_track, track_after}
-use Rattle.ckd_rules.specs.Formats.{format_behind, format_ended, record_given, has_room_behind, is_zero_given, key_given, body_given, zero_on}
+use Rattle.ckd_rules.specs.Checks.{mask_fault, masked_order, order_by, order_of, permitted_order, placed_order, is_within, first_track, decoded_order}
+use Rattle.ckd_rules.specs.Control.{located}
+use Rattle.ckd_rules.specs.Ending.{Outcome, check, refused}
+use Rattle.ckd_rules.specs.Ends.{end_at_word}
+use Rattle.ckd_rules.specs.Finding.{find_from, from_index, search_missed, next_track}
+use Rattle.ckd_rules.specs.Formats.{format_behind, zero_on}
 use Rattle.ckd_rules.specs.Look.{look_on}
-use Rattle.ckd_rules.specs.Looked.{Looked, edits, ends}
-use Rattle.ckd_rules.specs.Opening.{begun, locating, look_from, moved, opening_with, opening_of, read_from}
-use Rattle.ckd_rules.specs.Reads.{read_sought, record_at, read_status, status_of}
-use Rattle.ckd_rules.specs.Searches.{search_sought, search_status}
-use Rattle.ckd_types.specs.declared.record.Edit.TheVariants.{Format, Update, Zero as ZeroEdit}
-use Rattle.ckd_types.specs.Ccw.{is_chained}
-use Rattle.ckd_rules.specs.Area.{given_at}
-use Rattle.ckd_rules.specs.Updates.{update_data, update_ended, update_record, update_sought}
+use Rattle.ckd_rules.specs.Looked.{Looked}
+use Rattle.ckd_rules.specs.Opening.{begun, locating, look_from, opening_with, opening_of, read_from}
+use Rattle.ckd_rules.specs.Reads.{read_sought, status_of}
+use Rattle.ckd_rules.specs.Searches.{search_sought}
+use Rattle.ckd_rules.specs.Updates.{update_data, update_record, update_sought}
 use Rattle.ckd_rules.specs.Walk as W
 use Rattle.ckd_rules.specs.Walk.{Walked, walk, walked}
 use Rattle.ckd_rules.specs.Writes.{write_on}
 use Rattle.hex.specs.Hex.{IsBytes}
-use Rattle.plain_defs.specs.Acts.{act_fault, act_outcome}
+use Rattle.plain_defs.specs.Acts.{act_outcome}
 use Rattle.plain_defs.specs.Effect.{acted_by, effect_by, effect_on}
 use Rattle.plain_defs.specs.PlainState.{PathsState, PlainState}
 use Rattle.report_reading.specs.Ranges.{AreBytes}
@@ -126,24 +117,12 @@ format_rule = (refl, refl, sense_bytes 0 0x40 0 (omega arith) (omega arith) (ome
 refused_fits : (s : Stance) (c : Ccw) (sense : Sense) → IsRule sense → Fits c (refused s c sense).ending
 refused_fits s c sense rule = (refl, refl, refl, refl, rule)
 
-good : IsGood normal
-good = (refl, omega arith)
-
 status_good : (body : List ℕ) → IsGood (status_of body)
-status_good body = grind (arith, good)
+status_good body = grind arith
 
 -- at most its count is left
 ended_fits : (c : Ccw) (area : ℕ) (status : UnitStatus) → IsGood status → IsGood status × (c.count - min c.count area ≤ c.count)
 ended_fits c area status is = grind arith
-
-immediate_fits : (c : Ccw) → IsGood normal × (c.count ≤ c.count)
-immediate_fits c = grind (arith, good)
-
-search_good : (met : Bool) → IsGood (search_status met)
-search_good met = grind (arith, good)
-
-read_good : (area : ReadArea) (body : List ℕ) → IsGood (read_status area body)
-read_good area body = grind (arith, good, status_good)
 
 -- Where a record isn't found
 
@@ -156,23 +135,8 @@ abbrev MoveFits : Result ℕ Sense → Type 0
 MoveFits (Ok t) = ⊤
 MoveFits (Err sense) = IsRule sense
 
-after_fits : (e : Option Extent) (t : ℕ) → MoveFits (track_after e t)
-after_fits e t = grind (arith, cylinder_rule, protected_rule)
-
-next_fits : (s : Stance) → MoveFits (next_track s)
-next_fits s = by_test _ (after_fits s.extent s.track) where
-  by_test : (b : Bool) → MoveFits (track_after s.extent s.track) → MoveFits (if b then Err file_protected_sense else track_after s.extent s.track)
-  by_test true h = protected_rule
-  by_test false h = h
-
-moves_fits : (r : Result ℕ Sense) → MoveFits r → SoughtFits (moves_on r)
-moves_fits r h = grind arith
-
-index_fits : (passes : ℕ) (o : Option ℕ) → SoughtFits (from_index passes o)
-index_fits passes o = grind (arith, no_record_rule)
-
 missed_fits : (b : Bool) (s : Stance) (again : Option ℕ) → SoughtFits (search_missed b s again)
-missed_fits b s again = grind (arith, moves_fits, next_fits, no_record_rule, index_fits)
+missed_fits b s again = grind (arith, no_record_rule, protected_rule, cylinder_rule)
 
 found_fits : (b : Bool) (s : Stance) (o again : Option ℕ) → SoughtFits (find_from b s o again)
 found_fits b s o again = grind (arith, missed_fits)
@@ -188,10 +152,10 @@ abbrev pub LookFits : Ccw → Looked → Type 0
 LookFits c l = TurnFits c l.turned
 
 search_fits : (t : Track) (area : SearchArea) (s : Stance) (c : Ccw) (k : Sought) → SoughtFits k → LookFits c (search_sought t area s c k)
-search_fits t area s c k h = grind (arith, ended_fits, search_good, refused_fits)
+search_fits t area s c k h = grind (arith, ended_fits, refused_fits)
 
 reads_fit : (t : Track) (area : ReadArea) (s : Stance) (c : Ccw) (k : Sought) → SoughtFits k → LookFits c (read_sought t area s c k)
-reads_fit t area s c k h = grind (arith, ended_fits, read_good, refused_fits)
+reads_fit t area s c k h = grind (arith, ended_fits, refused_fits, status_good)
 
 data_fits : (d : Bool) (s : Stance) (c : Ccw) (i : ℕ) (r : Record) → LookFits c (update_data d s c i r)
 data_fits d s c i r = grind (arith, cond_both, ended_fits, status_good)
@@ -203,10 +167,10 @@ updates_fit : (key d : Bool) (records : List Record) (s : Stance) (c : Ccw) (k :
 updates_fit key d records s c k h = grind (arith, record_fits, refused_fits)
 
 formats_fit : (g : Geometry) (records : List Record) (after : After) (s : Stance) (c : Ccw) (i : ℕ) → LookFits c (format_behind g records after s c i)
-formats_fit g records after s c i = grind (arith, cond_both, ended_fits, good, refused_fits, format_rule)
+formats_fit g records after s c i = grind (arith, cond_both, ended_fits, refused_fits, format_rule)
 
 zeros_fit : (s : Stance) (c : Ccw) → LookFits c (zero_on s c)
-zeros_fit s c = grind (arith, cond_both, ended_fits, good, refused_fits, format_rule)
+zeros_fit s c = grind (arith, cond_both, ended_fits, refused_fits, format_rule)
 
 writes_fit : (g : Geometry) (t : Track) (s : Stance) (c : Ccw) (w : Write) → LookFits c (write_on g t s c w)
 writes_fit g t s c Data = updates_fit false (is_some s.domain) t.records s c _ (found_fits (is_some s.domain) s _ _)
@@ -218,7 +182,7 @@ writes_fit g t s c NextTrack = formats_fit g t.records Other s c 0
 writes_fit g t s c Zero = zeros_fit s c
 
 found_record_fits : (s : Stance) (c : Ccw) (d : Domain) (o : Option ℕ) → Fits c (located s c d o).ending
-found_record_fits s c d o = grind (arith, ended_fits, good, refused_fits, no_record_rule)
+found_record_fits s c d o = grind (arith, ended_fits, refused_fits, no_record_rule)
 
 pub look_fits : (g : Geometry) (t : Track) (s : Stance) (c : Ccw) (look : Look) → LookFits c (look_on g t s c look)
 look_fits g t s c look = grind (arith, found_record_fits, search_fits, found_fits, reads_fit, writes_fit)
@@ -228,15 +192,11 @@ look_fits g t s c look = grind (arith, found_record_fits, search_fits, found_fit
 abbrev pub WalkFits : Ccw → Outcome → Type 0
 WalkFits c o = Fits c o.ending ⊎ ((o.ending.sense ≡ Some equipment_sense) × (o.ending.status ≡ check) × (o.ending.residual ≡ c.count))
 
-turned_fits : (c : Ccw) (t : ℕ) (on : Stance → Walked) (s : Stance) (k : Turned) → TurnFits c k → ((z : Stance) → WalkFits c (on z).outcome) →
-    WalkFits c (walked t on s k).outcome
-turned_fits c t on s k h go = grind arith
-
 walk_fits : (n : ℕ) (g : Geometry) (tracks : ℕ → Track) (start : Stance) (c : Ccw) (look : Look) (s : Stance) →
     WalkFits c (walk n g tracks start c look s).outcome
 unfolding W.walk
 walk_fits zero g tracks start c look s = inr (refl, refl, refl)
-walk_fits (suc n) g tracks start c look s = grind (arith, walk_fits n g tracks start c look, turned_fits, look_fits)
+walk_fits (suc n) g tracks start c look s = grind (arith, walk_fits n g tracks start c look, look_fits)
 
 -- How a command begins
 
@@ -266,40 +226,18 @@ permitted_fits s command (Some order) = masked_fits s order (mask_fault s.mask c
 order_fits : (f : Fixed) (s : Stance) (c : Ccw) (o : Option Command) → OrderFits (order_by f s c o)
 order_fits f s c None = rejects 1 (omega arith)
 order_fits f s c (Some command) =
-    cond_both (not (is_in_sequence s s.domain command)) (Err (reject_sense 2))
-    (if nat_lt c.count (required_count command) then Err (reject_sense 3) else permitted_order s command (decoded_order f s c command)) OrderFits
-    (λ _. rejects 2 (omega arith))
-    (λ _. cond_both (nat_lt c.count (required_count command)) (Err (reject_sense 3)) (permitted_order s command (decoded_order f s c command)) OrderFits
-    (λ _. rejects 3 (omega arith)) (λ _. permitted_fits s command (decoded_order f s c command)))
+    grind (arith, cond_both, rejects 2 (omega arith), rejects 3 (omega arith), permitted_fits s command (decoded_order f s c command))
 
 abbrev pub OpeningFits : Ccw → Opening → Type 0
 OpeningFits c (openings.Over e) = Fits c e
 OpeningFits c (openings.Looks look) = ⊤
 OpeningFits c (openings.Asks act) = ⊤
 
-moved_fits : (s : Stance) (c : Ccw) (look : Look) (r : Result ℕ Sense) → MoveFits r → OpeningFits c (moved s c look r).opening
-moved_fits s c look r h = grind (arith, refused_fits)
-
-track_from_fits : (s : Stance) (c : Ccw) (r : Read) (place : Place) → OpeningFits c (read_from s c r reads.Track place).opening
-track_from_fits s c r place = grind (arith, moved_fits, after_fits)
-
-read_from_fits : (s : Stance) (c : Ccw) (r : Read) (area : ReadArea) (place : Place) → OpeningFits c (read_from s c r area place).opening
-read_from_fits s c r area place = grind (arith, track_from_fits)
-
-write_from_fits : (s : Stance) (c : Ccw) (w : Write) → OpeningFits c (look_from s c (Writes w)).opening
-write_from_fits s c w = grind (arith, moved_fits, after_fits)
-
 look_from_fits : (s : Stance) (c : Ccw) (look : Look) → OpeningFits c (look_from s c look).opening
-look_from_fits s c look = grind (arith, read_from_fits, write_from_fits)
-
-locating_fits : (s : Stance) (c : Ccw) (d : Domain) (o : Option Place) → OpeningFits c (locating s c d o).opening
-locating_fits s c d o = grind (arith, ended_fits, good)
-
-begun_fits : (s : Stance) (c : Ccw) (order : CommandOrder) → OpeningFits c (begun s c order).opening
-begun_fits s c order = grind (arith, immediate_fits, ended_fits, good, locating_fits, look_from_fits)
+look_from_fits s c look = grind (arith, refused_fits, cylinder_rule, protected_rule)
 
 opened_fits : (s : Stance) (c : Ccw) (r : Result CommandOrder Sense) → OrderFits r → OpeningFits c (opening_with s c r).opening
-opened_fits s c r h = grind (arith, begun_fits, refused_fits)
+opened_fits s c r h = grind (arith, refused_fits, ended_fits, look_from_fits)
 
 pub opening_fits : (f : Fixed) (s : Stance) (c : Ccw) → OpeningFits c (opening_of f s c).opening
 opening_fits f s c = opened_fits s c (order_of f s c) (order_fits f s c _)
@@ -307,7 +245,7 @@ opening_fits f s c = opened_fits s c (order_of f s c) (order_fits f s c _)
 -- The whole effect
 
 done_fits : (s : Stance) (c : Ccw) (bytes : List ℕ) (act : LocalAct) → Fits c (act_outcome s c bytes act).ending
-done_fits s c bytes act = grind (arith, ended_fits, good)
+done_fits s c bytes act = grind (arith, ended_fits)
 
 pub act_fits : (f : Fixed) (paths : PathsState) (path : ℕ) (s : Stance) (c : Ccw) (act : LocalAct) (o : Option GroupFault) →
     Fits c (acted_by f paths path s c act o).outcome.ending
@@ -323,22 +261,8 @@ outcome_fits f state path s c = grind (arith, effect_fits, opening_fits)
 
 -- Its end
 
-no_more : (a b d : Bool) → (a && false && b && d) ≡ false
-no_more a b d = grind arith
-
--- the chain of a command that ends with unit check doesn't go on
-note_is : (i : ℕ) (c : Ccw) (o : Outcome) → o.ending.status ≡ check → note_of c o ≡ o.ending.note
-note_is i c o is = grind (arith, no_more)
-
-tidy_by : (i : ℕ) (c : Ccw) (o : Outcome) (s : Option Sense) → FitsBy c o.ending s → TidyBy c (end_at_word i c o) s
-tidy_by i c o s h = grind (arith, note_is)
-
 -- an end of the plain device, of a command that ends before it has looked at more tracks than there are
 pub end_is_tidy : (i : ℕ) (f : Fixed) (state : PlainState) (path : ℕ) (s : Stance) (c : Ccw) →
     ((end_at_word i c (effect_on f state path s c).outcome).sense ≡ Some equipment_sense → ⊥) →
     TidyBy c (end_at_word i c (effect_on f state path s c).outcome) (end_at_word i c (effect_on f state path s c).outcome).sense
-end_is_tidy i f state path s c few = by_fits (outcome_fits f state path s c) where
-  by_fits : WalkFits c (effect_on f state path s c).outcome →
-      TidyBy c (end_at_word i c (effect_on f state path s c).outcome) (end_at_word i c (effect_on f state path s c).outcome).sense
-  by_fits (inl h) = tidy_by i c (effect_on f state path s c).outcome (effect_on f state path s c).outcome.ending.sense h
-  by_fits (inr many) = absurd (few many.0)
+end_is_tidy i f state path s c few = grind (arith, outcome_fits)

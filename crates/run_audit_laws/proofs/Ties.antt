@@ -23,10 +23,9 @@ use Rattle.std.proofs.Common.{
   arith,
 }
 use Rattle.std.specs.Prelude.{if◌then◌else◌}
-use Rattle.std.proofs.lemmas.Bool.{eq-eqb, eqb-false, eqb-true, ne_eqb}
+use Rattle.std.proofs.lemmas.Bool.{eqb-false, eqb-true, ne_eqb}
 use Rattle.std.proofs.lemmas.List.Elements.{All-head}
 use Rattle.ckd_types.specs.declared.paths.Side.{Side}
-use Rattle.ckd_types.specs.declared.paths.Side.TheVariants as sides
 use Rattle.loss_model.specs.declared.Loss.{Loss}
 use Rattle.loss_model.specs.declared.Loss.TheVariants as losses
 use Rattle.deck_text.specs.declared.line.DeviceLine.{DeviceLine}
@@ -41,7 +40,7 @@ use Rattle.device_defs.specs.Contents.{by_plain}
 use Rattle.device_defs.specs.Cutting.{power, reset}
 use Rattle.device_defs.specs.Events.{background, lose, second}
 use Rattle.device_defs.specs.Marks.{MarksDevice}
-use Rattle.device_defs.specs.Orders.{hold_side, join, lend, replace, restore, resume, split}
+use Rattle.device_defs.specs.Orders.{hold_side, join, lend, resume, split}
 use Rattle.device_defs.specs.Start as S
 use Rattle.device_defs.specs.Start.{start}
 use Rattle.device_laws.proofs.Always.{Always}
@@ -50,34 +49,19 @@ use Rattle.device_laws.proofs.BasedEvents.{background_based, base_in, command_ba
 use Rattle.device_laws.proofs.Had.{held}
 use Rattle.subsystem_defs.specs.declared.end.EventEnd.{EventEnd}
 use Rattle.subsystem_defs.specs.declared.end.EventEnd.TheVariants as ends
-use Rattle.subsystem_defs.specs.declared.end.OrderFault.{OrderFault}
 use Rattle.subsystem_defs.specs.declared.event.Event.{Event}
-use Rattle.subsystem_defs.specs.declared.event.Event.TheVariants as events
 use Rattle.subsystem_defs.specs.Decks as D
 use Rattle.subsystem_defs.specs.Decks.{opened, opened_device, run_of}
-use Rattle.subsystem_defs.specs.Deeds.{Asks, Becomes, Each, Ends, Lends, Repairs, deed, device_in, end_of, ends_done}
+use Rattle.subsystem_defs.specs.Deeds.{Asks, Becomes, Each, Ends, Lends, Repairs, deed, end_of, ends_done}
 use Rattle.subsystem_defs.specs.Happening as H
 use Rattle.subsystem_defs.specs.Happening.{MarksDeed, Talk, asks, becomes, behind_outcome, happens, happens_by, held_with, is_lent_to, joined, lends, mounted_behind, replaced, replaced_at, replaced_by, restored_in, sweep, told_to, unpaired, unpaired_at, unpaired_by}
 use Rattle.subsystem_defs.specs.Lines.{Asked, Logged, asked_by, last_behind, line_logged, run_lines}
 use Rattle.subsystem_defs.specs.Refusals as R
 use Rattle.subsystem_defs.specs.Refusals.{pair_fault, replace_fault, unpair_fault}
-use Rattle.subsystem_defs.specs.Subsystem.{Mounted, Subsystem, devices_of, mounted_in, number_of, put_in, unfailing, with_calls}
-use Rattle.subsystem_defs.specs.declared.end.OrderFault.TheVariants.{Paired, Same}
+use Rattle.subsystem_defs.specs.Subsystem.{Mounted, Subsystem, devices_of, mounted_in, number_of, put_in, unfailing}
 use Rattle.subsystem_defs.proofs.Unrefused.{first_none, where_none}
 use Rattle.subsystem_laws.proofs.DeedWalk.{IsDeedwise, IsSeat, Stands, deed_is, seat_of}
-use Rattle.subsystem_laws.proofs.StoreFacts.{
-  Bears,
-  Facts,
-  facts_of,
-  failed_more,
-  fallen,
-  background_leaves,
-  command_leaves,
-  lose_leaves,
-  power_leaves,
-  reset_leaves,
-  second_leaves,
-}
+use Rattle.subsystem_laws.proofs.StoreFacts.{Bears, Facts, facts_of, fallen, background_leaves, command_leaves, lose_leaves, power_leaves, reset_leaves, second_leaves}
 use Rattle.subsystem_laws.proofs.FoundDevices.{number_found}
 use Rattle.subsystem_laws.proofs.LendBase.{at, stays_still}
 use Rattle.subsystem_laws.proofs.RunLines.{AnyEvent, Goes, MayAsk, all_asked, line_goes, lines_keep, logs_end, Logs}
@@ -135,11 +119,7 @@ tie_found (k ∷ ms) n m is = grind (arith, tie_found ms n m)
 module _ (n : ℕ) (x : Tie) (same : x.number ≡ n) where
   put_own : (ts : List Tie) (o : Tie) → tie_at n ts ≡ Some o → x ≡ o → put_tie n x ts ≡ ts
   put_own [] o is e = absurd (cc)
-  put_own (t ∷ ts) o is e = by_test (t.number == n) is (λ found. put_own ts o found e) where
-    by_test : (b : Bool) → (if b then Some t else tie_at n ts) ≡ Some o → (tie_at n ts ≡ Some o → put_tie n x ts ≡ ts) →
-        (if b then x ∷ ts else t ∷ put_tie n x ts) ≡ t ∷ ts
-    by_test true found rest = let it : t ≡ o = cc in ap (λ (y : Tie). y ∷ ts) (e ∙ sym it)
-    by_test false found rest = ap (λ (l : List Tie). t ∷ l) (rest found)
+  put_own (t ∷ ts) o is e = grind (arith, put_own ts o)
 
   numbers_put : (ts : List Tie) → map (λ (t : Tie). t.number) (put_tie n x ts) ≡ map (λ (t : Tie). t.number) ts
   numbers_put [] = refl
@@ -233,7 +213,7 @@ parted_tied ns ts a x o here own lent single t = record {
 
   by_test : (k : ℕ) (c : Bool) → (a == k) ≡ c → lent_count k (restored_tie a (put_tie a x ts)) ≤ pair_count k (restored_tie a (put_tie a x ts))
   by_test k true is =
-      subst (λ (i : ℕ). lent_count i (restored_tie a (put_tie a x ts)) ≤ pair_count i (restored_tie a (put_tie a x ts))) (eqb-true a k is)
+      rw (← (eqb-true a k is))
       (
       let many = counts a in
       let before = t.single a in
@@ -251,9 +231,6 @@ parted_tied ns ts a x o here own lent single t = record {
 
 -- What a device's own events keep
 
-same_tie : (d y : MarksDevice) → y.store.device ≡ d.store.device → y.store.lent ≡ d.store.lent → y.store.paired ≡ d.store.paired → tie y ≡ tie d
-same_tie d y n l p = grind arith
-
 abbrev IsPaired : Bool → Facts → Type 0
 IsPaired b x = x.paired ≡ b
 
@@ -266,7 +243,7 @@ pair_bears b = search arith
 kept_tie : {X : Type 0} (d : MarksDevice) (talk : Interaction Bool Image MarksDevice X) (b : Base) → b.device ≡ d.store.device →
     b.lent ≡ d.store.lent → Based base_in Any b talk → Always talk (λ y (_ : X). IsPaired d.store.paired (facts_of y.store)) → (t : Told) →
     tie (T.hold true talk t).state ≡ tie d
-kept_tie d talk b number lent based pair t = grind (arith, at, stays_still, same_tie)
+kept_tie d talk b number lent based pair t = grind (arith, at, stays_still)
 
 module _ (d : MarksDevice) where
   abbrev q : Facts → Type 0
@@ -287,16 +264,10 @@ module _ (d : MarksDevice) where
 
 -- Deeds
 
-not_of : (k a b : ℕ) (y : Mounted) (o : Option Mounted) → k ≡ b → (b == a) ≡ false → (if k == a then Some y else o) ≡ o
-not_of k a b y o e other = ap (λ (x : ℕ). if x == a then Some y else o) e ∙ ap (λ (t : Bool). if t then Some y else o) other
-
 -- another one's place
 pub others_stay : (ms : List Mounted) (a b : ℕ) (y : Mounted) → number_of y ≡ b → (b == a) ≡ false → mounted_in (put_in ms b y) a ≡ mounted_in ms a
 others_stay [] a b y number other = refl
-others_stay (k ∷ ms) a b y number other = grind (arith, others_stay ms a b y number other, not_of, eqb-true)
-
-put_same : (ms : List Mounted) (n : ℕ) (x m : Mounted) → mounted_in ms n ≡ Some m → tie x.device ≡ tie m.device → ties (put_in ms n x) ≡ ties ms
-put_same ms n x m there same = grind (arith, mounted_number, ties_put, put_own, tie_found)
+others_stay (k ∷ ms) a b y number other = grind (arith, others_stay ms a b y number other, eqb-true)
 
 -- so many are lent to each where the same is
 pub lent_stays : (ms : List Mounted) (n : ℕ) (x m : Mounted) → mounted_in ms n ≡ Some m → number_of x ≡ n →
@@ -324,15 +295,12 @@ pub record MayPair (x y : MarksDevice) : Type 0 where
   pub single : x.store.paired ≡ false
   pub alone : y.store.paired ≡ false
 
-lent_none : (l : Option ℕ) → R.lent_by l ≡ None → l ≡ None
-lent_none l is = grind arith
-
 pub turned : (a b : ℕ) → (a == b) ≡ false → (b == a) ≡ false
 turned a b is = ne_eqb b a (λ e. eqb-false a b is (sym e))
 
 pub may_pair : (x y : MarksDevice) → pair_fault x y ≡ None → MayPair x y
 unfolding R.pair_fault
-may_pair x y is = search (arith, first_none, turned, where_none, lent_none)
+may_pair x y is = search (arith, first_none, turned, where_none)
 
 abbrev KeepsTies : Subsystem → MarksDeed → Type 0
 KeepsTies s (Ends end) = Unit {0}
@@ -349,12 +317,12 @@ module _ (ns : List ℕ) where
   becomes_tied : (s : Subsystem) (d : MarksDevice) → ((m : Mounted) → mounted_in s.mounted d.store.device ≡ Some m → tie d ≡ tie m.device) →
       (o : Option Mounted) → mounted_in s.mounted d.store.device ≡ o → Tied ns (ties s.mounted) →
       Tied ns (ties (becomes s d.store.device o d).mounted)
-  becomes_tied s d same o there t = grind (arith, same_tied, put_same)
+  becomes_tied s d same o there t = grind (arith, same_tied, mounted_number, ties_put, put_own, tie_found)
 
   asks_tied : (s : Subsystem) (d : MarksDevice) (talk : Talk (Option EventEnd)) → IsSeat s d → ((t : Told) → tie (T.hold true talk t).state ≡ tie d) →
       (o : Option Mounted) → mounted_in s.mounted d.store.device ≡ o → Tied ns (ties s.mounted) →
       Tied ns (ties (asks s d.store.device o talk).behind.mounted)
-  asks_tied s d talk seat same o there t = grind (arith, same_tied, put_same)
+  asks_tied s d talk seat same o there t = grind (arith, same_tied, mounted_number, ties_put, put_own, tie_found)
 
   module _ (s : Subsystem) (x y : MarksDevice) (fault : pair_fault x y ≡ None) (stands_x : Stands s x) (stands_y : Stands s y) where
     abbrev a : ℕ
@@ -364,9 +332,7 @@ module _ (ns : List ℕ) where
     b = y.store.device
 
     found : (d : MarksDevice) → Stands s d → (m : Mounted) × (mounted_in s.mounted d.store.device ≡ Some m) × (m.device ≡ d)
-    found d stands =
-        mounted_too s.mounted d.store.device d
-        (ap (λ (n : ℕ). device_in (devices_of s) n) (number_found s.mounted stands.number d stands.found) ∙ stands.found)
+    found d stands = grind (arith, mounted_too, number_found s.mounted stands.number d stands.found)
 
     joined_tied : (z : Subsystem) (volume : Calls) (m : Mounted) → mounted_in z.mounted x.store.device ≡ Some m → m.device ≡ x →
         (w : Mounted) → IsLent x.store.device y w.device → z.mounted ≡ put_in s.mounted y.store.device w → Tied ns (ties s.mounted) →
@@ -472,41 +438,23 @@ module _ (ns : List ℕ) where
   unfolding H.happens
   event_tied s e t = happens_tied ns s (deed by_plain s.pool (devices_of s) e) (deed_is s (KeepsTies s) (ties_keep s) e) t
 
-  side_same : (m : Mounted) (side : Side) (volume : Calls) → tie (with_calls (record m { device = replace m.device side }) side volume).device ≡ tie m.device
-  side_same m side volume = grind arith
-
   pub replaced_tied : (s : Subsystem) (n : ℕ) (side : Side) (o : Option Mounted) → mounted_in s.mounted n ≡ o → So s →
       So (replaced_at s n side unfailing o).behind
-  replaced_tied s n side o there t = grind (arith, same_tied, put_same, side_same)
+  replaced_tied s n side o there t = grind (arith, same_tied, mounted_number, ties_put, put_own, tie_found)
 
   pub unpaired_tied : (s : Subsystem) (n : ℕ) (o : Option Mounted) → mounted_in s.mounted n ≡ o → So s → So (unpaired_at s n unfailing o).behind
   unpaired_tied s n None there t = t
-  unpaired_tied s n (Some m) there t = by_fault (unpair_fault m.device) where
-    by_fault : (f : Option OrderFault) → So (unpaired_by s n unfailing m f).behind
-    by_fault (Some fault) = t
-    by_fault None =
-        let x = record m { device = split m.device } in
-        subst (Tied ns)
-        (sym (ties_restored (put_in s.mounted n x) n unfailing ∙ ap (restored_tie n) (ties_put s.mounted n x)))
-        (parted_tied ns (ties s.mounted) n (tie (split m.device)) (tie m.device) (tie_found s.mounted n m there) (mounted_number s.mounted n m there)
-        refl refl t)
+  unpaired_tied s n (Some m) there t =
+      grind (arith, ties_restored (put_in s.mounted n (record m { device = split m.device })) n unfailing, ties_put s.mounted n (record m { device = split m.device }), parted_tied ns (ties s.mounted) n (tie (split m.device)) (tie m.device) (tie_found s.mounted n m there) (mounted_number s.mounted n m there) refl refl t, tie_found s.mounted n m there, mounted_number s.mounted n m there)
 
   ties_go : Goes So Shown AnyEvent
   unfolding H.replaced H.unpaired
-  ties_go = record {
-    once = λ s e may t. (event_tied s e t, t);
-    stepped = λ s d t. (event_tied s (events.Step d) t, t);
-    idle = λ s d t. (t, t);
-    backed = λ s d t. (event_tied s (events.Back d) t, t);
-    replaces = λ s d side t. (replaced_tied s d side (mounted_in s.mounted d) refl t, t);
-    unpairs = λ s a t. (unpaired_tied s a (mounted_in s.mounted a) refl t, t);
-  }
+  ties_go = search (arith, event_tied, replaced_tied, unpaired_tied)
 
 -- behind one line
 pub line_tied : (ns : List ℕ) (s : Subsystem) (x : Asked) → Tied ns (ties s.mounted) → Tied ns (ties (last_behind s (line_logged s x)).mounted)
 line_tied ns s x t =
-    logs_end (So ns) (Shown ns) s (line_logged s x)
-    (line_goes (So ns) (Shown ns) AnyEvent (ties_go ns) x s (All-head (MayAsk AnyEvent) x [] (all_asked (x ∷ []))) t)
+    grind (arith, logs_end (So ns) (Shown ns) s (line_logged s x) (line_goes (So ns) (Shown ns) AnyEvent (ties_go ns) x s (All-head (MayAsk AnyEvent) x [] (all_asked (x ∷ []))) t), line_goes (So ns) (Shown ns) AnyEvent (ties_go ns) x s (All-head (MayAsk AnyEvent) x [] (all_asked (x ∷ []))) t, all_asked (x ∷ []))
 
 -- Decks
 
@@ -523,10 +471,7 @@ opened_alone deck [] a = refl
 opened_alone deck (d ∷ ds) a = let rest = opened_alone deck ds a in omega (arith, rest)
 
 pub opened_tied : (deck : DeckLines) → Tied (numbers_in deck) (ties (opened deck).mounted)
-opened_tied deck = record {
-  numbers_are = opened_numbers deck deck.devices;
-  single = λ a. let none = opened_alone deck deck.devices a in omega (arith, none);
-}
+opened_tied deck = grind (arith, opened_numbers deck deck.devices, opened_alone)
 
 pub run_tied : (deck : DeckLines) →
     Logs (So (numbers_in deck)) (Shown (numbers_in deck)) (opened deck) (run_lines (map asked_by deck.events) (opened deck))

@@ -1,5 +1,5 @@
 -- The lines of one piece of work, whichever event line has it.
-use Rattle.std.proofs.Common.{arith, ◌≡◌, ◌==◌, ◌++◌, ℕ, Bool, true, false, List, ◌∷◌, map, Option, Some, None, refl, ap, ◌∙◌, if◌then◌else◌}
+use Rattle.std.proofs.Common.{arith, ◌≡◌, ◌==◌, ◌++◌, ℕ, Bool, true, false, List, [], ◌∷◌, map, Option, Some, None, refl, ap, ◌∙◌, if◌then◌else◌}
 use Rattle.std.specs.Prelude.{◌&&◌}
 use Rattle.std.proofs.lemmas.Bool.{or_left, or_right, and_from}
 use Rattle.ckd_types.specs.declared.channel.CommandEnd.{CommandEnd}
@@ -23,8 +23,8 @@ use Rattle.report_places.specs.declared.state.HalfWrite.{HalfWrite}
 use Rattle.report_places.specs.declared.state.HalfWrite.TheVariants as half
 use Rattle.report_places.specs.declared.state.Outline.{Outline}
 use Rattle.report_places.specs.Place.{holds, in_event, is_back_line, is_second_line, may_back, may_step, outline_in, second_of, worker_of}
-use Rattle.deck_audit.specs.Device.{AuditedDevice, device_in, is_idle, open_program, outline_of, state_of, with_device}
-use Rattle.deck_audit.specs.History.{back_half, event_made, is_last, work_made}
+use Rattle.deck_audit.specs.Device.{AuditedDevice, check_end, device_in, is_idle, open_program, outline_of, state_of, with_device, words_of_open}
+use Rattle.deck_audit.specs.History.{back_half, event_made, is_last, is_legal, work_made}
 use Rattle.deck_audit.specs.State.{AuditState, outlines, worked}
 use Rattle.report_auditor.specs.Verdict.{judged, or_history}
 use Rattle.run_audit_laws.specs.Steps.{LeadsTowards, NoLoss, act_line, acted_to, over_if, over_told, step_lines}
@@ -140,16 +140,13 @@ module _ (xs : List AuditedDevice) (later : List EventLine) (a : AuditedDevice) 
     its_end : (e : CommandEnd) → ((o.path == o.path) && (a.number == a.number) && (o.ordinal == o.ordinal)) ≡ true
     its_end e = grind (arith, and_from, same_number)
 
-    first_end : (idle : ReportLine) (e : CommandEnd) → a.half ≡ half.Closed → may_step (outline_of a) idle (end_told e) a.half ≡ true
-    first_end idle e closed = grind (arith, or_left, its_end)
-
     second_end : (e : CommandEnd) → second_of (outline_of a) (end_told e) (open_program a.history.running) ≡ true
     second_end e = ap (λ (r : Option OpenEntry). second_of (outline_of a) (end_told e) (open_program r)) running ∙ its_end e
 
     pub end_stands : (w : EventLine) (h : HalfWrite) → MayEnd a.number w h → a.half ≡ h → (e : CommandEnd) →
         in_event (outlines (record { devices = xs; events = w ∷ later; due = Next })) (lines.End (end_line o.path a.number o.ordinal e)) w ≡ true
-    end_stands w h step_ends is e = grind (arith, its_outline, first_end)
-    end_stands w h run_ends is e = grind (arith, its_outline, first_end)
+    end_stands w h step_ends is e = grind (arith, its_outline, or_left, its_end)
+    end_stands w h run_ends is e = grind (arith, its_outline, or_left, its_end)
     end_stands w h step_seconds is e = step_fits (lines.StepIdle a.number) (end_told e) is (second_end e)
     end_stands w h run_seconds is e = step_fits (lines.RunIdle a.number) (end_told e) is (second_end e)
     end_stands w h back_seconds is e = back_fits (end_told e) is (second_end e)
@@ -178,17 +175,10 @@ module _ (xs : List AuditedDevice) (later : List EventLine) (a : AuditedDevice) 
 
     -- The first part of a write
 
-    half_line : (track : ℕ) → ((o.path == o.path) && (a.number == a.number)) ≡ true
-    half_line track = and_from (o.path == o.path) (a.number == a.number) (same_number o.path) (same_number a.number)
-
-    half_first : (idle : ReportLine) (track : ℕ) → a.half ≡ half.Closed → may_step (outline_of a) idle (lines.Half o.path a.number track) a.half ≡ true
-    half_first idle track closed = grind (arith, or_right, half_line)
-
     half_stands : (w : EventLine) → MayEnd a.number w half.Closed → a.half ≡ half.Closed → (track : ℕ) →
         in_event (outlines (record { devices = xs; events = w ∷ later; due = Next })) (lines.Half o.path a.number track) w ≡ true
-    half_stands w step_ends closed track =
-        its_outline (λ b. may_step b (lines.StepIdle a.number) (lines.Half o.path a.number track) b.half) ∙ half_first (lines.StepIdle a.number) track closed
-    half_stands w run_ends closed track = grind (arith, its_outline, half_first)
+    half_stands w step_ends closed track = grind (arith, its_outline, or_right)
+    half_stands w run_ends closed track = grind (arith, its_outline, or_right)
 
     pub halves_lead : (w : EventLine) (k : MayEnd a.number w half.Closed) → a.half ≡ half.Closed → IsPlain a.plans a.empty a.history → (track : ℕ)
         (acts : List Act) → NoLoss acts → AreActs (state_of a) None acts → (reads writes : ℕ) →

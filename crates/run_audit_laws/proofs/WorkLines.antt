@@ -49,13 +49,13 @@ use Rattle.subsystem_laws.proofs.RunLines.{AnyEvent}
 use Rattle.subsystem_laws.proofs.RunLinks.{event_from}
 use Rattle.subsystem_laws.proofs.Walks.{AreSo, device_so, event_so}
 use Rattle.run_audit_laws.specs.Runs.{LineGoes, RunIsOver, SettleIsOver, ends_settled}
-use Rattle.run_audit_laws.specs.Standing.{HasDevice, LeadsBy, stand}
+use Rattle.run_audit_laws.specs.Standing.{HasDevice, stand}
 use Rattle.run_audit_laws.specs.Steps.{LeadsTowards, is_there}
 use Rattle.run_audit_laws.proofs.Found.{mounted_too}
 use Rattle.run_audit_laws.proofs.NextLines.{towards_then}
-use Rattle.run_audit_laws.proofs.PieceEvents.{PieceGoes, back_goes, back_piece, run_idle_leads, run_step_goes, settle_piece, step_line_goes}
+use Rattle.run_audit_laws.proofs.PieceEvents.{PieceGoes, back_goes, back_piece, run_idle_leads, settle_piece, step_line_goes}
 use Rattle.run_audit_laws.proofs.Pieces.{by_back, by_settle}
-use Rattle.run_audit_laws.proofs.RunEnds.{run_is_over, device_there}
+use Rattle.run_audit_laws.proofs.RunEnds.{run_is_over, device_there, piece_of_run}
 use Rattle.run_audit_laws.proofs.BackEnds.{settle_over}
 use Rattle.run_audit_laws.proofs.DeviceSizes.{sized_behind}
 use Rattle.run_audit_laws.proofs.StillLines.{some_device}
@@ -116,16 +116,6 @@ one_step k d s busy = ap (λ (b : Bool). if b then step_logged s d (steps k d) e
 abbrev left_run : Subsystem → ℕ → List EventLine → List EventLine
 left_run s d later = if is_busy (mounted_in s.mounted d) then wanted.Run d ∷ later else later
 
-piece_of_run : (s : Subsystem) → ArePlain s.mounted → (d : ℕ) → is_busy (mounted_in s.mounted d) ≡ true →
-    PieceGoes s d (wanted.Run d) (Run d) (happens s (events.Step d))
-piece_of_run s plain d busy =
-    let m = busy_there (mounted_in s.mounted d) busy in
-    let x = m.0.device in
-    let at = device_there s.mounted d m.0 m.1 in
-    let number = number_found s.mounted d x at in
-    subst (λ (k : ℕ). PieceGoes s k (wanted.Run k) (Run k) (happens s (events.Step k))) number
-    (run_step_goes s x (own_place s d x at) (plain_of s plain d x at) (ap (λ (k : ℕ). is_busy (mounted_in s.mounted k)) number ∙ busy))
-
 module _ (d : ℕ) (later : List EventLine) (k : ℕ) where
   abbrev ended : Subsystem → AuditState
   ended z = stand (last_behind z (steps k d z)) (left_run (last_behind z (steps k d z)) d later)
@@ -160,13 +150,12 @@ steps_lead zero s plain d busy later = (
 )
 steps_lead (suc k) s plain d busy later =
     let h = happens s (events.Step d) in
-    let p = piece_of_run s plain d busy in
-    subst (λ (ts : List Logged). LeadsTowards (stand s (wanted.Run d ∷ later)) (flat_map lines_of ts) (stand (last_behind s ts)
-    (left_run (last_behind s ts) d later))) (sym (one_step k d s busy))
+    let m = busy_there (mounted_in s.mounted d) busy in
+    let p = piece_of_run s plain d m.0.device (device_there s.mounted d m.0 m.1) busy in
+    rw (one_step k d s busy)
     (more_steps d later k s h.behind (lines_of (logged (Run d) h)) (left_by (wanted.Run d) p.its (is_settled h.end) later)
     (choice_not (is_idle p.its) (is_busy (mounted_in h.behind.mounted d)) later (wanted.Run d ∷ later) p.busy)
-    (subst (λ (l : List ReportLine). LeadsTowards (stand s (wanted.Run d ∷ later)) l
-    (stand h.behind (left_by (wanted.Run d) p.its (is_settled h.end) later))) (told_from s (Run d) h (event_from s (events.Step d))) (p.goes later))
+    (rw (← (told_from s (Run d) h (event_from s (events.Step d)))) (p.goes later))
     (λ more. steps_lead k h.behind (event_plain s plain (events.Step d) tt) d more later))
 
 run_logged_is : (s : Subsystem) (d : ℕ) → line_logged s (Run d) ≡ run_logged s d
@@ -191,8 +180,7 @@ module _ (s : Subsystem) (plain : ArePlain s.mounted) (d : ℕ) where
       one_goes s (wanted.Run d) (quietly s s ends.Idle) (run_idle s d idle) refl
       (λ later. (
         stand s later,
-        subst (λ (k : ℕ). LeadsBy (stand s (wanted.Run k ∷ later)) (event_lines (Run k) ends.Idle 0 0 (devices_of s) (devices_of s)) (stand s later))
-            (number_found s.mounted d x at)
+        rw (← (number_found s.mounted d x at))
             (run_idle_leads s x (own_place s d x at) (not_some x.store.half each.0) (not_some x.history.running each.1) later),
         is_there refl,
       ))
@@ -243,13 +231,13 @@ module _ (s : Subsystem) (plain : ArePlain s.mounted) (good : AreSo Good s.mount
   piece_of_back : (d : ℕ) (x : MarksDevice) → device_in (devices_of s) d ≡ Some x →
       PieceGoes s d (wanted.Back d) (Once (events.Back d)) (happens s (events.Back d))
   piece_of_back d x at =
-      subst (λ (k : ℕ). PieceGoes s k (wanted.Back k) (Once (events.Back k)) (happens s (events.Back k))) (number_found s.mounted d x at)
+      rw (← (number_found s.mounted d x at))
       (back_goes s x (own_place s d x at) (plain_of s plain d x at) (good_of s good d x at) (wanted.Back x.store.device) (Once (events.Back x.store.device))
       (did.Back x.store.device back.Nothing) back_piece by_back)
 
   piece_of_settle : (d : ℕ) (x : MarksDevice) → device_in (devices_of s) d ≡ Some x → PieceGoes s d (wanted.Settle d) (Settle d) (happens s (events.Back d))
   piece_of_settle d x at =
-      subst (λ (k : ℕ). PieceGoes s k (wanted.Settle k) (Settle k) (happens s (events.Back k))) (number_found s.mounted d x at)
+      rw (← (number_found s.mounted d x at))
       (back_goes s x (own_place s d x at) (plain_of s plain d x at) (good_of s good d x at) (wanted.Settle x.store.device) (Settle x.store.device)
       (did.Back x.store.device back.Nothing) settle_piece by_settle)
 
@@ -272,12 +260,11 @@ module _ (d : ℕ) (later : List EventLine) where
       (settled_to s (logged (Settle d) h ∷ (if b then [] else backs k d h.behind)))
   unfolding left_settle
   more_backs s h k ls true is first rest =
-      subst (λ (l : List ReportLine). LeadsTowards (stand s (wanted.Settle d ∷ later)) l (settled_to s (logged (Settle d) h ∷ []))) (sym (append-nil ls))
-      (subst (λ (c : Bool). LeadsTowards (stand s (wanted.Settle d ∷ later)) ls (stand h.behind (if c then later else wanted.Settle d ∷ later))) (sym is) first)
+      rw (append-nil ls)
+      (rw is first)
   more_backs s h k ls false is first rest =
       let ts = backs k d h.behind in
-      subst (λ (c : Bool). LeadsTowards (stand s (wanted.Settle d ∷ later)) (ls ++ flat_map lines_of ts)
-      (stand (last_behind h.behind ts) (if c then later else wanted.Settle d ∷ later))) (sym (settled_behind (logged (Settle d) h) ts is))
+      rw (settled_behind (logged (Settle d) h) ts is)
       (towards_then h.behind (wanted.Settle d ∷ later) (Some d) tt (stand s (wanted.Settle d ∷ later)) (settled_to h.behind ts) ls (flat_map lines_of ts) refl refl first
       (rest refl))
 
@@ -290,11 +277,9 @@ all_backs_lead zero s plain good d x at later = (stand s (wanted.Settle d ∷ la
 all_backs_lead (suc k) s plain good d x at later =
     let h = happens s (events.Back d) in
     let p = piece_of_settle s plain good d x at in
-    subst (λ (ts : List Logged). LeadsTowards (stand s (wanted.Settle d ∷ later)) (flat_map lines_of ts) (stand (last_behind s ts)
-    (left_settle ts d later))) (sym (one_back k d s))
+    rw (one_back k d s)
     (more_backs d later s h k (lines_of (logged (Settle d) h)) (is_settled h.end) refl
-    (subst (λ (l : List ReportLine). LeadsTowards (stand s (wanted.Settle d ∷ later)) l
-    (stand h.behind (if is_settled h.end then later else wanted.Settle d ∷ later))) (told_from s (Settle d) h (event_from s (events.Back d))) (p.goes later))
+    (rw (← (told_from s (Settle d) h (event_from s (events.Back d)))) (p.goes later))
     (λ more. all_backs_lead k h.behind (event_plain s plain (events.Back d) tt) (event_so Good AnyEvent good_kept s good (events.Back d) tt) d
     p.there.0.device (device_there h.behind.mounted d p.there.0 p.there.1) later))
 
