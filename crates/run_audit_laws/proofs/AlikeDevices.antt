@@ -1,5 +1,5 @@
 -- Devices of an audit that differ at most in behind which ends of commands the acts of a program stand: every line finds both the same.
-use Rattle.std.proofs.Common.{arith, ◌≡◌, ◌+◌, ◌==◌, ℕ, Bool, true, false, List, [], ◌∷◌, map, length, Option, Some, None, cond, refl, ap, ◌∙◌, if◌then◌else◌}
+use Rattle.std.proofs.Common.{arith, ◌≡◌, ◌+◌, ℕ, Bool, true, false, List, [], ◌∷◌, map, length, Option, Some, None, cond, refl, ap, ◌∙◌, if◌then◌else◌}
 use Rattle.std.specs.Prelude.{fold, nat_lt, ◌||◌}
 use Rattle.std.specs.List.{list_any}
 use Rattle.ckd_types.specs.declared.channel.Ccw.{Ccw}
@@ -7,7 +7,7 @@ use Rattle.ckd_types.specs.declared.paths.Owner.{Owner}
 use Rattle.ckd_rules.specs.Walk.{TrackEdit}
 use Rattle.deck_plan.specs.declared.event.EventLine.{EventLine}
 use Rattle.plain_defs.specs.declared.journal.Item.{Item}
-use Rattle.plain_defs.specs.History.{History, OpenEntry, emptied}
+use Rattle.plain_defs.specs.History.{History, OpenEntry}
 use Rattle.plain_defs.specs.Journal.{Plans, program_of, replay}
 use Rattle.plain_defs.specs.Legal.{edit_at, is_of_path, next_edit}
 use Rattle.plain_defs.specs.PlainState.{PlainState}
@@ -17,7 +17,7 @@ use Rattle.report_places.specs.declared.state.Did.{Did}
 use Rattle.report_places.specs.declared.state.Did.TheVariants.{CheckEnded, Ended}
 use Rattle.report_places.specs.declared.state.HalfWrite.{HalfWrite}
 use Rattle.report_places.specs.declared.state.OpenProgram.{OpenProgram}
-use Rattle.deck_audit.specs.Device.{AuditedDevice, edit_of, four_paths, free_answer, has_left, has_loose, held_answer, is_edit_legal, is_next_legal, loosens, may_loosen, may_start, next_ordinal, own_runs, part_of_open, plain_end, plain_end_at, runs, start_answer, state_of, words_of_open}
+use Rattle.deck_audit.specs.Device.{AuditedDevice, edit_of, four_paths, free_answer, has_left, has_loose, held_answer, is_edit_legal, loosens, may_loosen, may_start, next_ordinal, part_of_open, plain_end, plain_end_at, start_answer, state_of}
 use Rattle.deck_audit.specs.History.{given_back, is_legal, loss_line, runs_lent, without_power}
 use Rattle.deck_audit.specs.State.{is_event_over, over_by, worked}
 use Rattle.run_audit_laws.proofs.Pasts.{Going, IsRead, IsTidy, Past, bare, check_is_read, emptied_alike, end_is_read, going_of, past_of, power_is_read, untold}

@@ -3,7 +3,6 @@ use Rattle.std.proofs.Common.{arith, ◌≡◌, ℕ, Bool, true, false, List, []
 use Rattle.std.specs.Prelude.{◌&&◌, Ok, Err}
 use Rattle.std.specs.List.{list_any}
 use Rattle.std.proofs.lemmas.Bool.{or_parts}
-use Rattle.ckd_types.specs.declared.channel.CommandEnd.{CommandEnd}
 use Rattle.deck_plan.specs.declared.event.EventLine.{EventLine}
 use Rattle.plain_defs.specs.declared.journal.Act.{Act}
 use Rattle.plain_defs.specs.declared.journal.Act.TheVariants.{CfwLost, Harden}
@@ -24,7 +23,7 @@ use Rattle.report_places.specs.declared.state.HalfWrite.TheVariants.{Closed, OfC
 use Rattle.report_places.specs.Place.{first_event, holds, is_of_work, worker_of}
 use Rattle.report_places.specs.Same.{says}
 use Rattle.deck_audit.specs.Device.{AuditedDevice, device_in, has_loose, outline_of, with_device}
-use Rattle.deck_audit.specs.History.{act_made, back_half, behind_made, changed, check_made, cut_by_power, cut_half, done_order, due_made, end_made, end_made_by, given_back, harden_made, is_last, is_legal, loosen_made, loss_line, loss_made, made, made_in, next_made, order_made, place_of, power_cut, power_loss, power_made, reset_made, runs_lent, shown, start_made, without_power, work_made}
+use Rattle.deck_audit.specs.History.{act_made, back_half, behind_made, changed, cut_by_power, cut_half, done_order, due_made, end_made, given_back, harden_made, is_last, is_legal, loosen_made, loss_line, loss_made, made, made_in, next_made, order_made, place_of, power_cut, power_loss, power_made, reset_made, runs_lent, shown, start_made, without_power, work_made}
 use Rattle.deck_audit.specs.Stands.{in_state, stands, stands_in}
 use Rattle.deck_audit.specs.State.{AuditState, behind_work, passed, settled, settled_in, then_of, worker, worker_number}
 use Rattle.report_auditor.specs.declared.status.AuditWhy.TheVariants.{Place}

@@ -1,5 +1,5 @@
 -- What a device answers of itself and of its paths are bytes, where it keeps names and senses of bytes.
-use Rattle.std.proofs.Common.{◌≤◌, ◌<◌, ◌+◌, ◌-◌, ℕ, Option, arith}
+use Rattle.std.proofs.Common.{◌-◌, ℕ, Option, arith}
 use Rattle.std.specs.Prelude.{All, IfSome}
 use Rattle.ckd_types.specs.declared.channel.Ccw.{Ccw}
 use Rattle.ckd_types.specs.declared.geometry.Geometry.{Geometry}
@@ -12,7 +12,7 @@ use Rattle.ckd_rules.specs.declared.order.LocalAct.{LocalAct}
 use Rattle.ckd_rules.specs.declared.order.LocalAct.TheVariants as acts
 use Rattle.ckd_rules.specs.declared.stance.Stance.{Stance}
 use Rattle.ckd_rules.specs.Acts.{sense_id_bytes}
-use Rattle.ckd_rules.specs.Grouping.{group_bytes, group_id_bytes, mode_bit, state_in}
+use Rattle.ckd_rules.specs.Grouping.{group_bytes, group_id_bytes, state_in}
 use Rattle.plain_defs.specs.Acts.{act_bytes, act_outcome}
 use Rattle.plain_defs.specs.PlainState.{PathsState, sense_for, with_sense}
 use Rattle.run_audit_laws.proofs.GivenBytes.{IsByte, are_bytes, at_or, no_bytes}

@@ -7,7 +7,7 @@ use Rattle.deck_plan.specs.declared.event.EventLine.TheVariants as events
 use Rattle.deck_text.specs.declared.line.DeckWhy.{DeckWhy}
 use Rattle.deck_text.specs.declared.line.DeviceLine.{DeviceLine}
 use Rattle.deck_text.specs.DeckLines.{DeckLines}
-use Rattle.deck_text.specs.Events.{device_words, fail_by, side_words}
+use Rattle.deck_text.specs.Events.{device_words, fail_by}
 use Rattle.deck_text.specs.Forms.{then_read, is_declared, path_and_device}
 use Rattle.deck_text.specs.Parse.{parsed}
 use Rattle.deck_text.proofs.DeckAgain.{Each, EventOk}

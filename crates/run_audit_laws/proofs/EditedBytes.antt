@@ -1,5 +1,5 @@
 -- A look at a track that holds bytes, of a command whose word gives bytes, sends bytes, and edits the track to one that holds bytes.
-use Rattle.std.proofs.Common.{◌<◌, ◌==◌, ◌+◌, ℕ, zero, suc, Bool, true, false, List, length, Option, arith}
+use Rattle.std.proofs.Common.{◌<◌, ◌==◌, ◌+◌, ℕ, zero, suc, Bool, true, false, List, length, arith}
 use Rattle.std.specs.Prelude.{All, IfSome, is_some, take, ⊤}
 use Rattle.std.proofs.lemmas.Bool.{cond_both}
 use Rattle.std.proofs.lemmas.List.Elements.{All-push, All-set, All-take}
@@ -9,7 +9,6 @@ use Rattle.ckd_types.specs.declared.command.SearchArea.{SearchArea}
 use Rattle.ckd_types.specs.declared.command.Write.{Write}
 use Rattle.ckd_types.specs.declared.command.Write.TheVariants.{Data, UpdateData, KeyData, UpdateKeyData, CountKeyData, NextTrack, Zero}
 use Rattle.ckd_types.specs.declared.geometry.Geometry.{Geometry}
-use Rattle.ckd_types.specs.declared.parameters.Domain.{Domain}
 use Rattle.ckd_types.specs.declared.record.Edit.TheVariants.{Format, Update}
 use Rattle.ckd_types.specs.declared.record.Track.{Track}
 use Rattle.ckd_types.specs.Edit.{apply_edit}
@@ -23,7 +22,6 @@ use Rattle.ckd_rules.specs.declared.stance.Stance.{Stance}
 use Rattle.ckd_rules.specs.declared.turned.Turned.{Turned}
 use Rattle.ckd_rules.specs.declared.turned.Turned.TheVariants as turns
 use Rattle.ckd_rules.specs.Area.{given_at}
-use Rattle.ckd_rules.specs.Control.{located}
 use Rattle.ckd_rules.specs.Ending.{refused}
 use Rattle.ckd_rules.specs.Formats.{body_given, format_behind, format_ended, has_room_behind, key_given, record_given, zero_on}
 use Rattle.ckd_rules.specs.Looked.{Looked, edits, ends}

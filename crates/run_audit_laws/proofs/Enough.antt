@@ -21,7 +21,7 @@ use Rattle.ckd_rules.specs.Walk as W
 use Rattle.ckd_rules.specs.Walk.{TrackEdit, Walked, walk, walked}
 use Rattle.plain_defs.specs.Legal.{edit_at, next_edit}
 use Rattle.plain_defs.specs.declared.journal.Acted.{Acted}
-use Rattle.plain_defs.specs.Effect.{Effect, effect_by, effect_on}
+use Rattle.plain_defs.specs.Effect.{Effect, effect_by}
 use Rattle.plain_defs.specs.PlainState.{PathsState, PlainState}
 use Rattle.plain_defs.specs.Program as P
 use Rattle.plain_defs.specs.Program.{Part, part_of, command_run, stepped_at}

@@ -20,7 +20,7 @@ use Rattle.report_places.specs.declared.state.Due.TheVariants.{Behind, Next}
 use Rattle.report_places.specs.Place.{holds, in_event, is_of_work, worker_of}
 use Rattle.deck_audit.specs.Device.{AuditedDevice, device_in, state_of, with_device}
 use Rattle.deck_audit.specs.History.{act_made, harden_made, is_legal}
-use Rattle.deck_audit.specs.State.{AuditState, is_event_over, outlines, over_by, settled, settled_by, settled_in, then_of, worked, worker, worker_number}
+use Rattle.deck_audit.specs.State.{AuditState, is_event_over, outlines, over_by, settled, settled_by, then_of, worked, worker, worker_number}
 use Rattle.report_auditor.specs.Verdict.{judged, or_history}
 use Rattle.run_report.specs.Events.{lines_of}
 use Rattle.subsystem_defs.specs.Deeds as D

@@ -2,9 +2,6 @@
 use Rattle.std.proofs.Common.{◌≡◌, ◌≢◌, ◌≤◌, ◌+◌, ◌⊎◌, ℕ, zero, suc, Bool, true, false, List, [], ◌∷◌, Option, Some, None, is_some, length, get_or, set, refl, sym, ap, ◌∙◌, arith, inl, inr}
 use Rattle.std.proofs.lemmas.Bool.{cases_eq, or_left, or_right}
 use Rattle.std.specs.Prelude.{◌&&◌, ◌||◌, if◌then◌else◌, not}
-use Rattle.track_table.specs.Tracks.{least}
-use Rattle.ckd_types.specs.declared.paths.Side.{Side}
-use Rattle.device_defs.specs.declared.answers.Did.TheVariants as dids
 use Rattle.device_defs.specs.Background as G
 use Rattle.device_defs.specs.Background.{copies_to, copy_first, destage_first, did, is_destaged, recover_first, stage, stage_first, staged_bytes, to_copy, to_destage, to_recover, work}
 use Rattle.device_defs.specs.Contents.{by_plain}

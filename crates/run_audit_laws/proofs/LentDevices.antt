@@ -1,5 +1,5 @@
 -- What an order makes of a device that is lent.
-use Rattle.std.proofs.Common.{arith, ◌≡◌, ℕ, zero, suc, Option, Some, is_some, refl}
+use Rattle.std.proofs.Common.{arith, ◌≡◌, ℕ, zero, suc, Some, is_some, refl}
 use Rattle.std.proofs.lemmas.Bool.{cond_both}
 use Rattle.device_defs.specs.Contents.{by_plain}
 use Rattle.device_defs.specs.Device.{event_begun, event_ended}

@@ -15,7 +15,7 @@ use Rattle.ckd_rules.specs.declared.opening.Opening.TheVariants as openings
 use Rattle.ckd_rules.specs.declared.order.LocalAct.{LocalAct}
 use Rattle.ckd_rules.specs.declared.order.LocalAct.TheVariants.{SetGroup}
 use Rattle.ckd_rules.specs.declared.stance.Stance.{Stance}
-use Rattle.ckd_rules.specs.Grouping.{disbanded, establishes, is_in_group, owner_after, owner_by, owner_left, paths_set, resigns, asks_multipath}
+use Rattle.ckd_rules.specs.Grouping.{disbanded, establishes, is_in_group, owner_after, owner_by, paths_set, resigns, asks_multipath}
 use Rattle.plain_defs.specs.Acts.{act_fault, paths_after}
 use Rattle.plain_defs.specs.Effect.{acted_by, effect_by}
 use Rattle.plain_defs.specs.PlainState.{PathsState, reset_path}

@@ -1,6 +1,6 @@
 -- The lines of a piece of work on a device of a run lead the audit from that device before it to that device behind it.
 use Rattle.std.proofs.Common.{suc, ◌≡◌, ◌<◌, ◌==◌, ℕ, Bool, true, false, List, ◌∷◌, length, Option, Some, None, refl, sym, ap, subst, ◌∙◌, arith}
-use Rattle.std.specs.Prelude.{◌&&◌, not, option_map, IsSome}
+use Rattle.std.specs.Prelude.{◌&&◌, option_map, IsSome}
 use Rattle.std.proofs.lemmas.Bool.{and_from}
 use Rattle.ckd_types.specs.declared.channel.CommandEnd.{CommandEnd}
 use Rattle.ckd_types.specs.Sense.{equipment_sense}

@@ -5,7 +5,7 @@ use Rattle.std.specs.Prelude.{slice_index_or, slice_set}
 use Rattle.std.proofs.lemmas.Bool.{ltb-false}
 use Rattle.ckd_types.specs.declared.channel.Ccw.{Ccw}
 use Rattle.ckd_types.specs.Ccw.{ccw_at, is_chained}
-use Rattle.ckd_types.specs.Program.{IsProgram, next_ccw, target}
+use Rattle.ckd_types.specs.Program.{IsProgram}
 use Rattle.ckd_rules.specs.Ending.{Outcome}
 use Rattle.ckd_rules.specs.Ends.{goes_to}
 use Rattle.deck_plan.specs.Plans.{no_plans, plan_of, with_program}

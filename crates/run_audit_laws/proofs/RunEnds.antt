@@ -4,8 +4,6 @@ use Rattle.std.specs.Prelude.{◌||◌, IfSome, IsSome, if◌then◌else◌}
 use Rattle.std.proofs.lemmas.Bool.{leb-false, or_parts}
 use Rattle.ckd_types.specs.declared.channel.Ccw.{Ccw}
 use Rattle.ckd_rules.specs.declared.stance.Stance.{Stance}
-use Rattle.ckd_rules.specs.Ends.{is_over}
-use Rattle.ckd_rules.specs.Ending.{Outcome}
 use Rattle.plain_defs.specs.declared.journal.Acted.{Acted}
 use Rattle.plain_defs.specs.History.{OpenEntry}
 use Rattle.plain_defs.specs.PlainState.{PlainState}

@@ -5,18 +5,15 @@ use Rattle.ckd_types.specs.declared.paths.Side.{Side}
 use Rattle.ckd_types.specs.declared.paths.Side.TheVariants.{A}
 use Rattle.loss_model.specs.declared.Loss.{Loss}
 use Rattle.track_image.specs.Image.{Image}
-use Rattle.device_defs.specs.declared.usage.Usage.{Usage}
 use Rattle.device_defs.specs.Contents.{Contents}
 use Rattle.device_defs.specs.Cutting.{powerless}
 use Rattle.device_defs.specs.Events.{lost_by, with_loss}
-use Rattle.device_defs.specs.Image.{ahead}
 use Rattle.device_defs.specs.Losses as L
 use Rattle.device_defs.specs.Losses.{settled, side_lost, stale_everywhere}
 use Rattle.device_defs.specs.Second.{left_by}
 use Rattle.device_defs.specs.Store.{Origin, Store, with_stale}
 use Rattle.device_defs.specs.Writing.{taken_a, unwritten}
 use Rattle.device_laws.proofs.Based.{Base, stale_base}
-use Rattle.device_laws.proofs.WholeImage.{ahead_only}
 use Rattle.device_laws.proofs.invariants.CallCounts.{parts_count, side_base, store_base, swept_base}
 use Rattle.device_laws.proofs.walks.Moves.{stays}
 use Rattle.device_laws.proofs.walks.Reads.{settled_moves, unpatched_moves, powerless_moves}

@@ -10,9 +10,7 @@ use Rattle.ckd_types.specs.declared.channel.Note.TheVariants.{Plain}
 use Rattle.ckd_types.specs.declared.command.Command.{Command}
 use Rattle.ckd_types.specs.declared.command.Command.TheVariants as commands
 use Rattle.ckd_types.specs.declared.command.ReadArea.{ReadArea}
-use Rattle.ckd_types.specs.declared.command.ReadArea.TheVariants as reads
 use Rattle.ckd_types.specs.declared.command.SearchArea.{SearchArea}
-use Rattle.ckd_types.specs.declared.command.Read.{Read}
 use Rattle.ckd_types.specs.declared.command.Write.{Write}
 use Rattle.ckd_types.specs.declared.command.Write.TheVariants.{Data, UpdateData, KeyData, UpdateKeyData, CountKeyData, NextTrack, Zero}
 use Rattle.ckd_types.specs.declared.geometry.Geometry.{Geometry}
@@ -37,7 +35,6 @@ use Rattle.ckd_rules.specs.declared.opening.Opening.{Opening}
 use Rattle.ckd_rules.specs.declared.opening.Opening.TheVariants as openings
 use Rattle.ckd_rules.specs.declared.order.LocalAct.{LocalAct}
 use Rattle.ckd_rules.specs.declared.order.Look.{Look}
-use Rattle.ckd_rules.specs.declared.order.Look.TheVariants.{Writes}
 use Rattle.ckd_rules.specs.declared.order.CommandOrder.{CommandOrder}
 use Rattle.ckd_rules.specs.declared.ending.Ending.{Ending}
 use Rattle.ckd_rules.specs.declared.grouping.GroupFault.{GroupFault}
@@ -45,7 +42,6 @@ use Rattle.ckd_types.specs.Fixed.{Fixed}
 use Rattle.ckd_types.specs.Mask.{permits_write, permits_seek}
 use Rattle.ckd_rules.specs.declared.stance.After.{After}
 use Rattle.ckd_rules.specs.declared.stance.After.TheVariants.{Other, Wrote}
-use Rattle.ckd_rules.specs.declared.stance.Place.{Place}
 use Rattle.ckd_rules.specs.declared.stance.Stance.{Stance}
 use Rattle.ckd_rules.specs.declared.turned.Turned.{Turned}
 use Rattle.ckd_rules.specs.declared.turned.Turned.TheVariants as turns
@@ -53,11 +49,11 @@ use Rattle.ckd_rules.specs.Checks.{mask_fault, masked_order, order_by, order_of,
 use Rattle.ckd_rules.specs.Control.{located}
 use Rattle.ckd_rules.specs.Ending.{Outcome, check, refused}
 use Rattle.ckd_rules.specs.Ends.{end_at_word}
-use Rattle.ckd_rules.specs.Finding.{find_from, from_index, search_missed, next_track}
+use Rattle.ckd_rules.specs.Finding.{find_from, search_missed}
 use Rattle.ckd_rules.specs.Formats.{format_behind, zero_on}
 use Rattle.ckd_rules.specs.Look.{look_on}
 use Rattle.ckd_rules.specs.Looked.{Looked}
-use Rattle.ckd_rules.specs.Opening.{begun, locating, look_from, opening_with, opening_of, read_from}
+use Rattle.ckd_rules.specs.Opening.{look_from, opening_with, opening_of}
 use Rattle.ckd_rules.specs.Reads.{read_sought, status_of}
 use Rattle.ckd_rules.specs.Searches.{search_sought}
 use Rattle.ckd_rules.specs.Updates.{update_data, update_record, update_sought}

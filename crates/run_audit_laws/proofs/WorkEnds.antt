@@ -1,5 +1,5 @@
 -- The lines of one piece of work, whichever event line has it.
-use Rattle.std.proofs.Common.{arith, ◌≡◌, ◌==◌, ◌++◌, ℕ, Bool, true, false, List, [], ◌∷◌, map, Option, Some, None, refl, ap, ◌∙◌, if◌then◌else◌}
+use Rattle.std.proofs.Common.{arith, ◌≡◌, ◌==◌, ◌++◌, ℕ, Bool, true, false, List, ◌∷◌, map, Option, Some, None, refl, ap, ◌∙◌, if◌then◌else◌}
 use Rattle.std.specs.Prelude.{◌&&◌}
 use Rattle.std.proofs.lemmas.Bool.{or_left, or_right, and_from}
 use Rattle.ckd_types.specs.declared.channel.CommandEnd.{CommandEnd}
@@ -23,8 +23,8 @@ use Rattle.report_places.specs.declared.state.HalfWrite.{HalfWrite}
 use Rattle.report_places.specs.declared.state.HalfWrite.TheVariants as half
 use Rattle.report_places.specs.declared.state.Outline.{Outline}
 use Rattle.report_places.specs.Place.{holds, in_event, is_back_line, is_second_line, may_back, may_step, outline_in, second_of, worker_of}
-use Rattle.deck_audit.specs.Device.{AuditedDevice, check_end, device_in, is_idle, open_program, outline_of, state_of, with_device, words_of_open}
-use Rattle.deck_audit.specs.History.{back_half, event_made, is_last, is_legal, work_made}
+use Rattle.deck_audit.specs.Device.{AuditedDevice, device_in, is_idle, open_program, outline_of, state_of, with_device}
+use Rattle.deck_audit.specs.History.{back_half, event_made, is_last, work_made}
 use Rattle.deck_audit.specs.State.{AuditState, outlines, worked}
 use Rattle.report_auditor.specs.Verdict.{judged, or_history}
 use Rattle.run_audit_laws.specs.Steps.{LeadsTowards, NoLoss, act_line, acted_to, over_if, over_told, step_lines}
