@@ -38,29 +38,11 @@ no_whys_same n m v w is = ap why_told is
 
 end_yes : (n : ℕ) (due : Due) → at_end n due ≡ Yes → due ≡ dues.Nothing
 end_yes n dues.Nothing is = refl
-end_yes n dues.Next is = absurd (cc)
-end_yes n (dues.DataOf e) is = absurd (cc)
-end_yes n (dues.SenseOf e) is = absurd (cc)
-end_yes n (dues.Behind more did) is = absurd (cc)
-end_yes n (dues.OverOf line) is = absurd (cc)
-end_yes n (dues.Losses d) is = absurd (cc)
-end_yes n dues.ResetOf is = absurd (cc)
-end_yes n (dues.Powers k) is = absurd (cc)
-end_yes n (dues.Totals k) is = absurd (cc)
-end_yes n dues.Frames is = absurd (cc)
+end_yes n due is = absurd (cc)
 
 end_other : (n : ℕ) (due : Due) → (due ≡ dues.Nothing → ⊥) → at_end n due ≡ No n Place
 end_other n dues.Nothing other = absurd (other refl)
-end_other n dues.Next other = refl
-end_other n (dues.DataOf e) other = refl
-end_other n (dues.SenseOf e) other = refl
-end_other n (dues.Behind more did) other = refl
-end_other n (dues.OverOf line) other = refl
-end_other n (dues.Losses d) other = refl
-end_other n dues.ResetOf other = refl
-end_other n (dues.Powers k) other = refl
-end_other n (dues.Totals k) other = refl
-end_other n dues.Frames other = refl
+end_other n due other = refl
 
 end_no : (n : ℕ) (due : Due) (m : ℕ) (why : AuditWhy) → at_end n due ≡ No m why → due ≡ dues.Nothing → ⊥
 end_no n due m why is none = let e : Yes ≡ No m why = sym (ap (at_end n) none) ∙ is in cc

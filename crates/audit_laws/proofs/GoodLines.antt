@@ -88,12 +88,7 @@ module _ (s t w : AuditState) (near : Near t w) where
   answer_good : (a : AuditedDevice) (path : ℕ) (answer : StartAnswer) → start_answer a path ≡ answer
       → w ≡ passed (changed s (after_start a path answer)) → AnswerShows s a path answer w
   answer_good a path (start.Accepted n) is makes = (starts_own a path n is, starts_idle a path n is, makes)
-  answer_good a path (start.Busy q) is makes = (is, makes)
-  answer_good a path start.Done is makes = (is, makes)
-  answer_good a path start.Running is makes = (is, makes)
-  answer_good a path (start.Secondary of) is makes = (is, makes)
-  answer_good a path (start.Reserved owner) is makes = (is, makes)
-  answer_good a path (start.Shut owner) is makes = (is, makes)
+  answer_good a path answer is makes = (is, makes)
 
   start_good : (line : ReportLine) (path : ℕ) (a : AuditedDevice) → start_made s line path a ≡ Some t → StartShows s line path a w
   start_good line path a is =
@@ -254,9 +249,7 @@ module _ (s t w : AuditState) (near : Near t w) where
   event_good line event is = order_good line event is
 
   totals_due : (line : ReportLine) (k : ℕ) → awaits_sense s.due ≡ false → awaits_sense (totals_made s line k).due ≡ false
-  totals_due (lines.Device d totals) k none = refl
   totals_due (lines.Lost d track) k none = none
-  totals_due lines.Finish k none = refl
   totals_due line k none = refl
 
   next_good : (line : ReportLine) (es : List EventLine) → awaits_sense s.due ≡ false → next_made s line es ≡ Some t → NextShows s line es w

@@ -14,7 +14,7 @@ use Rattle.report_reading.specs.Reading.{line_of}
 use Rattle.report_places.specs.declared.state.Did.{Did}
 use Rattle.report_places.specs.declared.state.Did.TheVariants.{Ended, CheckEnded}
 use Rattle.report_places.specs.declared.state.Due.{Due}
-use Rattle.report_places.specs.declared.state.Due.TheVariants.{Next, DataOf, SenseOf, Behind, OverOf, Losses, ResetOf, Powers, Totals, Frames, Nothing}
+use Rattle.report_places.specs.declared.state.Due.TheVariants.{SenseOf, Behind}
 use Rattle.report_places.specs.Place.{holds}
 use Rattle.report_places.specs.Same.{says}
 use Rattle.deck_audit.specs.Device.{AuditedDevice, check_end, device_in, words_of_open}
@@ -124,15 +124,7 @@ module _ (programs : List PlannedProgram) (of : List DeviceLine) where
     before_in (SenseOf p) at so is = sense_line p at so is
     before_in (Behind more did) at so is =
         here (Behind more did) at (behind_good s t w near line more did (behind_can more did so) is)
-    before_in Next at so is = here Next at (due_good s t w near line Next (ap awaits_sense at) refl is)
-    before_in (DataOf e) at so is = here (DataOf e) at (due_good s t w near line (DataOf e) (ap awaits_sense at) refl is)
-    before_in (OverOf wanted) at so is = here (OverOf wanted) at (due_good s t w near line (OverOf wanted) (ap awaits_sense at) refl is)
-    before_in (Losses d) at so is = here (Losses d) at (due_good s t w near line (Losses d) (ap awaits_sense at) refl is)
-    before_in ResetOf at so is = here ResetOf at (due_good s t w near line ResetOf (ap awaits_sense at) refl is)
-    before_in (Powers k) at so is = here (Powers k) at (due_good s t w near line (Powers k) (ap awaits_sense at) refl is)
-    before_in (Totals k) at so is = here (Totals k) at (due_good s t w near line (Totals k) (ap awaits_sense at) refl is)
-    before_in Frames at so is = here Frames at (due_good s t w near line Frames (ap awaits_sense at) refl is)
-    before_in Nothing at so is = here Nothing at (due_good s t w near line Nothing (ap awaits_sense at) refl is)
+    before_in due at so is = here due at (due_good s t w near line due (ap awaits_sense at) refl is)
 
     before : made s line ≡ Some t → Before
     before is = before_in s.due refl sound.devices is

@@ -15,9 +15,9 @@ use Rattle.plain_defs.specs.Loose.{act_done, is_loose_in, is_loose_there, withou
 use Rattle.plain_defs.specs.PlainState.{LooseTrack, PlainState}
 use Rattle.plain_defs.specs.Program.{Part, with_act}
 use Rattle.report_places.specs.declared.state.Did.{Did}
-use Rattle.report_places.specs.declared.state.Did.TheVariants.{Ended, CheckEnded, Halved, Worked}
+use Rattle.report_places.specs.declared.state.Did.TheVariants.{Ended, CheckEnded}
 use Rattle.report_places.specs.declared.state.Due.{Due}
-use Rattle.report_places.specs.declared.state.Due.TheVariants.{Next, DataOf, SenseOf, Behind, OverOf, Losses, ResetOf, Powers, Totals, Frames, Nothing}
+use Rattle.report_places.specs.declared.state.Due.TheVariants.{DataOf, SenseOf, Behind, Powers}
 use Rattle.deck_audit.specs.Device.{AuditedDevice, device_in, edit_of, is_edit_legal, is_next_legal, part_of_open, state_of, words_of_open}
 use Rattle.deck_audit.specs.State.{AuditState, then_of, worker}
 use Rattle.device_laws.proofs.OpenProgram.{with_one_act}
@@ -122,25 +122,17 @@ module _ (programs : List PlannedProgram) (of : List DeviceLine) (s : AuditState
   did_so : (more : Bool) (did : Did) → AtWork programs of (DidSo more did) s.events s.devices → CanBeAt s a (Behind more did)
   did_so true (Ended e) so = λ works. can_end a e (work_of (Ends e) so works)
   did_so true (CheckEnded e) so = λ works. ([], tt, (checked_sound a e (work_of (Checks e) so works)).plain)
-  did_so true Halved so = λ works. ([], tt, (work_of Sound so works).plain)
-  did_so true (Worked last) so = λ works. ([], tt, (work_of Sound so works).plain)
+  did_so true did so = λ works. ([], tt, (work_of Sound so works).plain)
   did_so false (Ended e) so = λ works. (work_of (DidSo false (Ended e)) so works).plain
   did_so false (CheckEnded e) so = λ works. (checked_sound a e (work_of (Checks e) so works)).plain
-  did_so false Halved so = λ works. (work_of Sound so works).plain
-  did_so false (Worked last) so = λ works. (work_of Sound so works).plain
+  did_so false did so = λ works. (work_of Sound so works).plain
 
   can_by : (due : Due) → AreSo programs of due s.events s.devices → CanBeAt s a due
   can_by (DataOf e) so = λ works. can_end a e (work_of (Ends e) so works)
   can_by (SenseOf e) so = λ works. inl (can_end a e (work_of (Ends e) so works))
   can_by (Behind more did) so = did_so more did so
   can_by (Powers k) so = (darkened_sound a (each_found programs Darkening Darkening d a of s.devices so found)).plain
-  can_by Next so = (sound_of so).plain
-  can_by (OverOf wanted) so = (sound_of so).plain
-  can_by (Losses x) so = (sound_of so).plain
-  can_by ResetOf so = (sound_of so).plain
-  can_by (Totals k) so = (sound_of so).plain
-  can_by Frames so = (sound_of so).plain
-  can_by Nothing so = (sound_of so).plain
+  can_by due so = (sound_of so).plain
 
 pub can_all : (programs : List PlannedProgram) (of : List DeviceLine) (s : AuditState) → IsSoundState programs of s → CanAllBePlain s
 can_all programs of s sound = λ d a found. can_by programs of s d a found s.due sound.devices

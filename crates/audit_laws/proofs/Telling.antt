@@ -14,9 +14,9 @@ use Rattle.report_text.specs.declared.line.ReportLine.TheVariants as lines
 use Rattle.report_reading.specs.declared.fault.LineFault.{LineFault}
 use Rattle.report_reading.specs.Reading.{line_of}
 use Rattle.report_places.specs.declared.state.Did.{Did}
-use Rattle.report_places.specs.declared.state.Did.TheVariants.{Ended, CheckEnded, Halved, Worked}
+use Rattle.report_places.specs.declared.state.Did.TheVariants.{Ended, CheckEnded}
 use Rattle.report_places.specs.declared.state.Due.{Due}
-use Rattle.report_places.specs.declared.state.Due.TheVariants.{Next, DataOf, SenseOf, Behind, OverOf, Losses, ResetOf, Powers, Totals, Frames, Nothing}
+use Rattle.report_places.specs.declared.state.Due.TheVariants.{Next, SenseOf, Behind, Losses, Powers}
 use Rattle.report_places.specs.Place.{first_event, holds, is_io, is_of_work, worker_of}
 use Rattle.deck_audit.specs.Device.{AuditedDevice, device_in, with_device}
 use Rattle.deck_audit.specs.History.{act_of_work, due_made, event_made, harden_made, is_legal, loss_made, made, made_in, next_made, order_made, power_cut}
@@ -170,17 +170,11 @@ module _ (programs : List PlannedProgram) (of : List DeviceLine) where
   due_shown_made : (s u : AuditState) (line : ReportLine) (due : Due) → AreSo programs of due s.events s.devices
       → CanBePlain u (due_device s line due) → DueShows s line due u → Follows (due_made s line due) u
   due_shown_made s u line Next so can shows = next_shown s u so line s.events can refl shows
-  due_shown_made s u line (DataOf e) so can shows = follows _ u shows
   due_shown_made s u line (SenseOf e) so can shows = follows _ u (sense_line_shown s u line e e so can shows)
-  due_shown_made s u line (Behind more did) so can shows = follows _ u shows
-  due_shown_made s u line (OverOf wanted) so can shows = follows _ u shows
   due_shown_made s u line (Losses d) so can shows =
       follows _ u (found_then (first_event s.events) (order_made s line) shows.0 shows.1 ∙ order_shown s u so line shows.0 can shows.2)
-  due_shown_made s u line ResetOf so can shows = follows _ u shows
   due_shown_made s u line (Powers k) so can shows = follows _ u (power_line_shown s u line can shows)
-  due_shown_made s u line (Totals k) so can shows = follows _ u shows
-  due_shown_made s u line Frames so can shows = follows _ u shows
-  due_shown_made s u line Nothing so can shows = follows _ u shows
+  due_shown_made s u line due so can shows = follows _ u shows
 
   -- Behind a piece of work
 
@@ -215,9 +209,7 @@ module _ (programs : List PlannedProgram) (of : List DeviceLine) where
 
     legal_by : (a : AuditedDevice) (did : Did) → PlainPast (worked a did) → is_legal did a ≡ true
     legal_by a (Ended e) plain = legal_so a e plain
-    legal_by a (CheckEnded e) plain = refl
-    legal_by a Halved plain = refl
-    legal_by a (Worked last) plain = refl
+    legal_by a did plain = refl
 
     legal : (a : AuditedDevice) → worker s ≡ Some a → CanBePlain (settled s did) so.0 → holds (worker s) (is_legal did) ≡ true
     legal a works can_settled =
@@ -234,8 +226,7 @@ module _ (programs : List PlannedProgram) (of : List DeviceLine) where
     acted_plain : (a : AuditedDevice) (did : Did) → DidSo true did a → PlainPast a
     acted_plain a (Ended e) done = done.sound.plain
     acted_plain a (CheckEnded e) done = done.sound.plain
-    acted_plain a Halved done = done.plain
-    acted_plain a (Worked last) done = done.plain
+    acted_plain a did done = done.plain
 
     at_worker : CanBePlain u (or_zero (worker_number s)) → CanBePlain u so.0
     at_worker can = subst (λ (d : ℕ). CanBePlain u d) (ap or_zero so.1) can
@@ -271,16 +262,7 @@ module _ (programs : List PlannedProgram) (of : List DeviceLine) where
   shown_in : (s u : AuditState) (line : ReportLine) (due : Due) → IsSoundState programs of s → AreSo programs of due s.events s.devices
       → CanBePlain u (device_in_due s line due) → ShowsIn s line due u → Follows (made_in s line due) u
   shown_in s u line (Behind more did) sound so can shows = behind_shown s u line more did sound so can shows
-  shown_in s u line Next sound so can shows = due_shown_made s u line Next so can shows
-  shown_in s u line (DataOf e) sound so can shows = due_shown_made s u line (DataOf e) so can shows
-  shown_in s u line (SenseOf e) sound so can shows = due_shown_made s u line (SenseOf e) so can shows
-  shown_in s u line (OverOf wanted) sound so can shows = due_shown_made s u line (OverOf wanted) so can shows
-  shown_in s u line (Losses d) sound so can shows = due_shown_made s u line (Losses d) so can shows
-  shown_in s u line ResetOf sound so can shows = due_shown_made s u line ResetOf so can shows
-  shown_in s u line (Powers k) sound so can shows = due_shown_made s u line (Powers k) so can shows
-  shown_in s u line (Totals k) sound so can shows = due_shown_made s u line (Totals k) so can shows
-  shown_in s u line Frames sound so can shows = due_shown_made s u line Frames so can shows
-  shown_in s u line Nothing sound so can shows = due_shown_made s u line Nothing so can shows
+  shown_in s u line due sound so can shows = due_shown_made s u line due so can shows
 
   pub shown_made : (s w u : AuditState) (line : ReportLine) → IsSoundState programs of s → Beside s w → CanBePlain u (device_of s line) → Shows w line u
       → Follows (made s line) u

@@ -1,14 +1,13 @@
 -- Acts of cache fast write are judged by a device that is kept as by the history.
-use Rattle.std.proofs.Common.{◌≡◌, ℕ, Option, Some, None, true, false, refl, sym, ap, subst, ◌∙◌}
+use Rattle.std.proofs.Common.{◌≡◌, ℕ, Option, Some, None, true, false, refl, sym, ap, ◌∙◌}
 use Rattle.std.specs.Prelude.{◌&&◌}
-use Rattle.ckd_types.specs.declared.channel.CommandEnd.{CommandEnd}
 use Rattle.ckd_chain.specs.State.{ChainState}
 use Rattle.ckd_chain.specs.Steps.{end_with}
 use Rattle.plain_defs.specs.declared.journal.Act.{Act}
 use Rattle.plain_defs.specs.declared.journal.Act.TheVariants.{Harden, Loosen, CfwLost}
 use Rattle.plain_defs.specs.Effect.{Effect}
 use Rattle.plain_defs.specs.History.{History, OpenEntry, acted, acted_in}
-use Rattle.plain_defs.specs.Loose.{act_done, cfw_lost, is_loose_there}
+use Rattle.plain_defs.specs.Loose.{act_done, is_loose_there}
 use Rattle.plain_defs.specs.PlainState.{PlainState}
 use Rattle.plain_device.specs.Between.{effect_of}
 use Rattle.report_text.specs.declared.answers.LooseAnswer.TheVariants as loose
@@ -21,17 +20,16 @@ use Rattle.report_places.specs.declared.state.Did.{Did}
 use Rattle.report_places.specs.declared.state.Did.TheVariants.{Ended, CheckEnded, Halved, Worked}
 use Rattle.report_places.specs.declared.state.Due.{Due}
 use Rattle.report_places.specs.declared.state.Due.TheVariants.{Behind, Losses, Next}
-use Rattle.deck_audit.specs.Device.{AuditedDevice, has_loose, may_loosen, part_of_open, plain_end, plain_end_at, state_of, words_of_open}
+use Rattle.deck_audit.specs.Device.{AuditedDevice, has_loose, may_loosen, part_of_open, plain_end, state_of, words_of_open}
 use Rattle.deck_audit.specs.Follows.{Follows, RunsAs}
 use Rattle.deck_audit.specs.History as history
 use Rattle.deck_audit.specs.Keeping.{DidSo, Goes, HasPending, IsCounted, IsDue, IsKept, IsQuiet, Judges}
 use Rattle.deck_audit.specs.Kept.{act_kept, act_made, act_then, harden_then, loosen_then, loss_kept, loss_then, tells_loss}
 use Rattle.deck_audit.specs.Replay as replay
-use Rattle.deck_audit.specs.Replayed.{PendingState, ReplayedState}
 use Rattle.report_places.specs.Same.{says}
 use Rattle.deck_audit.specs.State.{AuditState}
 use Rattle.deck_audit.proofs.Judges.{by_program, judges_if}
-use Rattle.deck_audit.proofs.KeptMore.{act_keeps}
+use Rattle.deck_audit.proofs.KeptPaths.{act_keeps}
 use Rattle.deck_audit.proofs.ReplayedActs.{acted_device, acted_ends, acted_idle, acted_runs, in_history, runs_later, with_act_of}
 use Rattle.deck_audit.proofs.ReplayedEnds.{end_is, ends_as, loosens_follows}
 
@@ -39,23 +37,21 @@ use Rattle.deck_audit.proofs.ReplayedEnds.{end_is, ends_as, loosens_follows}
 module _ (a : AuditedDevice) (o : OpenEntry) (device : PlainState) (q : Running) (before : ChainState)
     (runs : RunsAs a o device q before) where
   pub plain_before : plain_end a o ≡ Some (end_with before (effect_of device o.path before).outcome)
-  plain_before =
-      ap (λ (n : Option ℕ). plain_end_at o.path (words_of_open a o) (part_of_open a o) n) (sym runs.at.next_is ∙ runs.at_word)
-      ∙ ap (λ (e : CommandEnd). Some e)
-      (sym (end_is (part_of_open a o) (words_of_open a o) device before o.ends o.path runs.at runs.word runs.at_word))
+  plain_before = rw (sym runs.at.next_is ∙ runs.at_word) (ap Some
+      (sym (end_is (part_of_open a o) (words_of_open a o) device before o.ends o.path runs.at runs.word runs.at_word)))
 
 -- an act between two commands stays in the program that runs
 counts_act : (n : ℕ) (h : History) (act : Act) (entry : Option OpenEntry) → h.running ≡ entry → IsCounted n entry
     → IsCounted n (acted_in h act entry).running
 counts_act n h act (Some o) is c = c
-counts_act n h act None is c = subst (λ (x : Option OpenEntry). IsCounted n x) (sym is) tt
+counts_act n h act None is c = rw is tt
 
 module _ (k : Kept) (a : AuditedDevice) (act : Act) (i : IsKept k a) where
   kept_by : Follows (replay.acted k.device act) (record a { history = acted a.history act })
       → IsKept (act_kept k act) (record a { history = acted a.history act })
   kept_by follows = record {
     follows = follows;
-    keeps = act_keeps k.device a.history act i.keeps;
+    keeps = act_keeps k.device a.history i.keeps act;
     counts = counts_act k.ended a.history act a.history.running refl i.counts;
   }
 
@@ -83,12 +79,11 @@ module _ (k : Kept) (a : AuditedDevice) (act : Act) (i : IsKept k a) where
       entry = with_act_of h.entry act;
       run = h.run;
       pending = h.pending;
-      entry_is = ap (λ (x : History). x.running) (in_history k.device a h.entry h.run act i.follows h.run_is h.entry_is);
+      entry_is = rw h.entry_is;
       run_is = h.run_is;
       pending_is = h.pending_is;
       end = h.end;
-      plain = subst (λ (x : History). plain_end (record a { history = x }) (with_act_of h.entry act) ≡ Some h.end)
-          (sym (in_history k.device a h.entry h.run act i.follows h.run_is h.entry_is)) plain_after;
+      plain = rw (in_history k.device a h.entry h.run act i.follows h.run_is h.entry_is) plain_after;
     }
 
 pub record Acts (k : Kept) (a : AuditedDevice) (act : Act) (did : Did) : Type 0 where
@@ -152,17 +147,11 @@ module _ (s : AuditState) (k : Kept) (a : AuditedDevice) (i : IsKept k a) where
 
   -- all loose tracks go back
   module _ (quiet : IsQuiet k) where
-    lost_is : replay.acted k.device CfwLost ≡ replay.lost k.device
-    lost_is = ap (λ (p : Option PendingState). record k.device { device = cfw_lost k.device.device; pending = p }) quiet
-
     lost_kept : IsKept (loss_kept k) (record a { history = acted a.history CfwLost })
-    lost_kept = subst (λ (r : ReplayedState). IsKept (record k { device = r }) (record a { history = acted a.history CfwLost })) lost_is
-        (quiet_act k a CfwLost i quiet)
+    lost_kept = rw quiet at (quiet_act k a CfwLost i quiet)
 
     pub same_tells : (line : ReportLine) → tells_loss k.device line ≡ (has_loose a && says (history.loss_line a) line)
-    same_tells line =
-        ap (λ (n : ℕ). tells_loss (record k.device { number = n }) line) i.follows.number_is
-        ∙ ap (λ (d : PlainState). tells_loss (record k.device { number = a.number; device = d }) line) i.follows.device_is
+    same_tells line = rw (i.follows.number_is, i.follows.device_is)
 
     pub loss_judged : (line : ReportLine) → Judges s a (history.loss_made s line a) (loss_then k line) (loss_kept k)
     loss_judged line = judges_if s a (history.act_made s a CfwLost (Losses a.number)) (Wait (Losses k.device.number)) (loss_kept k)

@@ -5,8 +5,7 @@ use Rattle.std.proofs.lemmas.Bool.Decides.{nat_tests}
 use Rattle.ckd_types.specs.declared.channel.CommandEnd.{CommandEnd}
 use Rattle.ckd_chain.specs.Steps.{end_with}
 use Rattle.plain_device.specs.Between.{effect_of}
-use Rattle.plain_defs.specs.History.{History, OpenEntry, cut_by, put, reset_in_history, reset_in}
-use Rattle.plain_defs.specs.Legal.{is_used}
+use Rattle.plain_defs.specs.History.{OpenEntry, cut_by, reset_in_history}
 use Rattle.deck_audit.specs.declared.kept.Kept.{Kept}
 use Rattle.deck_audit.specs.declared.kept.Then.TheVariants.{Wait}
 use Rattle.deck_audit.specs.declared.replayed.Running.{Running}
@@ -20,14 +19,13 @@ use Rattle.deck_audit.specs.History.{changed, cut_by_power, cut_half, cut_open}
 use Rattle.deck_audit.specs.Keeping.{Goes, HasPending, IsCounted, IsDue, IsKept, IsQuiet, Judges, counted}
 use Rattle.deck_audit.specs.Kept.{cut_kept_by, cut_then_by, power_kept, power_then, taken, takes, then_if, with_cut_half}
 use Rattle.deck_audit.specs.Replay as replay
-use Rattle.deck_audit.specs.Replayed.{PendingState, ReplayedState}
+use Rattle.deck_audit.specs.Replayed.{ReplayedState}
 use Rattle.deck_audit.specs.State.{AuditState, then_of}
-use Rattle.deck_audit.proofs.Judges.{Idle, Runs, by_program}
+use Rattle.deck_audit.proofs.Judges.{Runs, by_program}
 use Rattle.deck_audit.proofs.JudgedActs.{plain_before}
 use Rattle.deck_audit.proofs.JudgedEnds.{closed_pending}
 use Rattle.deck_audit.proofs.JudgedWork.{ended_kept, has_pending}
-use Rattle.deck_audit.proofs.KeptMore.{cut_keeps, keeps_same, settled_keeps}
-use Rattle.deck_audit.proofs.KeptResets.{cut_reset_keeps}
+use Rattle.deck_audit.proofs.KeptPaths.{cut_keeps, cut_reset_keeps, keeps_same, settled_keeps}
 use Rattle.deck_audit.proofs.ReplayedEnds.{legal_follows, runs_as}
 use Rattle.deck_audit.proofs.ReplayedResets.{cut_by_power_follows, cut_follows, cut_more_by_power_follows, cut_more_follows, half_is_followed}
 
@@ -44,7 +42,7 @@ module _ (s : AuditState) (k : Kept) (a : AuditedDevice) (i : IsKept k a) (quiet
   o = r.entry
 
   counts_here : IsCounted k.ended (Some r.entry)
-  counts_here = subst (λ (x : Option OpenEntry). IsCounted k.ended x) r.entry_is i.counts
+  counts_here = rw r.entry_is at i.counts
 
   runs_here : RunsAs a r.entry k.device.device r.run r.run.chain
   runs_here = runs_as k.device a r.entry r.run i.follows r.run_is quiet r.entry_is
@@ -86,36 +84,21 @@ module _ (s : AuditState) (k : Kept) (a : AuditedDevice) (i : IsKept k a) (quiet
       → Judges s a (cond (n == length r.entry.ends) (Some (made 0))
       (cond ((n == length r.entry.ends + 1) && is_next_legal a a.history.running) (Some (made 1)) None))
       (then_if (takes k n) (Wait due)) (record k { device = cuts (taken k n) })
-  cut_by_count made due cuts whole more =
-      subst (λ (b : Bool). Judges s a (cond (n == length r.entry.ends) (Some (made 0))
-      (cond ((n == length r.entry.ends + 1) && is_next_legal a a.history.running) (Some (made 1)) None))
-      (then_if (cond b true ((n == k.ended + 1) && replay.is_legal (replay.ended_next k.device))) (Wait due))
-      (record k { device = cuts (cond b k.device (replay.settled (replay.ended_next k.device))) }))
-      (sym (same_count n (length r.entry.ends) k.ended small counts_here.2))
-      (subst (λ (c : Bool). Judges s a (cond (n == length r.entry.ends) (Some (made 0))
-      (cond ((n == length r.entry.ends + 1) && is_next_legal a a.history.running) (Some (made 1)) None))
-      (then_if (cond (n == length r.entry.ends) true (c && replay.is_legal (replay.ended_next k.device))) (Wait due))
-      (record k { device = cuts (cond (n == length r.entry.ends) k.device (replay.settled (replay.ended_next k.device))) }))
-      (sym (same_more n (length r.entry.ends) k.ended small counts_here.2))
-      (subst (λ (d : Bool). Judges s a (cond (n == length r.entry.ends) (Some (made 0))
-      (cond ((n == length r.entry.ends + 1) && is_next_legal a a.history.running) (Some (made 1)) None))
-      (then_if (cond (n == length r.entry.ends) true ((n == length r.entry.ends + 1) && d)) (Wait due))
-      (record k { device = cuts (cond (n == length r.entry.ends) k.device (replay.settled (replay.ended_next k.device))) }))
-      (sym same_legal)
-      (by_tests made due cuts whole more (n == length r.entry.ends) (n == length r.entry.ends + 1) (is_next_legal a a.history.running))))
+  cut_by_count made due cuts whole more = rw (
+    same_count n (length r.entry.ends) k.ended small counts_here.2,
+    same_more n (length r.entry.ends) k.ended small counts_here.2,
+    same_legal,
+  )
+      (by_tests made due cuts whole more (n == length r.entry.ends) (n == length r.entry.ends + 1) (is_next_legal a a.history.running))
 
   -- A reset
 
   in_history : (more : ℕ) → reset_in_history a.history r.entry.path more ≡ cut_by a.history r.entry more
-  in_history more = ap (λ (x : Option OpenEntry). reset_in a.history r.entry.path more x) r.entry_is
-      ∙ ap (λ (b : Bool). cond b (cut_by a.history r.entry more) (cond (is_used r.entry.path false a.history.items)
-      (record a.history { waiting = put r.entry.path a.history.waiting }) a.history)) (eq-eqb r.entry.path r.entry.path refl)
+  in_history more = rw (r.entry_is, eq-eqb r.entry.path r.entry.path refl)
 
   in_replay : (x : ReplayedState) (q : Running) → x.running ≡ Some q → q.path ≡ r.entry.path
       → replay.reset x r.entry.path ≡ replay.closed (replay.reset_on x r.entry.path)
-  in_replay x q run_is path_is = ap (λ (z : Option Running). replay.reset_by x r.entry.path z) run_is
-      ∙ ap (λ (b : Bool). cond b (replay.closed (replay.reset_on x r.entry.path)) (replay.wait_used x r.entry.path))
-      (eq-eqb q.path r.entry.path path_is)
+  in_replay x q run_is path_is = rw (run_is, eq-eqb q.path r.entry.path path_is)
 
   abbrev reset_after : ℕ → AuditedDevice
   reset_after more = record a { history = reset_in_history a.history r.entry.path more; half = cut_half a.half }
@@ -133,10 +116,9 @@ module _ (s : AuditState) (k : Kept) (a : AuditedDevice) (i : IsKept k a) (quiet
           (half_is_followed (replay.reset x r.entry.path) (record a { history = reset_in_history a.history r.entry.path more }) follows (cut_half a.half));
       keeps = keeps_same (replay.reset x r.entry.path) (with_cut_half (replay.reset x r.entry.path))
           (reset_in_history a.history r.entry.path more) refl refl refl refl
-          (subst (λ (z : ReplayedState). KeepsPaths z (reset_in_history a.history r.entry.path more)) (sym (in_replay x q run_is path_is))
-          (subst (λ (z : History). KeepsPaths (replay.closed (replay.reset_on x r.entry.path)) z) (sym (in_history more))
-          (cut_reset_keeps x a.history r.entry more keeps r.entry_is counts_here.0 counts_here.1)));
-      counts = subst (λ (z : History). IsCounted k.ended z.running) (sym (in_history more)) tt;
+          (rw (in_replay x q run_is path_is, in_history more)
+          (cut_reset_keeps x a.history r.entry keeps r.entry_is more counts_here.0 counts_here.1));
+      counts = rw (in_history more) tt;
     };
     due = ap (λ (z : ReplayedState). z.pending) (in_replay x q run_is path_is) ∙ closed_pending (replay.reset_on x r.entry.path) ∙ none;
     number_is = refl;
@@ -147,10 +129,10 @@ module _ (s : AuditState) (k : Kept) (a : AuditedDevice) (i : IsKept k a) (quiet
   behind_next = replay.settled (replay.ended_next k.device)
 
   behind_run : behind_next.running ≡ Some waits.run
-  behind_run = ap (λ (p : Option PendingState). (replay.settled_by (replay.ended_next k.device) p).running) waits.pending_is ∙ waits.run_is
+  behind_run = rw waits.pending_is waits.run_is
 
   behind_quiet : behind_next.pending ≡ None
-  behind_quiet = ap (λ (p : Option PendingState). (replay.settled_by (replay.ended_next k.device) p).pending) waits.pending_is
+  behind_quiet = rw waits.pending_is
 
   behind_keeps : KeepsPaths behind_next a.history
   behind_keeps = settled_keeps (replay.ended_next k.device) a.history next_kept.keeps
@@ -180,7 +162,7 @@ module _ (s : AuditState) (k : Kept) (a : AuditedDevice) (i : IsKept k a) (quiet
   power_goes more x due here keeps follows = record {
     after = cut_by_power a r.entry more;
     made_is = refl;
-    kept = record { follows = follows; keeps = cut_keeps x a.history r.entry more keeps r.entry_is; counts = tt };
+    kept = record { follows = follows; keeps = cut_keeps x a.history r.entry keeps r.entry_is more; counts = tt };
     due = here;
     number_is = refl;
     plans_are = refl;
@@ -198,32 +180,17 @@ module _ (s : AuditState) (k : Kept) (a : AuditedDevice) (i : IsKept k a) (quiet
       waits.pending_is r.entry_is end plain next_kept.keeps.waits))
 
 module _ (s : AuditState) (k : Kept) (a : AuditedDevice) (i : IsKept k a) (quiet : IsQuiet k) (n : ℕ) (small : n < 65536) where
-  idle_reset : Idle k.device a → Judges s a (then_of a.history.running (λ o. history.cut_by s a o n))
-      (cut_then_by k n ResetOf k.device.running) (cut_kept_by k n k.device.running)
-  idle_reset idle = subst (λ (x : Option Running). Judges s a (then_of a.history.running (λ o. history.cut_by s a o n))
-      (cut_then_by k n ResetOf x) (cut_kept_by k n x)) (sym idle.run_is)
-      (ap (λ (x : Option OpenEntry). then_of x (λ o. history.cut_by s a o n)) idle.entry_is)
-
-  runs_reset : Runs k.device a → Judges s a (then_of a.history.running (λ o. history.cut_by s a o n))
-      (cut_then_by k n ResetOf k.device.running) (cut_kept_by k n k.device.running)
-  runs_reset r = subst (λ (x : Option Running). Judges s a (then_of a.history.running (λ o. history.cut_by s a o n))
-      (cut_then_by k n ResetOf x) (cut_kept_by k n x)) (sym r.run_is)
-      (subst (λ (x : Option OpenEntry). Judges s a (then_of x (λ o. history.cut_by s a o n)) (then_if (takes k n) (Wait ResetOf))
-      (record k { device = with_cut_half (replay.reset (taken k n) r.run.path) })) (sym r.entry_is)
-      (subst (λ (p : ℕ). Judges s a (history.cut_by s a r.entry n) (then_if (takes k n) (Wait ResetOf))
-      (record k { device = with_cut_half (replay.reset (taken k n) p) })) (sym (runs_here s k a i quiet r n small).path_is)
-      (reset_cut s k a i quiet r n small)))
-
   pub cut_judged : Judges s a (then_of a.history.running (λ o. history.cut_by s a o n))
       (cut_then_by k n ResetOf k.device.running) (cut_kept_by k n k.device.running)
-  cut_judged = by_program k.device a i.follows idle_reset runs_reset
+  cut_judged = by_program k.device a i.follows (λ idle. rw (idle.run_is, idle.entry_is))
+      (λ r. subst (λ (x : Option Running). Judges s a (then_of a.history.running (λ o. history.cut_by s a o n)) (cut_then_by k n ResetOf x)
+      (cut_kept_by k n x)) (sym r.run_is) (subst (λ (x : Option OpenEntry). Judges s a (then_of x (λ o. history.cut_by s a o n))
+      (then_if (takes k n) (Wait ResetOf)) (record k { device = with_cut_half (replay.reset (taken k n) r.run.path) })) (sym r.entry_is)
+      (rw (runs_here s k a i quiet r n small).path_is (reset_cut s k a i quiet r n small))))
 
   pub power_judged : Judges s a (then_of a.history.running (history.power_cut s a n))
       (power_then k n (Powers (history.place_of s.devices a.number))) (power_kept k n)
-  power_judged = by_program k.device a i.follows
-      (λ idle. subst (λ (x : Option Running). Judges s a (then_of a.history.running (history.power_cut s a n))
-      (cut_then_by k n (Powers (history.place_of s.devices a.number)) x) (power_kept k n)) (sym idle.run_is)
-      (ap (λ (x : Option OpenEntry). then_of x (history.power_cut s a n)) idle.entry_is))
+  power_judged = by_program k.device a i.follows (λ idle. rw (idle.run_is, idle.entry_is))
       (λ r. subst (λ (x : Option Running). Judges s a (then_of a.history.running (history.power_cut s a n))
       (cut_then_by k n (Powers (history.place_of s.devices a.number)) x) (power_kept k n)) (sym r.run_is)
       (subst (λ (x : Option OpenEntry). Judges s a (then_of x (history.power_cut s a n))

@@ -1,16 +1,13 @@
 -- A piece of work is taken as done by a device that is kept as by the history.
 use Rattle.std.proofs.Common.{◌≡◌, ◌∷◌, ◌++◌, [], ℕ, suc, List, length, Option, Some, None, Bool, true, false, cond, refl, arith, sym, ap, subst, ◌∙◌}
-use Rattle.std.specs.Prelude.{◌-◌, ◌&&◌, not, slice_index_or, slice_set}
 use Rattle.std.proofs.lemmas.List.{length-append}
 use Rattle.std.proofs.lemmas.Bool.Decides.{nat_tests}
 use Rattle.ckd_types.specs.declared.channel.CommandEnd.{CommandEnd}
 use Rattle.ckd_types.specs.declared.sense.Sense.{Sense}
-use Rattle.plain_defs.specs.declared.journal.How.TheVariants as journal
-use Rattle.plain_defs.specs.History.{History, OpenEntry, checked, checked_in, closed, ended, ended_in, with_end}
+use Rattle.plain_defs.specs.History.{checked, ended}
 use Rattle.plain_defs.specs.PlainState.{with_sense}
 use Rattle.report_text.specs.declared.answers.HowOver.{HowOver}
 use Rattle.report_text.specs.declared.answers.HowOver.TheVariants as how
-use Rattle.report_text.specs.declared.line.ReportLine.TheVariants as lines
 use Rattle.deck_audit.specs.declared.kept.Kept.{Kept}
 use Rattle.deck_audit.specs.declared.replayed.Running.{Running}
 use Rattle.report_places.specs.declared.state.Did.{Did}
@@ -19,33 +16,23 @@ use Rattle.report_places.specs.declared.state.HalfWrite.{HalfWrite}
 use Rattle.report_places.specs.declared.state.HalfWrite.TheVariants.{Closed, OfCommand, OfBackground}
 use Rattle.deck_audit.specs.Device as device
 use Rattle.deck_audit.specs.Device.{AuditedDevice}
-use Rattle.deck_audit.specs.Follows.{KeepsPaths}
 use Rattle.deck_audit.specs.Keeping.{DidSo, HasPending, IsCounted, IsKept, IsQuiet, counted}
-use Rattle.deck_audit.specs.Kept.{checked_kept, ended_kept, ended_over, is_idle, is_idle_by, one_more, over_by, over_line, settled_kept, settled_over}
+use Rattle.deck_audit.specs.Kept.{checked_kept, ended_kept, ended_over, is_idle, is_idle_by, one_more, over_line, settled_kept, settled_over}
 use Rattle.deck_audit.specs.Replay as replay
-use Rattle.deck_audit.specs.Replayed.{PendingState, ReplayedState}
+use Rattle.deck_audit.specs.Replayed.{ReplayedState}
 use Rattle.deck_audit.specs.State as state
 use Rattle.deck_audit.specs.State.{worked}
+use Rattle.deck_audit.proofs.Closing.{ended_so}
 use Rattle.deck_audit.proofs.Judges.{by_program}
-use Rattle.deck_audit.proofs.KeptMore.{check_keeps, end_keeps, keeps_same, over_keeps, settled_keeps}
+use Rattle.deck_audit.proofs.KeptPaths.{check_keeps, end_keeps, keeps_same, over_keeps, settled_keeps}
 use Rattle.deck_audit.proofs.ReplayedActs.{settled_goes_on}
 use Rattle.deck_audit.proofs.ReplayedCloses.{check_follows, over_follows}
 use Rattle.deck_audit.proofs.ReplayedEnds.{ends_as}
 
 -- resets that waited leave what a command did alone
-waiting_pending : (r : ReplayedState) (path : ℕ) → (replay.reset_waiting r path).pending ≡ r.pending
-waiting_pending r path = by_wait (slice_index_or r.waits (path - 1) false) where
-  by_wait : (b : Bool) → (cond b (record (replay.reset_on r path) { waits = slice_set r.waits (path - 1) false }) r).pending ≡ r.pending
-  by_wait true = refl
-  by_wait false = refl
-
 pub closed_pending : (r : ReplayedState) → (replay.closed r).pending ≡ r.pending
 unfolding replay.closed
-closed_pending r =
-    let r1 : ReplayedState = replay.reset_waiting (record r { running = None }) 1 in
-    let r2 : ReplayedState = replay.reset_waiting r1 2 in
-    let r3 : ReplayedState = replay.reset_waiting r2 3 in
-    waiting_pending r3 4 ∙ waiting_pending r2 3 ∙ waiting_pending r1 2 ∙ waiting_pending (record r { running = None }) 1
+closed_pending r = grind arith
 
 one_counted : (n : ℕ) → one_more (counted n) ≡ counted (suc n)
 one_counted n = grind (arith, nat_tests)
@@ -65,40 +52,26 @@ module _ (k : Kept) (a : AuditedDevice) (i : IsKept k a) (h : HasPending k a) wh
   over_is : (how : HowOver) → over_line k.device how ≡ Some (state.over_line a h.entry how)
   over_is how =
       let e = ends_as k.device a h.entry h.run h.pending i.follows h.run_is h.pending_is h.entry_is in
-      ap (λ (x : Option Running). over_by k.device how x) h.run_is
-      ∙ ap (λ (p : ℕ). Some (lines.Over p k.device.number h.run.ordinal how)) e.runs.path_is
-      ∙ ap (λ (d : ℕ). Some (lines.Over h.entry.path d h.run.ordinal how)) i.follows.number_is
-      ∙ ap (λ (n : ℕ). Some (lines.Over h.entry.path a.number n how)) e.runs.ordinal_is
+      rw (h.run_is, e.runs.path_is, i.follows.number_is, e.runs.ordinal_is)
 
   counts_here : IsCounted k.ended (Some h.entry)
-  counts_here = subst (λ (x : Option OpenEntry). IsCounted k.ended x) h.entry_is i.counts
+  counts_here = rw h.entry_is at i.counts
 
   quiet_settled : (replay.settled k.device).pending ≡ None
-  quiet_settled = ap (λ (x : Option PendingState). (replay.settled_by k.device x).pending) h.pending_is
-
-  history_over : h.end.over ≡ true → ended a.history h.end ≡ closed a.history (with_end h.entry h.end) journal.Full
-  history_over over = ap (λ (x : Option OpenEntry). ended_in a.history h.end x) h.entry_is
-      ∙ ap (λ (b : Bool). cond b (closed a.history (with_end h.entry h.end) journal.Full)
-      (record a.history { running = Some (with_end h.entry h.end) })) over
-
-  history_on : h.end.over ≡ false → ended a.history h.end ≡ record a.history { running = Some (with_end h.entry h.end) }
-  history_on on = ap (λ (x : Option OpenEntry). ended_in a.history h.end x) h.entry_is
-      ∙ ap (λ (b : Bool). cond b (closed a.history (with_end h.entry h.end) journal.Full)
-      (record a.history { running = Some (with_end h.entry h.end) })) on
+  quiet_settled = rw h.pending_is
 
   kept_over : h.end.over ≡ true → IsKept (ended_kept k true) (record a { history = ended a.history h.end })
   kept_over over = record {
     follows = over_follows k.device a h.entry h.run h.pending i.follows h.run_is h.pending_is h.entry_is h.end h.plain i.keeps.waits over;
-    keeps = over_keeps (replay.settled k.device) a.history h.entry h.end (settled_keeps k.device a.history i.keeps) h.entry_is over;
-    counts = subst (λ (x : History). IsCounted k.ended x.running) (sym (history_over over)) tt;
+    keeps = over_keeps (replay.settled k.device) a.history h.entry (settled_keeps k.device a.history i.keeps) h.entry_is h.end over;
+    counts = rw (ended_so a.history h.entry h.end h.entry_is true over) tt;
   }
 
   kept_on : h.end.over ≡ false → IsKept (ended_kept k false) (record a { history = ended a.history h.end })
   kept_on on = record {
     follows = settled_goes_on k.device a h.entry h.run h.pending i.follows h.run_is h.pending_is h.entry_is h.end h.plain on;
-    keeps = end_keeps (replay.settled k.device) a.history h.entry h.end (settled_keeps k.device a.history i.keeps) h.entry_is on;
-    counts = subst (λ (x : History). IsCounted (one_more k.ended) x.running) (sym (history_on on))
-        (counts_here.0, counts_here.1, one_more_end k.ended h.entry.ends h.end counts_here.2);
+    keeps = end_keeps (replay.settled k.device) a.history h.entry (settled_keeps k.device a.history i.keeps) h.entry_is h.end on;
+    counts = rw (ended_so a.history h.entry h.end h.entry_is false on) (counts_here.0, counts_here.1, one_more_end k.ended h.entry.ends h.end counts_here.2);
   }
 
   abbrev EndSettles : Bool → Type 0
@@ -112,7 +85,7 @@ module _ (k : Kept) (a : AuditedDevice) (i : IsKept k a) (h : HasPending k a) wh
   pub end_settles : Settles k a (Ended h.end)
   end_settles =
       let all = by_over h.end.over refl in record {
-        over_is = all.0 ∙ sym (ap (λ (x : Option OpenEntry). state.over_by a (Ended h.end) x) h.entry_is);
+        over_is = rw h.entry_is all.0;
         kept = all.1;
         quiet = all.2;
       }
@@ -127,23 +100,19 @@ module _ (k : Kept) (a : AuditedDevice) (i : IsKept k a) (h : HasPending k a) wh
     checked_is : replay.checked k.device sense ≡ replay.closed with_check
     checked_is = ap (λ (x : Option Running). replay.checked_with k.device sense x) h.run_is
 
-    history_checked : checked a.history e ≡ closed a.history (with_end h.entry e) journal.Checked
-    history_checked = ap (λ (x : Option OpenEntry). checked_in a.history e x) h.entry_is
-
     kept_checked : IsKept (checked_kept k (Some sense)) (record a { history = checked a.history e })
     kept_checked = record {
       follows = check_follows k.device a h.entry h.run h.pending i.follows h.run_is h.pending_is h.entry_is e sense sense_is i.keeps.waits;
-      keeps = subst (λ (r : ReplayedState). KeepsPaths r (checked a.history e)) (sym checked_is)
-          (check_keeps with_check a.history h.entry e (keeps_same k.device with_check a.history refl refl refl refl i.keeps) h.entry_is);
-      counts = subst (λ (x : History). IsCounted k.ended x.running) (sym history_checked) tt;
+      keeps = rw checked_is
+          (check_keeps with_check a.history h.entry (keeps_same k.device with_check a.history refl refl refl refl i.keeps) h.entry_is e);
+      counts = rw h.entry_is tt;
     }
 
     pub check_settles : Settles k a (CheckEnded e)
     check_settles = record {
-      over_is = over_is how.Checked ∙ sym (ap (λ (x : Option OpenEntry). state.over_by a (CheckEnded e) x) h.entry_is);
+      over_is = rw h.entry_is (over_is how.Checked);
       kept = subst (λ (x : Option Sense). IsKept (checked_kept k x) (record a { history = checked a.history e })) (sym sense_is) kept_checked;
-      quiet = subst (λ (x : Option Sense). IsQuiet (checked_kept k x)) (sym sense_is)
-          (ap (λ (r : ReplayedState). r.pending) checked_is ∙ closed_pending with_check);
+      quiet = rw sense_is (ap (λ (r : ReplayedState). r.pending) checked_is ∙ closed_pending with_check);
     }
 
 module _ (k : Kept) (a : AuditedDevice) (i : IsKept k a) where
@@ -161,8 +130,5 @@ module _ (k : Kept) (a : AuditedDevice) (i : IsKept k a) where
   -- neither runs a program, and the same half write is open
   pub same_idle : is_idle k.device ≡ device.is_idle a
   same_idle = by_program k.device a i.follows
-      (λ r. ap (λ (x : Option Running). is_idle_by x k.device.half) r.run_is ∙ by_half k.device.half
-      ∙ ap device.is_closed i.follows.half_is
-      ∙ sym (ap (λ (x : Option OpenEntry). not (device.runs x) && device.is_closed a.half) r.entry_is))
-      (λ r. ap (λ (x : Option Running). is_idle_by x k.device.half) r.run_is
-      ∙ sym (ap (λ (x : Option OpenEntry). not (device.runs x) && device.is_closed a.half) r.entry_is))
+      (λ r. rw (r.run_is, r.entry_is, i.follows.half_is) (by_half a.half))
+      (λ r. rw (r.run_is, r.entry_is))

@@ -1,19 +1,17 @@
 -- Whatever a line is to a device, the device that is kept judges it as the history does.
-use Rattle.std.proofs.Common.{◌≡◌, ◌≤◌, ◌+◌, ◌-◌, ◌∷◌, ◌++◌, [], ℕ, List, Option, Some, None, Bool, true, false, cond, refl, sym, ap, subst, ◌∙◌}
-use Rattle.std.specs.Prelude.{◌==◌, ◌&&◌, ◌||◌, slice_set}
+use Rattle.std.proofs.Common.{◌≡◌, ◌≤◌, ◌+◌, ℕ, Option, Some, None, Bool, true, false, cond, refl, sym, ap, subst, ◌∙◌}
+use Rattle.std.specs.Prelude.{◌==◌, ◌&&◌}
 use Rattle.ckd_types.specs.declared.channel.CommandEnd.{CommandEnd}
 use Rattle.ckd_types.specs.declared.sense.Sense.{Sense}
 use Rattle.ckd_types.specs.Sense.{equipment_sense, data_check_sense}
 use Rattle.deck_plan.specs.declared.event.EventLine.{EventLine}
 use Rattle.deck_plan.specs.declared.event.EventLine.TheVariants as events
-use Rattle.plain_defs.specs.declared.journal.Item.TheVariants as items
-use Rattle.plain_defs.specs.History.{History, OpenEntry, cut_by, is_path_of, put, reset_in_history, reset_in}
+use Rattle.plain_defs.specs.History.{History, OpenEntry, is_path_of, reset_in_history, reset_in}
 use Rattle.plain_defs.specs.Legal.{is_used}
 use Rattle.report_text.specs.declared.line.ReportLine.{ReportLine}
 use Rattle.report_text.specs.declared.line.ReportLine.TheVariants as lines
 use Rattle.deck_audit.specs.declared.kept.Kept.{Kept}
 use Rattle.deck_audit.specs.declared.kept.Then.TheVariants.{Passed, Wait}
-use Rattle.deck_audit.specs.declared.replayed.Running.{Running}
 use Rattle.report_places.specs.declared.state.Did.{Did}
 use Rattle.report_places.specs.declared.state.Did.TheVariants.{Ended, CheckEnded, Halved, Worked}
 use Rattle.report_places.specs.declared.state.Due.{Due}
@@ -26,7 +24,7 @@ use Rattle.deck_audit.specs.Follows.{Follows, KeepsPaths}
 use Rattle.deck_audit.specs.History as history
 use Rattle.deck_audit.specs.History.{changed, check_made, has_sense, sense_made}
 use Rattle.deck_audit.specs.Judging.{due_in, sense_due}
-use Rattle.deck_audit.specs.Keeping.{EndsSo, Goes, IsCounted, IsDue, IsKept, IsQuiet, Judges}
+use Rattle.deck_audit.specs.Keeping.{EndsSo, Goes, IsDue, IsKept, IsQuiet, Judges}
 use Rattle.deck_audit.specs.Kept.{is_idle, power_kept, power_then, settled_kept, settled_over, tells_loss, then_if, wait_if}
 use Rattle.deck_audit.specs.Replay as replay
 use Rattle.deck_audit.specs.Replayed.{ReplayedState}
@@ -41,9 +39,7 @@ use Rattle.deck_audit.proofs.JudgedEnds.{Settles, same_idle, settles}
 use Rattle.deck_audit.proofs.JudgedStarts.{start_judged}
 use Rattle.deck_audit.proofs.JudgedWork.{work_judged}
 use Rattle.deck_audit.proofs.JudgingLaw.{sense_judged}
-use Rattle.deck_audit.proofs.KeptMore.{keeps_same}
-use Rattle.deck_audit.proofs.KeptPaths.{used_kept}
-use Rattle.deck_audit.proofs.KeptResets.{reset_keeps, wait_keeps}
+use Rattle.deck_audit.proofs.KeptPaths.{keeps_same, reset_keeps, used_kept, wait_keeps}
 use Rattle.deck_audit.proofs.ReplayedEnds.{ends_as, runs_as}
 use Rattle.deck_audit.proofs.ReplayedResets.{loan_is_followed, reset_follows, wait_follows}
 
@@ -66,10 +62,7 @@ module _ (s : AuditState) (a : AuditedDevice) (k : Kept) (b : AuditedDevice) (di
   next_goes : (event : Option EventLine) → event ≡ first_event s.events
       → Goes s a (Some (behind_work (changed s b) b did)) (next_then event k did) k
   next_goes event is =
-      subst (λ (x : Bool). Goes s a (Some (behind_work (changed s b) b did)) (cond x Passed (Wait Next)) k)
-      (sym (same_over event (is_idle k.device) b did (same_idle k b kept)
-      ∙ ap (λ (x : Option EventLine). is_event_over x b did) is))
-      (by_over (is_event_over (first_event s.events) b did))
+      rw (same_over event (is_idle k.device) b did (same_idle k b kept), is) (by_over (is_event_over (first_event s.events) b did))
 
 worked_number : (a : AuditedDevice) (did : Did) → (worked a did).number ≡ a.number
 worked_number a (Ended e) = refl
@@ -101,8 +94,7 @@ module _ (s : AuditState) (k : Kept) (a : AuditedDevice) (did : Did) (event : Op
 
   settle_judged : Goes s a (Some (settled_by s a did (over_by a did a.history.running)))
       (settle_then_by event k did (settled_over k did)) (settled_kept k did)
-  settle_judged = subst (λ (x : Option ReportLine). Goes s a (Some (settled_by s a did (over_by a did a.history.running)))
-      (settle_then_by event k did x) (settled_kept k did)) (sym st.over_is) (settle_by (over_by a did a.history.running))
+  settle_judged = rw st.over_is (settle_by (over_by a did a.history.running))
 
 -- SENSE
 
@@ -130,36 +122,21 @@ module _ (s : AuditState) (k : Kept) (a : AuditedDevice) (line : ReportLine) (e 
   by_tests false false true = sense_goes (check_by data_check_sense) (data_check_sense, refl, so.0)
   by_tests false false false = refl
 
-  made_here : Option OpenEntry → Option AuditState
+  abbrev made_here : Option OpenEntry → Option AuditState
   made_here x = cond (has_sense line e.sense) (Some (record s { due = Behind true (Ended e) })) (then_of x (check_made s line a e))
 
   sense_is_judged : Judges s a (sense_made s line e a) (wait_if (sense_due a.plans k.device line e)) k
-  unfolding made_here
   sense_is_judged =
       let ends = ends_as k.device a so.0.entry so.0.run so.0.pending i.follows so.0.run_is so.0.pending_is so.0.entry_is in
-      subst (λ (x : Option Due). Judges s a (sense_made s line e a) (wait_if x) k)
-      (sym (sense_judged s k.device a so.0.entry so.0.run ends.runs.path_is ends.runs.ordinal_is i.follows.number_is so.0.run_is line e
-      so.0.entry_is))
+      rw (sense_judged s k.device a so.0.entry so.0.run ends.runs.path_is ends.runs.ordinal_is i.follows.number_is so.0.run_is line e so.0.entry_is)
       (subst (λ (x : Option OpenEntry). Judges s a (made_here x) (wait_if (due_in (made_here x))) k) (sym so.0.entry_is)
       (by_tests (has_sense line e.sense) (says (lines.Sense equipment_sense) line) (says (lines.Sense data_check_sense) line)))
 
 -- A RESET that cuts no program
 
-reset_running : (h : History) (o : OpenEntry) (path : ℕ) (b : Bool) → (cond b (record h { waiting = put path h.waiting }) h).running ≡ h.running
-reset_running h o path true = refl
-reset_running h o path false = refl
-
-reset_items : (h : History) (path : ℕ) (b : Bool) → (cond b (record h { items = h.items ++ items.Reset path ∷ [] }) h).running ≡ h.running
-reset_items h path true = refl
-reset_items h path false = refl
-
-used_pending : (r : ReplayedState) (path : ℕ) (b : Bool) → (cond b (replay.reset_on r path) r).pending ≡ r.pending
-used_pending r path true = refl
-used_pending r path false = refl
-
-wait_pending : (r : ReplayedState) (l : List Bool) (b : Bool) → (cond b (record r { waits = l }) r).pending ≡ r.pending
-wait_pending r l true = refl
-wait_pending r l false = refl
+same_if : {S T : Type 0} (f : S → T) (b : Bool) (x y : S) → f x ≡ f y → f (cond b x y) ≡ f y
+same_if f true x y is = is
+same_if f false x y is = refl
 
 module _ (s : AuditState) (k : Kept) (a : AuditedDevice) (path : ℕ) (i : IsKept k a) (quiet : IsQuiet k) (least : 1 ≤ path) (most : path ≤ 4)
     (unlike : own_runs a.history.running path ≡ false) where
@@ -167,57 +144,43 @@ module _ (s : AuditState) (k : Kept) (a : AuditedDevice) (path : ℕ) (i : IsKep
       → KeepsPaths x (reset_in_history a.history path 0) → x.pending ≡ k.device.pending → (reset_in_history a.history path 0).running ≡ a.history.running
       → Goes s a (Some (passed (changed s (record a { history = reset_in_history a.history path 0 })))) Passed
       (record k { device = replay.reset k.device path })
-  reset_goes x is follows keeps pending running = subst (λ (z : ReplayedState). Goes s a
-      (Some (passed (changed s (record a { history = reset_in_history a.history path 0 })))) Passed (record k { device = z })) (sym is)
-      (record {
-        after = record a { history = reset_in_history a.history path 0 };
-        made_is = refl;
-        kept = record {
-          follows = follows;
-          keeps = keeps;
-          counts = subst (λ (z : Option OpenEntry). IsCounted k.ended z) (sym running) i.counts;
-        };
-        due = pending ∙ quiet;
-        number_is = refl;
-        plans_are = refl;
-      })
+  reset_goes x is follows keeps pending running = rw is (record {
+    after = record a { history = reset_in_history a.history path 0 };
+    made_is = refl;
+    kept = record { follows = follows; keeps = keeps; counts = rw running i.counts };
+    due = pending ∙ quiet;
+    number_is = refl;
+    plans_are = refl;
+  })
 
   used_is : (running : Option OpenEntry) → a.history.running ≡ running → is_path_of running path ≡ false
       → replay.is_used_on k.device path ≡ is_used path false a.history.items
-  used_is running is other = used_kept k.device a i.keeps path least most
-      ∙ ap (λ (x : Option OpenEntry). is_path_of x path || is_used path false a.history.items) is
-      ∙ ap (λ (b : Bool). b || is_used path false a.history.items) other
+  used_is running is other = rw (is, other) at (used_kept k.device a i.keeps path least most)
 
   idle_reset : Idle k.device a → Goes s a (Some (passed (changed s (record a { history = reset_in_history a.history path 0 })))) Passed
       (record k { device = replay.reset k.device path })
   idle_reset idle =
       let used = used_is None idle.entry_is refl in
-      let is = ap (λ (x : Option Running). replay.reset_by k.device path x) idle.run_is in
-      reset_goes (replay.reset_used k.device path) is
-      (subst (λ (z : ReplayedState). Follows z (record a { history = reset_in_history a.history path 0 })) is
-      (reset_follows k.device a i.follows idle.entry_is path 0 used))
+      let is : replay.reset k.device path ≡ replay.reset_used k.device path = rw idle.run_is refl in
+      reset_goes (replay.reset_used k.device path) is (rw is at (reset_follows k.device a i.follows idle.entry_is path 0 used))
       (reset_keeps k.device a.history i.keeps idle.entry_is path 0 least most used)
-      (used_pending k.device path (replay.is_used_on k.device path))
+      (same_if (λ (x : ReplayedState). x.pending) (replay.is_used_on k.device path) _ _ refl)
       (ap (λ (x : Option OpenEntry). (reset_in a.history path 0 x).running) idle.entry_is
-      ∙ reset_items a.history path (is_used path false a.history.items))
+      ∙ same_if (λ (x : History). x.running) (is_used path false a.history.items) _ _ refl)
 
   runs_reset : Runs k.device a → Goes s a (Some (passed (changed s (record a { history = reset_in_history a.history path 0 })))) Passed
       (record k { device = replay.reset k.device path })
   runs_reset r =
-      let other : (r.entry.path == path) ≡ false = sym (ap (λ (x : Option OpenEntry). own_runs x path) r.entry_is) ∙ unlike in
+      let other : (r.entry.path == path) ≡ false = rw r.entry_is at unlike in
       let path_is = (runs_as k.device a r.entry r.run i.follows r.run_is quiet r.entry_is).path_is in
       let used = used_is (Some r.entry) r.entry_is other in
-      let is = ap (λ (x : Option Running). replay.reset_by k.device path x) r.run_is
-      ∙ ap (λ (b : Bool). cond b (replay.closed (replay.reset_on k.device path)) (replay.wait_used k.device path))
-      (ap (λ (p : ℕ). p == path) path_is ∙ other) in
+      let is : replay.reset k.device path ≡ replay.wait_used k.device path = rw (r.run_is, path_is, other) refl in
       reset_goes (replay.wait_used k.device path) is
       (wait_follows k.device a i.follows r.entry path 0 r.entry_is other used)
       (wait_keeps k.device a.history r.entry i.keeps r.entry_is path least most other 0 used)
-      (wait_pending k.device (slice_set k.device.waits (path - 1) true) (replay.is_used_on k.device path))
+      (same_if (λ (x : ReplayedState). x.pending) (replay.is_used_on k.device path) _ _ refl)
       (ap (λ (x : Option OpenEntry). (reset_in a.history path 0 x).running) r.entry_is
-      ∙ ap (λ (b : Bool). (cond b (cut_by a.history r.entry 0) (cond (is_used path false a.history.items)
-      (record a.history { waiting = put path a.history.waiting }) a.history)).running) other
-      ∙ reset_running a.history r.entry path (is_used path false a.history.items))
+      ∙ rw other (same_if (λ (x : History). x.running) (is_used path false a.history.items) _ _ refl))
 
   reset_judged : Goes s a (Some (passed (changed s (record a { history = reset_in_history a.history path 0 })))) Passed
       (record k { device = replay.reset k.device path })

@@ -1,5 +1,5 @@
 -- An END, a HALF and a BACK are judged by a device that is kept as by the history.
-use Rattle.std.proofs.Common.{◌≡◌, ℕ, List, [], ◌∷◌, Option, Some, None, Bool, true, false, cond, refl, sym, ap, subst, ◌∙◌}
+use Rattle.std.proofs.Common.{◌≡◌, ℕ, List, [], ◌∷◌, Option, Some, None, Bool, true, false, cond, refl, sym, ap, subst}
 use Rattle.ckd_types.specs.declared.channel.CommandEnd.{CommandEnd}
 use Rattle.ckd_types.specs.Sense.{equipment_sense}
 use Rattle.ckd_chain.specs.Steps.{behind}
@@ -9,9 +9,7 @@ use Rattle.report_text.specs.declared.answers.BackAnswer.TheVariants as back
 use Rattle.report_text.specs.declared.line.ReportLine.{ReportLine}
 use Rattle.report_text.specs.declared.line.ReportLine.TheVariants as lines
 use Rattle.deck_audit.specs.declared.kept.Kept.{Kept}
-use Rattle.deck_audit.specs.declared.kept.Then.{Then}
 use Rattle.deck_audit.specs.declared.kept.Then.TheVariants.{Passed, Wait}
-use Rattle.deck_audit.specs.declared.replayed.Running.{Running}
 use Rattle.report_places.specs.declared.state.Did.TheVariants.{Halved, Worked}
 use Rattle.report_places.specs.declared.state.Due.{Due}
 use Rattle.report_places.specs.declared.state.Due.TheVariants.{Behind, SenseOf}
@@ -28,8 +26,8 @@ use Rattle.deck_audit.specs.Replayed.{ReplayedState}
 use Rattle.deck_audit.specs.State.{AuditState, passed}
 use Rattle.deck_audit.proofs.Judges.{Idle, Runs, by_program}
 use Rattle.deck_audit.proofs.JudgingLaw.{end_judged}
-use Rattle.deck_audit.proofs.KeptMore.{keeps_same, next_keeps}
-use Rattle.deck_audit.proofs.ReplayedEnds.{end_follows, ended_follows, runs_as}
+use Rattle.deck_audit.proofs.KeptPaths.{keeps_same, next_keeps}
+use Rattle.deck_audit.proofs.ReplayedEnds.{end_follows, ended_follows, ended_is, runs_as}
 use Rattle.deck_audit.proofs.ReplayedResets.{half_is_followed}
 
 -- with another half write
@@ -49,10 +47,6 @@ module _ (k : Kept) (a : AuditedDevice) (i : IsKept k a) (quiet : IsQuiet k) (r 
   pub next_here : replay.next_end k.device ≡ plain_end a r.entry
   next_here = end_follows k.device a r.entry r.run i.follows r.run_is quiet r.entry_is
 
-  pub ended_is : replay.ended_next k.device ≡ replay.ended_of k.device r.run
-  ended_is = ap (λ (x : Option Running). replay.ended_by k.device x) r.run_is
-      ∙ ap (λ (n : Option ℕ). replay.ended_at k.device r.run n) runs_here.at_word
-
   pub ended_kept : IsKept (record k { device = replay.ended_next k.device }) a
   ended_kept = record {
     follows = ended_follows k.device a r.entry r.run i.follows r.run_is quiet r.entry_is;
@@ -67,17 +61,15 @@ module _ (k : Kept) (a : AuditedDevice) (i : IsKept k a) (quiet : IsQuiet k) (r 
     run = record r.run { chain = behind r.run.chain (replay.effect_at k.device r.run).outcome };
     pending = _;
     entry_is = r.entry_is;
-    run_is = ap (λ (x : ReplayedState). x.running) ended_is;
-    pending_is = ap (λ (x : ReplayedState). x.pending) ended_is;
+    run_is = ap (λ (x : ReplayedState). x.running) (ended_is k.device a r.entry r.run i.follows r.run_is quiet r.entry_is);
+    pending_is = ap (λ (x : ReplayedState). x.pending) (ended_is k.device a r.entry r.run i.follows r.run_is quiet r.entry_is);
     end = e;
     plain = plain;
   }
 
 module _ (s : AuditState) (k : Kept) (a : AuditedDevice) (line : ReportLine) (i : IsKept k a) (quiet : IsQuiet k) where
   idle_end : Idle k.device a → Judges s a (end_made s line a a.history.running) (end_then a.plans k line) (end_kept k)
-  idle_end idle = subst (λ (x : Option Then). Judges s a (end_made s line a a.history.running) x (end_kept k))
-      (sym (ap (λ (x : Option Running). end_then_by a.plans k line (replay.next_end_by k.device x)) idle.run_is))
-      (ap (λ (x : Option OpenEntry). end_made s line a x) idle.entry_is)
+  idle_end idle = rw (idle.run_is, idle.entry_is)
 
   module _ (r : Runs k.device a) (e : CommandEnd) (plain : plain_end a r.entry ≡ Some e) where
     after : AuditState
@@ -129,7 +121,7 @@ module _ (s : AuditState) (k : Kept) (a : AuditedDevice) (line : ReportLine) (i 
         pending_here.run_is line e
 
     end_here : Judges s a (end_made_by s line a r.entry (Some e)) (end_then_by a.plans k line (Some e)) (end_kept k)
-    end_here = subst (λ (x : Option Due). Judges s a (end_made_by s line a r.entry (Some e)) (wait_if x) (end_kept k)) (sym due_is) ends_so
+    end_here = rw due_is ends_so
 
   by_end : (r : Runs k.device a) (end : Option CommandEnd) → plain_end a r.entry ≡ end
       → Judges s a (end_made_by s line a r.entry end) (end_then_by a.plans k line end) (end_kept k)

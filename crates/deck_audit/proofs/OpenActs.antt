@@ -1,6 +1,6 @@
 -- An act behind the ends that a running program has so far.
 use Rattle.std.proofs.Common.{◌≡◌, ◌≤◌, ◌<◌, ◌+◌, ◌==◌, ℕ, zero, suc, List, [], ◌∷◌, ◌++◌, Option, Some}
-use Rattle.std.proofs.Common.{None, Bool, true, false, length, cond, refl, arith, sym, ap, ◌∙◌}
+use Rattle.std.proofs.Common.{None, Bool, false, length, cond, refl, arith, sym, ap, ◌∙◌}
 use Rattle.std.proofs.lemmas.Bool.{ne_eqb, eq-eqb}
 use Rattle.ckd_types.specs.declared.channel.Ccw.{Ccw}
 use Rattle.plain_defs.specs.declared.journal.Act.{Act}

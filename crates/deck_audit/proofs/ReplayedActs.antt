@@ -1,5 +1,5 @@
 -- Acts of cache fast write on a device that is replayed, and a command that it then has.
-use Rattle.std.proofs.Common.{◌≡◌, ◌+◌, ◌∷◌, ◌++◌, [], ℕ, suc, List, Option, Some, None, Bool, false, length, cond, refl, arith, sym, ap, subst, ◌∙◌}
+use Rattle.std.proofs.Common.{◌≡◌, ◌+◌, ◌∷◌, ◌++◌, [], ℕ, suc, List, Option, Some, None, false, length, refl, arith, sym, ap, subst, ◌∙◌}
 use Rattle.std.proofs.lemmas.List.{length-append}
 use Rattle.ckd_types.specs.declared.channel.Ccw.{Ccw}
 use Rattle.ckd_types.specs.declared.channel.CommandEnd.{CommandEnd}
@@ -9,11 +9,11 @@ use Rattle.ckd_chain.specs.Steps.{behind, index_of}
 use Rattle.ckd_rules.specs.Ends.{end_at_word, goes_to}
 use Rattle.ckd_rules.proofs.Goes.{more_goes}
 use Rattle.plain_defs.specs.declared.journal.Act.{Act}
+use Rattle.plain_defs.specs.declared.journal.Item.{Item}
 use Rattle.plain_defs.specs.declared.journal.Item.TheVariants as items
 use Rattle.plain_defs.specs.Effect.{Effect, effect_on}
-use Rattle.plain_defs.specs.History.{History, OpenEntry, acted, acted_in, closed, ended, ended_in, state_by, with_end}
-use Rattle.plain_defs.specs.declared.journal.How.TheVariants.{Full}
-use Rattle.plain_defs.specs.Journal.{replay}
+use Rattle.plain_defs.specs.History.{History, OpenEntry, acted, acted_in, ended, with_end}
+use Rattle.plain_defs.specs.Journal.{replay, replay_item}
 use Rattle.plain_defs.specs.Loose.{act_done}
 use Rattle.plain_defs.specs.PlainState.{PlainState}
 use Rattle.plain_defs.specs.Program.{Part, acts_made as acted_part, acts_at, ended_with, part_of, command_run, stepped_at, with_act}
@@ -25,6 +25,7 @@ use Rattle.deck_audit.specs.Device.{AuditedDevice, part_of_open, plain_end, plai
 use Rattle.deck_audit.specs.Follows.{EndsAs, Follows, FollowsProgram, IsAt, RunsAs, pending_by}
 use Rattle.deck_audit.specs.Replay as replayed
 use Rattle.deck_audit.specs.Replayed.{PendingState, ReplayedState}
+use Rattle.deck_audit.proofs.Closing.{ended_so}
 use Rattle.deck_audit.proofs.OpenActs.{no_acts, order_more, order_on, part_here}
 use Rattle.deck_audit.proofs.ReplayedEnds.{ends_as, effect_is, runs_as}
 
@@ -87,10 +88,7 @@ module _ (r : ReplayedState) (a : AuditedDevice) (o : OpenEntry) (q : Running) (
   acted_runs waits_not =
       let later = runs_later a o act r.device q q.chain (runs_as r a o q f runs waits_not entry) in
       follows_with later.at.device_is
-      (subst (λ (x : Option Running). FollowsProgram (acted_device a o act) (act_done r.device act) x r.pending (Some (with_act_of o act)))
-      (sym runs)
-      (subst (λ (x : Option PendingState). FollowsProgram (acted_device a o act) (act_done r.device act) (Some q) x
-      (Some (with_act_of o act))) (sym waits_not) later))
+      (rw (runs, waits_not) later)
 
   -- behind the end of a command, which it comes before
   pub acted_ends : (w : PendingState) → r.pending ≡ Some w
@@ -99,45 +97,42 @@ module _ (r : ReplayedState) (a : AuditedDevice) (o : OpenEntry) (q : Running) (
   acted_ends w waits keeps =
       let e = ends_as r a o q w f runs waits entry in
       let later = runs_later a o act r.device q e.before e.runs in
-      follows_with later.at.device_is
-      (subst (λ (x : Option Running). FollowsProgram (acted_device a o act) (act_done r.device act) x r.pending (Some (with_act_of o act)))
-      (sym runs)
-      (subst (λ (x : Option PendingState). FollowsProgram (acted_device a o act) (act_done r.device act) (Some q) x
-      (Some (with_act_of o act))) (sym waits)
-      (record {
+      follows_with later.at.device_is (rw (runs, waits) (record {
         before = e.before;
         runs = later;
         chain_is = e.chain_is ∙ ap (λ (x : Effect). behind e.before x.outcome) (sym (keeps o.path e.before));
         pending_is = e.pending_is ∙ ap (λ (x : Effect). pending_by x e.before) (sym (keeps o.path e.before));
-      })))
+      }))
 
 -- An act while no program runs
 
-pub idle_program : (a b : AuditedDevice) (d e : PlainState) (running : Option Running) (pending : Option PendingState)
-    → FollowsProgram a d running pending None → FollowsProgram b e running pending None
-idle_program a b d e None pending f = tt
-idle_program a b d e (Some q) None f = absurd f
-idle_program a b d e (Some q) (Some w) f = absurd f
+pub idle_program : (a b : AuditedDevice) (d e : PlainState) (running : Option Running) (pending waits : Option PendingState)
+    → FollowsProgram a d running pending None → FollowsProgram b e running waits None
+idle_program a b d e None pending waits f = tt
+idle_program a b d e (Some q) None waits f = absurd f
+idle_program a b d e (Some q) (Some w) waits f = absurd f
 
-module _ (r : ReplayedState) (a : AuditedDevice) (act : Act) (f : Follows r a) (idle : a.history.running ≡ None) where
-  idle_history : acted a.history act ≡ record a.history { items = a.history.items ++ items.Act act ∷ []; running = None }
-  idle_history = ap (λ (x : Option OpenEntry). acted_in (record a.history { running = x }) act x) idle
+-- with one item more
+pub item_more : (r s : ReplayedState) (a b : AuditedDevice) (x : Item) → Follows r a → a.history.running ≡ None → s.number ≡ b.number → s.half ≡ b.half
+    → s.lent ≡ b.lent → s.running ≡ r.running → s.device ≡ replay_item a.plans r.device x → b.plans ≡ a.plans → b.empty ≡ a.empty
+    → b.history.items ≡ a.history.items ++ x ∷ [] → b.history.running ≡ None → Follows s b
+item_more r s a b x f idle number_is half_is lent_is same device_is plans_are empty_is items_are none = record {
+  number_is = number_is;
+  device_is = device_is ∙ ap (λ (d : PlainState). replay_item a.plans d x) (rw idle at f.device_is)
+      ∙ rw (none, items_are, plans_are, empty_is) (sym (replay-append a.plans a.empty a.history.items (x ∷ [])));
+  half_is = half_is;
+  lent_is = lent_is;
+  program = subst (λ (x : Option OpenEntry). FollowsProgram b s.device s.running s.pending x) (sym none)
+      (subst (λ (q : Option Running). FollowsProgram b s.device q s.pending None) (sym same)
+      (idle_program a b r.device s.device r.running r.pending s.pending
+      (subst (λ (x : Option OpenEntry). FollowsProgram a r.device r.running r.pending x) idle f.program)));
+}
 
-  pub acted_idle : Follows (replayed.acted r act) (record a { history = acted a.history act })
-  acted_idle =
-      subst (λ (h : History). Follows (replayed.acted r act) (record a { history = h })) (sym idle_history)
-      (record {
-        number_is = f.number_is;
-        device_is = ap (λ (d : PlainState). act_done d act) (f.device_is
-            ∙ ap (λ (x : Option OpenEntry). state_by a.plans (replay a.plans a.empty a.history.items) x) idle)
-            ∙ sym (replay-append a.plans a.empty a.history.items (items.Act act ∷ []));
-        half_is = f.half_is;
-        lent_is = f.lent_is;
-        program = idle_program a (record a
-            { history = record a.history { items = a.history.items ++ items.Act act ∷ []; running = None } })
-            r.device (act_done r.device act) r.running r.pending
-            (subst (λ (x : Option OpenEntry). FollowsProgram a r.device r.running r.pending x) idle f.program);
-      })
+pub acted_idle : (r : ReplayedState) (a : AuditedDevice) (act : Act) → Follows r a → a.history.running ≡ None
+    → Follows (replayed.acted r act) (record a { history = acted a.history act })
+acted_idle r a act f idle =
+    item_more r (replayed.acted r act) a (record a { history = acted a.history act }) (items.Act act) f idle f.number_is f.half_is f.lent_is
+    refl refl refl refl (rw idle refl) (rw idle refl)
 
 -- The device has what a command did, and its program goes on
 
@@ -236,22 +231,12 @@ module _ (r : ReplayedState) (a : AuditedDevice) (o : OpenEntry) (q : Running) (
           at_word = at_behind.next_is ∙ on;
         }
 
-    in_history_on : ended a.history e ≡ record a.history { running = Some (with_end o e) }
-    in_history_on = ap (λ (x : Option OpenEntry). ended_in a.history e x) entry
-        ∙ ap (λ (b : Bool). cond b (closed a.history (with_end o e) Full) (record a.history { running = Some (with_end o e) })) more
-
     -- it follows the history in which the command ended
     pub settled_goes_on : Follows (replayed.settled r) (record a { history = ended a.history e })
-    settled_goes_on =
-        subst (λ (s : ReplayedState). Follows s (record a { history = ended a.history e }))
-        (sym (ap (λ (x : Option PendingState). replayed.settled_by r x) waits))
-        (subst (λ (h : History). Follows (record r { device = behind_edit r.device w.edit w.paths; pending = None })
-        (record a { history = h })) (sym in_history_on)
-        (record {
-          number_is = f.number_is;
-          device_is = runs_on.at.device_is;
-          half_is = f.half_is;
-          lent_is = f.lent_is;
-          program = subst (λ (x : Option Running). FollowsProgram gone_on (behind_edit r.device w.edit w.paths) x None
-              (Some (with_end o e))) (sym runs) runs_on;
-        }))
+    settled_goes_on = rw (waits, ended_so a.history o e entry false more) (record {
+      number_is = f.number_is;
+      device_is = runs_on.at.device_is;
+      half_is = f.half_is;
+      lent_is = f.lent_is;
+      program = rw runs runs_on;
+    })

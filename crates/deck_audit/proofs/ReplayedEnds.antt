@@ -1,10 +1,9 @@
 -- A device that is replayed ends the next command as the history says.
-use Rattle.std.proofs.Common.{◌≡◌, ℕ, List, Option, Some, None, Bool, refl, sym, ap, subst, ◌∙◌}
+use Rattle.std.proofs.Common.{◌≡◌, ℕ, List, Option, Some, None, refl, sym, ap, subst, ◌∙◌}
 use Rattle.std.specs.Prelude.{is_none, false}
 use Rattle.ckd_types.specs.declared.channel.Ccw.{Ccw}
 use Rattle.ckd_types.specs.declared.channel.CommandEnd.{CommandEnd}
 use Rattle.ckd_types.specs.Ccw.{ccw_at}
-use Rattle.ckd_types.specs.Fixed.{Fixed}
 use Rattle.ckd_types.specs.Parameters.{is_provisional}
 use Rattle.ckd_chain.specs.State.{ChainState}
 use Rattle.ckd_chain.specs.Steps.{behind, end_with, index_of}
@@ -18,6 +17,7 @@ use Rattle.plain_defs.specs.PlainState.{PlainState}
 use Rattle.plain_defs.specs.Program.{Part}
 use Rattle.plain_device.specs.Between.{effect_of}
 use Rattle.deck_audit.specs.declared.replayed.Running.{Running}
+use Rattle.report_places.specs.declared.state.HalfWrite.{HalfWrite}
 use Rattle.deck_audit.specs.Device.{AuditedDevice, edit_of, is_edit_legal, is_next_legal, loosens, may_loosen}
 use Rattle.deck_audit.specs.Device.{part_of_open, plain_end, plain_end_at, words_of_open}
 use Rattle.deck_audit.specs.Follows.{EndsAs, Follows, FollowsProgram, IsAt, RunsAs, pending_by}
@@ -29,12 +29,7 @@ module _ (p : Part) (ccws : List Ccw) (device : PlainState) (chain : ChainState)
     (at : IsAt p ccws device chain ends) where
   pub effect_is : (i : ℕ) → chain.at.next ≡ Some i
       → effect_of device path chain ≡ effect_on p.fixed p.state path p.stance (ccw_at ccws i)
-  effect_is i is =
-      ap (λ (n : Option ℕ). effect_on chain.fixed device path chain.at.stance (ccw_at chain.ccws (index_of n))) is
-      ∙ ap (λ (l : List Ccw). effect_on chain.fixed device path chain.at.stance (ccw_at l i)) at.words
-      ∙ ap (λ (f : Fixed). effect_on f device path chain.at.stance (ccw_at ccws i)) at.fixed_is
-      ∙ ap (λ (d : PlainState). effect_on p.fixed d path chain.at.stance (ccw_at ccws i)) at.device_is
-      ∙ ap (λ (z : Stance). effect_on p.fixed p.state path z (ccw_at ccws i)) at.stance_is
+  effect_is i is = rw (is, at.words, at.fixed_is, at.device_is, at.stance_is)
 
   -- its end
   pub end_is : (i : ℕ) → chain.at.next ≡ Some i → end_with chain (effect_of device path chain).outcome
@@ -48,15 +43,24 @@ module _ (p : Part) (ccws : List Ccw) (device : PlainState) (chain : ChainState)
   pub plain_is : (next : Option ℕ) → chain.at.next ≡ next → (q : Running) → q.chain ≡ chain → q.path ≡ path → (r : ReplayedState)
       → r.device ≡ device → replay.next_end_at r q next ≡ plain_end_at path ccws p next
   plain_is None is q chain_is path_is r device_is = refl
-  plain_is (Some i) is q chain_is path_is r device_is =
-      ap (λ (s : ChainState). Some (end_with s (effect_of r.device q.path s).outcome)) chain_is
-      ∙ ap (λ (n : ℕ). Some (end_with chain (effect_of r.device n chain).outcome)) path_is
-      ∙ ap (λ (d : PlainState). Some (end_with chain (effect_of d path chain).outcome)) device_is
-      ∙ ap (λ (e : CommandEnd). Some e) (end_is i is)
+  plain_is (Some i) is q chain_is path_is r device_is = rw (chain_is, path_is, device_is) (ap Some (end_is i is))
 
   pub edit_is : (i : ℕ) → chain.at.next ≡ Some i → (effect_of device path chain).edit ≡ edit_at path ccws p p.next
   edit_is i is = ap (λ (e : Effect). e.edit) (effect_is i is)
       ∙ ap (λ (n : Option ℕ). edit_at path ccws p n) (sym is ∙ at.next_is)
+
+-- the same program of a device whose waiting resets, half write or loan are others, with another chain
+pub runs_beside : (a : AuditedDevice) (o : OpenEntry) (device : PlainState) (q : Running) (before chain : ChainState) (waiting : List ℕ) (half : HalfWrite)
+    (lent : Option ℕ) → RunsAs a o device q before
+    → RunsAs (record a { history = record a.history { waiting = waiting }; half = half; lent = lent }) o device (record q { chain = chain }) before
+runs_beside a o device q before chain waiting half lent r = record {
+  path_is = r.path_is;
+  ordinal_is = r.ordinal_is;
+  at = r.at;
+  order = r.order;
+  word = r.word;
+  at_word = r.at_word;
+}
 
 some_end : (r : ReplayedState) (o : Running) (next : Option ℕ) → is_none next ≡ false
     → Some (end_with o.chain (replay.effect_at r o).outcome) ≡ replay.next_end_at r o next
@@ -72,57 +76,46 @@ end_here v s o e same runs is more =
     ∙ ap (λ (x : Option Running). replay.next_end_by v x) (sym runs)
     ∙ ap (λ (x : ReplayedState). replay.next_end x) same
 
+program_as : (r : ReplayedState) (a : AuditedDevice) (o : OpenEntry) (q : Running) (w : Option PendingState) → Follows r a → r.running ≡ Some q
+    → r.pending ≡ w → a.history.running ≡ Some o → FollowsProgram a r.device (Some q) w (Some o)
+program_as r a o q w f runs waits entry = subst (λ (x : Option OpenEntry). FollowsProgram a r.device (Some q) w x) entry
+    (subst (λ (x : Option PendingState). FollowsProgram a r.device (Some q) x a.history.running) waits
+    (subst (λ (x : Option Running). FollowsProgram a r.device x r.pending a.history.running) runs f.program))
+
 module _ (r : ReplayedState) (a : AuditedDevice) (o : OpenEntry) (q : Running) (f : Follows r a)
     (runs : r.running ≡ Some q) (waits_not : r.pending ≡ None) (entry : a.history.running ≡ Some o) where
   pub runs_as : RunsAs a o r.device q q.chain
-  runs_as = subst (λ (x : Option OpenEntry). FollowsProgram a r.device (Some q) None x) entry
-      (subst (λ (x : Option PendingState). FollowsProgram a r.device (Some q) x a.history.running) waits_not
-      (subst (λ (x : Option Running). FollowsProgram a r.device x r.pending a.history.running) runs f.program))
+  runs_as = program_as r a o q None f runs waits_not entry
 
   -- the end of the running program's next command is that of the plain device
   pub end_follows : replay.next_end r ≡ plain_end a o
-  end_follows =
-      ap (λ (x : Option Running). replay.next_end_by r x) runs
-      ∙ plain_is (part_of_open a o) (words_of_open a o) r.device q.chain o.ends o.path runs_as.at q.chain.at.next refl q refl
-      runs_as.path_is r refl
-      ∙ ap (λ (n : Option ℕ). plain_end_at o.path (words_of_open a o) (part_of_open a o) n) runs_as.at.next_is
+  end_follows = rw (runs, ← runs_as.at.next_is) (plain_is (part_of_open a o) (words_of_open a o) r.device q.chain o.ends o.path runs_as.at
+      q.chain.at.next refl q refl runs_as.path_is r refl)
+
+  pub ended_is : replay.ended_next r ≡ replay.ended_of r q
+  ended_is = ap (λ (x : Option Running). replay.ended_by r x) runs ∙ ap (λ (n : Option ℕ). replay.ended_at r q n) runs_as.at_word
 
   -- it is had with nothing done to the device
   pub ended_follows : Follows (replay.ended_next r) a
-  ended_follows =
-      subst (λ (s : ReplayedState). Follows s a) (sym (ap (λ (x : Option Running). replay.ended_by r x) runs
-      ∙ ap (λ (n : Option ℕ). replay.ended_at r q n) runs_as.at_word))
-      (record {
-        number_is = f.number_is;
-        device_is = f.device_is;
-        half_is = f.half_is;
-        lent_is = f.lent_is;
-        program = subst (λ (x : Option OpenEntry). FollowsProgram a r.device
-            (Some (record q { chain = behind q.chain (replay.effect_at r q).outcome }))
-            (Some (pending_by (replay.effect_at r q) q.chain)) x) (sym entry)
-            (record {
-              before = q.chain;
-              runs = record {
-                path_is = runs_as.path_is;
-                ordinal_is = runs_as.ordinal_is;
-                at = runs_as.at;
-                order = runs_as.order;
-                word = runs_as.word;
-                at_word = runs_as.at_word;
-              };
-              chain_is = ap (λ (path : ℕ). behind q.chain (effect_of r.device path q.chain).outcome) runs_as.path_is;
-              pending_is = ap (λ (path : ℕ). pending_by (effect_of r.device path q.chain) q.chain) runs_as.path_is;
-            });
-      })
+  ended_follows = subst (λ (s : ReplayedState). Follows s a) (sym ended_is) (record {
+    number_is = f.number_is;
+    device_is = f.device_is;
+    half_is = f.half_is;
+    lent_is = f.lent_is;
+    program = rw entry (record {
+      before = q.chain;
+      runs = runs_beside a o r.device q q.chain _ a.history.waiting a.half a.lent runs_as;
+      chain_is = ap (λ (path : ℕ). behind q.chain (effect_of r.device path q.chain).outcome) runs_as.path_is;
+      pending_is = ap (λ (path : ℕ). pending_by (effect_of r.device path q.chain) q.chain) runs_as.path_is;
+    });
+  })
 
 -- What stands behind an end
 
 module _ (r : ReplayedState) (a : AuditedDevice) (o : OpenEntry) (q : Running) (w : PendingState) (f : Follows r a)
     (runs : r.running ≡ Some q) (waits : r.pending ≡ Some w) (entry : a.history.running ≡ Some o) where
   pub ends_as : EndsAs a o r.device q w
-  ends_as = subst (λ (x : Option OpenEntry). FollowsProgram a r.device (Some q) (Some w) x) entry
-      (subst (λ (x : Option PendingState). FollowsProgram a r.device (Some q) x a.history.running) waits
-      (subst (λ (x : Option Running). FollowsProgram a r.device x r.pending a.history.running) runs f.program))
+  ends_as = program_as r a o q (Some w) f runs waits entry
 
   edits : w.edit ≡ edit_of a o
   edits = ap (λ (x : PendingState). x.edit) ends_as.pending_is
@@ -133,32 +126,18 @@ module _ (r : ReplayedState) (a : AuditedDevice) (o : OpenEntry) (q : Running) (
   provisional = ap (λ (x : PendingState). x.provisional) ends_as.pending_is
       ∙ ap (λ (z : Stance). is_provisional z.extent) ends_as.runs.at.stance_is
 
-  legal_by : (p : Part) (device : PlainState) (b : Bool) (e : Option TrackEdit) → device ≡ p.state
-      → b ≡ is_provisional p.stance.extent → replay.is_edit_legal device b e ≡ is_edit_legal p e
-  legal_by p device b None device_is b_is = refl
-  legal_by p device b (Some e) device_is b_is =
-      ap (λ (d : PlainState). replay.is_edit_legal d b (Some e)) device_is
-      ∙ ap (λ (x : Bool). replay.is_edit_legal p.state x (Some e)) b_is
+  legal_by : (p : Part) (e : Option TrackEdit) → replay.is_edit_legal p.state (is_provisional p.stance.extent) e ≡ is_edit_legal p e
+  legal_by p None = refl
+  legal_by p (Some e) = refl
 
-  loosens_by : (p : Part) (device : PlainState) (b : Bool) (e : Option TrackEdit) (t : ℕ) → device ≡ p.state
-      → b ≡ is_provisional p.stance.extent → replay.loosens device b e t ≡ loosens p e t
-  loosens_by p device b None t device_is b_is = refl
-  loosens_by p device b (Some e) t device_is b_is =
-      ap (λ (d : PlainState). replay.loosens d b (Some e) t) device_is
-      ∙ ap (λ (x : Bool). replay.loosens p.state x (Some e) t) b_is
+  loosens_by : (p : Part) (e : Option TrackEdit) (t : ℕ) → replay.loosens p.state (is_provisional p.stance.extent) e t ≡ loosens p e t
+  loosens_by p None t = refl
+  loosens_by p (Some e) t = refl
 
   -- whether the command may edit its track
   pub legal_follows : replay.is_legal r ≡ is_next_legal a a.history.running
-  legal_follows =
-      ap (λ (x : Option PendingState). replay.is_legal_by r.device x) waits
-      ∙ ap (λ (e : Option TrackEdit). replay.is_edit_legal r.device w.provisional e) edits
-      ∙ legal_by (part_of_open a o) r.device w.provisional (edit_of a o) ends_as.runs.at.device_is provisional
-      ∙ ap (λ (x : Option OpenEntry). is_next_legal a x) (sym entry)
+  legal_follows = rw (waits, entry, edits, provisional, ends_as.runs.at.device_is) (legal_by (part_of_open a o) (edit_of a o))
 
   -- whether a track becomes loose with it
   pub loosens_follows : (t : ℕ) → replay.may_loosen r t ≡ may_loosen a a.history.running t
-  loosens_follows t =
-      ap (λ (x : Option PendingState). replay.may_loosen_by r.device x t) waits
-      ∙ ap (λ (e : Option TrackEdit). replay.loosens r.device w.provisional e t) edits
-      ∙ loosens_by (part_of_open a o) r.device w.provisional (edit_of a o) t ends_as.runs.at.device_is provisional
-      ∙ ap (λ (x : Option OpenEntry). may_loosen a x t) (sym entry)
+  loosens_follows t = rw (waits, entry, edits, provisional, ends_as.runs.at.device_is) (loosens_by (part_of_open a o) (edit_of a o) t)

@@ -6,7 +6,7 @@ use Rattle.ckd_types.specs.declared.channel.CommandEnd.{CommandEnd}
 use Rattle.plain_defs.specs.declared.journal.How.TheVariants.{Cut}
 use Rattle.plain_defs.specs.declared.journal.Item.{Item}
 use Rattle.plain_defs.specs.declared.journal.Item.TheVariants as items
-use Rattle.plain_defs.specs.History.{History, OpenEntry, cut_by, emptied, entry_of, lost_power_in, put, reset_in_history, reset_in, resets_of, state_by}
+use Rattle.plain_defs.specs.History.{OpenEntry, cut_by, emptied, entry_of, lost_power_in, put, reset_in_history, reset_in, resets_of}
 use Rattle.plain_defs.specs.Journal.{replay, replay_item}
 use Rattle.plain_defs.specs.Legal.{is_started, is_used}
 use Rattle.plain_defs.specs.PlainState.{PlainState, reset_path}
@@ -22,9 +22,9 @@ use Rattle.deck_audit.specs.Follows.{Follows, FollowsProgram, RunsAs, WaitsAs}
 use Rattle.deck_audit.specs.History.{cut_by_power, without_power}
 use Rattle.deck_audit.specs.Replay as replayed
 use Rattle.deck_audit.specs.Replayed.{PendingState, ReplayedState}
-use Rattle.deck_audit.proofs.ReplayedActs.{device_behind, idle_program, part_next}
+use Rattle.deck_audit.proofs.ReplayedActs.{device_behind, item_more, part_next}
 use Rattle.deck_audit.proofs.ReplayedCloses.{closed_follows}
-use Rattle.deck_audit.proofs.ReplayedEnds.{ends_as, runs_as}
+use Rattle.deck_audit.proofs.ReplayedEnds.{ends_as, runs_as, runs_beside}
 
 -- the part that a cut program has, and what it makes of the device
 module _ (a : AuditedDevice) (o : OpenEntry) (more : ℕ) (p : Part)
@@ -53,15 +53,9 @@ module _ (a : AuditedDevice) (o : OpenEntry) (more : ℕ) (p : Part)
     pub reset_cuts : (q : Running) → r.running ≡ Some q → q.path ≡ o.path → a.history.running ≡ Some o
         → Follows (replayed.reset r o.path) (record a { history = reset_in_history a.history o.path more })
     reset_cuts q runs path_is entry =
-        subst (λ (s : ReplayedState). Follows s (record a { history = reset_in_history a.history o.path more }))
-        (sym (ap (λ (x : Option Running). replayed.reset_by r o.path x) runs
-        ∙ ap (λ (b : Bool). cond b (replayed.closed (replayed.reset_on r o.path)) (replayed.wait_used r o.path))
-        (eq-eqb q.path o.path path_is)))
-        (subst (λ (h : History). Follows (replayed.closed (replayed.reset_on r o.path)) (record a { history = h }))
-        (sym (ap (λ (x : Option OpenEntry). reset_in a.history o.path more x) entry
-        ∙ ap (λ (b : Bool). cond b (cut_by a.history o more) (cond (is_used o.path false a.history.items)
-        (record a.history { waiting = put o.path a.history.waiting }) a.history)) (eq-eqb o.path o.path refl)))
-        cut_here)
+        subst (λ (x : Option Running). Follows (replayed.reset_by r o.path x) (record a { history = reset_in_history a.history o.path more })) (sym runs)
+        (subst (λ (x : Option OpenEntry). Follows (replayed.reset_by r o.path (Some q)) (record a { history = reset_in a.history o.path more x }))
+        (sym entry) (rw (eq-eqb q.path o.path path_is, eq-eqb o.path o.path refl) cut_here))
 
     -- or a loss of power does
     pub power_cuts : Follows (replayed.cut r) (cut_by_power a o more)
@@ -108,138 +102,17 @@ module _ (r : ReplayedState) (a : AuditedDevice) (o : OpenEntry) (q : Running) (
   device_more = device_behind r a o q w f runs waits entry e plain
       ∙ ap (λ (x : Part). x.state) (sym (part_next r a o q w f runs waits entry e plain))
 
-  settled_is : replayed.settled r ≡ record r { device = behind_edit r.device w.edit w.paths; pending = None }
-  settled_is = ap (λ (x : Option PendingState). replayed.settled_by r x) waits
-
   pub cut_more_follows : Follows (replayed.reset (replayed.settled r) o.path) (record a { history = reset_in_history a.history o.path 1 })
-  cut_more_follows =
-      subst (λ (s : ReplayedState). Follows (replayed.reset s o.path) (record a { history = reset_in_history a.history o.path 1 })) (sym settled_is)
+  cut_more_follows = rw waits
       (reset_cuts a o 1 (part_of (replay a.plans a.empty a.history.items) o.path (words_of_open a o) o.acts (suc (length o.ends)))
       part_more (record r { device = behind_edit r.device w.edit w.paths; pending = None }) resets f.number_is f.half_is f.lent_is
       device_more q runs (ends_as r a o q w f runs waits entry).runs.path_is entry)
 
   pub cut_more_by_power_follows : Follows (replayed.cut (replayed.settled r)) (cut_by_power a o 1)
-  cut_more_by_power_follows =
-      subst (λ (s : ReplayedState). Follows (replayed.cut s) (cut_by_power a o 1)) (sym settled_is)
+  cut_more_by_power_follows = rw waits
       (power_cuts a o 1 (part_of (replay a.plans a.empty a.history.items) o.path (words_of_open a o) o.acts (suc (length o.ends)))
       part_more (record r { device = behind_edit r.device w.edit w.paths; pending = None }) resets f.number_is f.half_is f.lent_is
       device_more)
-
--- While no program runs
-
-module _ (r : ReplayedState) (a : AuditedDevice) (f : Follows r a) (idle : a.history.running ≡ None) where
-  idle_is : FollowsProgram a r.device r.running r.pending None
-  idle_is = subst (λ (x : Option OpenEntry). FollowsProgram a r.device r.running r.pending x) idle f.program
-
-  device_idle : r.device ≡ replay a.plans a.empty a.history.items
-  device_idle = f.device_is ∙ ap (λ (x : Option OpenEntry). state_by a.plans (replay a.plans a.empty a.history.items) x) idle
-
-  runs_not : (running : Option Running) (pending : Option PendingState) → FollowsProgram a r.device running pending None → running ≡ None
-  runs_not None pending p = refl
-  runs_not (Some q) None p = absurd p
-  runs_not (Some q) (Some w) p = absurd p
-
-  -- with one item more
-  item_more : (x : Item) (s : ReplayedState) → s.number ≡ a.number → s.half ≡ a.half → s.lent ≡ a.lent → s.running ≡ r.running
-      → s.device ≡ replay_item a.plans r.device x
-      → Follows s (record a { history = record a.history { items = a.history.items ++ x ∷ []; running = None } })
-  item_more x s number_is half_is lent_is same device_is = record {
-    number_is = number_is;
-    device_is = device_is ∙ ap (λ (d : PlainState). replay_item a.plans d x) device_idle
-        ∙ sym (replay-append a.plans a.empty a.history.items (x ∷ []));
-    half_is = half_is;
-    lent_is = lent_is;
-    program = program_more (s.running) (s.pending) (same ∙ runs_not r.running r.pending idle_is);
-  } where
-    program_more : (running : Option Running) (pending : Option PendingState) → running ≡ None
-        → FollowsProgram (record a { history = record a.history { items = a.history.items ++ x ∷ []; running = None } }) s.device running pending None
-    program_more None pending none = tt
-    program_more (Some q) pending none = absurd (cc)
-
-  with_none : (s : ReplayedState) (l : List Item) → Follows s (record a { history = record a.history { items = l; running = None } })
-      → Follows s (record a { history = record a.history { items = l } })
-  with_none s l is = subst (λ (x : Option OpenEntry). Follows s (record a { history = record a.history { items = l; running = x } })) (sym idle) is
-
-  by_use : (path more : ℕ) (b : Bool) → Follows (cond b (replayed.reset_on r path) r)
-      (record a { history = cond b (record a.history { items = a.history.items ++ items.Reset path ∷ [] }) a.history })
-  by_use path more true = with_none (replayed.reset_on r path) (a.history.items ++ items.Reset path ∷ [])
-      (item_more (items.Reset path) (replayed.reset_on r path) f.number_is f.half_is f.lent_is refl refl)
-  by_use path more false = f
-
-  -- a reset of a path that used something
-  pub reset_follows : (path more : ℕ) → replayed.is_used_on r path ≡ is_used path false a.history.items
-      → Follows (replayed.reset r path) (record a { history = reset_in_history a.history path more })
-  reset_follows path more used =
-      subst (λ (s : ReplayedState). Follows s (record a { history = reset_in_history a.history path more }))
-      (sym (ap (λ (x : Option Running). replayed.reset_by r path x) (runs_not r.running r.pending idle_is)))
-      (subst (λ (h : History). Follows (replayed.reset_used r path) (record a { history = h }))
-      (sym (ap (λ (x : Option OpenEntry). reset_in a.history path more x) idle))
-      (subst (λ (b : Bool). Follows (cond b (replayed.reset_on r path) r) (record a {
-        history =
-            cond (is_used path false a.history.items) (record a.history { items = a.history.items ++ items.Reset path ∷ [] }) a.history;
-      }))
-      (sym used) (by_use path more (is_used path false a.history.items))))
-
-  -- a new volume
-  pub fresh_follows : Follows (replayed.given_back r) (record a { history = emptied a.history; lent = None })
-  fresh_follows =
-      let more = item_more items.Fresh (record (replayed.given_back r) { lent = r.lent }) f.number_is f.half_is f.lent_is refl refl in
-      subst (λ (x : Option OpenEntry). Follows (replayed.given_back r) (record a
-      { history = record a.history { items = a.history.items ++ items.Fresh ∷ []; running = x }; lent = None })) (sym idle)
-      (record {
-        number_is = more.number_is;
-        device_is = more.device_is;
-        half_is = more.half_is;
-        lent_is = refl;
-        program = idle_program (record a { history = record a.history { items = a.history.items ++ items.Fresh ∷ []; running = None } })
-            (record a { history = record a.history { items = a.history.items ++ items.Fresh ∷ []; running = None }; lent = None })
-            (replayed.given_back r).device (replayed.given_back r).device r.running None more.program;
-      })
-
-  by_power : (b : Bool) → Follows (cond b (replayed.dark r) (record r { half = Closed }))
-      (record a { history = cond b (record { items = a.history.items ++ items.Power ∷ []; running = None; waiting = [] }) a.history; half = Closed })
-  by_power true =
-      let more = item_more items.Power (record (replayed.dark r) { half = r.half }) f.number_is f.half_is f.lent_is refl refl in
-      record {
-        number_is = more.number_is;
-        device_is = more.device_is;
-        half_is = refl;
-        lent_is = more.lent_is;
-        program = idle_program (record a { history = record a.history { items = a.history.items ++ items.Power ∷ []; running = None } })
-            (record a { history = record { items = a.history.items ++ items.Power ∷ []; running = None; waiting = [] }; half = Closed })
-            (replayed.dark r).device (replayed.dark r).device r.running None more.program;
-      }
-  by_power false =
-      subst (λ (x : Option OpenEntry). Follows (record r { half = Closed }) (record a { history = record a.history { running = x }; half = Closed }))
-      (sym idle)
-      (record {
-        number_is = f.number_is;
-        device_is = device_idle;
-        half_is = refl;
-        lent_is = f.lent_is;
-        program = idle_program a (record a { history = record a.history { running = None }; half = Closed }) r.device r.device
-            r.running r.pending idle_is;
-      })
-
-  -- a loss of power, which before the first start changes nothing
-  pub power_follows : r.powered ≡ is_started false a.history.items → Follows (replayed.without_power r) (without_power a)
-  power_follows powered =
-      subst (λ (h : History). Follows (replayed.without_power r) (record a { history = h; half = Closed }))
-      (sym (ap (λ (x : Option OpenEntry). lost_power_in (record a.history { running = x }) 0 x) idle))
-      (subst (λ (b : Bool). Follows (cond b (replayed.dark r) (record r { half = Closed }))
-      (record a {
-        history = cond (is_started false a.history.items)
-            (record { items = a.history.items ++ items.Power ∷ []; running = None; waiting = [] }) (record a.history { running = None });
-        half = Closed;
-      }))
-      (sym powered)
-      (subst (λ (x : Option OpenEntry). Follows (cond (is_started false a.history.items) (replayed.dark r) (record r { half = Closed }))
-      (record a {
-        history = cond (is_started false a.history.items)
-            (record { items = a.history.items ++ items.Power ∷ []; running = None; waiting = [] }) (record a.history { running = x });
-        half = Closed;
-      }))
-      idle (by_power (is_started false a.history.items))))
 
 -- What changes nothing of the device: a reset that waits, a half write, a loan
 
@@ -250,56 +123,36 @@ beside a waiting half lent d None pending None f = tt
 beside a waiting half lent d None pending (Some o) f = absurd f
 beside a waiting half lent d (Some q) None None f = absurd f
 beside a waiting half lent d (Some q) (Some w) None f = absurd f
-beside a waiting half lent d (Some q) None (Some o) f = record {
-  path_is = f.path_is;
-  ordinal_is = f.ordinal_is;
-  at = f.at;
-  order = f.order;
-  word = f.word;
-  at_word = f.at_word;
-}
+beside a waiting half lent d (Some q) None (Some o) f = runs_beside a o d q q.chain q.chain waiting half lent f
 beside a waiting half lent d (Some q) (Some w) (Some o) f = record {
   before = f.before;
-  runs = record {
-    path_is = f.runs.path_is;
-    ordinal_is = f.runs.ordinal_is;
-    at = f.runs.at;
-    order = f.runs.order;
-    word = f.runs.word;
-    at_word = f.runs.at_word;
-  };
+  runs = runs_beside a o d q f.before q.chain waiting half lent f.runs;
   chain_is = f.chain_is;
   pending_is = f.pending_is;
 }
 
 module _ (r : ReplayedState) (a : AuditedDevice) (f : Follows r a) where
-  pub half_is_followed : (half : HalfWrite) → Follows (record r { half = half }) (record a { half = half })
-  half_is_followed half = record {
-    number_is = f.number_is;
-    device_is = f.device_is;
-    half_is = refl;
-    lent_is = f.lent_is;
-    program = beside a a.history.waiting half a.lent r.device r.running r.pending a.history.running f.program;
+  beside_follows : (s : ReplayedState) (waiting : List ℕ) (half : HalfWrite) (lent : Option ℕ) → s.number ≡ a.number → s.device ≡ r.device
+      → s.half ≡ half → s.lent ≡ lent → s.running ≡ r.running → s.pending ≡ r.pending
+      → Follows s (record a { history = record a.history { waiting = waiting }; half = half; lent = lent })
+  beside_follows s waiting half lent number_is device_is half_is lent_is running_is pending_is = record {
+    number_is = number_is;
+    device_is = device_is ∙ f.device_is;
+    half_is = half_is;
+    lent_is = lent_is;
+    program = rw (device_is, running_is, pending_is) (beside a waiting half lent r.device r.running r.pending a.history.running f.program);
   }
 
+  pub half_is_followed : (half : HalfWrite) → Follows (record r { half = half }) (record a { half = half })
+  half_is_followed half = beside_follows (record r { half = half }) a.history.waiting half a.lent f.number_is refl refl f.lent_is refl refl
+
   pub loan_is_followed : (of : ℕ) → Follows (replayed.lent_to r of) (record a { lent = Some of })
-  loan_is_followed of = record {
-    number_is = f.number_is;
-    device_is = f.device_is;
-    half_is = f.half_is;
-    lent_is = refl;
-    program = beside a a.history.waiting a.half (Some of) r.device r.running r.pending a.history.running f.program;
-  }
+  loan_is_followed of = beside_follows (replayed.lent_to r of) a.history.waiting a.half (Some of) f.number_is refl f.half_is refl refl refl
 
   wait_by : (b : Bool) (p : ℕ) → Follows (cond b (record r { waits = slice_set r.waits (p - 1) true }) r)
       (record a { history = cond b (record a.history { waiting = put p a.history.waiting }) a.history })
-  wait_by true p = record {
-    number_is = f.number_is;
-    device_is = f.device_is;
-    half_is = f.half_is;
-    lent_is = f.lent_is;
-    program = beside a (put p a.history.waiting) a.half a.lent r.device r.running r.pending a.history.running f.program;
-  }
+  wait_by true p = beside_follows (record r { waits = slice_set r.waits (p - 1) true }) (put p a.history.waiting) a.half a.lent f.number_is refl
+      f.half_is f.lent_is refl refl
   wait_by false p = f
 
   -- the reset of another path waits while a program runs
@@ -307,10 +160,47 @@ module _ (r : ReplayedState) (a : AuditedDevice) (f : Follows r a) where
       → replayed.is_used_on r p ≡ is_used p false a.history.items
       → Follows (replayed.wait_used r p) (record a { history = reset_in_history a.history p more })
   wait_follows o p more entry unlike used =
-      subst (λ (h : History). Follows (replayed.wait_used r p) (record a { history = h }))
-      (sym (ap (λ (x : Option OpenEntry). reset_in a.history p more x) entry
-      ∙ ap (λ (b : Bool). cond b (cut_by a.history o more) (cond (is_used p false a.history.items)
-      (record a.history { waiting = put p a.history.waiting }) a.history)) unlike))
-      (subst (λ (b : Bool). Follows (cond b (record r { waits = slice_set r.waits (p - 1) true }) r)
-      (record a { history = cond (is_used p false a.history.items) (record a.history { waiting = put p a.history.waiting }) a.history }))
-      (sym used) (wait_by (is_used p false a.history.items) p))
+      subst (λ (x : Option OpenEntry). Follows (replayed.wait_used r p) (record a { history = reset_in a.history p more x })) (sym entry)
+      (rw (unlike, used) (wait_by (is_used p false a.history.items) p))
+
+-- While no program runs
+
+module _ (r : ReplayedState) (a : AuditedDevice) (f : Follows r a) (idle : a.history.running ≡ None) where
+  runs_not : (running : Option Running) (pending : Option PendingState) → FollowsProgram a r.device running pending None → running ≡ None
+  runs_not None pending p = refl
+  runs_not (Some q) None p = absurd p
+  runs_not (Some q) (Some w) p = absurd p
+
+  by_use : (path : ℕ) (b : Bool) → Follows (cond b (replayed.reset_on r path) r)
+      (record a { history = cond b (record a.history { items = a.history.items ++ items.Reset path ∷ [] }) a.history })
+  by_use path true = item_more r (replayed.reset_on r path) a
+      (record a { history = record a.history { items = a.history.items ++ items.Reset path ∷ [] } }) (items.Reset path) f idle f.number_is f.half_is
+      f.lent_is refl refl refl refl refl idle
+  by_use path false = f
+
+  -- a reset of a path that used something
+  pub reset_follows : (path more : ℕ) → replayed.is_used_on r path ≡ is_used path false a.history.items
+      → Follows (replayed.reset r path) (record a { history = reset_in_history a.history path more })
+  reset_follows path more used =
+      let none = runs_not r.running r.pending (subst (λ (x : Option OpenEntry). FollowsProgram a r.device r.running r.pending x) idle f.program) in
+      subst (λ (x : Option OpenEntry). Follows (replayed.reset r path) (record a { history = reset_in a.history path more x })) (sym idle)
+      (subst (λ (x : Option Running). Follows (replayed.reset_by r path x)
+      (record a { history = reset_in a.history path more None })) (sym none) (rw used (by_use path (is_used path false a.history.items))))
+
+  -- a new volume
+  pub fresh_follows : Follows (replayed.given_back r) (record a { history = emptied a.history; lent = None })
+  fresh_follows = item_more r (replayed.given_back r) a (record a { history = emptied a.history; lent = None }) items.Fresh f idle f.number_is
+      f.half_is refl refl refl refl refl refl idle
+
+  by_power : (b : Bool) → Follows (cond b (replayed.dark r) (record r { half = Closed }))
+      (record a { history = cond b (record { items = a.history.items ++ items.Power ∷ []; running = None; waiting = [] }) a.history; half = Closed })
+  by_power true = item_more r (replayed.dark r) a
+      (record a { history = record { items = a.history.items ++ items.Power ∷ []; running = None; waiting = [] }; half = Closed }) items.Power f idle
+      f.number_is refl f.lent_is refl refl refl refl refl refl
+  by_power false = half_is_followed r a f Closed
+
+  -- a loss of power, which before the first start changes nothing
+  pub power_follows : r.powered ≡ is_started false a.history.items → Follows (replayed.without_power r) (without_power a)
+  power_follows powered =
+      subst (λ (x : Option OpenEntry). Follows (replayed.without_power r) (record a { history = lost_power_in a.history 0 x; half = Closed })) (sym idle)
+      (rw (← powered) (by_power r.powered))

@@ -1,5 +1,5 @@
 -- A device that is replayed is the one that the lines of the report so far make.
-use Rattle.std.specs.Prelude.{◌≡◌, ◌≤◌, ◌==◌, ◌||◌, ℕ, ◌+◌, Bool, true, false, List, [], ◌∷◌, length, count_by, Option, Some, None, if◌then◌else◌, ⊤}
+use Rattle.std.specs.Prelude.{◌≡◌, ◌≤◌, ◌==◌, ◌||◌, ℕ, ◌+◌, Bool, true, false, List, [], ◌∷◌, length, map, count_by, Option, Some, None, if◌then◌else◌, ⊤}
 use Rattle.ckd_types.specs.declared.channel.Ccw.{Ccw}
 use Rattle.ckd_types.specs.declared.channel.CommandEnd.{CommandEnd}
 use Rattle.ckd_types.specs.Parameters.{is_provisional}
@@ -12,7 +12,7 @@ use Rattle.plain_defs.specs.PlainState.{PlainState}
 use Rattle.plain_defs.specs.Program.{Part}
 use Rattle.plain_device.specs.Between.{effect_of}
 use Rattle.deck_audit.specs.declared.replayed.Running.{Running}
-use Rattle.deck_audit.specs.Device.{AuditedDevice, part_of_open, runs, state_of, words_of_open}
+use Rattle.deck_audit.specs.Device.{AuditedDevice, four_paths, part_of_open, runs, state_of, words_of_open}
 use Rattle.deck_audit.specs.Replay.{started_on}
 use Rattle.deck_audit.specs.Replayed.{PendingState, ReplayedState}
 
@@ -80,25 +80,13 @@ pub record WaitsAs (waits : List Bool) (waiting : List ℕ) : Type 0 where
   pub waits_are : waits ≡ first ∷ second ∷ third ∷ fourth ∷ []
   pub waiting_are : waiting ≡ if_waits first 1 (if_waits second 2 (if_waits third 3 (if_waits fourth 4 [])))
 
--- what is kept of each path is what the history says of it
-pub record KeepsPath (h : History) (path started : ℕ) (used : Bool) : Type 0 where
-  pub count_is : started ≡ count_by (is_of_path path) h.items + own_count h.running path
-  pub used_is : used ≡ has_used h path
+-- how many programs of a path the history started
+abbrev pub count_of : History → ℕ → ℕ
+count_of h path = count_by (is_of_path path) h.items + own_count h.running path
 
+-- what is kept of each path is what the history says of it
 pub record KeepsPaths (r : ReplayedState) (h : History) : Type 0 where
-  pub n1 : ℕ
-  pub n2 : ℕ
-  pub n3 : ℕ
-  pub n4 : ℕ
-  pub u1 : Bool
-  pub u2 : Bool
-  pub u3 : Bool
-  pub u4 : Bool
-  pub started_are : r.started ≡ n1 ∷ n2 ∷ n3 ∷ n4 ∷ []
-  pub used_are : r.used ≡ u1 ∷ u2 ∷ u3 ∷ u4 ∷ []
-  pub first : KeepsPath h 1 n1 u1
-  pub second : KeepsPath h 2 n2 u2
-  pub third : KeepsPath h 3 n3 u3
-  pub fourth : KeepsPath h 4 n4 u4
+  pub started_are : r.started ≡ map (count_of h) four_paths
+  pub used_are : r.used ≡ map (has_used h) four_paths
   pub waits : WaitsAs r.waits h.waiting
   pub powered_is : r.powered ≡ (runs h.running || is_started false h.items)

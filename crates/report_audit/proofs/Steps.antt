@@ -211,16 +211,7 @@ report_ends p q why line some front count status one long judging =
 
 ends_by : (n : ℕ) (due : Due) → at_end n due ≡ report_end n (is_nothing due)
 ends_by n dues.Nothing = refl
-ends_by n dues.Next = refl
-ends_by n (dues.DataOf e) = refl
-ends_by n (dues.SenseOf e) = refl
-ends_by n (dues.Behind more did) = refl
-ends_by n (dues.OverOf line) = refl
-ends_by n (dues.Losses d) = refl
-ends_by n dues.ResetOf = refl
-ends_by n (dues.Powers k) = refl
-ends_by n (dues.Totals k) = refl
-ends_by n dues.Frames = refl
+ends_by n due = refl
 
 pub report_over : (p : Progress) (auditor : Auditor) (finished : Bool) (answer : AuditStatus) → p.status ≡ None → p.auditor ≡ Some auditor
     → ((s : AuditState) → IsAuditOf auditor s → finished ≡ is_nothing s.due) → Comes p [] answer → answer ≡ report_end (p.lines + 1) finished

@@ -75,15 +75,11 @@ read_too_long before after audit size was least most =
 
 pub answer_told : (status : AuditStatus) (before after held holds : Option (List ℕ)) → is_answer status ≡ true → IsReadBack before after status
     → Appends held holds (status_text status) → TellsAudit status before after held holds
-answer_told Yes before after held holds answer came wrote = record { came = came; wrote = wrote }
-answer_told (No line why) before after held holds answer came wrote = record { came = came; wrote = wrote }
-answer_told NoReport before after held holds answer came wrote = record { came = came; wrote = wrote }
-answer_told (DeckRefused line why) before after held holds answer came wrote = record { came = came; wrote = wrote }
-answer_told (Limit which) before after held holds answer came wrote = record { came = came; wrote = wrote }
 answer_told ReadFault before after held holds answer came wrote = absurd (true≢false (sym answer))
 answer_told WriteFault before after held holds answer came wrote = absurd (true≢false (sym answer))
 answer_told NoMemory before after held holds answer came wrote = absurd (true≢false (sym answer))
 answer_told Usage before after held holds answer came wrote = absurd (true≢false (sym answer))
+answer_told status before after held holds answer came wrote = record { came = came; wrote = wrote }
 
 pub told : (status result : AuditStatus) (before after held holds : Option (List ℕ)) → is_answer status ≡ true → IsReadBack before after status
     → ((result ≡ status) × Appends held holds (status_text status)) ⊎ ((result ≡ WriteFault) × AppendsFront held holds (status_text status))
@@ -109,15 +105,11 @@ came_of status before after text is came =
 
 by_audit : (status : AuditStatus) (before after held holds : Option (List ℕ)) (text : List ℕ) → before ≡ Some text
     → TellsAudit status before after held holds → (status ≡ read_back text) ⊎ HasFailed status
-by_audit Yes before after held holds text is tells = inl (came_of Yes before after text is tells.came)
-by_audit (No line why) before after held holds text is tells = inl (came_of (No line why) before after text is tells.came)
-by_audit NoReport before after held holds text is tells = inl (came_of NoReport before after text is tells.came)
-by_audit (DeckRefused line why) before after held holds text is tells = inl (came_of (DeckRefused line why) before after text is tells.came)
-by_audit (Limit which) before after held holds text is tells = inl (came_of (Limit which) before after text is tells.came)
 by_audit NoMemory before after held holds text is tells = inr (inl refl)
 by_audit ReadFault before after held holds text is tells = inr (inr (inl refl))
 by_audit WriteFault before after held holds text is tells = inr (inr (inr refl))
 by_audit Usage before after held holds text is tells = absurd tells
+by_audit status before after held holds text is tells = inl (came_of status before after text is tells.came)
 
 answered : (named : Bool) (status : AuditStatus) (before after held holds : Option (List ℕ)) (text : List ℕ) → named ≡ true → before ≡ Some text
     → Tells named status before after held holds → (status ≡ read_back text) ⊎ HasFailed status
@@ -145,42 +137,20 @@ own_told named status before after held holds text names is tells reads =
 
 -- What yes and no say
 
-yes_came : (status : AuditStatus) (before after held holds : Option (List ℕ)) (text : List ℕ) → status ≡ Yes → before ≡ Some text
-    → TellsAudit status before after held holds → read_back text ≡ Yes
-yes_came Yes before after held holds text yes_is is tells = sym (came_of Yes before after text is tells.came)
-yes_came (No line why) before after held holds text yes_is is tells = absurd (cc)
-yes_came NoReport before after held holds text yes_is is tells = absurd (cc)
-yes_came (DeckRefused line why) before after held holds text yes_is is tells = absurd (cc)
-yes_came (Limit which) before after held holds text yes_is is tells = absurd (cc)
-yes_came NoMemory before after held holds text yes_is is tells = absurd (cc)
-yes_came ReadFault before after held holds text yes_is is tells = absurd (cc)
-yes_came WriteFault before after held holds text yes_is is tells = absurd (cc)
-yes_came Usage before after held holds text yes_is is tells = absurd (cc)
-
 pub yes_read : (named : Bool) (before after held holds : Option (List ℕ)) (text : List ℕ) (status : AuditStatus) → Tells named status before after held holds
     → before ≡ Some text → status ≡ Yes → read_back text ≡ Yes
-yes_read true before after held holds text status tells is yes_is = yes_came status before after held holds text yes_is is tells
+yes_read true before after held holds text status tells is yes_is =
+    let answer : TellsAudit Yes before after held holds = rw yes_is at tells in sym (came_of Yes before after text is answer.came)
 yes_read false before after held holds text status tells is yes_is = elim tells.1 [
   | inl usage ↦ absurd (let e : Usage ≡ Yes = sym usage.0 ∙ yes_is in cc)
   | inr fault ↦ absurd (let e : WriteFault ≡ Yes = sym fault.0 ∙ yes_is in cc)
 ]
 
-no_came : (status : AuditStatus) (before after held holds : Option (List ℕ)) (text : List ℕ) (line : ℕ) (why : AuditWhy) → status ≡ No line why
-    → before ≡ Some text → TellsAudit status before after held holds → IsBad text line why
-no_came (No m v) before after held holds text line why no_is is tells =
-    (no_bad text line why).0 (sym (came_of (No m v) before after text is tells.came) ∙ no_is)
-no_came Yes before after held holds text line why no_is is tells = absurd (cc)
-no_came NoReport before after held holds text line why no_is is tells = absurd (cc)
-no_came (DeckRefused m v) before after held holds text line why no_is is tells = absurd (cc)
-no_came (Limit which) before after held holds text line why no_is is tells = absurd (cc)
-no_came NoMemory before after held holds text line why no_is is tells = absurd (cc)
-no_came ReadFault before after held holds text line why no_is is tells = absurd (cc)
-no_came WriteFault before after held holds text line why no_is is tells = absurd (cc)
-no_came Usage before after held holds text line why no_is is tells = absurd (cc)
-
 pub no_told : (named : Bool) (before after held holds : Option (List ℕ)) (text : List ℕ) (line : ℕ) (why : AuditWhy) (status : AuditStatus)
     → Tells named status before after held holds → before ≡ Some text → status ≡ No line why → IsBad text line why
-no_told true before after held holds text line why status tells is no_is = no_came status before after held holds text line why no_is is tells
+no_told true before after held holds text line why status tells is no_is =
+    let answer : TellsAudit (No line why) before after held holds = rw no_is at tells in
+    (no_bad text line why).0 (sym (came_of (No line why) before after text is answer.came))
 no_told false before after held holds text line why status tells is no_is = elim tells.1 [
   | inl usage ↦ absurd (let e : Usage ≡ No line why = sym usage.0 ∙ no_is in cc)
   | inr fault ↦ absurd (let e : WriteFault ≡ No line why = sym fault.0 ∙ no_is in cc)

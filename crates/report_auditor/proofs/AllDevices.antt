@@ -19,7 +19,7 @@ use Rattle.deck_audit.specs.Keeping.{IsCounted, IsKept}
 use Rattle.deck_audit.specs.Replay as replay
 use Rattle.deck_audit.specs.Replayed.{ReplayedState}
 use Rattle.deck_audit.proofs.Judges.{by_program}
-use Rattle.deck_audit.proofs.KeptMore.{fresh_keeps, power_keeps}
+use Rattle.deck_audit.proofs.KeptPaths.{fresh_keeps, power_keeps}
 use Rattle.deck_audit.proofs.ReplayedResets.{fresh_follows, power_follows}
 
 -- a loop over the devices that changes each

@@ -211,19 +211,15 @@ set_read (x ∷ l) (suc i) k b is = set_read l i k b is
 
 module _ (z : Auditor) (s : AuditState) (d : ℕ) (task : Task) (f : IsFor z s) (fits : Fits s d task) where
   or_worker : (task : Task) → Fits s d task → (is_quiet s.due ≡ true) ⊎ (worker_number s ≡ Some d)
-  or_worker (tasks.Start path) fits = inl fits
   or_worker tasks.Work fits = inl fits.0
   or_worker (tasks.Sense e) fits = inr fits.1
   or_worker (tasks.Act did) fits = inr fits.2
   or_worker (tasks.Settle event did) fits = inr fits.2
   or_worker (tasks.Over event wanted) fits = inl fits.0
-  or_worker (tasks.Cut n) fits = inl fits
   or_worker (tasks.Reset path) fits = inl fits.0
-  or_worker (tasks.Harden t) fits = inl fits
-  or_worker tasks.Loss fits = inl fits
-  or_worker (tasks.Lend of) fits = inl fits
   or_worker (tasks.PowerCut n) fits = inl fits.0
   or_worker tasks.PowerLoss fits = inl fits.0
+  or_worker task fits = inl fits
 
   one_by : (b : Bool) → is_quiet s.due ≡ b → AreKept z.deck.programs s.due (worker_number s) z.devices.items s.devices b
       → (is_quiet s.due ≡ true) ⊎ (worker_number s ≡ Some d) → OneKept z.deck.programs s.due d z.devices.items s.devices
@@ -242,19 +238,15 @@ module _ (z : Auditor) (s : AuditState) (d : ℕ) (task : Task) (f : IsFor z s) 
 
   ready_by : (task : Task) → Fits s d task → (k : Kept) (a : AuditedDevice) → IsDue s.due k a → device_in s.devices d ≡ Some a
       → IsReady s k a task
-  ready_by (tasks.Start path) fits k a due is = quiet_of k a s.due fits due
   ready_by tasks.Work fits k a due is = quiet_of k a s.due fits.0 due
   ready_by (tasks.Sense e) fits k a due is = subst (λ (x : Due). IsDue x k a) fits.0 due
   ready_by (tasks.Act did) fits k a due is = subst (λ (x : Due). IsDue x k a) fits.1 due
   ready_by (tasks.Settle event did) fits k a due is = (subst (λ (x : Due). IsDue x k a) fits.1 due, fits.3)
   ready_by (tasks.Over event wanted) fits k a due is = (quiet_of k a s.due fits.0 due, fits.2)
-  ready_by (tasks.Cut n) fits k a due is = quiet_of k a s.due fits due
   ready_by (tasks.Reset path) fits k a due is = (quiet_of k a s.due fits.0 due, fits.1 a is)
-  ready_by (tasks.Harden t) fits k a due is = quiet_of k a s.due fits due
-  ready_by tasks.Loss fits k a due is = quiet_of k a s.due fits due
-  ready_by (tasks.Lend of) fits k a due is = quiet_of k a s.due fits due
   ready_by (tasks.PowerCut n) fits k a due is = quiet_of k a s.due fits.0 due
   ready_by tasks.PowerLoss fits k a due is = quiet_of k a s.due fits.0 due
+  ready_by task fits k a due is = quiet_of k a s.due fits due
 
   module _ (line : ReportLine) (i : ℕ) (place : place_from 0 z.devices.items d ≡ Some i) (new : List Kept) (next : Option Then)
       (j : IsJudgedAt z.deck.programs z.devices.items new i d line task next) where

@@ -14,7 +14,7 @@ use Rattle.deck_text.specs.Plans.{plans_of}
 use Rattle.report_auditor.specs.Auditor.{AllKept, IsAt, IsJudgedAt, NoneRuns, OneKept, due_if, either, is_quiet, place_from}
 use Rattle.deck_audit.specs.declared.kept.Kept.{Kept}
 use Rattle.report_places.specs.declared.state.Due.{Due}
-use Rattle.report_places.specs.declared.state.Due.TheVariants.{Next, DataOf, SenseOf, Behind, OverOf, Losses, ResetOf, Powers, Totals, Frames, Nothing}
+use Rattle.report_places.specs.declared.state.Due.TheVariants.{Next, DataOf, SenseOf, Behind}
 use Rattle.deck_audit.specs.Device.{AuditedDevice, device_in, with_device}
 use Rattle.deck_audit.specs.History.{place_of}
 use Rattle.deck_audit.specs.declared.kept.Then.{Then}
@@ -24,30 +24,16 @@ use Rattle.deck_audit.specs.Keeping.{IsDue, IsQuiet}
 -- Where nothing is due of a device
 
 pub quiet_of : (k : Kept) (a : AuditedDevice) (due : Due) → is_quiet due ≡ true → IsDue due k a → IsQuiet k
-quiet_of k a Next quiet is = is
 quiet_of k a (DataOf e) quiet is = absurd (cc)
 quiet_of k a (SenseOf e) quiet is = absurd (cc)
 quiet_of k a (Behind more did) quiet is = absurd (cc)
-quiet_of k a (OverOf line) quiet is = is
-quiet_of k a (Losses d) quiet is = is
-quiet_of k a ResetOf quiet is = is
-quiet_of k a (Powers n) quiet is = is
-quiet_of k a (Totals n) quiet is = is
-quiet_of k a Frames quiet is = is
-quiet_of k a Nothing quiet is = is
+quiet_of k a due quiet is = is
 
 due_quiet : (k : Kept) (a : AuditedDevice) (due : Due) → is_quiet due ≡ true → IsQuiet k → IsDue due k a
-due_quiet k a Next quiet is = is
 due_quiet k a (DataOf e) quiet is = absurd (cc)
 due_quiet k a (SenseOf e) quiet is = absurd (cc)
 due_quiet k a (Behind more did) quiet is = absurd (cc)
-due_quiet k a (OverOf line) quiet is = is
-due_quiet k a (Losses d) quiet is = is
-due_quiet k a ResetOf quiet is = is
-due_quiet k a (Powers n) quiet is = is
-due_quiet k a (Totals n) quiet is = is
-due_quiet k a Frames quiet is = is
-due_quiet k a Nothing quiet is = is
+due_quiet k a due quiet is = is
 
 module _ (programs : List PlannedProgram) where
   to_due : (k : Kept) (a : AuditedDevice) (due : Due) → is_quiet due ≡ true → IsAt programs Next k a → IsAt programs due k a

@@ -9,29 +9,14 @@ use Rattle.report_auditor.specs.declared.auditor.Auditor.{Auditor}
 use Rattle.deck_audit.specs.declared.kept.Kept.{Kept}
 use Rattle.report_places.specs.declared.state.Due.TheVariants.{Next}
 use Rattle.deck_audit.specs.Device.{new_device}
-use Rattle.deck_audit.specs.Follows.{KeepsPath, KeepsPaths}
+use Rattle.deck_audit.specs.Follows.{KeepsPaths}
 use Rattle.deck_audit.specs.Replay.{new_replayed}
 use Rattle.deck_audit.specs.State.{first_state}
 
-no_path : (path : ℕ) → KeepsPath no_history path 0 false
-no_path path = record { count_is = refl; used_is = refl }
-
 keeps_none : (line : DeviceLine) → KeepsPaths (new_replayed line) no_history
 keeps_none line = record {
-  n1 = 0;
-  n2 = 0;
-  n3 = 0;
-  n4 = 0;
-  u1 = false;
-  u2 = false;
-  u3 = false;
-  u4 = false;
   started_are = refl;
   used_are = refl;
-  first = no_path 1;
-  second = no_path 2;
-  third = no_path 3;
-  fourth = no_path 4;
   waits = record { first = false; second = false; third = false; fourth = false; waits_are = refl; waiting_are = refl };
   powered_is = refl;
 }

@@ -1,5 +1,4 @@
-use Rattle.deck_audit.proofs.KeptMore.{next_keeps, settled_keeps}
-use Rattle.deck_audit.proofs.KeptPaths.{counts_kept, used_kept}
+use Rattle.deck_audit.proofs.KeptPaths.{counts_kept, next_keeps, settled_keeps, used_kept}
 use Rattle.deck_audit.proofs.keeps.paths_are_kept.Goals as goal
 
 pub returns-clause-used : goal.returns-clause-used
