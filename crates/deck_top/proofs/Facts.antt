@@ -1,7 +1,6 @@
 -- What an answer tells, one fact after another.
-use Rattle.std.proofs.Common.{inl, inr, ◌≡◌, ℕ, List, [], Option, Some, None, Result, Ok, Err, refl, sym, ap, subst}
+use Rattle.std.proofs.Common.{inl, inr, ◌≡◌, ℕ, List, [], Option, Some, None, Result, Ok, Err, refl, sym, subst}
 use Rattle.std.specs.Io.KnownBytes.{Appends}
-use Rattle.ckd_outside.specs.Texts.{AppendsFront}
 use Rattle.deck_gen.specs.Generated.{deck_of_seed}
 use Rattle.deck_text.specs.DeckLines.{DeckLines}
 use Rattle.deck_text.specs.declared.line.DeckFault.{DeckFault}
@@ -12,34 +11,26 @@ use Rattle.deck_text.specs.Canonical.{canonical}
 use Rattle.deck_text.specs.Parse.{parsed}
 use Rattle.deck_text.specs.Texts.{limit_text, refused_text}
 use Rattle.device_outside.specs.Bay.{Bay}
-use Rattle.report_text.specs.Ends.{lines_text}
-use Rattle.run_report.specs.Plainly.{IsPlainReport, IsPlainReportOn}
+use Rattle.run_report.specs.Plainly.{IsPlainReportOn}
 use Rattle.report_text.specs.Summary.{summary_text}
-use Rattle.run_report.specs.Report.{report_lines, report_of}
+use Rattle.run_report.specs.Report.{report_of}
 use Rattle.run_report.specs.Summed.{summary_of}
-use Rattle.subsystem_defs.specs.Decks.{AreWhole, Firsts, empty_firsts, run_of, run_on}
-use Rattle.subsystem_laws.proofs.PlainRuns.{empty_whole}
+use Rattle.subsystem_defs.specs.Decks.{Firsts, empty_firsts, run_of}
 use Rattle.deck_top.specs.declared.task.Task.{Task}
 use Rattle.deck_top.specs.declared.task.Task.TheVariants.{Run, Check, Generate}
 use Rattle.deck_top.specs.declared.top.Status.{Status}
 use Rattle.deck_top.specs.declared.top.Status.TheVariants.{Reported, DeckRefused, ReadFault, WriteFault, Limit, NoMemory, Usage}
-use Rattle.deck_top.specs.Answers.{RunsAsPromised, Tells, TellsRead, TellsTask, TellsUsage}
-use Rattle.deck_top.specs.Facts.{OfDeck, IsRefused, IsRead, ReportsPlainly, SumsUp, WritesFront}
+use Rattle.deck_top.specs.Answers.{FrontBy, IsDoneBy, IsOutput, Ran, Reads, RunsAsPromised, Tells, TellsBy, TellsUsage, report_on}
+use Rattle.deck_top.specs.Facts.{OfDeck, IsRefused, IsRead, ReportsPlainly, ReportsPlainlyOn, SumsUp, WritesFront}
 use Rattle.deck_top.specs.Handed.{TakesBack}
-
--- the law of the report of a run
-abbrev ReportIsPlain : Type 0
-ReportIsPlain =
-    (firsts : Firsts) → AreWhole firsts → (text : List ℕ) (deck : DeckLines) → parsed text ≡ Ok deck →
-    IsPlainReportOn firsts deck (lines_text (report_lines (run_on firsts deck)))
 
 -- a fault that no deck has
 none_has : {X : Type 0} (d : DeckLines) (f : DeckFault) → Ok d ≡ Err f → X
 none_has d f e = absurd (cc)
 
-module _ (old new : Bay) (before after held holds : Option (List ℕ)) where
+module _ (Output : Task → DeckLines → List ℕ → Type 0) (HasRun : DeckLines → Type 0) (before after held holds : Option (List ℕ)) where
   abbrev pub Says : Status → Option Task → Type 0
-  Says status task = Tells status task old new before after held holds
+  Says status task = TellsBy Output HasRun status task before after held holds
 
   -- of this status, and of this task
   said : {status s : Status} {task t : Option Task} → status ≡ s → task ≡ t → Says status task → Says s t
@@ -48,10 +39,9 @@ module _ (old new : Bay) (before after held holds : Option (List ℕ)) where
 
   -- A run
 
-  abbrev Ran : DeckLines → Type 0
-  Ran d = (text : List ℕ) × (old.spoiled ≡ [] → text ≡ report_of d) × Appends held holds text × RunsAsPromised d × TakesBack d old new
-
-  of_run : (p : DeckLines → Type 0) → ((text : List ℕ) (d : DeckLines) → parsed text ≡ Ok d → Ran d → p d) → Says Reported (Some Run) → OfDeck before after p
+  of_run : (p : DeckLines → Type 0) → ((text : List ℕ) (d : DeckLines) → parsed text ≡ Ok d → IsDoneBy Output HasRun Run d held holds → p d)
+      → Says Reported (Some Run)
+      → OfDeck before after p
   of_run p so told = record {
     text = told.0;
     read = told.1;
@@ -61,25 +51,26 @@ module _ (old new : Bay) (before after held holds : Option (List ℕ)) where
   }
 
   module _ {status : Status} {task : Option Task} (reported : status ≡ Reported) (run : task ≡ Some Run) (told : Says status task) where
-    pub run_reported : old.spoiled ≡ [] → OfDeck before after (λ d. Appends held holds (report_of d))
-    run_reported none =
-        of_run (λ d. Appends held holds (report_of d)) (λ text d read r. subst (Appends held holds) (r.1 none) r.2) (said reported run told)
+    -- its text is the one that it has to be
+    pub run_reported : (report : DeckLines → List ℕ) → ((d : DeckLines) (text : List ℕ) → Output Run d text → text ≡ report d)
+        → OfDeck before after (λ d. Appends held holds (report d))
+    run_reported report is =
+        of_run (λ d. Appends held holds (report d)) (λ text d read r. subst (Appends held holds) (is d r.0 r.1) r.2) (said reported run told)
 
-    -- by the law of the report of a run
-    pub run_plain : ReportIsPlain → old.spoiled ≡ [] → OfDeck before after (ReportsPlainly held holds)
-    run_plain law none =
-        of_run (ReportsPlainly held holds)
+    pub run_plain : (firsts : Firsts) → ((text : List ℕ) (d : DeckLines) → parsed text ≡ Ok d → IsPlainReportOn firsts d (report_on firsts d))
+        → ((d : DeckLines) (text : List ℕ) → Output Run d text → text ≡ report_on firsts d)
+        → OfDeck before after (ReportsPlainlyOn firsts held holds)
+    run_plain firsts plain is =
+        of_run (ReportsPlainlyOn firsts held holds)
         (λ text d read r. record {
           report = r.0;
           written = r.2;
-          plain = subst (IsPlainReport d) (sym (r.1 none)) (law empty_firsts empty_whole text d read);
+          plain = subst (IsPlainReportOn firsts d) (sym (is d r.0 r.1)) (plain text d read);
         }) (said reported run told)
 
-    pub run_promised : OfDeck before after RunsAsPromised
-    run_promised = of_run RunsAsPromised (λ text d read r. r.3) (said reported run told)
-
-    pub run_volumes : OfDeck before after (λ d. TakesBack d old new)
-    run_volumes = of_run (λ d. TakesBack d old new) (λ text d read r. r.4) (said reported run told)
+    -- and so is what is so of a deck that ran
+    pub run_so : (p : DeckLines → Type 0) → ((d : DeckLines) → HasRun d → p d) → OfDeck before after p
+    run_so p so = of_run p (λ text d read r. so d r.3) (said reported run told)
 
   -- The other tasks
 
@@ -89,27 +80,6 @@ module _ (old new : Bay) (before after held holds : Option (List ℕ)) where
   pub deck_checked : {status : Status} {task : Option Task} → status ≡ Reported → task ≡ Some Check → Says status task →
       OfDeck before after (λ d. Appends held holds (canonical d))
   deck_checked reported check told = checked_of (said reported check told)
-
-  summed_by : (seed count : ℕ) (d : DeckLines) → deck_of_seed seed count ≡ d →
-      ((text : List ℕ) × (old.spoiled ≡ [] → text ≡ summary_text (summary_of (run_of d))) × Appends held holds text × RunsAsPromised d × TakesBack d old new) →
-      after ≡ before → SumsUp seed count old new before after held holds
-  summed_by seed count d is done unread = record {
-    unread = unread;
-    promised = subst RunsAsPromised (sym is) done.3;
-    volumes = subst (λ (x : DeckLines). TakesBack x old new) (sym is) done.4;
-    written = λ none. subst (λ (x : DeckLines). Appends held holds (summary_text (summary_of (run_of x)))) (sym is)
-        (subst (Appends held holds) (done.1 none) done.2);
-  }
-
-  same_deck : (d e : DeckLines) (r : Result DeckLines DeckFault) → r ≡ Ok d → r ≡ Ok e → d ≡ e
-  same_deck d e r p q = cc
-
-  summed_of : (seed count : ℕ) → Says Reported (Some (Generate seed count)) → SumsUp seed count old new before after held holds
-  summed_of seed count told = summed_by seed count told.1.0 (same_deck (deck_of_seed seed count) told.1.0 (Ok (deck_of_seed seed count)) refl told.1.1) told.1.2 told.0
-
-  pub deck_summed : {status : Status} {task : Option Task} (seed count : ℕ) → status ≡ Reported → task ≡ Some (Generate seed count) → Says status task →
-      SumsUp seed count old new before after held holds
-  deck_summed seed count reported generate told = summed_of seed count (said reported generate told)
 
   -- Refusals
 
@@ -161,17 +131,67 @@ module _ (old new : Bay) (before after held holds : Option (List ℕ)) where
   pub nothing_written : (status : Status) (task : Option Task) → status ≡ NoMemory → Says status task → holds ≡ held
   nothing_written status task is told = wanting_for task (said is refl told)
 
-  front_of_run : Says WriteFault (Some Run) → WritesFront Run old before after held holds
-  front_of_run told = record { text = told.0; read = told.1; front = told.2 }
-
-  front_of_check : Says WriteFault (Some Check) → WritesFront Check old before after held holds
-  front_of_check told = record { text = told.0; read = told.1; front = told.2 }
-
-  pub front_written : {status : Status} {task : Option Task} (t : Task) → IsRead t → status ≡ WriteFault → task ≡ Some t → Says status task →
-      WritesFront t old before after held holds
-  front_written Run may is of told = front_of_run (said is of told)
-  front_written Check may is of told = front_of_check (said is of told)
-  front_written (Generate seed count) may is of told = absurd may
+  pub front_told : {status : Status} {task : Option Task} (t : Task) → IsRead t → status ≡ WriteFault → task ≡ Some t → Says status task →
+      (text : List ℕ) × Reads before after text × FrontBy Output (parsed text) t held holds
+  front_told Run may is of told = said is of told
+  front_told Check may is of told = said is of told
+  front_told (Generate seed count) may is of told = absurd may
 
   pub usage_told : {status : Status} {task : Option Task} → task ≡ None → Says status task → TellsUsage status before after held holds
   usage_told of told = said refl of told
+
+-- Over a bay of empty volumes in memory
+
+same_deck : (d e : DeckLines) (r : Result DeckLines DeckFault) → r ≡ Ok d → r ≡ Ok e → d ≡ e
+same_deck d e r p q = cc
+
+module _ (old new : Bay) (before after held holds : Option (List ℕ)) where
+  summed_by : (seed count : ℕ) (d : DeckLines) → deck_of_seed seed count ≡ d
+      → IsDoneBy (IsOutput old.spoiled) (Ran old new) (Generate seed count) d held holds
+      → after ≡ before
+      → SumsUp seed count old new before after held holds
+  summed_by seed count d is done unread = record {
+    unread = unread;
+    promised = subst RunsAsPromised (sym is) done.3.promised;
+    volumes = subst (λ (x : DeckLines). TakesBack x old new) (sym is) done.3.volumes;
+    written = λ none. subst (λ (x : DeckLines). Appends held holds (summary_text (summary_of (run_of x)))) (sym is)
+        (subst (Appends held holds) (done.1 none) done.2);
+  }
+
+  summed_of : (seed count : ℕ) → Tells Reported (Some (Generate seed count)) old new before after held holds →
+      SumsUp seed count old new before after held holds
+  summed_of seed count all =
+      summed_by seed count all.1.0 (same_deck (deck_of_seed seed count) all.1.0 (Ok (deck_of_seed seed count)) refl all.1.1) all.1.2 all.0
+
+  module _ {status : Status} {task : Option Task} (told : Tells status task old new before after held holds) where
+    pub empty_reported : status ≡ Reported → task ≡ Some Run → old.spoiled ≡ [] → OfDeck before after (λ d. Appends held holds (report_of d))
+    empty_reported is run none =
+        run_reported (IsOutput old.spoiled) (Ran old new) before after held holds is run told report_of (λ d text out. out none)
+
+    pub empty_promised : status ≡ Reported → task ≡ Some Run → OfDeck before after RunsAsPromised
+    empty_promised is run = run_so (IsOutput old.spoiled) (Ran old new) before after held holds is run told RunsAsPromised (λ d r. r.promised)
+
+    pub empty_volumes : status ≡ Reported → task ≡ Some Run → OfDeck before after (λ d. TakesBack d old new)
+    empty_volumes is run =
+        run_so (IsOutput old.spoiled) (Ran old new) before after held holds is run told (λ d. TakesBack d old new) (λ d r. r.volumes)
+
+    pub empty_summed : (seed count : ℕ) → status ≡ Reported → task ≡ Some (Generate seed count) → SumsUp seed count old new before after held holds
+    empty_summed seed count is generate =
+        summed_of seed count
+        (subst (λ (o : Option Task). Tells Reported o old new before after held holds) generate
+        (subst (λ (x : Status). Tells x task old new before after held holds) is told))
+
+    pub empty_front : (t : Task) → IsRead t → status ≡ WriteFault → task ≡ Some t → WritesFront t old before after held holds
+    empty_front t may is of =
+        let r = front_told (IsOutput old.spoiled) (Ran old new) before after held holds t may is of told in
+        record { text = r.0; read = r.1; front = r.2 }
+
+pub empty_plain : {before after held holds : Option (List ℕ)} → OfDeck before after (ReportsPlainlyOn empty_firsts held holds)
+    → OfDeck before after (ReportsPlainly held holds)
+empty_plain r = record {
+  text = r.text;
+  read = r.read;
+  deck = r.deck;
+  parses = r.parses;
+  is_so = record { report = r.is_so.report; written = r.is_so.written; plain = r.is_so.plain };
+}

@@ -57,11 +57,9 @@ use Rattle.track_image.proofs.Fields.{IsBytes}
 use Rattle.track_image.proofs.Tracks.{reading_takes}
 use Rattle.track_cache.specs.declared.frames.Frame.{Frame}
 use Rattle.nv_store.specs.declared.patches.Stored.{Stored}
-use Rattle.device_outside.specs.declared.bay.Taken.{Taken}
 use Rattle.device_outside.specs.declared.volume.Volume.{Ghosts}
 use Rattle.device_outside.specs.After.{holds_of}
 use Rattle.device_outside.specs.Both as both
-use Rattle.device_outside.specs.Disk.{Disk, disk_view}
 use Rattle.device_outside.specs.Volume.{VolumeView}
 use Rattle.device_defs.specs.Contents.{contents, by_plain, image_with, image_read, patched_by}
 use Rattle.device_defs.specs.Marks.{marks_of, frame_mark}
@@ -86,10 +84,10 @@ use Rattle.deck_text.specs.declared.line.DeviceLine.{DeviceLine}
 use Rattle.subsystem_core.specs.declared.subsystem.Subsystem.{Subsystem}
 use Rattle.subsystem_core.specs.Devices.{numbers_of}
 use Rattle.subsystem_defs.specs.Subsystem as defs
-use Rattle.deck_top.specs.Handed.{IsKnownAs, IsHandedOut, AreHandedOut, HoldsBytes, SidesHoldBytes, on_side, taken_of, all_taken, AllHoldBytes}
+use Rattle.deck_top.specs.Handed.{IsKnownAs, IsHandedBack, AreHandedBack, HoldsBytes, SidesHoldBytes, on_side, taken_of, all_taken, AllHoldBytes}
+use Rattle.deck_top.specs.Bays.{Back, BayView}
 use Rattle.device_store.specs.State.{on_a, on_b}
 use Rattle.deck_run.specs.Sides.{AreAccounted, all_sides, away_here, one_if, sides_of, total, volumes_here}
-use Rattle.device_outside.specs.Bay.{Bay}
 
 -- Of one track
 
@@ -231,16 +229,6 @@ same_tracks (is_mounted d v w h on_a on_b a b order slots told_a told_b) = refl
 few_tracks : (cylinders t : ℕ) → cylinders ≤ 4369 → t < cylinders * 15 → t < 65535
 few_tracks cylinders t most lt = omega (arith, most, lt)
 
-told_tracks : (spoiled : Bool) (tracks held : List (List ℕ)) → (if spoiled then None else Some tracks) ≡ Some held → tracks ≡ held
-told_tracks true tracks held e = absurd (none-some held e)
-told_tracks false tracks held e = same_Some tracks held e
-
-both_handed : (ts us : List Taken) (hs ks : List HandedOut) → AreHandedOut ts hs → AreHandedOut us ks → AreHandedOut (ts ++ us) (hs ++ ks)
-both_handed [] us [] ks one two = two
-both_handed [] us (h ∷ hs) ks one two = absurd one
-both_handed (t ∷ ts) us [] ks one two = absurd one
-both_handed (t ∷ ts) us (h ∷ hs) ks one two = (one.0, both_handed ts us hs ks one.1 two)
-
 first_zero : (m n : ℕ) → m + n ≡ 0 → m ≡ 0
 first_zero m n e = omega (arith, e)
 
@@ -252,141 +240,152 @@ not_there true true e l = absurd (omega (arith, e))
 not_there true false e l = refl
 not_there false there e l = absurd (cc)
 
-module _ {G : Ghosts Disk} (views : (v : Disk) → G.view v ≡ disk_view v) where
-  -- the volume of a side is the one that the run hands out
-  module _ (x : Device Disk G) (m : Mounted) (mine : List ℕ) (is : IsMounted mine (stood_of x) m) (k : Side) (v : Disk) (bytes : HoldsBytes v)
-      (side : SideOf (G.view v) m k) where
-    tracks_are : v.tracks ≡ side.held
-    tracks_are =
-        told_tracks v.spoiled v.tracks side.held (ap (λ (y : VolumeView (List ℕ)). y.contents) (sym (views v)) ∙ side.told)
+both_handed : {V : Type 0} (view : V → VolumeView (List ℕ)) (ts us : List (Back V)) (hs ks : List HandedOut) → AreHandedBack view ts hs
+    → AreHandedBack view us ks
+    → AreHandedBack view (ts ++ us) (hs ++ ks)
+both_handed view [] us [] ks one two = two
+both_handed view [] us (h ∷ hs) ks one two = absurd one
+both_handed view (t ∷ ts) us [] ks one two = absurd one
+both_handed view (t ∷ ts) us (h ∷ hs) ks one two = (one.0, both_handed view ts us hs ks one.1 two)
 
+module _ {V : Type 0} {G : Ghosts V} where
+  -- the volume of a side is the one that the run hands out
+  module _ (x : Device V G) (m : Mounted) (mine : List ℕ) (is : IsMounted mine (stood_of x) m) (k : Side) (v : V) (bytes : HoldsBytes (G.view v))
+      (side : SideOf (G.view v) m k) where
     track_known : (n : ℕ) → (n < tracks_of m.device.store) ⊎ (tracks_of m.device.store ≤ n) →
-        IsKnownAs (get_or v.tracks n []) (get_or (handed_side m k).tracks n None)
+        IsKnownAs (get_or side.held n []) (get_or (handed_side m k).tracks n None)
     track_known n (inl lt) =
         let known = known_bytes m.device.store k in
         let number = tracks_of m.device.store in
         let within : n < x.store.cylinders * 15 = subst (λ (i : ℕ). n < i) (same_tracks is) lt in
-        let own : IsBytes (get_or v.tracks n []) = λ i. bytes n i (few_tracks x.store.cylinders n x.store.most within) in
-        subst (λ (o : Option (List ℕ)). IsKnownAs (get_or v.tracks n []) o)
+        let own : IsBytes (get_or side.held n []) = λ i. bytes side.held side.told n i (few_tracks x.store.cylinders n x.store.most within) in
+        subst (λ (o : Option (List ℕ)). IsKnownAs (get_or side.held n []) o)
         (sym (get_or-map-range_with_len known 0 number n n None lt (omega arith)))
-        (subst (λ (l : List (List ℕ)). IsKnownAs (get_or l n []) (known n)) (sym tracks_are)
-        (side.known n lt (subst (λ (l : List (List ℕ)). IsBytes (get_or l n [])) tracks_are own)))
+        (side.known n lt own)
     track_known n (inr past) =
         let known = known_bytes m.device.store k in
         let number = tracks_of m.device.store in
-        subst (λ (o : Option (List ℕ)). IsKnownAs (get_or v.tracks n []) o)
+        subst (λ (o : Option (List ℕ)). IsKnownAs (get_or side.held n []) o)
         (sym (get_or_past (map known (range_with_len 0 number)) n None (subst (λ (i : ℕ). i ≤ n) (sym (length-map-range_with_len known 0 number)) past)))
         tt
 
-    one_handed : IsHandedOut (record { device = x.store.number; side = k; volume = v }) (handed_side m k)
+    one_handed : IsHandedBack G.view (record { device = x.store.number; side = k; volume = v }) (handed_side m k)
     one_handed = record {
       device = sym (same_number is);
       side = refl;
-      reads = ap (λ (y : VolumeView (List ℕ)). y.reads) (sym (views v)) ∙ side.reads;
-      writes = ap (λ (y : VolumeView (List ℕ)). y.writes) (sym (views v)) ∙ side.writes;
+      reads = side.reads;
+      writes = side.writes;
+      held = side.held;
+      told = side.told;
       tracks = λ n. track_known n (cases_lt n (tracks_of m.device.store));
     }
 
   -- of a device
-  module _ (x : Device Disk G) (m : Mounted) (mine : List ℕ) (is : IsMounted mine (stood_of x) m) where
-    sides_handed : (free : is_some x.store.pair.lent ≡ false) (a b : Option Disk) → on_a x.store ≡ a → on_b x.store ≡ b → is_some a ≡ true →
-        IfSome a HoldsBytes → IfSome b HoldsBytes →
-        AreHandedOut (on_side x.store.number A a ++ on_side x.store.number B b) (handed_by m false (is_some b))
+  module _ (x : Device V G) (m : Mounted) (mine : List ℕ) (is : IsMounted mine (stood_of x) m) where
+    sides_handed : (free : is_some x.store.pair.lent ≡ false) (a b : Option V) → on_a x.store ≡ a → on_b x.store ≡ b → is_some a ≡ true →
+        IfSome a (λ v. HoldsBytes (G.view v)) → IfSome b (λ v. HoldsBytes (G.view v)) →
+        AreHandedBack G.view (on_side x.store.number A a ++ on_side x.store.number B b) (handed_by m false (is_some b))
     sides_handed free None b at_a at_b there one two = absurd (cc)
     sides_handed free (Some v) None at_a at_b there one two =
-        (one_handed x m mine is A v one (side_of_a is (G.view v) (ap (λ (o : Option Disk). option_map G.view o) at_a) free), tt)
+        (one_handed x m mine is A v one (side_of_a is (G.view v) (ap (λ (o : Option V). option_map G.view o) at_a) free), tt)
     sides_handed free (Some v) (Some w) at_a at_b there one two = (
-      one_handed x m mine is A v one (side_of_a is (G.view v) (ap (λ (o : Option Disk). option_map G.view o) at_a) free),
-      (one_handed x m mine is B w two (side_of_b is (G.view w) (ap (λ (o : Option Disk). option_map G.view o) at_b) free), tt),
+      one_handed x m mine is A v one (side_of_a is (G.view v) (ap (λ (o : Option V). option_map G.view o) at_a) free),
+      (one_handed x m mine is B w two (side_of_b is (G.view w) (ap (λ (o : Option V). option_map G.view o) at_b) free), tt),
     )
 
-    gone_handed : (a b : Option Disk) → is_some a ≡ false → is_some b ≡ false →
-        AreHandedOut (on_side x.store.number A a ++ on_side x.store.number B b) (handed_by m true (is_some b))
+    gone_handed : (a b : Option V) → is_some a ≡ false → is_some b ≡ false →
+        AreHandedBack G.view (on_side x.store.number A a ++ on_side x.store.number B b) (handed_by m true (is_some b))
     gone_handed None None none no_b = tt
     gone_handed None (Some w) none no_b = absurd (cc)
     gone_handed (Some v) b none no_b = absurd (cc)
 
     device_by : (lent : Bool) → is_some x.store.pair.lent ≡ lent → away_here (sides_of x) ≡ 0 → SidesHoldBytes x →
-        AreHandedOut (taken_of x) (handed_by m lent (is_some (on_b x.store)))
+        AreHandedBack G.view (taken_of x) (handed_by m lent (is_some (on_b x.store)))
     device_by true gone away bytes =
         gone_handed (on_a x.store) (on_b x.store) (not_there (is_some x.store.pair.lent) (is_some (on_a x.store)) away gone) (away_single is gone)
     device_by false free away bytes = sides_handed free (on_a x.store) (on_b x.store) refl refl (x.store.pair.home free) bytes.0 bytes.1
 
     device_handed : away_here (sides_of x) ≡ 0 → SidesHoldBytes x →
-        AreHandedOut (taken_of x) (handed_by m (is_some m.device.store.lent) m.device.store.paired)
+        AreHandedBack G.view (taken_of x) (handed_by m (is_some m.device.store.lent) m.device.store.paired)
     device_handed away bytes =
-        subst (λ (o : Option ℕ). AreHandedOut (taken_of x) (handed_by m (is_some o) m.device.store.paired)) (sym (same_lent is))
-        (subst (λ (b : Bool). AreHandedOut (taken_of x) (handed_by m (is_some x.store.pair.lent) b)) (sym (same_paired is))
+        subst (λ (o : Option ℕ). AreHandedBack G.view (taken_of x) (handed_by m (is_some o) m.device.store.paired)) (sym (same_lent is))
+        (subst (λ (b : Bool). AreHandedBack G.view (taken_of x) (handed_by m (is_some x.store.pair.lent) b)) (sym (same_paired is))
         (device_by (is_some x.store.pair.lent) refl away bytes))
 
-  handed_by_each : (used taken : List ℕ) (xs : List (Device Disk G)) (ms : List Mounted) → AllHoldBytes xs → total away_here (all_sides xs) ≡ 0 →
-      AreMountedBy used taken (all_stood xs) ms → AreHandedOut (all_taken xs) (handed_of ms)
+  handed_by_each : (used taken : List ℕ) (xs : List (Device V G)) (ms : List Mounted) → AllHoldBytes xs → total away_here (all_sides xs) ≡ 0 →
+      AreMountedBy used taken (all_stood xs) ms → AreHandedBack G.view (all_taken xs) (handed_of ms)
   unfolding closing.handed_of
   handed_by_each used taken [] [] bytes away (no_more within) = tt
   handed_by_each used taken [] (m ∷ ms) bytes away are = elim are [ ]
   handed_by_each used taken (x ∷ xs) [] bytes away are = elim are [ ]
   handed_by_each used taken (x ∷ xs) (m ∷ ms) bytes away (one_more mine is apart rest) =
-      both_handed (taken_of x) (all_taken xs) (handed_by m (is_some m.device.store.lent) m.device.store.paired) (handed_of ms)
+      both_handed G.view (taken_of x) (all_taken xs) (handed_by m (is_some m.device.store.lent) m.device.store.paired) (handed_of ms)
       (device_handed x m mine is (first_zero (away_here (sides_of x)) (total away_here (all_sides xs)) away) bytes.0)
       (handed_by_each used (mine ++ taken) xs ms bytes.1 (rest_zero (away_here (sides_of x)) (total away_here (all_sides xs)) away) rest)
 
   -- so are those of a subsystem that stands as a run has it
-  pub all_handed : (s : Subsystem Disk G) (run : defs.Subsystem) → AllHoldBytes s.devices.items → AreAccounted (all_sides s.devices.items) → StandsAs s run →
-      AreHandedOut (all_taken s.devices.items) (handed_out run)
+  pub all_handed : (s : Subsystem V G) (run : defs.Subsystem) → AllHoldBytes s.devices.items → AreAccounted (all_sides s.devices.items) → StandsAs s run →
+      AreHandedBack G.view (all_taken s.devices.items) (handed_out run)
   all_handed s run bytes accounted stands =
       handed_by_each s.pool.pool.used [] s.devices.items run.mounted bytes accounted.away stands.mounted
 
 -- How many they are
 
-one_long : (n : ℕ) (side : Side) (o : Option Disk) → length (on_side n side o) ≡ one_if (is_some o)
+one_long : {V : Type 0} (n : ℕ) (side : Side) (o : Option V) → length (on_side n side o) ≡ one_if (is_some o)
 one_long n side None = refl
 one_long n side (Some v) = refl
 
-pub taken_long : {G : Ghosts Disk} (x : Device Disk G) → length (taken_of x) ≡ volumes_here (sides_of x)
+pub taken_long : {V : Type 0} {G : Ghosts V} (x : Device V G) → length (taken_of x) ≡ volumes_here (sides_of x)
 taken_long x =
     length-append (on_side x.store.number A (on_a x.store)) (on_side x.store.number B (on_b x.store))
     ∙ ap (λ (k : ℕ). k + length (on_side x.store.number B (on_b x.store))) (one_long x.store.number A (on_a x.store))
     ∙ ap (λ (k : ℕ). one_if (is_some (on_a x.store)) + k) (one_long x.store.number B (on_b x.store))
 
-all_long : {G : Ghosts Disk} (xs : List (Device Disk G)) → length (all_taken xs) ≡ total volumes_here (all_sides xs)
+all_long : {V : Type 0} {G : Ghosts V} (xs : List (Device V G)) → length (all_taken xs) ≡ total volumes_here (all_sides xs)
 all_long [] = refl
 all_long (x ∷ xs) =
     length-append (taken_of x) (all_taken xs) ∙ ap (λ (k : ℕ). k + length (all_taken xs)) (taken_long x)
     ∙ ap (λ (k : ℕ). volumes_here (sides_of x) + k) (all_long xs)
 
 -- as many as there are devices
-pub all_number : {G : Ghosts Disk} (xs : List (Device Disk G)) (ds : List DeviceLine) → AreAccounted (all_sides xs) → numbers_of xs ≡ numbers_in ds →
+pub all_number : {V : Type 0} {G : Ghosts V} (xs : List (Device V G)) (ds : List DeviceLine) → AreAccounted (all_sides xs) → numbers_of xs ≡ numbers_in ds →
     length (all_taken xs) ≡ length ds
-all_number {G = G} xs ds accounted are =
-    all_long xs ∙ accounted.volumes ∙ length-map xs sides_of ∙ sym (length-map xs (λ (x : Device Disk G). x.store.number))
+all_number {V} {G = G} xs ds accounted are =
+    all_long xs ∙ accounted.volumes ∙ length-map xs sides_of ∙ sym (length-map xs (λ (x : Device V G). x.store.number))
     ∙ ap (λ (l : List ℕ). length l) are ∙ length-map ds (λ (d : DeviceLine). d.number)
 
-pub taken_more : {G : Ghosts Disk} (all xs : List (Device Disk G)) (x : Device Disk G) → all ≡ xs ++ x ∷ [] → all_taken all ≡ all_taken xs ++ taken_of x
-taken_more {G = G} all xs x is = ap (λ (l : List (Device Disk G)). all_taken l) is ∙ go xs
+pub taken_more : {V : Type 0} {G : Ghosts V} (all xs : List (Device V G)) (x : Device V G) → all ≡ xs ++ x ∷ [] → all_taken all ≡ all_taken xs ++ taken_of x
+taken_more {V} {G = G} all xs x is = ap (λ (l : List (Device V G)). all_taken l) is ∙ go xs
   where
-    go : (ys : List (Device Disk G)) → all_taken (ys ++ x ∷ []) ≡ all_taken ys ++ taken_of x
+    go : (ys : List (Device V G)) → all_taken (ys ++ x ∷ []) ≡ all_taken ys ++ taken_of x
     go [] = append-nil (taken_of x)
-    go (y ∷ ys) = ap (λ (l : List Taken). taken_of y ++ l) (go ys) ∙ sym (append_assoc (taken_of y) (all_taken ys) (taken_of x))
+    go (y ∷ ys) = ap (λ (l : List (Back V)). taken_of y ++ l) (go ys) ∙ sym (append_assoc (taken_of y) (all_taken ys) (taken_of x))
 
-pub held_more : {G : Ghosts Disk} (all xs : List (Device Disk G)) (x : Device Disk G) → all ≡ xs ++ x ∷ [] → AllHoldBytes xs → SidesHoldBytes x
+pub held_more : {V : Type 0} {G : Ghosts V} (all xs : List (Device V G)) (x : Device V G) → all ≡ xs ++ x ∷ [] → AllHoldBytes xs → SidesHoldBytes x
     → AllHoldBytes all
-held_more {G = G} all xs x is hold holds = subst AllHoldBytes (sym is) (go xs hold)
+held_more {V} {G = G} all xs x is hold holds = subst AllHoldBytes (sym is) (go xs hold)
   where
-    go : (ys : List (Device Disk G)) → AllHoldBytes ys → AllHoldBytes (ys ++ x ∷ [])
+    go : (ys : List (Device V G)) → AllHoldBytes ys → AllHoldBytes (ys ++ x ∷ [])
     go [] h = (holds, tt)
     go (y ∷ ys) h = (h.0, go ys h.1)
 
 -- A bay that takes some volumes and then others
 
-pub both_given : (b c d : Bay) (ts us : List Taken) → c ≡ record b { taken = b.taken ++ ts } → d ≡ record c { taken = c.taken ++ us } →
-    d ≡ record b { taken = b.taken ++ (ts ++ us) }
-both_given b c d ts us one two =
-    two ∙ ap (λ (x : Bay). record x { taken = x.taken ++ us }) one ∙ ap (λ (l : List Taken). record b { taken = l }) (append_assoc b.taken ts us)
+pub taken_behind : {V : Type 0} (a b c : BayView V) (ts : List (Back V)) → a.taken ≡ b.taken → c ≡ record b { taken = b.taken ++ ts } → c.taken ≡ a.taken ++ ts
+taken_behind {V} a b c ts same is =
+    ap (λ (x : BayView V). x.taken) is ∙ ap (λ (l : List (Back V)). l ++ ts) (sym same)
 
-pub room_one : (b : Bay) (ts us : List Taken) → length b.taken + length (ts ++ us) ≤ b.made → length b.taken + length ts ≤ b.made
-room_one b ts us room = omega (arith, room, length-append ts us)
+module _ {V : Type 0} (b : BayView V) (all ts us : List (Back V)) (parts : all ≡ ts ++ us) where
+  pub both_given : (c d : BayView V) → c ≡ record b { taken = b.taken ++ ts } → d ≡ record c { taken = c.taken ++ us } →
+      d ≡ record b { taken = b.taken ++ all }
+  both_given c d one two =
+      two ∙ ap (λ (x : BayView V). record x { taken = x.taken ++ us }) one ∙ ap (λ (l : List (Back V)). record b { taken = l }) (append_assoc b.taken ts us)
+      ∙ ap (λ (l : List (Back V)). record b { taken = b.taken ++ l }) (sym parts)
 
-pub room_two : (b c : Bay) (ts us : List Taken) → c ≡ record b { taken = b.taken ++ ts } → length b.taken + length (ts ++ us) ≤ b.made →
-    length c.taken + length us ≤ c.made
-room_two b c ts us is room =
-    subst (λ (x : Bay). length x.taken + length us ≤ x.made) (sym is) (omega (arith, room, length-append ts us, length-append b.taken ts))
+  pub room_one : length b.taken + length all ≤ b.made → length b.taken + length ts ≤ b.made
+  room_one room = omega (arith, room, ap length parts, length-append ts us)
+
+  pub room_two : (c : BayView V) → c ≡ record b { taken = b.taken ++ ts } → length b.taken + length all ≤ b.made → length c.taken + length us ≤ c.made
+  room_two c is room =
+      subst (λ (x : BayView V). length x.taken + length us ≤ x.made) (sym is)
+      (omega (arith, room, ap length parts, length-append ts us, length-append b.taken ts))

@@ -1,6 +1,11 @@
 pub mod Complete
 pub mod HandedBack
 pub mod Facts
+pub mod OverBays
+pub mod EmptyBays
+pub mod FaultLines
+pub mod HandedOut
 pub mod Summed
+pub mod Told
 pub mod Words
 pub mod Written

@@ -27,7 +27,7 @@ use Rattle.device_laws.proofs.Lucky.{top}
 use Rattle.subsystem_core.specs.Devices.{numbers_of}
 use Rattle.subsystem_core.specs.declared.subsystem.Subsystem.{Subsystem}
 use Rattle.subsystem_defs.specs.Closing.{Counted, DeviceEnd, RunEnding, LentTo, ending}
-use Rattle.subsystem_defs.specs.Decks.{empty_firsts, DeckRun, run_of}
+use Rattle.subsystem_defs.specs.Decks.{DeckRun, Firsts, run_on}
 use Rattle.subsystem_defs.specs.Subsystem.{Mounted, devices_of}
 use Rattle.subsystem_laws.proofs.CalmRuns.{AllSo}
 use Rattle.subsystem_laws.proofs.FailedCalls.{read_run_reads_few, read_run_writes_few}
@@ -187,22 +187,22 @@ module _ {V : Type 0} {G : Ghosts V} where
   device_many xs ds are =
       sym (length-map xs (λ (x : Device V G). x.store.number)) ∙ ap (λ (l : List ℕ). length l) are ∙ length-map ds (λ (d : DeviceLine). d.number)
 
-  module _ (s : Subsystem V G) (deck : DeckLines) (text : List ℕ) (read : parsed text ≡ Ok deck) (stands : StandsAs s (run_of deck).behind)
+  module _ (s : Subsystem V G) (firsts : Firsts) (deck : DeckLines) (text : List ℕ) (read : parsed text ≡ Ok deck) (stands : StandsAs s (run_on firsts deck).behind)
       (numbers : numbers_of s.devices.items ≡ numbers_in deck.devices) where
-    known : AreKnown (all_stood s.devices.items) (run_of deck).behind.mounted
-    known = all_known (all_stood s.devices.items) (run_of deck).behind.mounted stands.mounted
+    known : AreKnown (all_stood s.devices.items) (run_on firsts deck).behind.mounted
+    known = all_known (all_stood s.devices.items) (run_on firsts deck).behind.mounted stands.mounted
 
     total_known : (f : Device V G → ℕ) (g : MarksDevice → ℕ) → ((x : Device V G) (m : Mounted) → IsKnown (stood_of x) m → f x ≡ g m.device) →
-        sum_by f s.devices.items ≤ top → total f s.devices.items ≡ sum_by g (devices_of (run_of deck).behind)
-    total_known f g same le = total_is f s.devices.items le ∙ sums_known f g same s.devices.items (run_of deck).behind.mounted known
+        sum_by f s.devices.items ≤ top → total f s.devices.items ≡ sum_by g (devices_of (run_on firsts deck).behind)
+    total_known f g same le = total_is f s.devices.items le ∙ sums_known f g same s.devices.items (run_on firsts deck).behind.mounted known
 
     few_calls : (f : Device V G → ℕ) (g : MarksDevice → ℕ) → ((x : Device V G) (m : Mounted) → IsKnown (stood_of x) m → f x ≡ g m.device) →
-        AllSo (λ (d : MarksDevice). g d ≤ 1033065725952) (devices_of (run_of deck).behind) → sum_by f s.devices.items ≤ top
+        AllSo (λ (d : MarksDevice). g d ≤ 1033065725952) (devices_of (run_on firsts deck).behind) → sum_by f s.devices.items ≤ top
     few_calls f g same all =
-        let ds = devices_of (run_of deck).behind in
-        subst (λ (n : ℕ). n ≤ top) (sym (sums_known f g same s.devices.items (run_of deck).behind.mounted known))
+        let ds = devices_of (run_on firsts deck).behind in
+        subst (λ (n : ℕ). n ≤ top) (sym (sums_known f g same s.devices.items (run_on firsts deck).behind.mounted known))
         (calls_few (sum_by g ds) (length ds) (length deck.devices) (sum_few g 1033065725952 ds all)
-        (as_many s.devices.items (run_of deck).behind.mounted known ∙ device_many s.devices.items deck.devices numbers) (read_few_devices text deck read))
+        (as_many s.devices.items (run_on firsts deck).behind.mounted known ∙ device_many s.devices.items deck.devices numbers) (read_few_devices text deck read))
 
     lost_few : sum_by lost_in s.devices.items ≤ top
     lost_few =
@@ -215,18 +215,18 @@ module _ {V : Type 0} {G : Ghosts V} where
     same_writes : (x : Device V G) (m : Mounted) → IsKnown (stood_of x) m → writes_in x ≡ m.device.store.counts.writes
     same_writes x m k = sym (ap (λ (c : Counts). c.writes) k.counts)
 
-    pub summary_is : (counts : LineCounts) → counts ≡ counts_of (lines_of_run (run_of deck)) →
-        summary_by counts (sums_of s.devices.items) ≡ summary_of (run_of deck)
+    pub summary_is : (counts : LineCounts) → counts ≡ counts_of (lines_of_run (run_on firsts deck)) →
+        summary_by counts (sums_of s.devices.items) ≡ summary_of (run_on firsts deck)
     summary_is counts is =
         let xs = s.devices.items in
-        let told = counts_of (lines_of_run (run_of deck)) in
-        let all = summary_of (run_of deck) in
+        let told = counts_of (lines_of_run (run_on firsts deck)) in
+        let all = summary_of (run_on firsts deck) in
         ap (λ (k : LineCounts). summary_by k (sums_of xs)) is
         ∙ ap (λ (n : ℕ). summary_by told (record { reads = n; writes = total writes_in xs; lost = total lost_in xs }))
         (total_known reads_in (λ (d : MarksDevice). d.store.counts.reads) same_reads
-        (few_calls reads_in (λ (d : MarksDevice). d.store.counts.reads) same_reads (read_run_reads_few empty_firsts text deck read)))
+        (few_calls reads_in (λ (d : MarksDevice). d.store.counts.reads) same_reads (read_run_reads_few firsts text deck read)))
         ∙ ap (λ (n : ℕ). summary_by told (record { reads = all.reads; writes = n; lost = total lost_in xs }))
         (total_known writes_in (λ (d : MarksDevice). d.store.counts.writes) same_writes
-        (few_calls writes_in (λ (d : MarksDevice). d.store.counts.writes) same_writes (read_run_writes_few empty_firsts text deck read)))
+        (few_calls writes_in (λ (d : MarksDevice). d.store.counts.writes) same_writes (read_run_writes_few firsts text deck read)))
         ∙ ap (λ (n : ℕ). summary_by told (record { reads = all.reads; writes = all.writes; lost = n }))
         (total_known lost_in (λ (d : MarksDevice). count_lost d.store.lost) (λ x m k. ap count_lost (sym k.lost)) lost_few)

@@ -1,5 +1,5 @@
 -- What the top call says, one fact a clause. Held and holds are what the sink got, before and after; before and after are what the source has left.
-use Rattle.std.specs.Prelude.{◌≡◌, ℕ, List, [], Option, Ok, Err, Result}
+use Rattle.std.specs.Prelude.{◌≡◌, ℕ, List, [], Option, Ok, Err}
 use Rattle.std.specs.Io.KnownBytes.{Appends}
 use Rattle.deck_gen.specs.Generated.{deck_of_seed}
 use Rattle.deck_text.specs.DeckLines.{DeckLines}
@@ -7,9 +7,9 @@ use Rattle.deck_text.specs.declared.line.DeckFault.{DeckFault}
 use Rattle.deck_text.specs.Parse.{parsed}
 use Rattle.device_outside.specs.Bay.{Bay}
 use Rattle.report_text.specs.Summary.{summary_text}
-use Rattle.run_report.specs.Plainly.{IsPlainReport}
+use Rattle.run_report.specs.Plainly.{IsPlainReport, IsPlainReportOn}
 use Rattle.run_report.specs.Summed.{summary_of}
-use Rattle.subsystem_defs.specs.Decks.{run_of}
+use Rattle.subsystem_defs.specs.Decks.{Firsts, run_of}
 use Rattle.deck_top.specs.declared.task.Task.{Task}
 use Rattle.deck_top.specs.declared.task.Task.TheVariants.{Generate}
 use Rattle.deck_top.specs.Answers.{Reads, FrontOf, RunsAsPromised}
@@ -30,7 +30,13 @@ pub record IsRefused (fault : DeckFault) (why : List ℕ) (before after held hol
   pub refused : parsed text ≡ Err fault
   pub written : Appends held holds why
 
--- the sink got a report, which shows of each device of the deck the programs of a plain device
+-- the sink got a report, which shows of each device of the deck the programs of a plain device, on a volume that held these tracks first
+pub record ReportsPlainlyOn (firsts : Firsts) (held holds : Option (List ℕ)) (deck : DeckLines) : Type 0 where
+  pub report : List ℕ
+  pub written : Appends held holds report
+  pub plain : IsPlainReportOn firsts deck report
+
+-- on an empty one
 pub record ReportsPlainly (held holds : Option (List ℕ)) (deck : DeckLines) : Type 0 where
   pub report : List ℕ
   pub written : Appends held holds report

@@ -1,3 +1,4 @@
+pub mod Bays
 pub mod Handed
 pub mod Answers
 pub mod Summing

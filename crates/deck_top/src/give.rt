@@ -1,61 +1,35 @@
 //! The volumes of a run, given to the bay.
 
-ghost use Rattle.std.specs.Prelude.{◌≡◌, ◌<◌, ◌≤◌, ◌+◌, ◌++◌, [], ℕ, IfSome, length, slice_index_or};
+ghost use Rattle.std.specs.Prelude.{◌≡◌, ◌≤◌, ◌+◌, ◌++◌, IfSome, length};
 ghost use Rattle.deck_top.specs.Handed.{HoldsBytes, SidesHoldBytes, AllHoldBytes, on_side, taken_of, all_taken};
 
-use ckd_types::{DeviceNo, Side, TrackNo};
+use crate::bay::VolumeBay;
+use ckd_types::{DeviceNo, Side};
 use device_core::Device;
-use device_outside::{MemBay, MemVolume, Taken};
+use device_outside::Volume;
 use subsystem_core::Subsystem;
 
-/// As many tracks as a device has at most.
-const MOST_TRACKS: u16 = 65535;
-
-fn are_bytes(bytes: &[u8])
-    ensures { (i : ℕ) → slice_index_or bytes.now i 0 < 256 }
-{
-    let _bytes = bytes;
-}
-
-fn track_holds_bytes(volume: &MemVolume, t: u16)
-    requires { t < 65535 }
-    ensures { (i : ℕ) → slice_index_or (slice_index_or volume.now.tracks t []) i 0 < 256 }
-{
-    if usize::from(t) < volume.len() {
-        are_bytes(volume.track(TrackNo::new(t).unwrap()));
-    }
-}
-
-/// What a volume holds are bytes.
-fn holds_bytes(volume: &MemVolume)
-    ensures { HoldsBytes volume.now }
-{
-    for t in 0..MOST_TRACKS {
-        track_holds_bytes(volume, t);
-    }
-}
-
 /// The volume of a side, where one stands.
-fn give_side(number: DeviceNo, side: Side, volume: Option<MemVolume>, bay: &mut MemBay)
-    requires { length bay.old.taken + length (on_side number side volume) ≤ bay.old.made }
-    ensures bay { bay.new ≡ record bay.old { taken = bay.old.taken ++ on_side number side volume } }
-    ensures bytes { IfSome volume HoldsBytes }
+fn give_side<V: Volume, B: VolumeBay<V>>(
+    number: DeviceNo,
+    side: Side,
+    volume: Option<V>,
+    bay: &mut B,
+)
+    requires { length (B.view bay.old).taken + length (on_side number side volume) ≤ (B.view bay.old).made }
+    ensures bay { B.view bay.new ≡ record (B.view bay.old) { taken = (B.view bay.old).taken ++ on_side number side volume } }
+    ensures bytes { IfSome volume (λ v. HoldsBytes (V.view v)) }
 {
     let Some(volume) = volume else {
         return;
     };
-    holds_bytes(&volume);
-    bay.back(Taken {
-        device: number,
-        side,
-        volume,
-    });
+    bay.take_back(number, side, volume);
 }
 
 /// The volumes of a device.
-fn give_device(device: Device<MemVolume>, bay: &mut MemBay)
-    requires { length bay.old.taken + length (taken_of device) ≤ bay.old.made }
-    ensures bay { bay.new ≡ record bay.old { taken = bay.old.taken ++ taken_of device } }
+fn give_device<V: Volume, B: VolumeBay<V>>(device: Device<V>, bay: &mut B)
+    requires { length (B.view bay.old).taken + length (taken_of device) ≤ (B.view bay.old).made }
+    ensures bay { B.view bay.new ≡ record (B.view bay.old) { taken = (B.view bay.old).taken ++ taken_of device } }
     ensures bytes { SidesHoldBytes device }
 {
     let number = device.number();
@@ -65,9 +39,9 @@ fn give_device(device: Device<MemVolume>, bay: &mut MemBay)
 }
 
 /// Those of some devices, the first one's first.
-fn give_devices(mut devices: Vec<Device<MemVolume>>, bay: &mut MemBay)
-    requires { length bay.old.taken + length (all_taken devices.items) ≤ bay.old.made }
-    ensures bay { bay.new ≡ record bay.old { taken = bay.old.taken ++ all_taken devices.items } }
+fn give_devices<V: Volume, B: VolumeBay<V>>(mut devices: Vec<Device<V>>, bay: &mut B)
+    requires { length (B.view bay.old).taken + length (all_taken devices.items) ≤ (B.view bay.old).made }
+    ensures bay { B.view bay.new ≡ record (B.view bay.old) { taken = (B.view bay.old).taken ++ all_taken devices.items } }
     ensures bytes { AllHoldBytes devices.items }
 {
     let Some(device) = devices.pop() else {
@@ -78,9 +52,9 @@ fn give_devices(mut devices: Vec<Device<MemVolume>>, bay: &mut MemBay)
 }
 
 /// The volumes that stand in the devices, by rising number.
-pub(crate) fn give_back(sub: Subsystem<MemVolume>, bay: &mut MemBay)
-    requires { length bay.old.taken + length (all_taken sub.devices.items) ≤ bay.old.made }
-    ensures bay { bay.new ≡ record bay.old { taken = bay.old.taken ++ all_taken sub.devices.items } }
+pub(crate) fn give_back<V: Volume, B: VolumeBay<V>>(sub: Subsystem<V>, bay: &mut B)
+    requires { length (B.view bay.old).taken + length (all_taken sub.devices.items) ≤ (B.view bay.old).made }
+    ensures bay { B.view bay.new ≡ record (B.view bay.old) { taken = (B.view bay.old).taken ++ all_taken sub.devices.items } }
     ensures bytes { AllHoldBytes sub.devices.items }
 {
     let (_pool, all) = sub.into_parts();

@@ -6,7 +6,7 @@ ghost use Rattle.report_text.specs.Counting.{counts_of};
 ghost use Rattle.deck_top.specs.Summing.{added, sums_of, summary_by};
 
 use device_core::Device;
-use device_outside::{MemVolume, Volume};
+use device_outside::Volume;
 use loss_model::LostList;
 use report_text::{RunRecord, Summary};
 use subsystem_core::Subsystem;
@@ -51,7 +51,7 @@ fn sums_of<V: Volume>(devices: &[Device<V>]) -> Sums
 }
 
 /// What the lines of a run and its devices come to.
-pub(crate) fn summary_of(report: &RunRecord, sub: &Subsystem<MemVolume>) -> Summary
+pub(crate) fn summary_of<V: Volume>(report: &RunRecord, sub: &Subsystem<V>) -> Summary
     ensures { result ≡ summary_by (counts_of report.now) (sums_of sub.now.devices.items) }
 {
     let counts = report.counts();

@@ -1,30 +1,22 @@
-ghost use Rattle.std.specs.Prelude.{◌≡◌, ◌≢◌, ◌⊎◌, ◌≤◌, IfSome, Ok, Err, Some, None, [], false, map, List, ℕ};
+ghost use Rattle.std.specs.Prelude.{◌≡◌, ◌≢◌, ◌⊎◌, IfSome, Ok, Some, None, [], false, map, List, ℕ};
 ghost use Rattle.std.specs.Io.KnownBytes.{Appends};
 ghost use Rattle.ckd_outside.specs.Causes.{Rose, HasCause};
-ghost use Rattle.ckd_outside.specs.Texts.{Writes, AppendsFront};
+ghost use Rattle.ckd_outside.specs.Texts.{Writes};
 ghost use Rattle.deck_text.specs.DeckLines.{DeckLines};
-ghost use Rattle.device_outside.specs.Bay.{Bay};
 ghost use Rattle.deck_text.specs.Parse.{parsed};
-ghost use Rattle.deck_run.specs.Opening.{WasRead};
-ghost use Rattle.deck_gen.specs.Generated.{deck_of_seed};
 ghost use Rattle.deck_text.specs.Canonical.{canonical};
 ghost use Rattle.deck_text.specs.Texts.{limit_text, refused_text};
 ghost use Rattle.run_report.specs.Report.{report_of};
-ghost use Rattle.deck_top.specs.Answers.{code_of, is_run, task_of, usage_text, IsServed, RunsAsPromised, WriteFaultHasCause};
-ghost use Rattle.deck_top.specs.Answers.{TellsDeck, TellsRead, TellsTask, TellsUsage, Tells};
+ghost use Rattle.deck_top.specs.Answers.{code_of, is_run, task_of, usage_text, RunsAsPromised, WriteFaultHasCause};
+ghost use Rattle.deck_top.specs.Answers.{TellsUsage, Tells};
 ghost use Rattle.deck_top.specs.Facts.{IsRead, IsRefused, OfDeck, ReportsPlainly, SumsUp, WritesFront};
 ghost use Rattle.deck_top.specs.Handed.{TakesBack};
 
-use crate::report::report;
-use crate::summary::summarize;
-use crate::task::{Task, task_of};
-use ckd_outside::{Failed, Piece, ReadError, Sink, Source, read_up_to};
-use deck_gen::{generate, reads_back};
-use deck_text::{
-    Deck, DeckFault, DeckWhy, Which, read_deck, write_deck, write_limit, write_line, write_refused,
-};
+use crate::serve::deck_top_on;
+use crate::task::Task;
+use ckd_outside::{Failed, Piece, Sink, Source};
+use deck_text::{DeckFault, DeckWhy, Which, write_line};
 use device_outside::MemBay;
-use run_report::report_on_volumes_is_plain;
 use std::alloc::Global;
 
 /// How the program ends.
@@ -83,178 +75,6 @@ pub fn write_usage<K: Sink>(sink: &mut K) -> Result<(), Failed>
 {
     let pieces = [Piece::Text(b"usage: run, check, paths, generate SEED COUNT\n")];
     write_line(sink, &pieces)
-}
-
-fn refuse<K: Sink>(sink: &mut K, line: u32, why: DeckWhy) -> Status
-    ensures told { (task : Task) (old new : Bay) → TellsDeck result task (Err (DeckFault.Refused line why)) old new (K.held sink.old) (K.held sink.new) }
-    ensures later { K.faults sink.old ≤ K.faults sink.new }
-    ensures write { WriteFaultHasCause result (K.faults sink.old) (K.faults sink.new) }
-{
-    match write_refused(sink, line, why) {
-        Ok(()) => Status::DeckRefused { line, why },
-        Err(_) => Status::WriteFault,
-    }
-}
-
-fn limit<K: Sink>(sink: &mut K, which: Which) -> Status
-    ensures told { (task : Task) (old new : Bay) → TellsDeck result task (Err (DeckFault.Limit which)) old new (K.held sink.old) (K.held sink.new) }
-    ensures later { K.faults sink.old ≤ K.faults sink.new }
-    ensures write { WriteFaultHasCause result (K.faults sink.old) (K.faults sink.new) }
-{
-    match write_limit(sink, which) {
-        Ok(()) => Status::Limit(which),
-        Err(_) => Status::WriteFault,
-    }
-}
-
-fn check<K: Sink>(deck: &Deck, sink: &mut K) -> Status
-    ensures told { (old new : Bay) → TellsDeck result Task.Check (Ok deck.now) old new (K.held sink.old) (K.held sink.new) }
-    ensures later { K.faults sink.old ≤ K.faults sink.new }
-    ensures write { WriteFaultHasCause result (K.faults sink.old) (K.faults sink.new) }
-{
-    match write_deck(deck, sink) {
-        Ok(()) => Status::Reported,
-        Err(_) => Status::WriteFault,
-    }
-}
-
-fn serve_deck<K: Sink>(
-    alloc: Global,
-    task: Task,
-    deck: &Deck,
-    sink: &mut K,
-    bay: &mut MemBay,
-) -> Status
-    requires { WasRead deck.now }
-    ensures spoiled { bay.new.spoiled ≡ bay.old.spoiled }
-    ensures kept { result ≢ Status.Reported → bay.new.taken ≡ bay.old.taken }
-    ensures check { is_run (Some task) ≡ false → bay.new ≡ bay.old }
-    ensures told { TellsDeck result task (Ok deck.now) bay.old bay.new (K.held sink.old) (K.held sink.new) }
-    ensures later { K.faults sink.old ≤ K.faults sink.new }
-    ensures write { WriteFaultHasCause result (K.faults sink.old) (K.faults sink.new) }
-{
-    match task {
-        Task::Run => report(alloc, deck, sink, bay),
-        Task::Check => check(deck, sink),
-        Task::Generate { .. } => summarize(alloc, deck, sink, bay),
-    }
-}
-
-fn answer<K: Sink>(alloc: Global, task: Task, text: &[u8], sink: &mut K, bay: &mut MemBay) -> Status
-    ensures spoiled { bay.new.spoiled ≡ bay.old.spoiled }
-    ensures kept { result ≢ Status.Reported → bay.new.taken ≡ bay.old.taken }
-    ensures check { is_run (Some task) ≡ false → bay.new ≡ bay.old }
-    ensures told { TellsDeck result task (parsed text.now) bay.old bay.new (K.held sink.old) (K.held sink.new) }
-    ensures later { K.faults sink.old ≤ K.faults sink.new }
-    ensures write { WriteFaultHasCause result (K.faults sink.old) (K.faults sink.new) }
-{
-    match read_deck(alloc, text) {
-        Ok(deck) => serve_deck(alloc, task, &deck, sink, bay),
-        Err(DeckFault::Refused { line, why }) => refuse(sink, line, why),
-        Err(DeckFault::Limit(which)) => limit(sink, which),
-        Err(DeckFault::NoMemory) => Status::NoMemory,
-    }
-}
-
-fn usage<K: Sink>(sink: &mut K) -> Status
-    ensures told { (result ≡ Status.Usage × Appends (K.held sink.old) (K.held sink.new) usage_text)
-        ⊎ (result ≡ Status.WriteFault × AppendsFront (K.held sink.old) (K.held sink.new) usage_text) }
-    ensures later { K.faults sink.old ≤ K.faults sink.new }
-    ensures write { WriteFaultHasCause result (K.faults sink.old) (K.faults sink.new) }
-{
-    match write_usage(sink) {
-        Ok(()) => Status::Usage,
-        Err(_) => Status::WriteFault,
-    }
-}
-
-/// The deck of a seed and a count of programs, for which nothing is read.
-fn generated<K: Sink>(
-    alloc: Global,
-    seed: u64,
-    count: u16,
-    sink: &mut K,
-    bay: &mut MemBay,
-) -> Status
-    requires { count ≤ 512 }
-    ensures spoiled { bay.new.spoiled ≡ bay.old.spoiled }
-    ensures kept { result ≢ Status.Reported → bay.new.taken ≡ bay.old.taken }
-    ensures told { TellsDeck result (Task.Generate seed count) (Ok (deck_of_seed seed count)) bay.old bay.new (K.held sink.old) (K.held sink.new) }
-    ensures later { K.faults sink.old ≤ K.faults sink.new }
-    ensures write { WriteFaultHasCause result (K.faults sink.old) (K.faults sink.new) }
-{
-    reads_back();
-    let Ok(deck) = generate(alloc, seed, count) else {
-        return Status::NoMemory;
-    };
-    summarize(alloc, &deck, sink, bay)
-}
-
-fn serve_read<S: Source, K: Sink>(
-    alloc: Global,
-    task: Task,
-    source: &mut S,
-    sink: &mut K,
-    bay: &mut MemBay,
-) -> Status
-    ensures spoiled { bay.new.spoiled ≡ bay.old.spoiled }
-    ensures kept { result ≢ Status.Reported → bay.new.taken ≡ bay.old.taken }
-    ensures check { is_run (Some task) ≡ false → bay.new ≡ bay.old }
-    ensures told { TellsRead result task bay.old bay.new (S.left source.old) (S.left source.new) (K.held sink.old) (K.held sink.new) }
-    ensures read { result ≡ Status.ReadFault → Rose (S.faults source.old) (S.faults source.new) }
-    ensures calm { result ≢ Status.ReadFault → S.faults source.new ≡ S.faults source.old }
-    ensures write { WriteFaultHasCause result (K.faults sink.old) (K.faults sink.new) }
-{
-    match read_up_to(alloc, source, MOST_READ) {
-        Ok(text) => answer(alloc, task, &text, sink, bay),
-        Err(ReadError::Failed) => Status::ReadFault,
-        Err(ReadError::NoMemory) => Status::NoMemory,
-    }
-}
-
-fn serve_task<S: Source, K: Sink>(
-    alloc: Global,
-    task: Task,
-    source: &mut S,
-    sink: &mut K,
-    bay: &mut MemBay,
-) -> Status
-    requires { IsServed task }
-    ensures spoiled { bay.new.spoiled ≡ bay.old.spoiled }
-    ensures kept { result ≢ Status.Reported → bay.new.taken ≡ bay.old.taken }
-    ensures check { is_run (Some task) ≡ false → bay.new ≡ bay.old }
-    ensures told { TellsTask result task bay.old bay.new (S.left source.old) (S.left source.new) (K.held sink.old) (K.held sink.new) }
-    ensures read { result ≡ Status.ReadFault → Rose (S.faults source.old) (S.faults source.new) }
-    ensures calm { result ≢ Status.ReadFault → S.faults source.new ≡ S.faults source.old }
-    ensures write { WriteFaultHasCause result (K.faults sink.old) (K.faults sink.new) }
-{
-    match task {
-        Task::Run => serve_read(alloc, Task::Run, source, sink, bay),
-        Task::Check => serve_read(alloc, Task::Check, source, sink, bay),
-        Task::Generate { seed, count } => generated(alloc, seed, count, sink, bay),
-    }
-}
-
-fn serve<S: Source, K: Sink>(
-    alloc: Global,
-    words: &[&str],
-    source: &mut S,
-    sink: &mut K,
-    bay: &mut MemBay,
-) -> Status
-    ensures spoiled { bay.new.spoiled ≡ bay.old.spoiled }
-    ensures kept { result ≢ Status.Reported → bay.new.taken ≡ bay.old.taken }
-    ensures check { is_run (task_of (map (λ w. w.now) words.now)) ≡ false → bay.new ≡ bay.old }
-    ensures told { Tells result (task_of (map (λ w. w.now) words.now)) bay.old bay.new
-        (S.left source.old) (S.left source.new) (K.held sink.old) (K.held sink.new) }
-    ensures read { result ≡ Status.ReadFault → Rose (S.faults source.old) (S.faults source.new) }
-    ensures calm { result ≢ Status.ReadFault → S.faults source.new ≡ S.faults source.old }
-    ensures write { WriteFaultHasCause result (K.faults sink.old) (K.faults sink.new) }
-{
-    match task_of(words) {
-        Some(task) => serve_task(alloc, task, source, sink, bay),
-        None => usage(sink),
-    }
 }
 
 /// Does what the words ask for, over a source, a sink and a bay. `run` reads a deck, runs it over volumes that the bay makes, writes the
@@ -324,6 +144,5 @@ pub fn deck_top<S: Source, K: Sink>(
     ensures generated { (seed count : ℕ) → task_of (map (λ w. w.now) words.now) ≡ Some (Task.Generate seed count)
         → ¬ Rose (K.faults sink.old) (K.faults sink.new) → (result ≡ Status.Reported) ⊎ (result ≡ Status.NoMemory) }
 {
-    report_on_volumes_is_plain();
-    serve(alloc, words, source, sink, bay)
+    deck_top_on(alloc, words, source, sink, bay)
 }

@@ -71,7 +71,7 @@ pub run_keeps_writes_on : (firsts : Firsts) → AreWhole firsts → (deck : Deck
 run_keeps_writes_on firsts whole deck h =
     behind_weaker (PlainlyFrom firsts) (KeepsWritesOn firsts) (keeps firsts whole) (run_on firsts deck).events (run_stays_plain_on firsts whole deck h)
 
-on_empty : (d : MarksDevice) → KeepsWritesOn empty_firsts d → KeepsWrites d
+pub on_empty : (d : MarksDevice) → KeepsWritesOn empty_firsts d → KeepsWrites d
 on_empty d k = record {
   firm = k.firm ∙ ap (λ (v : List Track). edited_by v (kept_edits d)) (held_empty d.store.cylinders d.history.items);
   all = k.all;

@@ -1,6 +1,6 @@
 use Rattle.std.proofs.Common.{◌<◌, ℕ, []}
 use Rattle.std.specs.Prelude.{slice_index_or}
-use Rattle.deck_top.proofs.give.holds_bytes.Given as goal
+use Rattle.deck_top.proofs.bytes.tracks_hold_bytes.Given as goal
 
 -- so far
 abbrev pub invariant-loop-t : goal.invariant-loop-t

@@ -1,0 +1,40 @@
+//! What a volume in memory holds are bytes.
+
+ghost use Rattle.std.specs.Prelude.{◌<◌, [], ℕ, slice_index_or};
+ghost use Rattle.device_outside.specs.Disk.{disk_view};
+ghost use Rattle.deck_top.specs.Handed.{HoldsBytes};
+
+use ckd_types::TrackNo;
+use device_outside::MemVolume;
+
+/// As many tracks as a device has at most.
+const MOST_TRACKS: u16 = 65535;
+
+fn are_bytes(bytes: &[u8])
+    ensures { (i : ℕ) → slice_index_or bytes.now i 0 < 256 }
+{
+    let _bytes = bytes;
+}
+
+fn track_holds_bytes(volume: &MemVolume, t: u16)
+    requires { t < 65535 }
+    ensures { (i : ℕ) → slice_index_or (slice_index_or volume.now.tracks t []) i 0 < 256 }
+{
+    if usize::from(t) < volume.len() {
+        are_bytes(volume.track(TrackNo::new(t).unwrap()));
+    }
+}
+
+fn tracks_hold_bytes(volume: &MemVolume)
+    ensures { (t i : ℕ) → t < 65535 → slice_index_or (slice_index_or volume.now.tracks t []) i 0 < 256 }
+{
+    for t in 0..MOST_TRACKS {
+        track_holds_bytes(volume, t);
+    }
+}
+
+pub(crate) fn holds_bytes(volume: &MemVolume)
+    ensures { HoldsBytes (disk_view volume.now) }
+{
+    tracks_hold_bytes(volume);
+}
