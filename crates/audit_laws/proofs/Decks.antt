@@ -16,8 +16,8 @@ use Rattle.deck_text.proofs.DeckAgain.{Each, EventOk}
 use Rattle.deck_text.proofs.EventsAgain.{behind_of}
 use Rattle.deck_text.proofs.FormsAgain.{went, needed_is, if_ok, Ranged, number_range}
 use Rattle.deck_text.proofs.Reached.{parsed_good}
-use Rattle.report_places.specs.declared.state.Due.{Due}
-use Rattle.report_places.specs.declared.state.Due.TheVariants.{Next, Nothing}
+use Rattle.deck_audit.specs.declared.state.Due.{Due}
+use Rattle.deck_audit.specs.declared.state.Due.TheVariants.{Next, Nothing}
 use Rattle.deck_audit.specs.Device.{AuditedDevice, new_device}
 use Rattle.deck_audit.specs.State.{AuditState, first_state}
 use Rattle.audit_laws.specs.FirstFault.{LeadsTo}

@@ -8,14 +8,14 @@ use Rattle.deck_text.specs.Parse.{parsed}
 use Rattle.deck_text.specs.declared.line.DeckFault.{DeckFault}
 use Rattle.deck_text.specs.declared.line.DeckFault.TheVariants as deck_faults
 use Rattle.deck_text.specs.declared.line.Which.TheVariants.{Size}
-use Rattle.report_places.specs.declared.state.Due.{Due}
-use Rattle.report_places.specs.declared.state.Due.TheVariants as dues
-use Rattle.report_auditor.specs.declared.status.AuditStatus.{AuditStatus}
-use Rattle.report_auditor.specs.declared.status.AuditStatus.TheVariants.{Yes, No, Limit}
-use Rattle.report_auditor.specs.declared.status.AuditWhy.{AuditWhy}
-use Rattle.report_auditor.specs.declared.status.AuditWhy.TheVariants.{Form, Place}
+use Rattle.deck_audit.specs.declared.state.Due.{Due}
+use Rattle.deck_audit.specs.declared.state.Due.TheVariants as dues
+use Rattle.deck_audit.specs.declared.status.AuditStatus.{AuditStatus}
+use Rattle.deck_audit.specs.declared.status.AuditStatus.TheVariants.{Yes, No, Limit}
+use Rattle.deck_audit.specs.declared.status.AuditWhy.{AuditWhy}
+use Rattle.deck_audit.specs.declared.status.AuditWhy.TheVariants.{Form, Place}
 use Rattle.deck_audit.specs.State.{AuditState, first_state}
-use Rattle.report_auditor.specs.Verdict.{at_end, cut_lines, deck_judged, deck_part, judged_lines, judged_text, or_no, read_back, read_back_at, report_from}
+use Rattle.deck_audit.specs.Verdict.{at_end, cut_lines, deck_judged, deck_part, judged_lines, judged_text, or_no, read_back, read_back_at, report_from}
 use Rattle.audit_laws.specs.FirstFault.{HasFirstFault, HasNoFault, IsBad, IsDeckAndReport, IsFault, IsGood, LeadsTo, report_lines}
 
 -- What a no carries

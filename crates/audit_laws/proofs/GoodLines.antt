@@ -18,13 +18,13 @@ use Rattle.report_text.specs.declared.answers.StartAnswer.{StartAnswer}
 use Rattle.report_text.specs.declared.answers.StartAnswer.TheVariants as start
 use Rattle.report_text.specs.declared.line.ReportLine.{ReportLine}
 use Rattle.report_text.specs.declared.line.ReportLine.TheVariants as lines
-use Rattle.report_places.specs.declared.state.Did.{Did}
-use Rattle.report_places.specs.declared.state.Did.TheVariants.{Ended, Halved}
-use Rattle.report_places.specs.declared.state.Due.{Due}
-use Rattle.report_places.specs.declared.state.Due.TheVariants.{Next, DataOf, SenseOf, Behind, OverOf, Losses, ResetOf, Powers, Totals, Frames, Nothing}
-use Rattle.report_places.specs.declared.state.HalfWrite.TheVariants.{Closed}
-use Rattle.report_places.specs.Place.{first_event, holds, is_io, is_of_work}
-use Rattle.report_places.specs.Same.{says}
+use Rattle.deck_audit.specs.declared.state.Did.{Did}
+use Rattle.deck_audit.specs.declared.state.Did.TheVariants.{Ended, Halved}
+use Rattle.deck_audit.specs.declared.state.Due.{Due}
+use Rattle.deck_audit.specs.declared.state.Due.TheVariants.{Next, DataOf, SenseOf, Behind, OverOf, Losses, ResetOf, Powers, Totals, Frames, Nothing}
+use Rattle.deck_audit.specs.declared.state.HalfWrite.TheVariants.{Closed}
+use Rattle.deck_audit.specs.Place.{first_event, holds, is_io, is_of_work}
+use Rattle.deck_audit.specs.Same.{says}
 use Rattle.deck_audit.specs.Device.{AuditedDevice, check_end, device_in, has_loose, with_device, is_next_legal, lent_answer, may_loosen, own_runs, plain_end}
 use Rattle.deck_audit.specs.Device.{start_answer, state_of, words_of_open}
 use Rattle.deck_audit.specs.History.{act_made, act_of_work, after_start, back_half, behind_end, behind_made, changed, cut_half, cut_open, done_order, due_made}

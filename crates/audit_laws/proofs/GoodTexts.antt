@@ -11,18 +11,18 @@ use Rattle.report_text.specs.declared.line.ReportLine.{ReportLine}
 use Rattle.report_text.specs.declared.line.ReportLine.TheVariants as lines
 use Rattle.report_reading.specs.declared.fault.LineFault.{LineFault}
 use Rattle.report_reading.specs.Reading.{line_of}
-use Rattle.report_places.specs.declared.state.Did.{Did}
-use Rattle.report_places.specs.declared.state.Did.TheVariants.{Ended, CheckEnded}
-use Rattle.report_places.specs.declared.state.Due.{Due}
-use Rattle.report_places.specs.declared.state.Due.TheVariants.{SenseOf, Behind}
-use Rattle.report_places.specs.Place.{holds}
-use Rattle.report_places.specs.Same.{says}
+use Rattle.deck_audit.specs.declared.state.Did.{Did}
+use Rattle.deck_audit.specs.declared.state.Did.TheVariants.{Ended, CheckEnded}
+use Rattle.deck_audit.specs.declared.state.Due.{Due}
+use Rattle.deck_audit.specs.declared.state.Due.TheVariants.{SenseOf, Behind}
+use Rattle.deck_audit.specs.Place.{holds}
+use Rattle.deck_audit.specs.Same.{says}
 use Rattle.deck_audit.specs.Device.{AuditedDevice, check_end, device_in, words_of_open}
 use Rattle.deck_audit.specs.History.{check_made, has_sense, is_legal, made, made_in, sense_made}
 use Rattle.deck_audit.specs.Stands.{stands}
 use Rattle.deck_audit.specs.State.{AuditState, settled, then_of, worker}
-use Rattle.report_auditor.specs.declared.status.AuditWhy.TheVariants.{Place}
-use Rattle.report_auditor.specs.Verdict.{judged_by, or_history}
+use Rattle.deck_audit.specs.declared.status.AuditWhy.TheVariants.{Place}
+use Rattle.deck_audit.specs.Verdict.{judged_by, or_history}
 use Rattle.audit_laws.specs.FirstFault.{LeadsTo}
 use Rattle.audit_laws.specs.Shown.{CanAllBePlain, Shows, ShowsIn, TellsOfPlain, TextShows}
 use Rattle.audit_laws.proofs.GoodLines.{Near, awaits_sense, behind_good, due_good, near_same}

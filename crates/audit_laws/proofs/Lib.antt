@@ -14,3 +14,4 @@ mod SoundPasts
 mod GoodLines
 mod GoodTexts
 mod ToldTexts
+pub mod own

@@ -22,14 +22,14 @@ use Rattle.report_text.specs.declared.answers.StartAnswer.{StartAnswer}
 use Rattle.report_text.specs.declared.answers.StartAnswer.TheVariants as start
 use Rattle.report_text.specs.declared.line.ReportLine.{ReportLine}
 use Rattle.report_text.specs.declared.line.ReportLine.TheVariants as lines
-use Rattle.report_places.specs.declared.state.Did.{Did}
-use Rattle.report_places.specs.declared.state.Did.TheVariants.{Ended, CheckEnded, Halved}
-use Rattle.report_places.specs.declared.state.Due.{Due}
-use Rattle.report_places.specs.declared.state.Due.TheVariants.{Next, DataOf, SenseOf, Behind, OverOf, Losses, ResetOf, Powers, Totals, Frames, Nothing}
-use Rattle.report_places.specs.declared.state.HalfWrite.{HalfWrite}
-use Rattle.report_places.specs.declared.state.HalfWrite.TheVariants.{Closed, OfCommand}
-use Rattle.report_places.specs.Place.{first_event, holds, is_io, is_of_work, worker_of}
-use Rattle.report_places.specs.Same.{says}
+use Rattle.deck_audit.specs.declared.state.Did.{Did}
+use Rattle.deck_audit.specs.declared.state.Did.TheVariants.{Ended, CheckEnded, Halved}
+use Rattle.deck_audit.specs.declared.state.Due.{Due}
+use Rattle.deck_audit.specs.declared.state.Due.TheVariants.{Next, DataOf, SenseOf, Behind, OverOf, Losses, ResetOf, Powers, Totals, Frames, Nothing}
+use Rattle.deck_audit.specs.declared.state.HalfWrite.{HalfWrite}
+use Rattle.deck_audit.specs.declared.state.HalfWrite.TheVariants.{Closed, OfCommand}
+use Rattle.deck_audit.specs.Place.{first_event, holds, is_io, is_of_work, worker_of}
+use Rattle.deck_audit.specs.Same.{says}
 use Rattle.deck_audit.specs.Device.{AuditedDevice, check_end, device_in, has_loose, is_next_legal, may_loosen}
 use Rattle.deck_audit.specs.Device.{plain_end, start_answer, state_of, with_device, words_of_open}
 use Rattle.deck_audit.specs.History.{act_made, act_of_work, after_start, back_half, behind_end, behind_made, changed, check_made, cut_by, cut_half}
@@ -42,8 +42,8 @@ use Rattle.deck_audit.specs.State.{AuditState, behind_work, is_event_over, over_
 use Rattle.deck_audit.specs.State.{settled_by, settled_in, then_of, worked, worker, worker_number}
 use Rattle.report_reading.specs.declared.fault.LineFault.{LineFault}
 use Rattle.report_reading.specs.Reading.{line_of}
-use Rattle.report_auditor.specs.declared.status.AuditWhy.TheVariants.{Place}
-use Rattle.report_auditor.specs.Verdict.{judged_by, or_history}
+use Rattle.deck_audit.specs.declared.status.AuditWhy.TheVariants.{Place}
+use Rattle.deck_audit.specs.Verdict.{judged_by, or_history}
 use Rattle.audit_laws.specs.FirstFault.{LeadsTo}
 use Rattle.audit_laws.proofs.Devices.{But, Each, IsOf, but_of_each, but_put, but_told, each_mapped, each_of_but, each_so}
 use Rattle.audit_laws.proofs.Sound.{Darkening, Sound, cut_dark, cut_more_dark, cut_more_sound, darkened_sound, given_sound}

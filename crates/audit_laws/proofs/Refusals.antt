@@ -8,10 +8,10 @@ use Rattle.report_reading.specs.Reading.{line_of}
 use Rattle.deck_audit.specs.History.{made}
 use Rattle.deck_audit.specs.Stands.{stands}
 use Rattle.deck_audit.specs.State.{AuditState, first_state}
-use Rattle.report_auditor.specs.declared.status.AuditStatus.TheVariants.{No}
-use Rattle.report_auditor.specs.declared.status.AuditWhy.{AuditWhy}
-use Rattle.report_auditor.specs.declared.status.AuditWhy.TheVariants.{Form, Place, History}
-use Rattle.report_auditor.specs.Verdict.{deck_part, judged_by, or_history, read_back}
+use Rattle.deck_audit.specs.declared.status.AuditStatus.TheVariants.{No}
+use Rattle.deck_audit.specs.declared.status.AuditWhy.{AuditWhy}
+use Rattle.deck_audit.specs.declared.status.AuditWhy.TheVariants.{Form, Place, History}
+use Rattle.deck_audit.specs.Verdict.{deck_part, judged_by, or_history, read_back}
 use Rattle.audit_laws.specs.FirstFault.{IsFault, LeadsTo, report_lines}
 use Rattle.audit_laws.specs.Refused.{IsForbidden, IsNot}
 use Rattle.audit_laws.proofs.Decks.{first_sound}

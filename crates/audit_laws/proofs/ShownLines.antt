@@ -18,11 +18,11 @@ use Rattle.report_text.specs.declared.answers.StartAnswer.{StartAnswer}
 use Rattle.report_text.specs.declared.answers.StartAnswer.TheVariants as start
 use Rattle.report_text.specs.declared.line.ReportLine.{ReportLine}
 use Rattle.report_text.specs.declared.line.ReportLine.TheVariants as lines
-use Rattle.report_places.specs.declared.state.Did.TheVariants.{Ended, CheckEnded}
-use Rattle.report_places.specs.declared.state.Due.{Due}
-use Rattle.report_places.specs.declared.state.Due.TheVariants.{SenseOf}
-use Rattle.report_places.specs.declared.state.HalfWrite.TheVariants.{Closed}
-use Rattle.report_places.specs.Same.{says}
+use Rattle.deck_audit.specs.declared.state.Did.TheVariants.{Ended, CheckEnded}
+use Rattle.deck_audit.specs.declared.state.Due.{Due}
+use Rattle.deck_audit.specs.declared.state.Due.TheVariants.{SenseOf}
+use Rattle.deck_audit.specs.declared.state.HalfWrite.TheVariants.{Closed}
+use Rattle.deck_audit.specs.Same.{says}
 use Rattle.deck_audit.specs.Device.{AuditedDevice, check_end, device_in, has_left, held_answer, lent_answer}
 use Rattle.deck_audit.specs.Device.{may_start, next_ordinal, own_runs, part_of_open, plain_end, plain_end_at, running_answer, start_answer}
 use Rattle.deck_audit.specs.Device.{state_of, with_device, words_of_open}

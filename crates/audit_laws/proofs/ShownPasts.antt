@@ -18,8 +18,8 @@ use Rattle.plain_defs.specs.Legal.{AreActs, IsCheck, IsLegal, IsSomeLoose, MayEd
 use Rattle.plain_defs.specs.Loose.{act_done, is_loose_in, is_loose_there}
 use Rattle.plain_defs.specs.PlainState.{LooseTrack, PlainState}
 use Rattle.plain_defs.specs.Program.{Part, with_act}
-use Rattle.report_places.specs.declared.state.Did.{Did}
-use Rattle.report_places.specs.declared.state.Did.TheVariants.{Ended, CheckEnded, Halved, Worked}
+use Rattle.deck_audit.specs.declared.state.Did.{Did}
+use Rattle.deck_audit.specs.declared.state.Did.TheVariants.{Ended, CheckEnded, Halved, Worked}
 use Rattle.deck_audit.specs.Device.{AuditedDevice, edit_of, is_edit_legal, is_next_legal, loosens, may_loosen}
 use Rattle.deck_audit.specs.Device.{part_of_open, plain_end, plain_end_at, state_of, words_of_open}
 use Rattle.deck_audit.specs.State.{worked}

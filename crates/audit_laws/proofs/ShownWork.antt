@@ -23,12 +23,12 @@ use Rattle.report_text.specs.declared.answers.HowOver.TheVariants as how
 use Rattle.report_text.specs.declared.answers.LooseAnswer.TheVariants as loose
 use Rattle.report_text.specs.declared.line.ReportLine.{ReportLine}
 use Rattle.report_text.specs.declared.line.ReportLine.TheVariants as lines
-use Rattle.report_places.specs.declared.state.Did.{Did}
-use Rattle.report_places.specs.declared.state.Did.TheVariants.{Ended, CheckEnded, Halved}
-use Rattle.report_places.specs.declared.state.Due.{Due}
-use Rattle.report_places.specs.declared.state.Due.TheVariants.{Next, Behind, Losses, ResetOf, Powers}
-use Rattle.report_places.specs.Place.{holds}
-use Rattle.report_places.specs.Same.{says}
+use Rattle.deck_audit.specs.declared.state.Did.{Did}
+use Rattle.deck_audit.specs.declared.state.Did.TheVariants.{Ended, CheckEnded, Halved}
+use Rattle.deck_audit.specs.declared.state.Due.{Due}
+use Rattle.deck_audit.specs.declared.state.Due.TheVariants.{Next, Behind, Losses, ResetOf, Powers}
+use Rattle.deck_audit.specs.Place.{holds}
+use Rattle.deck_audit.specs.Same.{says}
 use Rattle.deck_audit.specs.Device.{AuditedDevice, check_end, device_in, has_loose, is_next_legal, may_loosen, state_of, with_device, words_of_open}
 use Rattle.deck_audit.specs.History.{act_made, act_of_work, changed, check_made, cut_half, cut_open, harden_made, has_sense, loosen_made, loss_line, loss_made}
 use Rattle.deck_audit.specs.History.{order_made, place_of, power_cut, power_made, reset_made, sense_made}

@@ -14,10 +14,10 @@ use Rattle.plain_defs.specs.Legal.{edit_at, next_edit}
 use Rattle.plain_defs.specs.Loose.{act_done, is_loose_in, is_loose_there, without}
 use Rattle.plain_defs.specs.PlainState.{LooseTrack, PlainState}
 use Rattle.plain_defs.specs.Program.{Part, with_act}
-use Rattle.report_places.specs.declared.state.Did.{Did}
-use Rattle.report_places.specs.declared.state.Did.TheVariants.{Ended, CheckEnded}
-use Rattle.report_places.specs.declared.state.Due.{Due}
-use Rattle.report_places.specs.declared.state.Due.TheVariants.{DataOf, SenseOf, Behind, Powers}
+use Rattle.deck_audit.specs.declared.state.Did.{Did}
+use Rattle.deck_audit.specs.declared.state.Did.TheVariants.{Ended, CheckEnded}
+use Rattle.deck_audit.specs.declared.state.Due.{Due}
+use Rattle.deck_audit.specs.declared.state.Due.TheVariants.{DataOf, SenseOf, Behind, Powers}
 use Rattle.deck_audit.specs.Device.{AuditedDevice, device_in, edit_of, is_edit_legal, is_next_legal, part_of_open, state_of, words_of_open}
 use Rattle.deck_audit.specs.State.{AuditState, then_of, worker}
 use Rattle.device_laws.proofs.OpenProgram.{with_one_act}

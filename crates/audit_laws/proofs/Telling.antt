@@ -13,20 +13,20 @@ use Rattle.report_text.specs.declared.line.ReportLine.{ReportLine}
 use Rattle.report_text.specs.declared.line.ReportLine.TheVariants as lines
 use Rattle.report_reading.specs.declared.fault.LineFault.{LineFault}
 use Rattle.report_reading.specs.Reading.{line_of}
-use Rattle.report_places.specs.declared.state.Did.{Did}
-use Rattle.report_places.specs.declared.state.Did.TheVariants.{Ended, CheckEnded}
-use Rattle.report_places.specs.declared.state.Due.{Due}
-use Rattle.report_places.specs.declared.state.Due.TheVariants.{Next, SenseOf, Behind, Losses, Powers}
-use Rattle.report_places.specs.Place.{first_event, holds, is_io, is_of_work, worker_of}
+use Rattle.deck_audit.specs.declared.state.Did.{Did}
+use Rattle.deck_audit.specs.declared.state.Did.TheVariants.{Ended, CheckEnded}
+use Rattle.deck_audit.specs.declared.state.Due.{Due}
+use Rattle.deck_audit.specs.declared.state.Due.TheVariants.{Next, SenseOf, Behind, Losses, Powers}
+use Rattle.deck_audit.specs.Place.{first_event, holds, is_io, is_of_work, worker_of}
 use Rattle.deck_audit.specs.Device.{AuditedDevice, device_in, with_device}
 use Rattle.deck_audit.specs.History.{act_of_work, due_made, event_made, harden_made, is_legal, loss_made, made, made_in, next_made, order_made, power_cut}
 use Rattle.deck_audit.specs.History.{power_made, reset_made, sense_made, start_made, work_made}
 use Rattle.deck_audit.specs.Stands.{stands}
 use Rattle.deck_audit.specs.State.{AuditState, is_event_over, over_by, passed, settled, settled_by, settled_in, then_of, worked}
 use Rattle.deck_audit.specs.State.{worker, worker_number}
-use Rattle.report_auditor.specs.declared.status.AuditWhy.{AuditWhy}
-use Rattle.report_auditor.specs.declared.status.AuditWhy.TheVariants.{Place, History}
-use Rattle.report_auditor.specs.Verdict.{judged, judged_by, or_history}
+use Rattle.deck_audit.specs.declared.status.AuditWhy.{AuditWhy}
+use Rattle.deck_audit.specs.declared.status.AuditWhy.TheVariants.{Place, History}
+use Rattle.deck_audit.specs.Verdict.{judged, judged_by, or_history}
 use Rattle.audit_laws.specs.FirstFault.{LeadsTo}
 use Rattle.audit_laws.specs.Shown.{ActShows, BehindShows, CanAllBePlain, CanBePlain, DueShows, EventShows, NextShows, OrderShows, PlainPast, PowerShows, Shows, ShowsIn}
 use Rattle.audit_laws.specs.Shown.{TellsOfPlain, TextShows, WorkShows}

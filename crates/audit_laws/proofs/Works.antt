@@ -19,8 +19,8 @@ use Rattle.plain_defs.specs.Journal.{replay}
 use Rattle.plain_defs.specs.Legal.{IsCheck, MayEdit, edit_at, track_of}
 use Rattle.plain_defs.specs.Loose.{is_loose_there}
 use Rattle.plain_defs.specs.Program.{Part, with_act}
-use Rattle.report_places.specs.declared.state.Did.{Did}
-use Rattle.report_places.specs.declared.state.Did.TheVariants.{Ended, CheckEnded, Halved, Worked}
+use Rattle.deck_audit.specs.declared.state.Did.{Did}
+use Rattle.deck_audit.specs.declared.state.Did.TheVariants.{Ended, CheckEnded, Halved, Worked}
 use Rattle.deck_audit.specs.Device.{AuditedDevice, check_end, edit_of, is_next_legal, loosens, may_loosen}
 use Rattle.deck_audit.specs.Device.{part_of_open, plain_end, plain_end_at, state_of, words_of_open}
 use Rattle.deck_audit.specs.History.{is_legal}

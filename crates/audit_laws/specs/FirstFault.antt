@@ -2,11 +2,11 @@
 use Rattle.std.specs.Prelude.{◌≡◌, ◌≤◌, ◌+◌, ℕ, List, [], ◌∷◌, take, drop, length, Some, Ok, Err}
 use Rattle.deck_text.specs.DeckLines.{DeckLines}
 use Rattle.deck_text.specs.Parse.{parsed}
-use Rattle.report_places.specs.declared.state.Due.TheVariants.{Nothing}
-use Rattle.report_auditor.specs.declared.status.AuditWhy.{AuditWhy}
-use Rattle.report_auditor.specs.declared.status.AuditWhy.TheVariants.{Place}
+use Rattle.deck_audit.specs.declared.state.Due.TheVariants.{Nothing}
+use Rattle.deck_audit.specs.declared.status.AuditWhy.{AuditWhy}
+use Rattle.deck_audit.specs.declared.status.AuditWhy.TheVariants.{Place}
 use Rattle.deck_audit.specs.State.{AuditState, first_state}
-use Rattle.report_auditor.specs.Verdict.{cut_lines, deck_part, judged_text, report_from}
+use Rattle.deck_audit.specs.Verdict.{cut_lines, deck_part, judged_text, report_from}
 
 -- these lines have no fault, and lead from one state to the other
 abbrev pub LeadsTo : AuditState → List (List ℕ) → AuditState → Type 0

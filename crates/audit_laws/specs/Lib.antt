@@ -2,3 +2,8 @@ pub mod FirstFault
 pub mod Plain
 pub mod Refused
 pub mod Shown
+pub mod Standing
+pub mod Steps
+pub mod Runs
+pub mod Ordered
+pub mod Texts

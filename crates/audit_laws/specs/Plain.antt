@@ -8,7 +8,7 @@ use Rattle.plain_defs.specs.History.{IsPlain}
 use Rattle.plain_defs.specs.PlainState.{empty_state}
 use Rattle.deck_audit.specs.Device.{AuditedDevice}
 use Rattle.deck_audit.specs.State.{AuditState, first_state}
-use Rattle.report_places.specs.declared.state.Due.TheVariants.{Nothing}
+use Rattle.deck_audit.specs.declared.state.Due.TheVariants.{Nothing}
 use Rattle.audit_laws.specs.FirstFault.{IsDeckAndReport, LeadsTo, report_lines}
 
 -- the device of a line of the deck: of its number, its model and the programs planned for it, with a history that such a plain

@@ -4,11 +4,11 @@ use Rattle.deck_text.specs.DeckLines.{DeckLines}
 use Rattle.report_text.specs.declared.line.ReportLine.{ReportLine}
 use Rattle.report_reading.specs.declared.fault.LineFault.{LineFault}
 use Rattle.report_reading.specs.Reading.{line_of}
-use Rattle.report_places.specs.declared.state.Due.TheVariants.{Nothing}
+use Rattle.deck_audit.specs.declared.state.Due.TheVariants.{Nothing}
 use Rattle.deck_audit.specs.Stands.{stands}
 use Rattle.deck_audit.specs.State.{AuditState, first_state}
-use Rattle.report_auditor.specs.declared.status.AuditWhy.{AuditWhy}
-use Rattle.report_auditor.specs.declared.status.AuditWhy.TheVariants.{Form, Place, History}
+use Rattle.deck_audit.specs.declared.status.AuditWhy.{AuditWhy}
+use Rattle.deck_audit.specs.declared.status.AuditWhy.TheVariants.{Form, Place, History}
 use Rattle.audit_laws.specs.FirstFault.{IsBad, report_lines}
 use Rattle.audit_laws.specs.Shown.{CanBePlain, TellsOfPlain, TextShows}
 

@@ -1,5 +1,5 @@
 -- What the lines of a report show of a deck's devices, whether or not plain devices do so; and whether plain devices can have done so. Of which
--- event, device and piece of work a line is, is known from where it stands (report_places/specs/Place).
+-- event, device and piece of work a line is, is known from where it stands (deck_audit/specs/Place).
 use Rattle.std.specs.Prelude.{◌≡◌, ◌⊎◌, ◌&&◌, ◌++◌, ℕ, not, Bool, true, false, List, [], ◌∷◌, Some, None, Result, Ok, Err, ⊤}
 use Rattle.ckd_types.specs.declared.channel.CommandEnd.{CommandEnd}
 use Rattle.ckd_types.specs.Sense.{equipment_sense}
@@ -18,13 +18,13 @@ use Rattle.report_text.specs.declared.line.ReportLine.{ReportLine}
 use Rattle.report_text.specs.declared.line.ReportLine.TheVariants as lines
 use Rattle.report_reading.specs.declared.fault.LineFault.{LineFault}
 use Rattle.report_reading.specs.Reading.{line_of}
-use Rattle.report_places.specs.declared.state.Did.{Did}
-use Rattle.report_places.specs.declared.state.Did.TheVariants.{Ended, CheckEnded}
-use Rattle.report_places.specs.declared.state.Due.{Due}
-use Rattle.report_places.specs.declared.state.Due.TheVariants.{Next, DataOf, SenseOf, Behind, Losses, ResetOf, Powers}
-use Rattle.report_places.specs.declared.state.HalfWrite.TheVariants.{Closed}
-use Rattle.report_places.specs.Place.{first_event, holds, is_io, is_of_work}
-use Rattle.report_places.specs.Same.{says}
+use Rattle.deck_audit.specs.declared.state.Did.{Did}
+use Rattle.deck_audit.specs.declared.state.Did.TheVariants.{Ended, CheckEnded}
+use Rattle.deck_audit.specs.declared.state.Due.{Due}
+use Rattle.deck_audit.specs.declared.state.Due.TheVariants.{Next, DataOf, SenseOf, Behind, Losses, ResetOf, Powers}
+use Rattle.deck_audit.specs.declared.state.HalfWrite.TheVariants.{Closed}
+use Rattle.deck_audit.specs.Place.{first_event, holds, is_io, is_of_work}
+use Rattle.deck_audit.specs.Same.{says}
 use Rattle.deck_audit.specs.Device.{AuditedDevice, check_end, device_in, plain_end, start_answer, words_of_open}
 use Rattle.deck_audit.specs.History.{act_made, behind_end, changed, cut_half, due_made, has_sense, loss_line, order_made, place_of, power_made}
 use Rattle.deck_audit.specs.History.{reset_made, shows_end, totals_made, without_power, work_made}

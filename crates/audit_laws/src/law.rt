@@ -1,11 +1,11 @@
 ghost use Rattle.std.specs.Prelude.{◌≡◌, ◌↔◌, ℕ, List, Ok};
 ghost use Rattle.deck_text.specs.DeckLines.{DeckLines};
 ghost use Rattle.deck_text.specs.Parse.{parsed};
-ghost use Rattle.report_places.specs.declared.state.Due.TheVariants.{Next};
+ghost use Rattle.deck_audit.specs.declared.state.Due.TheVariants.{Next};
 ghost use Rattle.deck_audit.specs.State.{AuditState, first_state};
-ghost use Rattle.report_auditor.specs.Verdict.{read_back};
-ghost use Rattle.report_auditor.specs.declared.status.AuditStatus.TheVariants.{Yes, No};
-ghost use Rattle.report_auditor.specs.declared.status.AuditWhy.{AuditWhy as Why};
+ghost use Rattle.deck_audit.specs.Verdict.{read_back};
+ghost use Rattle.deck_audit.specs.declared.status.AuditStatus.TheVariants.{Yes, No};
+ghost use Rattle.deck_audit.specs.declared.status.AuditWhy.{AuditWhy as Why};
 ghost use Rattle.audit_laws.specs.FirstFault.{IsBad, IsGood, LeadsTo, report_lines};
 ghost use Rattle.audit_laws.specs.Plain.{ArePlain, IsPlainReport};
 ghost use Rattle.audit_laws.specs.Refused.{IsNot};

@@ -6,7 +6,7 @@ mod progress;
 use ckd_outside::{StdSink, StdSource};
 use progress::Shown;
 use report_audit::{audit_top, words_of};
-use report_auditor::{AuditStatus, code_of};
+use deck_audit::{AuditStatus, code_of};
 use std::alloc::AllocError;
 use std::env::Args;
 use std::io::IsTerminal;

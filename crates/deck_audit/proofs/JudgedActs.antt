@@ -16,17 +16,17 @@ use Rattle.report_text.specs.declared.line.ReportLine.TheVariants as lines
 use Rattle.deck_audit.specs.declared.kept.Kept.{Kept}
 use Rattle.deck_audit.specs.declared.kept.Then.TheVariants.{Wait}
 use Rattle.deck_audit.specs.declared.replayed.Running.{Running}
-use Rattle.report_places.specs.declared.state.Did.{Did}
-use Rattle.report_places.specs.declared.state.Did.TheVariants.{Ended, CheckEnded, Halved, Worked}
-use Rattle.report_places.specs.declared.state.Due.{Due}
-use Rattle.report_places.specs.declared.state.Due.TheVariants.{Behind, Losses, Next}
+use Rattle.deck_audit.specs.declared.state.Did.{Did}
+use Rattle.deck_audit.specs.declared.state.Did.TheVariants.{Ended, CheckEnded, Halved, Worked}
+use Rattle.deck_audit.specs.declared.state.Due.{Due}
+use Rattle.deck_audit.specs.declared.state.Due.TheVariants.{Behind, Losses, Next}
 use Rattle.deck_audit.specs.Device.{AuditedDevice, has_loose, may_loosen, part_of_open, plain_end, state_of, words_of_open}
 use Rattle.deck_audit.specs.Follows.{Follows, RunsAs}
 use Rattle.deck_audit.specs.History as history
 use Rattle.deck_audit.specs.Keeping.{DidSo, Goes, HasPending, IsCounted, IsDue, IsKept, IsQuiet, Judges}
 use Rattle.deck_audit.specs.Kept.{act_kept, act_made, act_then, harden_then, loosen_then, loss_kept, loss_then, tells_loss}
 use Rattle.deck_audit.specs.Replay as replay
-use Rattle.report_places.specs.Same.{says}
+use Rattle.deck_audit.specs.Same.{says}
 use Rattle.deck_audit.specs.State.{AuditState}
 use Rattle.deck_audit.proofs.Judges.{by_program, judges_if}
 use Rattle.deck_audit.proofs.KeptPaths.{act_keeps}

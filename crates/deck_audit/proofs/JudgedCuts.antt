@@ -9,9 +9,9 @@ use Rattle.plain_defs.specs.History.{OpenEntry, cut_by, reset_in_history}
 use Rattle.deck_audit.specs.declared.kept.Kept.{Kept}
 use Rattle.deck_audit.specs.declared.kept.Then.TheVariants.{Wait}
 use Rattle.deck_audit.specs.declared.replayed.Running.{Running}
-use Rattle.report_places.specs.declared.state.Due.{Due}
-use Rattle.report_places.specs.declared.state.Due.TheVariants.{Powers, ResetOf}
-use Rattle.report_places.specs.declared.state.HalfWrite.{HalfWrite}
+use Rattle.deck_audit.specs.declared.state.Due.{Due}
+use Rattle.deck_audit.specs.declared.state.Due.TheVariants.{Powers, ResetOf}
+use Rattle.deck_audit.specs.declared.state.HalfWrite.{HalfWrite}
 use Rattle.deck_audit.specs.Device.{AuditedDevice, is_next_legal, plain_end}
 use Rattle.deck_audit.specs.Follows.{Follows, KeepsPaths, RunsAs}
 use Rattle.deck_audit.specs.History as history

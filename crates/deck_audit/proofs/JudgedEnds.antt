@@ -10,10 +10,10 @@ use Rattle.report_text.specs.declared.answers.HowOver.{HowOver}
 use Rattle.report_text.specs.declared.answers.HowOver.TheVariants as how
 use Rattle.deck_audit.specs.declared.kept.Kept.{Kept}
 use Rattle.deck_audit.specs.declared.replayed.Running.{Running}
-use Rattle.report_places.specs.declared.state.Did.{Did}
-use Rattle.report_places.specs.declared.state.Did.TheVariants.{Ended, CheckEnded, Halved, Worked}
-use Rattle.report_places.specs.declared.state.HalfWrite.{HalfWrite}
-use Rattle.report_places.specs.declared.state.HalfWrite.TheVariants.{Closed, OfCommand, OfBackground}
+use Rattle.deck_audit.specs.declared.state.Did.{Did}
+use Rattle.deck_audit.specs.declared.state.Did.TheVariants.{Ended, CheckEnded, Halved, Worked}
+use Rattle.deck_audit.specs.declared.state.HalfWrite.{HalfWrite}
+use Rattle.deck_audit.specs.declared.state.HalfWrite.TheVariants.{Closed, OfCommand, OfBackground}
 use Rattle.deck_audit.specs.Device as device
 use Rattle.deck_audit.specs.Device.{AuditedDevice}
 use Rattle.deck_audit.specs.Keeping.{DidSo, HasPending, IsCounted, IsKept, IsQuiet, counted}

@@ -12,7 +12,7 @@ use Rattle.deck_audit.specs.History.{after_start, changed, start_made}
 use Rattle.deck_audit.specs.Keeping.{Goes, IsKept, IsQuiet, Judges}
 use Rattle.deck_audit.specs.Kept.{begun, is_accepted, start_kept, start_then}
 use Rattle.deck_audit.specs.Replay as replay
-use Rattle.report_places.specs.Same.{says}
+use Rattle.deck_audit.specs.Same.{says}
 use Rattle.deck_audit.specs.State.{AuditState, passed}
 use Rattle.deck_audit.proofs.Judges.{judges_if}
 use Rattle.deck_audit.proofs.KeptPaths.{counts_kept}

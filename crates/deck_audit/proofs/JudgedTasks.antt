@@ -12,10 +12,10 @@ use Rattle.report_text.specs.declared.line.ReportLine.{ReportLine}
 use Rattle.report_text.specs.declared.line.ReportLine.TheVariants as lines
 use Rattle.deck_audit.specs.declared.kept.Kept.{Kept}
 use Rattle.deck_audit.specs.declared.kept.Then.TheVariants.{Passed, Wait}
-use Rattle.report_places.specs.declared.state.Did.{Did}
-use Rattle.report_places.specs.declared.state.Did.TheVariants.{Ended, CheckEnded, Halved, Worked}
-use Rattle.report_places.specs.declared.state.Due.{Due}
-use Rattle.report_places.specs.declared.state.Due.TheVariants.{Behind, Next, Powers}
+use Rattle.deck_audit.specs.declared.state.Did.{Did}
+use Rattle.deck_audit.specs.declared.state.Did.TheVariants.{Ended, CheckEnded, Halved, Worked}
+use Rattle.deck_audit.specs.declared.state.Due.{Due}
+use Rattle.deck_audit.specs.declared.state.Due.TheVariants.{Behind, Next, Powers}
 use Rattle.deck_audit.specs.declared.task.Task.{Task}
 use Rattle.deck_audit.specs.declared.task.Task.TheVariants as tasks
 use Rattle.deck_audit.specs.Device as device
@@ -28,9 +28,9 @@ use Rattle.deck_audit.specs.Keeping.{EndsSo, Goes, IsDue, IsKept, IsQuiet, Judge
 use Rattle.deck_audit.specs.Kept.{is_idle, power_kept, power_then, settled_kept, settled_over, tells_loss, then_if, wait_if}
 use Rattle.deck_audit.specs.Replay as replay
 use Rattle.deck_audit.specs.Replayed.{ReplayedState}
-use Rattle.report_places.specs.Same.{says}
+use Rattle.deck_audit.specs.Same.{says}
 use Rattle.deck_audit.specs.State.{AuditState, behind_work, is_event_over, over_by, passed, settled_by, then_of, worked}
-use Rattle.report_places.specs.Place.{first_event}
+use Rattle.deck_audit.specs.Place.{first_event}
 use Rattle.deck_audit.specs.Task.{IsInRange, IsReady, is_over_with, next_then, settle_then_by, task_kept, task_made, task_then}
 use Rattle.deck_audit.proofs.Judges.{Idle, Runs, by_program, judges_if}
 use Rattle.deck_audit.proofs.JudgedActs.{act_judged, harden_judged, loss_judged, same_tells}

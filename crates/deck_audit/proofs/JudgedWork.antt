@@ -10,11 +10,11 @@ use Rattle.report_text.specs.declared.line.ReportLine.{ReportLine}
 use Rattle.report_text.specs.declared.line.ReportLine.TheVariants as lines
 use Rattle.deck_audit.specs.declared.kept.Kept.{Kept}
 use Rattle.deck_audit.specs.declared.kept.Then.TheVariants.{Passed, Wait}
-use Rattle.report_places.specs.declared.state.Did.TheVariants.{Halved, Worked}
-use Rattle.report_places.specs.declared.state.Due.{Due}
-use Rattle.report_places.specs.declared.state.Due.TheVariants.{Behind, SenseOf}
-use Rattle.report_places.specs.declared.state.HalfWrite.{HalfWrite}
-use Rattle.report_places.specs.declared.state.HalfWrite.TheVariants.{Closed, OfCommand}
+use Rattle.deck_audit.specs.declared.state.Did.TheVariants.{Halved, Worked}
+use Rattle.deck_audit.specs.declared.state.Due.{Due}
+use Rattle.deck_audit.specs.declared.state.Due.TheVariants.{Behind, SenseOf}
+use Rattle.deck_audit.specs.declared.state.HalfWrite.{HalfWrite}
+use Rattle.deck_audit.specs.declared.state.HalfWrite.TheVariants.{Closed, OfCommand}
 use Rattle.deck_audit.specs.Device.{AuditedDevice, check_end, plain_end, words_of_open}
 use Rattle.deck_audit.specs.Follows.{RunsAs}
 use Rattle.deck_audit.specs.History.{back_half as half_behind, behind_end, changed, end_made, end_made_by, is_last, shows_end, work_made}

@@ -11,7 +11,7 @@ use Rattle.plain_defs.specs.declared.journal.Item.TheVariants as items
 use Rattle.plain_defs.specs.History.{History, OpenEntry, acted, acted_in, checked, closed, cut_by, emptied, ended, entry_of, has_used}
 use Rattle.plain_defs.specs.History.{lost_power, lost_power_in, put, reset_in, reset_in_history, resets_of, started, with_end}
 use Rattle.plain_defs.specs.Legal.{is_of_path, is_started, is_used, started_by, used_by}
-use Rattle.report_places.specs.declared.state.HalfWrite.TheVariants.{Closed}
+use Rattle.deck_audit.specs.declared.state.HalfWrite.TheVariants.{Closed}
 use Rattle.deck_audit.specs.declared.replayed.Running.{Running}
 use Rattle.deck_audit.specs.Device.{AuditedDevice, four_paths}
 use Rattle.deck_audit.specs.Follows.{CountsAs, KeepsPaths, WaitsAs, count_of, if_waits}

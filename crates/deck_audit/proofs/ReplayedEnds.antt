@@ -17,7 +17,7 @@ use Rattle.plain_defs.specs.PlainState.{PlainState}
 use Rattle.plain_defs.specs.Program.{Part}
 use Rattle.plain_device.specs.Between.{effect_of}
 use Rattle.deck_audit.specs.declared.replayed.Running.{Running}
-use Rattle.report_places.specs.declared.state.HalfWrite.{HalfWrite}
+use Rattle.deck_audit.specs.declared.state.HalfWrite.{HalfWrite}
 use Rattle.deck_audit.specs.Device.{AuditedDevice, edit_of, is_edit_legal, is_next_legal, loosens, may_loosen}
 use Rattle.deck_audit.specs.Device.{part_of_open, plain_end, plain_end_at, words_of_open}
 use Rattle.deck_audit.specs.Follows.{EndsAs, Follows, FollowsProgram, IsAt, RunsAs, pending_by}

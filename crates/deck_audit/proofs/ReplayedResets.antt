@@ -15,8 +15,8 @@ use Rattle.plain_defs.proofs.JournalLaws.{replay-append}
 use Rattle.plain_device.specs.Between.{behind_edit}
 use Rattle.deck_audit.specs.declared.replayed.Running.{Running}
 use Rattle.std.specs.Prelude.{◌==◌, ◌-◌, slice_set}
-use Rattle.report_places.specs.declared.state.HalfWrite.{HalfWrite}
-use Rattle.report_places.specs.declared.state.HalfWrite.TheVariants.{Closed}
+use Rattle.deck_audit.specs.declared.state.HalfWrite.{HalfWrite}
+use Rattle.deck_audit.specs.declared.state.HalfWrite.TheVariants.{Closed}
 use Rattle.deck_audit.specs.Device.{AuditedDevice, part_of_open, plain_end, words_of_open}
 use Rattle.deck_audit.specs.Follows.{Follows, FollowsProgram, RunsAs, WaitsAs}
 use Rattle.deck_audit.specs.History.{cut_by_power, without_power}

@@ -12,10 +12,10 @@ use Rattle.ckd_types.specs.Parameters.{is_provisional}
 use Rattle.ckd_rules.specs.Ending.{check}
 use Rattle.ckd_rules.specs.Ends.{end_at_word}
 use Rattle.ckd_rules.specs.Walk.{TrackEdit}
-use Rattle.report_places.specs.declared.state.HalfWrite.{HalfWrite}
-use Rattle.report_places.specs.declared.state.HalfWrite.TheVariants.{Closed, OfCommand, OfBackground}
-use Rattle.report_places.specs.declared.state.OpenProgram.{OpenProgram}
-use Rattle.report_places.specs.declared.state.Outline.{Outline}
+use Rattle.deck_audit.specs.declared.state.HalfWrite.{HalfWrite}
+use Rattle.deck_audit.specs.declared.state.HalfWrite.TheVariants.{Closed, OfCommand, OfBackground}
+use Rattle.deck_audit.specs.declared.state.OpenProgram.{OpenProgram}
+use Rattle.deck_audit.specs.declared.state.Outline.{Outline}
 use Rattle.deck_text.specs.declared.line.DeviceLine.{DeviceLine}
 use Rattle.deck_text.specs.declared.line.PlannedProgram.{PlannedProgram}
 use Rattle.deck_text.specs.Plans.{plans_of}

@@ -23,15 +23,15 @@ use Rattle.report_text.specs.declared.line.ReportLine.TheVariants as lines
 use Rattle.report_text.specs.Ends.{end_line}
 use Rattle.deck_audit.specs.Device.{AuditedDevice, state_of, words_of_open, start_answer, plain_end, has_loose}
 use Rattle.deck_audit.specs.Device.{check_end, is_next_legal, may_loosen, runs, device_in, with_device}
-use Rattle.report_places.specs.declared.state.HalfWrite.{HalfWrite}
-use Rattle.report_places.specs.declared.state.HalfWrite.TheVariants.{Closed, OfCommand, OfBackground}
-use Rattle.report_places.specs.Place.{first_event, holds, is_io, is_of_work}
-use Rattle.report_places.specs.Same.{says}
+use Rattle.deck_audit.specs.declared.state.HalfWrite.{HalfWrite}
+use Rattle.deck_audit.specs.declared.state.HalfWrite.TheVariants.{Closed, OfCommand, OfBackground}
+use Rattle.deck_audit.specs.Place.{first_event, holds, is_io, is_of_work}
+use Rattle.deck_audit.specs.Same.{says}
 use Rattle.deck_audit.specs.State.{AuditState, passed, settled, then_of, worker, worker_number, behind_work}
-use Rattle.report_places.specs.declared.state.Did.{Did}
-use Rattle.report_places.specs.declared.state.Did.TheVariants.{Ended, CheckEnded, Halved, Worked}
-use Rattle.report_places.specs.declared.state.Due.{Due}
-use Rattle.report_places.specs.declared.state.Due.TheVariants.{Next, DataOf, SenseOf, Behind, OverOf, Losses, ResetOf, Powers, Totals, Frames, Nothing}
+use Rattle.deck_audit.specs.declared.state.Did.{Did}
+use Rattle.deck_audit.specs.declared.state.Did.TheVariants.{Ended, CheckEnded, Halved, Worked}
+use Rattle.deck_audit.specs.declared.state.Due.{Due}
+use Rattle.deck_audit.specs.declared.state.Due.TheVariants.{Next, DataOf, SenseOf, Behind, OverOf, Losses, ResetOf, Powers, Totals, Frames, Nothing}
 
 -- with one device as it is now
 abbrev pub changed : AuditState → AuditedDevice → AuditState

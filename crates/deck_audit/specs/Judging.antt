@@ -9,12 +9,12 @@ use Rattle.report_text.specs.declared.line.ReportLine.{ReportLine}
 use Rattle.report_text.specs.declared.line.ReportLine.TheVariants as lines
 use Rattle.report_text.specs.Ends.{end_line}
 use Rattle.deck_audit.specs.declared.replayed.Running.{Running}
-use Rattle.report_places.specs.declared.state.Did.TheVariants.{Ended, CheckEnded}
-use Rattle.report_places.specs.declared.state.Due.{Due}
-use Rattle.report_places.specs.declared.state.Due.TheVariants.{Behind, SenseOf}
+use Rattle.deck_audit.specs.declared.state.Did.TheVariants.{Ended, CheckEnded}
+use Rattle.deck_audit.specs.declared.state.Due.{Due}
+use Rattle.deck_audit.specs.declared.state.Due.TheVariants.{Behind, SenseOf}
 use Rattle.deck_audit.specs.Device.{check_end}
 use Rattle.deck_audit.specs.History.{behind_end, has_sense}
-use Rattle.report_places.specs.Same.{says}
+use Rattle.deck_audit.specs.Same.{says}
 use Rattle.deck_audit.specs.Replayed.{ReplayedState}
 use Rattle.deck_audit.specs.State.{AuditState}
 

@@ -21,18 +21,18 @@ use Rattle.deck_audit.specs.declared.kept.Kept.{Kept}
 use Rattle.deck_audit.specs.declared.kept.Then.{Then}
 use Rattle.deck_audit.specs.declared.kept.Then.TheVariants.{Passed, Wait}
 use Rattle.deck_audit.specs.declared.replayed.Running.{Running}
-use Rattle.report_places.specs.declared.state.Did.{Did}
-use Rattle.report_places.specs.declared.state.Did.TheVariants.{Ended, CheckEnded, Halved, Worked}
-use Rattle.report_places.specs.declared.state.Due.{Due}
-use Rattle.report_places.specs.declared.state.Due.TheVariants.{Behind, Losses}
-use Rattle.report_places.specs.declared.state.HalfWrite.{HalfWrite}
-use Rattle.report_places.specs.declared.state.HalfWrite.TheVariants.{Closed, OfCommand, OfBackground}
+use Rattle.deck_audit.specs.declared.state.Did.{Did}
+use Rattle.deck_audit.specs.declared.state.Did.TheVariants.{Ended, CheckEnded, Halved, Worked}
+use Rattle.deck_audit.specs.declared.state.Due.{Due}
+use Rattle.deck_audit.specs.declared.state.Due.TheVariants.{Behind, Losses}
+use Rattle.deck_audit.specs.declared.state.HalfWrite.{HalfWrite}
+use Rattle.deck_audit.specs.declared.state.HalfWrite.TheVariants.{Closed, OfCommand, OfBackground}
 use Rattle.deck_audit.specs.History.{cut_half, is_last}
 use Rattle.deck_audit.specs.Judging.{end_due}
 use Rattle.deck_audit.specs.Replay.{acted, checked, closed, cut, ended_next, has_left, is_legal, lost}
 use Rattle.deck_audit.specs.Replay.{may_loosen, next_end, reset, settled, start_answer, started_next}
 use Rattle.deck_audit.specs.Replayed.{ReplayedState}
-use Rattle.report_places.specs.Same.{says}
+use Rattle.deck_audit.specs.Same.{says}
 
 -- what is said of the device where a line is judged well
 abbrev pub OnGood : {E : Type 0} → Result (Option Then) E → Type 0 → Type 0

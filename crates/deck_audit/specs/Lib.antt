@@ -9,3 +9,7 @@ pub mod Judging
 pub mod Kept
 pub mod Keeping
 pub mod Task
+pub mod Place
+pub mod Same
+pub mod Verdict
+pub mod Codes

@@ -21,9 +21,9 @@ use Rattle.report_text.specs.declared.answers.StartAnswer.{StartAnswer}
 use Rattle.report_text.specs.declared.answers.StartAnswer.TheVariants as start
 use Rattle.deck_audit.specs.declared.replayed.Pending.{Pending}
 use Rattle.deck_audit.specs.declared.replayed.Running.{Running}
-use Rattle.report_places.specs.declared.state.HalfWrite.TheVariants.{Closed}
-use Rattle.report_places.specs.declared.state.OpenProgram.{OpenProgram}
-use Rattle.report_places.specs.declared.state.Outline.{Outline}
+use Rattle.deck_audit.specs.declared.state.HalfWrite.TheVariants.{Closed}
+use Rattle.deck_audit.specs.declared.state.OpenProgram.{OpenProgram}
+use Rattle.deck_audit.specs.declared.state.Outline.{Outline}
 use Rattle.deck_audit.specs.Replayed.{PendingState, ReplayedState}
 
 abbrev pub new_replayed : DeviceLine → ReplayedState

@@ -5,7 +5,7 @@ use Rattle.plain_defs.specs.PlainState.{PathsState, PlainState}
 use Rattle.plain_device.specs.Between.{edit_of}
 use Rattle.deck_audit.specs.declared.replayed.Pending.{Pending}
 use Rattle.deck_audit.specs.declared.replayed.Running.{Running}
-use Rattle.report_places.specs.declared.state.HalfWrite.{HalfWrite}
+use Rattle.deck_audit.specs.declared.state.HalfWrite.{HalfWrite}
 
 -- what the command that ended last does to the device, and whether it edits data of cache fast write
 pub record PendingState : Type 0 where

@@ -1,9 +1,9 @@
 -- Whether a line may stand where the lines before it made a state.
 use Rattle.std.specs.Prelude.{Bool, ◌||◌}
 use Rattle.report_text.specs.declared.line.ReportLine.{ReportLine}
-use Rattle.report_places.specs.declared.state.Due.{Due}
-use Rattle.report_places.specs.declared.state.Due.TheVariants.{Behind}
-use Rattle.report_places.specs.Place.{in_due, is_of_work}
+use Rattle.deck_audit.specs.declared.state.Due.{Due}
+use Rattle.deck_audit.specs.declared.state.Due.TheVariants.{Behind}
+use Rattle.deck_audit.specs.Place.{in_due, is_of_work}
 use Rattle.deck_audit.specs.State.{AuditState, outlines, settled, worker_number}
 
 abbrev pub in_state : AuditState → ReportLine → Bool

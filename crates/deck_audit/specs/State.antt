@@ -8,12 +8,12 @@ use Rattle.report_text.specs.declared.answers.HowOver.{HowOver}
 use Rattle.report_text.specs.declared.answers.HowOver.TheVariants.{Full, Checked}
 use Rattle.report_text.specs.declared.line.ReportLine.{ReportLine}
 use Rattle.report_text.specs.declared.line.ReportLine.TheVariants as lines
-use Rattle.report_places.specs.declared.state.Outline.{Outline}
-use Rattle.report_places.specs.declared.state.Did.{Did}
-use Rattle.report_places.specs.declared.state.Did.TheVariants.{Ended, CheckEnded, Worked}
-use Rattle.report_places.specs.declared.state.Due.{Due}
-use Rattle.report_places.specs.declared.state.Due.TheVariants.{Next, OverOf}
-use Rattle.report_places.specs.Place.{first_event, worker_of}
+use Rattle.deck_audit.specs.declared.state.Outline.{Outline}
+use Rattle.deck_audit.specs.declared.state.Did.{Did}
+use Rattle.deck_audit.specs.declared.state.Did.TheVariants.{Ended, CheckEnded, Worked}
+use Rattle.deck_audit.specs.declared.state.Due.{Due}
+use Rattle.deck_audit.specs.declared.state.Due.TheVariants.{Next, OverOf}
+use Rattle.deck_audit.specs.Place.{first_event, worker_of}
 use Rattle.deck_audit.specs.Device.{AuditedDevice, new_device, outline_of, is_idle, device_in, with_device}
 
 -- the events begin with the one that has begun or is the next

@@ -9,9 +9,9 @@ use Rattle.report_text.specs.declared.line.ReportLine.{ReportLine}
 use Rattle.deck_audit.specs.declared.kept.Kept.{Kept}
 use Rattle.deck_audit.specs.declared.kept.Then.{Then}
 use Rattle.deck_audit.specs.declared.kept.Then.TheVariants.{Passed, Wait}
-use Rattle.report_places.specs.declared.state.Did.{Did}
-use Rattle.report_places.specs.declared.state.Did.TheVariants.{Halved, Worked}
-use Rattle.report_places.specs.declared.state.Due.TheVariants.{Next, OverOf, Powers, ResetOf}
+use Rattle.deck_audit.specs.declared.state.Did.{Did}
+use Rattle.deck_audit.specs.declared.state.Did.TheVariants.{Halved, Worked}
+use Rattle.deck_audit.specs.declared.state.Due.TheVariants.{Next, OverOf, Powers, ResetOf}
 use Rattle.deck_audit.specs.declared.task.Task.{Task}
 use Rattle.deck_audit.specs.declared.task.Task.TheVariants as tasks
 use Rattle.deck_audit.specs.Device.{AuditedDevice, own_runs}
@@ -22,10 +22,10 @@ use Rattle.deck_audit.specs.Keeping.{DidSo, EndsSo, IsQuiet}
 use Rattle.deck_audit.specs.Kept.{act_kept, act_made, act_then, cut_kept_by, cut_then_by, harden_then, is_idle, loss_kept, loss_then, power_kept}
 use Rattle.deck_audit.specs.Kept.{power_then, settled_kept, settled_over, start_kept, start_then, tells_loss, then_if, wait_if, work_kept, work_then}
 use Rattle.deck_audit.specs.Replay as replay
-use Rattle.report_places.specs.Same.{says}
+use Rattle.deck_audit.specs.Same.{says}
 use Rattle.deck_audit.specs.State as state
 use Rattle.deck_audit.specs.State.{AuditState, behind_work, passed, then_of}
-use Rattle.report_places.specs.Place.{first_event}
+use Rattle.deck_audit.specs.Place.{first_event}
 
 -- an event is over with a piece of work
 abbrev pub is_over_with : Option EventLine → Bool → Did → Bool

@@ -7,7 +7,7 @@ ghost use Rattle.plain_defs.specs.declared.journal.Act.{Act};
 ghost use Rattle.plain_defs.specs.declared.journal.Act.TheVariants.{Harden, Loosen};
 ghost use Rattle.plain_defs.specs.History.{OpenEntry, acted, checked, emptied, ended, reset_in_history};
 ghost use Rattle.deck_audit.specs.declared.replayed.Running.{Running};
-ghost use Rattle.report_places.specs.declared.state.HalfWrite.{HalfWrite};
+ghost use Rattle.deck_audit.specs.declared.state.HalfWrite.{HalfWrite};
 ghost use Rattle.deck_audit.specs.Device.{AuditedDevice, is_next_legal, may_loosen, plain_end, start_answer};
 ghost use Rattle.deck_audit.specs.Follows.{CountsAs, Follows, WaitsAs};
 ghost use Rattle.plain_defs.specs.Legal.{is_started, is_used};

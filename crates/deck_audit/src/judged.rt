@@ -3,8 +3,8 @@
 ghost use Rattle.std.specs.Prelude.{◌≡◌, ◌<◌, ◌≤◌, ℕ, Some};
 ghost use Rattle.report_text.specs.declared.line.ReportLine.{ReportLine};
 ghost use Rattle.deck_audit.specs.declared.kept.Kept.{Kept};
-ghost use Rattle.report_places.specs.declared.state.Did.{Did};
-ghost use Rattle.report_places.specs.declared.state.Due.TheVariants.{Powers, ResetOf};
+ghost use Rattle.deck_audit.specs.declared.state.Did.{Did};
+ghost use Rattle.deck_audit.specs.declared.state.Due.TheVariants.{Powers, ResetOf};
 ghost use Rattle.deck_audit.specs.declared.task.Task.{Task};
 ghost use Rattle.deck_audit.specs.Device.{AuditedDevice};
 ghost use Rattle.deck_audit.specs.History.{act_of_work, changed, cut_by, loss_made, place_of, power_cut, start_made, work_made};

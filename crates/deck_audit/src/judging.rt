@@ -4,14 +4,14 @@ ghost use Rattle.report_text.specs.Ends.{end_line};
 ghost use Rattle.deck_audit.specs.History.{behind_end, has_sense};
 ghost use Rattle.report_text.specs.declared.line.ReportLine.TheVariants as lines;
 ghost use Rattle.deck_audit.specs.Judging.{check_of, data_due, end_due, sense_due};
-ghost use Rattle.report_places.specs.Same.{says};
+ghost use Rattle.deck_audit.specs.Same.{says};
 
 use crate::replayed::{ReplayedDevice, Running};
 use ckd_rules::{no_ccw, word_at};
 use ckd_sense::{data_check, equipment};
 use ckd_types::{Bytes, Ccw, CommandEnd, DeviceNo, Note, Sense, UnitStatus};
 use deck_plan::PathPlans;
-use report_places::{Did, Due, says};
+use crate::{Did, Due, says};
 use report_text::{EndLine, ReportLine};
 
 /// The words of a program of the plan, none where it has no such program.

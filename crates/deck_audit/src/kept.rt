@@ -1,5 +1,5 @@
 ghost use Rattle.std.specs.Prelude.{◌≡◌, IfOk, OnOk, true};
-ghost use Rattle.report_places.specs.declared.state.Due.TheVariants.{ResetOf};
+ghost use Rattle.deck_audit.specs.declared.state.Due.TheVariants.{ResetOf};
 ghost use Rattle.plain_defs.specs.declared.journal.Act.TheVariants.{Harden, Loosen};
 ghost use Rattle.deck_audit.specs.Kept.{OnGood, act_kept, act_made, act_then, back_half, begun, cut_kept_by, cut_then_by, end_kept, end_then};
 ghost use Rattle.deck_audit.specs.Kept.{ended_kept, ended_over, checked_kept, harden_then, is_accepted, loosen_then, loss_kept, loss_then, one_more};
@@ -10,7 +10,7 @@ ghost use Rattle.deck_audit.specs.History.{is_last};
 use crate::replayed::ReplayedDevice;
 use ckd_types::{NoMemory, PathNo, Sense, TrackNo};
 use deck_plan::PathPlans;
-use report_places::{Did, Due, HalfWrite, says};
+use crate::{Did, Due, HalfWrite, says};
 use report_text::{BackAnswer, HowOver, LooseAnswer, ReportLine, StartAnswer};
 use std::alloc::Global;
 

@@ -1,4 +1,5 @@
-//! A device of a deck, as the lines of a report make it: what each line is to it, and that a plain device could have answered so.
+//! A device of a deck, as the lines of a report make it: which line may stand where, what each line is to it, and that a plain
+//! device could have answered so; and what an audit of all of them comes to.
 #![tactic(auto)]
 
 mod follows;
@@ -7,11 +8,17 @@ mod judging;
 mod keeps;
 mod kept;
 mod law;
+mod outline;
+mod place;
 mod replay;
 mod replay_resets;
 mod replay_tells;
 mod replayed;
+mod same;
+mod state;
+mod status;
 mod task;
+mod work;
 
 pub use follows::{
     act_follows, edit_follows, end_follows, ends_are_judged, half_follows, loan_follows,
@@ -25,5 +32,10 @@ pub use judging::data_due;
 pub use keeps::{ended_is_kept, paths_are_kept, reset_is_kept, started_is_kept};
 pub use kept::{Kept, Then};
 pub use law::{accepted_start_is_plain, idle_is_plain, plain_end_is_plain};
+pub use place::{in_due, is_io, is_of_work, worker_of};
 pub use replayed::{Pending, ReplayedDevice, Running};
+pub use same::{is_same_order, says};
+pub use state::{Did, Due, HalfWrite, OpenProgram, Outline};
+pub use status::{AuditStatus, AuditWhy, code_of};
 pub use task::{Task, range_of};
+pub use work::is_act_of;

@@ -10,7 +10,7 @@ use ckd_types::{CommandEnd, NoMemory, PathNo, TrackNo};
 use deck_plan::PathPlans;
 use deck_text::DeviceLine;
 use plain_device::{Done, PlainDevice};
-use report_places::{HalfWrite, OpenProgram, Outline};
+use crate::{HalfWrite, OpenProgram, Outline};
 use report_text::StartAnswer;
 use std::alloc::Global;
 

@@ -3,7 +3,7 @@ ghost use Rattle.deck_audit.specs.Replay.{checked, closed, cut, reset, reset_on,
 
 use crate::replayed::ReplayedDevice;
 use ckd_types::{PathNo, Sense};
-use report_places::HalfWrite;
+use crate::HalfWrite;
 use std::alloc::Global;
 
 impl ReplayedDevice {

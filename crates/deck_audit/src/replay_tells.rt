@@ -6,7 +6,7 @@ ghost use Rattle.deck_audit.specs.Replay.{lent_to};
 
 use crate::replayed::ReplayedDevice;
 use ckd_types::{DeviceNo, PathNo, TrackNo};
-use report_places::HalfWrite;
+use crate::HalfWrite;
 use report_text::{HowOver, LooseAnswer, ReportLine};
 
 fn cut_half(half: HalfWrite) -> HalfWrite

@@ -1,15 +1,15 @@
 ghost use Rattle.std.specs.Prelude.{◌≡◌, ◌+◌, ◌<◌, IfOk, OnOk};
 ghost use Rattle.deck_audit.specs.declared.kept.Then.TheVariants.{Wait};
-ghost use Rattle.report_places.specs.declared.state.Did.TheVariants.{Halved};
-ghost use Rattle.report_places.specs.declared.state.Due.TheVariants.{Powers};
+ghost use Rattle.deck_audit.specs.declared.state.Did.TheVariants.{Halved};
+ghost use Rattle.deck_audit.specs.declared.state.Due.TheVariants.{Powers};
 ghost use Rattle.deck_audit.specs.Kept.{OnGood, settled_kept, tells_loss, then_if, wait_if};
-ghost use Rattle.report_places.specs.Same.{says};
+ghost use Rattle.deck_audit.specs.Same.{says};
 ghost use Rattle.deck_audit.specs.Task.{IsInRange, is_over_with, next_then, settle_then, task_kept, task_then};
 
 use crate::kept::{Kept, Then};
 use ckd_types::{CommandEnd, DeviceNo, NoMemory, PathNo, TrackNo};
 use deck_plan::{EventLine, PathPlans};
-use report_places::{Did, Due, says};
+use crate::{Did, Due, says};
 use report_text::ReportLine;
 use std::alloc::Global;
 

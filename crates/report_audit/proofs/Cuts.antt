@@ -5,8 +5,8 @@ use Rattle.std.specs.Prelude.{codes, option_map}
 use Rattle.std.specs.Str.{bytes_eq}
 use Rattle.std.proofs.lemmas.Bool.Decides.{nat_tests}
 use Rattle.deck_text.specs.Lines.{onto_first}
-use Rattle.report_auditor.specs.Verdict.{cut_lines, report_from}
-use Rattle.report_auditor.proofs.LineLemmas.{no_split}
+use Rattle.deck_audit.specs.Verdict.{cut_lines, report_from}
+use Rattle.report_audit.proofs.LineLemmas.{no_split}
 use Rattle.report_audit.specs.Lines.{IsOneLine}
 
 goes_onto : (b : ℕ) (bytes : List ℕ) → b ≢ 10 → cut_lines (b ∷ bytes) ≡ onto_first b (cut_lines bytes)

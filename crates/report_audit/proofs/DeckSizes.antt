@@ -12,7 +12,7 @@ use Rattle.deck_text.specs.Parse.{parsed}
 use Rattle.deck_text.proofs.FormsAgain.{went, needed_is, if_ok, number_range}
 use Rattle.deck_text.proofs.DeckAgain.{AllDevices, device_words}
 use Rattle.deck_text.proofs.Reached.{parsed_good}
-use Rattle.report_auditor.specs.Auditor.{IsSized}
+use Rattle.report_audit.specs.Auditor.{IsSized}
 
 line_sized : (devices : List DeviceLine) (words : List (List ℕ)) (d : DeviceLine) → device_line devices words ≡ Ok d → IsSized d
 line_sized devices words d h =

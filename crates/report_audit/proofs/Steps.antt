@@ -9,16 +9,16 @@ use Rattle.std.proofs.lemmas.List.{append-nil}
 use Rattle.deck_text.specs.DeckLines.{DeckLines}
 use Rattle.deck_text.specs.Parse.{parsed}
 use Rattle.deck_text.specs.declared.line.DeckFault.{DeckFault}
-use Rattle.report_auditor.specs.declared.status.AuditStatus.{AuditStatus}
-use Rattle.report_auditor.specs.declared.status.AuditStatus.TheVariants.{No}
-use Rattle.report_auditor.specs.declared.status.AuditWhy.{AuditWhy}
-use Rattle.report_places.specs.declared.state.Due.{Due}
-use Rattle.report_places.specs.declared.state.Due.TheVariants as dues
+use Rattle.deck_audit.specs.declared.status.AuditStatus.{AuditStatus}
+use Rattle.deck_audit.specs.declared.status.AuditStatus.TheVariants.{No}
+use Rattle.deck_audit.specs.declared.status.AuditWhy.{AuditWhy}
+use Rattle.deck_audit.specs.declared.state.Due.{Due}
+use Rattle.deck_audit.specs.declared.state.Due.TheVariants as dues
 use Rattle.deck_audit.specs.State.{AuditState, first_state}
-use Rattle.report_auditor.specs.Verdict.{at_end, cut_lines, deck_part, ended_line, judged_lines, or_no, report_from}
-use Rattle.report_auditor.proofs.LineLemmas.{whole_rest}
-use Rattle.report_auditor.specs.declared.auditor.Auditor.{Auditor}
-use Rattle.report_auditor.specs.Auditor.{IsAuditOf, is_nothing}
+use Rattle.deck_audit.specs.Verdict.{at_end, cut_lines, deck_part, ended_line, judged_lines, or_no, report_from}
+use Rattle.report_audit.proofs.LineLemmas.{whole_rest}
+use Rattle.report_audit.specs.declared.auditor.Auditor.{Auditor}
+use Rattle.report_audit.specs.Auditor.{IsAuditOf, is_nothing}
 use Rattle.report_audit.specs.Lines.{IsOneLine}
 use Rattle.report_audit.specs.Progress.{Progress, Comes, Comes_by, GoesOn, JudgedIn, Reporting, behind, behind_at, deck_behind, fault_answer}
 use Rattle.report_audit.specs.Progress.{is_reporting, report_end, some_auditor, status_of}

@@ -7,10 +7,10 @@ use Rattle.std.proofs.lemmas.Bool.{cases_lt, true≢false}
 use Rattle.std.proofs.lemmas.List.{append-nil}
 use Rattle.ckd_outside.specs.Texts.{AppendsFront}
 use Rattle.deck_text.specs.declared.line.Which.TheVariants.{Size}
-use Rattle.report_auditor.specs.declared.status.AuditStatus.{AuditStatus}
-use Rattle.report_auditor.specs.declared.status.AuditStatus.TheVariants.{Yes, No, NoReport, DeckRefused, ReadFault, WriteFault, Limit, NoMemory, Usage}
-use Rattle.report_auditor.specs.declared.status.AuditWhy.{AuditWhy}
-use Rattle.report_auditor.specs.Verdict.{cut_lines, read_back, read_back_at, report_from}
+use Rattle.deck_audit.specs.declared.status.AuditStatus.{AuditStatus}
+use Rattle.deck_audit.specs.declared.status.AuditStatus.TheVariants.{Yes, No, NoReport, DeckRefused, ReadFault, WriteFault, Limit, NoMemory, Usage}
+use Rattle.deck_audit.specs.declared.status.AuditWhy.{AuditWhy}
+use Rattle.deck_audit.specs.Verdict.{cut_lines, read_back, read_back_at, report_from}
 use Rattle.audit_laws.specs.FirstFault.{IsBad}
 use Rattle.audit_laws.proofs.FirstFaults.{no_bad, read_long, read_short}
 use Rattle.report_audit.specs.Answers.{HasFailed, IsReadBack, Reads, Tells, TellsAudit, status_text}

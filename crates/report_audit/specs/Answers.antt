@@ -4,10 +4,10 @@ use Rattle.std.specs.Str.{bytes_eq}
 use Rattle.std.specs.Io.KnownBytes.{Appends, Consumes, IsAtEnd}
 use Rattle.ckd_outside.specs.Texts.{AppendsFront}
 use Rattle.deck_text.specs.Texts.{limit_text, refused_text}
-use Rattle.report_auditor.specs.Answers.{no_report_text, no_text, usage_text, yes_text}
-use Rattle.report_auditor.specs.Verdict.{read_back}
-use Rattle.report_auditor.specs.declared.status.AuditStatus.{AuditStatus}
-use Rattle.report_auditor.specs.declared.status.AuditStatus.TheVariants.{Yes, No, NoReport, DeckRefused, ReadFault, WriteFault, Limit, NoMemory, Usage}
+use Rattle.report_audit.specs.AuditTexts.{no_report_text, no_text, usage_text, yes_text}
+use Rattle.deck_audit.specs.Verdict.{read_back}
+use Rattle.deck_audit.specs.declared.status.AuditStatus.{AuditStatus}
+use Rattle.deck_audit.specs.declared.status.AuditStatus.TheVariants.{Yes, No, NoReport, DeckRefused, ReadFault, WriteFault, Limit, NoMemory, Usage}
 
 -- the one word `audit`
 unfoldable pub is_audit : List (List ℕ) → Bool

@@ -1,3 +1,5 @@
 pub mod Lines
 pub mod Progress
 pub mod Answers
+pub mod AuditTexts
+pub mod Auditor

@@ -4,14 +4,14 @@ use Rattle.deck_text.specs.declared.line.DeckFault.{DeckFault}
 use Rattle.deck_text.specs.declared.line.DeckFault.TheVariants as deck_faults
 use Rattle.deck_text.specs.DeckLines.{DeckLines}
 use Rattle.deck_text.specs.Parse.{parsed}
-use Rattle.report_auditor.specs.declared.status.AuditStatus.{AuditStatus}
-use Rattle.report_auditor.specs.declared.status.AuditStatus.TheVariants.{Yes, No, NoReport, DeckRefused, Limit, NoMemory}
-use Rattle.report_auditor.specs.declared.status.AuditWhy.{AuditWhy}
-use Rattle.report_auditor.specs.declared.status.AuditWhy.TheVariants.{Place}
+use Rattle.deck_audit.specs.declared.status.AuditStatus.{AuditStatus}
+use Rattle.deck_audit.specs.declared.status.AuditStatus.TheVariants.{Yes, No, NoReport, DeckRefused, Limit, NoMemory}
+use Rattle.deck_audit.specs.declared.status.AuditWhy.{AuditWhy}
+use Rattle.deck_audit.specs.declared.status.AuditWhy.TheVariants.{Place}
 use Rattle.deck_audit.specs.State.{AuditState, first_state}
-use Rattle.report_auditor.specs.Verdict.{cut_lines, deck_part, judged_lines, judged_text, report_from}
-use Rattle.report_auditor.specs.declared.auditor.Auditor.{Auditor}
-use Rattle.report_auditor.specs.Auditor.{IsAuditOf, IsJudged}
+use Rattle.deck_audit.specs.Verdict.{cut_lines, deck_part, judged_lines, judged_text, report_from}
+use Rattle.report_audit.specs.declared.auditor.Auditor.{Auditor}
+use Rattle.report_audit.specs.Auditor.{IsAuditOf, IsJudged}
 
 -- the deck's lines so far, each with its line feed; how many lines there were; behind REPORT the auditor; what it came to
 pub record Progress : Type 0 where

@@ -1,5 +1,5 @@
 ghost use Rattle.std.specs.Prelude.{◌≡◌, ◌<◌, ◌≤◌, ◌+◌, ◌++◌, ◌∷◌, [], ℕ, List, IfOk, OnOk, length, codes, Some, None, Bool, true, false};
-ghost use Rattle.report_auditor.specs.declared.status.AuditStatus.{AuditStatus as Answer};
+ghost use Rattle.deck_audit.specs.declared.status.AuditStatus.{AuditStatus as Answer};
 ghost use Rattle.report_audit.specs.Lines.{IsOneLine};
 ghost use Rattle.deck_text.specs.Parse.{parsed};
 ghost use Rattle.report_audit.specs.Progress.{Comes, GoesOn, JudgedIn, begun, deck_end, fault_answer, is_answer};
@@ -8,7 +8,8 @@ ghost use Rattle.report_audit.specs.Progress.{is_over, is_reporting, may_be, rep
 use crate::line::judge_text;
 use ckd_types::NoMemory;
 use deck_text::{DeckFault, Which, read_deck};
-use report_auditor::{AuditStatus, AuditWhy, Auditor};
+use crate::Auditor;
+use deck_audit::{AuditStatus, AuditWhy};
 use report_text::Respelling;
 use std::alloc::Global;
 use std::marker::Model;

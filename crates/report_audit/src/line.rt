@@ -1,10 +1,11 @@
 ghost use Rattle.std.specs.Prelude.{◌≡◌, IfOk, ℕ};
 ghost use Rattle.deck_audit.specs.State.{AuditState};
-ghost use Rattle.report_auditor.specs.Verdict.{judged_text};
-ghost use Rattle.report_auditor.specs.Auditor.{IsAuditOf, IsJudged};
+ghost use Rattle.deck_audit.specs.Verdict.{judged_text};
+ghost use Rattle.report_audit.specs.Auditor.{IsAuditOf, IsJudged};
 
 use ckd_types::NoMemory;
-use report_auditor::{AuditWhy, Auditor};
+use crate::Auditor;
+use deck_audit::AuditWhy;
 use report_reading::{LineError, read_line};
 use report_text::Respelling;
 use std::alloc::Global;

@@ -1,13 +1,13 @@
 ghost use Rattle.std.specs.Prelude.{◌≡◌, ◌<◌, ◌≤◌, ◌+◌, ◌++◌, ◌∷◌, [], ℕ, List, IfOk, OnOk, length, true};
-ghost use Rattle.report_auditor.specs.Verdict.{read_back};
-ghost use Rattle.report_auditor.specs.declared.status.AuditStatus.{AuditStatus as Answer};
+ghost use Rattle.deck_audit.specs.Verdict.{read_back};
+ghost use Rattle.deck_audit.specs.declared.status.AuditStatus.{AuditStatus as Answer};
 ghost use Rattle.report_audit.specs.Lines.{IsOneLine};
 ghost use Rattle.report_audit.specs.Progress.{Comes, GoesOn, begun, is_answer};
 
 use crate::Audit;
 use ckd_types::NoMemory;
 use deck_text::place_of;
-use report_auditor::AuditStatus;
+use deck_audit::AuditStatus;
 use std::alloc::Global;
 use std::marker::Model;
 

@@ -6,7 +6,7 @@ ghost use Rattle.report_audit.specs.Progress.{is_answer};
 use crate::PieceAudit;
 use ckd_outside::{ReadError, Source};
 use deck_text::Which;
-use report_auditor::AuditStatus;
+use deck_audit::AuditStatus;
 use std::alloc::Global;
 
 /// One byte more than a deck and a report may have.

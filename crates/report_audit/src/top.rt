@@ -4,21 +4,22 @@ ghost use Rattle.ckd_outside.specs.Causes.{Rose, HasCause};
 ghost use Rattle.ckd_outside.specs.Texts.{Writes, AppendsFront};
 ghost use Rattle.deck_text.specs.DeckLines.{DeckLines};
 ghost use Rattle.deck_text.specs.Parse.{parsed};
-ghost use Rattle.report_auditor.specs.Answers.{usage_text};
-ghost use Rattle.report_auditor.specs.Verdict.{read_back};
-ghost use Rattle.report_auditor.specs.declared.status.AuditWhy.{AuditWhy as Why};
+ghost use Rattle.report_audit.specs.AuditTexts.{usage_text};
+ghost use Rattle.deck_audit.specs.Verdict.{read_back};
+ghost use Rattle.deck_audit.specs.declared.status.AuditWhy.{AuditWhy as Why};
 ghost use Rattle.audit_laws.specs.FirstFault.{IsBad, IsGood};
 ghost use Rattle.audit_laws.specs.Plain.{IsPlainReport};
 ghost use Rattle.audit_laws.specs.Refused.{IsNot};
-ghost use Rattle.run_audit_laws.specs.Texts.{IsEnded, IsOwnReport, own_text};
+ghost use Rattle.audit_laws.specs.Texts.{IsEnded, IsOwnReport, own_text};
 ghost use Rattle.report_audit.specs.Answers.{HasFailed, IsReadBack, Tells, TellsAudit, TellsUsage, is_audit, status_text};
 
 use crate::reading::read_audit;
 use audit_laws::{no_is_not, yes_is_plain};
 use ckd_outside::{Failed, ReadError, Sink, Source};
 use deck_text::{write_limit, write_refused};
-use report_auditor::{AuditStatus, write_no, write_no_report, write_usage, write_yes};
-use run_audit_laws::{own_report_is_yes, own_text_is_yes};
+use crate::{write_no, write_no_report, write_usage, write_yes};
+use deck_audit::AuditStatus;
+use audit_laws::{own_report_is_yes, own_text_is_yes};
 use std::alloc::Global;
 
 #[tactic(auto, unfolding(crate::specs::Answers::is_audit))]

@@ -1,6 +1,6 @@
 use Rattle.std.proofs.Common.{ap}
 use Rattle.std.specs.Prelude.{Some}
-use Rattle.report_auditor.specs.Verdict.{deck_part}
+use Rattle.deck_audit.specs.Verdict.{deck_part}
 use Rattle.audit_laws.specs.FirstFault.{report_lines}
 use Rattle.audit_laws.proofs.GoodLines.{awaits_sense}
 use Rattle.audit_laws.proofs.ToldTexts.{told_of}

@@ -1,4 +1,4 @@
-use Rattle.report_auditor.specs.Verdict.{deck_part}
+use Rattle.deck_audit.specs.Verdict.{deck_part}
 use Rattle.audit_laws.specs.FirstFault.{report_lines}
 use Rattle.std.specs.Prelude.{Some}
 use Rattle.audit_laws.proofs.Decks.{plain_at_last}

@@ -1,5 +1,5 @@
 use Rattle.std.specs.Prelude.{Some}
-use Rattle.report_auditor.specs.Verdict.{deck_part}
+use Rattle.deck_audit.specs.Verdict.{deck_part}
 use Rattle.audit_laws.specs.FirstFault.{report_lines}
 use Rattle.audit_laws.proofs.FirstFaults.{yes_good}
 use Rattle.audit_laws.proofs.Decks.{plain_at_last}

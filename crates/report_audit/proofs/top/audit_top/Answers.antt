@@ -1,5 +1,5 @@
 use Rattle.audit_laws.proofs.FirstFaults.{no_bad, yes_good}
-use Rattle.run_audit_laws.specs.Texts.{own_text}
+use Rattle.audit_laws.specs.Texts.{own_text}
 use Rattle.report_audit.proofs.Whole.{complete, no_told, own_told, yes_read}
 use Rattle.report_audit.proofs.top.audit_top.Goals as goal
 

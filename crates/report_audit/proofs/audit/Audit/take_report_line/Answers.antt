@@ -1,5 +1,5 @@
 use Rattle.std.proofs.Common.{◌+◌, Option, ap, subst}
-use Rattle.report_auditor.specs.declared.auditor.Auditor.{Auditor}
+use Rattle.report_audit.specs.declared.auditor.Auditor.{Auditor}
 use Rattle.report_audit.specs.Progress.{JudgedIn, Progress}
 use Rattle.report_audit.proofs.Steps.{report_goes, report_ends}
 use Rattle.report_audit.proofs.audit.Audit.take_report_line.Goals as goal

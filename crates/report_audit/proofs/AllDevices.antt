@@ -1,0 +1,130 @@
+-- What a line makes of all devices of an auditor.
+use Rattle.std.proofs.Common.{◌≡◌, ◌<◌, ◌+◌, ◌++◌, ℕ, List, [], ◌∷◌, length, take, drop, Option, Some, None, Bool, true, false, cond, refl, arith, sym, ap}
+use Rattle.std.proofs.Common.{subst, ◌∙◌}
+use Rattle.std.specs.Prelude.{◌&&◌, ◌||◌, map, slice_index_or, slice_set}
+use Rattle.std.specs.List.{list_any}
+use Rattle.std.proofs.lemmas.List.{length-append, length-drop, length-map, length-take, get_or_default}
+use Rattle.std.proofs.lemmas.List.Edits.{map_over_more}
+use Rattle.deck_text.specs.declared.line.PlannedProgram.{PlannedProgram}
+use Rattle.plain_defs.specs.declared.journal.Item.TheVariants as items
+use Rattle.plain_defs.specs.History.{History, OpenEntry, emptied, lost_power, lost_power_in}
+use Rattle.plain_defs.specs.Legal.{is_started}
+use Rattle.report_audit.specs.Auditor.{AllKept, IsAt, NoneRuns, dark_kept, has_program, lent_runs, taken_back}
+use Rattle.deck_audit.specs.declared.kept.Kept.{Kept}
+use Rattle.deck_audit.specs.declared.state.Due.TheVariants.{Next}
+use Rattle.deck_audit.specs.declared.state.HalfWrite.TheVariants.{Closed}
+use Rattle.deck_audit.specs.Device.{AuditedDevice, runs}
+use Rattle.deck_audit.specs.History.{given_back, is_lent_to, runs_lent, without_power}
+use Rattle.deck_audit.specs.Keeping.{IsCounted, IsKept}
+use Rattle.deck_audit.specs.Replay as replay
+use Rattle.deck_audit.specs.Replayed.{ReplayedState}
+use Rattle.deck_audit.proofs.Judges.{by_program}
+use Rattle.deck_audit.proofs.KeptPaths.{fresh_keeps, power_keeps}
+use Rattle.deck_audit.proofs.ReplayedResets.{fresh_follows, power_follows}
+
+-- a loop over the devices that changes each
+pub changes_all : (f : Kept → Kept) (xs ys : List Kept) (i : ℕ) (x d : Kept) → i < length xs → ys ≡ map f (take i xs) ++ drop i xs
+    → x ≡ f (slice_index_or ys i d) → slice_set ys i x ≡ map f (take (i + 1) xs) ++ drop (i + 1) xs
+changes_all f xs ys i x d short so is =
+    let l = length-append (map f (take i xs)) (drop i xs) in
+    let m = length-map (take i xs) f in
+    let t = length-take i xs in
+    let r = length-drop i xs in
+    let s = ap (λ (k : List Kept). length k) so in
+    let inside : i < length ys = omega (arith, short, s, l, m, t, r) in
+    ap (λ (k : Kept). slice_set ys i k) is
+    ∙ map_over_more f xs ys i (slice_index_or ys i d) short so (get_or_default ys i d (slice_index_or ys i d) inside)
+
+-- A loss of power
+
+quiet_dark : (r : ReplayedState) (b : Bool) → r.pending ≡ None → (cond b (replay.dark r) (record r { half = Closed })).pending ≡ None
+quiet_dark r true is = refl
+quiet_dark r false is = is
+
+lost_running : (h : History) → h.running ≡ None → (lost_power h 0).running ≡ None
+lost_running h idle = ap (λ (x : Option OpenEntry). (lost_power_in h 0 x).running) idle ∙ by_start (is_started false h.items) where
+  by_start : (b : Bool) → (cond b (record { items = h.items ++ items.Power ∷ []; running = None; waiting = [] }) h).running ≡ None
+  by_start true = refl
+  by_start false = idle
+
+module _ (programs : List PlannedProgram) where
+  dark_at : (k : Kept) (a : AuditedDevice) → IsAt programs Next k a → a.history.running ≡ None
+      → IsAt programs Next (dark_kept k) (without_power a)
+  dark_at k a is idle = record {
+    kept = record {
+      follows = power_follows k.device a is.kept.follows idle (is.kept.keeps.powered_is
+          ∙ ap (λ (x : Option OpenEntry). runs x || is_started false a.history.items) idle);
+      keeps = power_keeps k.device a.history is.kept.keeps idle;
+      counts = subst (λ (x : Option OpenEntry). IsCounted k.ended x) (sym (lost_running a.history idle)) tt;
+    };
+    plans_are = is.plans_are;
+    due_so = quiet_dark k.device k.device.powered is.due_so;
+  }
+
+  pub all_dark : (ks : List Kept) (ds : List AuditedDevice) → AllKept programs ks ds → NoneRuns (length ds) ds
+      → AllKept programs (map dark_kept ks) (map without_power ds)
+  all_dark [] [] all none = tt
+  all_dark (k ∷ ks) (a ∷ ds) all none = (dark_at k a all.0 none.0, all_dark ks ds all.1 none.1)
+  all_dark [] (a ∷ ds) all none = absurd all
+  all_dark (k ∷ ks) [] all none = absurd all
+
+-- The end of a loan
+
+runs_alike : (k : Kept) (a : AuditedDevice) → IsKept k a → has_program k.device.running ≡ runs a.history.running
+runs_alike k a i = by_program k.device a i.follows
+    (λ idle. ap has_program idle.run_is ∙ sym (ap runs idle.entry_is))
+    (λ both. ap has_program both.run_is ∙ sym (ap runs both.entry_is))
+
+not_runs : (x : Option OpenEntry) → runs x ≡ false → x ≡ None
+not_runs (Some o) is = absurd (cc)
+not_runs None is = refl
+
+or_first : (x y : Bool) → (x || y) ≡ false → x ≡ false
+or_first true y is = absurd (cc)
+or_first false y is = refl
+
+or_second : (x y : Bool) → (x || y) ≡ false → y ≡ false
+or_second true y is = absurd (cc)
+or_second false y is = is
+
+module _ (programs : List PlannedProgram) (n : ℕ) where
+  lent_alike : (k : Kept) (a : AuditedDevice) → IsKept k a → lent_runs n k ≡ runs_lent n a
+  lent_alike k a i = ap (λ (l : Option ℕ). is_lent_to n l && has_program k.device.running) i.follows.lent_is
+      ∙ ap (λ (b : Bool). is_lent_to n a.lent && b) (runs_alike k a i)
+
+  pub any_alike : (ks : List Kept) (ds : List AuditedDevice) → AllKept programs ks ds
+      → list_any (lent_runs n) ks ≡ list_any (runs_lent n) ds
+  any_alike [] [] all = refl
+  any_alike (k ∷ ks) (a ∷ ds) all = ap (λ (b : Bool). b || list_any (lent_runs n) ks) (lent_alike k a all.0.kept)
+      ∙ ap (λ (b : Bool). runs_lent n a || b) (any_alike ks ds all.1)
+  any_alike [] (a ∷ ds) all = absurd all
+  any_alike (k ∷ ks) [] all = absurd all
+
+  back_by : (k : Kept) (a : AuditedDevice) (b : Bool) → IsAt programs Next k a → (b && runs a.history.running) ≡ false
+      → IsAt programs Next (cond b (record k { device = replay.given_back k.device }) k)
+      (cond b (record a { history = emptied a.history; lent = None }) a)
+  back_by k a true is idle = record {
+    kept = record {
+      follows = fresh_follows k.device a is.kept.follows (not_runs a.history.running idle);
+      keeps = fresh_keeps k.device a.history is.kept.keeps;
+      counts = is.kept.counts;
+    };
+    plans_are = is.plans_are;
+    due_so = refl;
+  }
+  back_by k a false is idle = is
+
+  back_at : (k : Kept) (a : AuditedDevice) → IsAt programs Next k a → runs_lent n a ≡ false
+      → IsAt programs Next (taken_back n k) (given_back n a)
+  back_at k a is idle = subst (λ (b : Bool). IsAt programs Next (cond b (record k { device = replay.given_back k.device }) k) (given_back n a))
+      (sym (ap (λ (l : Option ℕ). is_lent_to n l) is.kept.follows.lent_is)) (back_by k a (is_lent_to n a.lent) is idle)
+
+  pub all_back : (ks : List Kept) (ds : List AuditedDevice) → AllKept programs ks ds → list_any (runs_lent n) ds ≡ false
+      → AllKept programs (map (taken_back n) ks) (map (given_back n) ds)
+  all_back [] [] all none = tt
+  all_back (k ∷ ks) (a ∷ ds) all none = (
+    back_at k a all.0 (or_first (runs_lent n a) (list_any (runs_lent n) ds) none),
+    all_back ks ds all.1 (or_second (runs_lent n a) (list_any (runs_lent n) ds) none),
+  )
+  all_back [] (a ∷ ds) all none = absurd all
+  all_back (k ∷ ks) [] all none = absurd all

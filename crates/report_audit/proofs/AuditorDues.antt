@@ -1,0 +1,131 @@
+-- What an auditor keeps where no device changes.
+use Rattle.std.proofs.Common.{◌≡◌, ℕ, List, [], ◌∷◌, length, drop, Some, None, Bool, true, false, cond, refl, sym, ap, subst, ◌∙◌}
+use Rattle.std.specs.Prelude.{◌==◌, map}
+use Rattle.ckd_types.specs.declared.channel.CommandEnd.{CommandEnd}
+use Rattle.deck_plan.specs.declared.event.EventLine.{EventLine}
+use Rattle.deck_text.specs.declared.line.PlannedProgram.{PlannedProgram}
+use Rattle.report_text.specs.declared.line.ReportLine.{ReportLine}
+use Rattle.report_text.specs.declared.line.ReportLine.TheVariants as lines
+use Rattle.report_audit.specs.Auditor.{AllKept, AreKept, ArePowered, IsAt, IsAuditOf, IsFor, Makes, OneKept, due_if, either, gone_on, is_quiet}
+use Rattle.report_audit.specs.declared.auditor.Auditor.{Auditor}
+use Rattle.deck_audit.specs.declared.kept.Kept.{Kept}
+use Rattle.deck_audit.specs.declared.kept.Then.TheVariants.{Passed, Wait}
+use Rattle.deck_audit.specs.declared.state.Did.TheVariants.{Ended}
+use Rattle.deck_audit.specs.declared.state.Due.{Due}
+use Rattle.deck_audit.specs.declared.state.Due.TheVariants.{Behind, DataOf}
+use Rattle.deck_audit.specs.Device.{AuditedDevice, device_in, outline_of}
+use Rattle.deck_audit.specs.History.{due_made}
+use Rattle.deck_audit.specs.Judging.{data_due}
+use Rattle.deck_audit.specs.Keeping.{IsDue}
+use Rattle.deck_audit.specs.Same.{says}
+use Rattle.deck_audit.specs.Place.{IsDueOf, outline_in}
+use Rattle.deck_audit.specs.State.{AuditState, passed, worker_number}
+use Rattle.report_audit.proofs.AuditorLines.{behind_event}
+
+module _ (z : Auditor) (s : AuditState) (f : IsFor z s) (quiet : is_quiet s.due ≡ true) where
+  pub all_here : AllKept z.deck.programs z.devices.items s.devices
+  all_here = subst (λ (b : Bool). AreKept z.deck.programs s.due (worker_number s) z.devices.items s.devices b) quiet f.devices_are
+
+  pub waits_so : (due : Due) → is_quiet due ≡ true → IsDueOf (length s.devices) due → ArePowered due s.devices
+      → IsAuditOf (gone_on z (Wait due)) (record s { due = due })
+  waits_so due is told powered = record {
+    for = record {
+      events_are = f.events_are;
+      devices_are = subst (λ (b : Bool). AreKept z.deck.programs due (worker_number s) z.devices.items s.devices b) (sym is) all_here;
+      told = told;
+      powered = powered;
+      outlines_so = f.outlines_so;
+    };
+    due_is = refl;
+  }
+
+  pub passes_so : IsAuditOf (gone_on z Passed) (passed s)
+  passes_so = record {
+    for = record {
+      events_are = ap (λ (e : List EventLine). drop 1 e) f.events_are ∙ behind_event z.deck.events z.passed;
+      devices_are = all_here;
+      told = tt;
+      powered = tt;
+      outlines_so = f.outlines_so;
+    };
+    due_is = refl;
+  }
+
+-- The same is due by another name
+
+module _ (programs : List PlannedProgram) (due next : Due) (go : (k : Kept) (a : AuditedDevice) → IsDue due k a → IsDue next k a) where
+  head_so : (k : Kept) (a : AuditedDevice) (b : Bool) → IsAt programs (due_if b due) k a → IsAt programs (due_if b next) k a
+  head_so k a true is = record { kept = is.kept; plans_are = is.plans_are; due_so = go k a is.due_so }
+  head_so k a false is = is
+
+  tail_so : (b : Bool) (P Q R : Type 0) → (Q → R) → either b P Q → either b P R
+  tail_so true P Q R on is = is
+  tail_so false P Q R on is = on is
+
+  pub one_so : (d : ℕ) (ks : List Kept) (ds : List AuditedDevice) → OneKept programs due d ks ds → OneKept programs next d ks ds
+  one_so d [] [] one = tt
+  one_so d (k ∷ ks) (a ∷ ds) one = (
+    head_so k a (a.number == d) one.0,
+    tail_so (a.number == d) (AllKept programs ks ds) (OneKept programs due d ks ds)
+        (OneKept programs next d ks ds) (λ later. one_so d ks ds later) one.1,
+  )
+  one_so d [] (a ∷ ds) one = absurd one
+  one_so d (k ∷ ks) [] one = absurd one
+
+-- The outline of the device of a number
+
+outline_by : (a : AuditedDevice) (devices : List AuditedDevice) (d : ℕ) (b : AuditedDevice) (x : Bool)
+    → cond x (Some a) (device_in devices d) ≡ Some b
+    → (device_in devices d ≡ Some b → outline_in (map outline_of devices) d ≡ Some (outline_of b))
+    → cond x (Some (outline_of a)) (outline_in (map outline_of devices) d) ≡ Some (outline_of b)
+outline_by a devices d b true is go = ap (λ (x : AuditedDevice). Some (outline_of x)) (let e : a ≡ b = cc in e)
+outline_by a devices d b false is go = go is
+
+pub outline_is : (devices : List AuditedDevice) (d : ℕ) (a : AuditedDevice) → device_in devices d ≡ Some a
+    → outline_in (map outline_of devices) d ≡ Some (outline_of a)
+outline_is [] d a is = absurd (cc)
+outline_is (b ∷ devices) d a is = outline_by b devices d a (b.number == d) is (λ later. outline_is devices d a later)
+
+-- DATA
+
+module _ (z : Auditor) (s : AuditState) (e : CommandEnd) (f : IsFor z s) (due_is : s.due ≡ DataOf e) where
+  one_due : (d : ℕ) × (worker_number s ≡ Some d) × OneKept z.deck.programs (DataOf e) d z.devices.items s.devices
+  one_due = subst (λ (due : Due). AreKept z.deck.programs due (worker_number s) z.devices.items s.devices (is_quiet due)) due_is f.devices_are
+
+  sent_kept : IsAuditOf (record z { due = Behind true (Ended e) }) (record s { due = Behind true (Ended e) })
+  sent_kept = record {
+    for = record {
+      events_are = f.events_are;
+      devices_are = (
+        one_due.0,
+        one_due.1,
+        one_so z.deck.programs (DataOf e) (Behind true (Ended e)) (λ k a is. is) one_due.0
+            z.devices.items s.devices one_due.2,
+      );
+      told = tt;
+      powered = tt;
+      outlines_so = f.outlines_so;
+    };
+    due_is = refl;
+  }
+
+  data_by : (due : Due) (b : Bool) → cond b (Some (Behind true (Ended e))) None ≡ Some due
+      → Makes true (record z { due = due }) (cond b (Some (record s { due = Behind true (Ended e) })) None)
+  data_by due true is =
+      let same : Behind true (Ended e) ≡ due = cc in (
+        record s { due = Behind true (Ended e) },
+        refl,
+        subst (λ (x : Due). IsAuditOf (record z { due = x }) (record s
+            { due = Behind true (Ended e) })) same sent_kept,
+      )
+  data_by due false is = absurd (cc)
+
+  pub data_makes : (line : ReportLine) (due : Due) → Some due ≡ data_due line e → Makes true (record z { due = due }) (due_made s line (DataOf e))
+  data_makes line due is = data_by due (says (lines.Data e.sent) line) (sym is)
+
+  none_by : (b : Bool) → cond b (Some (Behind true (Ended e))) None ≡ None → cond b (Some (record s { due = Behind true (Ended e) })) None ≡ None
+  none_by true is = absurd (cc)
+  none_by false is = refl
+
+  pub data_none : (line : ReportLine) → None ≡ data_due line e → due_made s line (DataOf e) ≡ None
+  data_none line is = none_by (says (lines.Data e.sent) line) (sym is)

@@ -1,0 +1,90 @@
+ghost use Rattle.std.specs.Prelude.{◌≡◌};
+ghost use Rattle.report_audit.specs.Auditor.{behind_of, cut_at, idle_fault, loose_at, order_told, totals_due};
+
+use deck_audit::AuditWhy;
+use ckd_types::{DeviceNo, TrackNo};
+use deck_audit::{Did, Due, is_io};
+use report_text::{HowOver, LooseAnswer, OrderAnswer, ReportLine};
+
+/// The device and the commands of a program that was cut, where the line tells of one.
+pub fn cut_at(line: &ReportLine) -> Option<(DeviceNo, u16)>
+    ensures { result ≡ cut_at line.now }
+{
+    match line {
+        ReportLine::Over(_, d, _, HowOver::Cut(n)) => Some((*d, *n)),
+        _ => None,
+    }
+}
+
+/// What a line of an order tells.
+#[derive(Debug)]
+pub enum OrderTold {
+    /// The order is done.
+    Done,
+    /// A track became firm, since its volume failed.
+    Firm(DeviceNo, TrackNo),
+    /// The cache failed, and a device's loose tracks went back.
+    Lost(DeviceNo),
+    Other,
+}
+
+/// What a line behind an order tells; `Other` for a line of another kind.
+pub fn order_told(line: &ReportLine) -> OrderTold
+    ensures { result ≡ order_told line.now }
+{
+    match line {
+        ReportLine::Order(_, OrderAnswer::Done) => OrderTold::Done,
+        ReportLine::Loose(d, LooseAnswer::Harden(t)) => OrderTold::Firm(*d, *t),
+        ReportLine::Loose(d, LooseAnswer::Lost { .. }) => OrderTold::Lost(*d),
+        _ => OrderTold::Other,
+    }
+}
+
+/// The device of a line about its loose tracks.
+pub fn loose_at(line: &ReportLine) -> Option<DeviceNo>
+    ensures { result ≡ loose_at line.now }
+{
+    match line {
+        ReportLine::Loose(d, _) => Some(*d),
+        _ => None,
+    }
+}
+
+/// What is due behind a line of the totals of so many devices, where so many of them were told.
+pub fn totals_due(devices: usize, line: &ReportLine, told: usize) -> Due
+    ensures { result ≡ totals_due devices line.now told }
+{
+    match line {
+        ReportLine::Device(_, _) => {
+            if told < devices {
+                Due::Totals(told + 1)
+            } else {
+                Due::Totals(told)
+            }
+        }
+        ReportLine::Lost(_, _) => Due::Totals(told),
+        ReportLine::Finish => Due::Nothing,
+        _ => Due::Frames,
+    }
+}
+
+/// A piece of work that is at its end, or what else is due.
+pub fn behind_of(due: Due) -> Result<(bool, Did), Due>
+    ensures { result ≡ behind_of due }
+{
+    match due {
+        Due::Behind(more, did) => Ok((more, did)),
+        due => Err(due),
+    }
+}
+
+/// The fault of a line behind a piece of work that no device does.
+pub fn idle_fault(line: &ReportLine) -> AuditWhy
+    ensures { result ≡ idle_fault line.now }
+{
+    if is_io(line) {
+        AuditWhy::History
+    } else {
+        AuditWhy::Place
+    }
+}

@@ -1,6 +1,0 @@
-use Rattle.std.proofs.Common.{ap, ◌∙◌}
-use Rattle.report_auditor.specs.Auditor.{is_nothing}
-use Rattle.report_auditor.proofs.auditor.Auditor.is_finished.Goals as goal
-
-pub returns : goal.returns
-returns c = λ s audit. c.is_nothing.ensures ∙ ap is_nothing audit.due_is

@@ -1,4 +1,0 @@
-use Rattle.report_auditor.proofs.auditor.Auditor.loss_line.Goals as goal
-
-pub returns : goal.returns
-returns c = λ s f quiet. c.in_ok-good.ensures s f quiet

@@ -1,4 +1,0 @@
-use Rattle.report_auditor.proofs.auditor.Auditor.sense_line.Goals as goal
-
-pub returns : goal.returns
-returns c = λ s f due worker. c.in_ok-good.ensures s f (due, worker)

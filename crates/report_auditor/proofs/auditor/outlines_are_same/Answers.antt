@@ -1,5 +1,0 @@
-use Rattle.report_auditor.proofs.OutlineLaw.{outlines_are}
-use Rattle.report_auditor.proofs.auditor.outlines_are_same.Goals as goal
-
-pub returns : goal.returns
-returns c z s f = outlines_are z s f
