@@ -4,9 +4,9 @@
 mod progress;
 
 use ckd_outside::{StdSink, StdSource};
+use deck_audit::{AuditStatus, code_of};
 use progress::Shown;
 use report_audit::{audit_top, words_of};
-use deck_audit::{AuditStatus, code_of};
 use std::alloc::AllocError;
 use std::env::Args;
 use std::io::IsTerminal;

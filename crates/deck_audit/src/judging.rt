@@ -7,11 +7,11 @@ ghost use Rattle.deck_audit.specs.Judging.{check_of, data_due, end_due, sense_du
 ghost use Rattle.deck_audit.specs.Same.{says};
 
 use crate::replayed::{ReplayedDevice, Running};
+use crate::{Did, Due, says};
 use ckd_rules::{no_ccw, word_at};
 use ckd_sense::{data_check, equipment};
 use ckd_types::{Bytes, Ccw, CommandEnd, DeviceNo, Note, Sense, UnitStatus};
 use deck_plan::PathPlans;
-use crate::{Did, Due, says};
 use report_text::{EndLine, ReportLine};
 
 /// The words of a program of the plan, none where it has no such program.

@@ -8,9 +8,9 @@ ghost use Rattle.deck_audit.specs.Kept.{work_then};
 ghost use Rattle.deck_audit.specs.History.{is_last};
 
 use crate::replayed::ReplayedDevice;
+use crate::{Did, Due, HalfWrite, says};
 use ckd_types::{NoMemory, PathNo, Sense, TrackNo};
 use deck_plan::PathPlans;
-use crate::{Did, Due, HalfWrite, says};
 use report_text::{BackAnswer, HowOver, LooseAnswer, ReportLine, StartAnswer};
 use std::alloc::Global;
 

@@ -5,12 +5,12 @@ ghost use Rattle.deck_audit.specs.Replay.{lost, may_loosen, may_start, new_repla
 ghost use Rattle.deck_audit.specs.Replay.{settled, start_answer, started_next, started_on};
 
 use crate::replayed::{Pending, ReplayedDevice, Running};
+use crate::{HalfWrite, OpenProgram, Outline};
 use ckd_chain::Chain;
 use ckd_types::{CommandEnd, NoMemory, PathNo, TrackNo};
 use deck_plan::PathPlans;
 use deck_text::DeviceLine;
 use plain_device::{Done, PlainDevice};
-use crate::{HalfWrite, OpenProgram, Outline};
 use report_text::StartAnswer;
 use std::alloc::Global;
 

@@ -1,9 +1,9 @@
 ghost use Rattle.std.specs.Prelude.{◌≡◌};
 ghost use Rattle.deck_audit.specs.Replay.{checked, closed, cut, reset, reset_on, reset_used, reset_waiting, wait_used, without_power};
 
+use crate::HalfWrite;
 use crate::replayed::ReplayedDevice;
 use ckd_types::{PathNo, Sense};
-use crate::HalfWrite;
 use std::alloc::Global;
 
 impl ReplayedDevice {

@@ -4,9 +4,9 @@ ghost use Rattle.deck_audit.specs.History.{cut_half};
 ghost use Rattle.deck_audit.specs.Kept.{is_idle, over_line, path_of, tells_loss, with_cut_half, with_half};
 ghost use Rattle.deck_audit.specs.Replay.{lent_to};
 
+use crate::HalfWrite;
 use crate::replayed::ReplayedDevice;
 use ckd_types::{DeviceNo, PathNo, TrackNo};
-use crate::HalfWrite;
 use report_text::{HowOver, LooseAnswer, ReportLine};
 
 fn cut_half(half: HalfWrite) -> HalfWrite

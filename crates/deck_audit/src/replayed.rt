@@ -1,7 +1,7 @@
+use crate::HalfWrite;
 use ckd_chain::Chain;
 use ckd_types::{DeviceNo, PathNo};
 use plain_device::{Paths, PlainDevice, Written};
-use crate::HalfWrite;
 use std::marker::Model;
 
 /// The program that runs: its path, its ordinal there, and its chain.

@@ -7,9 +7,9 @@ ghost use Rattle.deck_audit.specs.Same.{says};
 ghost use Rattle.deck_audit.specs.Task.{IsInRange, is_over_with, next_then, settle_then, task_kept, task_then};
 
 use crate::kept::{Kept, Then};
+use crate::{Did, Due, says};
 use ckd_types::{CommandEnd, DeviceNo, NoMemory, PathNo, TrackNo};
 use deck_plan::{EventLine, PathPlans};
-use crate::{Did, Due, says};
 use report_text::ReportLine;
 use std::alloc::Global;
 

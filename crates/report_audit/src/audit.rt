@@ -5,11 +5,11 @@ ghost use Rattle.deck_text.specs.Parse.{parsed};
 ghost use Rattle.report_audit.specs.Progress.{Comes, GoesOn, JudgedIn, begun, deck_end, fault_answer, is_answer};
 ghost use Rattle.report_audit.specs.Progress.{is_over, is_reporting, may_be, report_end, status_of};
 
+use crate::Auditor;
 use crate::line::judge_text;
 use ckd_types::NoMemory;
-use deck_text::{DeckFault, Which, read_deck};
-use crate::Auditor;
 use deck_audit::{AuditStatus, AuditWhy};
+use deck_text::{DeckFault, Which, read_deck};
 use report_text::Respelling;
 use std::alloc::Global;
 use std::marker::Model;

@@ -19,13 +19,13 @@ use crate::devices::{
     any_lent_runs, is_legal, judge_at, kept_devices, lose_power, outline_all, place_of,
     take_all_back,
 };
-use deck_audit::AuditWhy;
 use crate::told::{OrderTold, behind_of, cut_at, idle_fault, loose_at, order_told, totals_due};
 use ckd_types::{CommandEnd, DeviceNo, NoMemory, PathNo, TrackNo};
-use deck_audit::{Kept, Task, Then, data_due};
+use deck_audit::{
+    AuditWhy, Did, Due, Kept, Outline, Task, Then, data_due, in_due, is_act_of, is_io, worker_of,
+};
 use deck_plan::EventLine;
 use deck_text::Deck;
-use deck_audit::{Did, Due, Outline, in_due, is_act_of, is_io, worker_of};
 use report_text::ReportLine;
 use std::alloc::Global;
 use std::mem;

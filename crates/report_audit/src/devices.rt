@@ -4,9 +4,8 @@ ghost use Rattle.deck_audit.specs.declared.kept.Kept.{Kept};
 ghost use Rattle.report_audit.specs.Auditor.{IsJudgedAt, IsSized, dark_kept, is_lent, kept_legal, kept_outline, lent_runs, new_kept, place_from, taken_back};
 
 use ckd_types::{DeviceNo, NoMemory};
-use deck_audit::{Kept, ReplayedDevice, Task, Then, range_of};
+use deck_audit::{Did, Kept, OpenProgram, Outline, ReplayedDevice, Task, Then, range_of};
 use deck_text::Deck;
-use deck_audit::{Did, OpenProgram, Outline};
 use report_text::ReportLine;
 use std::alloc::Global;
 

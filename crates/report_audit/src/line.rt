@@ -3,8 +3,8 @@ ghost use Rattle.deck_audit.specs.State.{AuditState};
 ghost use Rattle.deck_audit.specs.Verdict.{judged_text};
 ghost use Rattle.report_audit.specs.Auditor.{IsAuditOf, IsJudged};
 
-use ckd_types::NoMemory;
 use crate::Auditor;
+use ckd_types::NoMemory;
 use deck_audit::AuditWhy;
 use report_reading::{LineError, read_line};
 use report_text::Respelling;

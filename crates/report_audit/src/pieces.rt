@@ -6,8 +6,8 @@ ghost use Rattle.report_audit.specs.Progress.{Comes, GoesOn, begun, is_answer};
 
 use crate::Audit;
 use ckd_types::NoMemory;
-use deck_text::place_of;
 use deck_audit::AuditStatus;
+use deck_text::place_of;
 use std::alloc::Global;
 use std::marker::Model;
 

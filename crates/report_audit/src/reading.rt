@@ -5,8 +5,8 @@ ghost use Rattle.report_audit.specs.Progress.{is_answer};
 
 use crate::PieceAudit;
 use ckd_outside::{ReadError, Source};
-use deck_text::Which;
 use deck_audit::AuditStatus;
+use deck_text::Which;
 use std::alloc::Global;
 
 /// One byte more than a deck and a report may have.

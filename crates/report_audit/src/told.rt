@@ -1,9 +1,8 @@
 ghost use Rattle.std.specs.Prelude.{◌≡◌};
 ghost use Rattle.report_audit.specs.Auditor.{behind_of, cut_at, idle_fault, loose_at, order_told, totals_due};
 
-use deck_audit::AuditWhy;
 use ckd_types::{DeviceNo, TrackNo};
-use deck_audit::{Did, Due, is_io};
+use deck_audit::{AuditWhy, Did, Due, is_io};
 use report_text::{HowOver, LooseAnswer, OrderAnswer, ReportLine};
 
 /// The device and the commands of a program that was cut, where the line tells of one.

@@ -14,12 +14,11 @@ ghost use Rattle.audit_laws.specs.Texts.{IsEnded, IsOwnReport, own_text};
 ghost use Rattle.report_audit.specs.Answers.{HasFailed, IsReadBack, Tells, TellsAudit, TellsUsage, is_audit, status_text};
 
 use crate::reading::read_audit;
-use audit_laws::{no_is_not, yes_is_plain};
-use ckd_outside::{Failed, ReadError, Sink, Source};
-use deck_text::{write_limit, write_refused};
 use crate::{write_no, write_no_report, write_usage, write_yes};
+use audit_laws::{no_is_not, own_report_is_yes, own_text_is_yes, yes_is_plain};
+use ckd_outside::{Failed, ReadError, Sink, Source};
 use deck_audit::AuditStatus;
-use audit_laws::{own_report_is_yes, own_text_is_yes};
+use deck_text::{write_limit, write_refused};
 use std::alloc::Global;
 
 #[tactic(auto, unfolding(crate::specs::Answers::is_audit))]
