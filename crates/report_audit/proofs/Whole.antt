@@ -8,7 +8,7 @@ use Rattle.std.proofs.lemmas.List.{append-nil}
 use Rattle.ckd_outside.specs.Texts.{AppendsFront}
 use Rattle.deck_text.specs.declared.line.Which.TheVariants.{Size}
 use Rattle.deck_audit.specs.declared.status.AuditStatus.{AuditStatus}
-use Rattle.deck_audit.specs.declared.status.AuditStatus.TheVariants.{Yes, No, NoReport, DeckRefused, ReadFault, WriteFault, Limit, NoMemory, Usage}
+use Rattle.deck_audit.specs.declared.status.AuditStatus.TheVariants.{Yes, No, ReadFault, WriteFault, Limit, NoMemory, Usage}
 use Rattle.deck_audit.specs.declared.status.AuditWhy.{AuditWhy}
 use Rattle.deck_audit.specs.Verdict.{cut_lines, read_back, read_back_at, report_from}
 use Rattle.audit_laws.specs.FirstFault.{IsBad}

@@ -5,8 +5,8 @@ ghost use Rattle.ckd_outside.specs.Pieces.{piece_text};
 ghost use Rattle.ckd_outside.specs.Texts.{Writes};
 ghost use Rattle.report_audit.specs.AuditTexts.{no_report_text, no_text, usage_text, why_text, yes_text};
 
-use crate::AuditWhy;
 use ckd_outside::{Failed, LineBuffer, Piece, Sink, flush, write_pieces};
+use deck_audit::AuditWhy;
 
 fn why_text(why: AuditWhy) -> &'static [u8]
     ensures { result.now ≡ why_text why }
@@ -29,7 +29,7 @@ fn write_line<K: Sink>(sink: &mut K, pieces: &[Piece]) -> Result<(), Failed>
 }
 
 /// Writes what is said of a report that a plain device could have made.
-#[tactic(auto, unfolding(crate::specs::Answers::yes_text))]
+#[tactic(auto, unfolding(crate::specs::AuditTexts::yes_text))]
 pub fn write_yes<K: Sink>(sink: &mut K) -> Result<(), Failed>
     ensures bytes { Writes (K.held sink.old) (K.held sink.new) result yes_text }
     ensures cause { HasCause (K.faults sink.old) (K.faults sink.new) result }
@@ -39,7 +39,7 @@ pub fn write_yes<K: Sink>(sink: &mut K) -> Result<(), Failed>
 }
 
 /// Writes a report's first bad line, from 1 on, and what it shows.
-#[tactic(auto, unfolding(crate::specs::Answers::no_text))]
+#[tactic(auto, unfolding(crate::specs::AuditTexts::no_text))]
 pub fn write_no<K: Sink>(sink: &mut K, line: u32, why: AuditWhy) -> Result<(), Failed>
     ensures bytes { Writes (K.held sink.old) (K.held sink.new) result (no_text line why) }
     ensures cause { HasCause (K.faults sink.old) (K.faults sink.new) result }
@@ -55,7 +55,7 @@ pub fn write_no<K: Sink>(sink: &mut K, line: u32, why: AuditWhy) -> Result<(), F
 }
 
 /// Writes that no line is exactly `REPORT`.
-#[tactic(auto, unfolding(crate::specs::Answers::no_report_text))]
+#[tactic(auto, unfolding(crate::specs::AuditTexts::no_report_text))]
 pub fn write_no_report<K: Sink>(sink: &mut K) -> Result<(), Failed>
     ensures bytes { Writes (K.held sink.old) (K.held sink.new) result no_report_text }
     ensures cause { HasCause (K.faults sink.old) (K.faults sink.new) result }
@@ -65,7 +65,7 @@ pub fn write_no_report<K: Sink>(sink: &mut K) -> Result<(), Failed>
 }
 
 /// Writes which words the program takes.
-#[tactic(auto, unfolding(crate::specs::Answers::usage_text))]
+#[tactic(auto, unfolding(crate::specs::AuditTexts::usage_text))]
 pub fn write_usage<K: Sink>(sink: &mut K) -> Result<(), Failed>
     ensures bytes { Writes (K.held sink.old) (K.held sink.new) result usage_text }
     ensures cause { HasCause (K.faults sink.old) (K.faults sink.new) result }
