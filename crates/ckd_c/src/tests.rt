@@ -1,9 +1,12 @@
 use crate::closing::{ckd_close, ckd_flush};
 use crate::ending::{CkdCounts, CkdEnd, ckd_counts, ckd_last_data, ckd_last_end, ckd_left};
 use crate::handle::CkdDevice;
-use crate::opening::ckd_open_memory;
+use crate::opening::{ckd_open_image, ckd_open_memory};
 use crate::planning::{ckd_plan, ckd_start};
-use crate::running::{ckd_background, ckd_run, ckd_step};
+use crate::running::{
+    ckd_background, ckd_lose_cache, ckd_lose_power, ckd_lose_store, ckd_repair_cache, ckd_repair_store,
+    ckd_reset, ckd_run, ckd_step,
+};
 use crate::words::{CkdRefusal, CkdWord};
 use std::alloc::Global;
 use std::test::Fail;
@@ -70,5 +73,31 @@ fn a_record_is_formatted_and_read(rt: HostRuntime) -> Result<(), Fail> {
     assert!(rt; ckd_flush(alloc, &mut device) == 0);
     assert!(rt; ckd_close(alloc, &mut device) == 0);
     assert!(rt; ckd_step(alloc, &mut device) == 1);
+    Ok(())
+}
+
+/// The cache is lost and comes back, and so does the store; a path is reset; an image that can't be had isn't opened.
+#[test]
+fn losses_repairs_and_refusals(rt: HostRuntime) -> Result<(), Fail> {
+    let alloc = rt.alloc();
+    let mut device = CkdDevice::closed(alloc);
+    assert!(rt; ckd_close(alloc, &mut device) == 1);
+    assert!(rt; ckd_open_image(alloc, &mut device, 0, -1, 1, 1) == 9);
+    assert!(rt; ckd_open_memory(alloc, &mut device, 16, 3390, 1, 1, 1) == 4);
+    assert!(rt; ckd_open_memory(alloc, &mut device, 0, 3350, 1, 1, 1) == 6);
+    assert!(rt; ckd_open_memory(alloc, &mut device, 0, 3380, 0, 1, 1) == 7);
+    assert!(rt; ckd_open_memory(alloc, &mut device, 0, 3380, 1, 1, 1) == 0);
+    assert!(rt; plan_and_run(alloc, &mut device, word(0x06, 0x80, 4, 0), READ) == 11);
+    assert!(rt; plan_and_run(alloc, &mut device, word(0x06, 0, 4, 1), READ) == 10);
+    assert!(rt; ckd_repair_cache(alloc, &mut device) == 18);
+    assert!(rt; ckd_lose_cache(alloc, &mut device) == 0);
+    assert!(rt; ckd_repair_cache(alloc, &mut device) == 0);
+    assert!(rt; ckd_lose_store(alloc, &mut device) == 0);
+    assert!(rt; ckd_repair_store(alloc, &mut device) == 0);
+    assert!(rt; ckd_reset(alloc, &mut device, 5) == 5);
+    assert!(rt; ckd_reset(alloc, &mut device, 1) == 0);
+    assert!(rt; ckd_lose_power(alloc, &mut device) == 0);
+    assert!(rt; ckd_step(alloc, &mut device) == 14);
+    assert!(rt; ckd_close(alloc, &mut device) == 0);
     Ok(())
 }
