@@ -1,5 +1,5 @@
 -- What a call comes to, by what was taken out and what was put back.
-use Rattle.std.proofs.Common.{◌≡◌, ℕ, Option, Some, None, true, false}
+use Rattle.std.proofs.Common.{◌≡◌, ℕ, Option, Some, None, true, false, subst}
 use Rattle.ckd_c.specs.declared.code.Code.{Code}
 use Rattle.ckd_c.specs.declared.code.Code.TheVariants as codes
 use Rattle.ckd_c.specs.declared.opened.Opened.{Opened}
@@ -9,6 +9,10 @@ use Rattle.ckd_c.specs.Calls.{Closes, Comes, How, Opens, runs}
 module _ (how : How) where
   pub an_open_one_went : {old new : Option Opened} {n : ℕ} (code : Code) (x y : Opened) → old ≡ Some x → new ≡ Some y → n ≡ number_of code → how code x y → Comes how old new n
   an_open_one_went code x y was is told came = rw was (rw is (record { code = code; is = told; came = came }))
+
+  -- the same, where what was taken out was lent under another name
+  pub a_lent_one_went : {old new : Option Opened} {n : ℕ} (code : Code) (x lent y : Opened) → lent ≡ x → old ≡ Some x → new ≡ Some y → n ≡ number_of code → how code lent y → Comes how old new n
+  a_lent_one_went code x lent y same was is told came = an_open_one_went code x y was is told (subst (λ (z : Opened). how code z y) same came)
 
   pub a_closed_one_is_refused : {old new : Option Opened} {n : ℕ} → old ≡ None → new ≡ None → n ≡ number_of codes.Closed → Comes how old new n
   a_closed_one_is_refused was is told = rw was (is, told)

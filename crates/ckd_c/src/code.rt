@@ -1,8 +1,10 @@
 ghost use Rattle.std.specs.Prelude.{◌≡◌};
+ghost use Rattle.ckd_c.specs.declared.code.Code.TheVariants as codes;
 ghost use Rattle.ckd_c.specs.Codes.{number_of, why_number, start_number, did_number};
 
 use ckd_types::Why;
 use device_defs::{Did, StartFault};
+use std::alloc::AllocFailed;
 
 /// What a call answers. Each has its number in `ckd.h`.
 #[derive(Clone, Copy, Debug, PartialEq, Eq)]
@@ -27,6 +29,14 @@ pub enum Code {
     Half,
     Up,
     Waits,
+}
+
+impl<T: Drop> From<AllocFailed<T>> for Code {
+    ghost from_gives = { λ _ e. e ≡ codes.NoMemory };
+
+    fn from(_: AllocFailed<T>) -> Self {
+        Code::NoMemory
+    }
 }
 
 /// The number of an answer.

@@ -33,11 +33,8 @@ fn open_on(
     match Device::open(alloc, number, geometry, cylinders, volume, plans) {
         Err(_) => Err(Code::NoMemory),
         Ok(device) => {
-            let opened = Opened { device, pool, file };
-            match Box::new(alloc, opened) {
-                Ok(opened) => Ok(opened),
-                Err(_) => Err(Code::NoMemory),
-            }
+            let opened = Box::new(alloc, Opened { device, pool, file })?;
+            Ok(opened)
         }
     }
 }
