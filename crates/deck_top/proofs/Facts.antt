@@ -12,12 +12,13 @@ use Rattle.deck_text.specs.Canonical.{canonical}
 use Rattle.deck_text.specs.Parse.{parsed}
 use Rattle.deck_text.specs.Texts.{limit_text, refused_text}
 use Rattle.device_outside.specs.Bay.{Bay}
-use Rattle.report_laws.specs.Plainly.{IsPlainReport}
-use Rattle.report_laws.proofs.PlainReports.{report_is_plain}
+use Rattle.report_text.specs.Ends.{lines_text}
+use Rattle.run_report.specs.Plainly.{IsPlainReport, IsPlainReportOn}
 use Rattle.report_text.specs.Summary.{summary_text}
-use Rattle.run_report.specs.Report.{report_of}
+use Rattle.run_report.specs.Report.{report_lines, report_of}
 use Rattle.run_report.specs.Summed.{summary_of}
-use Rattle.subsystem_defs.specs.Decks.{run_of}
+use Rattle.subsystem_defs.specs.Decks.{AreWhole, Firsts, empty_firsts, run_of, run_on}
+use Rattle.subsystem_laws.proofs.PlainRuns.{empty_whole}
 use Rattle.deck_top.specs.declared.task.Task.{Task}
 use Rattle.deck_top.specs.declared.task.Task.TheVariants.{Run, Check, Generate}
 use Rattle.deck_top.specs.declared.top.Status.{Status}
@@ -25,6 +26,12 @@ use Rattle.deck_top.specs.declared.top.Status.TheVariants.{Reported, DeckRefused
 use Rattle.deck_top.specs.Answers.{RunsAsPromised, Tells, TellsRead, TellsTask, TellsUsage}
 use Rattle.deck_top.specs.Facts.{OfDeck, IsRefused, IsRead, ReportsPlainly, SumsUp, WritesFront}
 use Rattle.deck_top.specs.Handed.{TakesBack}
+
+-- the law of the report of a run
+abbrev ReportIsPlain : Type 0
+ReportIsPlain =
+    (firsts : Firsts) → AreWhole firsts → (text : List ℕ) (deck : DeckLines) → parsed text ≡ Ok deck →
+    IsPlainReportOn firsts deck (lines_text (report_lines (run_on firsts deck)))
 
 -- a fault that no deck has
 none_has : {X : Type 0} (d : DeckLines) (f : DeckFault) → Ok d ≡ Err f → X
@@ -58,13 +65,14 @@ module _ (old new : Bay) (before after held holds : Option (List ℕ)) where
     run_reported none =
         of_run (λ d. Appends held holds (report_of d)) (λ text d read r. subst (Appends held holds) (r.1 none) r.2) (said reported run told)
 
-    pub run_plain : old.spoiled ≡ [] → OfDeck before after (ReportsPlainly held holds)
-    run_plain none =
+    -- by the law of the report of a run
+    pub run_plain : ReportIsPlain → old.spoiled ≡ [] → OfDeck before after (ReportsPlainly held holds)
+    run_plain law none =
         of_run (ReportsPlainly held holds)
         (λ text d read r. record {
           report = r.0;
           written = r.2;
-          plain = subst (IsPlainReport d) (sym (r.1 none)) (report_is_plain text d read);
+          plain = subst (IsPlainReport d) (sym (r.1 none)) (law empty_firsts empty_whole text d read);
         }) (said reported run told)
 
     pub run_promised : OfDeck before after RunsAsPromised

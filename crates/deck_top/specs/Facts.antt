@@ -7,7 +7,7 @@ use Rattle.deck_text.specs.declared.line.DeckFault.{DeckFault}
 use Rattle.deck_text.specs.Parse.{parsed}
 use Rattle.device_outside.specs.Bay.{Bay}
 use Rattle.report_text.specs.Summary.{summary_text}
-use Rattle.report_laws.specs.Plainly.{IsPlainReport}
+use Rattle.run_report.specs.Plainly.{IsPlainReport}
 use Rattle.run_report.specs.Summed.{summary_of}
 use Rattle.subsystem_defs.specs.Decks.{run_of}
 use Rattle.deck_top.specs.declared.task.Task.{Task}

@@ -24,6 +24,7 @@ use deck_text::{
     Deck, DeckFault, DeckWhy, Which, read_deck, write_deck, write_limit, write_line, write_refused,
 };
 use device_outside::MemBay;
+use run_report::report_on_volumes_is_plain;
 use std::alloc::Global;
 
 /// How the program ends.
@@ -323,5 +324,6 @@ pub fn deck_top<S: Source, K: Sink>(
     ensures generated { (seed count : ℕ) → task_of (map (λ w. w.now) words.now) ≡ Some (Task.Generate seed count)
         → ¬ Rose (K.faults sink.old) (K.faults sink.new) → (result ≡ Status.Reported) ⊎ (result ≡ Status.NoMemory) }
 {
+    report_on_volumes_is_plain();
     serve(alloc, words, source, sink, bay)
 }

@@ -92,7 +92,7 @@ pub acts_on : (h : History) (acts : List Act) (k : ℕ) (act : Act) → k < leng
     all_acted (acted h act) (drop (k + 1) acts) ≡ all_acted h (drop k acts)
 acts_on h acts k act lt is = ap (λ x. all_acted (acted h x) (drop (k + 1) acts)) is ∙ sym (ap (all_acted h) (drop_more acts k act lt))
 
-used_most : (ks : List KeptPath) → used_count ks ≤ length ks
+pub used_most : (ks : List KeptPath) → used_count ks ≤ length ks
 used_most [] = omega arith
 used_most (k ∷ ks) = one_more k.used (used_count ks) (length ks) (used_most ks) where
   one_more : (b : Bool) (m n : ℕ) → m ≤ n → (if b then 1 else 0) + m ≤ suc n

@@ -27,7 +27,6 @@ use Rattle.device_defs.specs.Orders as O
 use Rattle.device_defs.specs.Orders.{lend, restore}
 use Rattle.device_defs.specs.Owed.{noted_end, waiting_count}
 use Rattle.device_defs.specs.Peek.{Peeked, peek}
-use Rattle.device_defs.specs.Sound as defs
 use Rattle.device_defs.specs.Store.{is_lost, tracks_of}
 use Rattle.device_laws.specs.SoundOn.{IsSoundAtOn, IsSoundOn, begun_as}
 use Rattle.device_laws.specs.Whole.{WholeDevice, WholeTwin, WholeTwins, holding, marks_device}
@@ -45,6 +44,8 @@ use Rattle.device_laws.proofs.PlainOrders.{lend_follows, restore_follows}
 use Rattle.device_laws.proofs.PlainPower.{power_follows}
 use Rattle.device_laws.proofs.PlainTurns.{Follows}
 use Rattle.device_laws.proofs.Restoring.{restore_order, restore_same}
+use Rattle.past_laws.specs.PutAway.{PutAway}
+use Rattle.past_laws.proofs.Events.{background_same, lend_same, lose_same, peek_same, power_same, reset_same}
 use Rattle.device_store.specs.State.{had, on_a, on_b, outside, surely}
 use Rattle.subsystem_laws.specs.Came.{CameTo}
 use Rattle.subsystem_laws.specs.Standing.{IsBesideOn, Untold}
@@ -70,9 +71,12 @@ use Rattle.device_core.specs.Promises.{
   StaysSound,
   TakesNoSide,
   told_by,
+  whole_of,
 }
+use Rattle.device_core.specs.WholePast.{SoWithPast}
 use Rattle.device_core.specs.State.{DefinedDevice, device_of}
 use Rattle.device_core.proofs.Ordering.{side_told}
+use Rattle.device_core.proofs.WholePasts.{idle_whole, restore_on, run_on, then_on}
 
 -- Its plans stay
 
@@ -197,86 +201,101 @@ module _ {V : Type 0} {G : Ghosts V} (d e : core.Device V G) where
       {hears : Hearing Image L}
       (run : Ran surely hears (lend contents (device_of d) to) (outside old d.store k) (device_of e) tt
       (record (outside new e.store k) { a = option_map G.view x })) (idle : (device_of d).history.running ≡ None) where
-    goes : (first : List Track) → StandsPlain first d → StandsLent first e
-    goes first s =
-        let b = beside_there (device_of d) (told_by d) (outside old d.store k) (λ h t. record { a = t.a; b = t.b; slots = t.slots }) s in
-        let l = lends first (device_of d) to b single idle run in
-        there (λ h t. record {
+    goes : (past : PutAway) (first : List Track) → StandsPlain past first d → StandsLent past first e
+    goes past first s =
+        let b : SoWithPast (IsBesideOn (λ (_ : ℕ). first)) past (device_of d) (outside old d.store k) =
+        then_on s (beside_there (whole_of past d) (told_by d) (outside old d.store k) (λ h t. record { a = t.a; b = t.b; slots = t.slots })) in
+        let l : SoWithPast (IsLentBeside first) past (device_of e) (record (outside new e.store k) { a = option_map G.view x }) =
+        run_on b (lend_same contents surely hears past (device_of d) to b.away) run
+        (λ y r. lends first (whole_of past d) to b.is single (idle_whole past (device_of d) idle) r) in
+        then_on l (there (λ h t. record {
           a = subst (λ (o : Option V). Tells (option_map G.view o) h.a) (sym gone) tt;
           b = t.b;
           slots = t.slots;
-        }) l
+        }))
 
     pub lend_sound : StaysSound d e
     lend_sound = record {
-      sound = λ first s. let l = goes first s in record { held = l.held; on_a = l.untold.a; on_b = l.untold.b; is = lent_sound l };
+      sound = λ past first s. let l = (goes past first s).is in record { held = l.held; on_a = l.untold.a; on_b = l.untold.b; is = lent_sound l };
     }
 
     pub lend_leaves_plain : LeavesPlain d e
-    lend_leaves_plain = record { stands = goes; history = λ first s. (goes first s).follows.stands.plain }
+    lend_leaves_plain = record { stands = goes; history = λ past first s. (goes past first s).is.follows.stands.plain }
 
-    pub lend_loses_none : (first : List Track) → StandsPlain first d → HasLostNone e
-    lend_loses_none first s = record { none = (goes first s).lent.store.lost }
+    pub lend_loses_none : (past : PutAway) (first : List Track) → StandsPlain past first d → HasLostNone e
+    lend_loses_none past first s = record { none = (goes past first s).is.lent.store.lost }
 
   module _ (v : V) (is : device_of e ≡ restore (device_of d)) (a : on_a e.store ≡ Some v) (b : on_b e.store ≡ on_b d.store)
       (tells : (G.view v).contents ≡ Some (empty_contents (d.store.cylinders * 15))) where
-    comes : (first : List Track) → StandsLent first d → StandsPlain first e
-    comes first s =
-        subst (λ (y : DefinedDevice). IsBesideOn (λ (_ : ℕ). first) y (told_by e)) (sym is)
-        (subst (λ (w : Outside (List ℕ) (Unit {0})). IsBesideOn (λ (_ : ℕ). first) (restore (device_of d)) w) (sym (side_told d e sides.A v a b))
-        (restores (G.view v) d.store.most tells s))
+    comes : (past : PutAway) (first : List Track) → StandsLent past first d → StandsPlain past first e
+    comes past first s =
+        subst (λ (y : DefinedDevice). SoWithPast (IsBesideOn (λ (_ : ℕ). first)) past y (told_by e)) (sym is)
+        (subst (λ (w : Outside (List ℕ) (Unit {0})). SoWithPast (IsBesideOn (λ (_ : ℕ). first)) past (restore (device_of d)) w) (sym (side_told d e sides.A v a b))
+        (restore_on s (restores (G.view v) d.store.most tells)))
 
     pub restore_sound : ComesSound d e
     restore_sound = record {
-      sound = λ first s. let x = comes first s in record {
+      sound = λ past first s. let x = (comes past first s).is in record {
         held = x.held;
         on_a = x.untold.a;
         on_b = x.untold.b;
-        is = beside_sound (device_of e) (told_by e) x;
+        is = beside_sound (whole_of past e) (told_by e) x;
       };
     }
 
     pub restore_comes_plain : ComesPlain d e
-    restore_comes_plain = record { stands = comes; history = λ first s. beside_plain (device_of e) (told_by e) (comes first s) }
+    restore_comes_plain = record { stands = comes; history = λ past first s. beside_plain (whole_of past e) (told_by e) (comes past first s).is }
 
-  pub restore_loses_none : device_of e ≡ restore (device_of d) → (first : List Track) → StandsLent first d → HasLostNone e
-  restore_loses_none is first s = record { none = λ t. ap (λ (y : DefinedDevice). is_lost y.store t) is ∙ s.lent.store.lost t }
+  pub restore_loses_none : device_of e ≡ restore (device_of d) → (past : PutAway) (first : List Track) → StandsLent past first d → HasLostNone e
+  restore_loses_none is past first s = record { none = λ t. ap (λ (y : DefinedDevice). is_lost y.store t) is ∙ s.is.lent.store.lost t }
 
   -- while it is lent
 
-  pub lent_by : ((first : List Track) → StandsLent first d → StandsLent first e) → StaysLent d e
+  pub lent_by : ((past : PutAway) (first : List Track) → StandsLent past first d → StandsLent past first e) → StaysLent d e
   lent_by f = record {
     stands = f;
-    history = λ first s. (f first s).follows.stands.plain;
-    lost = λ first s. record { none = (f first s).lent.store.lost };
+    history = λ past first s. (f past first s).is.follows.stands.plain;
+    lost = λ past first s. record { none = (f past first s).is.lent.store.lost };
   }
 
   module _ {L : Type 0} (old new : PortView) (j k : L) where
-    across : ((first : List Track) → IsLentBeside first (device_of d) (outside old d.store j) → IsLentBeside first (device_of e) (outside new e.store k)) →
+    abbrev u : Outside (List ℕ) L
+    u = outside old d.store j
+
+    abbrev z : Outside (List ℕ) L
+    z = outside new e.store k
+
+    across : ((past : PutAway) (first : List Track) → SoWithPast (IsLentBeside first) past (device_of d) u → SoWithPast (IsLentBeside first) past (device_of e) z) →
         StaysLent d e
     across f =
-        lent_by (λ first s. there (λ h t. record { a = t.a; b = t.b; slots = t.slots })
-        (f first (there (λ h t. record { a = t.a; b = t.b; slots = t.slots }) s)))
+        lent_by (λ past first s. then_on (f past first (then_on s (there (λ h t. record { a = t.a; b = t.b; slots = t.slots }))))
+        (there (λ h t. record { a = t.a; b = t.b; slots = t.slots })))
 
     pub background_lent_on : {hears : Hearing Image L} (r : Result Did NoMemory) →
-        Ran (where_ok r) hears (background contents (device_of d)) (outside old d.store j) (device_of e) (had (λ x. x) r) (outside new e.store k) →
-        OnOk r (StaysLent d e)
-    background_lent_on (Ok x) run = across (λ first s. works first (device_of d) s run)
+        Ran (where_ok r) hears (background contents (device_of d)) u (device_of e) (had (λ x. x) r) z → OnOk r (StaysLent d e)
+    background_lent_on {hears = hears} (Ok x) run =
+        across (λ past first s. run_on s (background_same contents (λ ok. ok ≡ true) hears past (device_of d) s.away) run
+        (λ y r. works first (whole_of past d) s.is r))
     background_lent_on (Err x) run = tt
 
     -- a look, also where memory was lacking
     pub peek_lent_on : {hears : Hearing Image L} {had : Bool → Type 0} {a : Option Peeked} (t : ℕ) →
-        Ran had hears (peek contents (device_of d) t) (outside old d.store j) (device_of e) a (outside new e.store k) → StaysLent d e
-    peek_lent_on t run = across (λ first s. looks first (device_of d) s t (look_had contents (device_of d) t run).1)
+        Ran had hears (peek contents (device_of d) t) u (device_of e) a z → StaysLent d e
+    peek_lent_on {hears = hears} t run =
+        across (λ past first s. run_on s (peek_same contents surely hears past (device_of d) t s.away) (look_had contents (device_of d) t run).1
+        (λ y r. looks first (whole_of past d) s.is t r))
 
-    pub lose_lent_on : {hears : Hearing Image L} (loss : Loss) →
-        Ran surely hears (lose contents (device_of d) loss) (outside old d.store j) (device_of e) tt (outside new e.store k) → TakesNoSide loss → StaysLent d e
-    lose_lent_on loss run no_side = across (λ first s. loses first (device_of d) s loss no_side run)
+    pub lose_lent_on : {hears : Hearing Image L} (loss : Loss) → Ran surely hears (lose contents (device_of d) loss) u (device_of e) tt z → TakesNoSide loss → StaysLent d e
+    lose_lent_on {hears = hears} loss run no_side =
+        across (λ past first s. run_on s (lose_same contents surely hears past (device_of d) loss s.away) run
+        (λ y r. loses first (whole_of past d) s.is loss no_side r))
 
-    pub reset_lent_on : {hears : Hearing Image L} (path : ℕ) →
-        Ran surely hears (reset contents (device_of d) path) (outside old d.store j) (device_of e) tt (outside new e.store k) → StaysLent d e
-    reset_lent_on path run = across (λ first s. resets first (device_of d) s path run)
+    pub reset_lent_on : {hears : Hearing Image L} (path : ℕ) → 1 ≤ path → path ≤ 4 → Ran surely hears (reset contents (device_of d) path) u (device_of e) tt z →
+        StaysLent d e
+    reset_lent_on {hears = hears} path least most run =
+        across (λ past first s. run_on s (reset_same contents surely hears past (device_of d) path least most s.away) run
+        (λ y r. resets first (whole_of past d) s.is path r))
 
-    pub power_lent_on : {hears : Hearing Image L} →
-        Ran surely hears (power contents (device_of d)) (outside old d.store j) (device_of e) tt (outside new e.store k) → StaysLent d e
-    power_lent_on run = across (λ first s. loses_power first (device_of d) s run)
+    pub power_lent_on : {hears : Hearing Image L} → Ran surely hears (power contents (device_of d)) u (device_of e) tt z → StaysLent d e
+    power_lent_on {hears = hears} run =
+        across (λ past first s. run_on s (power_same contents surely hears past (device_of d) s.away) run (λ y r. loses_power first (whole_of past d) s.is r))

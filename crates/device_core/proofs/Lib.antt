@@ -16,6 +16,7 @@ pub mod Eventful
 pub mod Losing
 pub mod Halves
 pub mod Lending
+pub mod WholePasts
 pub mod Promising
 pub mod Ordering
 pub mod FastWrites
@@ -23,3 +24,4 @@ pub mod Away
 pub mod Planned
 pub mod StaleTracks
 pub mod Marked
+pub mod Forgetting

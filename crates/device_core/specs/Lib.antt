@@ -8,5 +8,7 @@ pub mod State
 pub mod Starting
 pub mod Planning
 pub mod OpenHalf
+pub mod WholePast
 pub mod Promises
 pub mod Pairs
+pub mod Forgetting

@@ -35,9 +35,13 @@ use Rattle.device_laws.specs.Whole.{WholeDevice, marks_device}
 use Rattle.device_laws.proofs.PlainTurns.{Follows}
 use Rattle.device_store.specs.State.{outside}
 use Rattle.subsystem_laws.specs.Again.{IsAgain}
+use Rattle.past_laws.specs.Forgotten.{put_away}
+use Rattle.past_laws.specs.PutAway.{PutAway}
+use Rattle.past_laws.specs.WithPast.{with_past}
 use Rattle.subsystem_laws.specs.Standing.{IsBesideOn, StandsOn, Untold}
 use Rattle.device_core.specs.declared.device.Device.{Device}
 use Rattle.device_core.specs.declared.past.Stepped as own
+use Rattle.device_core.specs.WholePast.{SoWithPast}
 use Rattle.device_core.specs.State.{around, device_of, last_end, step_had}
 
 -- A command
@@ -103,90 +107,103 @@ module _ {V : Type 0} {G : Ghosts V} where
   abbrev pub told_by : Device V G → Outside (List ℕ) (Unit {0})
   told_by d = outside (no_pool 0) d.store tt
 
-  -- its volumes tell what they hold, and it stands beside the plain device of its history, which began with these tracks
-  abbrev pub StandsPlain : List Track → Device V G → Type 0
-  StandsPlain first d = IsBesideOn (λ (_ : ℕ). first) (device_of d) (told_by d)
+  -- its volumes tell what they hold, and with what of its past was put away it stands beside the plain device of its history, which began with these tracks
+  abbrev pub StandsPlain : PutAway → List Track → Device V G → Type 0
+  StandsPlain past first d = SoWithPast (IsBesideOn (λ (_ : ℕ). first)) past (device_of d) (told_by d)
 
   -- and it came about from a new device by its calls, its orders only where they aren't refused, and never got an empty volume on the way
-  abbrev pub StandsWhole : List Track → Device V G → Type 0
-  StandsWhole first d = StandsOn (λ (_ : ℕ). first) (device_of d) (told_by d)
+  abbrev pub StandsWhole : PutAway → List Track → Device V G → Type 0
+  StandsWhole past first d = SoWithPast (StandsOn (λ (_ : ℕ). first)) past (device_of d) (told_by d)
+
+  -- with all of its past
+  abbrev pub whole_of : PutAway → Device V G → WholeDevice
+  whole_of past d = with_past past (device_of d)
 
   abbrev pub begun_with : List Track → Device V G → PlainState
   begun_with first d = first_state d.store.geometry d.store.cylinders first
 
-  -- so behind a call, where it stood so before, whatever it began with
+  -- so behind a call, where it stood so before, whatever it began with and whatever was put away
   abbrev pub KeepsPlain : Device V G → Device V G → Type 0
-  KeepsPlain d e = (first : List Track) → StandsPlain first d → StandsPlain first e
+  KeepsPlain d e = (past : PutAway) (first : List Track) → StandsPlain past first d → StandsPlain past first e
 
   abbrev pub KeepsWhole : Device V G → Device V G → Type 0
-  KeepsWhole d e = (first : List Track) → StandsWhole first d → StandsWhole first e
+  KeepsWhole d e = (past : PutAway) (first : List Track) → StandsWhole past first d → StandsWhole past first e
 
   -- Sound: track by track, its frames, its patches and the bytes of each side that has the track are those of the plain device of its history
 
-  pub record IsSound (first : List Track) (d : Device V G) : Type 0 where
+  pub record IsSound (past : PutAway) (first : List Track) (d : Device V G) : Type 0 where
     pub held : Holdings (List ℕ)
     pub on_a : Tells (told_by d).a held.a
     pub on_b : Tells (told_by d).b held.b
-    pub is : IsSoundOn (λ (_ : ℕ). first) (device_of d) held
+    pub is : IsSoundOn (λ (_ : ℕ). first) (whole_of past d) held
 
   -- behind a call, where it stood so before
   pub record StaysSound (d e : Device V G) : Type 0 where
-    pub sound : (first : List Track) → StandsPlain first d → IsSound first e
+    pub sound : (past : PutAway) (first : List Track) → StandsPlain past first d → IsSound past first e
 
-  -- Plain: its history is one that a plain device could have, over its plans and from a volume of these tracks
+  -- Plain: its history, with what was put away, is one that a plain device could have, over its plans and from a volume of these tracks
 
-  abbrev pub HasPlainHistory : List Track → Device V G → Type 0
-  HasPlainHistory first d = IsPlain d.plans (begun_with first d) (device_of d).history
+  abbrev pub HasPlainHistory : PutAway → List Track → Device V G → Type 0
+  HasPlainHistory past first d = IsPlain (whole_of past d).plans (begun_with first d) (whole_of past d).history
 
   pub record StaysPlain (d e : Device V G) : Type 0 where
     pub stands : KeepsPlain d e
-    pub history : (first : List Track) → StandsPlain first d → HasPlainHistory first e
+    pub history : (past : PutAway) (first : List Track) → StandsPlain past first d → HasPlainHistory past first e
 
   -- Excused: each lost track and each equipment check has its cause, while the counts of failed calls and of losses of the cache aren't at the greatest number
 
-  abbrev pub IsExcused : List Track → Device V G → Type 0
-  IsExcused first d =
+  abbrev pub IsExcused : PutAway → List Track → Device V G → Type 0
+  IsExcused past first d =
       d.store.counts.failed < 2 ^ 64 - 1 → d.store.counts.losses.cache < 2 ^ 64 - 1 →
-      defs.IsExcused d.plans (begun_with first d) d.past.items.items d.store.lost d.store.counts
+      defs.IsExcused (whole_of past d).plans (begun_with first d) (whole_of past d).history.items d.store.lost d.store.counts
 
   -- all of these, so that its next call keeps them
-  pub record IsPromised (first : List Track) (d : Device V G) : Type 0 where
-    pub stands : StandsWhole first d
-    pub sound : IsSound first d
-    pub plain : HasPlainHistory first d
-    pub excused : IsExcused first d
+  pub record IsPromised (past : PutAway) (first : List Track) (d : Device V G) : Type 0 where
+    pub stands : StandsWhole past first d
+    pub sound : IsSound past first d
+    pub plain : HasPlainHistory past first d
+    pub excused : IsExcused past first d
 
   pub record StaysExcused (d e : Device V G) : Type 0 where
     pub stands : KeepsWhole d e
-    pub excused : (first : List Track) → StandsWhole first d → IsExcused first e
+    pub excused : (past : PutAway) (first : List Track) → StandsWhole past first d → IsExcused past first e
 
   -- The same: want of memory leaves its paths, who holds it, its plans and its place in the program; of a device that is no pair its history and its marks;
   -- and the contents of the plain device of its history
 
   pub record StaysSame (d e : Device V G) : Type 0 where
     pub again : IsAgain (device_of d) (device_of e)
-    pub contents : (first : List Track) → StandsPlain first d → (plain_on (λ (_ : ℕ). first) (device_of e)).volume ≡ (plain_on (λ (_ : ℕ). first) (device_of d)).volume
+    pub contents : (past : PutAway) (first : List Track) → StandsPlain past first d →
+        (plain_on (λ (_ : ℕ). first) (whole_of past e)).volume ≡ (plain_on (λ (_ : ℕ). first) (whole_of past d)).volume
 
   -- Lent: where it stood beside the plain device and ran nothing it does so without its volume, and on an empty one again
 
-  abbrev pub StandsLent : List Track → Device V G → Type 0
-  StandsLent first d = IsLentBeside first (device_of d) (told_by d)
+  abbrev pub StandsLent : PutAway → List Track → Device V G → Type 0
+  StandsLent past first d = SoWithPast (IsLentBeside first) past (device_of d) (told_by d)
 
   pub record HasLostNone (d : Device V G) : Type 0 where
     pub none : (t : ℕ) → is_lost (device_of d).store t ≡ false
 
   pub record LeavesPlain (d e : Device V G) : Type 0 where
-    pub stands : (first : List Track) → StandsPlain first d → StandsLent first e
-    pub history : (first : List Track) → StandsPlain first d → HasPlainHistory first e
+    pub stands : (past : PutAway) (first : List Track) → StandsPlain past first d → StandsLent past first e
+    pub history : (past : PutAway) (first : List Track) → StandsPlain past first d → HasPlainHistory past first e
 
   pub record StaysLent (d e : Device V G) : Type 0 where
-    pub stands : (first : List Track) → StandsLent first d → StandsLent first e
-    pub history : (first : List Track) → StandsLent first d → HasPlainHistory first e
-    pub lost : (first : List Track) → StandsLent first d → HasLostNone e
+    pub stands : (past : PutAway) (first : List Track) → StandsLent past first d → StandsLent past first e
+    pub history : (past : PutAway) (first : List Track) → StandsLent past first d → HasPlainHistory past first e
+    pub lost : (past : PutAway) (first : List Track) → StandsLent past first d → HasLostNone e
 
   pub record ComesSound (d e : Device V G) : Type 0 where
-    pub sound : (first : List Track) → StandsLent first d → IsSound first e
+    pub sound : (past : PutAway) (first : List Track) → StandsLent past first d → IsSound past first e
 
   pub record ComesPlain (d e : Device V G) : Type 0 where
-    pub stands : (first : List Track) → StandsLent first d → StandsPlain first e
-    pub history : (first : List Track) → StandsLent first d → HasPlainHistory first e
+    pub stands : (past : PutAway) (first : List Track) → StandsLent past first d → StandsPlain past first e
+    pub history : (past : PutAway) (first : List Track) → StandsLent past first d → HasPlainHistory past first e
+
+  -- Forgotten: it is the device that it was, with more put away; so it stands as it stood
+
+  pub record ForgetsNothing (d e : Device V G) : Type 0 where
+    pub whole : (past : PutAway) (first : List Track) → StandsPlain past first d → whole_of (put_away past (device_of d)) e ≡ whole_of past d
+    pub plain : (past : PutAway) (first : List Track) → StandsPlain past first d → StandsPlain (put_away past (device_of d)) first e
+    pub stands : (past : PutAway) (first : List Track) → StandsWhole past first d → StandsWhole (put_away past (device_of d)) first e
+    pub lent : (past : PutAway) (first : List Track) → StandsLent past first d → StandsLent (put_away past (device_of d)) first e

@@ -11,7 +11,8 @@ ghost use Rattle.device_store.specs.State.{state_of, outside, had, TakesTracks};
 ghost use Rattle.device_core.specs.State.{around, device_of, IsSameDevice, TakesItsTracks};
 ghost use Rattle.device_laws.specs.Moved.{LookMoves, WorkMoves};
 ghost use Rattle.device_laws.specs.Seen.{KeepsPaths};
-ghost use Rattle.device_core.specs.Promises.{StandsPlain, StaysExcused, StaysLent, StaysPlain, StaysSame, StaysSound};
+ghost use Rattle.device_core.specs.Promises.{StandsPlain, StaysExcused, StaysLent, StaysPlain, StaysSame, StaysSound, whole_of};
+ghost use Rattle.past_laws.specs.PutAway.{PutAway};
 ghost use Rattle.subsystem_laws.specs.Looking.{is_written_at};
 ghost use Rattle.subsystem_laws.specs.Found.{FoundPlain};
 
@@ -94,8 +95,8 @@ impl<V: Volume> Device<V> {
         ensures excused { is_written_at (device_of self.old).store.half t ≡ false → StaysExcused self.old self.new }
         ensures same { is_written_at (device_of self.old).store.half t ≡ false → StaysSame self.old self.new }
         ensures lent { StaysLent self.old self.new }
-        ensures answers { (first : List Track) → StandsPlain first self.old → is_written_at (device_of self.old).store.half t ≡ false
-            → IfOk result (λ p. FoundPlain (λ _. first) (device_of self.old) t (Some (peeked_by (state_of self.new.store) t p))) }
+        ensures answers { (past : PutAway) (first : List Track) → StandsPlain past first self.old → is_written_at (device_of self.old).store.half t ≡ false
+            → IfOk result (λ p. FoundPlain (λ _. first) (whole_of past self.old) t (Some (peeked_by (state_of self.new.store) t p))) }
     {
         let before = self.store.waiting_count();
         self.store.begin_event();
@@ -119,8 +120,8 @@ impl<V: Volume> Device<V> {
         ensures excused { is_written_at (device_of self.old).store.half t ≡ false → StaysExcused self.old self.new }
         ensures same { is_written_at (device_of self.old).store.half t ≡ false → StaysSame self.old self.new }
         ensures lent { StaysLent self.old self.new }
-        ensures answers { (first : List Track) → StandsPlain first self.old → is_written_at (device_of self.old).store.half t ≡ false
-            → IfOk result (λ p. FoundPlain (λ _. first) (device_of self.old) t (Some (peeked_by (state_of self.new.store) t p))) }
+        ensures answers { (past : PutAway) (first : List Track) → StandsPlain past first self.old → is_written_at (device_of self.old).store.half t ≡ false
+            → IfOk result (λ p. FoundPlain (λ _. first) (whole_of past self.old) t (Some (peeked_by (state_of self.new.store) t p))) }
     {
         let mut keep = NoKeep;
         self.peek_with(t, port, &mut keep)

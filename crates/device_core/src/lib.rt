@@ -7,6 +7,7 @@ mod counts;
 mod device;
 mod ending;
 mod events;
+mod forget;
 mod giving;
 mod half;
 mod kept;
@@ -30,6 +31,7 @@ mod turns;
 
 pub use device::Device;
 pub use device_store::Peeked;
+pub use forget::NotForgotten;
 pub use giving::plans_give;
 pub(crate) use log::Log;
 pub use pairs::PairState;

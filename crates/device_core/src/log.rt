@@ -51,6 +51,14 @@ impl Log {
         &self.items
     }
 
+    /// For how many acts room is set aside.
+    pub fn aside(&self) -> usize
+        ensures value { result ≡ self.now.aside }
+        ensures most { result ≤ 65537 }
+    {
+        self.aside
+    }
+
     /// Makes room for `n` more items, and for so many acts. Room that is there stays, also at want of memory.
     pub fn reserve(&mut self, n: usize, acts: usize) -> Result<(), NoMemory>
         requires { (n ≤ 65535) × (acts ≤ 65537) }

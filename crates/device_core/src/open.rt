@@ -6,6 +6,7 @@ ghost use Rattle.device_core.specs.Kept.{history_of, Keeps};
 ghost use Rattle.device_store.specs.State.{on_a, on_b};
 ghost use Rattle.device_core.specs.State.{device_of, opened_device};
 ghost use Rattle.device_core.specs.Promises.{HoldsTracks, IsPromised};
+ghost use Rattle.past_laws.specs.PutAway.{nothing_away};
 ghost use Rattle.device_outside.specs.Disk.{empty_contents};
 
 use crate::giving::plans_give;
@@ -53,7 +54,7 @@ impl<V: Volume> Device<V> {
         ensures device { IfOk result (λ d. device_of d ≡ opened_device number geometry cylinders plans) }
         ensures volume { IfOk result (λ d. (on_a d.store ≡ Some volume) × (on_b d.store ≡ None)) }
         ensures back { IfErr result (λ e. (e.1 ≡ volume) × (e.2 ≡ plans)) }
-        ensures promised { IfOk result (λ d. (first : List Track) → HoldsTracks geometry cylinders first (V.view volume) → IsPromised first d) }
+        ensures promised { IfOk result (λ d. (first : List Track) → HoldsTracks geometry cylinders first (V.view volume) → IsPromised nothing_away first d) }
         ensures empty { (V.view volume).contents ≡ Some (empty_contents (cylinders * 15)) →
             HoldsTracks geometry cylinders (empty_volume cylinders) (V.view volume) }
     {

@@ -11,6 +11,7 @@ ghost use Rattle.device_outside.specs.Outside.{Ran};
 ghost use Rattle.device_store.specs.State.{surely};
 ghost use Rattle.device_core.specs.Kept.{history_of, ActRoom, Keeps};
 ghost use Rattle.device_core.specs.State.{around, device_of, other_volume, own_volumes, side_volume, volume_a, volume_b, HasSameTracks, IsSameDevice};
+ghost use Rattle.past_laws.specs.PutAway.{PutAway};
 ghost use Rattle.device_core.specs.Promises.{
   ComesPlain,
   ComesSound,
@@ -146,7 +147,7 @@ impl<V: Volume> Device<V> {
             (device_of self.new) tt (record (around (P.view port.new) self.new k) { a = option_map V.view result }) }
         ensures sound { (k : K) → (device_of self.old).history.running ≡ None → StaysSound self.old self.new }
         ensures plain { (k : K) → (device_of self.old).history.running ≡ None → LeavesPlain self.old self.new }
-        ensures excused { (k : K) → (device_of self.old).history.running ≡ None → (first : List Track) → StandsPlain first self.old → HasLostNone self.new }
+        ensures excused { (k : K) → (device_of self.old).history.running ≡ None → (past : PutAway) (first : List Track) → StandsPlain past first self.old → HasLostNone self.new }
     {
         let before = self.store.waiting_count();
         self.store.begin_event();
@@ -167,7 +168,7 @@ impl<V: Volume> Device<V> {
             (record (around (P.view port.new) self.new k) { a = option_map V.view result }) }
         ensures sound { (device_of self.old).history.running ≡ None → StaysSound self.old self.new }
         ensures plain { (device_of self.old).history.running ≡ None → LeavesPlain self.old self.new }
-        ensures excused { (device_of self.old).history.running ≡ None → (first : List Track) → StandsPlain first self.old → HasLostNone self.new }
+        ensures excused { (device_of self.old).history.running ≡ None → (past : PutAway) (first : List Track) → StandsPlain past first self.old → HasLostNone self.new }
     {
         self.lend_with::<P, NoKeep>(to, port)
     }
@@ -182,7 +183,7 @@ impl<V: Volume> Device<V> {
         ensures back { IfErr result (λ e. e.1 ≡ volume) }
         ensures sound { OnOk result ((V.view volume).contents ≡ Some (empty_contents (self.old.store.cylinders * 15)) → ComesSound self.old self.new) }
         ensures plain { OnOk result ((V.view volume).contents ≡ Some (empty_contents (self.old.store.cylinders * 15)) → ComesPlain self.old self.new) }
-        ensures excused { OnOk result ((first : List Track) → StandsLent first self.old → HasLostNone self.new) }
+        ensures excused { OnOk result ((past : PutAway) (first : List Track) → StandsLent past first self.old → HasLostNone self.new) }
     {
         match self.past.reserve_fresh() {
             Err(NoMemory) => return Err((NoMemory, volume)),

@@ -14,6 +14,7 @@ ghost use Rattle.device_core.specs.State.{around, device_of, last_end, step_had,
 ghost use Rattle.device_core.specs.Words.{HasEndRoom};
 ghost use Rattle.device_laws.specs.Moved.{CommandMoves, HitReadsNone};
 ghost use Rattle.device_laws.specs.Seen.{EndsAsSeen};
+ghost use Rattle.past_laws.specs.PutAway.{PutAway};
 ghost use Rattle.device_core.specs.Promises.{DidCommand, EndsSeen, FastWritesNone, StandsPlain, StaysExcused, StaysPlain, StaysSame, StaysSound};
 
 use crate::Device;
@@ -162,10 +163,10 @@ impl<V: Volume> Device<V> {
         ensures run { DidCommand (Heard K.hears K.takes) self.old (P.view port.old) keep.old self.new (P.view port.new) keep.new result }
         ensures ends_as_seen { EndsAsSeen (where_ok result) (Heard K.hears K.takes) (device_of self.old) (around (P.view port.old) self.old keep.old)
             (device_of self.new) (step_had (last_end self.new) result) (around (P.view port.new) self.new keep.new) }
-        ensures ends { (first : List Track) → StandsPlain first self.old → EndsSeen (where_ok result) (Heard K.hears K.takes) (device_of self.old)
+        ensures ends { (past : PutAway) (first : List Track) → StandsPlain past first self.old → EndsSeen (where_ok result) (Heard K.hears K.takes) (device_of self.old)
             (around (P.view port.old) self.old keep.old) (device_of self.new) (step_had (last_end self.new) result) (around (P.view port.new) self.new keep.new) }
         ensures hit_reads_none { HitReadsNone (device_of self.old) (device_of self.new) }
-        ensures fast_writes_none { (first : List Track) → StandsPlain first self.old → FastWritesNone (where_ok result) (Heard K.hears K.takes) (device_of self.old)
+        ensures fast_writes_none { (past : PutAway) (first : List Track) → StandsPlain past first self.old → FastWritesNone (where_ok result) (Heard K.hears K.takes) (device_of self.old)
             (around (P.view port.old) self.old keep.old) (device_of self.new) (step_had (last_end self.new) result) }
         ensures transfers { CommandMoves (device_of self.old) (device_of self.new) }
         ensures sound { StaysSound self.old self.new }
@@ -194,10 +195,10 @@ impl<V: Volume> Device<V> {
         ensures run { (k : NoKeep) → DidCommand (λ _ m r _. r ≡ reply m) self.old (P.view port.old) k self.new (P.view port.new) k result }
         ensures ends_as_seen { (k : NoKeep) → EndsAsSeen (where_ok result) (λ _ m r _. r ≡ reply m) (device_of self.old)
             (around (P.view port.old) self.old k) (device_of self.new) (step_had (last_end self.new) result) (around (P.view port.new) self.new k) }
-        ensures ends { (first : List Track) → StandsPlain first self.old → (k : NoKeep) → EndsSeen (where_ok result) (λ _ m r _. r ≡ reply m) (device_of self.old)
+        ensures ends { (past : PutAway) (first : List Track) → StandsPlain past first self.old → (k : NoKeep) → EndsSeen (where_ok result) (λ _ m r _. r ≡ reply m) (device_of self.old)
             (around (P.view port.old) self.old k) (device_of self.new) (step_had (last_end self.new) result) (around (P.view port.new) self.new k) }
         ensures hit_reads_none { HitReadsNone (device_of self.old) (device_of self.new) }
-        ensures fast_writes_none { (first : List Track) → StandsPlain first self.old → (k : NoKeep) → FastWritesNone (where_ok result) (λ _ m r _. r ≡ reply m) (device_of self.old)
+        ensures fast_writes_none { (past : PutAway) (first : List Track) → StandsPlain past first self.old → (k : NoKeep) → FastWritesNone (where_ok result) (λ _ m r _. r ≡ reply m) (device_of self.old)
             (around (P.view port.old) self.old k) (device_of self.new) (step_had (last_end self.new) result) }
         ensures transfers { CommandMoves (device_of self.old) (device_of self.new) }
         ensures sound { StaysSound self.old self.new }

@@ -4,7 +4,7 @@ use crate::{CountedRequests, Watched, run_program};
 use ckd_ccw::Program;
 use ckd_types::{Bytes, Ccw, DeviceNo, Geometry, PathNo, Side, TrackNo};
 use deck_plan::PathPlans;
-use device_core::Device;
+use device_core::{Device, NotForgotten};
 use device_outside::{MemVolume, Volume};
 use std::alloc::Global;
 use std::test::Fail;
@@ -245,4 +245,51 @@ fn device_gives_what_its_volume_held(rt: HostRuntime) -> Result<(), Fail> {
     let mut device = device_with_record(rt.alloc())?;
     let mut port = CountedRequests::new();
     read_held(&mut device, path, rt.alloc(), &mut port)
+}
+
+/// So many reads, each forgotten once it is over.
+const READS: u16 = 10_000;
+
+/// Forgets what happened so far, of which one program of the path is kept.
+fn forget(device: &mut Device<Watched<MemVolume>>, path: PathNo) -> Result<(), Fail> {
+    match device.forget() {
+        Ok(()) => (),
+        Err(_) => return Err("not forgotten".into()),
+    }
+    expect(
+        device.started(path) == 1 && device.left(path) == 0,
+        "one program is kept",
+    )?;
+    expect(device.journal().len() == 1, "it has one stub")
+}
+
+/// Reads the record that the volume held so often. Nothing is forgotten while a program runs.
+fn read_often(
+    device: &mut Device<Watched<MemVolume>>,
+    path: PathNo,
+    alloc: Global,
+    port: &mut CountedRequests,
+) -> Result<(), Fail> {
+    for _read in 0..READS {
+        plan_and_run(device, path, read(alloc)?, port)?;
+        expect(last_sent(device)? == (0, true), "record 1 is sent")?;
+        forget(device, path)?;
+    }
+    match device.plan(path, read(alloc)?) {
+        Ok(()) => (),
+        Err(_) => return Err("not planned".into()),
+    }
+    start(device, path)?;
+    expect(
+        matches!(device.forget(), Err(NotForgotten::Running)),
+        "a program runs",
+    )
+}
+
+#[test]
+fn device_that_forgets_each_program(rt: HostRuntime) -> Result<(), Fail> {
+    let path = PathNo::new(1).ok_or("path")?;
+    let mut device = device_with_record(rt.alloc())?;
+    let mut port = CountedRequests::new();
+    read_often(&mut device, path, rt.alloc(), &mut port)
 }

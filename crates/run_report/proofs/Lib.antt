@@ -9,3 +9,4 @@ mod ToldAs
 pub mod Stand
 pub mod Reports
 mod Rows
+mod shown

@@ -7,3 +7,4 @@ pub mod OneDevice
 pub mod Shown
 pub mod Showing
 pub mod Summed
+pub mod Plainly

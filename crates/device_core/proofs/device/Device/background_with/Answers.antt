@@ -16,7 +16,7 @@ use Rattle.device_core.proofs.Eventful.{event_run, begun_weight, fits_room}
 use Rattle.device_laws.proofs.counted.EventCounts.{background_moved}
 use Rattle.device_laws.proofs.counted.Others.{background_keeps}
 use Rattle.device_core.proofs.Away.{background_lent_on}
-use Rattle.device_core.proofs.Promising.{background_excused, background_same, background_sound, background_stays_plain}
+use Rattle.device_core.proofs.Promising.{background_excused, background_stays_same, background_sound, background_stays_plain}
 use Rattle.device_core.proofs.device.Device.background_with.Goals as goal
 
 pub close_event-requires : goal.close_event-requires
@@ -61,7 +61,7 @@ pub returns-clause-excused : goal.returns-clause-excused
 returns-clause-excused g c = background_excused _ _ _ _ _ _ c.requires.whole c.background-did.result (returns-clause-run g c)
 
 pub returns-clause-same_without_memory : goal.returns-clause-same_without_memory
-returns-clause-same_without_memory g c = background_same _ _ _ _ _ _ c.requires.whole c.background-did.result (returns-clause-run g c)
+returns-clause-same_without_memory g c = background_stays_same _ _ _ _ _ _ c.requires.whole c.background-did.result (returns-clause-run g c)
 
 pub returns-clause-lent : goal.returns-clause-lent
 returns-clause-lent g c = background_lent_on _ _ _ _ _ _ c.background-did.result (returns-clause-run g c)

@@ -14,7 +14,7 @@ use Rattle.device_laws.proofs.counted.EventCounts.{command_moved, hit_reads_none
 use Rattle.std.specs.Prelude.{Err}
 use Rattle.device_core.specs.State.{device_of, last_end, last_end_of}
 use Rattle.device_core.proofs.FastWrites.{fast_writes_none}
-use Rattle.device_core.proofs.Promising.{command_ends, command_excused, command_same, command_sound, command_stays_plain, runs_there}
+use Rattle.device_core.proofs.Promising.{command_ends, command_excused, command_stays_same, command_sound, command_stays_plain, runs_there}
 use Rattle.device_core.proofs.device.Device.command_with.Goals as goal
 
 pub reserve-requires-clause-running : goal.reserve-requires-clause-running
@@ -86,11 +86,11 @@ returns-clause-excused g c =
 
 pub returns-in-Err-clause-same_without_memory : goal.returns-in-Err-clause-same_without_memory
 returns-in-Err-clause-same_without_memory g c =
-    command_same _ _ _ _ _ _ c.requires.running c.requires.whole c.recall_chain.ensures (last_end_of c.reserve.new.self) (Err (record {})) (returns-in-Err-clause-run g c)
+    command_stays_same _ _ _ _ _ _ c.requires.running c.requires.whole c.recall_chain.ensures (last_end_of c.reserve.new.self) (Err (record {})) (returns-in-Err-clause-run g c)
 
 pub returns-clause-same_without_memory : goal.returns-clause-same_without_memory
 returns-clause-same_without_memory g c =
-    command_same _ _ _ _ _ _ c.requires.running c.requires.whole c.recall_chain.ensures (last_end c.command_event.new.self) c.command_event.result (returns-clause-run g c)
+    command_stays_same _ _ _ _ _ _ c.requires.running c.requires.whole c.recall_chain.ensures (last_end c.command_event.new.self) c.command_event.result (returns-clause-run g c)
 
 pub returns-in-Err-clause-ends : goal.returns-in-Err-clause-ends
 returns-in-Err-clause-ends g c =
@@ -100,7 +100,7 @@ pub returns-clause-ends : goal.returns-clause-ends
 returns-clause-ends g c = command_ends c.args.self.now c.args.self.now c.requires.running c.requires.whole c.recall_chain.ensures (returns-clause-ends_as_seen g c)
 
 pub returns-in-Err-clause-fast_writes_none : goal.returns-in-Err-clause-fast_writes_none
-returns-in-Err-clause-fast_writes_none g c first stands = fast_writes_none (device_of c.args.self.now) (returns-in-Err-clause-ends g c first stands)
+returns-in-Err-clause-fast_writes_none g c past first stands = fast_writes_none (device_of c.args.self.now) (returns-in-Err-clause-ends g c past first stands)
 
 pub returns-clause-fast_writes_none : goal.returns-clause-fast_writes_none
-returns-clause-fast_writes_none g c first stands = fast_writes_none (device_of c.args.self.now) (returns-clause-ends g c first stands)
+returns-clause-fast_writes_none g c past first stands = fast_writes_none (device_of c.args.self.now) (returns-clause-ends g c past first stands)

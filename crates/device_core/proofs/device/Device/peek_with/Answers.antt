@@ -17,7 +17,7 @@ use Rattle.device_core.proofs.Eventful.{quiet_run, begun_weight, fits_room}
 use Rattle.device_laws.proofs.counted.EventCounts.{peek_moved}
 use Rattle.device_laws.proofs.counted.Others.{peek_keeps}
 use Rattle.device_core.proofs.Away.{peek_lent_on}
-use Rattle.device_core.proofs.Promising.{peek_answers, peek_excused, peek_same, peek_sound, peek_stays_plain}
+use Rattle.device_core.proofs.Promising.{peek_answers, peek_excused, peek_stays_same, peek_sound, peek_stays_plain}
 use Rattle.device_core.proofs.device.Device.peek_with.Goals as goal
 
 pub close_event-requires : goal.close_event-requires
@@ -61,11 +61,11 @@ pub returns-clause-excused : goal.returns-clause-excused
 returns-clause-excused g c may = peek_excused _ _ _ _ _ _ c.args.t c.requires.track may (returns-clause-run g c)
 
 pub returns-clause-same : goal.returns-clause-same
-returns-clause-same g c may = peek_same _ _ _ _ _ _ c.args.t c.requires.track may (returns-clause-run g c)
+returns-clause-same g c may = peek_stays_same _ _ _ _ _ _ c.args.t c.requires.track may (returns-clause-run g c)
 
 pub returns-clause-lent : goal.returns-clause-lent
 returns-clause-lent g c = peek_lent_on _ _ _ _ _ _ c.args.t (returns-clause-run g c)
 
 pub returns-clause-answers : goal.returns-clause-answers
-returns-clause-answers g c first stands may =
-    peek_answers c.args.self.now c.close_event.new.self _ _ _ _ c.args.t c.requires.track may (state_of c.close_event.new.self.store) c.peek-peeked.result (returns-clause-run g c) first stands
+returns-clause-answers g c past first stands may =
+    peek_answers c.args.self.now c.close_event.new.self _ _ _ _ c.args.t c.requires.track may (state_of c.close_event.new.self.store) c.peek-peeked.result (returns-clause-run g c) past first stands

@@ -1,4 +1,4 @@
-use Rattle.std.proofs.Common.{◌∙◌, refl, sym}
+use Rattle.std.proofs.Common.{◌∙◌, refl, rules, sym}
 use Rattle.device_core.specs.State.{device_of}
 use Rattle.device_core.proofs.Resetting.{asks_nothing, reset_none}
 use Rattle.device_outside.specs.Outside.{no_pool}
@@ -26,37 +26,37 @@ pub returns-clause-transfers : goal.returns-clause-transfers
 returns-clause-transfers g c = reset_moved _ _ _ _ (returns-clause-run g c (no_pool 0))
 
 pub returns-then-runs_on-clause-sound : goal.returns-then-runs_on-clause-sound
-returns-then-runs_on-clause-sound g c = reset_sound _ _ _ _ _ _ c.args.path (c.cut_program.ensures.run (no_pool 0))
+returns-then-runs_on-clause-sound g c = reset_sound _ _ _ _ _ _ c.args.path (search rules) (search rules) (c.cut_program.ensures.run (no_pool 0))
 
 pub returns-then-runs_on-clause-plain : goal.returns-then-runs_on-clause-plain
-returns-then-runs_on-clause-plain g c = reset_stays_plain _ _ _ _ _ _ c.args.path (c.cut_program.ensures.run (no_pool 0))
+returns-then-runs_on-clause-plain g c = reset_stays_plain _ _ _ _ _ _ c.args.path (search rules) (search rules) (c.cut_program.ensures.run (no_pool 0))
 
 pub returns-then-runs_on-clause-excused : goal.returns-then-runs_on-clause-excused
-returns-then-runs_on-clause-excused g c = reset_excused _ _ _ _ _ _ c.args.path (c.cut_program.ensures.run (no_pool 0))
+returns-then-runs_on-clause-excused g c = reset_excused _ _ _ _ _ _ c.args.path (search rules) (search rules) (c.cut_program.ensures.run (no_pool 0))
 
 pub returns-then-has_used-clause-sound : goal.returns-then-has_used-clause-sound
-returns-then-has_used-clause-sound g c = reset_sound _ _ _ _ _ _ c.args.path (returns-then-has_used-clause-run g c (no_pool 0))
+returns-then-has_used-clause-sound g c = reset_sound _ _ _ _ _ _ c.args.path (search rules) (search rules) (returns-then-has_used-clause-run g c (no_pool 0))
 
 pub returns-then-has_used-clause-plain : goal.returns-then-has_used-clause-plain
-returns-then-has_used-clause-plain g c = reset_stays_plain _ _ _ _ _ _ c.args.path (returns-then-has_used-clause-run g c (no_pool 0))
+returns-then-has_used-clause-plain g c = reset_stays_plain _ _ _ _ _ _ c.args.path (search rules) (search rules) (returns-then-has_used-clause-run g c (no_pool 0))
 
 pub returns-then-has_used-clause-excused : goal.returns-then-has_used-clause-excused
-returns-then-has_used-clause-excused g c = reset_excused _ _ _ _ _ _ c.args.path (returns-then-has_used-clause-run g c (no_pool 0))
+returns-then-has_used-clause-excused g c = reset_excused _ _ _ _ _ _ c.args.path (search rules) (search rules) (returns-then-has_used-clause-run g c (no_pool 0))
 
 pub returns-clause-sound : goal.returns-clause-sound
-returns-clause-sound g c = reset_sound _ _ _ _ _ _ c.args.path (returns-clause-run g c (no_pool 0))
+returns-clause-sound g c = reset_sound _ _ _ _ _ _ c.args.path (search rules) (search rules) (returns-clause-run g c (no_pool 0))
 
 pub returns-clause-plain : goal.returns-clause-plain
-returns-clause-plain g c = reset_stays_plain _ _ _ _ _ _ c.args.path (returns-clause-run g c (no_pool 0))
+returns-clause-plain g c = reset_stays_plain _ _ _ _ _ _ c.args.path (search rules) (search rules) (returns-clause-run g c (no_pool 0))
 
 pub returns-clause-excused : goal.returns-clause-excused
-returns-clause-excused g c = reset_excused _ _ _ _ _ _ c.args.path (returns-clause-run g c (no_pool 0))
+returns-clause-excused g c = reset_excused _ _ _ _ _ _ c.args.path (search rules) (search rules) (returns-clause-run g c (no_pool 0))
 
 pub returns-then-runs_on-clause-lent : goal.returns-then-runs_on-clause-lent
-returns-then-runs_on-clause-lent g c = reset_lent_on _ _ _ _ _ _ c.args.path (c.cut_program.ensures.run (no_pool 0))
+returns-then-runs_on-clause-lent g c = reset_lent_on _ _ _ _ _ _ c.args.path (search rules) (search rules) (c.cut_program.ensures.run (no_pool 0))
 
 pub returns-then-has_used-clause-lent : goal.returns-then-has_used-clause-lent
-returns-then-has_used-clause-lent g c = reset_lent_on _ _ _ _ _ _ c.args.path (returns-then-has_used-clause-run g c (no_pool 0))
+returns-then-has_used-clause-lent g c = reset_lent_on _ _ _ _ _ _ c.args.path (search rules) (search rules) (returns-then-has_used-clause-run g c (no_pool 0))
 
 pub returns-clause-lent : goal.returns-clause-lent
-returns-clause-lent g c = reset_lent_on _ _ _ _ _ _ c.args.path (returns-clause-run g c (no_pool 0))
+returns-clause-lent g c = reset_lent_on _ _ _ _ _ _ c.args.path (search rules) (search rules) (returns-clause-run g c (no_pool 0))

@@ -1,0 +1,11 @@
+pub mod Items
+pub mod Histories
+pub mod Plans
+pub mod Planning
+pub mod Along
+pub mod Starts
+pub mod Events
+pub mod Stubs
+pub mod StubsTell
+pub mod Journals
+pub mod Forgetting

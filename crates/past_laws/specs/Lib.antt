@@ -1,0 +1,3 @@
+pub mod PutAway
+pub mod WithPast
+pub mod Forgotten

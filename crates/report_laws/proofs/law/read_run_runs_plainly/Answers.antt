@@ -1,7 +1,0 @@
-use Rattle.report_laws.proofs.ShownRuns.{read_runs_plainly}
-use Rattle.subsystem_defs.specs.Decks.{empty_firsts}
-use Rattle.subsystem_laws.proofs.PlainRuns.{empty_whole}
-use Rattle.report_laws.proofs.law.read_run_runs_plainly.Goals as goal
-
-pub returns : goal.returns
-returns c = read_runs_plainly empty_firsts empty_whole
