@@ -8,7 +8,7 @@ use Rattle.ckd_types.specs.declared.sense.Sense.{Sense}
 use Rattle.ckd_types.specs.declared.geometry.Geometry.{Geometry}
 use Rattle.ckd_types.specs.declared.geometry.Geometry.TheVariants as geometries
 use Rattle.deck_plan.specs.Plans.{no_plans}
-use Rattle.device_defs.specs.Start.{left, next_ordinal, start, start_fault}
+use Rattle.device_defs.specs.Start.{next_ordinal, start, start_fault}
 use Rattle.device_defs.specs.Contents.{contents}
 use Rattle.device_defs.specs.Owed.{waiting_count}
 use Rattle.device_defs.specs.Store.{frame_at, patch_at}

@@ -5,8 +5,18 @@ use crate::code::{Code, did_number, number_of};
 use crate::handle::{CkdDevice, put, take};
 use crate::opened::Opened;
 use ckd_types::{NoMemory, PathNo};
+use frame_pool::Pool;
 use loss_model::Loss;
 use std::alloc::Global;
+
+/// The pool's part of a loss.
+fn fail(pool: &mut Pool, loss: Loss) {
+    match loss {
+        Loss::Cache => pool.fail_cache(),
+        Loss::Store => pool.fail_store(),
+        Loss::Side(_) => (),
+    }
+}
 
 impl Opened {
     /// One command of the program that runs, or the second part of a write.
@@ -77,11 +87,7 @@ impl Opened {
     fn lose(&mut self, loss: Loss)
         ensures { KeepsPlain self.old.device self.new.device }
     {
-        match loss {
-            Loss::Cache => self.pool.fail_cache(),
-            Loss::Store => self.pool.fail_store(),
-            Loss::Side(_) => (),
-        }
+        fail(&mut self.pool, loss);
         self.device.lose(loss, &mut self.pool);
     }
 

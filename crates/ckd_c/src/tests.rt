@@ -4,8 +4,8 @@ use crate::handle::CkdDevice;
 use crate::opening::{ckd_open_image, ckd_open_memory};
 use crate::planning::{ckd_plan, ckd_start};
 use crate::running::{
-    ckd_background, ckd_lose_cache, ckd_lose_power, ckd_lose_store, ckd_repair_cache, ckd_repair_store,
-    ckd_reset, ckd_run, ckd_step,
+    ckd_background, ckd_lose_cache, ckd_lose_power, ckd_lose_store, ckd_repair_cache,
+    ckd_repair_store, ckd_reset, ckd_run, ckd_step,
 };
 use crate::words::{CkdRefusal, CkdWord};
 use std::alloc::Global;
