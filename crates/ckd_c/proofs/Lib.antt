@@ -1,0 +1,4 @@
+pub mod Coming
+pub mod Places
+pub mod Values
+pub mod WordLists

@@ -1,0 +1,13 @@
+-- What a handle owns: the box at its place, or nothing.
+use base.Fml.{Fml, ftrue}
+use denote.RattleType.{RattleType}
+use denote.RawPtr.{Ptr}
+use Rattle.std_alloc.specs.Box.Ownership.{box_owns}
+use Rattle.std.specs.contracts.impls.GlobalAllocator.TheImpl.{ghosts}
+use Rattle.std.specs.declared.alloc.Global.{Global}
+use Rattle.std.specs.declared.option.Option.{Option}
+use Rattle.std.specs.declared.option.Option.TheVariants.{None, Some}
+
+abbrev pub held : Global → (R : RattleType) → Ptr → Option R.Denot → Fml
+held a R p None = ftrue
+held a R p (Some x) = box_owns (ghosts.dealloc_token a) R p x
