@@ -1,4 +1,0 @@
-pub mod Coming
-pub mod Places
-pub mod Values
-pub mod WordLists

@@ -1,7 +1,0 @@
-use Rattle.ckd_c.proofs.Coming.{a_lent_one_went}
-use Rattle.ckd_c.specs.Calls.{Keeps}
-use Rattle.ckd_c.specs.declared.code.Code.TheVariants as codes
-use Rattle.ckd_c.proofs.running.ckd_lose_power.Goals as goal
-
-pub returns : goal.returns
-returns c = a_lent_one_went Keeps codes.Done _ _ _ c.deref_mut.ensures.value c.in-Some.ensures.value c.put.ensures c.number_of-2.ensures c.lose_power.ensures
