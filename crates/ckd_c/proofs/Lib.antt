@@ -1,0 +1,8 @@
+pub mod Appending
+pub mod Coming
+pub mod Places
+pub mod Forgetting
+pub mod Refusing
+pub mod Telling
+pub mod Values
+pub mod WordLists
