@@ -8,9 +8,11 @@ use Rattle.device_outside.specs.declared.volume.Volume.{Ghosts}
 use Rattle.device_core.specs.declared.device.Device.{Device}
 use Rattle.subsystem_core.specs.declared.subsystem.Subsystem.{Subsystem}
 use Rattle.subsystem_core.specs.Devices.{device_at}
+use Rattle.subsystem_defs.specs.Decks.{empty_firsts}
 use Rattle.subsystem_defs.specs.Lines.{asked_by}
 use Rattle.subsystem_defs.specs.Subsystem as runs
 use Rattle.subsystem_defs.specs.Subsystem.{Mounted, mounted_in}
+use Rattle.subsystem_laws.proofs.PlainRuns.{empty_whole}
 use Rattle.subsystem_laws.proofs.ReadDecks.{read_served, read_small}
 use Rattle.deck_run.specs.Fronts.{front_of}
 use Rattle.deck_run.specs.Opening.{WasRead}
@@ -54,7 +56,7 @@ module _ {V : Type 0} {G : Ghosts V} where
   small_device sub deck n d x k read stands at is =
       let stood = stood_run sub (front_of deck n).behind d x stands at in
       subst (λ (m : ℕ). m ≤ 64) (stood.cylinders ∙ sym is)
-      (small_in_front deck n d stood.mounted (read_small read.0 deck read.1) stood.there)
+      (small_in_front empty_firsts deck n d stood.mounted (read_small read.0 deck read.1) stood.there)
 
   pub is_there : (sub : Subsystem V G) (run : runs.Subsystem) (d : ℕ) (x : Device V G) → StandsAs sub run → device_at sub.devices.items d ≡ Some x →
       IsThere run d
@@ -90,7 +92,7 @@ module _ (deck : DeckLines) (d n : ℕ) (m : Mounted) (there : mounted_in (front
   plain_at : (v : ImageVolume) → WasRead deck → IsMade m v → IsPlainVolumeAt deck n d v × IsWhole v
   plain_at v read made = (
     subst (IsPlainVolumeAt deck n d) (same_volume v made)
-        (front_is_plain deck n d m v.images (read_served read.0 deck read.1) there made.plain made.images),
+        (front_is_plain empty_firsts empty_whole deck n d m v.images (read_served read.0 deck read.1) there made.plain made.images),
     made.whole,
   )
 

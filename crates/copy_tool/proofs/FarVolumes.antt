@@ -10,7 +10,7 @@ use Rattle.deck_text.specs.DeckLines.{DeckLines}
 use Rattle.device_outside.specs.declared.volume.Volume.{Ghosts}
 use Rattle.device_core.specs.declared.device.Device.{Device}
 use Rattle.subsystem_core.specs.Devices.{device_at}
-use Rattle.subsystem_defs.specs.Decks.{opened, run_of}
+use Rattle.subsystem_defs.specs.Decks.{empty_firsts, opened, run_of}
 use Rattle.subsystem_defs.specs.Lines.{asked_by}
 use Rattle.subsystem_defs.specs.Subsystem.{Mounted, Subsystem, mounted_in}
 use Rattle.line_drive.specs.Driven.{Goes, driven}
@@ -25,6 +25,7 @@ use Rattle.volume_save.proofs.SmallRuns.{small_in_run}
 use Rattle.remote_copy.specs.declared.link.Link as links
 use Rattle.remote_copy.specs.declared.mirror.Mirror.{Mirror}
 use Rattle.remote_copy.specs.Linking.{LinkView, PutCalls}
+use Rattle.remote_copy.specs.Mirrored.{mirror_course}
 use Rattle.remote_copy.specs.Mirroring.{IsMirror, MirrorRun}
 use Rattle.firm_laws.specs.FirmWrites.{FirmWrite}
 use Rattle.remote_copy.specs.Sending.{IsReached, put_all, reached}
@@ -33,7 +34,7 @@ use Rattle.remote_copy.proofs.Reached.{reached_first}
 use Rattle.copy_tool.specs.Mirroring as M
 use Rattle.copy_tool.specs.Copying.{Made, Gives}
 use Rattle.copy_tool.specs.Mirroring.{images_of, mirroring, mirroring_at, sent_before, volume_as}
-use Rattle.copy_tool.specs.MirrorStanding.{IsFarVolume, failing, firm_at, mirror_course, mirror_from}
+use Rattle.copy_tool.specs.MirrorStanding.{IsFarVolume, failing, firm_at, mirror_from}
 use Rattle.copy_tool.proofs.Firms.{IsOver, firms_so, over_so}
 use Rattle.copy_tool.proofs.Made.{some_same}
 use Rattle.copy_tool.proofs.MirrorBegun.{opened_in}
@@ -55,12 +56,12 @@ module _ {V L : Type 0} {G : Ghosts V} {H : links.Ghosts L} (x : Mirror V L G H)
   start = empty_volume first.device.store.cylinders
 
   start_so : z.start ≡ start
-  start_so = over.start ∙ ap firm_at there ∙ (opened_in deck deck.devices d first there).firm
+  start_so = over.start_is ∙ ap firm_at there ∙ (opened_in deck deck.devices d first there).firm
 
   reached_so : IsReached (failing n) z.firms z.start x.sender
   reached_so =
       if_at (λ (f : List Track). IsReached (failing n) z.firms z.start x.sender) x.sender.link.far far told
-      (if_at (λ (p : PutCalls). IfSome x.sender.link.far (λ f. IsReached p z.firms z.start x.sender)) z.calls (failing n) over.calls
+      (if_at (λ (p : PutCalls). IfSome x.sender.link.far (λ f. IsReached p z.firms z.start x.sender)) z.calls (failing n) over.calls_are
       (is.exact over.uncopied))
 
   -- the device behind the run
@@ -143,4 +144,4 @@ module _ {V L : Type 0} {G : Ghosts V} {H : links.Ghosts L} (x : Mirror V L G H)
       let behind : mounted_in (run_of deck).behind.mounted d ≡ Some is.mounted =
       subst (λ (s : Subsystem). mounted_in s.mounted d ≡ Some is.mounted) over.run there in
       subst (λ (k : ℕ). k ≤ 64) (same_cylinders x d z is over.device y at)
-      (small_in_run deck d is.mounted (read_small read.0 deck read.1) behind)
+      (small_in_run empty_firsts deck d is.mounted (read_small read.0 deck read.1) behind)

@@ -5,7 +5,6 @@ pub mod Looking
 pub mod Rest
 pub mod Begun
 pub mod Staged
-pub mod Alike
 pub mod Firms
 pub mod MirrorBegun
 pub mod MirrorStaged

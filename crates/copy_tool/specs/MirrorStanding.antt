@@ -1,16 +1,15 @@
 -- A mirror of a device of a deck stands as one over a run.
 use Rattle.std.specs.Prelude.{◌≡◌, ℕ, false, List, [], ◌∷◌, Option, Some, None}
-use Rattle.std.specs.declared.convert.Infallible.{Infallible}
 use Rattle.ckd_types.specs.declared.record.Track.{Track}
 use Rattle.deck_text.specs.DeckLines.{DeckLines}
 use Rattle.deck_run.specs.Opening.{numbers_in}
 use Rattle.subsystem_core.specs.Devices.{device_at, numbers_of}
 use Rattle.subsystem_defs.specs.Decks.{opened}
 use Rattle.subsystem_defs.specs.Subsystem.{Mounted, mounted_in}
-use Rattle.line_drive.specs.Driven.{Course, Goes, Occurred, Comes}
+use Rattle.line_drive.specs.Driven.{Occurred, Comes}
 use Rattle.volume_file.specs.File.{ImageVolume}
 use Rattle.remote_copy.specs.Linking.{LinkView, PutCalls}
-use Rattle.remote_copy.specs.Mirroring.{IsMirror, MirrorRun, is_lending, mirror_begun, mirror_did}
+use Rattle.remote_copy.specs.Mirroring.{IsMirror, MirrorRun, is_lending, mirror_begun}
 use Rattle.copy_tool.specs.declared.mirroring.MirrorStage.{MirrorStage}
 use Rattle.copy_tool.specs.Mirroring.{volume_as}
 use Rattle.copy_tool.specs.Standing.{cylinders_of}
@@ -22,10 +21,6 @@ IsKept d _ = Unit {0}
 
 abbrev pub mirror_cylinders : MirrorStage → ℕ → ℕ
 mirror_cylinders x d = cylinders_of (device_at x.mirror.sub.devices.items d)
-
--- nothing is done behind its events, and none ends it
-abbrev pub mirror_course : Course MirrorRun Infallible
-mirror_course = record { sub = λ c. c.run; did = mirror_did; behind = Goes }
 
 -- As the run of a deck begins
 

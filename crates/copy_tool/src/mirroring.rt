@@ -1,6 +1,7 @@
 ghost use Rattle.subsystem_core.specs.Devices.{numbers_of};
 ghost use Rattle.remote_copy.specs.Mirroring.{IsMirror, MirrorRun};
-ghost use Rattle.copy_tool.specs.MirrorStanding.{IsKept, mirror_course, mirror_cylinders};
+ghost use Rattle.remote_copy.specs.Mirrored.{mirror_course};
+ghost use Rattle.copy_tool.specs.MirrorStanding.{IsKept, mirror_cylinders};
 
 use ckd_types::{DeviceNo, NoMemory, Side};
 use device_outside::MemVolume;

@@ -16,7 +16,7 @@ mod work;
 
 pub use event::chains_stand;
 pub use loosed::loosed_by;
-pub use open::{open_deck, open_on};
+pub use open::{failing_of, open_deck, open_on};
 pub use pair::join;
 pub use run::{FinishedRun, run_deck, run_front, run_on};
 pub use volumes::EmptyVolume;

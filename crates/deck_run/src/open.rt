@@ -24,9 +24,14 @@ fn is_same(a: bool, b: bool) -> bool
     if a { b } else { !b }
 }
 
-/// The numbers of a device's FAULT lines of this kind.
+/// Which calls of a device's volume fail by the deck: the numbers of its FAULT lines of this kind, in the order of the deck.
 #[tactic(auto, using(crate::proofs::Lines::failing_more, crate::proofs::Lines::failing_none))]
-fn failing_of(alloc: Global, deck: &Deck, write: bool, d: DeviceNo) -> Result<Vec<u32>, NoMemory>
+pub fn failing_of(
+    alloc: Global,
+    deck: &Deck,
+    write: bool,
+    d: DeviceNo,
+) -> Result<Vec<u32>, NoMemory>
     ensures { IfOk result (λ calls. calls.items ≡ failing_of write d deck.now.faults) }
 {
     let mut calls = Vec::new(alloc);

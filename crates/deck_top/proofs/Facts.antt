@@ -13,14 +13,14 @@ use Rattle.deck_text.specs.Texts.{limit_text, refused_text}
 use Rattle.device_outside.specs.Bay.{Bay}
 use Rattle.run_report.specs.Plainly.{IsPlainReportOn}
 use Rattle.report_text.specs.Summary.{summary_text}
-use Rattle.run_report.specs.Report.{report_of}
+use Rattle.run_report.specs.Report.{report_of, report_on}
 use Rattle.run_report.specs.Summed.{summary_of}
 use Rattle.subsystem_defs.specs.Decks.{Firsts, empty_firsts, run_of}
 use Rattle.deck_top.specs.declared.task.Task.{Task}
 use Rattle.deck_top.specs.declared.task.Task.TheVariants.{Run, Check, Generate}
 use Rattle.deck_top.specs.declared.top.Status.{Status}
 use Rattle.deck_top.specs.declared.top.Status.TheVariants.{Reported, DeckRefused, ReadFault, WriteFault, Limit, NoMemory, Usage}
-use Rattle.deck_top.specs.Answers.{FrontBy, IsDoneBy, IsOutput, Ran, Reads, RunsAsPromised, Tells, TellsBy, TellsUsage, report_on}
+use Rattle.deck_top.specs.Answers.{FrontBy, IsDoneBy, IsOutput, Ran, Reads, RunsAsPromised, Tells, TellsBy, TellsUsage}
 use Rattle.deck_top.specs.Facts.{OfDeck, IsRefused, IsRead, ReportsPlainly, ReportsPlainlyOn, SumsUp, WritesFront}
 use Rattle.deck_top.specs.Handed.{TakesBack}
 

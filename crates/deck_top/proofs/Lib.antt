@@ -3,7 +3,6 @@ pub mod HandedBack
 pub mod Facts
 pub mod OverBays
 pub mod EmptyBays
-pub mod FaultLines
 pub mod HandedOut
 pub mod Summed
 pub mod Told

@@ -14,7 +14,8 @@ use Rattle.deck_top.specs.declared.task.Task.{Task}
 use Rattle.deck_top.specs.declared.task.Task.TheVariants.{Run, Check, Generate}
 use Rattle.deck_top.specs.declared.top.Status.{Status}
 use Rattle.deck_top.specs.declared.top.Status.TheVariants.{Reported, DeckRefused, WriteFault, Limit}
-use Rattle.deck_top.specs.Answers.{IsWritten, RunsAsPromisedOn, TellsDeckOn, report_on}
+use Rattle.run_report.specs.Report.{report_on}
+use Rattle.deck_top.specs.Answers.{IsWritten, RunsAsPromisedOn, TellsDeckOn}
 use Rattle.deck_top.specs.Bays.{BayView, HandsOut}
 use Rattle.deck_top.specs.Handed.{TakesBackOn}
 use Rattle.report_text.specs.declared.summary.Summary.{Summary}

@@ -25,8 +25,7 @@ use Rattle.promise_laws.specs.Kept.{KeepWrites, KeepWritesOn}
 use Rattle.promise_laws.specs.Origins.{HaveOrigins}
 use Rattle.report_text.specs.Numbers.{number_in}
 use Rattle.report_text.specs.Summary.{summary_text}
-use Rattle.report_text.specs.Ends.{lines_text}
-use Rattle.run_report.specs.Report.{report_lines, report_of}
+use Rattle.run_report.specs.Report.{report_of, report_on}
 use Rattle.run_report.specs.Shown.{DeckRunsPlainly, DeckRunsPlainlyOn}
 use Rattle.run_report.specs.Summed.{summary_of}
 use Rattle.subsystem_defs.specs.Decks.{AreWhole, Firsts, run_of, run_on}
@@ -77,10 +76,6 @@ is_run (Some (Generate seed count)) = true
 
 unfoldable pub usage_text : List ℕ
 usage_text = codes "usage: run, check, paths, generate SEED COUNT\n"
-
--- the report of a deck's run on volumes that hold these tracks first
-abbrev pub report_on : Firsts → DeckLines → List ℕ
-report_on firsts d = lines_text (report_lines (run_on firsts d))
 
 -- what a task writes for a deck on volumes that hold these tracks first: the report of its run, its canonical text, or the summary of its run
 abbrev pub output_on : Firsts → Task → DeckLines → List ℕ

@@ -6,8 +6,8 @@ ghost use Rattle.subsystem_defs.specs.Decks.{Firsts};
 ghost use Rattle.deck_top.specs.Bays.{HandsOut};
 
 use crate::bay::VolumeBay;
-use crate::failing::failing_of;
 use ckd_types::NoMemory;
+use deck_run::failing_of;
 use deck_text::{Deck, DeviceLine};
 use device_outside::Volume;
 use std::alloc::Global;

@@ -3,7 +3,6 @@
 
 mod bay;
 mod bytes;
-mod failing;
 mod give;
 mod handing;
 mod report;

@@ -3,7 +3,7 @@
 ghost use Rattle.std.specs.Prelude.{◌≡◌, ◌≢◌, ◌≤◌, ◌+◌, [], IfOk, Ok, length, OnOk};
 ghost use Rattle.report_text.specs.Counting.{counts_of};
 ghost use Rattle.report_text.specs.Report.{report_text};
-ghost use Rattle.run_report.specs.Report.{lines_of_run};
+ghost use Rattle.run_report.specs.Report.{lines_of_run, report_on};
 ghost use Rattle.subsystem_core.specs.Devices.{numbers_of};
 ghost use Rattle.subsystem_defs.specs.Decks.{AreWhole, Firsts, run_on};
 ghost use Rattle.deck_run.specs.Opening.{WasRead, numbers_in};
@@ -11,7 +11,7 @@ ghost use Rattle.deck_run.specs.Sides.{AreAccounted, all_sides};
 ghost use Rattle.deck_run.specs.Standing.{StandsAs};
 ghost use Rattle.deck_top.specs.Bays.{BayView, HandsOut};
 ghost use Rattle.deck_top.specs.Handed.{TakesBackOn};
-ghost use Rattle.deck_top.specs.Answers.{RunsAsPromisedOn, TellsDeckOn, WriteFaultHasCause, report_on};
+ghost use Rattle.deck_top.specs.Answers.{RunsAsPromisedOn, TellsDeckOn, WriteFaultHasCause};
 
 use crate::bay::VolumeBay;
 use crate::give::give_back;

@@ -41,13 +41,14 @@ use Rattle.device_defs.specs.Store.{HalfWrite, no_debt, tracks_of}
 use Rattle.device_laws.proofs.PlainEvents.{none_loose}
 use Rattle.subsystem_defs.specs.declared.event.Event.{Event}
 use Rattle.subsystem_defs.specs.declared.event.Event.TheVariants as events
-use Rattle.subsystem_defs.specs.Decks.{opened_device, opened}
+use Rattle.subsystem_defs.specs.Decks.{AreWhole, Firsts, opened_device_on, opened_on}
 use Rattle.subsystem_defs.specs.Happening.{happens, replaced, unpaired}
 use Rattle.subsystem_defs.specs.Lines.{Asked, Once, Replace, Unpair, Run, Settle, asked_by, most_backs, most_steps}
 use Rattle.subsystem_defs.specs.Subsystem.{Mounted, Subsystem, mounted_in, unfailing}
 use Rattle.subsystem_laws.specs.Served.{IsServedEvent, IsServed, IsServedDeck}
-use Rattle.subsystem_laws.proofs.PlainRuns.{ArePlain, event_plain, opened_plain}
+use Rattle.subsystem_laws.proofs.PlainRuns.{ArePlainOn, event_plain_on, opened_plain_on}
 use Rattle.subsystem_laws.proofs.ReadDecks.{read_served, read_numbered}
+use Rattle.subsystem_laws.proofs.Walks.{mounted_number}
 use Rattle.keeper_laws.specs.Firmness.{is_half_loose, IsTold, has_one}
 use Rattle.keeper_laws.specs.Messages.{event_messages}
 use Rattle.keeper_laws.proofs.FirmNumbers.{one_event}
@@ -71,8 +72,9 @@ use Rattle.line_drive.specs.Driven.{
   line_on,
   driven,
 }
-use Rattle.firm_laws.specs.FirmWrites.{FirmWrite, firm_writes_of, firms_in}
+use Rattle.firm_laws.specs.FirmWrites.{FirmWrite, firm_writes_on, firms_in}
 use Rattle.firm_laws.specs.Telling.{IsTelling}
+use Rattle.firm_laws.specs.Written.{BeginsWith}
 use Rattle.firm_laws.proofs.OneNumber.{one_replaced, one_unpaired, one_opened}
 use Rattle.firm_laws.proofs.StillPlain.{plain_there, replaced_plain, unpaired_plain}
 use Rattle.firm_laws.proofs.WrittenRuns.{written_event, written_replaced, written_unpaired}
@@ -82,45 +84,45 @@ some_is e = cc
 
 -- A subsystem in a run
 
-module _ (n : ℕ) where
+module _ (firsts : Firsts) (n : ℕ) where
   -- these are the firm writes of the device of number n
   record Stands (s : Subsystem) (ws : List FirmWrite) : Type 0 where
-    plain : ArePlain s.mounted
+    plain : ArePlainOn firsts s.mounted
     one : has_one n s.mounted ≡ true
     mounted : Mounted
     there : mounted_in s.mounted n ≡ Some mounted
     told : IsTold mounted.device.store
-    writes : ws ≡ firm_writes_of mounted.device
+    writes : ws ≡ firm_writes_on firsts mounted.device
 
   event_stands : (s : Subsystem) (ws : List FirmWrite) (e : Event) → IsServedEvent e → Stands s ws →
       Stands (happens s e).behind (ws ++ firms_in n (event_messages s e))
   event_stands s ws e may x =
       let f = firm_event n x.mounted s x.there x.told x.one e in
-      let w = written_event n x.mounted s x.there x.told (plain_there s x.plain n x.mounted x.there) x.one e in
+      let w = written_event firsts n x.mounted s x.there x.told (plain_there firsts s x.plain n x.mounted x.there) x.one e in
       let same : w.mounted ≡ f.mounted = some_is (sym w.there ∙ f.there) in
       record {
-        plain = event_plain s x.plain e may;
+        plain = event_plain_on firsts s x.plain e may;
         one = one_event s n e x.one;
         mounted = f.mounted;
         there = f.there;
         told = f.told;
         writes =
             ap (λ (l : List FirmWrite). l ++ firms_in n (event_messages s e)) x.writes
-            ∙ sym w.writes ∙ ap (λ (m : Mounted). firm_writes_of m.device) same;
+            ∙ sym w.writes ∙ ap (λ (m : Mounted). firm_writes_on firsts m.device) same;
       }
 
   replaced_stands : (s : Subsystem) (ws : List FirmWrite) (d : ℕ) (side : Side) (volume : Calls) → Stands s ws → Stands (replaced s d side volume).behind ws
   replaced_stands s ws d side volume x =
       let f = firm_replaced n x.mounted s x.there x.told d side volume in
-      let w = written_replaced n x.mounted s x.there x.told (plain_there s x.plain n x.mounted x.there) d side volume in
+      let w = written_replaced firsts n x.mounted s x.there x.told (plain_there firsts s x.plain n x.mounted x.there) d side volume in
       let same : w.mounted ≡ f.mounted = some_is (sym w.there ∙ f.there) in
       record {
-        plain = replaced_plain s x.plain d side volume;
+        plain = replaced_plain firsts s x.plain d side volume;
         one = one_replaced s n d side volume x.one;
         mounted = f.mounted;
         there = f.there;
         told = f.told;
-        writes = x.writes ∙ sym w.writes ∙ ap (λ (m : Mounted). firm_writes_of m.device) same;
+        writes = x.writes ∙ sym w.writes ∙ ap (λ (m : Mounted). firm_writes_on firsts m.device) same;
       }
 
   -- nothing is owed of a device that gets an empty volume, either
@@ -137,15 +139,15 @@ module _ (n : ℕ) where
   unpaired_stands : (s : Subsystem) (ws : List FirmWrite) (d : ℕ) (volume : Calls) → Stands s ws → Stands (unpaired s d volume).behind ws
   unpaired_stands s ws d volume x =
       let f = unpaired_there n (λ (y : MarksDevice). IsTold y.store) s x.mounted x.there x.told splits_told d volume (λ y told lent. restores_told y told) in
-      let w = written_unpaired n x.mounted s x.there x.told (plain_there s x.plain n x.mounted x.there) d volume in
+      let w = written_unpaired firsts n x.mounted s x.there x.told (plain_there firsts s x.plain n x.mounted x.there) d volume in
       let same : w.mounted ≡ f.mounted = some_is (sym w.there ∙ f.there) in
       record {
-        plain = unpaired_plain s x.plain d volume;
+        plain = unpaired_plain firsts s x.plain d volume;
         one = one_unpaired s n d volume x.one;
         mounted = f.mounted;
         there = f.there;
         told = f.is_so;
-        writes = x.writes ∙ sym w.writes ∙ ap (λ (m : Mounted). firm_writes_of m.device) same;
+        writes = x.writes ∙ sym w.writes ∙ ap (λ (m : Mounted). firm_writes_on firsts m.device) same;
       }
 
   -- Along a course
@@ -242,12 +244,12 @@ module _ (n : ℕ) where
 
     -- a deck's lines
     course_written : (deck : DeckLines) → IsServedDeck deck → (g : G) → number g ≡ n → Stands (c.sub g) (firms g) → (h : G) →
-        driven c (map asked_by deck.events) g ≡ Goes h → (m : Mounted) → mounted_in (c.sub h).mounted n ≡ Some m → firms h ≡ firm_writes_of m.device
+        driven c (map asked_by deck.events) g ≡ Goes h → (m : Mounted) → mounted_in (c.sub h).mounted n ≡ Some m → firms h ≡ firm_writes_on firsts m.device
     course_written deck served g is stands h goes m there =
         let x = driven_so deck.events served.events g (record { is = is; stands = stands }) in
         let same : x.next ≡ h = goes_same (sym x.goes ∙ goes) in
         let y = subst So same x.so in
-        y.stands.writes ∙ ap (λ (k : Mounted). firm_writes_of k.device) (some_is (sym y.stands.there ∙ there))
+        y.stands.writes ∙ ap (λ (k : Mounted). firm_writes_on firsts k.device) (some_is (sym y.stands.there ∙ there))
 
   -- Where a deck is opened
 
@@ -258,10 +260,11 @@ module _ (n : ℕ) where
 
   record IsNew (m : Mounted) : Type 0 where
     told : IsTold m.device.store
-    writes : firm_writes_of m.device ≡ []
+    writes : firm_writes_on firsts m.device ≡ []
+    begins : BeginsWith (firsts m.device.store.device m.device.store.cylinders) m.device
 
   module _ (deck : DeckLines) where
-    new_at : (d : DeviceLine) → IsNew (opened_device deck d)
+    new_at : (d : DeviceLine) → IsNew (opened_device_on firsts deck d)
     new_at d = record {
       told = record {
         room = length-replicate (d.cylinders * 15) no_debt;
@@ -269,24 +272,31 @@ module _ (n : ℕ) where
         half = refl;
       };
       writes = refl;
+      begins = record { history = refl; plain = refl; firm = refl };
     }
 
-    found_new : (ds : List DeviceLine) (m : Mounted) → mounted_in (map (opened_device deck) ds) n ≡ Some m → IsNew m
+    found_new : (ds : List DeviceLine) (m : Mounted) → mounted_in (map (opened_device_on firsts deck) ds) n ≡ Some m → IsNew m
     found_new [] m there = absurd (cc)
     found_new (d ∷ ds) m there = by_test (d.number == n) there (found_new ds m)
       where
-        by_test : (b : Bool) → (if b then Some (opened_device deck d) else mounted_in (map (opened_device deck) ds) n) ≡ Some m →
-            (mounted_in (map (opened_device deck) ds) n ≡ Some m → IsNew m) → IsNew m
+        by_test : (b : Bool) → (if b then Some (opened_device_on firsts deck d) else mounted_in (map (opened_device_on firsts deck) ds) n) ≡ Some m →
+            (mounted_in (map (opened_device_on firsts deck) ds) n ≡ Some m → IsNew m) → IsNew m
         by_test true at rest = subst IsNew (some_is at) (new_at d)
         by_test false at rest = rest at
 
-  opened_stands : (text : List ℕ) (deck : DeckLines) → parsed text ≡ Ok deck → (m : Mounted) → mounted_in (opened deck).mounted n ≡ Some m →
-      Stands (opened deck) []
-  opened_stands text deck read m there =
+  pub opened_begins : (deck : DeckLines) (m : Mounted) → mounted_in (opened_on firsts deck).mounted n ≡ Some m →
+      BeginsWith (firsts n m.device.store.cylinders) m.device
+  opened_begins deck m there =
+      subst (λ (k : ℕ). BeginsWith (firsts k m.device.store.cylinders) m.device) (mounted_number (opened_on firsts deck).mounted n m there)
+      (found_new deck deck.devices m there).begins
+
+  opened_stands : AreWhole firsts → (text : List ℕ) (deck : DeckLines) → parsed text ≡ Ok deck → (m : Mounted) →
+      mounted_in (opened_on firsts deck).mounted n ≡ Some m → Stands (opened_on firsts deck) []
+  opened_stands whole text deck read m there =
       let x = found_new deck deck.devices m there in
       record {
-        plain = opened_plain deck deck.devices (read_served text deck read).devices;
-        one = one_opened deck n [] deck.devices (read_numbered text deck read) m there;
+        plain = opened_plain_on firsts whole deck deck.devices (read_served text deck read).devices;
+        one = one_opened firsts deck n [] deck.devices (read_numbered text deck read) m there;
         mounted = m;
         there = there;
         told = x.told;
@@ -294,12 +304,12 @@ module _ (n : ℕ) where
       }
 
 -- so behind the run of a deck that was read
-pub driven_written : {G E : Type 0} (c : Course G E) (number : G → ℕ) (firms : G → List FirmWrite) → IsTelling c number firms → (text : List ℕ)
-    (deck : DeckLines) → parsed text ≡ Ok deck → (g : G) → c.sub g ≡ opened deck → firms g ≡ [] → (first : Mounted) →
-    mounted_in (opened deck).mounted (number g) ≡ Some first → (h : G) → driven c (map asked_by deck.events) g ≡ Goes h → (m : Mounted) →
-    mounted_in (c.sub h).mounted (number g) ≡ Some m → firms h ≡ firm_writes_of m.device
-driven_written c number firms t text deck read g sub none first at h goes m there =
-    course_written (number g) c number firms t deck (read_served text deck read) g refl
-    (subst (λ (s : Subsystem). Stands (number g) s (firms g)) (sym sub)
-    (subst (Stands (number g) (opened deck)) (sym none) (opened_stands (number g) text deck read first at)))
+pub driven_written : {G E : Type 0} (firsts : Firsts) → AreWhole firsts → (c : Course G E) (number : G → ℕ) (firms : G → List FirmWrite) →
+    IsTelling c number firms → (text : List ℕ) (deck : DeckLines) → parsed text ≡ Ok deck → (g : G) → c.sub g ≡ opened_on firsts deck → firms g ≡ [] →
+    (first : Mounted) → mounted_in (opened_on firsts deck).mounted (number g) ≡ Some first → (h : G) → driven c (map asked_by deck.events) g ≡ Goes h →
+    (m : Mounted) → mounted_in (c.sub h).mounted (number g) ≡ Some m → firms h ≡ firm_writes_on firsts m.device
+driven_written firsts whole c number firms t text deck read g sub none first at h goes m there =
+    course_written firsts (number g) c number firms t deck (read_served text deck read) g refl
+    (subst (λ (s : Subsystem). Stands firsts (number g) s (firms g)) (sym sub)
+    (subst (Stands firsts (number g) (opened_on firsts deck)) (sym none) (opened_stands firsts (number g) whole text deck read first at)))
     h goes m there

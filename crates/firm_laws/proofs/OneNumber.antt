@@ -11,7 +11,7 @@ use Rattle.device_outside.specs.Lists.{is_in}
 use Rattle.device_outside.specs.Told.{Calls}
 use Rattle.device_defs.specs.Orders.{split, restore, replace}
 use Rattle.subsystem_defs.specs.declared.end.OrderFault.{OrderFault}
-use Rattle.subsystem_defs.specs.Decks.{opened_device}
+use Rattle.subsystem_defs.specs.Decks.{Firsts, opened_device_on}
 use Rattle.subsystem_defs.specs.Happening as H
 use Rattle.subsystem_defs.specs.Happening.{is_lent_to, restored_in, replaced_by, replaced_at, replaced, unpaired_by, unpaired_at, unpaired}
 use Rattle.subsystem_defs.specs.Refusals.{replace_fault, unpair_fault}
@@ -67,11 +67,8 @@ module _ (s : Subsystem) where
 
 -- Where a deck is opened
 
-module _ (deck : DeckLines) (n : ℕ) where
-  abbrev all : List DeviceLine → List Mounted
-  all ds = map (opened_device deck) ds
-
-  not_seen : (seen : List ℕ) (ds : List DeviceLine) → AreNumbered seen ds → is_in n seen ≡ true → mounted_in (map (opened_device deck) ds) n ≡ None
+module _ (firsts : Firsts) (deck : DeckLines) (n : ℕ) where
+  not_seen : (seen : List ℕ) (ds : List DeviceLine) → AreNumbered seen ds → is_in n seen ≡ true → mounted_in (map (opened_device_on firsts deck) ds) n ≡ None
   unfolding I.is_in
   not_seen seen [] are is = refl
   not_seen seen (d ∷ ds) are is = by_test (d.number == n) refl (not_seen (d.number ∷ seen) ds are.2 (more (n == d.number) is))
@@ -80,13 +77,13 @@ module _ (deck : DeckLines) (n : ℕ) where
       more true e = refl
       more false e = e
 
-      by_test : (b : Bool) → (d.number == n) ≡ b → mounted_in (map (opened_device deck) ds) n ≡ None →
-          (if b then Some (opened_device deck d) else mounted_in (map (opened_device deck) ds) n) ≡ None
+      by_test : (b : Bool) → (d.number == n) ≡ b → mounted_in (map (opened_device_on firsts deck) ds) n ≡ None →
+          (if b then Some (opened_device_on firsts deck d) else mounted_in (map (opened_device_on firsts deck) ds) n) ≡ None
       by_test true e rest = absurd (let no : true ≡ false = sym is ∙ ap (λ (k : ℕ). is_in k seen) (sym (eqb-true d.number n e)) ∙ are.0 in cc)
       by_test false e rest = rest
 
-  pub one_opened : (seen : List ℕ) (ds : List DeviceLine) → AreNumbered seen ds → (m : Mounted) → mounted_in (map (opened_device deck) ds) n ≡ Some m →
-      has_one n (map (opened_device deck) ds) ≡ true
+  pub one_opened : (seen : List ℕ) (ds : List DeviceLine) → AreNumbered seen ds → (m : Mounted) →
+      mounted_in (map (opened_device_on firsts deck) ds) n ≡ Some m → has_one n (map (opened_device_on firsts deck) ds) ≡ true
   unfolding I.is_in
   one_opened seen [] are m there = absurd (cc)
   one_opened seen (d ∷ ds) are m there = by_test (d.number == n) refl there (one_opened (d.number ∷ seen) ds are.2 m)
@@ -94,8 +91,9 @@ module _ (deck : DeckLines) (n : ℕ) where
       here : (d.number == n) ≡ true → is_in n (d.number ∷ seen) ≡ true
       here e = ap (λ (b : Bool). if b then true else is_in n seen) (eq-eqb n d.number (sym (eqb-true d.number n e)))
 
-      by_test : (b : Bool) → (d.number == n) ≡ b → (if b then Some (opened_device deck d) else mounted_in (map (opened_device deck) ds) n) ≡ Some m →
-          (mounted_in (map (opened_device deck) ds) n ≡ Some m → has_one n (map (opened_device deck) ds) ≡ true) →
-          (if b then not (is_some (mounted_in (map (opened_device deck) ds) n)) else has_one n (map (opened_device deck) ds)) ≡ true
+      by_test : (b : Bool) → (d.number == n) ≡ b →
+          (if b then Some (opened_device_on firsts deck d) else mounted_in (map (opened_device_on firsts deck) ds) n) ≡ Some m →
+          (mounted_in (map (opened_device_on firsts deck) ds) n ≡ Some m → has_one n (map (opened_device_on firsts deck) ds) ≡ true) →
+          (if b then not (is_some (mounted_in (map (opened_device_on firsts deck) ds) n)) else has_one n (map (opened_device_on firsts deck) ds)) ≡ true
       by_test true e at rest = ap (λ (o : Option Mounted). not (is_some o)) (not_seen (d.number ∷ seen) ds are.2 (here e))
       by_test false e at rest = rest at

@@ -1,5 +1,5 @@
 -- Behind a look, and behind the orders for which a volume is handed in, devices beside the plain device of their history are still so.
-use Rattle.std.proofs.Common.{◌≡◌, ℕ, Bool, true, Option, Some, None, refl, sym, ap, subst}
+use Rattle.std.proofs.Common.{◌≡◌, ℕ, Bool, true, Option, Some, None, refl, sym, ap, subst, ◌∙◌}
 use Rattle.std.specs.Prelude.{IfSome}
 use Rattle.ckd_types.specs.declared.paths.Side.{Side}
 use Rattle.ckd_types.specs.Parameters.{is_bypass}
@@ -26,13 +26,14 @@ use Rattle.device_laws.proofs.PlainTurns.{Follows}
 use Rattle.device_laws.proofs.PlainWalks.{framed_same, bytes_hold, ended_same}
 use Rattle.device_laws.proofs.PoolWalks.{asks_had, missed_asks}
 use Rattle.device_laws.proofs.WholeImage.{ahead_only}
+use Rattle.subsystem_defs.specs.Decks.{Firsts}
 use Rattle.subsystem_defs.specs.Happening as H
 use Rattle.subsystem_defs.specs.Happening.{told_to, held_with, mounted_behind, replaced, unpaired}
 use Rattle.subsystem_defs.specs.Looks as L
 use Rattle.subsystem_defs.specs.Looks.{looked_at, looked}
 use Rattle.subsystem_defs.specs.Subsystem.{Mounted, Subsystem, mounted_in}
 use Rattle.subsystem_laws.specs.Served.{IsServedEvent}
-use Rattle.subsystem_laws.proofs.PlainRuns.{Plainly, ArePlain, follows_on, plain_kept}
+use Rattle.subsystem_laws.proofs.PlainRuns.{PlainlyFrom, PlainlyOn, ArePlainOn, follows_on, plain_kept_from}
 use Rattle.subsystem_laws.proofs.Walks.{mounted_so, put_so, replaced_so, unpaired_so}
 
 -- Whatever a loose track that becomes firm leaves, a look leaves
@@ -96,28 +97,32 @@ peek_follows num empty d f q =
     (λ z found w. had_done (walked_follow num empty d f z w)))
     (λ y a x. had_then (ended_same (waiting_count by_plain d.store) y.store) (λ z _ e. had_done (follows_store num empty y x z e)))
 
-module _ (s : Subsystem) (p : ArePlain s.mounted) where
-  looked_plain : (k q : ℕ) (o : Option Mounted) → mounted_in s.mounted k ≡ o → ArePlain (looked_at s k q o).behind.mounted
+module _ (firsts : Firsts) (s : Subsystem) (p : ArePlainOn firsts s.mounted) where
+  pub plain_there : (n : ℕ) (m : Mounted) → mounted_in s.mounted n ≡ Some m → PlainlyFrom firsts m.device
+  plain_there n m there =
+      subst (λ (o : Option Mounted). IfSome o (λ (y : Mounted). PlainlyFrom firsts y.device)) there (mounted_so (PlainlyFrom firsts) s.mounted n p)
+
+  looked_plain : (k q : ℕ) (o : Option Mounted) → mounted_in s.mounted k ≡ o → ArePlainOn firsts (looked_at s k q o).behind.mounted
   looked_plain k q None is = p
   looked_plain k q (Some m) is =
-      let x : Plainly m.device = subst (λ (o : Option Mounted). IfSome o (λ (y : Mounted). Plainly y.device)) is (mounted_so Plainly s.mounted k p) in
-      put_so Plainly s.mounted k (mounted_behind (held_with s.pool m (peek by_plain m.device q))) p
-      (follows_on m.device (mounted_behind (held_with s.pool m (peek by_plain m.device q))).device x
-      (held true (peek_follows x.number x.empty m.device x.follows q) (told_to s.pool m)))
+      let x : PlainlyFrom firsts m.device = plain_there k m is in
+      let y = mounted_behind (held_with s.pool m (peek by_plain m.device q)) in
+      let f : Follows x.number x.empty y.device = held true (peek_follows x.number x.empty m.device x.follows q) (told_to s.pool m) in
+      put_so (PlainlyFrom firsts) s.mounted k y p
+      (subst (λ (j : ℕ). PlainlyOn (firsts j) y.device) (x.follows.number ∙ sym f.number) (follows_on m.device y.device x f))
 
-  pub look_plain : (k q : ℕ) → ArePlain (looked s k q).behind.mounted
+  pub look_plain : (k q : ℕ) → ArePlainOn firsts (looked s k q).behind.mounted
   unfolding L.looked
   look_plain k q = looked_plain k q (mounted_in s.mounted k) refl
 
-  pub replaced_plain : (k : ℕ) (side : Side) (volume : Calls) → ArePlain (replaced s k side volume).behind.mounted
+  pub replaced_plain : (k : ℕ) (side : Side) (volume : Calls) → ArePlainOn firsts (replaced s k side volume).behind.mounted
   unfolding H.replaced
   replaced_plain k side volume =
-      replaced_so Plainly IsServedEvent plain_kept s k side volume p (mounted_in s.mounted k) (mounted_so Plainly s.mounted k p)
+      replaced_so (PlainlyFrom firsts) IsServedEvent (plain_kept_from firsts) s k side volume p (mounted_in s.mounted k)
+      (mounted_so (PlainlyFrom firsts) s.mounted k p)
 
-  pub unpaired_plain : (k : ℕ) (volume : Calls) → ArePlain (unpaired s k volume).behind.mounted
+  pub unpaired_plain : (k : ℕ) (volume : Calls) → ArePlainOn firsts (unpaired s k volume).behind.mounted
   unfolding H.unpaired
   unpaired_plain k volume =
-      unpaired_so Plainly IsServedEvent plain_kept s k volume p (mounted_in s.mounted k) (mounted_so Plainly s.mounted k p)
-
-  pub plain_there : (n : ℕ) (m : Mounted) → mounted_in s.mounted n ≡ Some m → Plainly m.device
-  plain_there n m there = subst (λ (o : Option Mounted). IfSome o (λ (y : Mounted). Plainly y.device)) there (mounted_so Plainly s.mounted n p)
+      unpaired_so (PlainlyFrom firsts) IsServedEvent (plain_kept_from firsts) s k volume p (mounted_in s.mounted k)
+      (mounted_so (PlainlyFrom firsts) s.mounted k p)

@@ -6,11 +6,11 @@ use Rattle.std.proofs.lemmas.List.{append-nil}
 use Rattle.ckd_types.specs.declared.geometry.Geometry.{Geometry}
 use Rattle.ckd_types.specs.declared.paths.Side.{Side}
 use Rattle.ckd_types.specs.declared.paths.Side.TheVariants.{A, B}
-use Rattle.ckd_types.specs.Volume.{empty_volume}
+use Rattle.ckd_types.specs.declared.record.Track.{Track}
 use Rattle.loss_model.specs.declared.Loss.TheVariants as losses
 use Rattle.plain_defs.specs.History.{OpenEntry, History}
 use Rattle.plain_defs.specs.Journal.{Plans}
-use Rattle.plain_defs.specs.PlainState.{PlainState, empty_state}
+use Rattle.plain_defs.specs.PlainState.{PlainState}
 use Rattle.device_outside.specs.Hears.{messages}
 use Rattle.device_outside.specs.Interaction.{Done, and_then}
 use Rattle.device_outside.specs.Pool.{Pool, cache_failed, store_failed, power_lost, cache_repaired, store_repaired}
@@ -30,6 +30,7 @@ use Rattle.device_defs.specs.Peek.{peek}
 use Rattle.device_defs.specs.Start as S
 use Rattle.device_defs.specs.Start.{start, start_fault, next_ordinal}
 use Rattle.device_defs.specs.Store.{tracks_of}
+use Rattle.device_laws.specs.NewDevice.{first_state}
 use Rattle.device_laws.proofs.DeviceHistory.{starts_where_idle}
 use Rattle.device_laws.proofs.Had.{Had, had_done, had_then, held}
 use Rattle.device_laws.proofs.PlainCommand.{command_follows}
@@ -42,15 +43,16 @@ use Rattle.device_laws.proofs.PlainTurns.{IsAtHome, Follows}
 use Rattle.subsystem_defs.specs.declared.end.EventEnd.{EventEnd}
 use Rattle.subsystem_defs.specs.declared.end.EventEnd.TheVariants as ends
 use Rattle.subsystem_defs.specs.declared.event.Event.{Event}
+use Rattle.subsystem_defs.specs.Decks.{Firsts}
 use Rattle.subsystem_defs.specs.Deeds.{Ends, Becomes, Asks, Each, Repairs, Lends, deed, end_of, ends_done}
 use Rattle.subsystem_defs.specs.Happening as H
 use Rattle.subsystem_defs.specs.Happening.{MarksDeed, Talk, told_to, held_with, mounted_behind, asks, sweep, happens_by, happens, replaced, is_lent_to, unpaired}
 use Rattle.subsystem_defs.specs.Looks as K
 use Rattle.subsystem_defs.specs.Looks.{looked_at, looked}
-use Rattle.subsystem_defs.specs.Promised.{empty_of}
+use Rattle.subsystem_defs.specs.Promised.{first_of}
 use Rattle.subsystem_defs.specs.Subsystem.{Mounted, Subsystem, devices_of, number_of, mounted_in, put_in}
 use Rattle.subsystem_laws.proofs.DeedWalk.{Stands, seat_of, IsDeedwise, deed_is}
-use Rattle.subsystem_laws.proofs.PlainRuns.{Plainly, first_held, still_first}
+use Rattle.subsystem_laws.proofs.PlainRuns.{PlainlyFrom, PlainlyOn, first_held, still_first}
 use Rattle.subsystem_laws.proofs.Walks.{mounted_number}
 use Rattle.subsystem_laws.specs.Looking.{messages_at, look_messages}
 use Rattle.keeper_laws.specs.Firmness.{IsTold, has_one}
@@ -62,8 +64,8 @@ use Rattle.keeper_laws.proofs.FirmLosses.{lose_keeps, reset_keeps, power_keeps, 
 use Rattle.keeper_laws.proofs.FirmWrites.{Rest}
 use Rattle.keeper_laws.proofs.Sizes.{peek_sized}
 use Rattle.keeper_laws.proofs.Places.{IsAt, Leaves, place, put_at, put_here, first_at, later_at, deed_at, replaced_there, unpaired_there}
-use Rattle.firm_laws.specs.FirmWrites.{FirmWrite, firm_writes, firm_writes_of, firms_in}
-use Rattle.firm_laws.specs.Written.{HasWritten}
+use Rattle.firm_laws.specs.FirmWrites.{FirmWrite, firm_writes, firm_writes_on, firms_in}
+use Rattle.firm_laws.specs.Written.{HasWrittenOn}
 use Rattle.firm_laws.proofs.HistoryWrites.{started_written, emptied_written}
 use Rattle.firm_laws.proofs.Made.{acts_written, made_written}
 use Rattle.firm_laws.proofs.SaidStores.{Same, same_then, same_unframed, same_unpatched, over_same}
@@ -103,29 +105,40 @@ lend_alike d to =
     (with_tracks (event_begun d) (lent_to (L.over (tracks_of d.store) (given_up by_plain) (noted_begin d.store)) to)) tt
     (refl, refl, ap (λ (c : Core). c.device) same.core, ap (λ (c : Core). c.geometry) same.core, ap (λ (c : Core). c.cylinders) same.core)
 
-module _ (n : ℕ) (m : Mounted) (s : Subsystem) (there : mounted_in s.mounted n ≡ Some m) (told : IsTold m.device.store) (plain : Plainly m.device) where
+module _ (firsts : Firsts) (n : ℕ) (m : Mounted) (s : Subsystem) (there : mounted_in s.mounted n ≡ Some m) (told : IsTold m.device.store)
+    (plain : PlainlyFrom firsts m.device) where
   abbrev before : List FirmWrite
-  before = firm_writes_of m.device
+  before = firm_writes_on firsts m.device
+
+  -- what the volume of its number held first
+  abbrev first : ℕ → List Track
+  first = firsts m.device.store.device
 
   -- the device of that number has these firm writes
   abbrev So : List FirmWrite → MarksDevice → Type 0
-  So w d = (d.store.device ≡ n) × (firm_writes_of d ≡ w)
+  So w d = (d.store.device ≡ n) × (firm_writes d.plans (first_of first d) d.history ≡ w)
 
   now : So before m.device
   now = (mounted_number s.mounted n m there, refl)
 
-  written : (w : List FirmWrite) (z : Subsystem) → IsAt n (So w) z.mounted → HasWritten w z n
-  written w z x = record { mounted = x.mounted; there = x.there; writes = x.is_so.1 }
+  written : (w : List FirmWrite) (z : Subsystem) → IsAt n (So w) z.mounted → HasWrittenOn firsts w z n
+  written w z x =
+      let d = x.mounted.device in
+      record {
+        mounted = x.mounted;
+        there = x.there;
+        writes = ap (λ (k : ℕ). firm_writes d.plans (first_of (firsts k) d) d.history) (x.is_so.0 ∙ sym now.0) ∙ x.is_so.1;
+      }
 
   none_more : (ms : List Mounted) → IsAt n (So before) ms → IsAt n (So (before ++ [])) ms
   none_more ms x = subst (λ (w : List FirmWrite). IsAt n (So w) ms) (sym (append-nil before)) x
 
   -- the device at hand
   record Is (d : MarksDevice) : Type 0 where
-    beside : Plainly d
+    beside : PlainlyOn first d
     tells : IsTold d.store
     number : d.store.device ≡ n
-    writes : firm_writes_of d ≡ before
+    writes : firm_writes d.plans (first_of first d) d.history ≡ before
 
   mine : Is m.device
   mine = record { beside = plain; tells = told; number = now.0; writes = refl }
@@ -155,7 +168,7 @@ module _ (n : ℕ) (m : Mounted) (s : Subsystem) (there : mounted_in s.mounted n
         let u = all_firms (messages true talk o) in
         let left = tells_held (λ u y (_ : X). Left x.beside.number x.beside.empty d x.beside.follows x.tells u y) tells o in
         let after = held true had o in
-        let base = still_first empty_volume x.beside.number x.beside.empty y after (first_held empty_volume x.beside.empty d x.beside.base) in (
+        let base = still_first first x.beside.number x.beside.empty y after (first_held first x.beside.empty d x.beside.base) in (
           after.number ∙ sym x.beside.follows.number ∙ x.number,
           ap (λ (e : PlainState). firm_writes y.plans e y.history) (sym base)
               ∙ made_written x.beside.number x.beside.empty d x.beside.follows u y left.0 after left.1
@@ -207,8 +220,10 @@ module _ (n : ℕ) (m : Mounted) (s : Subsystem) (there : mounted_in s.mounted n
       let left = tells_held (λ u z _. Looked x.beside.number x.beside.empty d x.beside.follows x.tells u z)
       (peek_left x.beside.number x.beside.empty d f x.tells q) o in
       let sized = peek_sized d q o in
-      let empty : empty_of y ≡ x.beside.empty =
-      ap (λ (g : Geometry). empty_state g y.store.cylinders) sized.geometry ∙ ap (empty_state d.store.geometry) sized.cylinders ∙ sym x.beside.base in (
+      let empty : first_of first y ≡ x.beside.empty =
+      ap (λ (g : Geometry). first_state g y.store.cylinders (first y.store.cylinders)) sized.geometry
+      ∙ ap (λ (c : ℕ). first_state d.store.geometry c (first c)) sized.cylinders
+      ∙ sym x.beside.base in (
         sized.device ∙ x.number,
         ap (λ (e : PlainState). firm_writes y.plans e y.history) empty
             ∙ acts_written x.beside.number x.beside.empty d f u y left.0 left.1 left.2
@@ -224,7 +239,7 @@ module _ (n : ℕ) (m : Mounted) (s : Subsystem) (there : mounted_in s.mounted n
       put_so k y.device (mounted_number s.mounted k y is) (peek by_plain y.device q) (λ j g. peek_keeps j ⊥ y.device q g)
       (λ x o. look_main y.device q x o) y is refl
 
-  pub written_look : (k q : ℕ) → HasWritten (before ++ firms_in n (look_messages s k q)) (looked s k q).behind n
+  pub written_look : (k q : ℕ) → HasWrittenOn firsts (before ++ firms_in n (look_messages s k q)) (looked s k q).behind n
   unfolding K.looked
   written_look k q =
       written (before ++ firms_in n (look_messages s k q)) (looked s k q).behind (look_so k q (mounted_in s.mounted k) refl)
@@ -326,17 +341,17 @@ module _ (n : ℕ) (m : Mounted) (s : Subsystem) (there : mounted_in s.mounted n
     unfolding S.start
     started d path x fault same =
         let y = stood d x same in
-        (y.0, started_written d.plans (empty_of d) d.history path (next_ordinal d path) (starts_where_idle d path fault) ∙ y.1)
+        (y.0, started_written d.plans (first_of first d) d.history path (next_ordinal d path) (starts_where_idle d path fault) ∙ y.1)
 
     lent_so : (to : ℕ) (o : Told) → So before (hold true (lend by_plain m.device to) o).state
     lent_so to o =
         let y = (hold true (lend by_plain m.device to) o).state in
         let left = tells_held (λ u y _. Alike m.device u y) (lend_alike m.device to) o in (
           left.2 ∙ now.0,
-          ap (λ (p : Plans). firm_writes p (empty_of y) y.history) left.1
-              ∙ ap (λ (g : Geometry). firm_writes m.device.plans (empty_state g y.store.cylinders) y.history) left.3
-              ∙ ap (λ (c : ℕ). firm_writes m.device.plans (empty_state m.device.store.geometry c) y.history) left.4
-              ∙ ap (λ (h : History). firm_writes m.device.plans (empty_of m.device) h) left.0,
+          ap (λ (p : Plans). firm_writes p (first_of first y) y.history) left.1
+              ∙ ap (λ (g : Geometry). firm_writes m.device.plans (first_state g y.store.cylinders (first y.store.cylinders)) y.history) left.3
+              ∙ ap (λ (c : ℕ). firm_writes m.device.plans (first_state m.device.store.geometry c (first c)) y.history) left.4
+              ∙ ap (λ (h : History). firm_writes m.device.plans (first_of first m.device) h) left.0,
         )
 
     swept : (f : MarksDevice → Talk (Unit {0})) → ((d : MarksDevice) → Own d (f d)) →
@@ -381,7 +396,7 @@ module _ (n : ℕ) (m : Mounted) (s : Subsystem) (there : mounted_in s.mounted n
       resumed = λ d x fault. quiet_deed (Becomes _ ends.Done) (stood d x);
     }
 
-    pub written_event : (e : Event) → HasWritten (before ++ firms_in n (event_messages s e)) (happens s e).behind n
+    pub written_event : (e : Event) → HasWrittenOn firsts (before ++ firms_in n (event_messages s e)) (happens s e).behind n
     unfolding H.happens M.event_messages
     written_event e =
         let x = deed by_plain s.pool (devices_of s) e in
@@ -393,7 +408,7 @@ module _ (n : ℕ) (m : Mounted) (s : Subsystem) (there : mounted_in s.mounted n
   side_so A = now
   side_so B = now
 
-  pub written_replaced : (d : ℕ) (side : Side) (volume : Calls) → HasWritten before (replaced s d side volume).behind n
+  pub written_replaced : (d : ℕ) (side : Side) (volume : Calls) → HasWrittenOn firsts before (replaced s d side volume).behind n
   written_replaced d side volume =
       written before (replaced s d side volume).behind (replaced_there n (So before) s m there now d side volume (side_so side))
 
@@ -407,9 +422,9 @@ module _ (n : ℕ) (m : Mounted) (s : Subsystem) (there : mounted_in s.mounted n
 
   restored : (k : ℕ) (d : MarksDevice) → AtHome d → is_lent_to d.store.lent k ≡ true → AtHome (restore d)
   restored k d x lent =
-      ((x.0.0, emptied_written d.plans (empty_of d) d.history (idle_lent d.store.lent k d.history.running lent x.1) ∙ x.0.1), tt)
+      ((x.0.0, emptied_written d.plans (first_of first d) d.history (idle_lent d.store.lent k d.history.running lent x.1) ∙ x.0.1), tt)
 
-  pub written_unpaired : (d : ℕ) (volume : Calls) → HasWritten before (unpaired s d volume).behind n
+  pub written_unpaired : (d : ℕ) (volume : Calls) → HasWrittenOn firsts before (unpaired s d volume).behind n
   written_unpaired d volume =
       let x = unpaired_there n AtHome s m there (now, plain.follows.home) (λ y g. g) d volume (restored d) in
       written before (unpaired s d volume).behind (record { mounted = x.mounted; there = x.there; is_so = x.is_so.0 })

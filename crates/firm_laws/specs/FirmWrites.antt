@@ -20,7 +20,8 @@ use Rattle.plain_defs.specs.Program.{Part, first_part, acts_at, command_run, par
 use Rattle.track_image.specs.Image.{Image}
 use Rattle.device_outside.specs.Keeper.{Message, BeforeEdit, Firm}
 use Rattle.device_defs.specs.Marks.{MarksDevice}
-use Rattle.subsystem_defs.specs.Promised.{empty_of}
+use Rattle.subsystem_defs.specs.Decks.{Firsts, empty_firsts}
+use Rattle.subsystem_defs.specs.Promised.{first_of}
 
 -- the number of a track that an effect made firm, and the track as it is then
 abbrev pub FirmWrite : Type 0
@@ -84,9 +85,13 @@ running_writes plans state None = []
 abbrev pub firm_writes : Plans → PlainState → History → List FirmWrite
 firm_writes plans empty h = journal_writes plans empty h.items ++ running_writes plans (replay plans empty h.items) h.running
 
--- of a device of a run
+-- of a device of a run, where the volume of its number held these tracks first
+abbrev pub firm_writes_on : Firsts → MarksDevice → List FirmWrite
+firm_writes_on firsts d = firm_writes d.plans (first_of (firsts d.store.device) d) d.history
+
+-- where it was empty
 abbrev pub firm_writes_of : MarksDevice → List FirmWrite
-firm_writes_of d = firm_writes d.plans (empty_of d) d.history
+firm_writes_of d = firm_writes_on empty_firsts d
 
 -- Of messages
 

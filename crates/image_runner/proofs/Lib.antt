@@ -4,4 +4,3 @@ mod Told
 mod Names
 mod Devices
 mod Begun
-pub mod FaultLines

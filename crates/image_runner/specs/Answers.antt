@@ -11,9 +11,8 @@ use Rattle.deck_text.specs.DeckLines.{DeckLines}
 use Rattle.deck_text.specs.Parse.{parsed}
 use Rattle.deck_text.specs.Texts.{limit_text, refused_text}
 use Rattle.device_outside.specs.Lists.{is_in}
-use Rattle.report_text.specs.Ends.{lines_text}
-use Rattle.run_report.specs.Report.{report_lines}
-use Rattle.subsystem_defs.specs.Decks.{Firsts, run_on}
+use Rattle.run_report.specs.Report.{report_on}
+use Rattle.subsystem_defs.specs.Decks.{Firsts}
 use Rattle.image_runner.specs.declared.mounting.MountFault.{MountFault}
 use Rattle.image_runner.specs.declared.mounting.MountFault.TheVariants as faults
 use Rattle.image_runner.specs.declared.mounting.Refusal.{Refusal}
@@ -50,10 +49,6 @@ code_of NoMemory = 5
 code_of Usage = 6
 code_of (Refused refusal) = code_of_fault refusal.fault
 code_of FlushFault = 9
-
--- the report of a deck's run on volumes that hold these tracks
-abbrev pub report_on : Firsts → DeckLines → List ℕ
-report_on firsts deck = lines_text (report_lines (run_on firsts deck))
 
 -- a text is the report of the run on the volumes that the words name, where the rack tells what these hold
 abbrev pub IsReport : Option Holding → List (List ℕ) → DeckLines → List ℕ → Type 0

@@ -1,7 +1,6 @@
 //! Runs a deck on disk images: its devices begin with what the images hold, and write into them.
 #![tactic(auto)]
 
-mod failing;
 mod file;
 mod mounting;
 mod rack;

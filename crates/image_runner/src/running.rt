@@ -5,13 +5,13 @@ ghost use Rattle.image_runner.specs.Answers.{IsFaultOfLine};
 ghost use Rattle.image_runner.specs.Racks.{BeginsWhereTold, Holding, IsMountFault, firsts_by};
 ghost use Rattle.image_runner.specs.Words.{path_for};
 
-use crate::failing::failing_of;
 use crate::mounting::{MountFault, Refusal};
 use crate::rack::{KeptVolume, Rack};
 use crate::texts::write_waiting;
 use crate::words::path_for;
 use ckd_outside::{Failed, Sink};
 use ckd_types::{DeviceNo, HEADS, TrackNo};
+use deck_run::failing_of;
 use deck_text::{Deck, DeviceLine};
 use device_core::Device;
 use device_outside::Volume;

@@ -11,7 +11,7 @@ ghost use Rattle.image_tool.specs.Written.{IsOfSink, IsWritten};
 ghost use Rattle.image_tool.specs.Answers.{WriteFaultHasCause, ToldFaultHasCause};
 
 use crate::status::{ImageStatus, refused_by};
-use crate::texts::{write_fault, write_found, write_good, write_list};
+use crate::texts::{write_fault, write_found, write_good};
 use ckd_outside::Sink;
 use ckd_types::{HEADS, TrackNo};
 use disk_image::{
@@ -20,7 +20,7 @@ use disk_image::{
 };
 use std::alloc::Global;
 use volume_file::{FileVolume, save};
-use volume_texts::{Row, row_of};
+use volume_texts::{Row, row_of, write_listing};
 
 /// Each bad track of an image, or why a file is none.
 fn bad_tracks<F: DiskFile>(alloc: Global, file: &mut F) -> Result<Vec<TrackFault>, ImageFault>
@@ -124,7 +124,7 @@ fn show_rows<K: Sink>(sink: &mut K, layout: Layout, rows: &[Row]) -> ImageStatus
     ensures write { WriteFaultHasCause result (K.faults sink.old) (K.faults sink.new) }
     ensures other { IsOfSink result }
 {
-    match write_list(sink, layout, rows) {
+    match write_listing(sink, layout.geometry, layout.cylinders, rows) {
         Ok(()) => ImageStatus::Done,
         Err(_) => ImageStatus::WriteFault,
     }

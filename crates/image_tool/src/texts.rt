@@ -1,8 +1,7 @@
 ghost use Rattle.std.specs.Prelude.{◌≡◌};
 ghost use Rattle.std.specs.List.{flat_map};
 ghost use Rattle.ckd_outside.specs.Causes.{HasCause};
-ghost use Rattle.ckd_outside.specs.Texts.{Puts, Writes};
-ghost use Rattle.volume_texts.specs.List.{finish_line, rows_text, track_line, volume_line};
+ghost use Rattle.ckd_outside.specs.Texts.{Writes};
 ghost use Rattle.image_tool.specs.Answers.{usage_text};
 ghost use Rattle.image_tool.specs.Texts.{bytes_text, fault_text, good_text, number_text, other_text, track_text, word_text};
 
@@ -11,7 +10,7 @@ use ckd_outside::{
 };
 use deck_text::write_line;
 use disk_image::{ImageFault, Layout, TrackFault};
-use volume_texts::{Row, model_text};
+use volume_texts::model_text;
 
 #[tactic(auto, unfolding(crate::specs::Texts::word_text))]
 fn write_word<K: Sink>(sink: &mut K, word: &[u8]) -> Result<(), Failed>
@@ -98,62 +97,6 @@ pub(crate) fn write_good<K: Sink>(sink: &mut K) -> Result<(), Failed>
     ensures cause { HasCause (K.faults sink.old) (K.faults sink.new) result }
 {
     write_line(sink, &[Piece::Text(b"image good\n")])
-}
-
-#[tactic(auto, unfolding(volume_texts::specs::List::volume_line))]
-fn put_volume<K: Sink>(sink: &mut K, buffer: &mut LineBuffer, layout: Layout) -> Result<(), Failed>
-    ensures bytes { Puts (K.held sink.old) buffer.old (K.held sink.new) buffer.new result (volume_line layout.geometry layout.cylinders) }
-    ensures cause { HasCause (K.faults sink.old) (K.faults sink.new) result }
-{
-    let pieces = [
-        Piece::Text(b"VOLUME "),
-        Piece::Text(model_text(layout.geometry)),
-        Piece::Text(b" "),
-        Piece::Number(u64::from(layout.cylinders)),
-        Piece::Text(b"\n"),
-    ];
-    write_pieces(sink, buffer, &pieces)
-}
-
-/// How a row of a list is told: a line.
-struct RowSpelling;
-
-impl Spelling<Row> for RowSpelling {
-    ghost text = { track_line };
-
-    #[tactic(auto, unfolding(volume_texts::specs::List::track_line))]
-    fn put<K: Sink>(sink: &mut K, buffer: &mut LineBuffer, it: &Row) -> Result<(), Failed> {
-        let pieces = [
-            Piece::Text(b"TRACK "),
-            Piece::Number(u64::from(it.track)),
-            Piece::Text(b" RECORDS "),
-            Piece::Number(it.records as u64),
-            Piece::Text(b" BYTES "),
-            Piece::Number(it.bytes as u64),
-            Piece::Text(b"\n"),
-        ];
-        write_pieces(sink, buffer, &pieces)
-    }
-}
-
-#[tactic(auto, unfolding(volume_texts::specs::List::finish_line))]
-fn put_finish<K: Sink>(sink: &mut K, buffer: &mut LineBuffer) -> Result<(), Failed>
-    ensures bytes { Puts (K.held sink.old) buffer.old (K.held sink.new) buffer.new result finish_line }
-    ensures cause { HasCause (K.faults sink.old) (K.faults sink.new) result }
-{
-    write_pieces(sink, buffer, &[Piece::Text(b"FINISH\n")])
-}
-
-/// Writes the list of an image, as that of a volume file is, which has fewer cylinders. At a fault a front of it was written.
-pub(crate) fn write_list<K: Sink>(sink: &mut K, layout: Layout, rows: &[Row]) -> Result<(), Failed>
-    ensures bytes { Writes (K.held sink.old) (K.held sink.new) result (rows_text layout.geometry layout.cylinders rows.now) }
-    ensures cause { HasCause (K.faults sink.old) (K.faults sink.new) result }
-{
-    let mut buffer = LineBuffer::new();
-    put_volume(sink, &mut buffer, layout)?;
-    put_all::<RowSpelling, Row, K>(sink, &mut buffer, rows)?;
-    put_finish(sink, &mut buffer)?;
-    flush(sink, &mut buffer)
 }
 
 /// Tells that the file of a new image has bytes.

@@ -7,4 +7,5 @@ pub mod OrderEnds
 pub mod Given
 pub mod Driving
 pub mod Same
+pub mod Alike
 mod Rows

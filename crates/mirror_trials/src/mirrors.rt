@@ -1,4 +1,4 @@
-ghost use Rattle.std.specs.Prelude.{◌≡◌, ◌*◌, nat_lt};
+ghost use Rattle.std.specs.Prelude.{◌≡◌, ◌*◌, length, nat_lt};
 ghost use Rattle.device_core.specs.State.{device_of};
 ghost use Rattle.device_defs.specs.Store.{tracks_of};
 
@@ -47,16 +47,18 @@ fn program(alloc: Global, data: &[u8]) -> Result<Program, Fail> {
     Ok(Program::new(words).ok().ok_or("word")?)
 }
 
-/// Devices, of which one has a cylinder, and on path 1 two programs.
-fn devices(alloc: Global, d: DeviceNo) -> Result<Subsystem<MemVolume>, Fail> {
+/// Devices, of which one has this volume of a cylinder, and on path 1 two programs.
+pub(crate) fn devices_on(
+    alloc: Global,
+    d: DeviceNo,
+    volume: MemVolume,
+) -> Result<Subsystem<MemVolume>, Fail>
+    requires { length volume.tracks ≡ 15 }
+{
     let path = PathNo::new(1).ok_or("path")?;
     let mut plans = PathPlans::new(alloc);
     plans.push(path, program(alloc, FIRST)?)?;
     plans.push(path, program(alloc, SECOND)?)?;
-    let volume = MemVolume::new(alloc, 1, &[], &[])?;
-    if volume.len() != 15 {
-        return Err("volume".into());
-    }
     let Ok(device) = Device::open(alloc, d, Geometry::D3390, 1, volume, plans) else {
         return Err("memory".into());
     };
@@ -65,9 +67,18 @@ fn devices(alloc: Global, d: DeviceNo) -> Result<Subsystem<MemVolume>, Fail> {
     Ok(Subsystem::new(Pool::new(alloc, 1, 1)?, all)?)
 }
 
-/// A mirror of that device, over a link of which these puts fail.
-fn mirrored(alloc: Global, d: DeviceNo, fail: &[u32]) -> Result<Mirror<MemVolume, MemLink>, Fail> {
-    let sub = devices(alloc, d)?;
+/// The same over an empty volume.
+fn devices(alloc: Global, d: DeviceNo) -> Result<Subsystem<MemVolume>, Fail> {
+    let volume = MemVolume::new(alloc, 1, &[], &[])?;
+    devices_on(alloc, d, volume)
+}
+
+/// A mirror of a device of one cylinder to which nothing has happened, over a link of a far volume that holds what it does.
+pub(crate) fn mirror_to(
+    sub: Subsystem<MemVolume>,
+    d: DeviceNo,
+    link: MemLink,
+) -> Result<Mirror<MemVolume, MemLink>, Fail> {
     if !sub.has_device(d) {
         return Err("device".into());
     }
@@ -76,8 +87,18 @@ fn mirrored(alloc: Global, d: DeviceNo, fail: &[u32]) -> Result<Mirror<MemVolume
     if used || device.lent_to().is_some() {
         return Err("used".into());
     }
-    let link = MemLink::new(alloc, device.geometry(), device.cylinders(), fail)?;
+    let tracks = usize::from(device.cylinders()) * 15;
+    if link.geometry() != device.geometry() || link.tracks() != tracks {
+        return Err("link".into());
+    }
     Ok(Mirror::new(sub, d, link))
+}
+
+/// A mirror of that device on an empty volume, over a link of which these puts fail.
+fn mirrored(alloc: Global, d: DeviceNo, fail: &[u32]) -> Result<Mirror<MemVolume, MemLink>, Fail> {
+    let sub = devices(alloc, d)?;
+    let link = MemLink::new(alloc, Geometry::D3390, 1, fail)?;
+    mirror_to(sub, d, link)
 }
 
 fn start(mirror: &mut Mirror<MemVolume, MemLink>, d: DeviceNo) -> Result<(), Fail> {
@@ -96,7 +117,7 @@ fn step(mirror: &mut Mirror<MemVolume, MemLink>, d: DeviceNo) -> Result<(), Fail
 }
 
 /// One program of three commands.
-fn runs(mirror: &mut Mirror<MemVolume, MemLink>, d: DeviceNo) -> Result<(), Fail> {
+pub(crate) fn runs(mirror: &mut Mirror<MemVolume, MemLink>, d: DeviceNo) -> Result<(), Fail> {
     start(mirror, d)?;
     step(mirror, d)?;
     step(mirror, d)?;

@@ -16,13 +16,15 @@ use Rattle.device_laws.specs.Handed.{StaysInTurn, allowance_in, in_all}
 use Rattle.device_laws.specs.Whole.{WholeDevice}
 use Rattle.subsystem_core.proofs.Coming.{is_home}
 use Rattle.subsystem_defs.specs.Refusals.{replace_fault}
-use Rattle.subsystem_laws.specs.Standing.{Stands}
+use Rattle.subsystem_laws.specs.Standing.{StandsOn}
 use Rattle.subsystem_laws.proofs.turning.Orders.{replaced_stands}
 use Rattle.device_store.specs.State.{outside_of}
 use Rattle.device_core.specs.declared.device.Device.{Device}
 use Rattle.device_core.specs.State.{device_of}
 use Rattle.path_turns.specs.Keeping.{handed_of, tells, told_of}
+use Rattle.path_turns.specs.Planned.{as_planned, told_planned}
 use Rattle.path_turns.proofs.Keeping.{none_of}
+use Rattle.path_turns.proofs.Planned.{with_planned}
 use Rattle.path_orders.specs.Ordered.{IsOrdered, IsPledged}
 use Rattle.path_orders.specs.Spare.{TellsTracks}
 
@@ -132,19 +134,22 @@ module _ {V : Type 0} {G : Ghosts V} where
       other_of e.store.pair.volumes side ≡ other_of d.store.pair.volumes side → IsOrdered (λ p. IsPledged p (G.view volume)) d e
   replaced_ordered d e side volume free is here other =
       let x = device_of d in
-      let v = G.view volume in
+      let v = as_planned (G.view volume) in
       let home : x.store.lent ≡ None = none_of x.store.lent (is_home d side free) in
-      let told : told_of e ≡ with_view (told_of d) side v = replaced_told G.view d.store.pair.volumes e.store.pair.volumes side volume here other in
+      let before : Told = outside_of (no_pool 0) G.view d.store.pair.volumes (tt {0}) in
+      let told : told_of e ≡ with_view (told_of d) side v =
+      ap (λ (w : Told). told_planned w) (replaced_told G.view d.store.pair.volumes e.store.pair.volumes side volume here other)
+      ∙ sym (with_planned before side (G.view volume)) in
       record {
-        kept = λ p pledged k. record {
+        kept = λ first p pledged k. record {
           keeps = subst (λ (y : WholeDevice). StaysInTurn p y (handed_of p.told e) (told_of e)) (sym is)
               (subst (λ (w : Told). StaysInTurn p (replace x side) (handed p.told w) w) (sym told)
               (replaced_keeps p x (told_of d) v pledged.sure (λ told. is_told v.contents (p.cylinders * 15) (pledged.tells told)) side k.keeps));
           stands = λ is_told _.
               let has = has_tracks v.contents (p.cylinders * 15) (pledged.tells is_told) in
               let long : length has.all ≡ tracks_of x.store = has.long ∙ ap (λ (n : ℕ). n * 15) (sym k.keeps.keeps.cylinders) in
-              subst (λ (y : WholeDevice). Stands y (told_of e)) (sym is)
-              (subst (λ (w : Told). Stands (replace x side) w) (sym told)
+              subst (λ (y : WholeDevice). StandsOn first y (told_of e)) (sym is)
+              (subst (λ (w : Told). StandsOn first (replace x side) w) (sym told)
               (replaced_stands x (told_of d) v has.all has.is long side (k.stands is_told home) free));
         };
         counts = ap (λ (y : WholeDevice). seat_counts y) is ∙ same_counts x side;

@@ -1,5 +1,6 @@
 -- What an order of the operator leaves of a device in its turn.
 use Rattle.std.specs.Prelude.{◌≡◌, ◌*◌, ℕ, true, List, Some, None, is_some}
+use Rattle.ckd_types.specs.declared.record.Track.{Track}
 use Rattle.device_outside.specs.declared.volume.Volume.{Ghosts}
 use Rattle.device_outside.specs.Volume.{VolumeView}
 use Rattle.device_defs.specs.declared.counts.Losses.{Losses}
@@ -12,6 +13,7 @@ use Rattle.device_core.specs.declared.device.Device.{Device}
 use Rattle.device_core.specs.State.{device_of}
 use Rattle.device_defs.specs.Store.{tracks_of}
 use Rattle.path_turns.specs.Keeping.{IsWithin, KeepsPledge}
+use Rattle.path_turns.specs.Planned.{as_planned}
 use Rattle.path_orders.specs.declared.device_orders.DeviceOrder.{DeviceOrder}
 use Rattle.path_orders.specs.declared.device_orders.DeviceOrder.TheVariants.{Replace}
 use Rattle.path_orders.specs.Spare.{TellsTracks}
@@ -23,7 +25,7 @@ HaveLosses most p = p.losses ≡ most
 -- what a volume tells is what was pledged
 pub record IsPledged (p : Pledge) (v : VolumeView (List ℕ)) : Type 0 where
   pub tells : p.told ≡ true → TellsTracks v.contents (p.cylinders * 15)
-  pub sure : is_some p.failures ≡ true → v.allowance ≡ Some 0
+  pub sure : is_some p.failures ≡ true → (as_planned v).allowance ≡ Some 0
 
 -- a volume that comes tells what was pledged, as it is seen
 abbrev pub Suits : {V : Type 0} → (V → VolumeView (List ℕ)) → DeviceOrder V → Pledge → Type 0
@@ -47,5 +49,5 @@ module _ {V : Type 0} {G : Ghosts V} where
 
   -- what was pledged of a device is kept, and no seat's count changes
   pub record IsOrdered (pledged : Pledge → Type 0) (d e : Device V G) : Type 0 where
-    pub kept : (p : Pledge) → pledged p → KeepsPledge p d → KeepsPledge p e
+    pub kept : (first : ℕ → List Track) (p : Pledge) → pledged p → KeepsPledge first p d → KeepsPledge first p e
     pub counts : seat_counts (device_of e) ≡ seat_counts (device_of d)

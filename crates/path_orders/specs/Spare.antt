@@ -6,6 +6,7 @@ use Rattle.device_core.specs.declared.device.Device.{Device}
 use Rattle.device_core.specs.State.{device_of}
 use Rattle.device_defs.specs.Store.{tracks_of}
 use Rattle.path_turns.specs.Keeping.{tells_all, told_of}
+use Rattle.path_turns.specs.Planned.{as_planned}
 
 -- what each of so many tracks holds is told
 abbrev pub TellsTracks : Option (List (List ℕ)) → ℕ → Type 0
@@ -18,4 +19,4 @@ module _ {V : Type 0} {G : Ghosts V} where
   pub record IsSpare (d : Device V G) (volume : V) : Type 0 where
     pub tracks : (G.view volume).tracks ≡ tracks_of (device_of d).store
     pub tells : tells_all d ≡ true → TellsTracks (G.view volume).contents (tracks_of (device_of d).store)
-    pub sure : is_some (allowance_in (told_of d)) ≡ true → (G.view volume).allowance ≡ Some 0
+    pub sure : is_some (allowance_in (told_of d)) ≡ true → (as_planned (G.view volume)).allowance ≡ Some 0

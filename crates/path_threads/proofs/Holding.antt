@@ -1,7 +1,9 @@
 -- The operator takes turns and gives them back.
-use Rattle.std.proofs.Common.{◌≡◌, ◌*◌, true, ℕ, List, [], ◌∷◌, Option, Some, None, refl, sym, ap, subst, ◌∙◌}
+use Rattle.std.proofs.Common.{◌≡◌, ◌*◌, Bool, true, false, ℕ, List, [], ◌∷◌, Option, Some, None, refl, sym, ap, subst, ◌∙◌}
 use Rattle.std.specs.Prelude.{OnOk, Result, Ok, Err, is_some}
 use Rattle.std.specs.List.{AllZip}
+use Rattle.ckd_types.specs.declared.record.Track.{Track}
+use Rattle.ckd_types.specs.Volume.{empty_volume}
 use Rattle.device_outside.specs.declared.volume.Volume as volumes
 use Rattle.device_defs.specs.declared.counts.Losses.{Losses}
 use Rattle.device_turn.specs.Answers.{MayLeave}
@@ -17,7 +19,7 @@ use Rattle.path_turns.specs.declared.promise.Promise.{Promise}
 use Rattle.device_core.specs.State.{device_of}
 use Rattle.device_defs.specs.Pledge.{Pledge, failures_of}
 use Rattle.device_laws.specs.Handed.{allowance_in}
-use Rattle.path_turns.specs.Keeping.{KeepsPromise, pledge_with, told_of}
+use Rattle.path_turns.specs.Keeping.{KeepsPromise, StandsFirst, pledge_with, tells_all, told_of}
 use Rattle.path_orders.specs.declared.device_orders.DeviceOrder.{DeviceOrder}
 use Rattle.path_orders.specs.declared.device_orders.DeviceOrder.TheVariants as orders
 use Rattle.path_orders.specs.Ordered.{HasSize, HaveLosses, IsOrdered, IsPledged, Suits}
@@ -53,12 +55,18 @@ on_ok (Err e) p f = tt
 
 -- behind an order the device may go back
 module _ {V : Type 0} {G : volumes.Ghosts V} where
+  -- whatever is told of the device that was promised
+  abbrev pub IsPledgedBy : (Pledge → Type 0) → Promise V G → Type 0
+  IsPledgedBy pledged p =
+      (first : ℕ → List Track) (told : Bool) → (told ≡ true → StandsFirst first p.made.value) → pledged (pledge_with told p.made.value p.most)
+
   pub may_order : (counts : Device V G → List ℕ) (v : View (Option (Promise V G))) (pledge : Option (Promise V G)) (p : Promise V G) (pledged : Pledge → Type 0) (d e : Device V G) →
-      v.pledge ≡ pledge → pledge ≡ Some p → pledged (pledge_with p.made.value p.most) → IsOrdered pledged d e → counts e ≡ counts d →
+      v.pledge ≡ pledge → pledge ≡ Some p → IsPledgedBy pledged p → IsOrdered pledged d e → counts e ≡ counts d →
       MayLeave (KeptBy KeepsPromise) counts v d → MayLeave (KeptBy KeepsPromise) counts v e
   may_order counts v pledge p pledged d e same is so ordered counted may =
       let kept : KeepsPromise p d = subst (λ (q : Option (Promise V G)). KeptBy KeepsPromise q d) (same ∙ is) may.0 in (
-        subst (λ (q : Option (Promise V G)). KeptBy KeepsPromise q e) (sym (same ∙ is)) (ordered.kept (pledge_with p.made.value p.most) so kept),
+        subst (λ (q : Option (Promise V G)). KeptBy KeepsPromise q e) (sym (same ∙ is))
+            (λ first told began. ordered.kept first (pledge_with told p.made.value p.most) (so first told began) (kept first told began)),
         subst (λ (ws : List ℕ). Still ws v.loaded) (sym counted) may.1,
       )
 
@@ -69,9 +77,10 @@ some_failures failed (Some n) is = refl
 some_failures failed None is = absurd (cc)
 
 module _ {V : Type 0} {G : volumes.Ghosts V} where
-  spare_pledged : (d : Device V G) (volume : V) (most : Losses) → IsSpare d volume → IsPledged (pledge_with d most) (G.view volume)
-  spare_pledged d volume most s = record {
-    tells = s.tells;
+  spare_pledged : (told : Bool) (d : Device V G) (volume : V) (most : Losses) → (told ≡ true → tells_all d ≡ true) → IsSpare d volume →
+      IsPledged (pledge_with told d most) (G.view volume)
+  spare_pledged told d volume most tells s = record {
+    tells = λ is. s.tells (tells is);
     sure = λ is. s.sure (some_failures (device_of d).store.counts.failed (allowance_in (told_of d)) is);
   }
 
@@ -80,27 +89,29 @@ module _ {V : Type 0} {G : volumes.Ghosts V} {N : Ghosts (Device V G) (Promise V
       z.seat.me.0.pledge ≡ s.seat.me.0.pledge → KeptBy KeepsPromise z.seat.me.0.pledge d → HasSize what d
   held_size (orders.Replace side volume) place s z d a suits same kept =
       let by : KeepsPromise a.promise d = subst (λ (q : Option (Promise V G)). KeptBy KeepsPromise q d) (same ∙ a.pledge) kept in
-      (suits a.promise a.pledge).tracks ∙ ap (λ (n : ℕ). n * 15) (sym by.keeps.keeps.cylinders)
+      (suits a.promise a.pledge).tracks ∙ ap (λ (n : ℕ). n * 15) (sym (by empty_volume false (λ e. absurd (cc))).keeps.keeps.cylinders)
   held_size (orders.Fail side) place s z d a suits same kept = tt
   held_size orders.Suspend place s z d a suits same kept = tt
   held_size orders.Resume place s z d a suits same kept = tt
 
   suits_pledge : (what : DeviceOrder V) (place : Place) (s : TurnSeat (Device V G) (Promise V G) N) (a : Allows place s) → SuitsSeat what s →
-      Suits G.view what (pledge_with a.promise.made.value a.promise.most)
-  suits_pledge (orders.Replace side volume) place s a suits = spare_pledged a.promise.made.value volume a.promise.most (suits a.promise a.pledge)
-  suits_pledge (orders.Fail side) place s a suits = tt
-  suits_pledge orders.Suspend place s a suits = tt
-  suits_pledge orders.Resume place s a suits = tt
+      IsPledgedBy (Suits G.view what) a.promise
+  suits_pledge (orders.Replace side volume) place s a suits = λ first told began.
+      spare_pledged told a.promise.made.value volume a.promise.most (λ is. (began is).tells) (suits a.promise a.pledge)
+  suits_pledge (orders.Fail side) place s a suits = λ first told began. tt
+  suits_pledge orders.Suspend place s a suits = λ first told began. tt
+  suits_pledge orders.Resume place s a suits = λ first told began. tt
 
   pub may_obey : (what : DeviceOrder V) (place : Place) (s z : TurnSeat (Device V G) (Promise V G) N) (d e : Device V G) → Allows place s → SuitsSeat what s →
       IsHeld s z d → IsOrdered (λ p. HaveLosses place.most p × Suits G.view what p) d e → (counts : Device V G → List ℕ) → counts e ≡ counts d →
       MayLeave (KeptBy KeepsPromise) counts z.seat.me.0 d → MayLeave (KeptBy KeepsPromise) counts z.seat.me.0 e
   may_obey what place s z d e a suits held ordered counts counted may =
       may_order counts z.seat.me.0 s.seat.me.0.pledge a.promise (λ p. HaveLosses place.most p × Suits G.view what p) d e held.pledge a.pledge
-      (a.most, suits_pledge what place s a suits) ordered counted may
+      (λ first told began. (a.most, suits_pledge what place s a suits first told began)) ordered counted may
 
   pub may_have : (place : Place) (s z : TurnSeat (Device V G) (Promise V G) N) (d e : Device V G) → Allows place s →
       IsHeld s z d → IsOrdered (HaveLosses place.most) d e → (counts : Device V G → List ℕ) → counts e ≡ counts d →
       MayLeave (KeptBy KeepsPromise) counts z.seat.me.0 d → MayLeave (KeptBy KeepsPromise) counts z.seat.me.0 e
   may_have place s z d e a held ordered counts counted may =
-      may_order counts z.seat.me.0 s.seat.me.0.pledge a.promise (HaveLosses place.most) d e held.pledge a.pledge a.most ordered counted may
+      may_order counts z.seat.me.0 s.seat.me.0.pledge a.promise (HaveLosses place.most) d e held.pledge a.pledge
+      (λ first told began. a.most) ordered counted may

@@ -12,7 +12,7 @@ use Rattle.turn_seats.proofs.Zips.{zip_snoc}
 use Rattle.device_defs.specs.declared.counts.Losses.{Losses}
 use Rattle.device_core.specs.declared.device.Device.{Device}
 use Rattle.path_turns.specs.declared.promise.Promise.{Promise}
-use Rattle.path_turns.specs.Keeping.{IsReady, IsWithin, KeepsPledge, KeepsPromise, KeepsWithin, pledge_with}
+use Rattle.path_turns.specs.Keeping.{IsReady, IsWithin, KeepsPromise, KeepsWithin}
 use Rattle.path_turns.proofs.Ready.{ready_keeps}
 use Rattle.path_threads.specs.Places.{Allows, HaveCome, HaveLeft, HavePlaces, IsPlaceOf, IsPromised, IsPromisedFor, KeepPromises}
 use Rattle.path_threads.specs.declared.places.Place.{Place}
@@ -32,7 +32,7 @@ module _ {V : Type 0} {G : Ghosts V} where
   -- a device that is ready keeps what is promised of it
   pub promise_kept : (d : Device V G) (p : Promise V G) → p.made.value ≡ d → IsWithin d.store.counts.losses p.most → IsReady d → KeepsPromise p d
   promise_kept d p made within ready =
-      subst (λ (x : Device V G). KeepsPledge (pledge_with x p.most) d) (sym made) (ready_keeps d ready p.most within)
+      subst (λ (x : Device V G). KeepsWithin p.most x d) (sym made) (ready_keeps d ready p.most within)
 
   -- the devices that stand in turns have their places
   pub none_placed : (ds : List (Device V G)) (places : List Place) → places ≡ [] → HavePlaces ds places ds
@@ -118,7 +118,7 @@ module _ {V : Type 0} {G : Ghosts V} {N : holders.Ghosts (Device V G) (Promise V
   promised_kept most d e s p kept =
       let by : KeepsPromise p.promise e = subst (λ (q : _). KeptBy KeepsPromise q e) p.pledge kept in
       subst (λ (l : Losses). KeepsWithin l d e) p.allows
-      (subst (λ (x : Device V G). KeepsPledge (pledge_with x p.promise.most) e) p.made by)
+      (subst (λ (x : Device V G). KeepsWithin p.promise.most x e) p.made by)
 
   pub one_left : (most : Device V G → Losses) (seats rest less : List (SeatOf N)) (s : SeatOf N) (behind new : List (Device V G)) (e : Device V G) → HaveLeft most seats rest behind →
       rest ≡ less ++ s ∷ [] → KeptBy KeepsPromise s.seat.me.0.pledge e → new ≡ insert behind 0 e → HaveLeft most seats less new

@@ -5,4 +5,3 @@ pub mod Walks
 pub mod Asked
 pub mod Rounds
 pub mod Looks
-pub mod Making

@@ -10,5 +10,5 @@ mod run;
 mod shared;
 mod walks;
 
-pub use orders::{EmptyVolume, MakeVolume, Order};
+pub use orders::{MakeVolume, Order};
 pub use run::{Ran, run_paths};

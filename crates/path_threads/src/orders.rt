@@ -1,8 +1,6 @@
-ghost use Rattle.std.specs.Prelude.{◌≡◌, ◌≤◌, [], IfOk};
-ghost use Rattle.device_outside.specs.Disk.{new_disk};
+ghost use Rattle.std.specs.Prelude.{IfOk};
 
 use ckd_types::{DeviceNo, NoMemory, Side};
-use device_outside::MemVolume;
 use std::alloc::Global;
 use subsystem_defs::Event;
 
@@ -14,21 +12,6 @@ pub trait MakeVolume<V>: Drop {
     /// The volume.
     fn make(self, alloc: Global) -> Result<V, NoMemory>
         ensures { IfOk result (λ volume. makes self volume) };
-}
-
-/// A volume in memory of so many cylinders, whose tracks are empty. None of its calls fails.
-#[derive(Drop)]
-pub struct EmptyVolume {
-    pub cylinders: u16,
-    ghost most: { cylinders ≤ 4369 },
-}
-
-impl MakeVolume<MemVolume> for EmptyVolume {
-    ghost makes = { λ empty volume. volume ≡ new_disk empty.cylinders [] [] };
-
-    fn make(self, alloc: Global) -> Result<MemVolume, NoMemory> {
-        MemVolume::new(alloc, self.cylinders, &[], &[])
-    }
 }
 
 /// An order to the operator.

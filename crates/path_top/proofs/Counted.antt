@@ -9,7 +9,6 @@ use Rattle.deck_text.specs.DeckLines.{DeckLines}
 use Rattle.deck_text.specs.Parse.{parsed}
 use Rattle.deck_text.proofs.Reached.{parsed_good}
 use Rattle.device_outside.specs.declared.volume.Volume.{Ghosts}
-use Rattle.device_outside.specs.Disk.{Disk, disk_view}
 use Rattle.device_outside.specs.Volume.{Plan, VolumeView}
 use Rattle.device_defs.specs.declared.counts.Counts.{Counts}
 use Rattle.device_defs.specs.declared.counts.Losses.{Losses}
@@ -18,18 +17,20 @@ use Rattle.device_laws.specs.Handed.{allowance_in, allowance_of, in_all}
 use Rattle.device_store.specs.State.{on_a, on_b}
 use Rattle.device_core.specs.declared.device.Device.{Device}
 use Rattle.device_core.specs.State.{device_of}
-use Rattle.path_turns.specs.Keeping.{told_of}
+use Rattle.path_turns.specs.Keeping.{KeepsPledge, pledge_with, told_of}
+use Rattle.path_turns.specs.Planned.{as_planned, still_failing}
 use Rattle.path_threads.specs.declared.orders.Order.{Order}
 use Rattle.path_threads.specs.Allowed.{allowed_of}
 use Rattle.path_threads.specs.Places.{KeepsOrdered}
+use Rattle.subsystem_defs.specs.Decks.{Firsts}
 use Rattle.subsystem_defs.specs.Happening.{is_lent_to}
 use Rattle.subsystem_defs.specs.Subsystem.{Mounted, number_of}
 use Rattle.subsystem_laws.proofs.ReadDecks.{read_few_devices}
-use Rattle.path_top.specs.Excuses.{excuses_of, faults_of, lent_faults}
+use Rattle.path_top.specs.Excuses.{excuses_on, faults_of, lent_faults}
 use Rattle.path_top.specs.Orders.{line_of, orders_in}
-use Rattle.path_top.specs.Pairs.{paired}
+use Rattle.path_top.specs.Pairs.{paired_on}
 use Rattle.path_top.proofs.Allowing.{IsMore, orders_allow}
-use Rattle.path_top.proofs.Failing.{failing_in, few_to_come}
+use Rattle.path_top.proofs.Failing.{few_to_come}
 use Rattle.path_top.proofs.MoreExcused.{AtMost}
 use Rattle.path_top.proofs.Readied.{FailsWithin, IsOpened}
 
@@ -55,47 +56,60 @@ both_told x y n k e f = ap (λ (o : Option ℕ). in_all o y) e ∙ ap (in_all (S
 few_lost : (x y z n : ℕ) → x ≡ 0 → y ≤ x + n → z ≤ y → z ≤ n
 few_lost x y z n none more le = omega (arith, none, more, le)
 
-module _ {G : Ghosts Disk} (views : (v : Disk) → G.view v ≡ disk_view v) where
-  side_allows : (o : Option Disk) (n : ℕ) → FailsWithin n (option_map G.view o) → Allows (allowance_of (option_map G.view o)) n
-  side_allows None n within = record { calls = 0; told = refl; few = omega arith }
-  side_allows (Some v) n within =
-      let plan : v.plan ≡ within.0 = same_Some _ _ (ap (λ (w : VolumeView (List ℕ)). w.plan) (sym (views v)) ∙ within.1.0) in
-      record {
-        calls = to_come v.reads v.plan.reads + to_come v.writes v.plan.writes;
-        told = ap (λ (w : VolumeView (List ℕ)). w.allowance) (views v);
-        few = le_trans (few_to_come v.plan v.reads v.writes) (subst (λ (p : Plan). failing_in p ≤ n) (sym plan) within.1.1);
-      }
+if_so : {X : Type 0} (b : Bool) (x y : X) → b ≡ true → (if b then x else y) ≡ x
+if_so true x y e = refl
+if_so false x y e = absurd (cc)
 
-  mate_allows : (o : Option Disk) (n : ℕ) → (is_some o ≡ true → FailsWithin n (option_map G.view o)) → Allows (allowance_of (option_map G.view o)) n
-  mate_allows None n within = record { calls = 0; told = refl; few = omega arith }
-  mate_allows (Some v) n within = side_allows (Some v) n (within refl)
+side_allows : (o : Option (VolumeView (List ℕ))) (n : ℕ) → FailsWithin n o → Allows (allowance_of (option_map as_planned o)) n
+side_allows None n within = record { calls = 0; told = refl; few = omega arith }
+side_allows (Some v) n within =
+    let p = within.0 in record {
+      calls = to_come v.reads p.reads + to_come v.writes p.writes;
+      told =
+          ap (λ (o : Option Plan). still_failing o v.reads v.writes v.allowance) within.1.0
+          ∙ if_so _ (Some (to_come v.reads p.reads + to_come v.writes p.writes)) v.allowance within.1.1.1;
+      few = le_trans (few_to_come p v.reads v.writes) within.1.1.0;
+    }
 
-  module _ {M : Type 0} (deck : DeckLines) (line : DeviceLine) (d e : Device Disk G) (u : IsOpened deck line d) (free : (device_of d).store.lent ≡ None)
-      (os : List (Order M)) (lines_are : map line_of os ≡ orders_in deck.events) (k : KeepsOrdered os d e) where
+mate_allows : (o : Option (VolumeView (List ℕ))) (n : ℕ) → (is_some o ≡ true → FailsWithin n o) → Allows (allowance_of (option_map as_planned o)) n
+mate_allows None n within = record { calls = 0; told = refl; few = omega arith }
+mate_allows (Some v) n within = side_allows (Some v) n (within refl)
+
+is_there : {X Y : Type 0} (f : X → Y) (o : Option X) → is_some (option_map f o) ≡ is_some o
+is_there f None = refl
+is_there f (Some x) = refl
+
+module _ {V : Type 0} {G : Ghosts V} where
+  module _ {M : Type 0} (firsts : Firsts) (deck : DeckLines) (line : DeviceLine) (d e : Device V G) (u : IsOpened firsts deck line d)
+      (free : (device_of d).store.lent ≡ None) (os : List (Order M)) (lines_are : map line_of os ≡ orders_in deck.events) (kept : KeepsOrdered os d e) where
+    abbrev k : KeepsPledge (firsts line.number) (pledge_with true d (allowed_of os d)) e
+    k = kept (firsts line.number) true (λ _. record { tells = u.tells_it; stands = u.stands })
+
     a_allows : Allows (allowance_of (told_of d).a) (faults_of deck line.number)
-    a_allows = side_allows (on_a d.store) (faults_of deck line.number) u.own
+    a_allows = side_allows (option_map G.view (on_a d.store)) (faults_of deck line.number) u.own
 
-    b_allows : Allows (allowance_of (told_of d).b) (lent_faults deck line.number (paired deck).mounted)
-    b_allows = mate_allows (on_b d.store) (lent_faults deck line.number (paired deck).mounted) (λ pair. u.mate free pair)
+    b_allows : Allows (allowance_of (told_of d).b) (lent_faults deck line.number (paired_on firsts deck).mounted)
+    b_allows = mate_allows (option_map G.view (on_b d.store)) (lent_faults deck line.number (paired_on firsts deck).mounted)
+        (λ pair. u.mate free (sym (is_there G.view (on_b d.store)) ∙ pair))
 
-    few_failed : (device_of e).store.counts.failed ≤ (excuses_of deck line.number).failed
+    few_failed : (device_of e).store.counts.failed ≤ (excuses_on firsts deck line.number).failed
     few_failed =
         let calls = a_allows.calls + b_allows.calls in
         stays_few (allowance_in (told_of d)) (allowance_in (told_of e)) calls (device_of d).store.counts.failed (device_of e).store.counts.failed
-        (excuses_of deck line.number).failed (both_told _ _ a_allows.calls b_allows.calls a_allows.told b_allows.told)
-        (both_few a_allows.calls b_allows.calls (faults_of deck line.number) (lent_faults deck line.number (paired deck).mounted) a_allows.few b_allows.few)
+        (excuses_on firsts deck line.number).failed (both_told _ _ a_allows.calls b_allows.calls a_allows.told b_allows.told)
+        (both_few a_allows.calls b_allows.calls (faults_of deck line.number) (lent_faults deck line.number (paired_on firsts deck).mounted) a_allows.few b_allows.few)
         (ap (λ (n : Counts). n.failed) u.counts) k.keeps.keeps.failures
 
-    more : IsMore (d.store.counts.losses) (allowed_of os d) (excuses_of deck line.number).losses.cache (excuses_of deck line.number).losses.store
-        (excuses_of deck line.number).losses.sides
+    more : IsMore (d.store.counts.losses) (allowed_of os d) (excuses_on firsts deck line.number).losses.cache (excuses_on firsts deck line.number).losses.store
+        (excuses_on firsts deck line.number).losses.sides
     more =
-        subst (λ (n : ℕ). IsMore d.store.counts.losses (allowed_of os d) (excuses_of deck n).losses.cache (excuses_of deck n).losses.store
-        (excuses_of deck n).losses.sides) u.number (orders_allow d.store.number d.store.counts.losses os deck.events lines_are)
+        subst (λ (n : ℕ). IsMore d.store.counts.losses (allowed_of os d) (excuses_on firsts deck n).losses.cache (excuses_on firsts deck n).losses.store
+        (excuses_on firsts deck n).losses.sides) u.number (orders_allow d.store.number d.store.counts.losses os deck.events lines_are)
 
     none_lost : d.store.counts.losses ≡ record { cache = 0; store = 0; sides = 0 }
     none_lost = ap (λ (n : Counts). n.losses) u.counts
 
-    pub counts_at_most : AtMost (device_of e).store.counts (excuses_of deck line.number)
+    pub counts_at_most : AtMost (device_of e).store.counts (excuses_on firsts deck line.number)
     counts_at_most = record {
       failed = few_failed;
       cache = few_lost _ _ _ _ (ap (λ (l : Losses). l.cache) none_lost) more.cache k.keeps.keeps.cache;
@@ -125,16 +139,16 @@ pub record AreFew (n : Counts) : Type 0 where
   pub failed : n.failed < 2 ^ 64 - 1
   pub cache : n.losses.cache < 2 ^ 64 - 1
 
-pub few_counts : (text : List ℕ) (deck : DeckLines) (n : ℕ) → parsed text ≡ Ok deck → length (paired deck).mounted ≡ length deck.devices →
-    AreFew (excuses_of deck n)
-few_counts text deck n read long =
+pub few_counts : (firsts : Firsts) (text : List ℕ) (deck : DeckLines) (n : ℕ) → parsed text ≡ Ok deck → length (paired_on firsts deck).mounted ≡ length deck.devices →
+    AreFew (excuses_on firsts deck n)
+few_counts firsts text deck n read long =
     let good = parsed_good text deck read in
     let devices = read_few_devices text deck read in
     record {
       failed =
-          few_in_all (faults_of deck n) (lent_faults deck n (paired deck).mounted) (length (paired deck).mounted) (length deck.devices)
-          (few_faults deck n good.fault_count) (few_lent deck n (paired deck).mounted good.fault_count) long devices;
-      cache = few_lines (excuses_of deck n).losses.cache (length deck.events) (count_by-le-length _ deck.events) good.event_count;
+          few_in_all (faults_of deck n) (lent_faults deck n (paired_on firsts deck).mounted) (length (paired_on firsts deck).mounted) (length deck.devices)
+          (few_faults deck n good.fault_count) (few_lent deck n (paired_on firsts deck).mounted good.fault_count) long devices;
+      cache = few_lines (excuses_on firsts deck n).losses.cache (length deck.events) (count_by-le-length _ deck.events) good.event_count;
     }
   where
     few_in_all : (x y k n : ℕ) → x ≤ 1024 → y ≤ k * 1024 → k ≡ n → n ≤ 16 → x + y < 2 ^ 64 - 1

@@ -13,38 +13,40 @@ use Rattle.deck_top.specs.declared.top.Status.TheVariants.{Reported, DeckRefused
 use Rattle.deck_top.specs.Answers.{TellsUsage}
 use Rattle.deck_top.specs.Facts.{OfDeck, IsRefused}
 use Rattle.deck_top.proofs.Complete.{refused}
-use Rattle.path_top.specs.Answers.{IsTextOf, Tells}
-use Rattle.path_top.specs.Facts.{WritesFront, WritesHistory}
+use Rattle.subsystem_defs.specs.Decks.{Firsts}
+use Rattle.path_top.specs.Answers.{IsHistoryText, IsHistoryTextOn, IsTextBy, TellsBy}
+use Rattle.path_top.specs.Facts.{WritesFront, WritesHistoryOn}
 
-module _ (before after held holds : Option (List ℕ)) where
+module _ (IsOf : DeckLines → List ℕ → Type 0) (before after held holds : Option (List ℕ)) where
   abbrev pub Says : Status → Bool → Type 0
-  Says status paths = Tells status paths before after held holds
+  Says status paths = TellsBy IsOf status paths before after held holds
 
   -- of this status, and of these words
   said : {status s : Status} {paths p : Bool} → status ≡ s → paths ≡ p → Says status paths → Says s p
   said {status} {s} {paths} {p} is of told =
       subst (λ (x : Bool). Says s x) of (subst (λ (x : Status). Says x paths) is told)
 
-  history_of : (text : List ℕ) (r : Result DeckLines DeckFault) (d : DeckLines) → r ≡ Ok d → IsTextOf r text → Appends held holds text →
-      WritesHistory held holds d
-  history_of text r d is suits written = record {
-    text = text;
-    history = subst (λ (x : Result DeckLines DeckFault). IsTextOf x text) is suits;
-    written = written;
-  }
+  module _ (firsts : Firsts) (history : (d : DeckLines) (text : List ℕ) → IsOf d text → IsHistoryTextOn firsts d text) where
+    history_of : (text : List ℕ) (r : Result DeckLines DeckFault) (d : DeckLines) → r ≡ Ok d → IsTextBy IsOf r text → Appends held holds text →
+        WritesHistoryOn firsts held holds d
+    history_of text r d is suits written = record {
+      text = text;
+      history = history d text (subst (λ (x : Result DeckLines DeckFault). IsTextBy IsOf x text) is suits);
+      written = written;
+    }
 
-  reported_of : Says Reported true → OfDeck before after (WritesHistory held holds)
-  reported_of told = record {
-    text = told.0;
-    read = told.1;
-    deck = told.2.1.0;
-    parses = told.2.1.1;
-    is_so = history_of told.2.0 (parsed told.0) told.2.1.0 told.2.1.1 told.2.2 told.2.3;
-  }
+    reported_of : Says Reported true → OfDeck before after (WritesHistoryOn firsts held holds)
+    reported_of told = record {
+      text = told.0;
+      read = told.1;
+      deck = told.2.1.0;
+      parses = told.2.1.1;
+      is_so = history_of told.2.0 (parsed told.0) told.2.1.0 told.2.1.1 told.2.2 told.2.3;
+    }
 
-  pub paths_reported : {status : Status} {paths : Bool} → status ≡ Reported → paths ≡ true → Says status paths →
-      OfDeck before after (WritesHistory held holds)
-  paths_reported is of told = reported_of (said is of told)
+    pub paths_reported : {status : Status} {paths : Bool} → status ≡ Reported → paths ≡ true → Says status paths →
+        OfDeck before after (WritesHistoryOn firsts held holds)
+    paths_reported is of told = reported_of (said is of told)
 
   -- what is said of other words is of two statuses alone
   no_task : {X : Type 0} (s : Status) → (s ≡ Usage → ⊥) → (s ≡ WriteFault → ⊥) → TellsUsage s before after held holds → X
@@ -53,8 +55,8 @@ module _ (before after held holds : Option (List ℕ)) where
     | inr w ↦ absurd (write w.0)
   ]
 
-  written_so : (text : List ℕ) (r : Result DeckLines DeckFault) (f : DeckFault) → r ≡ Err f → IsTextOf r text → IsTextOf (Err f) text
-  written_so text r f is suits = subst (λ (x : Result DeckLines DeckFault). IsTextOf x text) is suits
+  written_so : (text : List ℕ) (r : Result DeckLines DeckFault) (f : DeckFault) → r ≡ Err f → IsTextBy IsOf r text → IsTextBy IsOf (Err f) text
+  written_so text r f is suits = subst (λ (x : Result DeckLines DeckFault). IsTextBy IsOf x text) is suits
 
   refused_for : (line : ℕ) (why : DeckWhy) (paths : Bool) → Says (DeckRefused line why) paths →
       IsRefused (faults.Refused line why) (refused_text line why) before after held holds
@@ -97,12 +99,6 @@ module _ (before after held holds : Option (List ℕ)) where
   pub nothing_written : (status : Status) (paths : Bool) → status ≡ NoMemory → Says status paths → holds ≡ held
   nothing_written status paths is told = wanting_for paths (said is refl told)
 
-  front_of : Says WriteFault true → WritesFront before after held holds
-  front_of told = record { text = told.0; read = told.1; whole = told.2.0; suits = told.2.1; front = told.2.2 }
-
-  pub front_written : {status : Status} {paths : Bool} → status ≡ WriteFault → paths ≡ true → Says status paths → WritesFront before after held holds
-  front_written is of told = front_of (said is of told)
-
   pub usage_told : {status : Status} {paths : Bool} → paths ≡ false → Says status paths → TellsUsage status before after held holds
   usage_told of told = said refl of told
 
@@ -121,3 +117,12 @@ module _ (before after held holds : Option (List ℕ)) where
   pub deck_is_run : {status : Status} {paths : Bool} (text : List ℕ) (d : DeckLines) → before ≡ Some text → paths ≡ true → parsed text ≡ Ok d →
       Says status paths → (status ≡ ReadFault → ⊥) → (status ≡ WriteFault → ⊥) → (status ≡ Reported) ⊎ (status ≡ NoMemory)
   deck_is_run {status} text d is of p told nr nw = by_status status text d is p (said refl of told) nr nw
+
+-- on empty volumes
+module _ (before after held holds : Option (List ℕ)) where
+  front_of : Says IsHistoryText before after held holds WriteFault true → WritesFront before after held holds
+  front_of told = record { text = told.0; read = told.1; whole = told.2.0; suits = told.2.1; front = told.2.2 }
+
+  pub front_written : {status : Status} {paths : Bool} → status ≡ WriteFault → paths ≡ true → Says IsHistoryText before after held holds status paths →
+      WritesFront before after held holds
+  front_written is of told = front_of (said IsHistoryText before after held holds is of told)

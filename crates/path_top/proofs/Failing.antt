@@ -10,12 +10,17 @@ use Rattle.device_outside.specs.Volume.{Plan}
 use Rattle.subsystem_defs.specs.Decks.{failing_of, plan_for}
 use Rattle.subsystem_defs.specs.Happening.{is_lent_to}
 use Rattle.subsystem_defs.specs.Subsystem.{Mounted, mounted_in, number_of, put_in}
+use Rattle.path_turns.specs.Planned.{come_once}
 use Rattle.path_top.specs.Excuses.{faults_of, lent_faults}
 
 -- Of a plan
 
 abbrev pub failing_in : Plan → ℕ
 failing_in p = length p.reads + length p.writes
+
+-- so many calls fail at most, each of which comes once
+abbrev pub FailsFew : ℕ → Plan → Type 0
+FailsFew n p = (failing_in p ≤ n) × ((come_once p.reads && come_once p.writes) ≡ true)
 
 -- a call that is named twice fails once
 pub few_to_come : (p : Plan) (reads writes : ℕ) → to_come reads p.reads + to_come writes p.writes ≤ failing_in p

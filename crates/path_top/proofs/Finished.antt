@@ -11,7 +11,7 @@ use Rattle.plain_defs.specs.declared.journal.Item.TheVariants as items
 use Rattle.plain_defs.specs.History.{OpenEntry, is_path_of, plain_of, state_by}
 use Rattle.plain_defs.specs.Journal.{Plans, planned, program_of, replay, replay_item}
 use Rattle.plain_defs.specs.Legal.{IsLegal, IsLegalFrom, IsLegalItem, is_of_path}
-use Rattle.plain_defs.specs.PlainState.{PathsState, PlainState, empty_state, is_admitted}
+use Rattle.plain_defs.specs.PlainState.{PathsState, PlainState, is_admitted}
 use Rattle.device_defs.specs.Device.{Device}
 use Rattle.device_defs.specs.Pledge.{are_kept, ends_with_data_check}
 use Rattle.device_defs.specs.Start.{has_none_or_is_out, is_finished, is_shut, keeps_out, left, next_program, started_count}
@@ -77,7 +77,7 @@ module _ (test : ℕ → Bool) where
       (and_parts (test 4) _ (and_parts (test 3) _ (and_parts (test 2) _ (and_parts (test 1) _ all).1).1).1).0
   of_four (suc (suc (suc (suc (suc path))))) least most all = absurd (omega (arith, most))
 
-module _ {F P H : Type 0} (d : Device F P H) (lost : List ℕ) where
+module _ {F P H : Type 0} (d : Device F P H) (first : PlainState) (lost : List ℕ) where
   abbrev pub telling : DeviceTold
   telling = record {
     device = d.store.device;
@@ -95,17 +95,14 @@ module _ {F P H : Type 0} (d : Device F P H) (lost : List ℕ) where
   left_is (suc (suc (suc (suc zero)))) least most = refl
   left_is (suc (suc (suc (suc (suc path))))) least most = absurd (omega (arith, most))
 
-  abbrev empty : PlainState
-  empty = empty_state d.store.geometry d.store.cylinders
-
   -- what is so of a device that finished
   pub record IsOver : Type 0 where
     pub over : is_finished d ≡ true
     pub kept : are_kept d.history.items ≡ true
     pub good : count_by ends_with_data_check d.history.items ≡ 0
     pub away : is_some d.store.lent ≡ true → d.history.items ≡ []
-    pub legal : IsLegal d.plans empty d.history.items
-    pub paths : d.store.lent ≡ None → d.paths ≡ (plain_of d.plans empty d.history).paths
+    pub legal : IsLegal d.plans first d.history.items
+    pub paths : d.store.lent ≡ None → d.paths ≡ (plain_of d.plans first d.history).paths
 
   module _ (o : IsOver) where
     idle : d.history.running ≡ None
@@ -119,32 +116,32 @@ module _ {F P H : Type 0} (d : Device F P H) (lost : List ℕ) where
 
     rest_is : (path : ℕ) → 1 ≤ path → path ≤ 4 → ran telling path + left_of telling path ≡ length (planned d.plans path)
     rest_is path least most =
-        let few = legal_planned d.plans path empty d.history.items o.legal in
+        let few = legal_planned d.plans path first d.history.items o.legal in
         let is = left_is path least most in
         let is_left : left d path ≡ length (planned d.plans path) - ran telling path =
         ap (λ (n : ℕ). length (planned d.plans path) - n) (started_is path) in
         omega (arith, few, is, is_left)
 
-    paths_are : d.store.lent ≡ None → d.paths ≡ (replay d.plans empty d.history.items).paths
+    paths_are : d.store.lent ≡ None → d.paths ≡ (replay d.plans first d.history.items).paths
     paths_are free =
-        o.paths free ∙ ap (λ (r : Option OpenEntry). (state_by d.plans (replay d.plans empty d.history.items) r).paths) idle
+        o.paths free ∙ ap (λ (r : Option OpenEntry). (state_by d.plans (replay d.plans first d.history.items) r).paths) idle
 
     out_is : (path : ℕ) → d.store.lent ≡ None → keeps_out d path ≡ true →
-        is_admitted (replay d.plans empty d.history.items).paths path (next_of d.plans telling path) ≡ false
+        is_admitted (replay d.plans first d.history.items).paths path (next_of d.plans telling path) ≡ false
     out_is path free out =
         ap (λ (p : PathsState). is_admitted p path (next_of d.plans telling path)) (sym (paths_are free))
         ∙ ap (λ (n : ℕ). is_admitted d.paths path (program_of d.plans path (n + 1))) (sym (started_is path))
         ∙ not-true (is_admitted d.paths path (next_program d path)) out
 
     by_test : (path : ℕ) → 1 ≤ path → path ≤ 4 → d.store.lent ≡ None → ((left d path == 0) ≡ true) ⊎ (keeps_out d path ≡ true) →
-        (left_of telling path ≡ 0) ⊎ (is_admitted (replay d.plans empty d.history.items).paths path (next_of d.plans telling path) ≡ false)
+        (left_of telling path ≡ 0) ⊎ (is_admitted (replay d.plans first d.history.items).paths path (next_of d.plans telling path) ≡ false)
     by_test path least most free (inl none) = inl (left_is path least most ∙ eqb-true (left d path) 0 none)
     by_test path least most free (inr out) = inr (out_is path free out)
 
     shut : d.store.lent ≡ None → is_shut d ≡ true
     shut free = home_shut d.store.lent (is_shut d) (and_parts (not (is_some d.history.running)) _ o.over).1 free
 
-    pub told_so : IsToldBy d.plans empty telling
+    pub told_so : IsToldBy d.plans first telling
     told_so = record {
       legal = o.legal;
       kept = o.kept;

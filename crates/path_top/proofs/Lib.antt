@@ -9,14 +9,17 @@ pub mod MoreExcused
 pub mod Allowing
 pub mod Failing
 pub mod NewDevices
-pub mod PairedAbout
+pub mod FaultCalls
+pub mod Fitting
 pub mod Readied
+pub mod Unused
 pub mod Counted
 pub mod Finished
 pub mod RunExcused
 pub mod RunTold
 pub mod Unfailing
 pub mod Complete
+pub mod Told
 pub mod Facts
 pub mod Few
 mod Rows

@@ -15,16 +15,18 @@ use Rattle.plain_defs.specs.declared.journal.Item.{Item}
 use Rattle.plain_defs.specs.declared.journal.Item.TheVariants as items
 use Rattle.plain_defs.specs.Entry.{ProgramEntry}
 use Rattle.plain_defs.specs.Journal.{Plans, last_sense, replay_item}
-use Rattle.plain_defs.specs.PlainState.{PlainState, empty_state}
+use Rattle.plain_defs.specs.PlainState.{PlainState}
 use Rattle.device_defs.specs.declared.counts.Counts.{Counts}
 use Rattle.device_defs.specs.Command.{has_loss, is_loss}
 use Rattle.device_defs.specs.Excused.{has_lost, is_checked, is_equipment_check, is_unexplained, last_command, loose_losses, losses_in, losses_of, may_lose, unexplained, unexplained_item}
+use Rattle.device_laws.specs.NewDevice.{first_state}
 use Rattle.device_laws.specs.Unharmed.{ends_with_equipment_check}
+use Rattle.subsystem_defs.specs.Decks.{Firsts}
 use Rattle.subsystem_defs.specs.Happening.{is_lent_to}
 use Rattle.subsystem_defs.specs.Subsystem.{Mounted, number_of}
-use Rattle.path_top.specs.Excuses.{excuses_of, faults_of, fails_nothing, is_cache_loss, is_device, is_fail, is_side_loss, is_store_loss, lent_faults, marks_by, side_loss}
-use Rattle.path_top.specs.Histories.{AreToldOf, HasNoFailure, IsExcusedBy, IsToldOf}
-use Rattle.path_top.specs.Pairs.{paired}
+use Rattle.path_top.specs.Excuses.{excuses_on, faults_of, fails_nothing, is_cache_loss, is_device, is_fail, is_side_loss, is_store_loss, lent_faults, marks_by, side_loss}
+use Rattle.path_top.specs.Histories.{AreToldOfOn, HasNoFailure, IsExcusedBy, IsToldOfOn}
+use Rattle.path_top.specs.Pairs.{paired_on}
 use Rattle.path_top.specs.Told.{DeviceTold}
 use Rattle.path_top.proofs.Allowing.{counted_cons, one_if}
 use Rattle.path_top.proofs.Marked.{none_marked, none_told}
@@ -53,7 +55,7 @@ some_device : (o : Option ℕ) (n : ℕ) → is_device o n ≡ true → is_some 
 some_device (Some d) n e = refl
 some_device None n e = absurd (cc)
 
-module _ (deck : DeckLines) (none : fails_nothing deck ≡ true) where
+module _ (firsts : Firsts) (deck : DeckLines) (none : fails_nothing deck ≡ true) where
   no_fault : length deck.faults ≡ 0
   no_fault = eqb-true (length deck.faults) 0 (and_parts (length deck.faults == 0) (count_by is_fail deck.events == 0) none).0
 
@@ -76,17 +78,17 @@ module _ (deck : DeckLines) (none : fails_nothing deck ≡ true) where
       omega (arith, part, rest)
 
   module _ (n : ℕ) where
-    none_failed : (excuses_of deck n).failed ≡ 0
+    none_failed : (excuses_on firsts deck n).failed ≡ 0
     none_failed =
         let own = no_lines deck.faults n no_fault in
-        let lent = none_lent n (paired deck).mounted in
+        let lent = none_lent n (paired_on firsts deck).mounted in
         omega (arith, own, lent)
 
-    no_cache : (excuses_of deck n).losses.cache ≡ 0
+    no_cache : (excuses_on firsts deck n).losses.cache ≡ 0
     no_cache =
         none_counted is_cache_loss is_fail (λ e is. or_left (is_cache_loss e) (is_store_loss e || is_some (side_loss e)) is) deck.events no_fail
 
-    no_side : (excuses_of deck n).losses.sides ≡ 0
+    no_side : (excuses_on firsts deck n).losses.sides ≡ 0
     no_side =
         none_counted (is_side_loss n) is_fail
         (λ e is.
@@ -157,34 +159,35 @@ module _ (plans : Plans) (lost : List Bool) (c : Counts) (failed : c.failed ≡ 
 
 -- Of a device of the history
 
-module _ (deck : DeckLines) (none : fails_nothing deck ≡ true) where
+module _ (firsts : Firsts) (deck : DeckLines) (none : fails_nothing deck ≡ true) where
   home_good : (line : DeviceLine) (x : DeviceTold) → (plans : Plans) (empty : PlainState) (many : ℕ) →
-      IsExcusedBy plans empty many (excuses_of deck line.number) x → (count_by ends_with_equipment_check x.journal ≡ 0) × (x.lost ≡ [])
+      IsExcusedBy plans empty many (excuses_on firsts deck line.number) x → (count_by ends_with_equipment_check x.journal ≡ 0) × (x.lost ≡ [])
   home_good line x plans empty many is =
       let n = line.number in
-      let c = excuses_of deck n in
-      let failed = none_failed deck none n in
-      let marks = is.is.tracks (none_may c failed (no_side deck none n) (no_cache deck none n)) in (
-        all_good plans (marks_by many x.lost) c failed (no_side deck none n) (none_marked (marks_by many x.lost) marks) empty x.journal
-            (none_less (loose_losses x.journal) c.losses.cache is.is.loose (no_cache deck none n))
+      let c = excuses_on firsts deck n in
+      let failed = none_failed firsts deck none n in
+      let marks = is.is.tracks (none_may c failed (no_side firsts deck none n) (no_cache firsts deck none n)) in (
+        all_good plans (marks_by many x.lost) c failed (no_side firsts deck none n) (none_marked (marks_by many x.lost) marks) empty x.journal
+            (none_less (loose_losses x.journal) c.losses.cache is.is.loose (no_cache firsts deck none n))
             (none_less (unexplained plans empty (marks_by many x.lost) c x.journal) c.failed is.is.checks failed),
         none_told many x.lost is.tracks marks,
       )
 
-  one_good : (line : DeviceLine) (x : DeviceTold) → IsToldOf deck line x → (o : Option ℕ) → x.lent ≡ o → HasNoFailure x
+  one_good : (line : DeviceLine) (x : DeviceTold) → IsToldOfOn firsts deck line x → (o : Option ℕ) → x.lent ≡ o → HasNoFailure x
   one_good line x is None free =
-      let both = home_good line x (plans_of deck.programs line.number) (empty_state line.geometry line.cylinders) (line.cylinders * 15) (is.excused free) in
+      let both = home_good line x (plans_of deck.programs line.number) (first_state line.geometry line.cylinders (firsts line.number line.cylinders))
+      (line.cylinders * 15) (is.excused free) in
       record { checks = both.0; lost = λ home. both.1 }
   one_good line x is (Some to) lent = record {
     checks = ap (λ (xs : List Item). count_by ends_with_equipment_check xs) (is.is.away (ap (λ (o : Option ℕ). is_some o) lent));
     lost = λ home. absurd (cc);
   }
 
-  all_have_none : (ls : List DeviceLine) (xs : List DeviceTold) → AllZip (IsToldOf deck) ls xs → All HasNoFailure xs
+  all_have_none : (ls : List DeviceLine) (xs : List DeviceTold) → AllZip (IsToldOfOn firsts deck) ls xs → All HasNoFailure xs
   all_have_none [] [] z = All-nil HasNoFailure
   all_have_none [] (x ∷ xs) z = absurd z
   all_have_none (line ∷ ls) [] z = absurd z
   all_have_none (line ∷ ls) (x ∷ xs) z = All-cons HasNoFailure x xs (one_good line x z.0 x.lent refl) (all_have_none ls xs z.1)
 
-  pub none_failed_at_all : (xs : List DeviceTold) → AreToldOf deck xs → All HasNoFailure xs
+  pub none_failed_at_all : (xs : List DeviceTold) → AreToldOfOn firsts deck xs → All HasNoFailure xs
   none_failed_at_all xs are = all_have_none deck.devices xs are.each

@@ -8,9 +8,10 @@ use Rattle.deck_text.specs.DeckLines.{DeckLines}
 use Rattle.device_defs.specs.declared.counts.Counts.{Counts}
 use Rattle.device_outside.specs.Lists.{is_in}
 use Rattle.subsystem_defs.specs.Closing.{where_true}
+use Rattle.subsystem_defs.specs.Decks.{Firsts, empty_firsts}
 use Rattle.subsystem_defs.specs.Happening.{is_lent_to}
 use Rattle.subsystem_defs.specs.Subsystem.{Mounted, number_of}
-use Rattle.path_top.specs.Pairs.{paired}
+use Rattle.path_top.specs.Pairs.{paired_on}
 
 -- The lines
 
@@ -44,18 +45,22 @@ abbrev pub lent_faults : DeckLines → ℕ → List Mounted → ℕ
 lent_faults deck n [] = 0
 lent_faults deck n (m ∷ ms) = (if is_lent_to m.device.store.lent n then faults_of deck (number_of m) else 0) + lent_faults deck n ms
 
--- how often each thing failed at most, where no calls of volumes are counted
-abbrev pub excuses_of : DeckLines → ℕ → Counts
-excuses_of deck n = record {
+-- how often each thing failed at most, where no calls of volumes are counted, on volumes that hold these tracks first
+abbrev pub excuses_on : Firsts → DeckLines → ℕ → Counts
+excuses_on firsts deck n = record {
   reads = 0;
   writes = 0;
-  failed = faults_of deck n + lent_faults deck n (paired deck).mounted;
+  failed = faults_of deck n + lent_faults deck n (paired_on firsts deck).mounted;
   losses = record {
     cache = count_by is_cache_loss deck.events;
     store = count_by is_store_loss deck.events;
     sides = count_by (is_side_loss n) deck.events;
   };
 }
+
+-- on empty ones
+abbrev pub excuses_of : DeckLines → ℕ → Counts
+excuses_of deck n = excuses_on empty_firsts deck n
 
 -- The lost tracks that are told of a device with so many tracks
 

@@ -6,13 +6,18 @@ use Rattle.ckd_outside.specs.Texts.{AppendsFront}
 use Rattle.deck_text.specs.DeckLines.{DeckLines}
 use Rattle.deck_text.specs.Parse.{parsed}
 use Rattle.deck_top.specs.Answers.{Reads}
-use Rattle.path_top.specs.Answers.{IsHistoryText, IsTextOf}
+use Rattle.subsystem_defs.specs.Decks.{Firsts, empty_firsts}
+use Rattle.path_top.specs.Answers.{IsHistoryTextOn, IsTextOf}
 
--- the sink got a history of the deck
-pub record WritesHistory (held holds : Option (List ℕ)) (deck : DeckLines) : Type 0 where
+-- the sink got a history of the deck, on volumes that held these tracks first
+pub record WritesHistoryOn (firsts : Firsts) (held holds : Option (List ℕ)) (deck : DeckLines) : Type 0 where
   pub text : List ℕ
-  pub history : IsHistoryText deck text
+  pub history : IsHistoryTextOn firsts deck text
   pub written : Appends held holds text
+
+-- on empty ones
+abbrev pub WritesHistory : Option (List ℕ) → Option (List ℕ) → DeckLines → Type 0
+WritesHistory held holds deck = WritesHistoryOn empty_firsts held holds deck
 
 -- of what is written for the text that the source gave, the sink got a front
 pub record WritesFront (before after held holds : Option (List ℕ)) : Type 0 where

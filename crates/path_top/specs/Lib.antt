@@ -1,5 +1,6 @@
 pub mod Journals
 pub mod Orders
+pub mod Making
 pub mod Pairs
 pub mod Excuses
 pub mod Told

@@ -2,9 +2,11 @@
 use Rattle.std.specs.Prelude.{ℕ, ◌+◌, ◌-◌, Bool, true, false, List, [], ◌∷◌, length, map, count_by, fold, Option, if◌then◌else◌}
 use Rattle.deck_plan.specs.declared.event.EventLine.{EventLine}
 use Rattle.deck_plan.specs.declared.event.EventLine.TheVariants as lines
+use Rattle.ckd_types.specs.Volume.{IsVolume}
+use Rattle.deck_text.specs.declared.line.DeviceLine.{DeviceLine}
 use Rattle.deck_text.specs.DeckLines.{DeckLines}
 use Rattle.subsystem_defs.specs.declared.event.Event.TheVariants as events
-use Rattle.subsystem_defs.specs.Decks.{opened}
+use Rattle.subsystem_defs.specs.Decks.{Firsts, empty_firsts, opened_on}
 use Rattle.subsystem_defs.specs.Happening.{happens}
 use Rattle.subsystem_defs.specs.Subsystem.{Mounted, Subsystem}
 use Rattle.path_top.specs.Orders.{is_order}
@@ -33,9 +35,18 @@ behind_line s _ = s
 abbrev pub behind_pairs : Subsystem → List EventLine → Subsystem
 behind_pairs s es = fold behind_line s (before_start es)
 
--- the devices of a deck behind them
+-- the devices of a deck behind them, on volumes that hold these tracks first
+abbrev pub paired_on : Firsts → DeckLines → Subsystem
+paired_on firsts deck = behind_pairs (opened_on firsts deck) deck.events
+
+-- on empty ones
 abbrev pub paired : DeckLines → Subsystem
-paired deck = behind_pairs (opened deck) deck.events
+paired deck = paired_on empty_firsts deck
+
+-- what these volumes hold fits the devices of these lines
+abbrev pub AllFit : Firsts → List DeviceLine → Type 0
+AllFit firsts [] = Unit {0}
+AllFit firsts (d ∷ ds) = IsVolume d.geometry d.cylinders (firsts d.number d.cylinders) × AllFit firsts ds
 
 -- of each device, to whom its volume is lent then
 abbrev pub lent_of : Mounted → Option ℕ

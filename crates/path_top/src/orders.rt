@@ -3,19 +3,29 @@
 ghost use Rattle.std.specs.Prelude.{◌≡◌, ◌++◌, All, IfOk, IfSome, OnOk, map, option_map, option_to_list, true};
 ghost use Rattle.deck_run.specs.Opening.{are_open_lines, is_open_line};
 ghost use Rattle.deck_plan.specs.declared.event.EventLine.TheVariants as lines;
-ghost use Rattle.path_threads.specs.Making.{makes_empty};
 ghost use Rattle.path_threads.specs.Places.{IsSpareAmong};
+ghost use Rattle.path_top.specs.Making.{Makes};
 ghost use Rattle.path_top.specs.Orders.{is_order, line_of, order_line, orders_in};
 ghost use Rattle.subsystem_core.specs.Devices.{numbers_of};
 ghost use Rattle.subsystem_core.specs.Frames.{HasDevice};
 
+use crate::making::NewVolume;
 use ckd_types::{DeviceNo, NoMemory, Side};
 use deck_plan::EventLine;
-use device_outside::MemVolume;
-use path_threads::{EmptyVolume, Order};
+use deck_run::EmptyVolume;
+use device_outside::Volume;
+use path_threads::{MakeVolume, Order};
 use std::alloc::Global;
 use subsystem_core::Subsystem;
 use subsystem_defs::Event;
+
+impl<V: EmptyVolume> MakeVolume<V> for NewVolume {
+    ghost makes = { Makes V.view };
+
+    fn make(self, alloc: Global) -> Result<V, NoMemory> {
+        V::empty(alloc, self.cylinders)
+    }
+}
 
 pub(crate) fn is_order(line: &EventLine) -> bool
     ensures { result ≡ is_order line.now }
@@ -34,20 +44,20 @@ pub(crate) fn is_order(line: &EventLine) -> bool
 }
 
 /// A new volume for a side of the device, of as many cylinders.
-fn replacement(sub: &Subsystem<MemVolume>, d: DeviceNo, side: Side) -> Order<EmptyVolume>
+fn replacement<V: Volume>(sub: &Subsystem<V>, d: DeviceNo, side: Side) -> Order<NewVolume>
     requires { HasDevice sub.now d }
     ensures line { line_of result ≡ lines.Replace d side }
-    ensures spare { IsSpareAmong makes_empty sub.now.devices.items result }
+    ensures spare { IsSpareAmong (Makes V.view) sub.now.devices.items result }
 {
     let cylinders = sub.device(d).cylinders();
-    Order::Replace(d, side, EmptyVolume { cylinders })
+    Order::Replace(d, side, NewVolume { cylinders })
 }
 
 /// The order that a line asks for, with a new volume for REPLACE.
-fn order_of(sub: &Subsystem<MemVolume>, line: &EventLine) -> Option<Order<EmptyVolume>>
+fn order_of<V: Volume>(sub: &Subsystem<V>, line: &EventLine) -> Option<Order<NewVolume>>
     requires { is_open_line (numbers_of sub.now.devices.items) line.now ≡ true }
     ensures line { option_map line_of result ≡ order_line line.now }
-    ensures spare { IfSome result (IsSpareAmong makes_empty sub.now.devices.items) }
+    ensures spare { IfSome result (IsSpareAmong (Makes V.view) sub.now.devices.items) }
 {
     let event = match line {
         EventLine::Replace(d, side) => return Some(replacement(sub, *d, *side)),
@@ -75,14 +85,14 @@ fn add_some<T: Drop>(items: &mut Vec<T>, item: Option<T>) -> Result<(), NoMemory
 }
 
 /// The orders of these lines, in their order, for the devices of a subsystem.
-pub(crate) fn orders_in(
+pub(crate) fn orders_in<V: Volume>(
     alloc: Global,
-    sub: &Subsystem<MemVolume>,
+    sub: &Subsystem<V>,
     lines: &[EventLine],
-) -> Result<Vec<Order<EmptyVolume>>, NoMemory>
+) -> Result<Vec<Order<NewVolume>>, NoMemory>
     requires { are_open_lines (numbers_of sub.now.devices.items) lines.now ≡ true }
     ensures lines { IfOk result (λ orders. map line_of orders.items ≡ orders_in lines.now) }
-    ensures spare { IfOk result (λ orders. All (IsSpareAmong makes_empty sub.now.devices.items) orders.items) }
+    ensures spare { IfOk result (λ orders. All (IsSpareAmong (Makes V.view) sub.now.devices.items) orders.items) }
 {
     // The kit's borrow checker has to be shown this type, which the orders hold.
     let _none: Option<Event> = None;

@@ -5,17 +5,20 @@ ghost use Rattle.deck_run.specs.Opening.{are_open_lines, is_open_line};
 ghost use Rattle.deck_run.specs.Owning.{AreOwn};
 ghost use Rattle.deck_run.specs.Standing.{StandsAs};
 ghost use Rattle.subsystem_core.specs.Devices.{numbers_of};
-ghost use Rattle.subsystem_core.specs.Frames.{HasSameDevices};
+ghost use Rattle.subsystem_core.specs.Frames.{HasDevice, HasSameDevices};
+ghost use Rattle.subsystem_defs.specs.Happening.{happens};
 ghost use Rattle.subsystem_defs.specs.Subsystem as runs;
+ghost use Rattle.path_top.specs.Devices.{AreUnused};
 ghost use Rattle.path_top.specs.Orders.{is_order};
 ghost use Rattle.path_top.specs.Pairs.{before_start, behind_line, behind_pairs, is_pair, is_start, unused_in};
 
 use crate::orders::is_order;
-use ckd_types::NoMemory;
+use ckd_types::{DeviceNo, NoMemory};
 use deck_plan::EventLine;
-use deck_run::join;
+use deck_run::chains_stand;
 use device_outside::Volume;
 use subsystem_core::Subsystem;
+use subsystem_defs::Event;
 
 fn is_start(line: &EventLine) -> bool
     ensures { result ≡ is_start line.now }
@@ -78,12 +81,30 @@ pub(crate) fn unused_in(lines: &[EventLine]) -> usize
         .saturating_sub(count_orders(lines))
 }
 
+/// The second one's volume becomes side B of the first, unless it is refused.
+fn join<V: Volume>(sub: &mut Subsystem<V>, a: DeviceNo, b: DeviceNo) -> Result<(), NoMemory>
+    requires a { HasDevice sub.old a }
+    requires b { HasDevice sub.old b }
+    requires own { AreOwn sub.old.devices.items }
+    ensures numbers { HasSameDevices sub.old sub.new }
+    ensures own { OnOk result (AreOwn sub.new.devices.items) }
+    ensures unused { AreUnused sub.old.devices.items → OnOk result (AreUnused sub.new.devices.items) }
+    ensures stands { (run : runs.Subsystem) → StandsAs sub.old run → OnOk result (StandsAs sub.new (happens run (Event.Pair a b)).behind) }
+{
+    chains_stand(sub.devices());
+    match sub.event(Event::Pair(a, b)) {
+        Err(NoMemory) => Err(NoMemory),
+        Ok(_) => Ok(()),
+    }
+}
+
 /// A PAIR line makes two devices a pair.
 fn pair_line<V: Volume>(sub: &mut Subsystem<V>, line: &EventLine) -> Result<(), NoMemory>
     requires here { is_open_line (numbers_of sub.old.devices.items) line.now ≡ true }
     requires own { AreOwn sub.old.devices.items }
     ensures numbers { HasSameDevices sub.old sub.new }
     ensures own { OnOk result (AreOwn sub.new.devices.items) }
+    ensures unused { AreUnused sub.old.devices.items → OnOk result (AreUnused sub.new.devices.items) }
     ensures stands { (run : runs.Subsystem) → StandsAs sub.old run → OnOk result (StandsAs sub.new (behind_line run line.now)) }
 {
     let EventLine::Pair(a, b) = line else {
@@ -98,6 +119,7 @@ fn pair_lines<V: Volume>(sub: &mut Subsystem<V>, lines: &[EventLine]) -> Result<
     requires own { AreOwn sub.old.devices.items }
     ensures numbers { HasSameDevices sub.old sub.new }
     ensures own { OnOk result (AreOwn sub.new.devices.items) }
+    ensures unused { AreUnused sub.old.devices.items → OnOk result (AreUnused sub.new.devices.items) }
     ensures stands { (run : runs.Subsystem) → StandsAs sub.old run → OnOk result (StandsAs sub.new (fold behind_line run lines.now)) }
 {
     for line in lines {
@@ -115,6 +137,7 @@ pub(crate) fn pair_first<V: Volume>(
     requires own { AreOwn sub.old.devices.items }
     ensures numbers { HasSameDevices sub.old sub.new }
     ensures own { OnOk result (AreOwn sub.new.devices.items) }
+    ensures unused { AreUnused sub.old.devices.items → OnOk result (AreUnused sub.new.devices.items) }
     ensures stands { (run : runs.Subsystem) → StandsAs sub.old run → OnOk result (StandsAs sub.new (behind_pairs run lines.now)) }
 {
     pair_lines(sub, before_start(lines))

@@ -1,129 +1,24 @@
-ghost use Rattle.std.specs.Prelude.{◌≡◌, ◌≢◌, ◌⊎◌, ◌≤◌, Ok, Err, Some, false, true, map, List, Option, ℕ};
+ghost use Rattle.std.specs.Prelude.{◌≡◌, ◌≢◌, ◌⊎◌, Ok, Some, false, true, map, List, ℕ};
 ghost use Rattle.ckd_outside.specs.Causes.{Rose};
 ghost use Rattle.deck_text.specs.DeckLines.{DeckLines};
 ghost use Rattle.deck_text.specs.Parse.{parsed};
 ghost use Rattle.deck_text.specs.Texts.{limit_text, refused_text};
-ghost use Rattle.deck_run.specs.Opening.{WasRead};
-ghost use Rattle.path_top.specs.Answers.{TellsDeck, TellsRead, Tells, is_paths};
+ghost use Rattle.path_top.specs.Answers.{Tells, is_paths};
 ghost use Rattle.path_top.specs.Facts.{WritesFront, WritesHistory};
 ghost use Rattle.deck_top.specs.Answers.{TellsUsage, WriteFaultHasCause};
 ghost use Rattle.deck_top.specs.Facts.{IsRefused, OfDeck};
 
-use crate::history::write_history;
-use crate::run::{run_deck, unused_of};
-use ckd_outside::{ReadError, Sink, Source, read_up_to};
-use deck_text::{Deck, DeckFault, DeckWhy, Which, read_deck, write_limit, write_refused};
-use deck_top::{MOST_READ, Status, write_usage};
-use device_outside::Gate;
+use crate::serve::paths_top_on;
+use ckd_outside::{Sink, Source};
+use deck_text::{DeckFault, DeckWhy, Which};
+use deck_top::Status;
+use device_outside::{Gate, MemBay};
 use std::alloc::Global;
 use std::sync::Wait;
 use std::thread::Threads;
 
-fn refuse<K: Sink>(sink: &mut K, line: u32, why: DeckWhy) -> Status
-    ensures told { TellsDeck result (Err (DeckFault.Refused line why)) (K.held sink.old) (K.held sink.new) }
-    ensures later { K.faults sink.old ≤ K.faults sink.new }
-    ensures write { WriteFaultHasCause result (K.faults sink.old) (K.faults sink.new) }
-{
-    match write_refused(sink, line, why) {
-        Ok(()) => Status::DeckRefused { line, why },
-        Err(_) => Status::WriteFault,
-    }
-}
-
-fn limit<K: Sink>(sink: &mut K, which: Which) -> Status
-    ensures told { TellsDeck result (Err (DeckFault.Limit which)) (K.held sink.old) (K.held sink.new) }
-    ensures later { K.faults sink.old ≤ K.faults sink.new }
-    ensures write { WriteFaultHasCause result (K.faults sink.old) (K.faults sink.new) }
-{
-    match write_limit(sink, which) {
-        Ok(()) => Status::Limit(which),
-        Err(_) => Status::WriteFault,
-    }
-}
-
-/// Runs the paths of a deck, and writes the history.
-fn report<R: Threads + Wait + Sync, K: Sink, G: Gate + Sync>(
-    rt: &R,
-    alloc: Global,
-    deck: &Deck,
-    sink: &mut K,
-    gate: &G,
-) -> Status
-    requires { WasRead deck.now }
-    ensures told { TellsDeck result (Ok deck.now) (K.held sink.old) (K.held sink.new) }
-    ensures later { K.faults sink.old ≤ K.faults sink.new }
-    ensures write { WriteFaultHasCause result (K.faults sink.old) (K.faults sink.new) }
-{
-    let Ok(devices) = run_deck(rt, alloc, deck, gate) else {
-        return Status::NoMemory;
-    };
-    match write_history(sink, &devices, unused_of(deck)) {
-        Ok(()) => Status::Reported,
-        Err(_) => Status::WriteFault,
-    }
-}
-
-fn answer<R: Threads + Wait + Sync, K: Sink, G: Gate + Sync>(
-    rt: &R,
-    alloc: Global,
-    text: &[u8],
-    sink: &mut K,
-    gate: &G,
-) -> Status
-    ensures told { TellsDeck result (parsed text.now) (K.held sink.old) (K.held sink.new) }
-    ensures later { K.faults sink.old ≤ K.faults sink.new }
-    ensures write { WriteFaultHasCause result (K.faults sink.old) (K.faults sink.new) }
-{
-    match read_deck(alloc, text) {
-        Ok(deck) => report(rt, alloc, &deck, sink, gate),
-        Err(DeckFault::Refused { line, why }) => refuse(sink, line, why),
-        Err(DeckFault::Limit(which)) => limit(sink, which),
-        Err(DeckFault::NoMemory) => Status::NoMemory,
-    }
-}
-
-fn serve<R: Threads + Wait + Sync, S: Source, K: Sink, G: Gate + Sync>(
-    rt: &R,
-    alloc: Global,
-    source: &mut S,
-    sink: &mut K,
-    gate: &G,
-) -> Status
-    ensures told { TellsRead result (S.left source.old) (S.left source.new) (K.held sink.old) (K.held sink.new) }
-    ensures read { result ≡ Status.ReadFault → Rose (S.faults source.old) (S.faults source.new) }
-    ensures calm { result ≢ Status.ReadFault → S.faults source.new ≡ S.faults source.old }
-    ensures write { WriteFaultHasCause result (K.faults sink.old) (K.faults sink.new) }
-{
-    match read_up_to(alloc, source, MOST_READ) {
-        Ok(text) => answer(rt, alloc, &text, sink, gate),
-        Err(ReadError::Failed) => Status::ReadFault,
-        Err(ReadError::NoMemory) => Status::NoMemory,
-    }
-}
-
-/// Whether the one word is the name of this task.
-#[tactic(auto, unfolding(crate::specs::Answers::is_paths))]
-fn is_paths(words: &[&str]) -> bool
-    ensures { result ≡ is_paths (map (λ w. w.now) words.now) }
-{
-    match words {
-        [word] => word.as_bytes() == b"paths".as_slice(),
-        _ => false,
-    }
-}
-
-fn usage<K: Sink>(sink: &mut K) -> Status
-    ensures told { (before : Option (List ℕ)) → TellsUsage result before before (K.held sink.old) (K.held sink.new) }
-    ensures write { WriteFaultHasCause result (K.faults sink.old) (K.faults sink.new) }
-{
-    match write_usage(sink) {
-        Ok(()) => Status::Usage,
-        Err(_) => Status::WriteFault,
-    }
-}
-
-/// What the words ask for.
-fn serve_words<R: Threads + Wait + Sync, S: Source, K: Sink, G: Gate + Sync>(
+/// What the words ask for, over empty volumes.
+fn over_new_bay<R: Threads + Wait + Sync, S: Source, K: Sink, G: Gate + Sync>(
     rt: &R,
     alloc: Global,
     words: &[&str],
@@ -136,11 +31,8 @@ fn serve_words<R: Threads + Wait + Sync, S: Source, K: Sink, G: Gate + Sync>(
     ensures calm { result ≢ Status.ReadFault → S.faults source.new ≡ S.faults source.old }
     ensures write { WriteFaultHasCause result (K.faults sink.old) (K.faults sink.new) }
 {
-    if is_paths(words) {
-        serve(rt, alloc, source, sink, gate)
-    } else {
-        usage(sink)
-    }
+    let mut bay = MemBay::new(alloc);
+    paths_top_on(rt, alloc, words, source, sink, &mut bay, gate)
 }
 
 /// Reads a deck, runs the programs of its paths beside each other over volumes in memory, and writes the history of its devices: of each its journal in
@@ -185,5 +77,5 @@ pub fn paths_top<R: Threads + Wait + Sync, S: Source, K: Sink, G: Gate + Sync>(
         → parsed text ≡ Ok d → ¬ Rose (S.faults source.old) (S.faults source.new) → ¬ Rose (K.faults sink.old) (K.faults sink.new)
         → (result ≡ Status.Reported) ⊎ (result ≡ Status.NoMemory) }
 {
-    serve_words(rt, alloc, words, source, sink, gate)
+    over_new_bay(rt, alloc, words, source, sink, gate)
 }

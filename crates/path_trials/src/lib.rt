@@ -1,7 +1,10 @@
 //! Trials of paths that run beside each other: that two of them are inside two devices at once, that every program is run, what orders leave
-//! meanwhile, and that the pool knows behind a run what the devices hold.
+//! meanwhile, that the pool knows behind a run what the devices hold, and that programs find what their volumes held.
 #![tactic(auto)]
 
+#[cfg(test)]
+mod histories;
+mod maker;
 #[cfg(test)]
 mod meeting;
 #[cfg(test)]
@@ -10,3 +13,5 @@ mod orders;
 mod pools;
 #[cfg(test)]
 mod runs;
+
+pub use maker::EmptyVolume;

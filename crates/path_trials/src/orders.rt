@@ -1,10 +1,11 @@
 ghost use Rattle.std.specs.Prelude.{All, OnOk};
 ghost use Rattle.path_trials.specs.Small.{IsNew};
 
+use crate::EmptyVolume;
 use crate::runs::{devices_of, pair_of, reads, run};
 use ckd_types::{DeviceNo, Side, TrackNo};
 use device_outside::NoGate;
-use path_threads::{EmptyVolume, Order};
+use path_threads::Order;
 use std::test::Fail;
 use subsystem_defs::Event;
 

@@ -3,13 +3,14 @@ ghost use Rattle.device_core.specs.State.{device_of};
 ghost use Rattle.path_turns.specs.Keeping.{IsReady};
 ghost use Rattle.path_trials.specs.Small.{IsNew, IsSmall};
 
+use crate::EmptyVolume;
 use ckd_ccw::Program;
 use ckd_types::{Bytes, Ccw, DeviceNo, Geometry, PathNo, TrackNo};
 use deck_plan::PathPlans;
-use device_core::{Device, plans_give};
+use device_core::Device;
 use device_outside::{Gate, MemVolume, NoGate};
 use frame_pool::Pool;
-use path_threads::{EmptyVolume, Order, Ran, run_paths};
+use path_threads::{Order, Ran, run_paths};
 use std::alloc::Global;
 use std::sync::Wait;
 use std::test::Fail;
@@ -74,7 +75,6 @@ pub(crate) fn device(
     ensures small { IfOk result IsSmall }
     ensures home { IfOk result (λ d. is_some (device_of d).store.lent ≡ false) }
 {
-    plans_give(&plans);
     let number = DeviceNo::new(number).ok_or("device")?;
     let volume = MemVolume::new(alloc, 1, &[], failing)?;
     match Device::open(alloc, number, Geometry::D3390, 1, volume, plans) {

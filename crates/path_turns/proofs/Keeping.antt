@@ -5,6 +5,7 @@ use Rattle.std.proofs.lemmas.Option.{same_Some}
 use Rattle.std.specs.Prelude.{◌&&◌, IfSome, is_some, option_map}
 use Rattle.ckd_chain.specs.Facts.{IsChain}
 use Rattle.ckd_chain.specs.State.{ChainState}
+use Rattle.ckd_types.specs.declared.record.Track.{Track}
 use Rattle.plain_defs.specs.History.{OpenEntry, is_path_of}
 use Rattle.track_image.specs.Image.{Image}
 use Rattle.device_outside.specs.declared.volume.Volume.{Ghosts}
@@ -16,6 +17,7 @@ use Rattle.device_outside.specs.Outside.{Outside, PortView, Ran, no_pool}
 use Rattle.device_outside.specs.Volume.{VolumeView}
 use Rattle.device_outside.proofs.Runs.{ran_weaker}
 use Rattle.device_defs.specs.declared.answers.Did.{Did}
+use Rattle.device_defs.specs.declared.counts.Losses.{Losses}
 use Rattle.device_defs.specs.declared.answers.SecondEnd.{SecondEnd}
 use Rattle.device_defs.specs.declared.answers.Stepped.{Stepped}
 use Rattle.device_defs.specs.Command.{command}
@@ -28,7 +30,7 @@ use Rattle.device_laws.proofs.DeviceHistory.{starts_where_idle}
 use Rattle.device_laws.specs.Handed.{StaysInTurn, allowance_in}
 use Rattle.device_laws.specs.Whole.{WholeDevice}
 use Rattle.device_laws.proofs.KeepLaws.{start_kept, command_kept, second_kept, background_kept, background_checks}
-use Rattle.subsystem_laws.specs.Standing.{Stands}
+use Rattle.subsystem_laws.specs.Standing.{StandsOn}
 use Rattle.subsystem_laws.proofs.turning.Counts.{
   OtherPaths,
   command_counts,
@@ -45,8 +47,10 @@ use Rattle.device_store.specs.State.{outside}
 use Rattle.device_store.specs.declared.store.DeviceStore.{DeviceStore}
 use Rattle.device_core.specs.declared.device.Device.{Device}
 use Rattle.device_core.specs.State.{device_of}
-use Rattle.path_turns.specs.Keeping.{KeepsPledge, Moves, StaysKept, handed_of, tells, told_of}
+use Rattle.path_turns.specs.Keeping.{KeepsPledge, KeepsWithin, Moves, StaysKept, handed_of, pledge_with, tells, told_of}
+use Rattle.path_turns.specs.Planned.{told_planned}
 use Rattle.path_turns.specs.Visits.{is_backgrounds, is_of_background}
+use Rattle.path_turns.proofs.Planned.{ran_planned}
 
 abbrev pub hears : Hearing Image NoKeep
 hears = λ _ m r _. r ≡ reply m
@@ -95,7 +99,11 @@ told_true (Some v) l t = ap (λ (o : Option (List _)). is_some o) t
 
 module _ {V : Type 0} {G : Ghosts V} where
   pub stays_same : (d : Device V G) → StaysKept d d
-  stays_same d p s = s
+  stays_same d first p s = s
+
+  -- what was pledged before a run is kept behind it
+  pub stays_within : (most : Losses) (x d e : Device V G) → StaysKept d e → KeepsWithin most x d → KeepsWithin most x e
+  stays_within most x d e on kept = λ first told began. on first (pledge_with told x most) (kept first told began)
 
   pub none_moves : (d : Device V G) (path : ℕ) → 1 ≤ path → path ≤ 4 → Moves path d d
   none_moves d path least most = record {
@@ -105,7 +113,8 @@ module _ {V : Type 0} {G : Ghosts V} where
   }
 
   -- a device that stands tells all
-  pub stands_tells : {K : Type 0} (d : Device V G) (u : Outside (List ℕ) K) (port : PortView) (k : K) → u ≡ outside port d.store k → Stands (device_of d) u →
+  pub stands_tells : {first : ℕ → List Track} {K : Type 0} (d : Device V G) (u : Outside (List ℕ) K) (port : PortView) (k : K) →
+      u ≡ told_planned (outside port d.store k) → StandsOn first (device_of d) u →
       (tells (told_of d).a && tells (told_of d).b) ≡ true
   stands_tells d u port k is s =
       let t = s.beside.untold in
@@ -116,26 +125,27 @@ module _ {V : Type 0} {G : Ghosts V} where
 
   module _ (d e : Device V G) (old new : PortView) where
     abbrev pub u : Outside (List ℕ) NoKeep
-    u = outside old d.store no_keep
+    u = told_planned (outside old d.store no_keep)
 
     abbrev pub z : Outside (List ℕ) NoKeep
-    z = outside new e.store no_keep
+    z = told_planned (outside new e.store no_keep)
 
     abbrev pub Came : {A : Type 0} → (Bool → Type 0) → Interaction (List ℕ) Image WholeDevice A → A → Type 0
-    Came had i a = Ran had hears i u (device_of e) a z
+    Came had i a = Ran had hears i (outside old d.store no_keep) (device_of e) a (outside new e.store no_keep)
 
-    pub of_keeps : (p : Pledge) → KeepsPledge p d → StaysInTurn p (device_of d) (handed_of p.told d) u
+    pub of_keeps : {first : ℕ → List Track} (p : Pledge) → KeepsPledge first p d → StaysInTurn p (device_of d) (handed_of p.told d) u
     of_keeps p k = record { keeps = k.keeps.keeps; allowance = k.keeps.allowance; none = k.keeps.none }
 
-    pub of_stands : Stands (device_of d) (told_of d) → Stands (device_of d) u
+    pub of_stands : {first : ℕ → List Track} → StandsOn first (device_of d) (told_of d) → StandsOn first (device_of d) u
     of_stands s = stands_there (device_of d) (told_of d) u (λ h t. record { a = t.a; b = t.b; slots = t.slots }) s
 
-    pub to_stands : Stands (device_of e) z → Stands (device_of e) (told_of e)
+    pub to_stands : {first : ℕ → List Track} → StandsOn first (device_of e) z → StandsOn first (device_of e) (told_of e)
     to_stands s = stands_there (device_of e) z (told_of e) (λ h t. record { a = t.a; b = t.b; slots = t.slots }) s
 
     -- behind an event that keeps the pledge and lets the device stand
-    pub to_keeps : (p : Pledge) (tells_before : Bool) → StaysInTurn p (device_of e) (record { allowance = allowance_in z; tells = tells_before; told = p.told }) z →
-        (p.told ≡ true → Stands (device_of e) z) → KeepsPledge p e
+    pub to_keeps : {first : ℕ → List Track} (p : Pledge) (tells_before : Bool) →
+        StaysInTurn p (device_of e) (record { allowance = allowance_in z; tells = tells_before; told = p.told }) z →
+        (p.told ≡ true → StandsOn first (device_of e) z) → KeepsPledge first p e
     to_keeps p before k stands = record {
       keeps = record {
         keeps = record {
@@ -164,28 +174,32 @@ module _ {V : Type 0} {G : Ghosts V} where
     module _ (home : (device_of d).store.lent ≡ None) where
       pub command_stays : {a : Option Stepped} → (device_of d).store.half ≡ None → Runs (device_of d).history.running →
           IfSome (device_of d).chain IsChain → Came (λ ok. ok ≡ true) (command contents (device_of d)) a → StaysKept d e
-      command_stays {a = a} none runs chain r p k =
+      command_stays {a = a} none runs chain r first p k =
           let chains = chain_told (device_of d).chain chain in
+          let ran = ran_planned r in
           to_keeps p _
           (command_kept contents hears p (handed_of p.told d) (device_of d) (device_of e) u z (of_keeps p k) home
-          (λ told. command_checks (of_stands (k.stands told home)).beside (λ _ m r l h. h) a runs.entry none runs.is chains r) a (ran_weaker (λ ok h. tt) r))
-          (λ told. command_stands (of_stands (k.stands told home)) (λ _ m r l h. h) a runs.entry none runs.is chains r)
+          (λ told. command_checks (of_stands (k.stands told home)).beside (λ _ m r l h. h) a runs.entry none runs.is chains ran) a
+          (ran_weaker (λ ok h. tt) ran))
+          (λ told. command_stands (of_stands (k.stands told home)) (λ _ m r l h. h) a runs.entry none runs.is chains ran)
 
       pub second_stays : {a : SecondEnd} (h : HalfWrite Image) → (device_of d).store.half ≡ Some h →
           Came (λ ok. ok ≡ true) (second contents (device_of d)) a → StaysKept d e
-      second_stays {a = a} h half r p k =
+      second_stays {a = a} h half r first p k =
+          let ran = ran_planned r in
           to_keeps p _
           (second_kept contents hears p (handed_of p.told d) (device_of d) (device_of e) u z (of_keeps p k) home
-          (λ told. second_checks (of_stands (k.stands told home)).beside (λ _ m r l h. h) a r) a (ran_weaker (λ ok h. tt) r))
-          (λ told. second_stands (of_stands (k.stands told home)) (λ _ m r l h. h) a h half r)
+          (λ told. second_checks (of_stands (k.stands told home)).beside (λ _ m r l h. h) a ran) a (ran_weaker (λ ok h. tt) ran))
+          (λ told. second_stands (of_stands (k.stands told home)) (λ _ m r l h. h) a h half ran)
 
       pub background_stays : {a : Option Did} → (device_of d).store.half ≡ None → Came (λ ok. ok ≡ true) (background contents (device_of d)) a → StaysKept d e
-      background_stays {a = a} none r p k =
-          let ran = ran_weaker (λ ok h. tt) r in
+      background_stays {a = a} none r first p k =
+          let told_ran = ran_planned r in
+          let ran = ran_weaker (λ ok h. tt) told_ran in
           to_keeps p _
           (background_kept contents hears p (handed_of p.told d) (device_of d) (device_of e) u z (of_keeps p k) home
           (λ told. background_checks contents (device_of d) ran) a ran)
-          (λ told. background_stands (of_stands (k.stands told home)) (λ _ m r l h. h) a none r)
+          (λ told. background_stands (of_stands (k.stands told home)) (λ _ m r l h. h) a none told_ran)
 
       module _ (path : ℕ) (least : 1 ≤ path) (most : path ≤ 4) (runs : is_path_of (device_of d).history.running path ≡ true) where
         pub command_moves : {a : Option Stepped} → (device_of d).store.half ≡ None → IfSome (device_of d).chain IsChain →
@@ -222,30 +236,33 @@ module _ {V : Type 0} {G : Ghosts V} where
   -- a start
   module _ (d e : Device V G) (path : ℕ) (least : 1 ≤ path) (most : path ≤ 4) (is : device_of e ≡ start (device_of d) path)
       (same : e.store ≡ d.store) where
-    started_keeps : (p : Pledge) → (start_fault (device_of d) path ≡ None) → KeepsPledge p d → (x : DeviceStore V G) → x ≡ d.store →
+    -- what a store's volumes tell
+    abbrev told_by : DeviceStore V G → Outside (List ℕ) (Unit {0})
+    told_by x = told_planned (outside (no_pool 0) x (tt {0}))
+
+    abbrev KeepsStarted : (ℕ → List Track) → Pledge → DeviceStore V G → Type 0
+    KeepsStarted first p x =
         StaysInTurn p (start (device_of d) path) (record {
-          allowance = allowance_in (outside (no_pool 0) x (tt {0}));
-          tells = tells (outside (no_pool 0) x (tt {0})).a && tells (outside (no_pool 0) x (tt {0})).b;
+          allowance = allowance_in (told_by x);
+          tells = tells (told_by x).a && tells (told_by x).b;
           told = p.told;
-        }) (outside (no_pool 0) x (tt {0}))
-        × (p.told ≡ true → (device_of d).store.lent ≡ None → Stands (start (device_of d) path) (outside (no_pool 0) x (tt {0})))
-    started_keeps p none k x as_before =
-        subst (λ (x : DeviceStore V G). StaysInTurn p (start (device_of d) path) (record {
-          allowance = allowance_in (outside (no_pool 0) x (tt {0}));
-          tells = tells (outside (no_pool 0) x (tt {0})).a && tells (outside (no_pool 0) x (tt {0})).b;
-          told = p.told;
-        }) (outside (no_pool 0) x (tt {0}))
-        × (p.told ≡ true → (device_of d).store.lent ≡ None → Stands (start (device_of d) path) (outside (no_pool 0) x (tt {0})))) (sym as_before) (
+        }) (told_by x)
+        × (p.told ≡ true → (device_of d).store.lent ≡ None → StandsOn first (start (device_of d) path) (told_by x))
+
+    started_keeps : (first : ℕ → List Track) (p : Pledge) → (start_fault (device_of d) path ≡ None) → KeepsPledge first p d → (x : DeviceStore V G) →
+        x ≡ d.store → KeepsStarted first p x
+    started_keeps first p none k x as_before =
+        subst (KeepsStarted first p) (sym as_before) (
           start_kept p (handed_of p.told d) (device_of d) (told_of d) path k.keeps,
           (λ told home. start_stands (device_of d) (told_of d) path (k.stands told home) least most none),
         )
 
     pub started_stays : (start_fault (device_of d) path ≡ None) → StaysKept d e
-    started_stays none p k =
-        let on = started_keeps p none k e.store same in
+    started_stays none first p k =
+        let on = started_keeps first p none k e.store same in
         record {
           keeps = subst (λ (x : WholeDevice). StaysInTurn p x (handed_of p.told e) (told_of e)) (sym is) on.0;
-          stands = λ told home. subst (λ (x : WholeDevice). Stands x (told_of e)) (sym is) (on.1 told (lent_same home));
+          stands = λ told home. subst (λ (x : WholeDevice). StandsOn first x (told_of e)) (sym is) (on.1 told (lent_same home));
         }
       where
         lent_same : (device_of e).store.lent ≡ None → (device_of d).store.lent ≡ None

@@ -9,8 +9,9 @@ use Rattle.device_turn.specs.declared.view.View.{View}
 use Rattle.device_turn.proofs.Views.{kept_through, still_set}
 use Rattle.device_core.specs.declared.device.Device.{Device}
 use Rattle.device_core.specs.State.{device_of}
-use Rattle.path_turns.specs.Keeping.{KeepsPromise, Moves, pledge_with}
+use Rattle.path_turns.specs.Keeping.{KeepsPromise, Moves}
 use Rattle.path_turns.specs.declared.promise.Promise.{Promise}
+use Rattle.path_turns.proofs.Keeping.{stays_within}
 
 module _ {V : Type 0} {G : Ghosts V} where
   abbrev pub counts_of : Device V G → List ℕ
@@ -23,7 +24,7 @@ module _ {V : Type 0} {G : Ghosts V} where
       let loaded : after.0.loaded ≡ e.loaded = ap (λ (m : View (Option (Promise V G)) × List (ℕ × Option (Box (Device V G) Global))). m.0.loaded) e.out in
       let apart : Without seat after.0.loaded =
       subst (λ (k : ℕ). Without k after.0.loaded) number (subst (λ (es : List (ℕ × ℕ)). Without after.0.number es) (sym loaded) e.others) in (
-        kept_through (boxed KeepsPromise) after.0.pledge before behind (λ p k. moves.stays (pledge_with p.made.value p.most) k) e.kept.0,
+        kept_through (boxed KeepsPromise) after.0.pledge before behind (λ p k. stays_within p.most p.made.value before.value behind.value moves.stays k) e.kept.0,
         subst (λ (ws : List ℕ). Still ws after.0.loaded) (sym moves.counts)
             (still_set (counts_of before.value) seat moves.count after.0.loaded apart e.kept.1),
       )

@@ -9,17 +9,12 @@ use Rattle.plain_defs.specs.History.{OpenEntry, is_path_of}
 use Rattle.plain_defs.specs.Journal.{Plans}
 use Rattle.plain_defs.specs.Legal.{is_of_path}
 use Rattle.device_outside.specs.declared.volume.Volume.{Ghosts}
-use Rattle.device_outside.specs.After.{Tells}
-use Rattle.device_outside.specs.Disk.{empty_contents}
 use Rattle.device_defs.specs.declared.counts.Losses.{Losses}
 use Rattle.device_defs.specs.Pledge.{StaysWithin, ends_with_data_check, failures_of, fresh_count, is_fresh, is_kept_journal, seat_counts}
 use Rattle.device_laws.specs.Handed.{allowance_in}
 use Rattle.device_laws.specs.Whole.{WholeDevice}
 use Rattle.device_laws.proofs.KeptHistories.{AreNot, count_more}
 use Rattle.device_turn.specs.Rule.{zeros}
-use Rattle.plain_defs.specs.Whole.{GiveBytes}
-use Rattle.subsystem_laws.specs.Standing.{Stands}
-use Rattle.subsystem_laws.proofs.turning.NewDevice.{new_stands}
 use Rattle.device_core.specs.declared.device.Device.{Device}
 use Rattle.device_core.specs.State.{device_of, opened_device}
 use Rattle.path_turns.specs.Keeping.{IsReady, IsWithin, KeepsWithin, are_fresh, told_of}
@@ -62,7 +57,7 @@ failed_within failed (Some n) = omega arith
 
 module _ {V : Type 0} {G : Ghosts V} (d : Device V G) (r : IsReady d) where
   pub ready_keeps : (most : Losses) → IsWithin d.store.counts.losses most → KeepsWithin most d d
-  ready_keeps most within = record {
+  ready_keeps most within = λ first told began. record {
     keeps = record {
       keeps = record {
         number = refl;
@@ -78,14 +73,14 @@ module _ {V : Type 0} {G : Ghosts V} (d : Device V G) (r : IsReady d) where
         store = within.store;
         sides = within.sides;
         failures = failed_within (device_of d).store.counts.failed (allowance_in (told_of d));
-        tells = λ e. e;
+        tells = λ e. (began e).tells;
         told = λ e. e;
         checks = λ e. none_counted ends_with_data_check refl (device_of d).history.items r.journal;
       };
       allowance = refl;
       none = r.none;
     };
-    stands = r.stands;
+    stands = λ e home. (began e).stands home;
   }
 
   count_none : (path : ℕ) → 2 * count_by (is_of_path path) (device_of d).history.items + (if is_path_of (device_of d).history.running path then 1 else 0) ≡ 0
@@ -99,11 +94,9 @@ module _ {V : Type 0} {G : Ghosts V} (d : Device V G) (r : IsReady d) where
 
 -- so is a device that was opened
 pub opened_ready : {V : Type 0} {G : Ghosts V} (x : Device V G) (number : ℕ) (g : Geometry) (n : ℕ) (plans : Plans) →
-    device_of x ≡ opened_device number g n plans → 1 ≤ n → n ≤ 4369 → Tells (told_of x).a (empty_contents (n * 15)) → Tells (told_of x).b [] →
-    GiveBytes plans → IsReady x
-opened_ready x number g n plans is some most a b gives = record {
+    device_of x ≡ opened_device number g n plans → IsReady x
+opened_ready x number g n plans is = record {
   idle = ap (λ (d : WholeDevice). d.history.running) is;
   none = ap (λ (d : WholeDevice). d.history.waiting) is;
   journal = ap (λ (d : WholeDevice). are_fresh d.history.items) is;
-  stands = λ told home. subst (λ (d : WholeDevice). Stands d (told_of x)) (sym is) (new_stands number g n plans (told_of x) some most a b gives);
 }

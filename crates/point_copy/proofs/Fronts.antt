@@ -9,27 +9,26 @@ use Rattle.ckd_types.specs.Volume.{IsVolume}
 use Rattle.deck_plan.specs.declared.event.EventLine.{EventLine}
 use Rattle.deck_text.specs.DeckLines.{DeckLines}
 use Rattle.track_image.specs.Image.{Image}
-use Rattle.device_defs.specs.Sound.{plain_device}
 use Rattle.device_defs.specs.Store.{tracks_of}
 use Rattle.subsystem_defs.specs.Decks as D
-use Rattle.subsystem_defs.specs.Decks.{DeckRun, run_of}
+use Rattle.subsystem_defs.specs.Decks.{AreWhole, DeckRun, Firsts, run_on}
 use Rattle.subsystem_defs.specs.Lines.{asked_by}
 use Rattle.subsystem_defs.specs.Subsystem.{Mounted, mounted_in}
 use Rattle.subsystem_laws.specs.Served.{IsServed, IsServedDeck}
-use Rattle.deck_run.specs.Fronts.{front_of}
-use Rattle.volume_save.specs.Saving.{volume_with}
+use Rattle.deck_run.specs.Fronts.{front_on}
+use Rattle.volume_save.specs.Saving.{plain_tracks, volume_with}
 use Rattle.volume_save.proofs.Images.{image_on}
 use Rattle.volume_save.proofs.InRun.{plain_after}
 use Rattle.point_copy.specs.Copying.{plain_images}
-use Rattle.point_copy.specs.CopyRun.{IsPlainVolumeAt}
+use Rattle.point_copy.specs.CopyRun.{IsPlainVolumeOn}
 
 -- the deck of the first lines alone
 abbrev shortened : DeckLines → ℕ → DeckLines
 shortened deck n = record deck { events = take n deck.events }
 
-front_is_run : (deck : DeckLines) (n : ℕ) → front_of deck n ≡ run_of (shortened deck n)
+front_is_run : (firsts : Firsts) (deck : DeckLines) (n : ℕ) → front_on firsts deck n ≡ run_on firsts (shortened deck n)
 unfolding D.run_asked_on
-front_is_run deck n = refl
+front_is_run firsts deck n = refl
 
 shortened_served : (deck : DeckLines) (n : ℕ) → IsServedDeck deck → IsServedDeck (shortened deck n)
 shortened_served deck n served = record {
@@ -46,14 +45,15 @@ images_are m volume =
     (λ k lt. get_or-map (image_on m.device.store.geometry) m.device.store.plain k (empty_track k) (image_on m.device.store.geometry (empty_track 0))
     (omega (arith, lt, size)))
 
-pub front_is_plain : (deck : DeckLines) (n d : ℕ) (m : Mounted) (images : List Image) → IsServedDeck deck →
-    mounted_in (front_of deck n).behind.mounted d ≡ Some m → IsVolume m.device.store.geometry m.device.store.cylinders m.device.store.plain →
+pub front_is_plain : (firsts : Firsts) → AreWhole firsts → (deck : DeckLines) (n d : ℕ) (m : Mounted) (images : List Image) → IsServedDeck deck →
+    mounted_in (front_on firsts deck n).behind.mounted d ≡ Some m → IsVolume m.device.store.geometry m.device.store.cylinders m.device.store.plain →
     images ≡ map (plain_images m) (range_with_len 0 (tracks_of m.device.store)) →
-    IsPlainVolumeAt deck n d (volume_with m.device.store.geometry m.device.store.cylinders images)
-front_is_plain deck n d m images served there volume is =
-    let at : mounted_in (run_of (shortened deck n)).behind.mounted d ≡ Some m =
-    subst (λ (r : DeckRun). mounted_in r.behind.mounted d ≡ Some m) (front_is_run deck n) there in
-    let plain : (plain_device m.device).volume ≡ m.device.store.plain = plain_after (shortened deck n) d m (shortened_served deck n served) at in
+    IsPlainVolumeOn firsts deck n d (volume_with m.device.store.geometry m.device.store.cylinders images)
+front_is_plain firsts whole deck n d m images served there volume is =
+    let at : mounted_in (run_on firsts (shortened deck n)).behind.mounted d ≡ Some m =
+    subst (λ (r : DeckRun). mounted_in r.behind.mounted d ≡ Some m) (front_is_run firsts deck n) there in
+    let plain : plain_tracks firsts m.device ≡ m.device.store.plain =
+    plain_after firsts whole (shortened deck n) d m (shortened_served deck n served) at in
     record {
       mounted = m;
       there = there;

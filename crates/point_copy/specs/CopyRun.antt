@@ -2,12 +2,13 @@
 use Rattle.std.specs.Prelude.{◌≡◌, ℕ, zero, suc, List, [], ◌∷◌, ◌++◌, drop, map, Some}
 use Rattle.deck_text.specs.DeckLines.{DeckLines}
 use Rattle.track_image.specs.Image.{Image}
+use Rattle.subsystem_defs.specs.Decks.{Firsts, empty_firsts}
 use Rattle.subsystem_defs.specs.Lines.{Asked, asked_by}
 use Rattle.subsystem_defs.specs.Subsystem.{Mounted, Subsystem, mounted_in}
-use Rattle.deck_run.specs.Fronts.{front_of}
+use Rattle.deck_run.specs.Fronts.{front_on}
 use Rattle.line_drive.specs.Driven.{Course, Step, Goes, Ends, driven, onward}
 use Rattle.volume_file.specs.File.{ImageVolume}
-use Rattle.volume_save.specs.Saving.{plain_volume}
+use Rattle.volume_save.specs.Saving.{plain_volume_on}
 use Rattle.point_copy.specs.declared.given.Early.{Early}
 use Rattle.point_copy.specs.declared.given.Early.TheVariants.{Gone, Lost, Fault}
 use Rattle.point_copy.specs.declared.given.Given.{Given}
@@ -50,12 +51,20 @@ copying_from run d = record { state = begun run d; images = [] }
 abbrev pub copied : Subsystem → ℕ → List Asked → Step Copying Early
 copied run d lines = onward (driven copy_course lines (copying_from run d)) (looks_on most_looks)
 
--- of a deck, as it was after the first n lines
-abbrev pub copy_run : DeckLines → ℕ → ℕ → Step Copying Early
-copy_run deck n d = copied (front_of deck n).behind d (map asked_by (drop n deck.events))
+-- of a deck, as it was after the first n lines, on volumes that held these tracks first
+abbrev pub copy_run_on : Firsts → DeckLines → ℕ → ℕ → Step Copying Early
+copy_run_on firsts deck n d = copied (front_on firsts deck n).behind d (map asked_by (drop n deck.events))
 
--- the plain volume of a device of a deck after the first n lines
-pub record IsPlainVolumeAt (deck : DeckLines) (n d : ℕ) (v : ImageVolume) : Type 0 where
+-- on empty ones
+abbrev pub copy_run : DeckLines → ℕ → ℕ → Step Copying Early
+copy_run deck n d = copy_run_on empty_firsts deck n d
+
+-- the plain volume of a device of a deck after the first n lines, on volumes that held these tracks first
+pub record IsPlainVolumeOn (firsts : Firsts) (deck : DeckLines) (n d : ℕ) (v : ImageVolume) : Type 0 where
   pub mounted : Mounted
-  pub there : mounted_in (front_of deck n).behind.mounted d ≡ Some mounted
-  pub plain : v ≡ plain_volume mounted.device
+  pub there : mounted_in (front_on firsts deck n).behind.mounted d ≡ Some mounted
+  pub plain : v ≡ plain_volume_on firsts mounted.device
+
+-- on empty ones
+abbrev pub IsPlainVolumeAt : DeckLines → ℕ → ℕ → ImageVolume → Type 0
+IsPlainVolumeAt deck n d v = IsPlainVolumeOn empty_firsts deck n d v

@@ -5,15 +5,16 @@ ghost use Rattle.deck_text.specs.DeckLines.{DeckLines};
 ghost use Rattle.track_image.specs.Image.{Image};
 ghost use Rattle.track_table.specs.Table.{entry_at};
 ghost use Rattle.device_defs.specs.Store.{is_lost, tracks_of};
+ghost use Rattle.subsystem_defs.specs.Decks.{AreWhole, Firsts};
 ghost use Rattle.subsystem_defs.specs.Lines.{Asked};
 ghost use Rattle.subsystem_defs.specs.Subsystem.{Mounted, Subsystem, mounted_in};
 ghost use Rattle.subsystem_laws.specs.Served.{IsServedDeck};
-ghost use Rattle.deck_run.specs.Fronts.{front_of};
+ghost use Rattle.deck_run.specs.Fronts.{front_of, front_on};
 ghost use Rattle.line_drive.specs.Driven.{Goes};
 ghost use Rattle.volume_save.specs.Saving.{volume_with};
 ghost use Rattle.point_copy.specs.declared.given.Given.TheVariants as gives;
 ghost use Rattle.point_copy.specs.Copying.{CopyState, IsDue, KeepsOld, begun, next_given, plain_images, tracks_at};
-ghost use Rattle.point_copy.specs.CopyRun.{Copying, IsPlainVolumeAt, copied};
+ghost use Rattle.point_copy.specs.CopyRun.{Copying, IsPlainVolumeAt, IsPlainVolumeOn, copied};
 
 /// A copy that is made of a device, whatever lines are done meanwhile, has the images with which the session begins, one of each
 /// track in rising order.
@@ -36,4 +37,13 @@ pub fn front_is_plain()
         → mounted_in (front_of deck n).behind.mounted d ≡ Some m → IsVolume m.device.store.geometry m.device.store.cylinders m.device.store.plain
         → images ≡ map (plain_images m) (range_with_len 0 (tracks_of m.device.store))
         → IsPlainVolumeAt deck n d (volume_with m.device.store.geometry m.device.store.cylinders images) }
+{}
+
+/// So it is where the volumes of the deck's devices held other tracks first: the plain device began with these.
+pub fn front_on_volumes_is_plain()
+    ensures { (firsts : Firsts) → AreWhole firsts → (deck : DeckLines) (n d : ℕ) (m : Mounted) (images : List Image) → IsServedDeck deck
+        → mounted_in (front_on firsts deck n).behind.mounted d ≡ Some m
+        → IsVolume m.device.store.geometry m.device.store.cylinders m.device.store.plain
+        → images ≡ map (plain_images m) (range_with_len 0 (tracks_of m.device.store))
+        → IsPlainVolumeOn firsts deck n d (volume_with m.device.store.geometry m.device.store.cylinders images) }
 {}

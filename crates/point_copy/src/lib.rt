@@ -11,5 +11,5 @@ mod session;
 
 pub use given::{BeginFault, Early, Given};
 pub use kept::OldTracks;
-pub use law::{copies_are_old, front_is_plain, lost_is_told};
+pub use law::{copies_are_old, front_is_plain, front_on_volumes_is_plain, lost_is_told};
 pub use session::Session;

@@ -9,6 +9,7 @@ pub mod Seats
 pub mod Fitting
 pub mod Mounts
 pub mod Mirrors
+pub mod Mirrored
 pub mod Found
 pub mod Looked
 pub mod Copied

@@ -1,5 +1,4 @@
 ghost use Rattle.std.specs.Prelude.{◌≡◌, ◌*◌, [], IfErr, IfOk, IfSome, IsOk, None, OnErr, OnOk, Some, false, true};
-ghost use Rattle.ckd_types.specs.Volume.{empty_volume};
 ghost use Rattle.device_outside.specs.Keeper.{Heard};
 ghost use Rattle.device_core.specs.State.{device_of};
 ghost use Rattle.device_defs.specs.Store.{tracks_of};
@@ -29,13 +28,13 @@ use subsystem_core::{EventEnd, Subsystem};
 use subsystem_defs::Event;
 
 impl<V: Volume, L: Link> Mirror<V, L> {
-    /// From here on the firm tracks of device `d`, of which nothing has happened yet, are put on the link. Takes no memory.
+    /// From here on the firm tracks of device `d`, to which nothing has happened yet, are put on the link. Nothing is copied here: the far
+    /// volume is to hold first what the device's volume does, which both may be empty. Takes no memory.
     pub fn new(sub: Subsystem<V>, d: DeviceNo, link: L) -> Mirror<V, L>
         requires here { HasDevice sub d }
         requires home { IfSome (device_at sub.devices.items d) (λ x. (device_of x).store.lent ≡ None) }
         requires unused { IfSome (device_at sub.devices.items d) (λ x. ((device_of x).history.items ≡ []) × ((device_of x).history.running ≡ None)) }
         requires fits { IfSome (device_at sub.devices.items d) (IsFarFor (L.view link)) }
-        requires empty { IfSome (device_at sub.devices.items d) (λ x. IfSome (L.view link).far (λ far. far ≡ empty_volume (device_of x).store.cylinders)) }
         ensures sub { result.sub ≡ sub }
         ensures sender { result.sender ≡ record { device = d; sent = 0; state = Level; link = L.view link } }
         ensures begun { (run : runs.Subsystem) (m : runs.Mounted) → StandsAs sub run → AreOwn sub.devices.items → runs.mounted_in run.mounted d ≡ Some m

@@ -3,12 +3,14 @@
 
 mod copying;
 mod event;
+mod law;
 mod link;
 mod mirror;
 mod remote;
 mod sender;
 mod state;
 
+pub use law::mirrors_begin_with_firsts;
 pub use link::{Link, MemLink};
 pub use mirror::Mirror;
 pub use remote::Remote;

@@ -7,7 +7,7 @@ use Rattle.report_text.specs.Ends.{lines_text}
 use Rattle.run_report.specs.Closing.{ending_lines}
 use Rattle.run_report.specs.Events.{lines_of}
 use Rattle.subsystem_defs.specs.Closing.{ending}
-use Rattle.subsystem_defs.specs.Decks.{DeckRun, run_of}
+use Rattle.subsystem_defs.specs.Decks.{DeckRun, Firsts, run_of, run_on}
 
 -- of all its events
 abbrev pub lines_of_run : DeckRun → List ReportLine
@@ -19,3 +19,7 @@ report_lines r = lines_of_run r ++ ending_lines (ending r.behind)
 
 abbrev pub report_of : DeckLines → List ℕ
 report_of deck = lines_text (report_lines (run_of deck))
+
+-- the report of its run on volumes that hold these tracks
+abbrev pub report_on : Firsts → DeckLines → List ℕ
+report_on firsts deck = lines_text (report_lines (run_on firsts deck))

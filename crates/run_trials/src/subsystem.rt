@@ -31,15 +31,20 @@ pub(crate) fn word(
     })
 }
 
-/// Path 1 has one program: it reads record 0 of track 0.
-fn plans(alloc: Global) -> Result<PathPlans, Fail> {
-    let path = PathNo::new(1).ok_or("path")?;
+/// It reads record 0 of track 0.
+fn read(alloc: Global) -> Result<Program, Fail> {
     let mut words = Vec::new(alloc);
     words.push(word(alloc, 0x63, Ccw::CHAIN, 16, EXTENT)?)?;
     words.push(word(alloc, 0x47, Ccw::CHAIN, 16, LOCATE)?)?;
     words.push(word(alloc, 0x06, 0, 8, &[])?)?;
+    Ok(Program::new(words).ok().ok_or("word")?)
+}
+
+/// Path 1 has one program.
+fn plans(alloc: Global) -> Result<PathPlans, Fail> {
+    let path = PathNo::new(1).ok_or("path")?;
     let mut plans = PathPlans::new(alloc);
-    plans.push(path, Program::new(words).ok().ok_or("word")?)?;
+    plans.push(path, read(alloc)?)?;
     Ok(plans)
 }
 
@@ -138,5 +143,52 @@ fn events_come_one_after_another(rt: HostRuntime) -> Result<(), Fail> {
     assert_eq!(rt; last_end(&sub, d)?, (0x0c, 0, None));
     let (_pool, devices) = sub.into_parts();
     assert_eq!(rt; devices.len(), 1);
+    Ok(())
+}
+
+/// Plans a program for a path, runs it and forgets it.
+fn plan_run_forget(
+    alloc: Global,
+    sub: &mut Subsystem<MemVolume>,
+    d: DeviceNo,
+    path: PathNo,
+) -> Result<(), Fail> {
+    if !sub.has_device(d) {
+        return Err("device".into());
+    }
+    if sub.plan(d, path, read(alloc)?).is_err() {
+        return Err("not planned".into());
+    }
+    let events = [
+        Event::Start(path, d),
+        Event::Step(d),
+        Event::Step(d),
+        Event::Step(d),
+    ];
+    if ends_of(alloc, sub, &events)? != Some(4) {
+        return Err("ends".into());
+    }
+    if last_end(sub, d)? != (0x0c, 0, None) {
+        return Err("not read".into());
+    }
+    if !sub.has_device(d) || sub.forget(d).is_err() {
+        return Err("not forgotten".into());
+    }
+    Ok(())
+}
+
+#[test]
+fn a_subsystem_plans_and_forgets(rt: HostRuntime) -> Result<(), Fail> {
+    let alloc = rt.alloc();
+    let d = DeviceNo::new(5).ok_or("device")?;
+    let path = PathNo::new(1).ok_or("path")?;
+    let volume = MemVolume::new(alloc, 1, &[], &[])?;
+    let mut sub = subsystem(alloc, d, volume, PathPlans::new(alloc))?;
+    for _program in 0..300 {
+        plan_run_forget(alloc, &mut sub, d, path)?;
+    }
+    let device = device_of(&sub, d)?;
+    assert_eq!(rt; device.journal().len(), 1);
+    assert_eq!(rt; (device.started(path), device.left(path)), (1, 0));
     Ok(())
 }

@@ -13,7 +13,7 @@ use Rattle.device_outside.specs.Outside.{done, where_ok}
 use Rattle.device_outside.specs.Pool.{Pool}
 use Rattle.device_outside.proofs.Runs.{joined, ran_weaker}
 use Rattle.frame_pool.specs.Shared.{Shared}
-use Rattle.plain_defs.specs.History.{OpenEntry, is_path_of}
+use Rattle.plain_defs.specs.History.{OpenEntry}
 use Rattle.device_defs.specs.declared.answers.Did.{Did}
 use Rattle.device_defs.specs.declared.answers.SecondEnd.{SecondEnd}
 use Rattle.device_defs.specs.declared.answers.Stepped as defs
@@ -80,7 +80,7 @@ none_wait n is = rw is refl
 pub some_wait : (n m : ℕ) → m ≡ n → 0 < m → (n == 0) ≡ false
 some_wait n m is more = grind (arith, nat_tests)
 
-not_lent : (o : Option ℕ) (rest : List (Option OrderFault)) → first_cause (lent_by o ∷ rest) ≡ None → is_some o ≡ false
+pub not_lent : (o : Option ℕ) (rest : List (Option OrderFault)) → first_cause (lent_by o ∷ rest) ≡ None → is_some o ≡ false
 not_lent None rest is = refl
 not_lent (Some n) rest is = absurd (cc)
 

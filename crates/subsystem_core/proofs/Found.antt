@@ -63,7 +63,7 @@ if_other x y z false is same = same
 
 module _ {V : Type 0} {G : Ghosts V} where
   -- a device behind the first one has another number
-  below_others : (d : Device V G) (ds : List (Device V G)) → are_rising (numbers_of (d ∷ ds)) ≡ true → (i : ℕ) (x : Device V G) →
+  pub below_others : (d : Device V G) (ds : List (Device V G)) → are_rising (numbers_of (d ∷ ds)) ≡ true → (i : ℕ) (x : Device V G) →
       slice_get ds i ≡ Some x → d.store.number < x.store.number
   below_others d ds up i x is =
       let within = slice_get_within ds i x is in

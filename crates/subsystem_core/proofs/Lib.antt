@@ -8,3 +8,5 @@ pub mod Coming
 pub mod Pairing
 pub mod Parting
 pub mod Running
+pub mod Planned
+pub mod Standing

@@ -1,7 +1,11 @@
 -- Two devices become a pair.
-use Rattle.std.proofs.Common.{◌≡◌, ◌∙◌, ◌==◌, ◌*◌, ℕ, Bool, true, false, List, Option, Some, None, is_some, refl, sym, ap, subst}
+use Rattle.std.proofs.Common.{◌≡◌, ◌∙◌, ◌==◌, ◌*◌, ◌<◌, ℕ, Bool, true, false, List, Option, Some, None, get_or, is_some, length, refl, sym, ap, subst}
 use Rattle.std.specs.Prelude.{IfSome}
 use Rattle.std.proofs.lemmas.Bool.{eqb-true}
+use Rattle.std.proofs.lemmas.List.Elements.{All-get_or}
+use Rattle.ckd_types.specs.declared.record.Track.{Track}
+use Rattle.past_laws.specs.PutAway.{PutAway}
+use Rattle.device_core.specs.Promises.{TellsTracks}
 use Rattle.track_image.specs.Image.{Image}
 use Rattle.device_outside.specs.declared.volume.Volume.{Ghosts}
 use Rattle.device_outside.specs.Keeper.{Hearing}
@@ -18,10 +22,12 @@ use Rattle.subsystem_defs.proofs.Unrefused.{MayPair, may_pair}
 use Rattle.subsystem_core.specs.declared.subsystem.Subsystem.{Subsystem}
 use Rattle.subsystem_core.specs.declared.end.EventEnd.TheVariants as ends
 use Rattle.subsystem_core.specs.Comes.{CameKept, Changes, IsSame, JoinsKept}
-use Rattle.subsystem_core.specs.Devices.{device_at, put_at}
+use Rattle.subsystem_core.specs.Devices.{device_at, number_of, put_at}
 use Rattle.subsystem_core.specs.Pairs.{HasPairFault, IsJoined, IsLent}
 use Rattle.subsystem_core.proofs.Coming.{became_pair, ended}
 use Rattle.subsystem_core.proofs.Deeds as deeds
+use Rattle.subsystem_core.specs.Standing.{AllStand, Stands}
+use Rattle.subsystem_core.proofs.Standing.{tells_tracks}
 use Rattle.subsystem_core.proofs.Found.{at_other, eq_self, found_in, number_found, some_same}
 
 turned : (m n : ℕ) → (m == n) ≡ false → (n == m) ≡ false
@@ -61,12 +67,23 @@ module _ {V : Type 0} {G : Ghosts V} where
   volume_size x volume is =
       ap (λ (o : Option V). (view_in G.view o).tracks) (sym is) ∙ x.store.pair.a_size (ap is_some is) ∙ x.store.stale_of_each
 
+  -- and tells its tracks, where the device stands beside its plain device
+  pub told_of : (pasts : ℕ → PutAway) (firsts : ℕ → List Track) (ds : List (Device V G)) (i : ℕ) (x : Device V G) → i < length ds → x ≡ get_or ds i x →
+      x.store.pair.a.up ≡ true → is_some x.store.pair.lent ≡ false → (o : Option V) → o ≡ on_a x.store → AllStand pasts firsts ds →
+      IfSome o (λ v. TellsTracks (G.view v) (G.view v).tracks)
+  told_of pasts firsts ds i x within read up home None is all = tt
+  told_of pasts firsts ds i x within read up home (Some v) is all =
+      let P : Device V G → Type 0 = λ (d : Device V G). Stands (pasts (number_of d)) (firsts (number_of d)) d in
+      let s : P x = subst P (sym read) (All-get_or P ds i x within all) in
+      tells_tracks (pasts (number_of x)) (firsts (number_of x)) x v (sym is) up (volume_size x v (sym is)) (s.here home)
+
   -- The one that is lent to
 
   pub record MayJoin (volume : V) (o : Option (Device V G)) : Type 0 where
     pub first : Device V G
     pub stands : o ≡ Some first
     pub free : is_some first.store.pair.lent ≡ false
+    pub single : (device_of first).store.paired ≡ false
     pub size : (G.view volume).tracks ≡ first.store.cylinders * 15
 
 module _ {V : Type 0} {G : Ghosts V} {K : Type 0} {hears : Hearing Image K} where
@@ -85,6 +102,7 @@ module _ {V : Type 0} {G : Ghosts V} {K : Type 0} {hears : Hearing Image K} wher
         first = l.to;
         stands = ap (λ (ds : List (Device V G)). device_at ds a) ch.stands ∙ still ∙ l.stands;
         free = l.may.free_x;
+        single = l.may.single_x;
         size = large ∙ ap (λ (n : ℕ). n * 15) (sym l.may.alike);
       }
 

@@ -7,3 +7,5 @@ pub mod Comes
 pub mod Pairs
 pub mod Runs
 pub mod Frames
+pub mod Planned
+pub mod Standing

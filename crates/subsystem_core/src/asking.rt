@@ -1,4 +1,4 @@
-ghost use Rattle.std.specs.Prelude.{◌≡◌, ◌<◌, ◌*◌, IfOk, IfSome, IsSome, None, OnErr, Some, false, is_some};
+ghost use Rattle.std.specs.Prelude.{◌≡◌, ◌<◌, ◌*◌, IfOk, IfSome, IsSome, None, OnErr, Some, false, is_some, true};
 ghost use Rattle.device_outside.specs.Keeper.{Heard};
 ghost use Rattle.device_outside.specs.Outside.{where_ok};
 ghost use Rattle.plain_defs.specs.History.{is_path_of};
@@ -15,6 +15,7 @@ ghost use Rattle.device_defs.specs.Store.{tracks_of};
 ghost use Rattle.subsystem_core.specs.Comes.{AskedKept, Changes, StartsBy};
 ghost use Rattle.subsystem_core.specs.Devices.{device_at};
 ghost use Rattle.subsystem_core.specs.Frames.{HasDevice, HasSameSpans, LooksAt};
+ghost use Rattle.subsystem_core.specs.Standing.{NoneIsLent, StayStanding};
 
 use crate::Subsystem;
 use ckd_types::{DeviceNo, NoMemory, PathNo, TrackNo};
@@ -45,6 +46,7 @@ impl<V: Volume> Subsystem<V> {
         requires idle { IfSome (device_at self.old.devices.items d) (λ x. is_path_of (device_of x).history.running path ≡ false) }
         requires free { IfSome (device_at self.old.devices.items d) (λ x. start_fault (device_of x) path ≡ None) }
         ensures spans { HasSameSpans self.old self.new }
+        ensures stands { StayStanding self.old.devices.items self.new.devices.items }
         ensures pool { self.new.pool ≡ self.old.pool }
         ensures done { Changes d (StartsBy path result) self.old.devices.items self.new.devices.items }
     {
@@ -63,6 +65,7 @@ impl<V: Volume> Subsystem<V> {
         requires whole { IfSome (device_at self.old.devices.items d) (λ x. is_some (device_of x).store.half ≡ false) }
         requires takes { IfSome (device_at self.old.devices.items d) (λ x. TakesItsTracks K.takes keep.old x) }
         ensures spans { HasSameSpans self.old self.new }
+        ensures stands { StayStanding self.old.devices.items self.new.devices.items }
         ensures asked { Changes d (λ x y. AskedKept (Heard K.hears K.takes) (where_ok result) (command contents (device_of x)) (step_had (last_end y) result)
             self.old.pool keep.old x y self.new.pool keep.new) self.old.devices.items self.new.devices.items }
     {
@@ -72,8 +75,10 @@ impl<V: Volume> Subsystem<V> {
 
     pub(crate) fn second_at<K: Keep<TrackImage>>(&mut self, d: DeviceNo, keep: &mut K) -> SecondStep
         requires here { HasDevice self.old d }
+        requires open { IfSome (device_at self.old.devices.items d) (λ x. is_some (device_of x).store.half ≡ true) }
         requires takes { IfSome (device_at self.old.devices.items d) (λ x. TakesItsTracks K.takes keep.old x) }
         ensures spans { HasSameSpans self.old self.new }
+        ensures stands { StayStanding self.old.devices.items self.new.devices.items }
         ensures asked { Changes d (λ x y. IsSome (second_seen (last_end y) result)
             × ((e : SecondEnd) → second_seen (last_end y) result ≡ Some e
             → AskedKept (Heard K.hears K.takes) surely (second contents (device_of x)) e self.old.pool keep.old x y self.new.pool keep.new))
@@ -92,6 +97,7 @@ impl<V: Volume> Subsystem<V> {
         requires here { HasDevice self.old d }
         requires takes { IfSome (device_at self.old.devices.items d) (λ x. TakesItsTracks K.takes keep.old x) }
         ensures spans { HasSameSpans self.old self.new }
+        ensures stands { OnErr result (NoneIsLent self.old.devices.items) → StayStanding self.old.devices.items self.new.devices.items }
         ensures asked { Changes d (λ x y. AskedKept (Heard K.hears K.takes) (where_ok result) (background contents (device_of x)) (had (λ did. did) result)
             self.old.pool keep.old x y self.new.pool keep.new) self.old.devices.items self.new.devices.items }
     {
@@ -103,6 +109,7 @@ impl<V: Volume> Subsystem<V> {
         requires here { HasDevice self.old d }
         requires takes { IfSome (device_at self.old.devices.items d) (λ x. TakesItsTracks K.takes keep.old x) }
         ensures spans { HasSameSpans self.old self.new }
+        ensures stands { StayStanding self.old.devices.items self.new.devices.items }
         ensures asked { Changes d (λ x y. AskedKept (Heard K.hears K.takes) surely (reset contents (device_of x) path) tt self.old.pool keep.old x y
             self.new.pool keep.new) self.old.devices.items self.new.devices.items }
     {
@@ -112,8 +119,10 @@ impl<V: Volume> Subsystem<V> {
 
     pub(crate) fn lose_at<K: Keep<TrackImage>>(&mut self, d: DeviceNo, loss: Loss, keep: &mut K)
         requires here { HasDevice self.old d }
+        requires home { IfSome (device_at self.old.devices.items d) (λ x. is_some (device_of x).store.lent ≡ false) }
         requires takes { IfSome (device_at self.old.devices.items d) (λ x. TakesItsTracks K.takes keep.old x) }
         ensures spans { HasSameSpans self.old self.new }
+        ensures stands { StayStanding self.old.devices.items self.new.devices.items }
         ensures asked { Changes d (λ x y. AskedKept (Heard K.hears K.takes) surely (lose contents (device_of x) loss) tt self.old.pool keep.old x y
             self.new.pool keep.new) self.old.devices.items self.new.devices.items }
     {

@@ -1,4 +1,4 @@
-ghost use Rattle.std.specs.Prelude.{◌≡◌, ◌*◌, IfSome, Some};
+ghost use Rattle.std.specs.Prelude.{◌≡◌, ◌*◌, IfSome, OnErr, Some};
 ghost use Rattle.plain_defs.specs.History.{is_path_of};
 ghost use Rattle.device_outside.specs.Keeper.{Heard};
 ghost use Rattle.device_store.specs.State.{Takes};
@@ -8,6 +8,7 @@ ghost use Rattle.subsystem_core.specs.Devices.{device_at};
 ghost use Rattle.subsystem_core.specs.Ends.{answer_of};
 ghost use Rattle.subsystem_core.specs.Keepers.{TakesAll};
 ghost use Rattle.subsystem_core.specs.Frames.{HasDevice, HasSameSpans};
+ghost use Rattle.subsystem_core.specs.Standing.{NoneIsLent, StayStanding};
 
 use crate::refusal::{fail_fault, resume_fault, suspend_fault};
 use crate::{EventEnd, Subsystem};
@@ -38,6 +39,7 @@ impl<V: Volume> Subsystem<V> {
     ) -> Result<EventEnd, NoMemory>
         requires { HasDevice self.old d }
         ensures spans { HasSameSpans self.old self.new }
+        ensures stands { StayStanding self.old.devices.items self.new.devices.items }
         ensures came { (k : K) → CameKept (Heard K.hears K.takes) (Event.Start path d) self.old k (answer_of result) self.new k }
     {
         let device = self.device(d);
@@ -62,6 +64,7 @@ impl<V: Volume> Subsystem<V> {
         requires here { HasDevice self.old d }
         requires takes { IfSome (device_at self.old.devices.items d) (λ x. TakesItsTracks K.takes keep.old x) }
         ensures spans { HasSameSpans self.old self.new }
+        ensures stands { StayStanding self.old.devices.items self.new.devices.items }
         ensures came { CameKept (Heard K.hears K.takes) (Event.Step d) self.old keep.old (answer_of result) self.new keep.new }
     {
         let device = self.device(d);
@@ -87,6 +90,7 @@ impl<V: Volume> Subsystem<V> {
         requires here { HasDevice self.old d }
         requires takes { IfSome (device_at self.old.devices.items d) (λ x. TakesItsTracks K.takes keep.old x) }
         ensures spans { HasSameSpans self.old self.new }
+        ensures stands { OnErr result (NoneIsLent self.old.devices.items) → StayStanding self.old.devices.items self.new.devices.items }
         ensures came { CameKept (Heard K.hears K.takes) (Event.Back d) self.old keep.old (answer_of result) self.new keep.new }
     {
         if self.device(d).half_open() {
@@ -108,6 +112,7 @@ impl<V: Volume> Subsystem<V> {
         requires here { HasDevice self.old d }
         requires takes { IfSome (device_at self.old.devices.items d) (λ x. TakesItsTracks K.takes keep.old x) }
         ensures spans { HasSameSpans self.old self.new }
+        ensures stands { StayStanding self.old.devices.items self.new.devices.items }
         ensures came { CameKept (Heard K.hears K.takes) (Event.Reset path d) self.old keep.old (Some result) self.new keep.new }
     {
         self.reset_at(path, d, keep);
@@ -124,6 +129,7 @@ impl<V: Volume> Subsystem<V> {
         requires here { HasDevice self.old d }
         requires takes { IfSome (device_at self.old.devices.items d) (λ x. TakesItsTracks K.takes keep.old x) }
         ensures spans { HasSameSpans self.old self.new }
+        ensures stands { StayStanding self.old.devices.items self.new.devices.items }
         ensures came { CameKept (Heard K.hears K.takes) (Event.FailVolume d side) self.old keep.old (Some result) self.new keep.new }
     {
         if let Some(fault) = fail_fault(self.device(d), side) {
@@ -137,6 +143,7 @@ impl<V: Volume> Subsystem<V> {
     pub(crate) fn suspend<K: Keep<TrackImage>>(&mut self, d: DeviceNo) -> EventEnd
         requires { HasDevice self.old d }
         ensures spans { HasSameSpans self.old self.new }
+        ensures stands { StayStanding self.old.devices.items self.new.devices.items }
         ensures came { (k : K) → CameKept (Heard K.hears K.takes) (Event.Suspend d) self.old k (Some result) self.new k }
     {
         if let Some(fault) = suspend_fault(self.device(d)) {
@@ -150,6 +157,7 @@ impl<V: Volume> Subsystem<V> {
     pub(crate) fn resume<K: Keep<TrackImage>>(&mut self, d: DeviceNo) -> EventEnd
         requires { HasDevice self.old d }
         ensures spans { HasSameSpans self.old self.new }
+        ensures stands { StayStanding self.old.devices.items self.new.devices.items }
         ensures came { (k : K) → CameKept (Heard K.hears K.takes) (Event.Resume d) self.old k (Some result) self.new k }
     {
         if let Some(fault) = resume_fault(self.device(d)) {
@@ -166,6 +174,7 @@ impl<V: Volume> Subsystem<V> {
     pub(crate) fn fail_cache<K: Keep<TrackImage>>(&mut self, keep: &mut K) -> EventEnd
         requires takes { TakesAll K.takes keep.old self.old.devices.items }
         ensures spans { HasSameSpans self.old self.new }
+        ensures stands { StayStanding self.old.devices.items self.new.devices.items }
         ensures came { CameKept (Heard K.hears K.takes) Event.FailCache self.old keep.old (Some result) self.new keep.new }
     {
         if !self.pool.cache_up() {
@@ -180,6 +189,7 @@ impl<V: Volume> Subsystem<V> {
     pub(crate) fn fail_store<K: Keep<TrackImage>>(&mut self, keep: &mut K) -> EventEnd
         requires takes { TakesAll K.takes keep.old self.old.devices.items }
         ensures spans { HasSameSpans self.old self.new }
+        ensures stands { StayStanding self.old.devices.items self.new.devices.items }
         ensures came { CameKept (Heard K.hears K.takes) Event.FailStore self.old keep.old (Some result) self.new keep.new }
     {
         if !self.pool.store_up() {
@@ -194,6 +204,7 @@ impl<V: Volume> Subsystem<V> {
     pub(crate) fn power<K: Keep<TrackImage>>(&mut self, keep: &mut K) -> EventEnd
         requires takes { TakesAll K.takes keep.old self.old.devices.items }
         ensures spans { HasSameSpans self.old self.new }
+        ensures stands { StayStanding self.old.devices.items self.new.devices.items }
         ensures came { CameKept (Heard K.hears K.takes) Event.Power self.old keep.old (Some result) self.new keep.new }
     {
         self.pool.power();
@@ -204,6 +215,7 @@ impl<V: Volume> Subsystem<V> {
     /// The cache is up again, unless a track waits for its recovery.
     pub(crate) fn repair_cache<K: Keep<TrackImage>>(&mut self) -> EventEnd
         ensures spans { HasSameSpans self.old self.new }
+        ensures stands { StayStanding self.old.devices.items self.new.devices.items }
         ensures came { (k : K) → CameKept (Heard K.hears K.takes) Event.RepairCache self.old k (Some result) self.new k }
     {
         if self.pool.cache_up() {
@@ -218,6 +230,7 @@ impl<V: Volume> Subsystem<V> {
     /// The store is up again, unless a track waits for its recovery.
     pub(crate) fn repair_store<K: Keep<TrackImage>>(&mut self) -> EventEnd
         ensures spans { HasSameSpans self.old self.new }
+        ensures stands { StayStanding self.old.devices.items self.new.devices.items }
         ensures came { (k : K) → CameKept (Heard K.hears K.takes) Event.RepairStore self.old k (Some result) self.new k }
     {
         if self.pool.store_up() {

@@ -9,6 +9,7 @@ mod order;
 mod pair;
 mod peek;
 mod place;
+mod planning;
 mod refusal;
 mod run;
 mod subsystem;

@@ -1,12 +1,17 @@
-ghost use Rattle.std.specs.Prelude.{◌≡◌, ◌*◌, IfErr, IfOk, IfSome, None, OnErr, OnOk, Some, false, is_some};
+ghost use Rattle.std.specs.Prelude.{◌≡◌, ◌*◌, IfErr, IfOk, IfSome, None, OnErr, OnOk, Some, false, is_some, List, ℕ};
 ghost use Rattle.device_outside.specs.Keeper.{Heard};
+ghost use Rattle.ckd_types.specs.declared.record.Track.{Track};
+ghost use Rattle.past_laws.specs.PutAway.{PutAway};
+ghost use Rattle.device_core.specs.Promises.{TellsTracks};
 ghost use Rattle.device_core.specs.State.{device_of};
 ghost use Rattle.device_defs.specs.Store.{tracks_of};
 ghost use Rattle.subsystem_defs.specs.Happening.{is_lent_to};
+ghost use Rattle.subsystem_defs.specs.Refusals.{unpair_fault};
 ghost use Rattle.subsystem_core.specs.Comes.{AreStill, CameKept, Changes, IsSplit, JoinsKept, Restored, Unpaired};
 ghost use Rattle.subsystem_core.specs.Devices.{device_at};
 ghost use Rattle.subsystem_core.specs.Pairs.{HasPairFault, IsFirstLent, IsJoined, IsLent, IsOfSize};
 ghost use Rattle.subsystem_core.specs.Frames.{HasDevice, HasSameDevices, HasSameSpans};
+ghost use Rattle.subsystem_core.specs.Standing.{AllStand, StayPlain, StayStanding, TellsEmpty};
 
 use crate::refusal::{pair_fault, unpair_fault};
 use crate::{EventEnd, Subsystem};
@@ -55,6 +60,9 @@ impl<V: Volume> Subsystem<V> {
         requires here { HasDevice self.old d }
         requires fine { HasPairFault (device_at self.old.devices.items to) (device_at self.old.devices.items d) None }
         ensures spans { HasSameSpans self.old self.new }
+        ensures stands { StayStanding self.old.devices.items self.new.devices.items }
+        ensures told { (pasts : ℕ → PutAway) (firsts : ℕ → List Track) → AllStand pasts firsts self.old.devices.items
+            → IfSome result (λ v. TellsTracks (V.view v) (V.view v).tracks) }
         ensures lent { Changes d (IsLent (Heard K.hears K.takes) to result self.old.pool self.new.pool) self.old.devices.items self.new.devices.items }
     {
         let at = self.place(d);
@@ -66,7 +74,9 @@ impl<V: Volume> Subsystem<V> {
         requires here { HasDevice self.old d }
         requires free { IfSome (device_at self.old.devices.items d) (λ x. is_some (device_of x).store.lent ≡ false) }
         requires size { IfSome (device_at self.old.devices.items d) (λ x. (V.view volume).tracks ≡ tracks_of (device_of x).store) }
+        requires single { IfSome (device_at self.old.devices.items d) (λ x. (device_of x).store.paired ≡ false) }
         ensures spans { HasSameSpans self.old self.new }
+        ensures stands { TellsTracks (V.view volume) (V.view volume).tracks → StayStanding self.old.devices.items self.new.devices.items }
         ensures pool { self.new.pool ≡ self.old.pool }
         ensures joined { Changes d (IsJoined volume) self.old.devices.items self.new.devices.items }
     {
@@ -80,6 +90,7 @@ impl<V: Volume> Subsystem<V> {
         requires b { HasDevice self.old b }
         requires fine { HasPairFault (device_at self.old.devices.items a) (device_at self.old.devices.items b) None }
         ensures spans { HasSameSpans self.old self.new }
+        ensures stands { StayStanding self.old.devices.items self.new.devices.items }
         ensures joined { IfSome (device_at self.old.devices.items b) (λ y. JoinsKept (Heard K.hears K.takes) a b (device_of y) self.old self.new) }
     {
         let volume = match self.lend_at(b, a, keep) {
@@ -99,6 +110,7 @@ impl<V: Volume> Subsystem<V> {
         requires a { HasDevice self.old a }
         requires b { HasDevice self.old b }
         ensures spans { HasSameSpans self.old self.new }
+        ensures stands { StayStanding self.old.devices.items self.new.devices.items }
         ensures came { CameKept (Heard K.hears K.takes) (Event.Pair a b) self.old keep.now (Some result) self.new keep.now }
     {
         if let Some(fault) = self.pair_fault(a, b) {
@@ -113,9 +125,11 @@ impl<V: Volume> Subsystem<V> {
 impl<V: Volume> Subsystem<V> {
     /// Side B leaves a device. Its volume is dropped.
     fn split_at(&mut self, d: DeviceNo)
-        requires { HasDevice self.old d }
+        requires here { HasDevice self.old d }
+        requires fine { IfSome (device_at self.old.devices.items d) (λ x. unpair_fault (device_of x) ≡ None) }
         ensures numbers { HasSameDevices self.old self.new }
         ensures pool { self.new.pool ≡ self.old.pool }
+        ensures stands { StayStanding self.old.devices.items self.new.devices.items }
         ensures split { Changes d IsSplit self.old.devices.items self.new.devices.items }
     {
         let at = self.place(d);
@@ -128,6 +142,7 @@ impl<V: Volume> Subsystem<V> {
         requires size { IsOfSize volume (device_at self.old.devices.items a) }
         ensures numbers { HasSameDevices self.old self.new }
         ensures pool { self.new.pool ≡ self.old.pool }
+        ensures stands { OnOk result (TellsEmpty (V.view volume)) → StayStanding self.old.devices.items self.new.devices.items }
         ensures restored { OnOk result (Restored a volume self.old.devices.items self.new.devices.items) }
         ensures still { OnErr result (AreStill self.old.devices.items self.new.devices.items) }
         ensures back { IfErr result (λ e. e.1 ≡ volume) }
@@ -140,6 +155,7 @@ impl<V: Volume> Subsystem<V> {
         requires { IsOfSize volume (device_at self.old.devices.items a) }
         ensures numbers { HasSameDevices self.old self.new }
         ensures pool { self.new.pool ≡ self.old.pool }
+        ensures stands { OnOk result (TellsEmpty (V.view volume)) → StayStanding self.old.devices.items self.new.devices.items }
         ensures restored { OnOk result (Restored a volume self.old.devices.items self.new.devices.items) }
         ensures still { OnErr result (AreStill self.old.devices.items self.new.devices.items) }
         ensures back { IfErr result (λ e. e.1 ≡ volume) }
@@ -156,6 +172,7 @@ impl<V: Volume> Subsystem<V> {
         requires here { HasDevice self.old a }
         requires size { IfSome (device_at self.old.devices.items a) (λ x. (V.view volume).tracks ≡ tracks_of (device_of x).store) }
         ensures numbers { HasSameDevices self.old self.new }
+        ensures plain { OnOk result (TellsEmpty (V.view volume)) → StayPlain self.old.devices.items self.new.devices.items }
         ensures unpaired { IfOk result (λ end. Unpaired a volume (device_at self.old.devices.items a) self.old end self.new) }
         ensures lacked { OnErr result ((self.new.pool ≡ self.old.pool) × AreStill self.old.devices.items self.new.devices.items) }
         ensures back { IfErr result (λ e. e.1 ≡ volume) }

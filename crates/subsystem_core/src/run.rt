@@ -1,4 +1,4 @@
-ghost use Rattle.std.specs.Prelude.{◌≡◌, IfOk, OnErr, true};
+ghost use Rattle.std.specs.Prelude.{◌≡◌, IfOk, OnErr, OnOk, true};
 ghost use Rattle.device_outside.specs.Keeper.{Heard};
 ghost use Rattle.subsystem_core.specs.Comes.{Came, CameKept};
 ghost use Rattle.subsystem_core.specs.Devices.{numbers_of};
@@ -7,6 +7,7 @@ ghost use Rattle.subsystem_core.specs.Keepers.{TakesAll};
 ghost use Rattle.subsystem_core.specs.Places.{may_all_come, may_come};
 ghost use Rattle.subsystem_core.specs.Runs.{Runs, Stops};
 ghost use Rattle.subsystem_core.specs.Frames.{HasSameDevices, HasSameSpans};
+ghost use Rattle.subsystem_core.specs.Standing.{NoneIsLent, StayPlain, StayStanding};
 
 use crate::{EventEnd, EventEnds, Subsystem};
 use ckd_types::NoMemory;
@@ -21,6 +22,7 @@ impl<V: Volume> Subsystem<V> {
         requires may { may_come (numbers_of self.old.devices.items) e ≡ true }
         requires takes { TakesAll K.takes keep.old self.old.devices.items }
         ensures spans { HasSameSpans self.old self.new }
+        ensures stands { OnErr result (NoneIsLent self.old.devices.items) → StayStanding self.old.devices.items self.new.devices.items }
         ensures came { CameKept (Heard K.hears K.takes) e self.old keep.old (answer_of result) self.new keep.new }
     {
         match e {
@@ -50,6 +52,7 @@ impl<V: Volume> Subsystem<V> {
         requires may { may_come (numbers_of self.old.devices.items) e ≡ true }
         requires takes { TakesAll K.takes keep.old self.old.devices.items }
         ensures numbers { HasSameDevices self.old self.new }
+        ensures plain { OnErr result (NoneIsLent self.old.devices.items) → StayPlain self.old.devices.items self.new.devices.items }
         ensures takes { TakesAll K.takes keep.new self.new.devices.items }
         ensures came { CameKept (Heard K.hears K.takes) e self.old keep.old (answer_of result) self.new keep.new }
     {
@@ -60,6 +63,7 @@ impl<V: Volume> Subsystem<V> {
     pub fn event(&mut self, e: Event) -> Result<EventEnd, NoMemory>
         requires { may_come (numbers_of self.old.devices.items) e ≡ true }
         ensures numbers { HasSameDevices self.old self.new }
+        ensures plain { OnErr result (NoneIsLent self.old.devices.items) → StayPlain self.old.devices.items self.new.devices.items }
         ensures came { Came e self.old (answer_of result) self.new }
     {
         let mut keep = NoKeep;
@@ -70,6 +74,7 @@ impl<V: Volume> Subsystem<V> {
     pub fn run(&mut self, alloc: Global, events: &[Event]) -> Result<EventEnds, NoMemory>
         requires { may_all_come (numbers_of self.old.devices.items) events.now ≡ true }
         ensures numbers { HasSameDevices self.old self.new }
+        ensures plain { OnOk result (StayPlain self.old.devices.items self.new.devices.items) }
         ensures ran { IfOk result (λ ends. Runs events.now self.old ends.items self.new) }
         ensures stopped { OnErr result (Stops events.now self.old self.new) }
     {

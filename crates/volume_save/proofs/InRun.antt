@@ -11,20 +11,21 @@ use Rattle.device_outside.specs.Pool.{Pool}
 use Rattle.device_defs.specs.Contents.{contents, by_plain}
 use Rattle.device_defs.specs.Marks.{frame_mark, marks_of}
 use Rattle.device_defs.specs.Owed.{is_modified, is_clean}
-use Rattle.device_defs.specs.Sound.{DeviceStore, has_sound_marks, plain_device}
+use Rattle.device_defs.specs.Sound.{DeviceStore, has_sound_marks}
 use Rattle.device_defs.specs.Store.{tracks_of, has_level, frame_at, patch_at, is_lost, is_loose, half_is}
 use Rattle.device_laws.specs.InOrder.{IsInOrder}
 use Rattle.device_laws.specs.Lent.{in_order, is_away}
 use Rattle.device_laws.proofs.PlainStores.{IsOf, core_of}
 use Rattle.device_laws.proofs.TwinChanges.{frame_twin, has_patch_twin, half_twin}
 use Rattle.plain_defs.specs.History.{plain_of}
-use Rattle.subsystem_defs.specs.Decks.{run_of}
+use Rattle.subsystem_defs.specs.Decks.{AreWhole, Firsts, run_on}
 use Rattle.subsystem_defs.specs.Subsystem.{Mounted, mounted_in}
 use Rattle.subsystem_laws.specs.Served.{IsServedDeck}
 use Rattle.subsystem_laws.specs.WholeStood.{Stood, AreMounted, IsMounted, is_mounted}
-use Rattle.subsystem_laws.proofs.PlainRuns.{Plainly, plain_behind}
+use Rattle.subsystem_laws.proofs.PlainRuns.{PlainlyFrom, plain_behind_on}
 use Rattle.subsystem_laws.proofs.Walks.{mounted_so}
 use Rattle.subsystem_laws.proofs.WholeFinding.{Found, none_found, both_found, find}
+use Rattle.volume_save.specs.Saving.{plain_tracks}
 
 some_same : {X : Type 0} {x y : X} → Some x ≡ Some y → x ≡ y
 some_same e = cc
@@ -75,12 +76,12 @@ stands_in_run p xs ms n m all there home = found_run p.used [] xs ms n m (find p
 
 -- Behind the run of a deck the plain volume is that of the plain device of the history
 
-of_plainly : (m : Mounted) → Plainly m.device → (plain_device m.device).volume ≡ m.device.store.plain
-of_plainly m p =
+of_plainly : (firsts : Firsts) (m : Mounted) → PlainlyFrom firsts m.device → plain_tracks firsts m.device ≡ m.device.store.plain
+of_plainly firsts m p =
     (subst (λ (x : PlainState). IsOf (plain_of m.device.plans x m.device.history) (core_of m.device.store)) p.base p.follows.of).volume
 
-pub plain_after : (deck : DeckLines) (n : ℕ) (m : Mounted) → IsServedDeck deck → mounted_in (run_of deck).behind.mounted n ≡ Some m →
-    (plain_device m.device).volume ≡ m.device.store.plain
-plain_after deck n m served there =
-    of_plainly m (subst (λ (o : Option Mounted). IfSome o (λ z. Plainly z.device)) there
-    (mounted_so Plainly (run_of deck).behind.mounted n (plain_behind deck served)))
+pub plain_after : (firsts : Firsts) → AreWhole firsts → (deck : DeckLines) (n : ℕ) (m : Mounted) → IsServedDeck deck →
+    mounted_in (run_on firsts deck).behind.mounted n ≡ Some m → plain_tracks firsts m.device ≡ m.device.store.plain
+plain_after firsts whole deck n m served there =
+    of_plainly firsts m (subst (λ (o : Option Mounted). IfSome o (λ z. PlainlyFrom firsts z.device)) there
+    (mounted_so (PlainlyFrom firsts) (run_on firsts deck).behind.mounted n (plain_behind_on firsts whole deck served)))

@@ -64,7 +64,7 @@ use Rattle.subsystem_laws.proofs.looking.Talks.{unwritten}
 use Rattle.subsystem_laws.proofs.looking.Leaves.{fault_has_failed, fault_is, look_finds_plain, look_leaves_own, lost_is_lost}
 use Rattle.subsystem_core.specs.declared.subsystem.Subsystem.{Subsystem}
 use Rattle.subsystem_core.specs.Devices.{device_at}
-use Rattle.subsystem_defs.specs.Decks.{run_of}
+use Rattle.subsystem_defs.specs.Decks.{AreWhole, Firsts, run_on}
 use Rattle.subsystem_defs.specs.Looks.{looked}
 use Rattle.subsystem_defs.specs.Subsystem as runs
 use Rattle.subsystem_defs.specs.Subsystem.{Mounted, mounted_in}
@@ -89,12 +89,12 @@ use Rattle.volume_save.specs.Saving.{
   unless_refused,
   volume_with,
   saving_at,
-  saving_of,
+  saving_on,
   Gives,
   HasDevice,
   HasReason,
   IsFault,
-  IsSaved,
+  IsSavedOn,
 }
 use Rattle.volume_save.specs.Stepping.{FitsRun, GoesOn, GoesOnWith, LooksLeft}
 use Rattle.volume_save.specs.Volumes.{HasAllTracks}
@@ -378,32 +378,33 @@ module _ {V : Type 0} {G : Ghosts V} where
 
   -- What is saved
 
-  saved_by : (sub : Subsystem V G) (deck : DeckLines) (d : ℕ) (v : ImageVolume) (o : Option Mounted) → mounted_in (run_of deck).behind.mounted d ≡ o →
-      IsServedDeck deck → HasSmallDevices deck → StandsAs sub (run_of deck).behind → saving_of deck d ≡ Ok v → HasAllTracks v → IsSaved deck d v
+  saved_by : (sub : Subsystem V G) (firsts : Firsts) → AreWhole firsts → (deck : DeckLines) (d : ℕ) (v : ImageVolume) (o : Option Mounted) →
+      mounted_in (run_on firsts deck).behind.mounted d ≡ o → IsServedDeck deck → HasSmallDevices deck → StandsAs sub (run_on firsts deck).behind →
+      saving_on firsts deck d ≡ Ok v → HasAllTracks v → IsSavedOn firsts deck d v
   unfolding S.saving
-  saved_by sub deck d v None none served small stands found all =
-      absurd (not_none d (run_of deck).behind v (ap (saving_at (run_of deck).behind d) (sym none) ∙ found))
-  saved_by sub deck d v (Some m) there served small stands found all =
+  saved_by sub firsts whole deck d v None none served small stands found all =
+      absurd (not_none d (run_on firsts deck).behind v (ap (saving_at (run_on firsts deck).behind d) (sym none) ∙ found))
+  saved_by sub firsts whole deck d v (Some m) there served small stands found all =
       let size = λ (home : is_some m.device.store.lent ≡ false).
-      (stands_in_run sub.pool.pool (all_stood sub.devices.items) (run_of deck).behind.mounted d m stands.mounted there home).plain.tracks in
+      (stands_in_run sub.pool.pool (all_stood sub.devices.items) (run_on firsts deck).behind.mounted d m stands.mounted there home).plain.tracks in
       let images : v ≡ volume_with m.device.store.geometry m.device.store.cylinders (map (image_on m.device.store.geometry) m.device.store.plain) =
-      saving_plain (run_of deck).behind d m v there size found in
+      saving_plain (run_on firsts deck).behind d m v there size found in
       record {
         mounted = m;
         there = there;
         found = found;
         plain = images
             ∙ ap (λ (l : List Track). volume_with m.device.store.geometry m.device.store.cylinders (map (image_on m.device.store.geometry) l))
-            (sym (plain_after deck d m served there));
+            (sym (plain_after firsts whole deck d m served there));
         whole =
             small_is_whole v all
-            (subst (λ (k : ℕ). k ≤ 64) (sym (ap (λ (w : ImageVolume). w.cylinders) images)) (small_in_run deck d m small there));
+            (subst (λ (k : ℕ). k ≤ 64) (sym (ap (λ (w : ImageVolume). w.cylinders) images)) (small_in_run firsts deck d m small there));
       }
 
-  pub is_saved : (sub : Subsystem V G) (deck : DeckLines) (d : ℕ) (v : ImageVolume) → IsServedDeck deck → HasSmallDevices deck →
-      StandsAs sub (run_of deck).behind → saving_of deck d ≡ Ok v → HasAllTracks v → IsSaved deck d v
-  is_saved sub deck d v served small stands found all =
-      saved_by sub deck d v (mounted_in (run_of deck).behind.mounted d) refl served small stands found all
+  pub is_saved : (sub : Subsystem V G) (firsts : Firsts) → AreWhole firsts → (deck : DeckLines) (d : ℕ) (v : ImageVolume) → IsServedDeck deck →
+      HasSmallDevices deck → StandsAs sub (run_on firsts deck).behind → saving_on firsts deck d ≡ Ok v → HasAllTracks v → IsSavedOn firsts deck d v
+  is_saved sub firsts whole deck d v served small stands found all =
+      saved_by sub firsts whole deck d v (mounted_in (run_on firsts deck).behind.mounted d) refl served small stands found all
 
 -- At the end of a call
 

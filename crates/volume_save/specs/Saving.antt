@@ -25,15 +25,16 @@ use Rattle.ckd_types.specs.declared.geometry.Geometry.{Geometry}
 use Rattle.ckd_types.specs.declared.record.Track.{Track}
 use Rattle.ckd_types.specs.declared.paths.Side.{Side}
 use Rattle.deck_text.specs.DeckLines.{DeckLines}
+use Rattle.plain_defs.specs.History.{plain_of}
 use Rattle.track_image.specs.Image.{Image}
 use Rattle.device_defs.specs.Marks.{MarksDevice}
 use Rattle.device_defs.specs.Peek as peeks
 use Rattle.device_defs.specs.Peek.{Peeked}
-use Rattle.device_defs.specs.Sound.{plain_device}
 use Rattle.device_defs.specs.Store.{Store, tracks_of, is_lost, half_is}
 use Rattle.subsystem_laws.specs.Looking.{is_writing, HasFailed, IsNowhere}
-use Rattle.subsystem_defs.specs.Decks.{run_of}
+use Rattle.subsystem_defs.specs.Decks.{Firsts, empty_firsts, run_on}
 use Rattle.subsystem_defs.specs.Looks.{Looked, looked}
+use Rattle.subsystem_defs.specs.Promised.{first_of}
 use Rattle.subsystem_defs.specs.Subsystem.{Mounted, Subsystem, mounted_in}
 use Rattle.volume_file.specs.File.{ImageVolume, IsWhole}
 use Rattle.volume_save.specs.declared.unsaved.Unsaved.{Unsaved}
@@ -82,9 +83,13 @@ saving_at s d None = Err Lent
 unfoldable pub saving : Subsystem → ℕ → Result ImageVolume Unsaved
 saving s d = saving_at s d (mounted_in s.mounted d)
 
--- after the run of a deck
+-- after the run of a deck, on volumes that held these tracks first
+abbrev pub saving_on : Firsts → DeckLines → ℕ → Result ImageVolume Unsaved
+saving_on firsts deck d = saving (run_on firsts deck).behind d
+
+-- on empty ones
 abbrev pub saving_of : DeckLines → ℕ → Result ImageVolume Unsaved
-saving_of deck d = saving (run_of deck).behind d
+saving_of deck d = saving_on empty_firsts deck d
 
 -- this is answered, unless memory runs out
 abbrev pub Gives : {A : Type 0} → Result A Unsaved → Result A Unsaved → Type 0
@@ -93,17 +98,30 @@ Gives result wanted = result ≡ wanted
 
 -- What is saved
 
--- the volume of the plain device of a device's history
-abbrev pub plain_volume : MarksDevice → ImageVolume
-plain_volume d = volume_with d.store.geometry d.store.cylinders (map (λ (x : Track). record { geometry = d.store.geometry; track = x }) (plain_device d).volume)
+-- the tracks of the plain device of a device's history, where the volume of its number held these first
+abbrev pub plain_tracks : Firsts → MarksDevice → List Track
+plain_tracks firsts d = (plain_of d.plans (first_of (firsts d.store.device) d) d.history).volume
 
--- the looks after the run of a deck found all tracks of its device, and they are the plain ones
-pub record IsSaved (deck : DeckLines) (d : ℕ) (v : ImageVolume) : Type 0 where
+-- its volume
+abbrev pub plain_volume_on : Firsts → MarksDevice → ImageVolume
+plain_volume_on firsts d =
+    volume_with d.store.geometry d.store.cylinders (map (λ (x : Track). record { geometry = d.store.geometry; track = x }) (plain_tracks firsts d))
+
+-- where it was empty
+abbrev pub plain_volume : MarksDevice → ImageVolume
+plain_volume d = plain_volume_on empty_firsts d
+
+-- the looks after the run of a deck, on volumes that held these tracks first, found all tracks of its device, and they are the plain ones
+pub record IsSavedOn (firsts : Firsts) (deck : DeckLines) (d : ℕ) (v : ImageVolume) : Type 0 where
   pub mounted : Mounted
-  pub there : mounted_in (run_of deck).behind.mounted d ≡ Some mounted
-  pub found : saving_of deck d ≡ Ok v
-  pub plain : v ≡ plain_volume mounted.device
+  pub there : mounted_in (run_on firsts deck).behind.mounted d ≡ Some mounted
+  pub found : saving_on firsts deck d ≡ Ok v
+  pub plain : v ≡ plain_volume_on firsts mounted.device
   pub whole : IsWhole v
+
+-- on empty ones
+abbrev pub IsSaved : DeckLines → ℕ → ImageVolume → Type 0
+IsSaved deck d v = IsSavedOn empty_firsts deck d v
 
 -- Why nothing is saved
 

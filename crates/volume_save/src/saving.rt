@@ -2,12 +2,12 @@ ghost use Rattle.std.specs.Prelude.{◌≡◌, ◌<◌, IfErr, IfOk, length, tru
 ghost use Rattle.deck_text.specs.DeckLines.{DeckLines};
 ghost use Rattle.device_core.specs.State.{device_of};
 ghost use Rattle.subsystem_laws.specs.Looking.{is_writing};
-ghost use Rattle.subsystem_defs.specs.Decks.{run_of};
+ghost use Rattle.subsystem_defs.specs.Decks.{AreWhole, Firsts, run_of, run_on};
 ghost use Rattle.subsystem_defs.specs.Subsystem as runs;
 ghost use Rattle.subsystem_laws.specs.Served.{IsServedDeck};
 ghost use Rattle.deck_run.specs.Standing.{StandsAs};
 ghost use Rattle.volume_save.specs.Devices.{HasSmallDevices};
-ghost use Rattle.volume_save.specs.Saving.{refusal, saving, Gives, HasReason, IsSaved};
+ghost use Rattle.volume_save.specs.Saving.{refusal, saving, Gives, HasReason, IsSaved, IsSavedOn};
 ghost use Rattle.volume_save.specs.Stepping.{FitsRun, GoesOn};
 ghost use Rattle.subsystem_core.specs.Frames.{HasDevice, HasSameDevices};
 
@@ -84,6 +84,8 @@ pub fn saved<V: Volume>(
     ensures found { (run : runs.Subsystem) → StandsAs sub.old run → Gives result (saving run d) }
     ensures plain { (deck : DeckLines) → IsServedDeck deck → HasSmallDevices deck → StandsAs sub.old (run_of deck).behind
         → IfOk result (IsSaved deck d) }
+    ensures plain_on_volumes { (firsts : Firsts) → AreWhole firsts → (deck : DeckLines) → IsServedDeck deck → HasSmallDevices deck
+        → StandsAs sub.old (run_on firsts deck).behind → IfOk result (IsSavedOn firsts deck d) }
     ensures reason { (run : runs.Subsystem) → StandsAs sub.old run → IfErr result (HasReason run d) }
 {
     let device = sub.device(d);

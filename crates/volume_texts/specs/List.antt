@@ -17,9 +17,6 @@ abbrev pub rows_from : ℕ → List Image → List Row
 rows_from t [] = []
 rows_from t (i ∷ images) = row_of t i ∷ rows_from (t + 1) images
 
-abbrev pub rows_of : ImageVolume → List Row
-rows_of v = rows_from 0 v.images
-
 abbrev pub model_text : Geometry → List ℕ
 model_text D3390 = codes "3390"
 model_text D3380 = codes "3380"

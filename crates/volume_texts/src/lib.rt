@@ -5,4 +5,4 @@ mod faults;
 mod listing;
 
 pub use faults::{write_head, write_track, write_trailing};
-pub use listing::{Row, list_volume, model_text, row_of, write_listing};
+pub use listing::{Row, model_text, row_of, write_listing};

@@ -165,7 +165,7 @@ fn list<K: Sink>(sink: &mut K, geometry: Geometry, cylinders: u8, rows: &[Row]) 
     ensures later { K.faults sink.old ≤ K.faults sink.new }
     ensures write { WriteFaultHasCause result (K.faults sink.old) (K.faults sink.new) }
 {
-    match write_listing(sink, geometry, cylinders, rows) {
+    match write_listing(sink, geometry, u16::from(cylinders), rows) {
         Ok(()) => VolumeStatus::Done,
         Err(_) => VolumeStatus::WriteFault,
     }

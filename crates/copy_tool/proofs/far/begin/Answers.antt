@@ -33,9 +33,6 @@ new-mirror-requires-clause-fits c =
       length-map-range_with_len empty_track 0 (c.cylinders-cylinders.result * 15) ∙ ap (λ (n : ℕ). n * 15) c.cylinders-cylinders.ensures,
     )
 
-pub new-mirror-requires-clause-empty : goal.new-mirror-requires-clause-empty
-new-mirror-requires-clause-empty c = rw (c.device-device.ensures, c.in_ok-link.ensures, c.cylinders-cylinders.ensures) refl
-
 pub returns : goal.returns
 returns c =
     let stands = c.in_ok-sub.ensures.stands (ap (λ (b : Bay). b.spoiled) c.new-bay.ensures) in

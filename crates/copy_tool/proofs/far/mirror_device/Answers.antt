@@ -5,8 +5,9 @@ use Rattle.subsystem_defs.specs.Lines.{asked_by}
 use Rattle.line_drive.specs.Driven.{Goes, driven}
 use Rattle.line_drive.specs.Staging.{LinesMay}
 use Rattle.deck_run.proofs.Ready.{read_lines}
+use Rattle.remote_copy.specs.Mirrored.{mirror_course}
 use Rattle.remote_copy.specs.Mirroring.{IsMirror, MirrorRun}
-use Rattle.copy_tool.specs.MirrorStanding.{IsKept, mirror_course, mirror_from}
+use Rattle.copy_tool.specs.MirrorStanding.{IsKept, mirror_from}
 use Rattle.copy_tool.proofs.Firms.{over_so}
 use Rattle.copy_tool.proofs.FarVolumes.{found_so, small_far}
 use Rattle.copy_tool.proofs.MirrorStaged.{lines_kept}

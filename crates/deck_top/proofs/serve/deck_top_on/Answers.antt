@@ -1,3 +1,4 @@
+use Rattle.run_report.specs.Report.{report_on}
 use Rattle.deck_top.proofs.Complete.{complete}
 use Rattle.deck_top.proofs.Facts as facts
 use Rattle.deck_top.specs.Answers.{RunsAsPromisedOn}
@@ -7,7 +8,7 @@ use Rattle.deck_top.proofs.serve.deck_top_on.Goals as goal
 pub returns-clause-reported : goal.returns-clause-reported
 returns-clause-reported g c = λ firsts is run hands.
     facts.run_reported (told.IsOutputOn (g.B.VolumeBay.view c.args.bay.now))
-    (told.RanOn g.V.Volume.view (g.B.VolumeBay.view c.args.bay.now) (g.B.VolumeBay.view c.serve.new.bay)) _ _ _ _ is run c.serve.ensures.told (told.report_on firsts) (λ d text out. out firsts hands)
+    (told.RanOn g.V.Volume.view (g.B.VolumeBay.view c.args.bay.now) (g.B.VolumeBay.view c.serve.new.bay)) _ _ _ _ is run c.serve.ensures.told (report_on firsts) (λ d text out. out firsts hands)
 
 pub returns-clause-plain : goal.returns-clause-plain
 returns-clause-plain g c = λ firsts whole is run hands.

@@ -3,6 +3,7 @@ use Rattle.std.specs.Prelude.{IfOk}
 use Rattle.std.specs.List.{AllZip}
 use Rattle.turn_seats.specs.Seating.{IsHome, Rests}
 use Rattle.path_turns.specs.Keeping.{IsFinished, StaysKept}
+use Rattle.path_turns.proofs.Keeping.{stays_within}
 use Rattle.path_threads.specs.Allowed.{allowed_of}
 use Rattle.path_threads.specs.Places.{IsPromisedFor, IsSpareAt, KeepsOrdered}
 use Rattle.path_threads.proofs.Holding.{home_rests, promised_rests}
@@ -36,7 +37,7 @@ returns-clause-kept g c =
     let k = behind.ok.0 in
     subst (λ es. AllZip (KeepsOrdered c.args.orders.items) c.args.devices.items es)
     (sym (same_back behind.len new behind.items (omega (arith, k)) (zip_long StaysKept behind.items new stay)))
-    (zip_on (KeepsOrdered es) StaysKept (KeepsOrdered es) (λ d e z kept on. on _ kept) c.args.devices.items behind.items new kept stay)
+    (zip_on (KeepsOrdered es) StaysKept (KeepsOrdered es) (λ d e z kept on. stays_within (allowed_of es d) d e z on kept) c.args.devices.items behind.items new kept stay)
 
 pub returns-clause-finished : goal.returns-clause-finished
 returns-clause-finished g c =

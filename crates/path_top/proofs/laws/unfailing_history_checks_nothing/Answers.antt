@@ -1,5 +1,5 @@
-use Rattle.path_top.proofs.Unfailing.{none_failed_at_all}
+use Rattle.subsystem_defs.specs.Decks.{empty_firsts}
 use Rattle.path_top.proofs.laws.unfailing_history_checks_nothing.Goals as goal
 
 pub returns : goal.returns
-returns c = λ deck devices are none. none_failed_at_all deck none devices are
+returns c = c.unfailing_history_on_volumes_checks_nothing.ensures empty_firsts

@@ -13,6 +13,7 @@ pub loop-line-preserved : goal.loop-line-preserved
 loop-line-preserved g c = record {
   numbers = c.in_ok-pair_line.ensures.numbers ∙ c.loop-line.invariant.numbers;
   own = c.in_ok-pair_line.ensures.own;
+  unused = λ all. c.in_ok-pair_line.ensures.unused (c.loop-line.invariant.unused all);
   stands = λ run all. subst (StandsAs c.pair_line.new.sub)
       (one_line_on run c.args.lines.now c.loop-line.line-index c.line-item.result c.loop-line-test.true c.line-item.is)
       (c.in_ok-pair_line.ensures.stands _ (c.loop-line.invariant.stands run all));

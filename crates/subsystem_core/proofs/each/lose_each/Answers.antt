@@ -9,11 +9,12 @@ use Rattle.subsystem_core.proofs.Found.{read_again}
 use Rattle.subsystem_core.proofs.Hearing.{spans_kept, swept_still, takes_on}
 use Rattle.subsystem_core.proofs.Numbers.{above_same, below_same}
 use Rattle.subsystem_core.proofs.Seating.{ran_lent, seats_kept}
+use Rattle.subsystem_core.proofs.Standing.{set_stands, stays_by}
 use Rattle.subsystem_core.proofs.Sweeping.{swept_more, rest_more, swept_all}
 use Rattle.subsystem_core.proofs.each.lose_each.Goals as goal
 
 pub loop-i-init : goal.loop-i-init
-loop-i-init g c = record { seats = refl; spans = refl; rest = refl; each = over }
+loop-i-init g c = record { seats = refl; spans = refl; stands = λ pasts firsts all. all; rest = refl; each = over }
 
 pub loop-i-preserved : goal.loop-i-preserved
 loop-i-preserved g c =
@@ -31,6 +32,10 @@ loop-i-preserved g c =
       }) ∙ c.loop-i.invariant.seats;
       spans = spans_kept ds c.loop-i.i x c.lose_with.new.self read c.lose_with.ensures.fixed.0 c.lose_with.ensures.fixed.1 c.lose_with.ensures.fixed.2
           ∙ c.loop-i.invariant.spans;
+      stands = λ pasts firsts all.
+          set_stands ds c.loop-i.i x c.lose_with.new.self within read c.lose_with.ensures.fixed.0
+          (stays_by x c.lose_with.new.self (ran_lent (lose_based contents (device_of x) c.args.loss) c.lose_with.ensures.run) c.lose_with.ensures.plain.stands (c.lose_with.ensures.lent c.requires.no_side).stands)
+          pasts firsts (c.loop-i.invariant.stands pasts firsts all);
       rest = rw add-one (rest_more how c.loop-i.i c.args.devices.now ds c.lose_with.new.self here within c.loop-i.invariant.rest);
       each = rw add-one (swept_more how c.loop-i.i c.args.devices.now ds x c.lose_with.new.self within c.loop-i.invariant.rest read c.loop-i.invariant.each
           c.lose_with.ensures.run);

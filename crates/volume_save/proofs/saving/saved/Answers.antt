@@ -2,7 +2,8 @@ use Rattle.std.proofs.Common.{rules, ◌≡◌, ◌≤◌, ◌∙◌, ◌<◌, �
 use Rattle.std.proofs.lemmas.Grind.{common_steps}
 use Rattle.std.proofs.lemmas.List.FromFn.{length-map-range_with_len}
 use Rattle.device_outside.specs.Lists.{is_in}
-use Rattle.subsystem_defs.specs.Decks.{run_of}
+use Rattle.subsystem_defs.specs.Decks.{empty_firsts, run_of, run_on}
+use Rattle.subsystem_laws.proofs.PlainRuns.{empty_whole}
 use Rattle.volume_file.specs.File.{ImageVolume, empty_image}
 use Rattle.volume_save.proofs.Stepping.{
   gives_ok,
@@ -62,8 +63,14 @@ returns-clause-found g c = λ run stands.
 
 pub returns-clause-plain : goal.returns-clause-plain
 returns-clause-plain g c = λ deck served small stands.
-    is_saved c.args.sub.now deck c.args.d c.loop-t.volume served small stands
+    is_saved c.args.sub.now empty_firsts empty_whole deck c.args.d c.loop-t.volume served small stands
     (looks_over (run_of deck).behind c.args.d c.loop-t.t _ c.loop-t.sub c.loop-t.volume (c.loop-t.invariant.left (run_of deck).behind stands)
+    (omega (arith, c.loop-t-test.false)) (omega (arith, c.loop-t-test.false, c.loop-t.invariant.size))) c.has_all_tracks-2.ensures
+
+pub returns-clause-plain_on_volumes : goal.returns-clause-plain_on_volumes
+returns-clause-plain_on_volumes g c = λ firsts whole deck served small stands.
+    is_saved c.args.sub.now firsts whole deck c.args.d c.loop-t.volume served small stands
+    (looks_over (run_on firsts deck).behind c.args.d c.loop-t.t _ c.loop-t.sub c.loop-t.volume (c.loop-t.invariant.left (run_on firsts deck).behind stands)
     (omega (arith, c.loop-t-test.false)) (omega (arith, c.loop-t-test.false, c.loop-t.invariant.size))) c.has_all_tracks-2.ensures
 
 pub returns-in-Err-clause-reason : goal.returns-in-Err-clause-reason

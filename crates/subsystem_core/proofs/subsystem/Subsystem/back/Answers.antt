@@ -28,3 +28,6 @@ returns-in-Ok-clause-came g c =
 
 pub background_at-requires-clause-whole : goal.background_at-requires-clause-whole
 background_at-requires-clause-whole g c = rw c.device.ensures (sym c.half_open.ensures ∙ c.if-half_open.false)
+
+pub second_at-requires-clause-open : goal.second_at-requires-clause-open
+second_at-requires-clause-open g c = rw c.device.ensures (sym c.half_open.ensures ∙ c.if-half_open.true)

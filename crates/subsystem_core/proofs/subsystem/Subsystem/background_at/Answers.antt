@@ -1,3 +1,4 @@
+use Rattle.subsystem_core.proofs.Standing.{none_lent_at, set_stands, stays_worked}
 use Rattle.device_store.specs.State.{Takes}
 use Rattle.device_core.specs.State.{device_of}
 use Rattle.std.specs.Prelude.{◌≡◌, false, is_some, ◌*◌}
@@ -42,3 +43,12 @@ background_with-requires-clause-takes g c =
     held c.args.self.now.devices.items c.args.d c.place-at.result c.index_mut.result.now
     (λ x. Takes g.K.Keep.takes c.args.keep.now x.store.number x.store.geometry (x.store.cylinders * 15))
     c.args.self.now.rising c.place-at.ensures.range c.place-at.ensures.found c.index_mut.ensures.value c.requires.takes
+
+pub returns-clause-stands : goal.returns-clause-stands
+returns-clause-stands g c =
+    λ none.
+    set_stands c.args.self.now.devices.items c.place-at.result c.index_mut.result.now c.background_with.new.self c.place-at.ensures.range c.index_mut.ensures.value
+    c.background_with.ensures.fixed.0
+    (stays_worked c.index_mut.result.now c.background_with.new.self (ran_lent (background_based contents (device_of c.index_mut.result.now)) c.background_with.ensures.run)
+    c.background_with.ensures.plain.stands c.background_with.result c.background_with.ensures.lent
+    (none_lent_at c.background_with.result c.args.self.now.devices.items c.place-at.result c.index_mut.result.now c.place-at.ensures.range c.index_mut.ensures.value none))

@@ -1,3 +1,4 @@
+use Rattle.subsystem_core.proofs.Standing.{set_stands, stays_running}
 use Rattle.device_store.specs.State.{Takes}
 use Rattle.std.specs.Prelude.{◌≡◌, IsSome, false, is_some, ◌*◌}
 use Rattle.device_core.specs.State.{device_of}
@@ -47,3 +48,11 @@ pub returns-clause-asked : goal.returns-clause-asked
 returns-clause-asked g c =
     changed c.args.self.now.devices.items c.args.d c.place-at.result c.index_mut.result.now c.command_with.new.self _ c.args.self.now.rising
     c.place-at.ensures.range c.place-at.ensures.found c.index_mut.ensures.value c.command_with.ensures.run
+
+pub returns-clause-stands : goal.returns-clause-stands
+returns-clause-stands g c =
+    set_stands c.args.self.now.devices.items c.place-at.result c.index_mut.result.now c.command_with.new.self c.place-at.ensures.range c.index_mut.ensures.value
+    c.command_with.ensures.fixed.0
+    (stays_running c.index_mut.result.now c.command_with.new.self (ran_lent (command_based contents (device_of c.index_mut.result.now)) c.command_with.ensures.run)
+    c.command_with.ensures.plain.stands (held c.args.self.now.devices.items c.args.d c.place-at.result c.index_mut.result.now (λ x. IsSome (device_of x).history.running)
+    c.args.self.now.rising c.place-at.ensures.range c.place-at.ensures.found c.index_mut.ensures.value c.requires.running))

@@ -1,3 +1,5 @@
+use Rattle.device_core.specs.State.{device_of}
+use Rattle.subsystem_core.proofs.Standing.{loses_home}
 use Rattle.std.proofs.Common.{◌∙◌, refl, sym}
 use Rattle.device_outside.specs.Keeper.{Heard}
 use Rattle.device_defs.specs.Contents.{contents}
@@ -24,3 +26,7 @@ returns-clause-came g c =
     (losses.Side c.args.side)) c.device.ensures
     (deeds.side_lost contents _ _ _ _ (found_in c.args.self.now.devices.items c.args.d _ c.device.ensures) c.args.side
     (sym c.fail_fault.ensures ∙ c.in_default.is)) c.lose_at.ensures.asked
+
+pub lose_at-requires-clause-home : goal.lose_at-requires-clause-home
+lose_at-requires-clause-home g c =
+    rw c.device.ensures (loses_home (device_of c.device.result.now) c.args.side (sym c.fail_fault.ensures ∙ c.in_default.is))

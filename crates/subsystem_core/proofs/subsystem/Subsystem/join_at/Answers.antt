@@ -1,3 +1,4 @@
+use Rattle.subsystem_core.proofs.Standing.{set_stands, stays_home}
 use Rattle.std.proofs.Common.{◌≡◌, ◌*◌, ap, false, is_some, refl}
 use Rattle.device_core.specs.State.{device_of}
 use Rattle.subsystem_core.proofs.Found.{changed, held, numbers_kept}
@@ -40,3 +41,17 @@ returns-clause-joined g c =
       a = c.join_volume.ensures.a;
       b = c.join_volume.ensures.b;
     })
+
+pub returns-clause-stands : goal.returns-clause-stands
+returns-clause-stands g c =
+    λ told.
+    let single = (held c.args.self.now.devices.items c.args.d c.place-at.result c.index_mut.result.now (λ x. (device_of x).store.paired ≡ false)
+    c.args.self.now.rising c.place-at.ensures.range c.place-at.ensures.found c.index_mut.ensures.value c.requires.single) in
+    let size = (held c.args.self.now.devices.items c.args.d c.place-at.result c.index_mut.result.now (λ x. (g.V.Volume.view c.args.volume).tracks ≡ x.store.cylinders * 15)
+    c.args.self.now.rising c.place-at.ensures.range c.place-at.ensures.found c.index_mut.ensures.value c.requires.size) in
+    let home = (held c.args.self.now.devices.items c.args.d c.place-at.result c.index_mut.result.now (λ x. is_some (device_of x).store.lent ≡ false)
+    c.args.self.now.rising c.place-at.ensures.range c.place-at.ensures.found c.index_mut.ensures.value c.requires.free) in
+    set_stands c.args.self.now.devices.items c.place-at.result c.index_mut.result.now c.join_volume.new.self c.place-at.ensures.range c.index_mut.ensures.value
+    (ap (λ d. d.store.device) c.join_volume.ensures.device)
+    (stays_home c.index_mut.result.now c.join_volume.new.self (ap (λ d. d.store.lent) c.join_volume.ensures.device)
+    (c.join_volume.ensures.plain (rw size at told) single).stands home)

@@ -26,3 +26,12 @@ pub returns-clause-joined : goal.returns-clause-joined
 returns-clause-joined g c =
     joins c.args.a c.args.b c.args.self.now _ _ _ c.in-Some.volume c.lend_at.result c.in-Some.is c.lend_at.ensures.lent c.join_at.ensures.pool
     c.join_at.ensures.joined
+
+pub join_at-requires-clause-single : goal.join_at-requires-clause-single
+join_at-requires-clause-single g c =
+    let m = may_join c.args.a c.args.b c.args.self.now.devices.items _ c.in-Some.volume c.lend_at.result _ _ c.in-Some.is c.requires.fine
+    c.lend_at.ensures.lent in rw m.stands m.single
+
+pub returns-clause-stands : goal.returns-clause-stands
+returns-clause-stands g c =
+    λ pasts firsts all. c.join_at.ensures.stands (rw c.in-Some.is at (c.lend_at.ensures.told pasts firsts all)) pasts firsts (c.lend_at.ensures.stands pasts firsts all)

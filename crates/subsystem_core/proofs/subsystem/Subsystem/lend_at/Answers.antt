@@ -1,8 +1,9 @@
+use Rattle.subsystem_core.proofs.Standing.{set_stands, stays_away}
 use Rattle.device_core.specs.State.{device_of}
 use Rattle.subsystem_core.specs.Devices.{device_at}
 use Rattle.subsystem_core.proofs.Found.{changed, found, is_at, numbers_kept}
 use Rattle.subsystem_core.proofs.Hearing.{spans_kept}
-use Rattle.subsystem_core.proofs.Pairing.{may_lend}
+use Rattle.subsystem_core.proofs.Pairing.{may_lend, told_of}
 use Rattle.subsystem_core.proofs.Seating.{alike_lent, lend_based, ran_lent}
 use Rattle.subsystem_core.proofs.subsystem.Subsystem.lend_at.Goals as goal
 
@@ -42,3 +43,23 @@ returns-clause-lent g c =
       gone = c.lend_with.ensures.a;
       volume_is = c.lend_with.ensures.back;
     })
+
+pub returns-clause-stands : goal.returns-clause-stands
+returns-clause-stands g c =
+    let ds = c.args.self.now.devices.items in
+    let x = c.index_mut.result.now in
+    let at = is_at ds c.args.d c.place-at.result x c.place-at.ensures.range c.place-at.ensures.found c.index_mut.ensures.value in
+    let l = may_lend (device_at ds c.args.to) (device_at ds c.args.d) x (found ds c.args.d c.place-at.result x c.args.self.now.rising at) c.requires.fine in
+    set_stands ds c.place-at.result x c.lend_with.new.self c.place-at.ensures.range c.index_mut.ensures.value c.lend_with.ensures.fixed.0
+    (stays_away x c.lend_with.new.self c.args.to (ran_lent (lend_based (device_of x) c.args.to) (c.lend_with.ensures.run c.args._keep.now)) l.may.free_y
+    (c.lend_with.ensures.plain c.args._keep.now l.may.idle).stands)
+
+pub returns-clause-told : goal.returns-clause-told
+returns-clause-told g c =
+    λ pasts firsts all.
+    let ds = c.args.self.now.devices.items in
+    let x = c.index_mut.result.now in
+    let at = is_at ds c.args.d c.place-at.result x c.place-at.ensures.range c.place-at.ensures.found c.index_mut.ensures.value in
+    let l = may_lend (device_at ds c.args.to) (device_at ds c.args.d) x (found ds c.args.d c.place-at.result x c.args.self.now.rising at) c.requires.fine in
+    told_of pasts firsts ds c.place-at.result x c.place-at.ensures.range c.index_mut.ensures.value l.may.up l.may.free_y c.lend_with.result
+    c.lend_with.ensures.back all

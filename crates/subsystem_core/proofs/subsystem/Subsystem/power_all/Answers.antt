@@ -35,3 +35,11 @@ returns-clause-each g c =
     let room : length ds ≤ c.args.self.now.devices.len = omega (arith, ap length c.deref_mut.ensures.value, c.deref_mut.ensures.len) in
     rw (all_written c.args.self.now.devices.len ds c.power_each.new.devices room count)
     (rw c.deref_mut.ensures.value at c.power_each.ensures.each)
+
+pub returns-clause-stands : goal.returns-clause-stands
+returns-clause-stands g c =
+    let ds = c.args.self.now.devices.items in
+    let count : length c.power_each.new.devices ≡ length ds = c.power_each.auto.devices ∙ ap length c.deref_mut.ensures.value in
+    let room : length ds ≤ c.args.self.now.devices.len = omega (arith, ap length c.deref_mut.ensures.value, c.deref_mut.ensures.len) in
+    rw (all_written c.args.self.now.devices.len ds c.power_each.new.devices room count)
+    (rw c.deref_mut.ensures.value at c.power_each.ensures.stands)

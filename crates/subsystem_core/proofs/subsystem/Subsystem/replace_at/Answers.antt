@@ -1,3 +1,4 @@
+use Rattle.subsystem_core.proofs.Standing.{replaces_down, set_stands, stays_home}
 use Rattle.std.proofs.Common.{◌≡◌, ◌*◌, None}
 use Rattle.subsystem_defs.specs.Refusals.{replace_fault}
 use Rattle.subsystem_core.proofs.Coming.{is_home, is_there, same_replaced}
@@ -45,3 +46,16 @@ replace-old-requires-clause-size g c =
     (held c.args.self.now.devices.items c.args.d c.place-at.result c.index_mut.result.now (λ x.
     (g.V.Volume.view c.args.volume).tracks ≡ x.store.cylinders * 15) c.args.self.now.rising
     c.place-at.ensures.range c.place-at.ensures.found c.index_mut.ensures.value c.requires.size)
+
+pub returns-clause-stands : goal.returns-clause-stands
+returns-clause-stands g c =
+    λ told.
+    let x = c.index_mut.result.now in
+    let free = held c.args.self.now.devices.items c.args.d c.place-at.result x (λ z. replace_fault (device_of z) c.args.side ≡ None)
+    c.args.self.now.rising c.place-at.ensures.range c.place-at.ensures.found c.index_mut.ensures.value c.requires.fine in
+    let size = held c.args.self.now.devices.items c.args.d c.place-at.result x (λ z. (g.V.Volume.view c.args.volume).tracks ≡ z.store.cylinders * 15)
+    c.args.self.now.rising c.place-at.ensures.range c.place-at.ensures.found c.index_mut.ensures.value c.requires.size in
+    set_stands c.args.self.now.devices.items c.place-at.result x c.replace-old.new.self c.place-at.ensures.range c.index_mut.ensures.value
+    (same_replaced x c.replace-old.new.self c.args.side c.replace-old.ensures.device)
+    (stays_home x c.replace-old.new.self (sits_replaced x c.replace-old.new.self c.args.side c.replace-old.ensures.device).lent
+    (c.replace-old.ensures.plain (rw size at told) (replaces_down (device_of x) c.args.side free)).stands (is_home x c.args.side free))

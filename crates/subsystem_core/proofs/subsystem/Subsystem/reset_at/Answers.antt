@@ -1,3 +1,4 @@
+use Rattle.subsystem_core.proofs.Standing.{set_stands, stays_by}
 use Rattle.std.specs.Prelude.{◌*◌}
 use Rattle.device_store.specs.State.{Takes}
 use Rattle.device_defs.specs.Contents.{contents}
@@ -40,3 +41,10 @@ reset_with-requires g c = record {
       (λ x. Takes g.K.Keep.takes c.args.keep.now x.store.number x.store.geometry (x.store.cylinders * 15))
       c.args.self.now.rising c.place-at.ensures.range c.place-at.ensures.found c.index_mut.ensures.value c.requires.takes;
 }
+
+pub returns-clause-stands : goal.returns-clause-stands
+returns-clause-stands g c =
+    set_stands c.args.self.now.devices.items c.place-at.result c.index_mut.result.now c.reset_with.new.self c.place-at.ensures.range c.index_mut.ensures.value
+    c.reset_with.ensures.fixed.0
+    (stays_by c.index_mut.result.now c.reset_with.new.self (ran_lent (reset_body contents (device_of c.index_mut.result.now) c.args.path) (c.reset_with.ensures.run (P.no_pool 0)))
+    c.reset_with.ensures.plain.stands c.reset_with.ensures.lent.stands)

@@ -1,3 +1,4 @@
+use Rattle.subsystem_core.proofs.Standing.{restored_stands}
 use Rattle.subsystem_core.proofs.Found.{numbers_kept}
 use Rattle.subsystem_core.proofs.Numbers.{below_same}
 use Rattle.subsystem_core.proofs.Parting.{all_restored, all_still, place_of, restored_alike, restored_number, restored_size, stands_there}
@@ -46,3 +47,14 @@ returns-clause-still g c =
     let x = c.index_mut.result.now in
     let p = stands_there c.args.a ds c.args.at x c.requires.lent c.index_mut.ensures.value in
     all_still x c.restore.new.self ds c.args.at c.index_mut.ensures.value p.stands c.restore.result c.restore.ensures.same
+
+pub returns-clause-stands : goal.returns-clause-stands
+returns-clause-stands g c =
+    let ds = c.args.self.now.devices.items in
+    let x = c.index_mut.result.now in
+    let p = stands_there c.args.a ds c.args.at x c.requires.lent c.index_mut.ensures.value in
+    restored_stands c.restore.result ds c.args.at c.args.a x c.restore.new.self (g.V.Volume.view c.args.volume)
+    (place_of c.args.a ds c.args.at c.requires.lent) c.index_mut.ensures.value
+    (restored_number x c.restore.new.self c.restore.result c.restore.ensures.device c.restore.ensures.same) p.lent
+    (restored_size c.args.a c.args.at c.args.volume ds x p.stands p.lent c.args.self.now.alike c.requires.size)
+    c.restore.ensures.device c.restore.ensures.same c.restore.ensures.plain

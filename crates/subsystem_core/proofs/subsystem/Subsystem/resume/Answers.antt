@@ -1,3 +1,4 @@
+use Rattle.subsystem_core.proofs.Standing.{resumed_pair}
 use Rattle.std.proofs.Common.{◌∙◌, refl, sym}
 use Rattle.device_outside.specs.Keeper.{Heard}
 use Rattle.device_defs.specs.Contents.{contents}
@@ -26,3 +27,7 @@ returns-clause-came g c =
     answers.Done ends.Done (λ x y. IsNow (resume (device_of x)) x y) c.device.ensures
     (deeds.resumed contents _ _ _ _ (found_in c.args.self.now.devices.items c.args.d _ c.device.ensures)
     (sym c.resume_fault.ensures ∙ c.in_default.is)) refl (λ p. refl) c.resume_at.ensures.pool (λ y is. is) c.resume_at.ensures.resumed
+
+pub resume_at-requires-clause-two : goal.resume_at-requires-clause-two
+resume_at-requires-clause-two g c =
+    rw c.device.ensures (resumed_pair (device_of c.device.result.now) (sym c.resume_fault.ensures ∙ c.in_default.is))

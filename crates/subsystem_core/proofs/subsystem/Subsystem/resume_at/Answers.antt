@@ -1,5 +1,7 @@
-use Rattle.std.proofs.Common.{ap, refl}
-use Rattle.subsystem_core.proofs.Found.{changed, numbers_kept}
+use Rattle.device_core.specs.State.{device_of}
+use Rattle.subsystem_core.proofs.Standing.{set_stands, stays_paired}
+use Rattle.std.proofs.Common.{ap, refl, ◌≡◌, true}
+use Rattle.subsystem_core.proofs.Found.{changed, numbers_kept, held}
 use Rattle.subsystem_core.proofs.Hearing.{spans_kept}
 use Rattle.subsystem_core.proofs.Seating.{alike_kept, sits_by}
 use Rattle.subsystem_core.proofs.subsystem.Subsystem.resume_at.Goals as goal
@@ -25,3 +27,11 @@ pub returns-clause-resumed : goal.returns-clause-resumed
 returns-clause-resumed g c =
     changed c.args.self.now.devices.items c.args.d c.place-at.result c.index_mut.result.now c.resume.new.self _ c.args.self.now.rising
     c.place-at.ensures.range c.place-at.ensures.found c.index_mut.ensures.value (c.resume.ensures.device, c.resume.ensures.volume)
+
+pub returns-clause-stands : goal.returns-clause-stands
+returns-clause-stands g c =
+    set_stands c.args.self.now.devices.items c.place-at.result c.index_mut.result.now c.resume.new.self c.place-at.ensures.range c.index_mut.ensures.value
+    (ap (λ d. d.store.device) c.resume.ensures.device)
+    (stays_paired c.index_mut.result.now c.resume.new.self (ap (λ d. d.store.lent) c.resume.ensures.device) c.resume.ensures.plain.stands
+    (held c.args.self.now.devices.items c.args.d c.place-at.result c.index_mut.result.now (λ x. (device_of x).store.paired ≡ true)
+    c.args.self.now.rising c.place-at.ensures.range c.place-at.ensures.found c.index_mut.ensures.value c.requires.two))

@@ -1,3 +1,4 @@
+use Rattle.subsystem_core.proofs.Standing.{set_stands, starts_home, stays_home}
 use Rattle.std.proofs.Common.{◌≡◌, ◌∙◌, None, ap, false, sym}
 use Rattle.plain_defs.specs.History.{is_path_of}
 use Rattle.device_defs.specs.Start.{start_fault}
@@ -46,3 +47,11 @@ returns-clause-done g c =
     (starts_by c.args.path c.not_refused.result c.start-outcome.result c.index_mut.result.now c.start-outcome.new.self _ c.not_refused.ensures.ordinal
     c.not_refused.ensures.lacked c.start-outcome.ensures.ordinal c.start-outcome.ensures.started c.start-outcome.ensures.same
     c.start-outcome.ensures.store)
+
+pub returns-clause-stands : goal.returns-clause-stands
+returns-clause-stands g c =
+    set_stands c.args.self.now.devices.items c.place-at.result c.index_mut.result.now c.start-outcome.new.self c.place-at.ensures.range c.index_mut.ensures.value
+    (ap (λ s. s.number) c.start-outcome.ensures.store)
+    (stays_home c.index_mut.result.now c.start-outcome.new.self (ap (λ s. s.pair.lent) c.start-outcome.ensures.store) c.start-outcome.ensures.plain.stands
+    (starts_home (device_of c.index_mut.result.now) c.args.path (held c.args.self.now.devices.items c.args.d c.place-at.result c.index_mut.result.now (λ x. start_fault (device_of x) c.args.path ≡ None)
+    c.args.self.now.rising c.place-at.ensures.range c.place-at.ensures.found c.index_mut.ensures.value c.requires.free)))

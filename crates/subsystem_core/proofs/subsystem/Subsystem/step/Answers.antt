@@ -45,3 +45,6 @@ returns-in-Ok-clause-came g c =
     (deeds.commanded contents _ _ _ _ (found_in c.args.self.now.devices.items c.args.d _ c.device-device.ensures)
     (sym c.half_open.ensures ∙ c.if-half_open.false) (open_some (device_of c.device-device.result.now).history.running _
     (sym c.active.ensures ∙ c.in-Some.is))) c.in-Ok.ensures.asked
+
+pub second_at-requires-clause-open : goal.second_at-requires-clause-open
+second_at-requires-clause-open g c = rw c.device-device.ensures (sym c.half_open.ensures ∙ c.if-half_open.true)
