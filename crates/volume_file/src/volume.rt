@@ -47,11 +47,7 @@ fn empty_images(
 
 impl DeviceVolume {
     /// A volume whose tracks are empty.
-    pub fn new(
-        alloc: Global,
-        geometry: Geometry,
-        cylinders: u16,
-    ) -> Result<DeviceVolume, NoMemory>
+    pub fn new(alloc: Global, geometry: Geometry, cylinders: u16) -> Result<DeviceVolume, NoMemory>
         requires least { 1 ≤ cylinders }
         requires most { cylinders ≤ 4369 }
         ensures { IfOk result (λ v. v ≡ record { geometry = geometry; cylinders = cylinders; images = empty_images geometry cylinders }) }
