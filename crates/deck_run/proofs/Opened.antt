@@ -31,6 +31,7 @@ use Rattle.ckd_types.specs.declared.geometry.Geometry.{Geometry}
 use Rattle.ckd_types.specs.Volume.{empty_volume}
 use Rattle.plain_defs.specs.Whole.{GiveBytes}
 use Rattle.deck_run.specs.Owning.{IsOwn}
+use Rattle.deck_run.specs.Unused.{AreUnused, IsUnused}
 use Rattle.deck_text.specs.declared.line.DeviceLine.{DeviceLine}
 use Rattle.deck_text.specs.DeckLines.{DeckLines}
 use Rattle.deck_text.specs.Plans.{plans_of}
@@ -144,6 +145,10 @@ module _ {V : Type 0} {G : Ghosts V} where
   numbers_more xs x ds d are is =
       mapped_more number_of xs x ∙ ap (λ (l : List ℕ). l ++ number_of x ∷ []) are ∙ ap (λ (n : ℕ). numbers_in ds ++ n ∷ []) is
       ∙ sym (mapped_more (λ (e : DeviceLine). e.number) ds d)
+
+  pub unused_more : (xs : List (Device V G)) (x : Device V G) → AreUnused xs → IsUnused x → AreUnused (xs ++ x ∷ [])
+  unused_more [] x all is = (is, tt)
+  unused_more (y ∷ ys) x all is = (all.0, unused_more ys x all.1 is)
 
   pub stands_more : (firsts : Firsts) (p : Pool) (deck : DeckLines) (xs : List (Device V G)) (x : Device V G) (ds : List DeviceLine) (d : DeviceLine) →
       AreMounted p (all_stood xs) (map (opened_device_on firsts deck) ds) → IsMounted [] (stood_of x) (opened_device_on firsts deck d) →

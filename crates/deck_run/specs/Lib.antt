@@ -1,6 +1,7 @@
 pub mod Opening
 pub mod Fronts
 pub mod Sides
+pub mod Unused
 pub mod Owning
 pub mod Standing
 pub mod Counting

@@ -9,6 +9,7 @@ ghost use Rattle.device_core.specs.State.{device_of};
 ghost use Rattle.deck_run.specs.Owning.{AllOwn, AreOwn, IsOwn};
 ghost use Rattle.deck_run.specs.Sides.{AllFresh, IsFresh};
 ghost use Rattle.deck_run.specs.Standing.{StandsAs, all_stood, stood_of};
+ghost use Rattle.deck_run.specs.Unused.{AreUnused, IsUnused};
 
 use ckd_types::{DeviceNo, NoMemory};
 use deck_text::{Deck, DeviceLine};
@@ -99,6 +100,7 @@ fn open_device<V: Volume>(
         → IfOk result (λ made. IsMounted [] (stood_of made) (opened_device_on firsts deck.now line)) }
     ensures own { IfOk result (λ made. IsOwn (device_of made)) }
     ensures fresh { IfOk result (λ made. IsFresh made) }
+    ensures unused { IfOk result (λ made. IsUnused made) }
 {
     let plans = deck.plans(line.number).copy(alloc)?;
     plans_give(&plans);
@@ -127,6 +129,7 @@ fn open_devices<V: Volume>(
         → IfOk result (λ made. AreMounted p (all_stood made.items) (map (opened_device_on firsts deck.now) deck.now.devices)) }
     ensures own { IfOk result (λ made. AllOwn made.items) }
     ensures fresh { IfOk result (λ made. AllFresh made.items) }
+    ensures unused { IfOk result (λ made. AreUnused made.items) }
 {
     let mut made = Vec::new(alloc);
     for i in 0..deck.device_count() {
@@ -150,6 +153,7 @@ pub fn open_on<V: Volume>(
         → IfOk result (λ made. StandsAs made (opened_on firsts deck.now)) }
     ensures numbers { IfOk result (λ made. numbers_of made.devices.items ≡ numbers_in deck.now.devices) }
     ensures own { IfOk result (λ made. AreOwn made.devices.items) }
+    ensures unused { IfOk result (λ made. AreUnused made.devices.items) }
 {
     let devices = open_devices(alloc, deck, volumes)?;
     let pool = Pool::new(alloc, deck.frames(), deck.slots())?;

@@ -1,7 +1,8 @@
 -- A bay of volumes in memory is one that hands out empty volumes.
-use Rattle.std.proofs.Common.{◌≡◌, ◌<◌, ◌≤◌, ◌∙◌, ◌+◌, ◌++◌, ◌∷◌, [], ℕ, Bool, true, false, List, Option, Some, None, length, map, refl, sym, ap, subst, arith}
+use Rattle.std.proofs.Common.{◌≡◌, ◌<◌, ◌≤◌, ◌∙◌, ◌+◌, ◌++◌, ◌∷◌, [], ℕ, Bool, true, false, List, Option, Some, None, length, map, refl, sym, ap, subst, arith, ◌⊎◌, inl, inr}
 use Rattle.std.specs.Prelude.{if◌then◌else◌, slice_index_or}
-use Rattle.std.proofs.lemmas.List.{length-map}
+use Rattle.std.proofs.lemmas.Bool.{cases_lt}
+use Rattle.std.proofs.lemmas.List.{get_or_past, length-map}
 use Rattle.std.proofs.lemmas.Option.{none-some, same_Some}
 use Rattle.ckd_types.specs.Volume.{empty_volume}
 use Rattle.deck_text.specs.declared.line.DeviceLine.{DeviceLine}
@@ -65,6 +66,15 @@ one_more_made b c is = ap memory_view is
 told_tracks : (spoiled : Bool) (tracks held : List (List ℕ)) → (if spoiled then None else Some tracks) ≡ Some held → tracks ≡ held
 told_tracks true tracks held e = absurd (none-some held e)
 told_tracks false tracks held e = same_Some tracks held e
+
+-- what is so of the tracks that there are is so of any
+pub held_so_far : (tracks : List (List ℕ)) (n : ℕ) → length tracks ≤ n →
+    ((t i : ℕ) → t < n → slice_index_or (slice_index_or tracks t []) i 0 < 256) →
+    (t i : ℕ) → t < 65535 → slice_index_or (slice_index_or tracks t []) i 0 < 256
+held_so_far tracks n past are t i lt = by_place (cases_lt t n) where
+  by_place : (t < n) ⊎ (n ≤ t) → slice_index_or (slice_index_or tracks t []) i 0 < 256
+  by_place (inl before) = are t i before
+  by_place (inr behind) = subst (λ (l : List ℕ). slice_index_or l i 0 < 256) (sym (get_or_past tracks t [] (omega (arith, past, behind)))) (omega arith)
 
 pub told_bytes : (v : Disk) → ((t i : ℕ) → t < 65535 → slice_index_or (slice_index_or v.tracks t []) i 0 < 256) → HoldsBytes (disk_view v)
 told_bytes v are = λ held told t i lt.

@@ -16,20 +16,15 @@ fn are_bytes(bytes: &[u8])
     let _bytes = bytes;
 }
 
-fn track_holds_bytes(volume: &MemVolume, t: u16)
-    requires { t < 65535 }
-    ensures { (i : ℕ) → slice_index_or (slice_index_or volume.now.tracks t []) i 0 < 256 }
-{
-    if usize::from(t) < volume.len() {
-        are_bytes(volume.track(TrackNo::new(t).unwrap()));
-    }
-}
-
+#[tactic(auto, using(crate::proofs::EmptyBays::held_so_far))]
 fn tracks_hold_bytes(volume: &MemVolume)
     ensures { (t i : ℕ) → t < 65535 → slice_index_or (slice_index_or volume.now.tracks t []) i 0 < 256 }
 {
     for t in 0..MOST_TRACKS {
-        track_holds_bytes(volume, t);
+        if volume.len() <= usize::from(t) {
+            return;
+        }
+        are_bytes(volume.track(TrackNo::new(t).unwrap()));
     }
 }
 

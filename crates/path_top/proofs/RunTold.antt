@@ -24,12 +24,13 @@ use Rattle.subsystem_laws.proofs.turning.Sound.{beside_plain}
 use Rattle.device_core.specs.declared.device.Device.{Device}
 use Rattle.device_core.specs.State.{device_of}
 use Rattle.deck_run.specs.Ending.{lost_in}
+use Rattle.deck_run.specs.Unused.{AreUnused, IsUnused}
 use Rattle.device_defs.specs.declared.counts.Losses.{Losses}
 use Rattle.path_turns.specs.Keeping.{IsFinished, KeepsPledge, KeepsWithin, StandsFirst, pledge_with, told_of}
 use Rattle.path_threads.specs.declared.orders.Order.{Order}
 use Rattle.path_threads.specs.Allowed.{allowed_of}
 use Rattle.path_threads.specs.Places.{KeepsOrdered}
-use Rattle.path_top.specs.Devices.{AreUnused, IsUnused, all_told, told_by}
+use Rattle.path_top.specs.Devices.{all_told, told_by}
 use Rattle.path_top.specs.Excuses.{excuses_on}
 use Rattle.path_top.specs.Histories.{AreToldOfOn, IsExcusedBy, IsToldBy, IsToldOfOn}
 use Rattle.path_top.specs.Orders.{line_of, orders_in}

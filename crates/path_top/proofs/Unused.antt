@@ -1,5 +1,5 @@
 -- Devices to which nothing has happened stay so where two of them become a pair, and are ready for the run of their paths.
-use Rattle.std.proofs.Common.{◌≡◌, ◌<◌, ◌==◌, ◌++◌, ◌∙◌, ℕ, zero, suc, Bool, true, false, List, [], ◌∷◌, length, Option, Some, None, refl, sym, ap, subst, arith}
+use Rattle.std.proofs.Common.{◌≡◌, ◌<◌, ◌==◌, ◌∙◌, ℕ, zero, suc, Bool, true, false, List, [], ◌∷◌, length, Option, Some, None, refl, sym, ap, subst, arith}
 use Rattle.std.proofs.lemmas.Option.{same_Some}
 use Rattle.std.specs.Prelude.{slice_index_or, if◌then◌else◌}
 use Rattle.plain_defs.specs.History.{History}
@@ -25,8 +25,8 @@ use Rattle.subsystem_defs.specs.Deeds.{Lends, device_in, on_device, order}
 use Rattle.subsystem_defs.specs.Refusals.{pair_fault}
 use Rattle.deck_run.proofs.Stays.{quiet_had}
 use Rattle.deck_run.proofs.Surely.{ran_so}
+use Rattle.deck_run.specs.Unused.{AreUnused, IsUnused}
 use Rattle.path_turns.specs.Keeping.{IsReady, are_fresh}
-use Rattle.path_top.specs.Devices.{AreUnused, IsUnused}
 
 -- a device that lends its volume keeps its history
 lend_keeps : (d : DefinedDevice) (to : ℕ) → Had (lend contents d to) (λ y (_ : Unit {0}). y.history ≡ d.history)
@@ -94,12 +94,6 @@ module _ {V : Type 0} {G : Ghosts V} where
     unfolding D.deed
     pair_unused n m came =
         first_unused m (device_in (devices_of old.devices.items) n) (device_in (devices_of old.devices.items) m) refl came
-
-  -- one more
-
-  pub none_more : (xs : List (Device V G)) (x : Device V G) → AreUnused xs → IsUnused x → AreUnused (xs ++ x ∷ [])
-  none_more [] x all none = (none, tt)
-  none_more (y ∷ ys) x all none = (all.0, none_more ys x all.1 none)
 
   -- Ready for the run
 

@@ -1,6 +1,5 @@
--- What a history tells of a device in code, and devices to which nothing has happened.
-use Rattle.std.specs.Prelude.{◌≡◌, List, [], ◌∷◌, map}
-use Rattle.plain_defs.specs.History.{no_history}
+-- What a history tells of a device in code.
+use Rattle.std.specs.Prelude.{List, [], ◌∷◌, map}
 use Rattle.device_outside.specs.declared.volume.Volume.{Ghosts}
 use Rattle.device_defs.specs.Start.{left}
 use Rattle.device_core.specs.declared.device.Device.{Device}
@@ -20,10 +19,3 @@ module _ {V : Type 0} {G : Ghosts V} where
 
   abbrev pub all_told : List (Device V G) → List DeviceTold
   all_told xs = map told_by xs
-
-  abbrev pub IsUnused : Device V G → Type 0
-  IsUnused x = (device_of x).history ≡ no_history
-
-  abbrev pub AreUnused : List (Device V G) → Type 0
-  AreUnused [] = Unit {0}
-  AreUnused (x ∷ xs) = IsUnused x × AreUnused xs

@@ -6,7 +6,6 @@ mod journal;
 mod laws;
 mod line;
 mod making;
-mod open;
 mod orders;
 mod pairs;
 mod run;

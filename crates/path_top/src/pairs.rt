@@ -4,11 +4,11 @@ ghost use Rattle.std.specs.Prelude.{◌≡◌, OnOk, count_by, fold, length, tru
 ghost use Rattle.deck_run.specs.Opening.{are_open_lines, is_open_line};
 ghost use Rattle.deck_run.specs.Owning.{AreOwn};
 ghost use Rattle.deck_run.specs.Standing.{StandsAs};
+ghost use Rattle.deck_run.specs.Unused.{AreUnused};
 ghost use Rattle.subsystem_core.specs.Devices.{numbers_of};
 ghost use Rattle.subsystem_core.specs.Frames.{HasDevice, HasSameDevices};
 ghost use Rattle.subsystem_defs.specs.Happening.{happens};
 ghost use Rattle.subsystem_defs.specs.Subsystem as runs;
-ghost use Rattle.path_top.specs.Devices.{AreUnused};
 ghost use Rattle.path_top.specs.Orders.{is_order};
 ghost use Rattle.path_top.specs.Pairs.{before_start, behind_line, behind_pairs, is_pair, is_start, unused_in};
 

@@ -4,20 +4,20 @@ ghost use Rattle.std.specs.Prelude.{◌≡◌, All, IfOk, map, true};
 ghost use Rattle.deck_run.specs.Opening.{WasRead, numbers_in};
 ghost use Rattle.deck_run.specs.Owning.{AreOwn};
 ghost use Rattle.deck_run.specs.Standing.{StandsAs};
+ghost use Rattle.deck_run.specs.Unused.{AreUnused};
 ghost use Rattle.deck_top.specs.Bays.{HandsOut};
 ghost use Rattle.device_defs.specs.Pledge.{are_kept};
 ghost use Rattle.path_top.specs.Histories.{AreToldOfOn};
 ghost use Rattle.path_top.specs.Pairs.{AllFit, paired_on, unused_in};
-ghost use Rattle.path_top.specs.Devices.{AreUnused, all_told};
+ghost use Rattle.path_top.specs.Devices.{all_told};
 ghost use Rattle.path_top.specs.Told.{DeviceTold};
 ghost use Rattle.subsystem_core.specs.Devices.{numbers_of};
 ghost use Rattle.subsystem_defs.specs.Decks.{Firsts};
 
-use crate::open::open;
 use crate::orders::orders_in;
 use crate::pairs::{pair_first, unused_in};
 use ckd_types::NoMemory;
-use deck_run::EmptyVolume;
+use deck_run::{EmptyVolume, open_on};
 use deck_text::Deck;
 use deck_top::{VolumeBay, hand_out_all};
 use device_core::Device;
@@ -45,7 +45,7 @@ fn open_paired<V: Volume, B: VolumeBay<V>>(
     ensures taken { (B.view bay.new).taken ≡ (B.view bay.old).taken }
 {
     let volumes = hand_out_all(alloc, deck, bay)?;
-    let mut sub = open(alloc, deck, volumes)?;
+    let mut sub = open_on(alloc, deck, volumes)?;
     pair_first(&mut sub, deck.schedule().as_slice())?;
     Ok(sub)
 }

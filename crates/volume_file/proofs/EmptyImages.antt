@@ -6,7 +6,7 @@ use Rattle.std.proofs.lemmas.List.{length-set, get_or-set_same, get_or-set_other
 use Rattle.std.proofs.lemmas.List.FromFn.{length-map-range_with_len, get_or-map-range_with_len, map-range_with_len_more}
 use Rattle.ckd_types.specs.declared.geometry.Geometry.{Geometry}
 use Rattle.track_image.specs.Image.{Image}
-use Rattle.volume_file.specs.File.{ImageVolume, IsPlaced, IsWhole, empty_image, empty_images}
+use Rattle.volume_file.specs.File.{HasAllTracks, ImageVolume, IsPlaced, IsWhole, empty_image, empty_images}
 
 -- one more empty track
 pub images_more : (g : Geometry) (images later : List Image) (n : ℕ) (i : Image) → later ≡ images ++ i ∷ [] → i ≡ empty_image g n
@@ -23,14 +23,14 @@ image_at g cylinders t inside =
     let many = length-map-range_with_len (empty_image g) 0 (cylinders * 15) in
     get_or-map-range_with_len (empty_image g) 0 (cylinders * 15) t t (empty_image g t) (subst (λ (n : ℕ). t < n) many inside) (omega arith)
 
--- empty tracks are a whole volume
-pub empty_is_whole : (g : Geometry) (cylinders : ℕ) (images : List Image) → 1 ≤ cylinders → cylinders ≤ 64
+-- empty tracks are all tracks
+pub empty_has_all : (g : Geometry) (cylinders : ℕ) (images : List Image) → 1 ≤ cylinders → cylinders ≤ 4369
     → images ≡ empty_images g cylinders
     → ((t : ℕ) → t < cylinders * 15 → IsPlaced g t (empty_image g t))
-    → IsWhole (record { geometry = g; cylinders = cylinders; images = images })
-empty_is_whole g cylinders images least most is placed =
+    → HasAllTracks (record { geometry = g; cylinders = cylinders; images = images })
+empty_has_all g cylinders images least most is placed =
     let many = length-map-range_with_len (empty_image g) 0 (cylinders * 15) in
-    subst (λ (l : List Image). IsWhole (record { geometry = g; cylinders = cylinders; images = l })) (sym is) (record {
+    subst (λ (l : List Image). HasAllTracks (record { geometry = g; cylinders = cylinders; images = l })) (sym is) (record {
       least = least;
       most = most;
       tracks = many;
@@ -38,9 +38,9 @@ empty_is_whole g cylinders images least most is placed =
     })
 
 -- one image in place of another
-pub set_is_whole : (v : ImageVolume) (t : ℕ) (i : Image) → IsWhole v → t < length v.images → IsPlaced v.geometry t i
-    → IsWhole (record v { images = set v.images t i })
-set_is_whole v t i w inside place = record {
+pub set_has_all : (v : ImageVolume) (t : ℕ) (i : Image) → HasAllTracks v → t < length v.images → IsPlaced v.geometry t i
+    → HasAllTracks (record v { images = set v.images t i })
+set_has_all v t i w inside place = record {
   least = w.least;
   most = w.most;
   tracks = length-set v.images t i ∙ w.tracks;
@@ -54,3 +54,10 @@ set_is_whole v t i w inside place = record {
         (w.placed k (subst (λ (n : ℕ). k < n) (length-set v.images t i) below))
   ];
 }
+
+-- one with few cylinders is that of a file, and that of a file is one of a device
+pub small_is_whole : (v : ImageVolume) → HasAllTracks v → v.cylinders ≤ 64 → IsWhole v
+small_is_whole v all small = record { least = all.least; most = small; tracks = all.tracks; placed = all.placed }
+
+pub whole_has_all : (v : ImageVolume) → IsWhole v → HasAllTracks v
+whole_has_all v w = record { least = w.least; most = omega (arith, w.most); tracks = w.tracks; placed = w.placed }

@@ -26,12 +26,19 @@ pub record IsPlaced (g : Geometry) (t : ℕ) (i : Image) : Type 0 where
   pub model : i.geometry ≡ g
   pub home : i.track.home ≡ cchh_of t
 
--- what is so of every volume of a file
-pub record IsWhole (v : ImageVolume) : Type 0 where
+-- it has at most so many cylinders, and an image of each track, which fits and is where it says
+pub record HasTracks (limit : ℕ) (v : ImageVolume) : Type 0 where
   pub least : 1 ≤ v.cylinders
-  pub most : v.cylinders ≤ 64
+  pub most : v.cylinders ≤ limit
   pub tracks : length v.images ≡ v.cylinders * 15
   pub placed : (t : ℕ) → t < length v.images → IsPlaced v.geometry t (image_in v t)
+
+-- what is so of every volume of a file, and of every volume of a device
+abbrev pub IsWhole : ImageVolume → Type 0
+IsWhole v = HasTracks 64 v
+
+abbrev pub HasAllTracks : ImageVolume → Type 0
+HasAllTracks v = HasTracks 4369 v
 
 abbrev pub empty_images : Geometry → ℕ → List Image
 empty_images g cylinders = map (empty_image g) (range_with_len 0 (cylinders * 15))

@@ -3,6 +3,7 @@
 
 mod fault;
 mod field;
+mod file;
 mod head;
 mod laws;
 mod loading;
@@ -12,8 +13,9 @@ mod volume;
 mod writing;
 
 pub use fault::LoadFault;
+pub use file::FileVolume;
 pub use laws::loads_back;
 pub use loading::load;
 pub use reader::FileReader;
-pub use volume::FileVolume;
+pub use volume::DeviceVolume;
 pub use writing::save;

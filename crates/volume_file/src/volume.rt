@@ -1,41 +1,41 @@
 ghost use Rattle.std.specs.Prelude.{◌≡◌, ◌≤◌, ◌<◌, ◌*◌, IfOk, OnOk, ℕ, length, slice_set};
 ghost use Rattle.ckd_types.specs.Geometry.{cchh_of};
-ghost use Rattle.volume_file.specs.File.{IsPlaced, IsWhole, empty_image, empty_images, image_in};
+ghost use Rattle.volume_file.specs.File.{HasAllTracks, IsPlaced, empty_image, empty_images, image_in};
 
 use ckd_types::{Geometry, HEADS, NoMemory, TrackNo};
 use std::alloc::Global;
 use std::marker::Model;
 use track_image::TrackImage;
 
-/// A volume with the images of all its tracks: what a file holds.
+/// The volume of a device, with the images of all its tracks.
 #[derive(Debug, Drop)]
-pub struct FileVolume {
+pub struct DeviceVolume {
     geometry: Geometry,
-    cylinders: u8,
+    cylinders: u16,
     images: Vec<TrackImage>,
 }
 
-impl Model for FileVolume {
-    ghost use Rattle.volume_file.specs.File.{ImageVolume, IsWhole};
+impl Model for DeviceVolume {
+    ghost use Rattle.volume_file.specs.File.{HasAllTracks, ImageVolume};
 
     ghost Value = { ImageVolume };
 
     ghost view = { λ v. record { geometry = v.geometry; cylinders = v.cylinders; images = v.images.items } };
 
-    ghost invariant = { λ v. IsWhole (record { geometry = v.geometry; cylinders = v.cylinders; images = v.images.items }) };
+    ghost invariant = { λ v. HasAllTracks (record { geometry = v.geometry; cylinders = v.cylinders; images = v.images.items }) };
 }
 
 /// The images of the empty tracks of this many cylinders.
 fn empty_images(
     alloc: Global,
     geometry: Geometry,
-    cylinders: u8,
+    cylinders: u16,
 ) -> Result<Vec<TrackImage>, NoMemory>
-    requires { cylinders ≤ 64 }
+    requires { cylinders ≤ 4369 }
     ensures images { IfOk result (λ made. made.items ≡ empty_images geometry cylinders) }
     ensures placed { OnOk result ((t : ℕ) → t < cylinders * 15 → IsPlaced geometry t (empty_image geometry t)) }
 {
-    let count = u16::from(cylinders) * HEADS;
+    let count = cylinders * HEADS;
     let mut images = Vec::with_capacity(alloc, usize::from(count))?;
     for n in 0..count {
         let image = TrackImage::empty(alloc, geometry, TrackNo::new(n).unwrap())?;
@@ -45,15 +45,19 @@ fn empty_images(
     Ok(images)
 }
 
-impl FileVolume {
+impl DeviceVolume {
     /// A volume whose tracks are empty.
-    pub fn new(alloc: Global, geometry: Geometry, cylinders: u8) -> Result<FileVolume, NoMemory>
+    pub fn new(
+        alloc: Global,
+        geometry: Geometry,
+        cylinders: u16,
+    ) -> Result<DeviceVolume, NoMemory>
         requires least { 1 ≤ cylinders }
-        requires most { cylinders ≤ 64 }
+        requires most { cylinders ≤ 4369 }
         ensures { IfOk result (λ v. v ≡ record { geometry = geometry; cylinders = cylinders; images = empty_images geometry cylinders }) }
     {
         let images = empty_images(alloc, geometry, cylinders)?;
-        Ok(FileVolume {
+        Ok(DeviceVolume {
             geometry,
             cylinders,
             images,
@@ -61,20 +65,20 @@ impl FileVolume {
     }
 
     /// The volume of the images of all its tracks.
-    pub fn of(geometry: Geometry, cylinders: u8, images: Vec<TrackImage>) -> FileVolume
-        requires { IsWhole (record { geometry = geometry; cylinders = cylinders; images = images.items }) }
+    pub(crate) fn of(geometry: Geometry, cylinders: u16, images: Vec<TrackImage>) -> DeviceVolume
+        requires { HasAllTracks (record { geometry = geometry; cylinders = cylinders; images = images.items }) }
         ensures { result ≡ record { geometry = geometry; cylinders = cylinders; images = images.items } }
     {
-        FileVolume {
+        DeviceVolume {
             geometry,
             cylinders,
             images,
         }
     }
 
-    /// Each track fits and is where it says.
-    pub fn is_whole(&self)
-        ensures { IsWhole self.now }
+    /// Each track is there, fits and is where it says.
+    pub fn has_all_tracks(&self)
+        ensures { HasAllTracks self.now }
     {
         let _ = &self.geometry;
     }
@@ -86,8 +90,8 @@ impl FileVolume {
         self.geometry
     }
 
-    /// How many cylinders it has: 1 to 64, of 15 tracks each.
-    pub fn cylinders(&self) -> u8
+    /// How many cylinders it has: 1 to 4369, of 15 tracks each.
+    pub fn cylinders(&self) -> u16
         ensures { result ≡ self.now.cylinders }
     {
         self.cylinders

@@ -1,7 +1,6 @@
 pub mod Devices
 pub mod DeckTexts
 pub mod InRun
-pub mod Volumes
 pub mod Images
 pub mod SmallRuns
 pub mod Stepping

@@ -73,7 +73,7 @@ use Rattle.subsystem_laws.specs.WholeStood.{Stood, stood_in, AreMounted, IsMount
 use Rattle.subsystem_laws.proofs.WholeFinding.{Found, none_found, both_found, find}
 use Rattle.deck_run.specs.Standing.{StandsAs, stood_of, all_stood}
 use Rattle.deck_run.proofs.Found.{stood_found}
-use Rattle.volume_file.specs.File.{ImageVolume}
+use Rattle.volume_file.specs.File.{HasAllTracks, ImageVolume}
 use Rattle.volume_save.specs.declared.unsaved.Unsaved.{Unsaved}
 use Rattle.volume_save.specs.declared.unsaved.Unsaved.TheVariants.{Lent, Half, Lost, Fault, NoMemory}
 use Rattle.volume_save.specs.Devices.{HasSmallDevices}
@@ -97,11 +97,10 @@ use Rattle.volume_save.specs.Saving.{
   IsSavedOn,
 }
 use Rattle.volume_save.specs.Stepping.{FitsRun, GoesOn, GoesOnWith, LooksLeft}
-use Rattle.volume_save.specs.Volumes.{HasAllTracks}
 use Rattle.volume_save.proofs.Images.{found_plain, image_on, not_refused, saving_plain}
 use Rattle.volume_save.proofs.InRun.{plain_after, stands_in_run}
 use Rattle.volume_save.proofs.SmallRuns.{small_in_run}
-use Rattle.volume_save.proofs.Volumes.{small_is_whole}
+use Rattle.volume_file.proofs.EmptyImages.{small_is_whole}
 
 some_same : {X : Type 0} {x y : X} → Some x ≡ Some y → x ≡ y
 some_same e = cc

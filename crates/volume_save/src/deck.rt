@@ -25,7 +25,7 @@ pub fn saved_behind(alloc: Global, deck: &Deck, d: DeviceNo) -> Result<FileVolum
     let ran = run_deck(alloc, deck, &mut bay)?;
     let mut sub = ran.sub;
     match saved(alloc, &mut sub, d) {
-        Ok(volume) => Ok(volume.into_file()),
+        Ok(volume) => Ok(FileVolume::of_device(volume)),
         Err(why) => Err(why),
     }
 }

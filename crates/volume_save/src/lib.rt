@@ -5,10 +5,8 @@ mod deck;
 mod device;
 mod saving;
 mod unsaved;
-mod volume;
 
 pub use deck::saved_behind;
 pub use device::declared;
 pub use saving::saved;
 pub use unsaved::Unsaved;
-pub use volume::DeviceVolume;

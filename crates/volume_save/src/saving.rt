@@ -11,13 +11,14 @@ ghost use Rattle.volume_save.specs.Saving.{refusal, saving, Gives, HasReason, Is
 ghost use Rattle.volume_save.specs.Stepping.{FitsRun, GoesOn};
 ghost use Rattle.subsystem_core.specs.Frames.{HasDevice, HasSameDevices};
 
-use crate::{DeviceVolume, Unsaved};
+use crate::Unsaved;
 use ckd_types::{DeviceNo, HEADS, NoMemory, TrackNo};
 use device_core::{Device, HalfOrigin};
 use device_outside::Volume;
 use std::alloc::Global;
 use subsystem_core::Subsystem;
 use track_looks::{Look, look};
+use volume_file::DeviceVolume;
 
 /// Whether a half write is open that isn't of the background.
 fn is_writing<V: Volume>(device: &Device<V>) -> bool

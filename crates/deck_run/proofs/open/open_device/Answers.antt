@@ -22,3 +22,6 @@ returns-in-Ok-clause-fresh g c = record {
   a = ap (λ o. is_some o) c.in-Ok.ensures.volume.0;
   b = ap (λ o. is_some o) c.in-Ok.ensures.volume.1;
 }
+
+pub returns-in-Ok-clause-unused : goal.returns-in-Ok-clause-unused
+returns-in-Ok-clause-unused g c = ap (λ (d : DefinedDevice). d.history) c.in-Ok.ensures.device

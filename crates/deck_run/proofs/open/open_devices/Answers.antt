@@ -5,7 +5,7 @@ use Rattle.deck_run.proofs.Accounted.{fresh_append}
 use Rattle.deck_run.proofs.Found.{own_more}
 use Rattle.deck_run.proofs.Lines.{open_at}
 use Rattle.deck_run.proofs.NewVolumes.{first_left, rest_left, some_left}
-use Rattle.deck_run.proofs.Opened.{none_mounted, numbers_more, stands_more}
+use Rattle.deck_run.proofs.Opened.{none_mounted, numbers_more, stands_more, unused_more}
 use Rattle.deck_run.proofs.open.open_devices.Goals as goal
 
 pub loop-i-init : goal.loop-i-init
@@ -16,6 +16,7 @@ loop-i-init g c = record {
   mounted = λ p firsts all. rw c.new-made.ensures.items (none_mounted p);
   own = rw c.new-made.ensures.items tt;
   fresh = rw c.new-made.ensures.items tt;
+  unused = rw c.new-made.ensures.items tt;
   count = c.device_count-i-end.ensures;
 }
 
@@ -62,5 +63,7 @@ loop-i-preserved g c =
           c.in_ok-open_device.ensures.own;
       fresh = fresh_append c.loop-i.made.items c.push.new.self.items c.in_ok-open_device.field-0 c.in_ok-push.ensures.items c.loop-i.invariant.fresh
           c.in_ok-open_device.ensures.fresh;
+      unused = rw c.in_ok-push.ensures.items
+          (unused_more c.loop-i.made.items c.in_ok-open_device.field-0 c.loop-i.invariant.unused c.in_ok-open_device.ensures.unused);
       count = c.loop-i.invariant.count;
     }

@@ -7,6 +7,7 @@ use Rattle.deck_run.specs.Opening.{AllHold, HaveTracks, numbers_in}
 use Rattle.deck_run.specs.Owning.{AllOwn}
 use Rattle.deck_run.specs.Sides.{AllFresh}
 use Rattle.deck_run.specs.Standing.{all_stood}
+use Rattle.deck_run.specs.Unused.{AreUnused}
 use Rattle.deck_run.proofs.open.open_devices.Given as goal
 
 abbrev pub invariant-loop-i : goal.invariant-loop-i
@@ -19,5 +20,6 @@ invariant-loop-i g l = record {
       AreMounted p (all_stood l.made.items) (map (opened_device_on firsts l.deck) (take l.i l.deck.devices));
   own : AllOwn l.made.items;
   fresh : AllFresh l.made.items;
+  unused : AreUnused l.made.items;
   count : l.i-end ≡ length l.deck.devices;
 }

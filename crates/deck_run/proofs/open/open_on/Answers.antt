@@ -30,3 +30,6 @@ returns-clause-own g c = rw c.in_ok-made.ensures.devices (record {
   each = c.in_ok-devices.ensures.own;
   accounted = fresh_accounted c.in_ok-devices.devices.items c.in_ok-devices.ensures.fresh;
 })
+
+pub returns-clause-unused : goal.returns-clause-unused
+returns-clause-unused g c = rw c.in_ok-made.ensures.devices c.in_ok-devices.ensures.unused

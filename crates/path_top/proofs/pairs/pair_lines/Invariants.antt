@@ -4,7 +4,7 @@ use Rattle.deck_run.specs.Owning.{AreOwn}
 use Rattle.deck_run.specs.Standing.{StandsAs}
 use Rattle.subsystem_core.specs.Devices.{numbers_of}
 use Rattle.subsystem_defs.specs.Subsystem as runs
-use Rattle.path_top.specs.Devices.{AreUnused}
+use Rattle.deck_run.specs.Unused.{AreUnused}
 use Rattle.path_top.specs.Pairs.{behind_line}
 use Rattle.path_top.proofs.pairs.pair_lines.Given as goal
 

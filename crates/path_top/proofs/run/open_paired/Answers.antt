@@ -9,8 +9,8 @@ use Rattle.path_top.proofs.run.open_paired.Goals as goal
 pub hand_out_all-requires : goal.hand_out_all-requires
 hand_out_all-requires g c = read_devices c.requires.0 c.args.deck.now c.requires.1
 
-pub open-requires-clause-devices : goal.open-requires-clause-devices
-open-requires-clause-devices g c = read_devices c.requires.0 c.args.deck.now c.requires.1
+pub open_on-requires-clause-devices : goal.open_on-requires-clause-devices
+open_on-requires-clause-devices g c = read_devices c.requires.0 c.args.deck.now c.requires.1
 
 pub pair_first-requires-clause-here : goal.pair_first-requires-clause-here
 pair_first-requires-clause-here g c =

@@ -1,5 +1,5 @@
-use Rattle.volume_save.proofs.Volumes.{empty_has_all}
-use Rattle.volume_save.proofs.volume.DeviceVolume.new.Goals as goal
+use Rattle.volume_file.proofs.EmptyImages.{empty_has_all}
+use Rattle.volume_file.proofs.volume.DeviceVolume.new.Goals as goal
 
 pub invariant_of-result : goal.invariant_of-result
 invariant_of-result c =

@@ -1,7 +1,7 @@
 use Rattle.std.proofs.Common.{◌≡◌, ◌<◌, length, ap, sym, subst, ◌∙◌}
 use Rattle.volume_file.specs.File.{ImageVolume}
-use Rattle.volume_save.proofs.Volumes.{set_has_all}
-use Rattle.volume_save.proofs.volume.DeviceVolume.set.Goals as goal
+use Rattle.volume_file.proofs.EmptyImages.{set_has_all}
+use Rattle.volume_file.proofs.volume.DeviceVolume.set.Goals as goal
 
 pub invariant_of-self : goal.invariant_of-self
 invariant_of-self c =
