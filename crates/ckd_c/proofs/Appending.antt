@@ -7,6 +7,7 @@ use Rattle.std.proofs.Math.Seq.{get_or-append_seam}
 use Rattle.std.specs.Prelude.{◌&&◌, nat_lt, slice_get, IfErr, OnErr, OnOk, Result, Ok, Err}
 use Rattle.ckd_types.specs.declared.geometry.Geometry.{Geometry}
 use Rattle.deck_plan.specs.Plans.{no_plans}
+use Rattle.device_outside.specs.Disk.{new_disk}
 use Rattle.device_core.specs.State.{device_of, opened_device, volume_a, volume_b}
 use Rattle.subsystem_core.specs.Devices.{devices_of, number_of, numbers_of, volumes_of}
 use Rattle.subsystem_core.specs.Places.{IsTable, are_rising, is_before}
@@ -16,6 +17,7 @@ use Rattle.subsystem_core.proofs.Numbers.{both, table_more}
 use Rattle.ckd_c.specs.declared.code.Code.{Code}
 use Rattle.ckd_c.specs.declared.opened.Opened.{Opened}
 use Rattle.ckd_c.specs.declared.volume.HostVolume.{HostVolume}
+use Rattle.ckd_c.specs.declared.volume.HostVolume.TheVariants.{Memory}
 use Rattle.ckd_c.specs.Codes.{IsRefusal}
 use Rattle.ckd_c.specs.Calls.{AddsImage, AddsMemory, Device, Has, IsAdded, IsSame, StandsBehind, Subsystem, TriesTo, geometry_of}
 
@@ -115,6 +117,15 @@ module _ (n : ℕ) (geometry : Geometry) (cylinders : ℕ) (volume : HostVolume)
           pool = a.pool ∙ ap (λ (s : Subsystem). s.pool) same;
         };
       }
+
+-- on a volume in memory
+pub adds_memory : (n m kind cylinders : ℕ) (g : Geometry) (reads writes : List ℕ) (volume : HostVolume) (r : Result (Unit {0}) Code) (x y : Opened) →
+    m ≡ n → geometry_of kind ≡ Some g → volume ≡ Memory (new_disk cylinders reads writes) → TriesTo (IsAdded m g cylinders volume) r x y →
+    TriesTo (AddsMemory n kind cylinders reads writes) r x y
+adds_memory n m kind cylinders g reads writes volume (Ok u) x y number is on added =
+    subst (λ (o : Option Geometry). Has (λ (h : Geometry). IsAdded n h cylinders (Memory (new_disk cylinders reads writes)) x y) o) (sym is)
+    (subst (λ (v : HostVolume). IsAdded n g cylinders v x y) on (subst (λ (k : ℕ). IsAdded k g cylinders volume x y) number added))
+adds_memory n m kind cylinders g reads writes volume (Err e) x y number is on added = added
 
 pub same_behind : (x m y : Opened) → m.subsystem ≡ x.subsystem → IsSame m y → IsSame x y
 same_behind x m y same s = (

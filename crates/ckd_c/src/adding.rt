@@ -91,7 +91,7 @@ impl Opened {
     }
 
     /// A device of empty tracks in memory, of which these reads and writes fail.
-    #[tactic(auto, using(crate::proofs::Refusing::same))]
+    #[tactic(auto, using(crate::proofs::Refusing::same, crate::proofs::Appending::adds_memory))]
     fn add_memory(
         &mut self,
         alloc: Global,
