@@ -2,8 +2,8 @@
 use Rattle.std.specs.Prelude.{ℕ, Option, Some, None}
 use Rattle.ckd_types.specs.declared.channel.Why.{Why}
 use Rattle.ckd_types.specs.declared.channel.Why.TheVariants as whys
-use Rattle.device_core.specs.declared.past.Stepped.{Stepped}
-use Rattle.device_core.specs.declared.past.Stepped.TheVariants as steps
+use Rattle.device_core.specs.declared.history.Stepped.{Stepped}
+use Rattle.device_core.specs.declared.history.Stepped.TheVariants as steps
 use Rattle.device_core.specs.declared.second.SecondStep.{SecondStep}
 use Rattle.device_core.specs.declared.second.SecondStep.TheVariants as seconds
 use Rattle.device_defs.specs.declared.answers.Did.{Did}

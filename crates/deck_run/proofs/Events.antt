@@ -36,7 +36,7 @@ use Rattle.device_laws.proofs.PlainEvents.{had_both}
 use Rattle.subsystem_laws.proofs.HadAnswers.{Answers}
 use Rattle.plain_defs.specs.declared.journal.Act.{Act}
 use Rattle.device_core.specs.declared.device.Device.{Device}
-use Rattle.device_core.specs.declared.past.Running.{Running}
+use Rattle.device_core.specs.declared.history.Running.{Running}
 use Rattle.device_core.specs.Kept.{open_of, chain_of}
 use Rattle.device_core.specs.State.{DefinedDevice, device_of, last_end}
 use Rattle.frame_pool.specs.Shared.{shared_view}

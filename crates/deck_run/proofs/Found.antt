@@ -29,7 +29,7 @@ use Rattle.ckd_chain.specs.Facts.{IsChain}
 use Rattle.ckd_chain.specs.State.{ChainState}
 use Rattle.device_outside.specs.declared.volume.Volume.{Ghosts}
 use Rattle.device_core.specs.declared.device.Device.{Device}
-use Rattle.device_core.specs.declared.past.Running.{Running}
+use Rattle.device_core.specs.declared.history.Running.{Running}
 use Rattle.device_core.specs.Kept.{chain_of}
 use Rattle.device_core.specs.State.{device_of}
 use Rattle.device_core.specs.Words.{IsAtWord}

@@ -5,7 +5,7 @@ use Rattle.ckd_types.specs.declared.channel.CommandEnd.{CommandEnd}
 use Rattle.plain_defs.specs.declared.journal.Item.{Item}
 use Rattle.device_outside.specs.declared.volume.Volume.{Ghosts}
 use Rattle.device_core.specs.declared.device.Device.{Device}
-use Rattle.device_core.specs.declared.past.Stepped.TheVariants as steps
+use Rattle.device_core.specs.declared.history.Stepped.TheVariants as steps
 use Rattle.device_core.specs.declared.second.SecondStep.TheVariants as parts
 use Rattle.device_core.specs.State.{DefinedDevice, last_end, step_seen, second_seen}
 use Rattle.device_defs.specs.declared.answers.SecondEnd.TheVariants as seconds

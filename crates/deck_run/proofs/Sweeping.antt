@@ -92,7 +92,7 @@ use Rattle.plain_defs.specs.Whole.{GiveBytes, GivesAll}
 use Rattle.deck_run.specs.Owning.{AllOwn, AreOwn, ChainsStand, IsOwn}
 use Rattle.deck_run.specs.Standing.{StandsAs, stood_of, all_stood}
 use Rattle.deck_run.specs.Loosening.{acts_when, all_loosed, is_quiet}
-use Rattle.deck_run.specs.declared.all.Stock.{Stock}
+use Rattle.deck_run.specs.declared.orders_of_all.Stock.{Stock}
 use Rattle.deck_run.specs.Sweeping.{IsOpenOfAll, TellsAll, gone_lines, gone_one, head_or, no_stock, order_end, order_of, stock_of, tail_of}
 use Rattle.deck_run.proofs.Acting.{none_behind, power_new}
 use Rattle.deck_run.proofs.Events.{KeptOwn, hears, lose_owns}

@@ -2,8 +2,8 @@
 use Rattle.std.specs.Prelude.{◌≡◌, ℕ, Bool, true, false, List, [], Option, Some, IfSome, IsSome, if◌then◌else◌}
 use Rattle.plain_defs.specs.declared.journal.Act.{Act}
 use Rattle.device_outside.specs.declared.volume.Volume.{Ghosts}
-use Rattle.device_core.specs.declared.past.Stepped.{Stepped}
-use Rattle.device_core.specs.declared.past.Stepped.TheVariants as steps
+use Rattle.device_core.specs.declared.history.Stepped.{Stepped}
+use Rattle.device_core.specs.declared.history.Stepped.TheVariants as steps
 use Rattle.device_core.specs.declared.second.SecondStep.{SecondStep}
 use Rattle.device_core.specs.declared.second.SecondStep.TheVariants as parts
 use Rattle.device_core.specs.State.{DefinedDevice, last_end}

@@ -21,7 +21,7 @@ use Rattle.subsystem_defs.specs.Beside.{behind_first, has_power, loose_count}
 use Rattle.subsystem_defs.specs.Happening.{happens}
 use Rattle.subsystem_defs.specs.Lines.{Once, logged}
 use Rattle.subsystem_defs.specs.Subsystem as runs
-use Rattle.deck_run.specs.declared.all.Stock.{Stock}
+use Rattle.deck_run.specs.declared.orders_of_all.Stock.{Stock}
 use Rattle.deck_run.specs.Loosening.{acts_when, all_loosed, is_quiet}
 
 -- the events of all devices

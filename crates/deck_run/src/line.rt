@@ -15,7 +15,7 @@ ghost use Rattle.deck_run.specs.Recording.{all_lines, lines_when};
 ghost use Rattle.deck_run.specs.Seen.{idle_told};
 ghost use Rattle.deck_run.specs.Standing.{StandsAs};
 
-use crate::all::{order_all, order_end};
+use crate::orders_of_all::{order_all, order_end};
 use crate::pair::{pair, unpair};
 use crate::pass::{behind_first, pass};
 use crate::replace::replace;

@@ -12,8 +12,8 @@ ghost use Rattle.deck_run.specs.Seen.{ShowsEnd};
 ghost use Rattle.deck_run.specs.Standing.{StandsAs};
 ghost use Rattle.subsystem_core.specs.Frames.{HasDevice, HasSameDevices};
 
+use crate::act_lines::{acts_seen, all_loosed, is_quiet};
 use crate::event::do_event;
-use crate::loosed::{acts_seen, all_loosed, is_quiet};
 use ckd_types::{DeviceNo, NoMemory, PathNo};
 use device_core::Device;
 use device_outside::Volume;

@@ -15,8 +15,8 @@ ghost use Rattle.deck_run.specs.Ordered.{IsOrdered};
 ghost use Rattle.deck_run.specs.Owning.{AreOwn};
 ghost use Rattle.deck_run.specs.Standing.{StandsAs};
 
-use crate::all::order_end;
 use crate::event::chains_stand;
+use crate::orders_of_all::order_end;
 use crate::volumes::EmptyVolume;
 use ckd_types::{DeviceNo, NoMemory, Side};
 use device_outside::Volume;

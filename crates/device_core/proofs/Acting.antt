@@ -34,9 +34,9 @@ use Rattle.plain_defs.specs.declared.journal.Item.TheVariants as items
 use Rattle.plain_defs.specs.History.{History, OpenEntry, acted, acted_in, emptied}
 use Rattle.device_defs.specs.Device.{all_acted}
 use Rattle.device_core.specs.Log.{LogView}
-use Rattle.device_core.specs.declared.past.KeptPath.{KeptPath}
-use Rattle.device_core.specs.declared.past.Past.{Past}
-use Rattle.device_core.specs.declared.past.Running.{Running}
+use Rattle.device_core.specs.declared.history.KeptPath.{KeptPath}
+use Rattle.device_core.specs.declared.history.Past.{Past}
+use Rattle.device_core.specs.declared.history.Running.{Running}
 use Rattle.device_core.specs.Kept.{open_of, history_of, waiting_in, needed, used_count, ActRoom, HasRoomFor, Keeps, KeepsAll}
 use Rattle.device_core.proofs.Keeping.{act_keeps, idle_act_keeps, other_keeps}
 use Rattle.device_core.proofs.Pasts.{keeps_as, some_open}

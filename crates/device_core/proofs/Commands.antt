@@ -21,11 +21,11 @@ use Rattle.device_defs.specs.Contents.{contents}
 use Rattle.device_defs.specs.Device.{all_acted, with_store}
 use Rattle.device_defs.specs.Outcomes.{turned, gone_on}
 use Rattle.device_defs.specs.Store.{Store}
-use Rattle.device_core.specs.declared.past.Running.{Running}
-use Rattle.device_core.specs.declared.past.Past.{Past}
+use Rattle.device_core.specs.declared.history.Running.{Running}
+use Rattle.device_core.specs.declared.history.Past.{Past}
 use Rattle.device_core.specs.Kept.{open_of, chain_of, history_of, waiting_in}
 use Rattle.device_core.specs.State.{DefinedDevice, device_by, commanded, came_from}
-use Rattle.device_core.specs.Turns.{turn_with}
+use Rattle.device_core.specs.TrackWalk.{turn_with}
 
 by_over : (d : DefinedDevice) (x : Option ChainState) (chain : ChainState) (e : CommandEnd) (over : Bool) →
     gone_on (record d { chain = x }) chain (record e { over = over }) ≡ gone_on d chain (record e { over = over })

@@ -16,11 +16,11 @@ use Rattle.device_defs.specs.declared.answers.Came.TheVariants.{Ends, Checks}
 use Rattle.device_defs.specs.Device.{Device, all_reset}
 use Rattle.device_defs.specs.Outcomes.{turned}
 use Rattle.device_defs.specs.Store.{Store}
-use Rattle.device_core.specs.declared.past.Past.{Past}
-use Rattle.device_core.specs.declared.past.Running.{Running}
+use Rattle.device_core.specs.declared.history.Past.{Past}
+use Rattle.device_core.specs.declared.history.Running.{Running}
 use Rattle.device_core.specs.Kept.{open_of, chain_of, history_of, waiting_in}
 use Rattle.device_core.specs.State.{device_by, last_of, last_of_item, last_by, last_end_of}
-use Rattle.device_core.specs.Turns.{turn_with}
+use Rattle.device_core.specs.TrackWalk.{turn_with}
 
 there : {A : Type 0} (xs ys : List A) (x : A) → slice_get (xs ++ x ∷ ys) (length xs) ≡ Some x
 there [] ys x = refl

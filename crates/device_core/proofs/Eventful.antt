@@ -13,8 +13,8 @@ use Rattle.device_defs.specs.Owed.{noted_begin, hear, waiting_count, noted_end}
 use Rattle.plain_defs.specs.declared.journal.Act.{Act}
 use Rattle.plain_defs.specs.Journal.{Plans}
 use Rattle.plain_defs.specs.PlainState.{PathsState}
-use Rattle.device_core.specs.declared.past.Past.{Past}
-use Rattle.device_core.specs.declared.past.Running.{Running}
+use Rattle.device_core.specs.declared.history.Past.{Past}
+use Rattle.device_core.specs.declared.history.Running.{Running}
 use Rattle.event_notes.specs.Loose.{LooseView, loose_count, weight}
 use Rattle.device_core.specs.Kept.{ActRoom, chain_of, history_of}
 use Rattle.device_core.proofs.Acting.{less_room}

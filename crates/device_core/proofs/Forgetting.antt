@@ -21,7 +21,7 @@ use Rattle.past_laws.proofs.StubsTell.{count_told, power_told, some_started, use
 use Rattle.plain_defs.specs.Legal.{IsLegal}
 use Rattle.subsystem_laws.proofs.turning.Sound.{beside_plain}
 use Rattle.device_core.specs.declared.device.Device.{Device}
-use Rattle.device_core.specs.declared.past.KeptPath.{KeptPath}
+use Rattle.device_core.specs.declared.history.KeptPath.{KeptPath}
 use Rattle.device_core.specs.Forgetting.{any_started, one_kept}
 use Rattle.device_core.specs.Kept.{KeepsAll, fresh_path, needed, of_path, used_count, waiting_from}
 use Rattle.device_core.specs.Promises.{ForgetsNothing, StandsPlain, told_by, whole_of}

@@ -16,13 +16,13 @@ use Rattle.device_defs.specs.Events.{second_told}
 use Rattle.device_defs.specs.Outcomes.{told_step}
 use Rattle.device_store.specs.declared.half.HalfWrite.{HalfWrite}
 use Rattle.device_store.specs.State.{half_of}
-use Rattle.device_core.specs.declared.past.Running.{Running}
-use Rattle.device_core.specs.declared.past.Stepped.{Stepped}
-use Rattle.device_core.specs.declared.past.Stepped.TheVariants as steps
+use Rattle.device_core.specs.declared.history.Running.{Running}
+use Rattle.device_core.specs.declared.history.Stepped.{Stepped}
+use Rattle.device_core.specs.declared.history.Stepped.TheVariants as steps
 use Rattle.device_core.specs.Halves.{IsWaiting, is_half_step}
 use Rattle.device_core.specs.Kept.{chain_of}
 use Rattle.device_core.specs.State.{step_seen}
-use Rattle.device_core.specs.Turns.{may_be_written, is_half, IsHeld, Left}
+use Rattle.device_core.specs.TrackWalk.{may_be_written, is_half, IsHeld, Left}
 use Rattle.device_core.specs.Words.{HasEndRoom, IsAtWord}
 use Rattle.device_core.proofs.Stepping.{ready_at}
 

@@ -15,7 +15,7 @@ use Rattle.plain_defs.specs.declared.journal.Item.TheVariants as items
 use Rattle.plain_defs.specs.History.{History, OpenEntry, closed, cut_by, entry_of, has_used, is_path_of, put, resets_of, started, with_end}
 use Rattle.plain_defs.specs.Legal.{is_of_path, is_started, is_used, started_by, used_by}
 use Rattle.device_defs.specs.Start.{started_count}
-use Rattle.device_core.specs.declared.past.KeptPath.{KeptPath}
+use Rattle.device_core.specs.declared.history.KeptPath.{KeptPath}
 use Rattle.device_core.specs.Kept.{fresh_path, needed, of_path, one_more, over_path, unused, used_count, waiting, waiting_in, with_one_more, with_unused}
 use Rattle.device_core.specs.Kept.{with_waiting, KeepsPath, KeepsAll}
 use Rattle.device_core.proofs.Waiting.{used_append, used_at, used_fewer, used_over, waiting_kept}

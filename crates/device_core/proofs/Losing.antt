@@ -19,9 +19,9 @@ use Rattle.device_defs.specs.Contents.{contents}
 use Rattle.device_defs.specs.Device.{all_acted, with_store}
 use Rattle.device_defs.specs.Outcomes.{Turn, checks, turned, told_step}
 use Rattle.device_store.specs.Looks.{StoreOf}
-use Rattle.device_core.specs.declared.past.Running.{Running}
+use Rattle.device_core.specs.declared.history.Running.{Running}
 use Rattle.device_core.specs.State.{DefinedDevice, commanded_by, came_to, told}
-use Rattle.device_core.specs.Turns.{turn_with}
+use Rattle.device_core.specs.TrackWalk.{turn_with}
 
 by_loss_of : (b x y : Bool) → x ≡ y → (b || x) ≡ (if b then true else y)
 by_loss_of true x y same = refl

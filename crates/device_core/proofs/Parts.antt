@@ -21,11 +21,11 @@ use Rattle.device_defs.specs.Outcomes.{Turn, turned, wrote_turn}
 use Rattle.device_defs.specs.Store.{Store, Origin, OfCommand, OfCut, OfBackground}
 use Rattle.device_store.specs.declared.half.HalfWrite.{HalfWrite}
 use Rattle.device_store.specs.State.{origin_of, is_opened}
-use Rattle.device_core.specs.declared.past.Past.{Past}
-use Rattle.device_core.specs.declared.past.Running.{Running}
+use Rattle.device_core.specs.declared.history.Past.{Past}
+use Rattle.device_core.specs.declared.history.Running.{Running}
 use Rattle.device_core.specs.Kept.{open_of, chain_of, waiting_in}
 use Rattle.device_core.specs.State.{DefinedDevice, device_by}
-use Rattle.device_core.specs.Turns.{turn_with}
+use Rattle.device_core.specs.TrackWalk.{turn_with}
 use Rattle.device_core.proofs.Commands.{turned_anew}
 use Rattle.device_core.proofs.Halves.{count_of}
 

@@ -11,9 +11,9 @@ use Rattle.plain_defs.specs.declared.journal.Item.{Item}
 use Rattle.plain_defs.specs.declared.journal.Item.TheVariants as items
 use Rattle.plain_defs.specs.History.{OpenEntry, History, closed, cut_by, entry_of, is_path_of, put, resets_of, started, with_end}
 use Rattle.device_defs.specs.Start.{started_count}
-use Rattle.device_core.specs.declared.past.KeptPath.{KeptPath}
-use Rattle.device_core.specs.declared.past.Past.{Past}
-use Rattle.device_core.specs.declared.past.Running.{Running}
+use Rattle.device_core.specs.declared.history.KeptPath.{KeptPath}
+use Rattle.device_core.specs.declared.history.Past.{Past}
+use Rattle.device_core.specs.declared.history.Running.{Running}
 use Rattle.device_core.specs.Kept.{open_of, history_of, needed, of_path, one_more, over_path, unused, waiting_in, with_one_more, with_unused, with_waiting}
 use Rattle.device_core.specs.Kept.{Keeps, KeepsAll}
 use Rattle.device_core.proofs.Keeping.{closed_keeps, cut_keeps, end_keeps, reset_keeps, room_of_running, start_keeps, wait_keeps}

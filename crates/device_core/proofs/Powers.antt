@@ -22,9 +22,9 @@ use Rattle.device_defs.specs.Start.{started_count}
 use Rattle.device_defs.specs.Store.{Store}
 use Rattle.device_store.specs.declared.store.DeviceStore.{DeviceStore}
 use Rattle.device_store.specs.State.{state_of}
-use Rattle.device_core.specs.declared.past.KeptPath.{KeptPath}
-use Rattle.device_core.specs.declared.past.Past.{Past}
-use Rattle.device_core.specs.declared.past.Running.{Running}
+use Rattle.device_core.specs.declared.history.KeptPath.{KeptPath}
+use Rattle.device_core.specs.declared.history.Past.{Past}
+use Rattle.device_core.specs.declared.history.Running.{Running}
 use Rattle.device_core.specs.Kept.{open_of, chain_of, history_of, fresh_path, of_path, used_count, waiting_from, waiting_in, Keeps, KeepsAll}
 use Rattle.device_core.specs.Powered.{off_path}
 use Rattle.device_core.specs.State.{DefinedDevice, device_by}

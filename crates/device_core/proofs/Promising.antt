@@ -70,9 +70,9 @@ use Rattle.subsystem_laws.proofs.turning.Standing.{
 use Rattle.subsystem_laws.proofs.turning.Untold.{replied}
 use Rattle.subsystem_laws.proofs.turning.Wanting.{background_lacked, command_lacked, peek_beside, same_volume}
 use Rattle.device_core.specs.declared.device.Device.{Device}
-use Rattle.device_core.specs.declared.past.Past.{Past}
-use Rattle.device_core.specs.declared.past.Running.{Running}
-use Rattle.device_core.specs.declared.past.Stepped.{Stepped}
+use Rattle.device_core.specs.declared.history.Past.{Past}
+use Rattle.device_core.specs.declared.history.Running.{Running}
+use Rattle.device_core.specs.declared.history.Stepped.{Stepped}
 use Rattle.device_laws.specs.NewDevice.{volume_contents}
 use Rattle.device_laws.specs.Seen.{EndsAsSeen}
 use Rattle.device_laws.proofs.NewDevices.{empty_is_contents}

@@ -21,7 +21,7 @@ use Rattle.device_defs.specs.Contents.{contents}
 use Rattle.device_defs.specs.Cutting.{counts_one_by, half_cut, path_cut, reset, reset_by, reset_noted}
 use Rattle.device_defs.specs.Device.{all_reset}
 use Rattle.device_defs.specs.Store.{Store}
-use Rattle.device_core.specs.declared.past.Past.{Past}
+use Rattle.device_core.specs.declared.history.Past.{Past}
 use Rattle.device_core.specs.Kept.{chain_of, history_of}
 use Rattle.device_core.specs.State.{DefinedDevice, device_by}
 

@@ -16,7 +16,7 @@ use Rattle.device_defs.specs.declared.answers.StartFault.{StartFault}
 use Rattle.device_defs.specs.declared.answers.StartFault.TheVariants.{PlanDone}
 use Rattle.device_defs.specs.Start.{fault_by, keeps_out, left, next_program, reserved_fault, running_fault, start, start_fault, started_count}
 use Rattle.device_defs.specs.Store.{Store, store_fixed}
-use Rattle.device_core.specs.declared.past.Past.{Past}
+use Rattle.device_core.specs.declared.history.Past.{Past}
 use Rattle.device_core.specs.Kept.{chain_of, history_of}
 use Rattle.device_core.specs.State.{DefinedDevice, device_by}
 

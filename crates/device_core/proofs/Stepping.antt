@@ -18,9 +18,9 @@ use Rattle.ckd_chain.specs.Steps.{index_of, word_of, opened_by, chain_opened, st
 use Rattle.track_image.specs.Image.{Image}
 use Rattle.ckd_types.specs.declared.channel.CommandEnd.{CommandEnd}
 use Rattle.device_core.specs.Words.{IsReady}
-use Rattle.device_core.specs.Turns.{IsAt, Waits, IsSameHand, GoesOn}
-use Rattle.device_core.specs.declared.turns.Step.{Step}
-use Rattle.device_core.specs.declared.turns.Step.TheVariants as steps
+use Rattle.device_core.specs.TrackWalk.{IsAt, Waits, IsSameHand, GoesOn}
+use Rattle.device_core.specs.declared.track_walk.Step.{Step}
+use Rattle.device_core.specs.declared.track_walk.Step.TheVariants as steps
 
 by_tests : (chained a b c limit : Bool) (k : ℕ) → (not (chained && a && b && c) || limit) ≡ false →
     IsSome (if (not (chained && a && b && c) || limit) then None else (if chained then Some k else None))

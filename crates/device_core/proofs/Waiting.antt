@@ -7,7 +7,7 @@ use Rattle.plain_defs.specs.declared.journal.Item.{Item}
 use Rattle.plain_defs.specs.declared.journal.Item.TheVariants as items
 use Rattle.plain_defs.specs.History.{put, resets_of}
 use Rattle.plain_defs.specs.Legal.{is_used, used_by}
-use Rattle.device_core.specs.declared.past.KeptPath.{KeptPath}
+use Rattle.device_core.specs.declared.history.KeptPath.{KeptPath}
 use Rattle.device_core.specs.Kept.{waiting_one, waiting_from, over_path, used_count, fresh_path}
 
 pub resets_more : (xs ys : List ℕ) → resets_of (xs ++ ys) ≡ resets_of xs ++ resets_of ys

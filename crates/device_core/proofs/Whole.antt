@@ -20,7 +20,7 @@ use Rattle.device_defs.specs.declared.answers.Came.{Came}
 use Rattle.device_defs.specs.declared.answers.Came.TheVariants.{Ends}
 use Rattle.device_defs.specs.Command.{on_paths, came_out}
 use Rattle.device_defs.specs.Outcomes.{Turn, settles}
-use Rattle.device_core.specs.Turns.{turn_with}
+use Rattle.device_core.specs.TrackWalk.{turn_with}
 use Rattle.device_defs.specs.Contents.{contents}
 use Rattle.device_store.proofs.Moves.{from_equal}
 use Rattle.device_core.specs.State.{DefinedDevice, came_to, told, Answers}

@@ -2,7 +2,7 @@
 use Rattle.std.specs.Prelude.{◌==◌, ◌||◌, not, Bool, true, false, List, min, Result, Ok, Err}
 use Rattle.device_core.specs.declared.forget.NotForgotten.{NotForgotten}
 use Rattle.device_core.specs.declared.forget.NotForgotten.TheVariants.{Running, NoMemory}
-use Rattle.device_core.specs.declared.past.KeptPath.{KeptPath}
+use Rattle.device_core.specs.declared.history.KeptPath.{KeptPath}
 use Rattle.device_core.specs.Kept.{of_path}
 
 abbrev pub is_running : NotForgotten → Bool

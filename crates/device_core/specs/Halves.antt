@@ -1,9 +1,9 @@
 -- What a device keeps while a write is half done.
 use Rattle.std.specs.Prelude.{Bool, true, false, Option, IsSome, IfSome}
-use Rattle.device_core.specs.declared.past.Running.{Running}
-use Rattle.device_core.specs.declared.past.Stepped.{Stepped}
-use Rattle.device_core.specs.declared.past.Stepped.TheVariants as steps
-use Rattle.device_core.specs.Turns.{IsHeld}
+use Rattle.device_core.specs.declared.history.Running.{Running}
+use Rattle.device_core.specs.declared.history.Stepped.{Stepped}
+use Rattle.device_core.specs.declared.history.Stepped.TheVariants as steps
+use Rattle.device_core.specs.TrackWalk.{IsHeld}
 use Rattle.device_core.specs.Words.{HasEndRoom}
 
 -- its command waits for the second part of its write, with room for the command's end

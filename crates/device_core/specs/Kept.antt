@@ -30,9 +30,9 @@ use Rattle.ckd_chain.specs.State.{ChainState}
 use Rattle.plain_defs.specs.History.{OpenEntry, History, has_used}
 use Rattle.plain_defs.specs.Legal.{is_started}
 use Rattle.device_defs.specs.Start.{started_count}
-use Rattle.device_core.specs.declared.past.KeptPath.{KeptPath}
-use Rattle.device_core.specs.declared.past.Past.{Past}
-use Rattle.device_core.specs.declared.past.Running.{Running}
+use Rattle.device_core.specs.declared.history.KeptPath.{KeptPath}
+use Rattle.device_core.specs.declared.history.Past.{Past}
+use Rattle.device_core.specs.declared.history.Running.{Running}
 
 abbrev pub open_of : Running → OpenEntry
 open_of r = record { path = r.path; ordinal = r.ordinal; ends = r.ends.items; acts = r.acts.items }

@@ -2,7 +2,7 @@ pub mod Words
 pub mod Kept
 pub mod Log
 pub mod Powered
-pub mod Turns
+pub mod TrackWalk
 pub mod Halves
 pub mod State
 pub mod Starting

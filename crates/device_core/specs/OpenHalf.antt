@@ -2,8 +2,8 @@
 use Rattle.std.specs.Prelude.{ℕ}
 use Rattle.track_image.specs.Image.{Image}
 use Rattle.device_defs.specs.Store.{HalfWrite, Origin, OfCommand, OfCut, OfBackground}
-use Rattle.device_core.specs.declared.seen.HalfOrigin.{HalfOrigin}
-use Rattle.device_core.specs.declared.seen.HalfOrigin.TheVariants.{Command, Cut, Background}
+use Rattle.device_core.specs.declared.observers.HalfOrigin.{HalfOrigin}
+use Rattle.device_core.specs.declared.observers.HalfOrigin.TheVariants.{Command, Cut, Background}
 
 abbrev pub origin_seen : Origin → HalfOrigin
 origin_seen (OfCommand bypass e) = Command

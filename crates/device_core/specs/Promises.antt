@@ -40,7 +40,7 @@ use Rattle.past_laws.specs.PutAway.{PutAway}
 use Rattle.past_laws.specs.WithPast.{with_past}
 use Rattle.subsystem_laws.specs.Standing.{IsBesideOn, StandsOn, Untold}
 use Rattle.device_core.specs.declared.device.Device.{Device}
-use Rattle.device_core.specs.declared.past.Stepped as own
+use Rattle.device_core.specs.declared.history.Stepped as own
 use Rattle.device_core.specs.WholePast.{SoWithPast}
 use Rattle.device_core.specs.State.{around, device_of, last_end, step_had}
 

@@ -44,7 +44,7 @@ use Rattle.device_defs.specs.Contents.{contents}
 use Rattle.device_defs.specs.Outcomes.{checks, turned, told_step}
 use Rattle.ckd_chain.specs.declared.progress.Settled.TheVariants.{Equipment}
 use Rattle.device_outside.specs.Interaction.{Interaction, Done}
-use Rattle.device_core.specs.Turns.{turn_with}
+use Rattle.device_core.specs.TrackWalk.{turn_with}
 use Rattle.device_defs.specs.declared.answers.Stepped.TheVariants as answers
 use Rattle.device_defs.specs.declared.answers.SecondEnd.{SecondEnd}
 use Rattle.device_defs.specs.declared.answers.SecondEnd.TheVariants as seconds
@@ -54,10 +54,10 @@ use Rattle.device_store.specs.State.{state_of, opened_store, outside_of, Takes}
 use Rattle.duplex_pair.specs.declared.pair.SideVolumes.{SideVolumes}
 use Rattle.duplex_pair.specs.Sides.{other_of, volume_of}
 use Rattle.device_core.specs.declared.device.Device.{Device}
-use Rattle.device_core.specs.declared.past.Past.{Past}
-use Rattle.device_core.specs.declared.past.Running.{Running}
-use Rattle.device_core.specs.declared.past.Stepped.{Stepped}
-use Rattle.device_core.specs.declared.past.Stepped.TheVariants as steps
+use Rattle.device_core.specs.declared.history.Past.{Past}
+use Rattle.device_core.specs.declared.history.Running.{Running}
+use Rattle.device_core.specs.declared.history.Stepped.{Stepped}
+use Rattle.device_core.specs.declared.history.Stepped.TheVariants as steps
 use Rattle.device_core.specs.declared.second.SecondStep.{SecondStep}
 use Rattle.device_core.specs.declared.second.SecondStep.TheVariants as parts
 pub use Rattle.device_core.specs.Kept.{open_of, chain_of, history_of}

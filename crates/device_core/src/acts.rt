@@ -12,7 +12,7 @@ ghost use Rattle.device_core.specs.State.{device_of, IsSameDevice};
 ghost use Rattle.device_core.specs.Words.{HasEndRoom};
 
 use crate::Device;
-use crate::past::{Past, Running};
+use crate::history::{Past, Running};
 use crate::start::ITEMS_BEFORE_NEXT;
 use ckd_types::NoMemory;
 use device_outside::{Keep, Port, Volume};

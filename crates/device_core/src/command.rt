@@ -13,10 +13,10 @@ ghost use Rattle.device_outside.specs.Outside.{Ran, where_ok};
 ghost use Rattle.device_store.specs.State.{state_of, outside, TakesTracks};
 ghost use Rattle.plain_device.specs.Looking.{IsAtAnswer};
 ghost use Rattle.device_core.specs.State.{DefinedDevice, open_of, came_to, told, Answers};
-ghost use Rattle.device_core.specs.Turns.{IsAt, Left, is_half};
+ghost use Rattle.device_core.specs.TrackWalk.{IsAt, Left, is_half};
 
-use crate::past::Running;
-use crate::turns::{check, follow};
+use crate::history::Running;
+use crate::track_walk::{check, follow};
 use ckd_chain::{LocalAct, Progress};
 use ckd_types::{Geometry, NoMemory, TrackNo};
 use device_defs::Came;

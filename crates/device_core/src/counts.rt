@@ -5,7 +5,7 @@ ghost use Rattle.device_core.specs.Kept.{history_of, of_path, Keeps};
 ghost use Rattle.device_core.specs.State.{device_of, count_of};
 
 use crate::Device;
-use crate::past::{KeptPath, Past};
+use crate::history::{KeptPath, Past};
 use ckd_types::PathNo;
 use device_outside::Volume;
 

@@ -7,7 +7,7 @@ ghost use Rattle.device_core.specs.Halves.{IsWaiting};
 ghost use Rattle.device_core.specs.Kept.{ActRoom, Keeps};
 ghost use Rattle.device_core.specs.Words.{IsAtWord};
 
-use crate::past::Past;
+use crate::history::Past;
 use deck_plan::PathPlans;
 use device_outside::Volume;
 use device_store::DeviceStore;

@@ -11,11 +11,11 @@ ghost use Rattle.track_cache.specs.declared.frames.Frame.{Frame};
 ghost use Rattle.track_image.specs.Image.{Image};
 ghost use Rattle.device_core.specs.Kept.{open_of, chain_of, history_of, waiting_in, ActRoom, HasRoomFor, Keeps};
 ghost use Rattle.device_core.specs.State.{device_by, last_of, last_end_of, step_seen};
-ghost use Rattle.device_core.specs.Turns.{turn_with, Left, is_half};
+ghost use Rattle.device_core.specs.TrackWalk.{turn_with, Left, is_half};
 ghost use Rattle.device_core.specs.Halves.{IsWaiting, is_half_step};
 ghost use Rattle.device_core.specs.Words.{HasEndRoom, IsAtWord};
 
-use crate::past::{Past, Running, Stepped};
+use crate::history::{Past, Running, Stepped};
 use ckd_types::CommandEnd;
 use device_defs::Came;
 use plain_defs::{Entry, How, Item};

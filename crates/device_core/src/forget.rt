@@ -6,7 +6,7 @@ ghost use Rattle.device_core.specs.Kept.{ActRoom, Keeps, history_of, open_of};
 ghost use Rattle.device_core.specs.Promises.{ForgetsNothing};
 ghost use Rattle.device_core.specs.State.{device_of};
 
-use crate::past::{KeptPath, Past};
+use crate::history::{KeptPath, Past};
 use crate::resets::path_at;
 use crate::{Device, Log};
 use ckd_types::{EndList, NoMemory, PathNo};

@@ -14,12 +14,12 @@ ghost use Rattle.device_store.specs.State.{half_of, is_opened};
 ghost use Rattle.device_core.specs.Halves.{IsWaiting};
 ghost use Rattle.device_core.specs.Kept.{open_of, chain_of, ActRoom, HasRoomFor, Keeps};
 ghost use Rattle.device_core.specs.State.{device_by, last_end_of, second_seen};
-ghost use Rattle.device_core.specs.Turns.{turn_with, is_half, Left};
+ghost use Rattle.device_core.specs.TrackWalk.{turn_with, is_half, Left};
 ghost use Rattle.device_core.specs.Words.{HasEndRoom, IsAtWord};
 ghost use Rattle.device_core.specs.declared.second.SecondStep.TheVariants.{Ended};
 
-use crate::past::{Past, Running};
-use crate::turns::wrote;
+use crate::history::{Past, Running};
+use crate::track_walk::wrote;
 use ckd_types::TrackNo;
 use device_defs::{Came, Took};
 use device_store::{HalfWrite, Origin};

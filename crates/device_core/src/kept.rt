@@ -1,7 +1,7 @@
 ghost use Rattle.std.specs.Prelude.{◌≡◌, ◌+◌, ◌<◌, ◌≤◌};
 ghost use Rattle.device_core.specs.Kept.{of_path, with_one_more, with_unused, with_waiting};
 
-use crate::past::KeptPath;
+use crate::history::KeptPath;
 use ckd_types::PathNo;
 
 /// A path was reset.

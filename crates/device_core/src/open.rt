@@ -10,7 +10,7 @@ ghost use Rattle.past_laws.specs.PutAway.{nothing_away};
 ghost use Rattle.device_outside.specs.Disk.{empty_contents};
 
 use crate::giving::plans_give;
-use crate::past::{KeptPath, Past};
+use crate::history::{KeptPath, Past};
 use crate::{Device, Log};
 use ckd_types::{DeviceNo, Geometry, NoMemory};
 use deck_plan::PathPlans;

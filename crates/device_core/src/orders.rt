@@ -28,7 +28,7 @@ ghost use Rattle.device_outside.specs.Disk.{empty_contents};
 ghost use Rattle.subsystem_defs.specs.Refusals.{replace_fault, suspend_fault, unpair_fault};
 
 use crate::Device;
-use crate::past::Past;
+use crate::history::Past;
 use crate::start::ITEMS_BEFORE_NEXT;
 use ckd_types::{DeviceNo, NoMemory, Side};
 use device_outside::{Keep, NoKeep, Port, Volume};

@@ -15,7 +15,7 @@ ghost use Rattle.device_core.specs.Promises.{StaysExcused, StaysLent, StaysPlain
 
 use crate::Device;
 use crate::half::half_count;
-use crate::past::{KeptPath, Past};
+use crate::history::{KeptPath, Past};
 use device_outside::{Keep, NoKeep, Port, Volume};
 use plain_defs::Item;
 use plain_device::Paths;

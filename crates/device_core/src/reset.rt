@@ -18,8 +18,8 @@ ghost use Rattle.device_core.specs.Promises.{StaysExcused, StaysLent, StaysPlain
 
 use crate::Device;
 use crate::half::half_count;
+use crate::history::Past;
 use crate::kept::{set_unused, set_waiting};
-use crate::past::Past;
 use ckd_types::PathNo;
 use device_outside::{Keep, NoKeep, Volume};
 use plain_defs::{How, Item};

@@ -4,7 +4,7 @@ ghost use Rattle.device_defs.specs.Device.{all_reset};
 ghost use Rattle.device_core.specs.Kept.{over_path, waiting_in, waiting_one};
 
 use crate::Log;
-use crate::past::{KeptPath, Past};
+use crate::history::{KeptPath, Past};
 use ckd_types::PathNo;
 use plain_defs::Item;
 use plain_device::Paths;

@@ -18,7 +18,7 @@ ghost use Rattle.past_laws.specs.PutAway.{PutAway};
 ghost use Rattle.device_core.specs.Promises.{DidCommand, EndsSeen, FastWritesNone, StandsPlain, StaysExcused, StaysPlain, StaysSame, StaysSound};
 
 use crate::Device;
-use crate::past::{Past, Running, Stepped};
+use crate::history::{Past, Running, Stepped};
 use crate::step::on_past;
 use ckd_types::NoMemory;
 use device_outside::{Keep, NoKeep, Port, Volume};

@@ -21,8 +21,8 @@ ghost use Rattle.device_core.specs.Starting.{fault_told};
 ghost use Rattle.device_core.specs.Promises.{StaysExcused, StaysPlain, StaysSound};
 
 use crate::Device;
+use crate::history::{Past, Running};
 use crate::kept::count_one_more;
-use crate::past::{Past, Running};
 use crate::resets::path_at;
 use ckd_ccw::Program;
 use ckd_chain::Chain;

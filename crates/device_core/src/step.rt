@@ -10,13 +10,13 @@ ghost use Rattle.event_notes.specs.Loose.{weight};
 ghost use Rattle.device_store.specs.State.{state_of, outside, TakesTracks};
 ghost use Rattle.device_core.specs.Kept.{HasRoomFor};
 ghost use Rattle.device_core.specs.State.{DefinedDevice, open_of, came_to, told, commanded, commanded_by, came_from};
-ghost use Rattle.device_core.specs.Turns.{Left, is_half};
+ghost use Rattle.device_core.specs.TrackWalk.{Left, is_half};
 ghost use Rattle.device_core.specs.Words.{HasEndRoom, IsAtWord};
 
 use crate::Device;
 use crate::command::{on_paths, on_tracks};
-use crate::past::{Past, Running, Stepped};
-use crate::turns::check;
+use crate::history::{Past, Running, Stepped};
+use crate::track_walk::check;
 use ckd_types::NoMemory;
 use device_defs::Came;
 use device_outside::{Keep, NoKeep, Port, Volume};

@@ -131,6 +131,9 @@ fn a_copy_of_the_first_moment_is_what_the_volume_held(rt: HostRuntime) -> Result
     let alloc = rt.alloc();
     let d = DeviceNo::new(5).ok_or("device")?;
     let sub = devices_on(alloc, d, near(alloc)?)?;
+    if !sub.has_device(d) {
+        return Err("device".into());
+    }
     let Ok(mut session) = Session::begin(alloc, sub, d) else {
         return Err("not begun".into());
     };

@@ -12,18 +12,18 @@ use Rattle.device_turn.specs.declared.holder.Holder.{Ghosts}
 use Rattle.device_turn.specs.declared.place.Turn.{Turn}
 use Rattle.device_turn.specs.declared.seat.TurnSeat.{TurnSeat}
 use Rattle.device_turn.specs.declared.view.View.{View}
-use Rattle.turn_seats.specs.Seating.{AreSeated, IsHome, Rests}
-use Rattle.turn_seats.specs.declared.seating.Seats.{Seats}
+use Rattle.device_turn.specs.Seating.{AreSeated, IsHome, Rests}
+use Rattle.device_turn.specs.declared.seating.Seats.{Seats}
 use Rattle.device_core.specs.declared.device.Device.{Device}
-use Rattle.path_turns.specs.declared.promise.Promise.{Promise}
+use Rattle.path_workers.specs.declared.promise.Promise.{Promise}
 use Rattle.device_core.specs.State.{device_of}
 use Rattle.device_defs.specs.Pledge.{Pledge, failures_of}
 use Rattle.device_laws.specs.Handed.{allowance_in}
-use Rattle.path_turns.specs.Keeping.{KeepsPromise, StandsFirst, pledge_with, tells_all, told_of}
-use Rattle.path_orders.specs.declared.device_orders.DeviceOrder.{DeviceOrder}
-use Rattle.path_orders.specs.declared.device_orders.DeviceOrder.TheVariants as orders
-use Rattle.path_orders.specs.Ordered.{HasSize, HaveLosses, IsOrdered, IsPledged, Suits}
-use Rattle.path_orders.specs.Spare.{IsSpare}
+use Rattle.path_workers.specs.Keeping.{KeepsPromise, StandsFirst, pledge_with, tells_all, told_of}
+use Rattle.path_workers.specs.declared.device_orders.DeviceOrder.{DeviceOrder}
+use Rattle.path_workers.specs.declared.device_orders.DeviceOrder.TheVariants as orders
+use Rattle.path_workers.specs.Ordered.{HasSize, HaveLosses, IsOrdered, IsPledged, Suits}
+use Rattle.path_workers.specs.Spare.{IsSpare}
 use Rattle.path_threads.specs.declared.places.Place.{Place}
 use Rattle.path_threads.specs.Held.{IsHeld}
 use Rattle.path_threads.specs.Places.{Allows, IsPromised, SuitsSeat}

@@ -7,13 +7,13 @@ use Rattle.device_outside.specs.declared.volume.Volume.{Ghosts}
 use Rattle.device_turn.specs.Rule.{KeptBy}
 use Rattle.device_turn.specs.declared.holder.Holder as holders
 use Rattle.device_turn.specs.declared.seat.TurnSeat.{TurnSeat}
-use Rattle.turn_seats.specs.declared.seating.Setting.{Setting}
-use Rattle.turn_seats.proofs.Zips.{zip_snoc}
+use Rattle.device_turn.specs.declared.seating.Setting.{Setting}
+use Rattle.device_turn.proofs.Zips.{zip_snoc}
 use Rattle.device_defs.specs.declared.counts.Losses.{Losses}
 use Rattle.device_core.specs.declared.device.Device.{Device}
-use Rattle.path_turns.specs.declared.promise.Promise.{Promise}
-use Rattle.path_turns.specs.Keeping.{IsReady, IsWithin, KeepsPromise, KeepsWithin}
-use Rattle.path_turns.proofs.Ready.{ready_keeps}
+use Rattle.path_workers.specs.declared.promise.Promise.{Promise}
+use Rattle.path_workers.specs.Keeping.{IsReady, IsWithin, KeepsPromise, KeepsWithin}
+use Rattle.path_workers.proofs.Ready.{ready_keeps}
 use Rattle.path_threads.specs.Places.{Allows, HaveCome, HaveLeft, HavePlaces, IsPlaceOf, IsPromised, IsPromisedFor, KeepPromises}
 use Rattle.path_threads.specs.declared.places.Place.{Place}
 use Rattle.path_threads.specs.declared.orders.Order.{Order}

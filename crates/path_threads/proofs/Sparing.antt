@@ -8,13 +8,13 @@ use Rattle.ckd_types.specs.declared.paths.Side.{Side}
 use Rattle.device_outside.specs.declared.volume.Volume.{Ghosts}
 use Rattle.device_defs.specs.declared.counts.Losses.{Losses}
 use Rattle.device_turn.specs.declared.holder.Holder as holders
-use Rattle.turn_seats.specs.Seating.{Rests}
+use Rattle.device_turn.specs.Seating.{Rests}
 use Rattle.subsystem_core.specs.Devices.{device_at}
 use Rattle.device_core.specs.declared.device.Device.{Device}
-use Rattle.path_turns.specs.declared.promise.Promise.{Promise}
-use Rattle.path_orders.specs.declared.device_orders.DeviceOrder.{DeviceOrder}
-use Rattle.path_orders.specs.declared.device_orders.DeviceOrder.TheVariants as orders
-use Rattle.path_orders.specs.Spare.{IsSpare}
+use Rattle.path_workers.specs.declared.promise.Promise.{Promise}
+use Rattle.path_workers.specs.declared.device_orders.DeviceOrder.{DeviceOrder}
+use Rattle.path_workers.specs.declared.device_orders.DeviceOrder.TheVariants as orders
+use Rattle.path_workers.specs.Spare.{IsSpare}
 use Rattle.path_threads.specs.Asked.{device_order}
 use Rattle.path_threads.specs.declared.orders.Order.{Order}
 use Rattle.subsystem_defs.specs.declared.event.Event as events

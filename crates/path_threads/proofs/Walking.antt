@@ -5,7 +5,7 @@ use Rattle.std.specs.List.{AllZip}
 use Rattle.device_turn.specs.declared.holder.Holder.{Ghosts}
 use Rattle.device_turn.specs.declared.place.Turn.{Turn}
 use Rattle.device_turn.specs.declared.seat.TurnSeat.{TurnSeat}
-use Rattle.turn_seats.specs.Seating.{IsAt, Rests}
+use Rattle.device_turn.specs.Seating.{IsAt, Rests}
 
 module _ {A B : Type 0} (R : A → B → Type 0) where
   pub zip_long : (xs : List A) (ys : List B) → AllZip R xs ys → length ys ≡ length xs

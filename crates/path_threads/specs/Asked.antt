@@ -3,8 +3,8 @@ use Rattle.std.specs.Prelude.{ℕ, ◌==◌, Bool, false, Option, Some, None, if
 use Rattle.device_outside.specs.Pool.{Pool, all_waiting, cache_failed, cache_repaired, store_failed, store_repaired}
 use Rattle.subsystem_defs.specs.declared.event.Event as events
 use Rattle.subsystem_defs.specs.declared.event.Event.TheVariants as told
-use Rattle.path_orders.specs.declared.device_orders.DeviceOrder.{DeviceOrder}
-use Rattle.path_orders.specs.declared.device_orders.DeviceOrder.TheVariants as orders
+use Rattle.path_workers.specs.declared.device_orders.DeviceOrder.{DeviceOrder}
+use Rattle.path_workers.specs.declared.device_orders.DeviceOrder.TheVariants as orders
 use Rattle.path_threads.specs.declared.shared.PoolOrder.{PoolOrder}
 use Rattle.path_threads.specs.declared.shared.PoolOrder.TheVariants.{FailCache, FailStore, RepairCache, RepairStore}
 

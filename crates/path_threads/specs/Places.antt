@@ -11,16 +11,16 @@ use Rattle.device_core.specs.State.{device_of}
 use Rattle.device_defs.specs.Start.{left}
 use Rattle.loss_model.specs.declared.Loss.{Loss}
 use Rattle.loss_model.specs.declared.Loss.TheVariants.{Cache, Store}
-use Rattle.path_orders.specs.declared.device_orders.DeviceOrder.{DeviceOrder}
-use Rattle.path_orders.specs.declared.device_orders.DeviceOrder.TheVariants as orders
-use Rattle.path_orders.specs.Ordered.{MayLose}
-use Rattle.path_orders.specs.Spare.{IsSpare}
+use Rattle.path_workers.specs.declared.device_orders.DeviceOrder.{DeviceOrder}
+use Rattle.path_workers.specs.declared.device_orders.DeviceOrder.TheVariants as orders
+use Rattle.path_workers.specs.Ordered.{MayLose}
+use Rattle.path_workers.specs.Spare.{IsSpare}
 use Rattle.path_threads.specs.declared.orders.Order.{Order}
 use Rattle.path_threads.specs.declared.orders.Order.TheVariants.{Event, Replace}
 use Rattle.path_threads.specs.declared.shared.PoolOrder.{PoolOrder}
 use Rattle.path_threads.specs.declared.shared.PoolOrder.TheVariants.{FailCache, FailStore, RepairCache, RepairStore}
-use Rattle.path_turns.specs.declared.promise.Promise.{Promise}
-use Rattle.path_turns.specs.Keeping.{IsReady, KeepsWithin}
+use Rattle.path_workers.specs.declared.promise.Promise.{Promise}
+use Rattle.path_workers.specs.Keeping.{IsReady, KeepsWithin}
 use Rattle.path_threads.specs.declared.places.Place.{Place}
 use Rattle.path_threads.specs.Allowed.{allowed_of}
 

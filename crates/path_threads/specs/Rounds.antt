@@ -1,6 +1,6 @@
 -- What came of several devices.
-use Rattle.path_turns.specs.declared.events.Came.{Came}
-use Rattle.path_turns.specs.declared.events.Came.TheVariants.{Went, Again, Over}
+use Rattle.path_workers.specs.declared.events.Came.{Came}
+use Rattle.path_workers.specs.declared.events.Came.TheVariants.{Went, Again, Over}
 
 -- over where all are, and gone where one went
 abbrev pub both : Came → Came → Came

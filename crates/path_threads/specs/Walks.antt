@@ -3,7 +3,7 @@ use Rattle.std.specs.Prelude.{List, IfOk}
 use Rattle.std.specs.List.{AllZip}
 use Rattle.device_turn.specs.declared.holder.Holder.{Ghosts}
 use Rattle.device_turn.specs.declared.place.Turn.{Turn}
-use Rattle.turn_seats.specs.Seating.{IsAt}
+use Rattle.device_turn.specs.Seating.{IsAt}
 use Rattle.path_threads.specs.declared.rows.Walks.{Walks}
 
 module _ {H P : Type 0} {G : Ghosts H P} where

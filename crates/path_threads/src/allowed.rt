@@ -1,12 +1,12 @@
 ghost use Rattle.std.specs.Prelude.{◌≡◌};
-ghost use Rattle.path_turns.specs.Keeping.{IsWithin};
+ghost use Rattle.path_workers.specs.Keeping.{IsWithin};
 ghost use Rattle.path_threads.specs.Allowed.{allowed, event_loss, loss_of, with_loss};
 
 use crate::orders::Order;
 use ckd_types::DeviceNo;
 use device_defs::Losses;
 use loss_model::Loss;
-use path_orders::one_more;
+use path_workers::one_more;
 use subsystem_defs::Event;
 
 fn event_loss(number: DeviceNo, event: Event) -> Option<Loss>

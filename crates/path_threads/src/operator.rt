@@ -2,11 +2,11 @@
 
 ghost use Rattle.std.specs.Prelude.{◌≡◌, All, IfOk, OnOk, true};
 ghost use Rattle.std.specs.List.{AllZip};
-ghost use Rattle.turn_seats.specs.Seating.{IsHome, Rests};
+ghost use Rattle.device_turn.specs.Seating.{IsHome, Rests};
 ghost use Rattle.path_threads.specs.Held.{IsHeld};
 ghost use Rattle.path_threads.specs.Asked.{device_order, pool_order};
 ghost use Rattle.path_threads.specs.Places.{Allows, IsSpareAt, MayHave, SuitsAt, SuitsSeat};
-ghost use Rattle.path_orders.specs.Ordered.{HasSize, HaveLosses, IsOrdered, Suits};
+ghost use Rattle.path_workers.specs.Ordered.{HasSize, HaveLosses, IsOrdered, Suits};
 
 use crate::orders::{MakeVolume, Order};
 use crate::places::Place;
@@ -16,8 +16,7 @@ use device_core::Device;
 use device_defs::Losses;
 use device_outside::{Port, Volume};
 use device_turn::Enter;
-use path_orders::{DeviceOrder, lose, may_lose, order};
-use path_turns::{DeviceSeat, DeviceTurn};
+use path_workers::{DeviceOrder, DeviceSeat, DeviceTurn, lose, may_lose, order};
 use std::alloc::Global;
 use std::sync::Wait;
 use std::thread::yield_now;

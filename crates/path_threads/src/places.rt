@@ -1,9 +1,9 @@
 ghost use Rattle.std.specs.Prelude.{◌≡◌, All, IfOk, List};
 ghost use Rattle.std.specs.List.{AllZip};
-ghost use Rattle.path_turns.specs.Keeping.{IsReady, IsWithin};
+ghost use Rattle.path_workers.specs.Keeping.{IsReady, IsWithin};
 ghost use Rattle.path_threads.specs.Allowed.{allowed_of};
 ghost use Rattle.path_threads.specs.Places.{Allows, IsPlaceOf, IsPromised, IsPromisedFor, KeepPromises, waiting_of, waits_for};
-ghost use Rattle.turn_seats.specs.Seating.{AreSet, IsSet};
+ghost use Rattle.device_turn.specs.Seating.{AreSet, IsSet};
 ghost use Rattle.device_core.specs.State.{device_of};
 
 use crate::allowed::allowed;
@@ -12,10 +12,10 @@ use ckd_types::{DeviceNo, NoMemory, PathNo};
 use device_core::Device;
 use device_defs::Losses;
 use device_outside::Volume;
-use path_turns::Promise;
+use device_turn::{Setting, Table, clear, set};
+use path_workers::Promise;
 use std::alloc::Global;
 use std::snapshot::Snapshot;
-use turn_seats::{Setting, Table, clear, set};
 
 /// Which device stands in a turn, how many losses it may have, and how many programs of each path wait there.
 #[derive(Clone, Copy, Debug, PartialEq, Eq)]

@@ -22,7 +22,7 @@ pub(crate) struct Resting<H: Holder<P>, P> {
 impl<H: Holder<P>, P> thread::Promise<Walked<H, P>> for Resting<H, P> {
     ghost use Rattle.std.specs.Prelude.{IfOk};
     ghost use Rattle.std.specs.List.{AllZip};
-    ghost use Rattle.turn_seats.specs.Seating.{IsAt};
+    ghost use Rattle.device_turn.specs.Seating.{IsAt};
 
     ghost kept_by = { λ p r. IfOk r (λ v. AllZip (IsAt p.number) p.turns.value.items v.items) };
 }

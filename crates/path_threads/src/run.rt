@@ -1,7 +1,7 @@
 ghost use Rattle.std.specs.Prelude.{◌≡◌, All, IfErr, IfOk, Ok};
 ghost use Rattle.std.specs.List.{AllZip};
-ghost use Rattle.path_turns.specs.Keeping.{IsFinished, IsReady};
-ghost use Rattle.turn_seats.specs.Seating.{AreSeated, IsAt, IsHome, Rests};
+ghost use Rattle.path_workers.specs.Keeping.{IsFinished, IsReady};
+ghost use Rattle.device_turn.specs.Seating.{AreSeated, IsAt, IsHome, Rests};
 ghost use Rattle.path_threads.specs.Places.{Allows, IsSpareAt, IsSpareAmong, KeepsOrdered};
 ghost use Rattle.path_threads.specs.Walks.{HaveWalked};
 
@@ -14,15 +14,14 @@ use crate::walks::{walk, work_behind};
 use ckd_types::{NoMemory, PathNo};
 use device_core::Device;
 use device_outside::{Gate, Volume};
-use device_turn::{Holder, Turn};
+use device_turn::{Holder, Seats, Table, Turn};
 use frame_pool::Pool;
-use path_turns::{DeviceSeat, DeviceTurn, Promise, finish_all};
+use path_workers::{DeviceSeat, DeviceTurn, Promise, finish_all};
 use std::alloc::Global;
 use std::snapshot::Snapshot;
 use std::sync::Wait;
 use std::thread;
 use std::thread::{PromisedHandle, Scope, SpawnError, Threads, scope, scope_env};
-use turn_seats::{Seats, Table};
 
 /// The pool and the devices behind a run.
 #[derive(Drop)]

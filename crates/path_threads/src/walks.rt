@@ -1,13 +1,13 @@
 ghost use Rattle.std.specs.Prelude.{◌≡◌, IfOk, OnOk};
 ghost use Rattle.std.specs.List.{AllZip};
-ghost use Rattle.turn_seats.specs.Seating.{IsAt, Rests};
+ghost use Rattle.device_turn.specs.Seating.{IsAt, Rests};
 ghost use Rattle.path_threads.specs.Rounds.{both};
 
 use crate::places::Place;
 use crate::shared::{Shared, SharedPool};
 use ckd_types::{NoMemory, PathNo};
 use device_outside::{Gate, Port, Volume};
-use path_turns::{Came, DeviceSeat, DeviceTurn, Visitor, background_turn, path_turn};
+use path_workers::{Came, DeviceSeat, DeviceTurn, Visitor, background_turn, path_turn};
 use std::sync::Wait;
 use std::thread::yield_now;
 

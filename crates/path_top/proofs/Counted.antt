@@ -17,8 +17,8 @@ use Rattle.device_laws.specs.Handed.{allowance_in, allowance_of, in_all}
 use Rattle.device_store.specs.State.{on_a, on_b}
 use Rattle.device_core.specs.declared.device.Device.{Device}
 use Rattle.device_core.specs.State.{device_of}
-use Rattle.path_turns.specs.Keeping.{KeepsPledge, pledge_with, told_of}
-use Rattle.path_turns.specs.Planned.{as_planned, still_failing}
+use Rattle.path_workers.specs.Keeping.{KeepsPledge, pledge_with, told_of}
+use Rattle.path_workers.specs.Planned.{as_planned, still_failing}
 use Rattle.path_threads.specs.declared.orders.Order.{Order}
 use Rattle.path_threads.specs.Allowed.{allowed_of}
 use Rattle.path_threads.specs.Places.{KeepsOrdered}

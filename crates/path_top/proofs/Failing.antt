@@ -10,7 +10,7 @@ use Rattle.device_outside.specs.Volume.{Plan}
 use Rattle.subsystem_defs.specs.Decks.{failing_of, plan_for}
 use Rattle.subsystem_defs.specs.Happening.{is_lent_to}
 use Rattle.subsystem_defs.specs.Subsystem.{Mounted, mounted_in, number_of, put_in}
-use Rattle.path_turns.specs.Planned.{come_once}
+use Rattle.path_workers.specs.Planned.{come_once}
 use Rattle.path_top.specs.Excuses.{faults_of, lent_faults}
 
 -- Of a plan

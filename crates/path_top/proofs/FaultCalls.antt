@@ -14,7 +14,7 @@ use Rattle.deck_text.specs.Words.{three_words}
 use Rattle.deck_text.proofs.DeckAgain.{Each, FaultOk, fault_words}
 use Rattle.deck_text.proofs.FormsAgain.{if_ok, needed_is, number_range, went}
 use Rattle.deck_text.proofs.Reached.{parsed_good}
-use Rattle.path_turns.specs.Planned.{come_once}
+use Rattle.path_workers.specs.Planned.{come_once}
 use Rattle.subsystem_defs.specs.Decks.{failing_of, is_same, plan_for}
 
 few_calls : (devices : List DeviceLine) (words : List (List ℕ)) (f : FaultLine) → fault_line devices words ≡ Ok f → f.call ≤ 4294967295

@@ -15,7 +15,7 @@ use Rattle.plain_defs.specs.PlainState.{PathsState, PlainState, is_admitted}
 use Rattle.device_defs.specs.Device.{Device}
 use Rattle.device_defs.specs.Pledge.{are_kept, ends_with_data_check}
 use Rattle.device_defs.specs.Start.{has_none_or_is_out, is_finished, is_shut, keeps_out, left, next_program, started_count}
-use Rattle.path_turns.proofs.Keeping.{none_of}
+use Rattle.path_workers.proofs.Keeping.{none_of}
 use Rattle.path_top.specs.Histories.{IsToldBy, next_of, ran}
 use Rattle.path_top.specs.Told.{DeviceTold, left_of}
 

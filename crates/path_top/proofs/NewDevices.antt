@@ -46,8 +46,8 @@ use Rattle.subsystem_laws.proofs.LendBase.{Lent, lend_lends, lent_counts}
 use Rattle.subsystem_laws.specs.CameAbout as about
 use Rattle.subsystem_laws.specs.CameAbout.{CameAboutOn}
 use Rattle.subsystem_laws.proofs.Walks.{IsFree, mounted_number}
-use Rattle.path_turns.specs.Planned.{come_once}
-use Rattle.path_turns.proofs.Keeping.{none_of}
+use Rattle.path_workers.specs.Planned.{come_once}
+use Rattle.path_workers.proofs.Keeping.{none_of}
 use Rattle.path_top.specs.Excuses.{faults_of, lent_faults}
 use Rattle.path_top.specs.Pairs.{AllFit, before_start, paired_on}
 use Rattle.path_top.proofs.Paired.{lines_keep}

@@ -33,10 +33,10 @@ use Rattle.subsystem_laws.proofs.PlainRuns.{still_first}
 use Rattle.subsystem_laws.proofs.turning.Beside.{own_follows}
 use Rattle.deck_run.specs.Owning.{AllOwn}
 use Rattle.deck_run.specs.Standing.{StandsAs, all_stood, stood_of}
-use Rattle.path_turns.proofs.Planned.{tells_planned}
-use Rattle.path_turns.proofs.Pooled.{untold_order}
-use Rattle.path_turns.specs.Keeping.{tells}
-use Rattle.path_turns.specs.Planned.{as_planned, come_once, told_planned}
+use Rattle.path_workers.proofs.Planned.{tells_planned}
+use Rattle.path_workers.proofs.Pooled.{untold_order}
+use Rattle.path_workers.specs.Keeping.{tells}
+use Rattle.path_workers.specs.Planned.{as_planned, come_once, told_planned}
 use Rattle.path_top.specs.Pairs.{all_lent, lent_of, paired_on}
 use Rattle.path_top.specs.Excuses.{faults_of, lent_faults}
 use Rattle.path_top.proofs.Failing.{FailsFew, failing_in, planned}

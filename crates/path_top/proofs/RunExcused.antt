@@ -9,7 +9,7 @@ use Rattle.device_core.specs.State.{device_of}
 use Rattle.device_laws.specs.SoundOn.{begun_as}
 use Rattle.subsystem_laws.specs.Standing.{StandsOn}
 use Rattle.subsystem_laws.proofs.turning.Sound.{stands_excused}
-use Rattle.path_turns.specs.Keeping.{told_of}
+use Rattle.path_workers.specs.Keeping.{told_of}
 use Rattle.path_top.specs.Devices.{told_by}
 use Rattle.path_top.specs.Histories.{IsExcusedBy}
 use Rattle.path_top.proofs.Marked.{are_tracks, marks_are}

@@ -26,7 +26,7 @@ use Rattle.device_core.specs.State.{device_of}
 use Rattle.deck_run.specs.Ending.{lost_in}
 use Rattle.deck_run.specs.Unused.{AreUnused, IsUnused}
 use Rattle.device_defs.specs.declared.counts.Losses.{Losses}
-use Rattle.path_turns.specs.Keeping.{IsFinished, KeepsPledge, KeepsWithin, StandsFirst, pledge_with, told_of}
+use Rattle.path_workers.specs.Keeping.{IsFinished, KeepsPledge, KeepsWithin, StandsFirst, pledge_with, told_of}
 use Rattle.path_threads.specs.declared.orders.Order.{Order}
 use Rattle.path_threads.specs.Allowed.{allowed_of}
 use Rattle.path_threads.specs.Places.{KeepsOrdered}

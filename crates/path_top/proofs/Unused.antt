@@ -26,7 +26,7 @@ use Rattle.subsystem_defs.specs.Refusals.{pair_fault}
 use Rattle.deck_run.proofs.Stays.{quiet_had}
 use Rattle.deck_run.proofs.Surely.{ran_so}
 use Rattle.deck_run.specs.Unused.{AreUnused, IsUnused}
-use Rattle.path_turns.specs.Keeping.{IsReady, are_fresh}
+use Rattle.path_workers.specs.Keeping.{IsReady, are_fresh}
 
 -- a device that lends its volume keeps its history
 lend_keeps : (d : DefinedDevice) (to : ℕ) → Had (lend contents d to) (λ y (_ : Unit {0}). y.history ≡ d.history)

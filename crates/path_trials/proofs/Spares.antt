@@ -10,8 +10,8 @@ use Rattle.device_outside.specs.Volume.{VolumeView}
 use Rattle.subsystem_core.specs.Devices.{device_at}
 use Rattle.subsystem_defs.specs.Subsystem.{unfailing}
 use Rattle.device_core.specs.declared.device.Device.{Device}
-use Rattle.path_orders.specs.Spare.{IsSpare}
-use Rattle.path_orders.proofs.Spares.{new_spare}
+use Rattle.path_workers.specs.Spare.{IsSpare}
+use Rattle.path_workers.proofs.Spares.{new_spare}
 use Rattle.path_threads.specs.declared.orders.Order.{Order}
 use Rattle.path_threads.specs.declared.orders.Order.TheVariants.{Event, Replace}
 use Rattle.path_threads.specs.Places.{IsSpareAmong}

@@ -1,6 +1,6 @@
 ghost use Rattle.std.specs.Prelude.{◌≡◌, All, IfOk, false, is_some};
 ghost use Rattle.device_core.specs.State.{device_of};
-ghost use Rattle.path_turns.specs.Keeping.{IsReady};
+ghost use Rattle.path_workers.specs.Keeping.{IsReady};
 ghost use Rattle.path_trials.specs.Small.{IsNew, IsSmall};
 
 use crate::EmptyVolume;

@@ -24,7 +24,7 @@ use Rattle.duplex_pair.specs.Sides.{volume_of}
 use Rattle.device_store.specs.State.{surely}
 use Rattle.device_core.specs.declared.device.Device.{Device}
 use Rattle.device_core.specs.declared.start.NotStarted.{NotStarted}
-use Rattle.device_core.specs.declared.past.Stepped.{Stepped}
+use Rattle.device_core.specs.declared.history.Stepped.{Stepped}
 use Rattle.device_core.specs.declared.second.SecondStep.{SecondStep}
 use Rattle.device_core.specs.State.{DefinedDevice, device_of, last_end, second_seen, step_had}
 use Rattle.subsystem_defs.specs.declared.end.EventEnd as ends_of

@@ -1,5 +1,5 @@
 -- What a subsystem promises of its devices, whatever volumes they began on, and whatever of their pasts was put away.
-use Rattle.std.specs.Prelude.{◌≡◌, ◌==◌, ℕ, true, false, All, List, OnErr, OnOk, Result, Some, if◌then◌else◌, is_some}
+use Rattle.std.specs.Prelude.{◌≡◌, ◌==◌, ℕ, true, false, All, IfSome, List, OnErr, OnOk, Result, Some, if◌then◌else◌, is_some}
 use Rattle.ckd_types.specs.declared.record.Track.{Track}
 use Rattle.device_outside.specs.declared.volume.Volume.{Ghosts}
 use Rattle.device_outside.specs.Disk.{empty_contents}
@@ -10,6 +10,7 @@ use Rattle.device_core.specs.State.{device_of}
 use Rattle.past_laws.specs.Forgotten.{put_away}
 use Rattle.past_laws.specs.PutAway.{PutAway}
 use Rattle.subsystem_core.specs.Devices.{device_at, number_of}
+use Rattle.subsystem_laws.specs.Looking.{is_written_at}
 
 -- a volume tells that each of its tracks is empty
 abbrev pub TellsEmpty : VolumeView (List ℕ) → Type 0
@@ -54,6 +55,10 @@ module _ {V : Type 0} {G : Ghosts V} where
     pub stand : StayStanding olds news
     pub histories : (pasts : ℕ → PutAway) (firsts : ℕ → List Track) → AllStand pasts firsts olds → HavePlainHistories pasts firsts news
     pub sound : (pasts : ℕ → PutAway) (firsts : ℕ → List Track) → AllStand pasts firsts olds → AreSound pasts firsts news
+
+  -- no half write of a command, or of one that was cut, is open on this track of the device of this number
+  abbrev pub IsUnwritten : ℕ → ℕ → List (Device V G) → Type 0
+  IsUnwritten n t ds = IfSome (device_at ds n) (λ (x : Device V G). is_written_at (device_of x).store.half t ≡ false)
 
   -- Forgetting
 

@@ -15,7 +15,7 @@ ghost use Rattle.device_defs.specs.Store.{tracks_of};
 ghost use Rattle.subsystem_core.specs.Comes.{AskedKept, Changes, StartsBy};
 ghost use Rattle.subsystem_core.specs.Devices.{device_at};
 ghost use Rattle.subsystem_core.specs.Frames.{HasDevice, HasSameSpans, LooksAt};
-ghost use Rattle.subsystem_core.specs.Standing.{NoneIsLent, StayStanding};
+ghost use Rattle.subsystem_core.specs.Standing.{IsUnwritten, NoneIsLent, StayStanding};
 
 use crate::Subsystem;
 use ckd_types::{DeviceNo, NoMemory, PathNo, TrackNo};
@@ -140,6 +140,7 @@ impl<V: Volume> Subsystem<V> {
         requires track { IfSome (device_at self.old.devices.items d) (λ x. t < tracks_of (device_of x).store) }
         requires takes { IfSome (device_at self.old.devices.items d) (λ x. TakesItsTracks K.takes keep.old x) }
         ensures spans { HasSameSpans self.old self.new }
+        ensures stands { IsUnwritten d t self.old.devices.items → StayStanding self.old.devices.items self.new.devices.items }
         ensures asked { LooksAt (Heard K.hears K.takes) d t result self.old keep.old self.new keep.new }
     {
         let at = self.place(d);

@@ -5,6 +5,7 @@ ghost use Rattle.device_defs.specs.Store.{tracks_of};
 ghost use Rattle.subsystem_core.specs.Devices.{device_at};
 ghost use Rattle.subsystem_core.specs.Keepers.{TakesAll};
 ghost use Rattle.subsystem_core.specs.Frames.{HasDevice, HasSameDevices, LooksAlone, LooksAt};
+ghost use Rattle.subsystem_core.specs.Standing.{IsUnwritten, StayPlain};
 
 use crate::Subsystem;
 use ckd_types::{DeviceNo, NoMemory, TrackNo};
@@ -27,6 +28,7 @@ impl<V: Volume> Subsystem<V> {
         ensures numbers { HasSameDevices self.old self.new }
         ensures takes { TakesAll K.takes keep.new self.new.devices.items }
         ensures looked { LooksAt (Heard K.hears K.takes) d t result self.old keep.old self.new keep.new }
+        ensures plain { IsUnwritten d t self.old.devices.items → StayPlain self.old.devices.items self.new.devices.items }
     {
         self.peek_at(d, t, keep)
     }
@@ -37,6 +39,7 @@ impl<V: Volume> Subsystem<V> {
         requires track { IfSome (device_at self.old.devices.items d) (λ x. t < tracks_of (device_of x).store) }
         ensures numbers { HasSameDevices self.old self.new }
         ensures looked { LooksAlone d t result self.old self.new }
+        ensures plain { IsUnwritten d t self.old.devices.items → StayPlain self.old.devices.items self.new.devices.items }
     {
         let mut keep = NoKeep;
         self.peek_track_with(d, t, &mut keep)

@@ -1,5 +1,5 @@
 use Rattle.std.proofs.Common.{◌≡◌, drop}
-use Rattle.path_turns.specs.Keeping.{IsWithin}
+use Rattle.path_workers.specs.Keeping.{IsWithin}
 use Rattle.path_threads.specs.Allowed.{allowed}
 use Rattle.path_threads.proofs.allowed.allowed.Given as goal
 

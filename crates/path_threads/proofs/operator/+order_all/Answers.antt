@@ -4,8 +4,8 @@ use Rattle.device_turn.specs.Answers.{IsOut, MayLeave}
 use Rattle.device_turn.specs.Rule.{KeptBy, boxed, counts_in}
 use Rattle.device_turn.proofs.Members.{may_boxed}
 use Rattle.device_core.specs.State.{device_of}
-use Rattle.turn_seats.specs.Seating.{IsHome}
-use Rattle.path_turns.specs.Keeping.{KeepsPromise}
+use Rattle.device_turn.specs.Seating.{IsHome}
+use Rattle.path_workers.specs.Keeping.{KeepsPromise}
 use Rattle.path_threads.specs.Places.{Allows}
 use Rattle.path_threads.proofs.Holding.{may_have}
 use Rattle.path_threads.proofs.Parting.{one_set, zip_first}

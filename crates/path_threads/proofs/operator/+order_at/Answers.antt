@@ -1,5 +1,5 @@
 use Rattle.std.proofs.Common.{arith}
-use Rattle.turn_seats.specs.Seating.{IsHome, Rests}
+use Rattle.device_turn.specs.Seating.{IsHome, Rests}
 use Rattle.path_threads.specs.Places.{Allows}
 use Rattle.path_threads.proofs.Holding.{home_rest, on_ok}
 use Rattle.path_threads.proofs.Parting.{only_set, zip_apart, zip_first, zip_together}

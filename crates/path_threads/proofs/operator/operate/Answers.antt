@@ -3,7 +3,7 @@ use Rattle.std.proofs.lemmas.List.Elements.{All-head, All-rest}
 use Rattle.std.specs.Prelude.{All}
 use Rattle.std.specs.List.{AllZip}
 use Rattle.std.specs.Vec.Iter.{into_iter_items}
-use Rattle.turn_seats.specs.Seating.{IsHome, Rests}
+use Rattle.device_turn.specs.Seating.{IsHome, Rests}
 use Rattle.path_threads.specs.Places.{Allows, IsSpareAt}
 use Rattle.path_threads.proofs.Holding.{allows_rests, home_rest, home_rests}
 use Rattle.path_threads.proofs.Sparing.{spare_rests}

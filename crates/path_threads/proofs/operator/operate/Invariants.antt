@@ -1,7 +1,7 @@
 use Rattle.std.specs.Prelude.{All}
 use Rattle.std.specs.List.{AllZip}
 use Rattle.std.specs.Vec.Iter.{into_iter_items}
-use Rattle.turn_seats.specs.Seating.{Rests}
+use Rattle.device_turn.specs.Seating.{Rests}
 use Rattle.path_threads.specs.Places.{IsSpareAt}
 use Rattle.path_threads.proofs.operator.operate.Given as goal
 

@@ -1,5 +1,5 @@
 use Rattle.std.proofs.Common.{subst}
-use Rattle.path_orders.specs.Ordered.{HaveLosses, IsOrdered, Suits}
+use Rattle.path_workers.specs.Ordered.{HaveLosses, IsOrdered, Suits}
 use Rattle.path_threads.proofs.operator.order_held.Goals as goal
 
 pub returns : goal.returns

@@ -1,7 +1,7 @@
 use Rattle.device_defs.specs.Pledge.{seat_counts}
 use Rattle.device_turn.proofs.Members.{may_boxed}
 use Rattle.device_core.specs.State.{device_of}
-use Rattle.path_turns.specs.Keeping.{KeepsPromise}
+use Rattle.path_workers.specs.Keeping.{KeepsPromise}
 use Rattle.path_threads.proofs.Holding.{held_size, may_obey}
 use Rattle.path_threads.proofs.operator.order_one.Goals as goal
 

@@ -1,5 +1,5 @@
 use Rattle.std.proofs.Common.{arith}
-use Rattle.turn_seats.specs.Seating.{IsHome}
+use Rattle.device_turn.specs.Seating.{IsHome}
 use Rattle.path_threads.proofs.Setting.{all_left, none_left, one_left}
 use Rattle.path_threads.proofs.Walking.{zip_none}
 use Rattle.path_threads.proofs.places.clear_all.Goals as goal

@@ -1,6 +1,6 @@
 use Rattle.std.proofs.Common.{◌≡◌, ◌+◌}
 use Rattle.std.specs.Prelude.{vec_len}
-use Rattle.turn_seats.specs.Seating.{AreSet}
+use Rattle.device_turn.specs.Seating.{AreSet}
 use Rattle.path_threads.specs.Places.{HaveLeft}
 use Rattle.path_threads.proofs.places.clear_all.Given as goal
 

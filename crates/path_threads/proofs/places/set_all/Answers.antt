@@ -1,5 +1,5 @@
 use Rattle.std.proofs.Common.{arith, refl}
-use Rattle.turn_seats.proofs.Zips.{zip_pushed}
+use Rattle.device_turn.proofs.Zips.{zip_pushed}
 use Rattle.path_threads.specs.Places.{Allows}
 use Rattle.path_threads.proofs.Setting.{all_come, all_placed, first_ready, none_allowed, none_come, none_placed, one_come, one_placed, promised_allows, promised_for}
 use Rattle.path_threads.proofs.places.set_all.Goals as goal

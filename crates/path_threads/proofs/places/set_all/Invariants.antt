@@ -1,7 +1,7 @@
 use Rattle.std.proofs.Common.{◌≡◌, ◌+◌}
 use Rattle.std.specs.Prelude.{vec_len}
 use Rattle.std.specs.List.{AllZip}
-use Rattle.turn_seats.specs.Seating.{AreSet}
+use Rattle.device_turn.specs.Seating.{AreSet}
 use Rattle.path_threads.specs.Places.{Allows, HaveCome, HavePlaces}
 use Rattle.path_threads.proofs.places.set_all.Given as goal
 

@@ -1,5 +1,5 @@
 use Rattle.std.proofs.Common.{refl}
-use Rattle.path_turns.proofs.Ready.{ready_zeros}
+use Rattle.path_workers.proofs.Ready.{ready_zeros}
 use Rattle.path_threads.proofs.Setting.{promise_kept, promised_of}
 use Rattle.path_threads.proofs.places.set_one.Goals as goal
 

@@ -1,6 +1,6 @@
 use Rattle.std.proofs.Common.{IfErr, IfOk, ℕ, sym, subst}
 use Rattle.std.specs.List.{AllZip}
-use Rattle.turn_seats.specs.Seating.{IsAt}
+use Rattle.device_turn.specs.Seating.{IsAt}
 use Rattle.path_threads.proofs.run.all_walk.Goals as goal
 
 pub begin_path-first-requires-after_bounds : goal.begin_path-first-requires-after_bounds

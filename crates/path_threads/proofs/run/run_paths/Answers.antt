@@ -1,9 +1,9 @@
 use Rattle.std.proofs.Common.{All, sym, subst, arith}
 use Rattle.std.specs.Prelude.{IfOk}
 use Rattle.std.specs.List.{AllZip}
-use Rattle.turn_seats.specs.Seating.{IsHome, Rests}
-use Rattle.path_turns.specs.Keeping.{IsFinished, StaysKept}
-use Rattle.path_turns.proofs.Keeping.{stays_within}
+use Rattle.device_turn.specs.Seating.{IsHome, Rests}
+use Rattle.path_workers.specs.Keeping.{IsFinished, StaysKept}
+use Rattle.path_workers.proofs.Keeping.{stays_within}
 use Rattle.path_threads.specs.Allowed.{allowed_of}
 use Rattle.path_threads.specs.Places.{IsPromisedFor, IsSpareAt, KeepsOrdered}
 use Rattle.path_threads.proofs.Holding.{home_rests, promised_rests}

@@ -1,7 +1,7 @@
 use Rattle.std.proofs.Common.{refl, sym, subst, arith}
 use Rattle.std.specs.Prelude.{slice_index_or}
-use Rattle.turn_seats.specs.Seating.{IsAt}
-use Rattle.turn_seats.proofs.Zips.{zip_at, zip_set}
+use Rattle.device_turn.specs.Seating.{IsAt}
+use Rattle.device_turn.proofs.Zips.{zip_at, zip_set}
 use Rattle.path_threads.proofs.Walking.{rests_at, zip_long}
 use Rattle.path_threads.proofs.walks.round.Goals as goal
 

@@ -1,6 +1,6 @@
 use Rattle.std.proofs.Common.{◌≡◌, length}
 use Rattle.std.specs.List.{AllZip}
-use Rattle.turn_seats.specs.Seating.{IsAt}
+use Rattle.device_turn.specs.Seating.{IsAt}
 use Rattle.path_threads.proofs.walks.round.Given as goal
 
 abbrev pub invariant-loop-i : goal.invariant-loop-i

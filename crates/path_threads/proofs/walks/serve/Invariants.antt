@@ -1,5 +1,5 @@
 use Rattle.std.proofs.Common.{◌≡◌}
-use Rattle.turn_seats.specs.Seating.{Rests}
+use Rattle.device_turn.specs.Seating.{Rests}
 use Rattle.path_threads.proofs.walks.serve.Given as goal
 
 abbrev pub invariant-loop : goal.invariant-loop

@@ -1,5 +1,5 @@
 use Rattle.std.specs.List.{AllZip}
-use Rattle.turn_seats.specs.Seating.{IsAt}
+use Rattle.device_turn.specs.Seating.{IsAt}
 use Rattle.path_threads.proofs.walks.work_behind.Given as goal
 
 abbrev pub invariant-loop : goal.invariant-loop

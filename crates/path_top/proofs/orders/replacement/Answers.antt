@@ -2,8 +2,8 @@ use Rattle.std.proofs.Common.{◌*◌, ◌∙◌, ap, subst, sym, ℕ}
 use Rattle.std.specs.Prelude.{IfSome}
 use Rattle.device_outside.specs.Both.{SideIs}
 use Rattle.device_outside.specs.Disk.{empty_contents}
-use Rattle.path_orders.specs.Spare.{IsSpare}
-use Rattle.path_orders.proofs.Spares.{new_spare}
+use Rattle.path_workers.specs.Spare.{IsSpare}
+use Rattle.path_workers.proofs.Spares.{new_spare}
 use Rattle.path_top.specs.Making.{IsEmpty}
 use Rattle.subsystem_defs.specs.Subsystem.{unfailing}
 use Rattle.path_top.proofs.orders.replacement.Goals as goal

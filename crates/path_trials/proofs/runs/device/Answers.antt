@@ -1,5 +1,5 @@
 use Rattle.ckd_types.specs.declared.geometry.Geometry.TheVariants.{D3390}
-use Rattle.path_turns.proofs.Ready.{opened_ready}
+use Rattle.path_workers.proofs.Ready.{opened_ready}
 use Rattle.path_trials.proofs.runs.device.Goals as goal
 
 pub returns-in-Ok-clause-ready : goal.returns-in-Ok-clause-ready

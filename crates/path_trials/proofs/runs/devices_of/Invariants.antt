@@ -1,5 +1,5 @@
 use Rattle.std.proofs.Common.{All}
-use Rattle.path_turns.specs.Keeping.{IsReady}
+use Rattle.path_workers.specs.Keeping.{IsReady}
 use Rattle.path_trials.specs.Small.{IsSmall}
 use Rattle.path_trials.proofs.runs.devices_of.Given as goal
 

@@ -5,7 +5,7 @@ use Rattle.device_store.specs.State.{state_of}
 use Rattle.device_store.proofs.Moves.{from_equal}
 use Rattle.device_core.specs.Kept.{history_of}
 use Rattle.device_core.specs.State.{device_of}
-use Rattle.device_core.specs.Turns.{Left}
+use Rattle.device_core.specs.TrackWalk.{Left}
 use Rattle.device_core.proofs.Acting.{less_room}
 use Rattle.device_core.proofs.Eventful.{at_word_same}
 use Rattle.device_core.proofs.Halves.{counts_some, none_counts}

@@ -1,4 +1,4 @@
-use Rattle.std.specs.Prelude.{◌*◌, ◌<◌}
+use Rattle.std.specs.Prelude.{◌*◌, ◌<◌, ◌≡◌, false}
 use Rattle.device_defs.specs.Contents.{contents}
 use Rattle.device_laws.proofs.BasedEvents.{peek_based}
 use Rattle.device_core.specs.State.{device_of}
@@ -6,6 +6,8 @@ use Rattle.device_store.specs.State.{Takes}
 use Rattle.subsystem_core.proofs.Found.{changed, held, numbers_kept}
 use Rattle.subsystem_core.proofs.Hearing.{spans_kept}
 use Rattle.subsystem_core.proofs.Seating.{alike_kept, ran_lent}
+use Rattle.subsystem_core.proofs.Standing.{set_stands, stays_by}
+use Rattle.subsystem_laws.specs.Looking.{is_written_at}
 use Rattle.subsystem_core.proofs.subsystem.Subsystem.peek_at.Goals as goal
 
 pub peek_with-requires-clause-track : goal.peek_with-requires-clause-track
@@ -42,3 +44,12 @@ pub returns-clause-asked : goal.returns-clause-asked
 returns-clause-asked g c =
     changed c.args.self.now.devices.items c.args.d c.place-at.result c.index_mut.result.now c.peek_with.new.self _ c.args.self.now.rising
     c.place-at.ensures.range c.place-at.ensures.found c.index_mut.ensures.value (c.peek_with.ensures.there, c.peek_with.ensures.run)
+
+pub returns-clause-stands : goal.returns-clause-stands
+returns-clause-stands g c = λ unwritten.
+    let x = c.index_mut.result.now in
+    set_stands c.args.self.now.devices.items c.place-at.result x c.peek_with.new.self c.place-at.ensures.range c.index_mut.ensures.value
+    c.peek_with.ensures.fixed.0
+    (stays_by x c.peek_with.new.self (ran_lent (peek_based contents (device_of x) c.args.t) c.peek_with.ensures.run)
+    (c.peek_with.ensures.plain (held c.args.self.now.devices.items c.args.d c.place-at.result x (λ d. is_written_at (device_of d).store.half c.args.t ≡ false)
+    c.args.self.now.rising c.place-at.ensures.range c.place-at.ensures.found c.index_mut.ensures.value unwritten)).stands c.peek_with.ensures.lent.stands)

@@ -1,0 +1,14 @@
+use Rattle.std.proofs.Common.{List, refl, ap}
+use Rattle.std.specs.Prelude.{option_map}
+use Rattle.plain_defs.specs.declared.journal.Item.{Item}
+use Rattle.device_core.specs.Kept.{open_of, history_of, waiting_in}
+use Rattle.device_core.proofs.Acting.{keeps_roomed}
+use Rattle.device_core.proofs.Pasts.{keeps_as}
+use Rattle.device_core.proofs.history.Past.reserve_items.Goals as goal
+
+pub returns-clause-keeps : goal.returns-clause-keeps
+returns-clause-keeps c =
+    let p = c.args.self.now in
+    keeps_as (record p { items = c.reserve.new.self }) (history_of p) p.kept p.powered
+    (ap (λ (l : List Item). record { items = l; running = option_map open_of p.running; waiting = waiting_in p.kept }) c.in_ok-reserve.ensures.items) refl refl
+    (keeps_roomed (history_of p) p.kept p.powered p.items.spare c.reserve.new.self.spare c.in_ok-reserve.ensures.room c.requires.keeps)

@@ -1,5 +1,0 @@
-use Rattle.path_orders.proofs.Keeping.{same_ordered}
-use Rattle.path_orders.proofs.device_orders.lose.Goals as goal
-
-pub returns-then-is_lent : goal.returns-then-is_lent
-returns-then-is_lent g c = same_ordered c.args.device.now

@@ -1,5 +1,0 @@
-pub mod Planned
-pub mod Keeping
-pub mod Visits
-pub mod Comes
-pub mod Turned

@@ -1,0 +1,10 @@
+pub mod Planned
+pub mod Keeping
+pub mod Ready
+pub mod Leaving
+pub mod Visiting
+pub mod Finishing
+pub mod Pooled
+pub mod KeptOrders
+pub mod Replacing
+pub mod Spares
