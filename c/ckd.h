@@ -17,13 +17,17 @@
  *             and may not be called from a signal handler.
  *
  * MEMORY      The library takes memory by malloc, and ckd_close frees all that a subsystem has. What a call is
- *             given is the caller's again when it returns; nothing of it is kept. No pointer may be NULL, also
- *             where a length is 0.
+ *             given is the caller's again when it returns; nothing of it is kept. A pointer that is NULL is refused
+ *             (CKD_NULL), but where it goes with a length of 0. What the pointers of one call lead to may not overlap,
+ *             but for what is only read. Lengths count elements.
  *
  * RESULTS     Each call answers an enum ckd_result. By an answer that refuses, nothing was changed; each
  *             subsystem stays usable after any answer. No call aborts. CKD_NO_MEMORY: the same call may be made
  *             again when there is memory; of ckd_step, ckd_run and ckd_background a track may have come into the
  *             cache.
+ *
+ * PROOFS      What a call does is proved, of the call of its name behind ckd_c_, but not that it refuses NULL: these
+ *             are lines of C (c/calls.c), which tests/try_c tries.
  *
  * NUMBERS     Devices are numbered from 0 to 15, and channel paths from 1 to 4, as the deck language and the
  *             messages of the control do.
@@ -54,7 +58,7 @@ enum ckd_result {
     CKD_BAD_CYLINDERS = 8, /* it isn't one from 1 to 4369 */
     CKD_BAD_IMAGE = 9,     /* the file is no image that is taken: not plain, in several files, or of another length */
     CKD_FILE_FAULT = 10,   /* a call of the file failed */
-    CKD_BAD_LENGTHS = 11,  /* the words are given more bytes together than there are, or fewer */
+    CKD_NULL = 11,         /* a pointer is NULL, and no length is 0 that goes with it */
     CKD_BAD_PROGRAM = 12,  /* a word is bad: struct ckd_refusal says which, and why */
     CKD_NO_DEVICE = 13,    /* no device of this number is there */
     CKD_NOT_LAST = 14,     /* a device of this number, or of one above, is there */
@@ -89,7 +93,7 @@ static inline const char *ckd_result_text(uint32_t result)
         "ok", "the subsystem isn't open", "the subsystem is open already", "no memory",
         "no such device number", "no such path", "no such side", "neither 3380 nor 3390",
         "not 1 to 4369 cylinders", "no image that is taken", "a call of the file failed",
-        "the lengths of the words don't fit", "a word is bad", "no such device",
+        "a pointer is NULL", "a word is bad", "no such device",
         "a device of this number or above is there", "another model or size", "the path's plan is full",
         "no program runs", "a program runs still", "a part of a write is done", "no command has ended",
         "tracks wait for the background", "the volume is lent", "a program of another path runs",
@@ -122,21 +126,25 @@ uint32_t ckd_open(struct ckd_subsystem *subsystem, uint16_t frames, uint16_t slo
 
 /*
  * ckd_add_memory - adds a device of empty tracks in memory.
+ * ckd_add_faulty - the same, for tests of what stands above: some of its volume's calls fail.
  * ckd_add_image  - adds a device on the disk image in an open file.
  *
- * device      its number, above those of all devices that are there
- * geometry    3380 or 3390
- * cylinders   1 to 4369, with 15 tracks each; 64 KiB of memory are taken for each track
- * file        where the caller has a descriptor that was opened to read and write, of a plain CKD image in one
- *             file. The library duplicates it twice, and closes these two at ckd_close: the caller's own stays
- *             the caller's, and may be closed at once. Nobody else may write the file meanwhile (take a lock).
- *             The library reads and writes by pread and pwrite, and makes a call again that a signal interrupts.
+ * device          its number, above those of all devices that are there
+ * geometry        3380 or 3390
+ * cylinders       1 to 4369, with 15 tracks each; 64 KiB of memory are taken for each track
+ * reads, writes   which of the volume's reads and writes fail, counted from 1 on, also in a pair. They are copied.
+ * file            where the caller has a descriptor that was opened to read and write, of a plain CKD image in one
+ *                 file. The library duplicates it twice, and closes these two at ckd_close: the caller's own stays
+ *                 the caller's, and may be closed at once. Nobody else may write the file meanwhile (take a lock).
+ *                 The library reads and writes by pread and pwrite, and makes a call again that a signal interrupts.
  *
  * CKD_OK, CKD_CLOSED, CKD_BAD_DEVICE, CKD_NOT_LAST, CKD_LENT (add devices before any are paired), CKD_NO_MEMORY; in
  * memory CKD_BAD_GEOMETRY, CKD_BAD_CYLINDERS; on an image CKD_BAD_IMAGE, CKD_FILE_FAULT. Only the head of an image
  * is read: a track that is none is a data check later.
  */
 uint32_t ckd_add_memory(struct ckd_subsystem *subsystem, uint8_t device, uint32_t geometry, uint16_t cylinders);
+uint32_t ckd_add_faulty(struct ckd_subsystem *subsystem, uint8_t device, uint32_t geometry, uint16_t cylinders,
+                        const uint32_t *reads, size_t read_count, const uint32_t *writes, size_t write_count);
 uint32_t ckd_add_image(struct ckd_subsystem *subsystem, uint8_t device, struct ckd_file file);
 
 enum ckd_flags {
@@ -146,15 +154,16 @@ enum ckd_flags {
 };
 
 /*
- * A channel command word. count is the byte count, from 1 on. given is how many of the bytes of ckd_plan are
- * this word's: what a write, a control command or a search sends, the rest up to the count being zeros; 0 at a
- * read or a sense. Of a transfer in channel (08) count is the index of the word that follows it.
+ * A channel command word. count is the byte count, from 1 on. data is where its bytes are, and length how many: what
+ * a write, a control command or a search sends, the rest up to the count being zeros; none at a read or a sense. Of a
+ * transfer in channel (08) count is the index of the word that follows it.
  */
-struct ckd_word {
+struct ckd_ccw {
     uint8_t command;
     uint8_t flags;
     uint16_t count;
-    uint16_t given;
+    const uint8_t *data;
+    size_t length;
 };
 
 enum ckd_why {
@@ -181,15 +190,13 @@ struct ckd_refusal {
  * ckd_plan - plans a channel program for a path of a device, behind those that the path has. The words and their
  *            bytes are copied. Programs may be planned at any time, also while one runs.
  *
- * words, word_count   the words
- * bytes, byte_count   the bytes that are given to them, one word's behind the other's
- * refusal             is written at CKD_BAD_PROGRAM alone
+ * ccws, number   the words
+ * refusal        is written at CKD_BAD_PROGRAM alone
  *
- * CKD_OK, CKD_CLOSED, CKD_BAD_DEVICE, CKD_NO_DEVICE, CKD_BAD_PATH, CKD_BAD_LENGTHS, CKD_BAD_PROGRAM, CKD_PLAN_FULL,
- * CKD_NO_MEMORY
+ * CKD_OK, CKD_CLOSED, CKD_BAD_DEVICE, CKD_NO_DEVICE, CKD_BAD_PATH, CKD_BAD_PROGRAM, CKD_PLAN_FULL, CKD_NO_MEMORY
  */
-uint32_t ckd_plan(struct ckd_subsystem *subsystem, uint8_t device, uint8_t path, const struct ckd_word *words,
-                  size_t word_count, const uint8_t *bytes, size_t byte_count, struct ckd_refusal *refusal);
+uint32_t ckd_plan(struct ckd_subsystem *subsystem, uint8_t device, uint8_t path, const struct ckd_ccw *ccws, size_t number,
+                  struct ckd_refusal *refusal);
 
 /*
  * ckd_left   - tells how many programs of a path wait to be started.

@@ -1,25 +1,32 @@
 /*
  * Runs a deck from standard input by the calls of the library, and prints how each command ended: the lines END, DATA
  * and SENSE that `ckd run` has in its report. A deck's language is in docs/FORMATS.md. What isn't one of its lines is
- * passed over, so give it a deck that `ckd check` takes; a deck with FAULT lines isn't taken, since a volume in memory
- * doesn't fail.
+ * passed over, so give it a deck that `ckd check` takes.
  */
 #include <ckd.h>
 #include <stdio.h>
 #include <stdlib.h>
 #include <string.h>
 
-enum { DEVICES = 16, MOST_WORDS = 256, MOST_BYTES = 65536 };
+enum { DEVICES = 16, MOST_WORDS = 256, MOST_BYTES = 65536, MOST_FAULTS = 1024 };
 
 static struct ckd_subsystem subsystem;
 static struct {
     unsigned path, ordinal;
 } running[DEVICES];
 
+/* The devices that are declared, and which reads and writes of each one's volume fail. */
+static struct {
+    bool is_there;
+    unsigned geometry, cylinders;
+    uint32_t reads[MOST_FAULTS], writes[MOST_FAULTS];
+    size_t read_count, write_count;
+} declared[DEVICES];
+
 /* The program that is read. */
 static struct {
     unsigned path, device;
-    struct ckd_word words[MOST_WORDS];
+    struct ckd_ccw ccws[MOST_WORDS];
     uint8_t bytes[MOST_WORDS * MOST_BYTES];
     size_t word_count, byte_count;
 } program;
@@ -140,24 +147,61 @@ static void event(const char *line)
         lose(line);
 }
 
+/* A device, which is added once all of its faults are read. */
+static void declare_device(unsigned device, unsigned geometry, unsigned cylinders)
+{
+    if (device >= DEVICES)
+        fail("a device", CKD_BAD_DEVICE);
+    declared[device].is_there = true;
+    declared[device].geometry = geometry;
+    declared[device].cylinders = cylinders;
+}
+
+static void add_devices(void)
+{
+    for (unsigned device = 0; device < DEVICES; device += 1) {
+        if (!declared[device].is_there)
+            continue;
+        uint32_t result = ckd_add_faulty(&subsystem, device, declared[device].geometry, declared[device].cylinders,
+                                         declared[device].reads, declared[device].read_count, declared[device].writes,
+                                         declared[device].write_count);
+        if (result != CKD_OK)
+            fail("a device", result);
+        declared[device].is_there = false;
+    }
+}
+
+/* A read or a write of a declared device's volume that fails. */
+static void declare_fault(const char *line)
+{
+    unsigned device, call;
+    if (sscanf(line, "FAULT %u READ %u", &device, &call) == 2 && device < DEVICES && declared[device].read_count < MOST_FAULTS)
+        declared[device].reads[declared[device].read_count++] = call;
+    else if (sscanf(line, "FAULT %u WRITE %u", &device, &call) == 2 && device < DEVICES && declared[device].write_count < MOST_FAULTS)
+        declared[device].writes[declared[device].write_count++] = call;
+    else
+        fail(line, CKD_BAD_DEVICE);
+}
+
 /* A word of the program that is read. */
 static void word(const char *line)
 {
     unsigned command, flags, count, byte;
     int at = 0, step = 0;
     if (sscanf(line, "CCW %2x %2x %u%n", &command, &flags, &count, &at) != 3 || program.word_count == MOST_WORDS)
-        fail(line, CKD_BAD_LENGTHS);
-    size_t before = program.byte_count;
-    for (; program.byte_count < before + MOST_BYTES - 1 && sscanf(line + at, " %2x%n", &byte, &step) == 1; at += step)
-        program.bytes[program.byte_count++] = byte;
-    program.words[program.word_count++] = (struct ckd_word){command, flags, count, program.byte_count - before};
+        fail(line, CKD_BAD_PROGRAM);
+    uint8_t *data = program.bytes + program.byte_count;
+    size_t length = 0;
+    for (; length < MOST_BYTES - 1 && sscanf(line + at, " %2x%n", &byte, &step) == 1; at += step)
+        data[length++] = byte;
+    program.ccws[program.word_count++] = (struct ckd_ccw){command, flags, count, data, length};
+    program.byte_count += length;
 }
 
 static void plan(void)
 {
     struct ckd_refusal refusal;
-    uint32_t result = ckd_plan(&subsystem, program.device, program.path, program.words, program.word_count, program.bytes,
-                               program.byte_count, &refusal);
+    uint32_t result = ckd_plan(&subsystem, program.device, program.path, program.ccws, program.word_count, &refusal);
     if (result != CKD_OK)
         fail("a program", result);
 }
@@ -173,9 +217,9 @@ static void declare(const char *line)
     if (sscanf(line, "STORE %u", &slots) == 1)
         result = ckd_open(&subsystem, frames, slots);
     else if (sscanf(line, "DEVICE %u %u %u", &first, &second, &third) == 3)
-        result = ckd_add_memory(&subsystem, first, second, third);
+        declare_device(first, second, third);
     else if (strncmp(line, "FAULT", 5) == 0)
-        result = CKD_FILE_FAULT;
+        declare_fault(line);
     else if (sscanf(line, "PROGRAM %u %u", &program.path, &program.device) == 2)
         program.word_count = program.byte_count = 0;
     else if (strncmp(line, "CCW", 3) == 0)
@@ -194,6 +238,8 @@ int main(void)
         const char *words = line + strspn(line, " ");
         if (line[0] == '*')
             continue;
+        if (strncmp(words, "PROGRAM", 7) == 0 || strncmp(words, "EVENTS", 6) == 0)
+            add_devices();
         if (has_events)
             event(words);
         else if (strncmp(words, "EVENTS", 6) == 0)

@@ -16,7 +16,7 @@
 enum { MOST_WORDS = 256, MOST_BYTES = 65536, DEVICE = 0, PATH = 1, FRAMES = 16, SLOTS = 16 };
 
 struct chain {
-    struct ckd_word words[MOST_WORDS];
+    struct ckd_ccw ccws[MOST_WORDS];
     uint8_t bytes[MOST_BYTES];
     size_t word_count, byte_count;
 };
@@ -35,14 +35,11 @@ static void print_bytes(const char *name, const uint8_t *bytes, size_t count)
     printf("\n");
 }
 
-static void add_word(struct chain *chain, uint8_t command, uint8_t flags, uint16_t count, const uint8_t *bytes, uint16_t given)
+static void add_word(struct chain *chain, uint8_t command, uint8_t flags, uint16_t count, const uint8_t *data, size_t length)
 {
-    if (chain->word_count == MOST_WORDS || chain->byte_count + given > MOST_BYTES)
-        fail("the chain is too long", CKD_BAD_LENGTHS);
-    chain->words[chain->word_count++] = (struct ckd_word){command, flags, count, given};
-    if (given > 0)
-        memcpy(chain->bytes + chain->byte_count, bytes, given);
-    chain->byte_count += given;
+    if (chain->word_count == MOST_WORDS)
+        fail("the chain is too long", CKD_BAD_PROGRAM);
+    chain->ccws[chain->word_count++] = (struct ckd_ccw){command, flags, count, data, length};
 }
 
 /* Tells how the last command ended. Whether the program is over. */
@@ -68,7 +65,7 @@ static void run(struct ckd_subsystem *subsystem, const struct chain *chain)
     struct ckd_refusal refusal;
     uint16_t ordinal;
     uint32_t did = CKD_DID_NOTHING;
-    uint32_t result = ckd_plan(subsystem, DEVICE, PATH, chain->words, chain->word_count, chain->bytes, chain->byte_count, &refusal);
+    uint32_t result = ckd_plan(subsystem, DEVICE, PATH, chain->ccws, chain->word_count, &refusal);
     if (result == CKD_BAD_PROGRAM) {
         printf("BAD %u %u\n", refusal.word, refusal.why);
         return;
@@ -96,7 +93,7 @@ static void read_ipl(struct ckd_subsystem *subsystem, uint16_t count)
     static struct chain chain;
     const uint8_t extent[16] = {0x40, 0xc0};
     const uint8_t locate[16] = {0x06, 0, 0, 1, 0, 0, 0, 0, 0, 0, 0, 0, 1};
-    chain.word_count = chain.byte_count = 0;
+    chain.word_count = 0;
     add_word(&chain, 0x63, CKD_CHAIN, 16, extent, 16);
     add_word(&chain, 0x47, CKD_CHAIN, 16, locate, 16);
     add_word(&chain, 0x06, CKD_SUPPRESS_LENGTH, count, NULL, 0);
@@ -129,7 +126,7 @@ static void read_configuration(uint16_t count)
 /* What the host answers itself, or else the device. */
 static void answer(struct ckd_subsystem *subsystem, const struct chain *chain)
 {
-    struct ckd_word first = chain->word_count > 0 ? chain->words[0] : (struct ckd_word){0};
+    struct ckd_ccw first = chain->word_count > 0 ? chain->ccws[0] : (struct ckd_ccw){0};
     if (first.command == 0x02)
         read_ipl(subsystem, first.count);
     else if (first.command == 0x64)
@@ -140,19 +137,20 @@ static void answer(struct ckd_subsystem *subsystem, const struct chain *chain)
         run(subsystem, chain);
 }
 
-/* A line's word. */
+/* A line's word. Its bytes stand behind those of the lines before it. */
 static void take_word(struct chain *chain, const char *line)
 {
-    static uint8_t bytes[65536];
-    unsigned command, flags, count, byte, length = 0;
+    unsigned command, flags, count, byte;
+    const uint8_t *data = chain->bytes + chain->byte_count;
+    size_t before = chain->byte_count;
     int at = 0, step = 0;
     if (sscanf(line, "CCW %x %x %u %n", &command, &flags, &count, &at) != 3 || at == 0)
-        fail("a line is bad", CKD_BAD_LENGTHS);
-    for (; length < sizeof bytes && sscanf(line + at, " %2x%n", &byte, &step) == 1; at += step)
-        bytes[length++] = byte;
-    if (length > 65535)
-        fail("a line is too long", CKD_BAD_LENGTHS);
-    add_word(chain, command, flags, count, bytes, length);
+        fail("a line is bad", CKD_BAD_PROGRAM);
+    for (; chain->byte_count < MOST_BYTES && sscanf(line + at, " %2x%n", &byte, &step) == 1; at += step)
+        chain->bytes[chain->byte_count++] = byte;
+    if (chain->byte_count == MOST_BYTES)
+        fail("the chain is too long", CKD_BAD_PROGRAM);
+    add_word(chain, command, flags, count, data, chain->byte_count - before);
 }
 
 int main(int count, char **arguments)

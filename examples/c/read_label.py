@@ -12,8 +12,9 @@ class File(ctypes.Structure):
     _fields_ = [("descriptor", ctypes.POINTER(ctypes.c_int))]
 
 
-class Word(ctypes.Structure):
-    _fields_ = [(name, ctypes.c_uint8) for name in ("command", "flags")] + [(name, ctypes.c_uint16) for name in ("count", "given")]
+class Ccw(ctypes.Structure):
+    _fields_ = [("command", ctypes.c_uint8), ("flags", ctypes.c_uint8), ("count", ctypes.c_uint16),
+                ("data", ctypes.c_char_p), ("length", ctypes.c_size_t)]
 
 
 class Refusal(ctypes.Structure):
@@ -23,8 +24,9 @@ class Refusal(ctypes.Structure):
 CHAIN, SUPPRESS_LENGTH = 0x40, 0x20
 library = ctypes.CDLL(sys.argv[1])
 byte, half = ctypes.c_uint8, ctypes.c_uint16
-given = bytes([0x40, 0xC0] + [0] * 14 + [6, 0, 0, 1] + [0] * 8 + [3, 0, 0, 0])
-words = (Word * 3)(Word(0x63, CHAIN, 16, 16), Word(0x47, CHAIN, 16, 16), Word(0x0E, SUPPRESS_LENGTH, 84, 0))
+extent = bytes([0x40, 0xC0] + [0] * 14)
+locate = bytes([6, 0, 0, 1] + [0] * 8 + [3, 0, 0, 0])
+ccws = (Ccw * 3)(Ccw(0x63, CHAIN, 16, extent, 16), Ccw(0x47, CHAIN, 16, locate, 16), Ccw(0x0E, SUPPRESS_LENGTH, 84))
 subsystem, refusal, ordinal = Subsystem(), Refusal(), half()
 label, sent = (byte * 84)(), ctypes.c_size_t()
 
@@ -38,7 +40,7 @@ def call(name, *rest):
 file = ctypes.c_int(os.open(sys.argv[2], os.O_RDWR))
 call("ckd_open", half(1), half(1))
 call("ckd_add_image", byte(0), File(ctypes.pointer(file)))
-call("ckd_plan", byte(0), byte(1), words, ctypes.c_size_t(3), given, ctypes.c_size_t(len(given)), ctypes.byref(refusal))
+call("ckd_plan", byte(0), byte(1), ccws, ctypes.c_size_t(3), ctypes.byref(refusal))
 call("ckd_start", byte(0), byte(1), ctypes.byref(ordinal))
 call("ckd_run", byte(0), ctypes.c_uint32(3))
 call("ckd_last_data", byte(0), label, ctypes.c_size_t(84), ctypes.byref(sent))

@@ -7,7 +7,8 @@ use Rattle.std.proofs.Math.Seq.{get_or-append_seam}
 use Rattle.std.specs.Prelude.{◌&&◌, nat_lt, slice_get, IfErr, OnErr, OnOk, Result, Ok, Err}
 use Rattle.ckd_types.specs.declared.geometry.Geometry.{Geometry}
 use Rattle.deck_plan.specs.Plans.{no_plans}
-use Rattle.device_core.specs.State.{device_of, opened_device}
+use Rattle.device_outside.specs.Disk.{new_disk}
+use Rattle.device_core.specs.State.{device_of, opened_device, volume_a, volume_b}
 use Rattle.subsystem_core.specs.Devices.{devices_of, number_of, numbers_of, volumes_of}
 use Rattle.subsystem_core.specs.Places.{IsTable, are_rising, is_before}
 use Rattle.subsystem_core.specs.Seats.{AreAlike, Seat, seat_of, seats_of}
@@ -15,6 +16,8 @@ use Rattle.subsystem_core.proofs.Found.{count_of}
 use Rattle.subsystem_core.proofs.Numbers.{both, table_more}
 use Rattle.ckd_c.specs.declared.code.Code.{Code}
 use Rattle.ckd_c.specs.declared.opened.Opened.{Opened}
+use Rattle.ckd_c.specs.declared.volume.HostVolume.{HostVolume}
+use Rattle.ckd_c.specs.declared.volume.HostVolume.TheVariants.{Memory}
 use Rattle.ckd_c.specs.Codes.{IsRefusal}
 use Rattle.ckd_c.specs.Calls.{AddsImage, AddsMemory, Device, Has, IsAdded, IsSame, StandsBehind, Subsystem, TriesTo, geometry_of}
 
@@ -92,26 +95,37 @@ module _ (ds : List Device) (x : Device) (stands : StandsBehind ds (number_of x)
 
 -- What adding comes to
 
-module _ (n : ℕ) (geometry : Geometry) (cylinders : ℕ) where
+module _ (n : ℕ) (geometry : Geometry) (cylinders : ℕ) (volume : HostVolume) where
   pub is_pushed : (r : Result (Unit {0}) Code) (x y : Opened) (d : Device) → device_of d ≡ opened_device n geometry cylinders no_plans →
-      y.subsystem.pool ≡ x.subsystem.pool → OnOk r (y.subsystem.devices.items ≡ x.subsystem.devices.items ++ d ∷ []) →
-      OnErr r (y.subsystem.devices.items ≡ x.subsystem.devices.items) → IfErr r IsRefusal → TriesTo (IsAdded n geometry cylinders) r x y
-  is_pushed (Ok u) x y d is pool pushed same why = record { device = d; is = is; devices = pushed; pool = pool }
-  is_pushed (Err e) x y d is pool pushed same why = (why, (pool, rw same (refl, refl)))
+      (volume_a d ≡ Some volume) × (volume_b d ≡ None) → y.subsystem.pool ≡ x.subsystem.pool → OnOk r (y.subsystem.devices.items ≡ x.subsystem.devices.items ++ d ∷ []) →
+      OnErr r (y.subsystem.devices.items ≡ x.subsystem.devices.items) → IfErr r IsRefusal → TriesTo (IsAdded n geometry cylinders volume) r x y
+  is_pushed (Ok u) x y d is volumes pool pushed same why = record { device = d; is = is; volumes = volumes; devices = pushed; pool = pool }
+  is_pushed (Err e) x y d is volumes pool pushed same why = (why, (pool, rw same (refl, refl)))
 
   -- behind a volume that was mounted
-  pub added_behind : (x m y : Opened) → m.subsystem ≡ x.subsystem → IsAdded n geometry cylinders m y → AddsImage n x y
+  pub added_behind : (x m y : Opened) → m.subsystem ≡ x.subsystem → IsAdded n geometry cylinders volume m y → AddsImage n x y
   added_behind x m y same a =
       record {
         geometry = geometry;
         cylinders = cylinders;
+        volume = volume;
         added = record {
           device = a.device;
           is = a.is;
+          volumes = a.volumes;
           devices = a.devices ∙ ap (λ (s : Subsystem). s.devices.items ++ a.device ∷ []) same;
           pool = a.pool ∙ ap (λ (s : Subsystem). s.pool) same;
         };
       }
+
+-- on a volume in memory
+pub adds_memory : (n m kind cylinders : ℕ) (g : Geometry) (reads writes : List ℕ) (volume : HostVolume) (r : Result (Unit {0}) Code) (x y : Opened) →
+    m ≡ n → geometry_of kind ≡ Some g → volume ≡ Memory (new_disk cylinders reads writes) → TriesTo (IsAdded m g cylinders volume) r x y →
+    TriesTo (AddsMemory n kind cylinders reads writes) r x y
+adds_memory n m kind cylinders g reads writes volume (Ok u) x y number is on added =
+    subst (λ (o : Option Geometry). Has (λ (h : Geometry). IsAdded n h cylinders (Memory (new_disk cylinders reads writes)) x y) o) (sym is)
+    (subst (λ (v : HostVolume). IsAdded n g cylinders v x y) on (subst (λ (k : ℕ). IsAdded k g cylinders volume x y) number added))
+adds_memory n m kind cylinders g reads writes volume (Err e) x y number is on added = added
 
 pub same_behind : (x m y : Opened) → m.subsystem ≡ x.subsystem → IsSame m y → IsSame x y
 same_behind x m y same s = (

@@ -5,4 +5,3 @@ pub mod Forgetting
 pub mod Refusing
 pub mod Telling
 pub mod Values
-pub mod WordLists

@@ -21,7 +21,6 @@ use Rattle.std.specs.Prelude.{
   false,
   length,
   take,
-  drop,
   min,
   is_some,
   replicate,
@@ -40,6 +39,7 @@ use Rattle.ckd_types.specs.declared.paths.Side.TheVariants.{A, B}
 use Rattle.deck_plan.specs.Plans.{no_plans}
 use Rattle.device_outside.specs.declared.volume.Volume as volumes
 use Rattle.frame_pool.specs.Shared.{Shared}
+use Rattle.device_outside.specs.Disk.{new_disk}
 use Rattle.device_outside.specs.Pool.{new_pool}
 use Rattle.device_defs.specs.Contents.{contents}
 use Rattle.device_defs.specs.Owed.{waiting_count}
@@ -47,7 +47,8 @@ use Rattle.device_defs.specs.Store.{frame_at, patch_at, tracks_of}
 use Rattle.loss_model.specs.Lost.{lost_tracks}
 use Rattle.track_table.specs.Tracks.{count_below}
 use Rattle.device_core.specs.declared.device.Device as core
-use Rattle.device_core.specs.State.{device_of, last_end, opened_device}
+use Rattle.device_core.specs.declared.forget.NotForgotten.{NotForgotten}
+use Rattle.device_core.specs.State.{device_of, last_end, opened_device, volume_a, volume_b}
 use Rattle.subsystem_defs.specs.declared.event.Event.{Event}
 use Rattle.subsystem_defs.specs.declared.event.Event.TheVariants as events
 use Rattle.subsystem_core.specs.declared.end.EventEnd.{EventEnd}
@@ -56,14 +57,15 @@ use Rattle.subsystem_core.specs.declared.subsystem.Subsystem as core_subsystem
 use Rattle.subsystem_core.specs.Comes.{AreStill, Came, Changes, Replaced, Unpaired}
 use Rattle.subsystem_core.specs.Devices.{device_at, number_of}
 use Rattle.subsystem_core.specs.Planned.{HasForgotten, IsPlanned}
-use Rattle.subsystem_core.specs.Standing.{StayPlain}
+use Rattle.subsystem_core.specs.Standing.{StayForgetting, StayPlain}
 use Rattle.ckd_c.specs.declared.code.Code.{Code}
 use Rattle.ckd_c.specs.declared.code.Code.TheVariants as codes
 use Rattle.ckd_c.specs.declared.ending.CkdCounts.{CkdCounts}
 use Rattle.ckd_c.specs.declared.ending.CkdEnd.{CkdEnd}
 use Rattle.ckd_c.specs.declared.opened.Opened.{Opened}
 use Rattle.ckd_c.specs.declared.volume.HostVolume.{HostVolume}
-use Rattle.ckd_c.specs.declared.words.CkdWord.{CkdWord}
+use Rattle.ckd_c.specs.declared.volume.HostVolume.TheVariants.{Memory}
+use Rattle.ckd_c.specs.declared.words.CkdCcw.{CkdCcw}
 use Rattle.ckd_c.specs.contracts.volume.HostVolumeVolume.TheImpl.{ghosts}
 use Rattle.ckd_c.specs.Codes as numbers
 use Rattle.ckd_c.specs.Codes.{IsRefusal, code_of, code_of_end, did_number}
@@ -210,20 +212,23 @@ Parts n = WithVolume (λ (v : HostVolume) (s : Subsystem) (end : EventEnd) (t : 
 
 -- Plans
 
--- the words, each with the bytes that are given to it
-abbrev pub ccws_of : List CkdWord → List ℕ → List Ccw
-ccws_of [] bytes = []
-ccws_of (w ∷ ws) bytes = record { command = w.command; flags = w.flags; count = w.count; given = take w.given bytes } ∷ ccws_of ws (drop w.given bytes)
+-- a word, with the bytes that lie where it points
+abbrev pub ccw_of : CkdCcw → Ccw
+ccw_of w = record { command = w.command; flags = w.flags; count = w.count; given = w.given.now }
 
 abbrev pub OneChanges : ℕ → (Device → Device → Type 0) → Opened → Opened → Type 0
 OneChanges n how x y = (y.subsystem.pool ≡ x.subsystem.pool) × Changes n how x.subsystem.devices.items y.subsystem.devices.items
 
--- the path has the program of these words behind those that it had
+-- the path has the program of these words behind those that it had, and the devices that stood beside plain devices still do so
 abbrev pub Plans : ℕ → ℕ → List Ccw → Opened → Opened → Type 0
-Plans n path program = OneChanges n (IsPlanned path program)
+Plans n path program x y = OneChanges n (IsPlanned path program) x y × StayPlain x.subsystem.devices.items y.subsystem.devices.items
 
+abbrev pub forgotten_well : Result (Unit {0}) NotForgotten
+forgotten_well = Ok tt
+
+-- the device forgot, and with what was put away of it each stands as it stood
 abbrev pub Forgets : ℕ → Opened → Opened → Type 0
-Forgets n = OneChanges n HasForgotten
+Forgets n x y = OneChanges n HasForgotten x y × StayForgetting n forgotten_well x.subsystem.devices.items y.subsystem.devices.items
 
 -- What is told
 
@@ -276,21 +281,25 @@ geometry_of kind = if kind == 3380 then Some geometries.D3380 else (if kind == 3
 abbrev pub StandsBehind : List Device → ℕ → Type 0
 StandsBehind ds n = (i : ℕ) (d : Device) → slice_get ds i ≡ Some d → (number_of d < n) × ((device_of d).store.lent ≡ None)
 
--- a device more, on which nothing happened yet, behind those that were there
-pub record IsAdded (n : ℕ) (geometry : Geometry) (cylinders : ℕ) (x y : Opened) : Type 0 where
+-- a device more, on this volume alone, on which nothing happened yet, behind those that were there
+pub record IsAdded (n : ℕ) (geometry : Geometry) (cylinders : ℕ) (volume : HostVolume) (x y : Opened) : Type 0 where
   pub device : Device
   pub is : device_of device ≡ opened_device n geometry cylinders no_plans
+  pub volumes : (volume_a device ≡ Some volume) × (volume_b device ≡ None)
   pub devices : y.subsystem.devices.items ≡ x.subsystem.devices.items ++ device ∷ []
   pub pool : y.subsystem.pool ≡ x.subsystem.pool
 
-abbrev pub AddsMemory : ℕ → ℕ → ℕ → Opened → Opened → Type 0
-AddsMemory n kind cylinders x y = Has (λ (g : Geometry). IsAdded n g cylinders x y) (geometry_of kind)
+-- its volume is of empty tracks, and these calls of it fail
+abbrev pub AddsMemory : ℕ → ℕ → ℕ → List ℕ → List ℕ → Opened → Opened → Type 0
+AddsMemory n kind cylinders reads writes x y =
+    Has (λ (g : Geometry). IsAdded n g cylinders (Memory (new_disk cylinders reads writes)) x y) (geometry_of kind)
 
 -- of an image it isn't known which
 pub record AddsImage (n : ℕ) (x y : Opened) : Type 0 where
   pub geometry : Geometry
   pub cylinders : ℕ
-  pub added : IsAdded n geometry cylinders x y
+  pub volume : HostVolume
+  pub added : IsAdded n geometry cylinders volume x y
 
 -- Open and close
 

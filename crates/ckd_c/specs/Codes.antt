@@ -29,7 +29,6 @@ number_of codes.BadGeometry = 7
 number_of codes.BadCylinders = 8
 number_of codes.BadImage = 9
 number_of codes.FileFault = 10
-number_of codes.BadLengths = 11
 number_of codes.BadProgram = 12
 number_of codes.NoDevice = 13
 number_of codes.NotLast = 14

@@ -9,7 +9,7 @@ use crate::finding::code_told;
 use crate::handle::{CkdSubsystem, put, take};
 use crate::lent::CkdFile;
 use crate::opened::Opened;
-use crate::volume::{HostVolume, empty_volume};
+use crate::volume::{HostVolume, memory_volume};
 use ckd_types::{DeviceNo, Geometry};
 use deck_plan::PathPlans;
 use device_core::Device;
@@ -81,7 +81,7 @@ impl Opened {
         requires least { 1 ≤ cylinders }
         requires most { cylinders ≤ 4369 }
         requires volume { (⟦<HostVolume as Volume>⟧.view volume).tracks ≡ cylinders * 15 }
-        ensures { TriesTo (IsAdded number geometry cylinders) result self.old self.new }
+        ensures { TriesTo (IsAdded number geometry cylinders volume) result self.old self.new }
     {
         let plans = PathPlans::new(alloc);
         match Device::open(alloc, number, geometry, cylinders, volume, plans) {
@@ -90,16 +90,18 @@ impl Opened {
         }
     }
 
-    /// A device of empty tracks in memory.
-    #[tactic(auto, using(crate::proofs::Refusing::same))]
+    /// A device of empty tracks in memory, of which these reads and writes fail.
+    #[tactic(auto, using(crate::proofs::Refusing::same, crate::proofs::Appending::adds_memory))]
     fn add_memory(
         &mut self,
         alloc: Global,
         device: u8,
         geometry: u32,
         cylinders: u16,
+        reads: &[u32],
+        writes: &[u32],
     ) -> Result<(), Code>
-        ensures { TriesTo (AddsMemory device geometry cylinders) result self.old self.new }
+        ensures { TriesTo (AddsMemory device geometry cylinders reads.now writes.now) result self.old self.new }
     {
         let Some(number) = DeviceNo::new(device) else {
             return Err(Code::BadDevice);
@@ -111,7 +113,7 @@ impl Opened {
             return Err(Code::BadCylinders);
         }
         stands_behind(&self.subsystem.devices, number)?;
-        let volume = empty_volume(alloc, cylinders)?;
+        let volume = memory_volume(alloc, cylinders, reads, writes)?;
         self.add(alloc, number, geometry, cylinders, volume)
     }
 
@@ -138,26 +140,47 @@ impl Opened {
 /// Adds a device of empty tracks in memory, with a number above those of the devices that are there, the geometry of a 3380 or a
 /// 3390, and 1 to 4,369 cylinders.
 #[unsafe(no_mangle)]
-pub extern "C" fn ckd_add_memory(
+pub extern "C" fn ckd_c_add_memory(
     alloc: Global,
     subsystem: &mut CkdSubsystem,
     device: u8,
     geometry: u32,
     cylinders: u16,
 ) -> u32
-    ensures { Comes (Tries (AddsMemory device geometry cylinders)) subsystem.old.place.value subsystem.new.place.value result }
+    ensures { Comes (Tries (AddsMemory device geometry cylinders [] [])) subsystem.old.place.value subsystem.new.place.value result }
 {
     let Some(mut opened) = take(subsystem, alloc) else {
         return number_of(Code::Closed);
     };
-    let code = code_told(opened.add_memory(alloc, device, geometry, cylinders));
+    let code = code_told(opened.add_memory(alloc, device, geometry, cylinders, &[], &[]));
+    put(subsystem, opened);
+    number_of(code)
+}
+
+/// Adds such a device, of whose volume the reads and the writes with these numbers fail, from 1 on.
+#[unsafe(no_mangle)]
+pub extern "C" fn ckd_c_add_faulty(
+    alloc: Global,
+    subsystem: &mut CkdSubsystem,
+    device: u8,
+    geometry: u32,
+    cylinders: u16,
+    reads: &[u32],
+    writes: &[u32],
+) -> u32
+    ensures { Comes (Tries (AddsMemory device geometry cylinders reads.now writes.now)) subsystem.old.place.value subsystem.new.place.value result }
+{
+    let Some(mut opened) = take(subsystem, alloc) else {
+        return number_of(Code::Closed);
+    };
+    let code = code_told(opened.add_memory(alloc, device, geometry, cylinders, reads, writes));
     put(subsystem, opened);
     number_of(code)
 }
 
 /// Adds a device on the image that an open file holds, of whatever geometry and cylinders it has.
 #[unsafe(no_mangle)]
-pub extern "C" fn ckd_add_image(
+pub extern "C" fn ckd_c_add_image(
     alloc: Global,
     subsystem: &mut CkdSubsystem,
     device: u8,

@@ -35,7 +35,7 @@ impl Opened {
 
 /// Waits until what was written to the images has reached the disk. What still waits for the background isn't written yet.
 #[unsafe(no_mangle)]
-pub extern "C" fn ckd_flush(alloc: Global, subsystem: &mut CkdSubsystem) -> u32
+pub extern "C" fn ckd_c_flush(alloc: Global, subsystem: &mut CkdSubsystem) -> u32
     ensures { Comes Unchanged subsystem.old.place.value subsystem.new.place.value result }
 {
     let Some(opened) = take(subsystem, alloc) else {
@@ -49,7 +49,7 @@ pub extern "C" fn ckd_flush(alloc: Global, subsystem: &mut CkdSubsystem) -> u32
 /// Closes a subsystem, and frees what it had. Refused while a program runs on one of its devices. What stood in the cache or the
 /// store alone is gone.
 #[unsafe(no_mangle)]
-pub extern "C" fn ckd_close(alloc: Global, subsystem: &mut CkdSubsystem) -> u32
+pub extern "C" fn ckd_c_close(alloc: Global, subsystem: &mut CkdSubsystem) -> u32
     ensures { Closes subsystem.old.place.value subsystem.new.place.value result }
 {
     let Some(opened) = take(subsystem, alloc) else {

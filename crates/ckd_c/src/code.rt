@@ -10,7 +10,7 @@ use std::alloc::AllocFailed;
 use subsystem_core::EventEnd;
 use subsystem_defs::OrderFault;
 
-/// What a call answers. Each has its number in `ckd.h`.
+/// What a call answers. Each has its number in `ckd.h`; number 11 is that of a NULL, which `c/calls.c` answers.
 #[derive(Clone, Copy, Debug, PartialEq, Eq)]
 pub enum Code {
     Done,
@@ -24,7 +24,6 @@ pub enum Code {
     BadCylinders,
     BadImage,
     FileFault,
-    BadLengths,
     BadProgram,
     NoDevice,
     NotLast,
@@ -76,7 +75,6 @@ pub(crate) fn number_of(code: Code) -> u32
         Code::BadCylinders => 8,
         Code::BadImage => 9,
         Code::FileFault => 10,
-        Code::BadLengths => 11,
         Code::BadProgram => 12,
         Code::NoDevice => 13,
         Code::NotLast => 14,

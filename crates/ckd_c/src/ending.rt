@@ -176,7 +176,7 @@ impl Opened {
 
 /// Tells how the command of a device that ended last ended.
 #[unsafe(no_mangle)]
-pub extern "C" fn ckd_last_end(
+pub extern "C" fn ckd_c_last_end(
     alloc: Global,
     subsystem: &mut CkdSubsystem,
     device: u8,
@@ -194,7 +194,7 @@ pub extern "C" fn ckd_last_end(
 
 /// Copies the data that the command of a device that ended last sent, as many as there is room for, and tells how many.
 #[unsafe(no_mangle)]
-pub extern "C" fn ckd_last_data(
+pub extern "C" fn ckd_c_last_data(
     alloc: Global,
     subsystem: &mut CkdSubsystem,
     device: u8,
@@ -215,7 +215,7 @@ pub extern "C" fn ckd_last_data(
 /// Tells the counts of a device: its reads and writes of its volumes, how many tracks are lost, wait for the background, have patches
 /// in the store, and have frames of the cache, and its cylinders.
 #[unsafe(no_mangle)]
-pub extern "C" fn ckd_counts(
+pub extern "C" fn ckd_c_counts(
     alloc: Global,
     subsystem: &mut CkdSubsystem,
     device: u8,

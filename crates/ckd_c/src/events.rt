@@ -7,7 +7,7 @@ use subsystem_defs::Event;
 
 /// Starts the next program of a path of a device, and tells which of the path's programs that is, from 1 on.
 #[unsafe(no_mangle)]
-pub extern "C" fn ckd_start(
+pub extern "C" fn ckd_c_start(
     alloc: Global,
     subsystem: &mut CkdSubsystem,
     device: u8,
@@ -26,7 +26,7 @@ pub extern "C" fn ckd_start(
 
 /// One command of the program that runs on a device, or a part of its write. `CKD_IDLE`: none runs.
 #[unsafe(no_mangle)]
-pub extern "C" fn ckd_step(alloc: Global, subsystem: &mut CkdSubsystem, device: u8) -> u32
+pub extern "C" fn ckd_c_step(alloc: Global, subsystem: &mut CkdSubsystem, device: u8) -> u32
     ensures { Comes (Asks (Event.Step device) Silent) subsystem.old.place.value subsystem.new.place.value result }
 {
     let Some(mut opened) = take(subsystem, alloc) else {
@@ -39,7 +39,12 @@ pub extern "C" fn ckd_step(alloc: Global, subsystem: &mut CkdSubsystem, device: 
 
 /// Goes on with the program that runs on a device until it is over, for at most so many steps. `CKD_RUNNING`: it isn't over.
 #[unsafe(no_mangle)]
-pub extern "C" fn ckd_run(alloc: Global, subsystem: &mut CkdSubsystem, device: u8, most: u32) -> u32
+pub extern "C" fn ckd_c_run(
+    alloc: Global,
+    subsystem: &mut CkdSubsystem,
+    device: u8,
+    most: u32,
+) -> u32
     ensures { Comes (Runs device) subsystem.old.place.value subsystem.new.place.value result }
 {
     let Some(mut opened) = take(subsystem, alloc) else {
@@ -52,7 +57,7 @@ pub extern "C" fn ckd_run(alloc: Global, subsystem: &mut CkdSubsystem, device: u
 
 /// One piece of work of a device in the background: a track is recovered, copied, staged or destaged. Tells what was done.
 #[unsafe(no_mangle)]
-pub extern "C" fn ckd_background(
+pub extern "C" fn ckd_c_background(
     alloc: Global,
     subsystem: &mut CkdSubsystem,
     device: u8,
@@ -70,7 +75,7 @@ pub extern "C" fn ckd_background(
 
 /// Resets a path of a device.
 #[unsafe(no_mangle)]
-pub extern "C" fn ckd_reset(
+pub extern "C" fn ckd_c_reset(
     alloc: Global,
     subsystem: &mut CkdSubsystem,
     device: u8,
@@ -88,7 +93,7 @@ pub extern "C" fn ckd_reset(
 
 /// A side of a device is lost.
 #[unsafe(no_mangle)]
-pub extern "C" fn ckd_lose_side(
+pub extern "C" fn ckd_c_lose_side(
     alloc: Global,
     subsystem: &mut CkdSubsystem,
     device: u8,
@@ -106,7 +111,7 @@ pub extern "C" fn ckd_lose_side(
 
 /// The second device's volume becomes side B of the first, which it is copied to.
 #[unsafe(no_mangle)]
-pub extern "C" fn ckd_pair(
+pub extern "C" fn ckd_c_pair(
     alloc: Global,
     subsystem: &mut CkdSubsystem,
     first: u8,
@@ -124,7 +129,7 @@ pub extern "C" fn ckd_pair(
 
 /// Side B of a pair is held: writes leave it out.
 #[unsafe(no_mangle)]
-pub extern "C" fn ckd_suspend(alloc: Global, subsystem: &mut CkdSubsystem, device: u8) -> u32
+pub extern "C" fn ckd_c_suspend(alloc: Global, subsystem: &mut CkdSubsystem, device: u8) -> u32
     ensures { Comes (Asks (Event.Suspend device) Silent) subsystem.old.place.value subsystem.new.place.value result }
 {
     let Some(mut opened) = take(subsystem, alloc) else {
@@ -137,7 +142,7 @@ pub extern "C" fn ckd_suspend(alloc: Global, subsystem: &mut CkdSubsystem, devic
 
 /// Side B of a pair isn't held any more, and the background copies what it lacks.
 #[unsafe(no_mangle)]
-pub extern "C" fn ckd_resume(alloc: Global, subsystem: &mut CkdSubsystem, device: u8) -> u32
+pub extern "C" fn ckd_c_resume(alloc: Global, subsystem: &mut CkdSubsystem, device: u8) -> u32
     ensures { Comes (Asks (Event.Resume device) Silent) subsystem.old.place.value subsystem.new.place.value result }
 {
     let Some(mut opened) = take(subsystem, alloc) else {
@@ -150,7 +155,7 @@ pub extern "C" fn ckd_resume(alloc: Global, subsystem: &mut CkdSubsystem, device
 
 /// The cache is lost, with what stands in it alone.
 #[unsafe(no_mangle)]
-pub extern "C" fn ckd_lose_cache(alloc: Global, subsystem: &mut CkdSubsystem) -> u32
+pub extern "C" fn ckd_c_lose_cache(alloc: Global, subsystem: &mut CkdSubsystem) -> u32
     ensures { Comes (EventCame Event.FailCache Silent) subsystem.old.place.value subsystem.new.place.value result }
 {
     let Some(mut opened) = take(subsystem, alloc) else {
@@ -163,7 +168,7 @@ pub extern "C" fn ckd_lose_cache(alloc: Global, subsystem: &mut CkdSubsystem) ->
 
 /// The nonvolatile store is lost.
 #[unsafe(no_mangle)]
-pub extern "C" fn ckd_lose_store(alloc: Global, subsystem: &mut CkdSubsystem) -> u32
+pub extern "C" fn ckd_c_lose_store(alloc: Global, subsystem: &mut CkdSubsystem) -> u32
     ensures { Comes (EventCame Event.FailStore Silent) subsystem.old.place.value subsystem.new.place.value result }
 {
     let Some(mut opened) = take(subsystem, alloc) else {
@@ -176,7 +181,7 @@ pub extern "C" fn ckd_lose_store(alloc: Global, subsystem: &mut CkdSubsystem) ->
 
 /// Power is lost: the cache is empty, and the programs that ran are cut.
 #[unsafe(no_mangle)]
-pub extern "C" fn ckd_lose_power(alloc: Global, subsystem: &mut CkdSubsystem) -> u32
+pub extern "C" fn ckd_c_lose_power(alloc: Global, subsystem: &mut CkdSubsystem) -> u32
     ensures { Comes (EventCame Event.Power Silent) subsystem.old.place.value subsystem.new.place.value result }
 {
     let Some(mut opened) = take(subsystem, alloc) else {
@@ -189,7 +194,7 @@ pub extern "C" fn ckd_lose_power(alloc: Global, subsystem: &mut CkdSubsystem) ->
 
 /// The cache is up again. `CKD_WAITS`: first the background is to recover the tracks that wait.
 #[unsafe(no_mangle)]
-pub extern "C" fn ckd_repair_cache(alloc: Global, subsystem: &mut CkdSubsystem) -> u32
+pub extern "C" fn ckd_c_repair_cache(alloc: Global, subsystem: &mut CkdSubsystem) -> u32
     ensures { Comes (EventCame Event.RepairCache Silent) subsystem.old.place.value subsystem.new.place.value result }
 {
     let Some(mut opened) = take(subsystem, alloc) else {
@@ -202,7 +207,7 @@ pub extern "C" fn ckd_repair_cache(alloc: Global, subsystem: &mut CkdSubsystem) 
 
 /// The nonvolatile store is up again. `CKD_WAITS`: first the background is to recover the tracks that wait.
 #[unsafe(no_mangle)]
-pub extern "C" fn ckd_repair_store(alloc: Global, subsystem: &mut CkdSubsystem) -> u32
+pub extern "C" fn ckd_c_repair_store(alloc: Global, subsystem: &mut CkdSubsystem) -> u32
     ensures { Comes (EventCame Event.RepairStore Silent) subsystem.old.place.value subsystem.new.place.value result }
 {
     let Some(mut opened) = take(subsystem, alloc) else {

@@ -1,5 +1,5 @@
 //! A subsystem for C: a static library, with `c/ckd.h` as its manual. A caller keeps a `CkdSubsystem`, which is closed where it is all
-//! zeros; each call takes the subsystem out of it and puts it back.
+//! zeros; each call takes the subsystem out of it and puts it back. In front of each call, `c/calls.c` refuses NULL.
 #![tactic(auto)]
 
 mod adding;
@@ -29,4 +29,4 @@ pub use lent::CkdFile;
 pub use opened::Opened;
 pub use owned::OwnedPlace;
 pub use volume::HostVolume;
-pub use words::{CkdRefusal, CkdWord};
+pub use words::{CkdCcw, CkdRefusal};

@@ -28,7 +28,7 @@ fn open(alloc: Global, frames: u16, slots: u16) -> Result<Box<Opened>, Code>
 
 /// Opens a subsystem without devices, with so many frames of cache and slots of nonvolatile store, which its devices share.
 #[unsafe(no_mangle)]
-pub extern "C" fn ckd_open(
+pub extern "C" fn ckd_c_open(
     alloc: Global,
     subsystem: &mut CkdSubsystem,
     frames: u16,

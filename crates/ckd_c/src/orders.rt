@@ -8,7 +8,7 @@ use crate::code::{Code, code_of_end, number_of};
 use crate::handle::{CkdSubsystem, put, take};
 use crate::lent::CkdFile;
 use crate::opened::Opened;
-use crate::volume::{HostVolume, empty_volume};
+use crate::volume::{HostVolume, memory_volume};
 use ckd_types::{DeviceNo, NoMemory, Side};
 use std::alloc::Global;
 
@@ -23,7 +23,7 @@ impl Opened {
         if cylinders > 4369 {
             return Err(Code::BadCylinders);
         }
-        empty_volume(alloc, cylinders)
+        memory_volume(alloc, cylinders, &[], &[])
     }
 
     /// The volume in the image that a file holds, for a device of its geometry and size.
@@ -138,7 +138,7 @@ impl Opened {
 
 /// A failed side of a device gets a volume of empty tracks in memory.
 #[unsafe(no_mangle)]
-pub extern "C" fn ckd_replace_memory(
+pub extern "C" fn ckd_c_replace_memory(
     alloc: Global,
     subsystem: &mut CkdSubsystem,
     device: u8,
@@ -156,7 +156,7 @@ pub extern "C" fn ckd_replace_memory(
 
 /// A failed side of a device gets the volume in the image that an open file holds.
 #[unsafe(no_mangle)]
-pub extern "C" fn ckd_replace_image(
+pub extern "C" fn ckd_c_replace_image(
     alloc: Global,
     subsystem: &mut CkdSubsystem,
     device: u8,
@@ -175,7 +175,7 @@ pub extern "C" fn ckd_replace_image(
 
 /// A pair is taken apart. The device that had lent its volume gets one of empty tracks in memory.
 #[unsafe(no_mangle)]
-pub extern "C" fn ckd_part_memory(alloc: Global, subsystem: &mut CkdSubsystem, device: u8) -> u32
+pub extern "C" fn ckd_c_part_memory(alloc: Global, subsystem: &mut CkdSubsystem, device: u8) -> u32
     ensures { Comes (OrRefused (Parts device)) subsystem.old.place.value subsystem.new.place.value result }
 {
     let Some(mut opened) = take(subsystem, alloc) else {
@@ -188,7 +188,7 @@ pub extern "C" fn ckd_part_memory(alloc: Global, subsystem: &mut CkdSubsystem, d
 
 /// A pair is taken apart. The device that had lent its volume gets the one in the image that an open file holds.
 #[unsafe(no_mangle)]
-pub extern "C" fn ckd_part_image(
+pub extern "C" fn ckd_c_part_image(
     alloc: Global,
     subsystem: &mut CkdSubsystem,
     device: u8,

@@ -1,13 +1,13 @@
-ghost use Rattle.std.specs.Prelude.{◌≡◌};
+ghost use Rattle.std.specs.Prelude.{◌≡◌, map};
 ghost use Rattle.device_defs.specs.Start.{left};
 ghost use Rattle.device_core.specs.State.{device_of};
-ghost use Rattle.ckd_c.specs.Calls.{AtDevice, Comes, Forgets, Plans, Reads, Tries, TriesTo, ccws_of};
+ghost use Rattle.ckd_c.specs.Calls.{AtDevice, Comes, Forgets, Plans, Reads, Tries, TriesTo, ccw_of};
 
 use crate::code::{Code, number_of};
 use crate::finding::code_told;
 use crate::handle::{CkdSubsystem, put, take};
 use crate::opened::Opened;
-use crate::words::{CkdRefusal, CkdWord, program_of};
+use crate::words::{CkdCcw, CkdRefusal, program_of};
 use ckd_types::PathNo;
 use device_core::{NotForgotten, NotPlanned};
 use std::alloc::Global;
@@ -20,17 +20,16 @@ impl Opened {
         alloc: Global,
         device: u8,
         path: u8,
-        words: &[CkdWord],
-        bytes: &[u8],
+        ccws: &[CkdCcw<'_>],
         refusal: &mut CkdRefusal,
     ) -> Result<(), Code>
-        ensures { TriesTo (Plans device path (ccws_of words.now bytes.now)) result self.old self.new }
+        ensures { TriesTo (Plans device path (map ccw_of ccws.now)) result self.old self.new }
     {
         let number = self.find(device)?;
         let Some(path) = PathNo::new(path) else {
             return Err(Code::BadPath);
         };
-        let program = program_of(alloc, words, bytes, refusal)?;
+        let program = program_of(alloc, ccws, refusal)?;
         match self.subsystem.plan(number, path, program) {
             Ok(()) => Ok(()),
             Err(NotPlanned::Full) => Err(Code::PlanFull),
@@ -65,31 +64,29 @@ impl Opened {
     }
 }
 
-/// Plans a program of the words for a path of a device, from 1 to 4, behind those that it has. The data of all words stand one after
-/// another.
+/// Plans a program of these words for a path of a device, from 1 to 4, behind those that it has. The words and their bytes are copied.
 #[unsafe(no_mangle)]
-pub extern "C" fn ckd_plan(
+pub extern "C" fn ckd_c_plan(
     alloc: Global,
     subsystem: &mut CkdSubsystem,
     device: u8,
     path: u8,
-    words: &[CkdWord],
-    bytes: &[u8],
+    ccws: &[CkdCcw<'_>],
     refusal: &mut CkdRefusal,
 ) -> u32
-    ensures { Comes (Tries (Plans device path (ccws_of words.now bytes.now))) subsystem.old.place.value subsystem.new.place.value result }
+    ensures { Comes (Tries (Plans device path (map ccw_of ccws.now))) subsystem.old.place.value subsystem.new.place.value result }
 {
     let Some(mut opened) = take(subsystem, alloc) else {
         return number_of(Code::Closed);
     };
-    let code = code_told(opened.plan(alloc, device, path, words, bytes, refusal));
+    let code = code_told(opened.plan(alloc, device, path, ccws, refusal));
     put(subsystem, opened);
     number_of(code)
 }
 
 /// Tells how many programs of a path wait to be started.
 #[unsafe(no_mangle)]
-pub extern "C" fn ckd_left(
+pub extern "C" fn ckd_c_left(
     alloc: Global,
     subsystem: &mut CkdSubsystem,
     device: u8,
@@ -108,7 +105,7 @@ pub extern "C" fn ckd_left(
 
 /// Puts away what happened to a device so far, while no program runs on it.
 #[unsafe(no_mangle)]
-pub extern "C" fn ckd_forget(alloc: Global, subsystem: &mut CkdSubsystem, device: u8) -> u32
+pub extern "C" fn ckd_c_forget(alloc: Global, subsystem: &mut CkdSubsystem, device: u8) -> u32
     ensures { Comes (Tries (Forgets device)) subsystem.old.place.value subsystem.new.place.value result }
 {
     let Some(mut opened) = take(subsystem, alloc) else {

@@ -1,4 +1,5 @@
 ghost use Rattle.std.specs.Prelude.{◌≡◌, ◌≤◌, ◌*◌, IfErr, IfOk};
+ghost use Rattle.device_outside.specs.Disk.{new_disk};
 ghost use Rattle.ckd_c.specs.Codes.{IsRefusal};
 
 use crate::code::Code;
@@ -70,13 +71,19 @@ pub(crate) fn mount_image(alloc: Global, file: File) -> Result<(HostVolume, Layo
     }
 }
 
-/// A volume of empty tracks in memory.
-pub(crate) fn empty_volume(alloc: Global, cylinders: u16) -> Result<HostVolume, Code>
+/// A volume of empty tracks in memory, of which the reads and the writes with these numbers fail, from 1 on.
+pub(crate) fn memory_volume(
+    alloc: Global,
+    cylinders: u16,
+    reads: &[u32],
+    writes: &[u32],
+) -> Result<HostVolume, Code>
     requires { cylinders ≤ 4369 }
+    ensures made { IfOk result (λ v. v ≡ HostVolume.Memory (new_disk cylinders reads.now writes.now)) }
     ensures volume { IfOk result (λ v. (⟦<HostVolume as Volume>⟧.view v).tracks ≡ cylinders * 15) }
     ensures early { IfErr result IsRefusal }
 {
-    match MemVolume::new(alloc, cylinders, &[], &[]) {
+    match MemVolume::new(alloc, cylinders, reads, writes) {
         Ok(volume) => Ok(HostVolume::Memory(volume)),
         Err(NoMemory) => Err(Code::NoMemory),
     }

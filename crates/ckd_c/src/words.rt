@@ -1,5 +1,5 @@
-ghost use Rattle.std.specs.Prelude.{◌≡◌, IfErr, IfOk};
-ghost use Rattle.ckd_c.specs.Calls.{ccws_of};
+ghost use Rattle.std.specs.Prelude.{◌≡◌, IfErr, IfOk, map};
+ghost use Rattle.ckd_c.specs.Calls.{ccw_of};
 ghost use Rattle.ckd_c.specs.Codes.{IsRefusal};
 
 use crate::code::{Code, why_number};
@@ -7,14 +7,14 @@ use ckd_ccw::{Program, ProgramFault};
 use ckd_types::{Bytes, Ccw, NoMemory};
 use std::alloc::Global;
 
-/// A channel command word, and how many bytes of the data behind those of the words before it are given to it.
+/// A channel command word, and where the caller has the bytes that are given to it.
 #[repr(C)]
 #[derive(Clone, Copy)]
-pub struct CkdWord {
+pub struct CkdCcw<'a> {
     pub command: u8,
     pub flags: u8,
     pub count: u16,
-    pub given: u16,
+    pub given: &'a [u8],
 }
 
 /// Which word of a program is bad, from 0 on, and why: a number of `ckd_why`.
@@ -25,56 +25,45 @@ pub struct CkdRefusal {
     pub why: u32,
 }
 
-/// The words with the bytes that are given to each. All the data are given to some word.
-#[tactic(auto, using(crate::proofs::WordLists::one_more, crate::proofs::WordLists::all_told))]
-fn words_of(alloc: Global, words: &[CkdWord], bytes: &[u8]) -> Result<Vec<Ccw>, Code>
-    ensures made { IfOk result (λ made. made.items ≡ ccws_of words.now bytes.now) }
+/// A word with a copy of its bytes.
+fn word_of(alloc: Global, ccw: &CkdCcw<'_>) -> Result<Ccw, Code>
+    ensures made { IfOk result (λ made. made ≡ ccw_of ccw.now) }
+    ensures early { IfErr result IsRefusal }
+{
+    match Bytes::from_slice(alloc, ccw.given) {
+        Ok(given) => Ok(Ccw {
+            command: ccw.command,
+            flags: ccw.flags,
+            count: ccw.count,
+            given,
+        }),
+        Err(NoMemory) => Err(Code::NoMemory),
+    }
+}
+
+/// The words, each with a copy of its bytes.
+fn words_of(alloc: Global, ccws: &[CkdCcw<'_>]) -> Result<Vec<Ccw>, Code>
+    ensures made { IfOk result (λ made. made.items ≡ map ccw_of ccws.now) }
     ensures early { IfErr result IsRefusal }
 {
     let mut made = Vec::new(alloc);
-    let mut rest = bytes;
-    for i in 0..words.len() {
-        let word = words[i];
-        let count = usize::from(word.given);
-        if rest.len() < count {
-            return Err(Code::BadLengths);
-        }
-        let (given, behind) = rest.split_at(count);
-        rest = behind;
-        let given = match Bytes::from_slice(alloc, given) {
-            Ok(given) => given,
-            Err(NoMemory) => return Err(Code::NoMemory),
-        };
-        let ccw = Ccw {
-            command: word.command,
-            flags: word.flags,
-            count: word.count,
-            given,
-        };
-        match made.push(ccw) {
-            Ok(()) => (),
-            Err(_) => return Err(Code::NoMemory),
-        }
+    for ccw in ccws {
+        made.push(word_of(alloc, ccw)?)?;
     }
-    if rest.is_empty() {
-        Ok(made)
-    } else {
-        Err(Code::BadLengths)
-    }
+    Ok(made)
 }
 
 /// The channel program of these words, or which of them is bad.
 pub(crate) fn program_of(
     alloc: Global,
-    words: &[CkdWord],
-    bytes: &[u8],
+    ccws: &[CkdCcw<'_>],
     refusal: &mut CkdRefusal,
 ) -> Result<Program, Code>
-    ensures made { IfOk result (λ program. program ≡ ccws_of words.now bytes.now) }
+    ensures made { IfOk result (λ program. program ≡ map ccw_of ccws.now) }
     ensures early { IfErr result IsRefusal }
 {
-    let ccws = words_of(alloc, words, bytes)?;
-    match Program::new(ccws) {
+    let words = words_of(alloc, ccws)?;
+    match Program::new(words) {
         Ok(program) => Ok(program),
         Err(ProgramFault::Bad { index, why }) => {
             refusal.word = index;

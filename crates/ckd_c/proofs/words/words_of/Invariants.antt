@@ -1,6 +1,6 @@
-use Rattle.std.proofs.Common.{◌≡◌, ◌++◌, drop, length}
-use Rattle.ckd_c.specs.Calls.{ccws_of}
+use Rattle.std.proofs.Common.{◌≡◌, map, take}
+use Rattle.ckd_c.specs.Calls.{ccw_of}
 use Rattle.ckd_c.proofs.words.words_of.Given as goal
 
-abbrev pub invariant-loop-i : goal.invariant-loop-i
-invariant-loop-i l = (ccws_of l.words l.bytes ≡ l.made.items ++ ccws_of (drop l.i l.words) l.rest) × (l.i-end ≡ length l.words)
+abbrev pub invariant-loop-ccw : goal.invariant-loop-ccw
+invariant-loop-ccw l = l.made.items ≡ map ccw_of (take l.ccw-index l.ccws)

@@ -10,7 +10,7 @@ push_behind-requires-clause-stands c =
 
 pub returns : goal.returns
 returns c =
-    is_pushed _ _ _ c.push_behind.result c.args.self.now _ c.in-Ok.device
+    is_pushed _ _ _ c.args.volume c.push_behind.result c.args.self.now _ c.in-Ok.device
     (subst (λ p. device_of c.in-Ok.device ≡ opened_device c.args.number c.args.geometry c.args.cylinders p) c.new-plans.ensures c.in-Ok.ensures.device)
-    c.push_behind.ensures.pool c.push_behind.ensures.pushed
+    c.in-Ok.ensures.volume c.push_behind.ensures.pool c.push_behind.ensures.pushed
     c.push_behind.ensures.same c.push_behind.ensures.refused

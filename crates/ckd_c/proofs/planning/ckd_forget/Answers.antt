@@ -1,9 +1,0 @@
-use Rattle.ckd_c.proofs.Coming.{a_lent_one_went}
-use Rattle.ckd_c.proofs.Refusing.{by_tries}
-use Rattle.ckd_c.specs.Calls.{Forgets, Tries}
-use Rattle.ckd_c.proofs.planning.ckd_forget.Goals as goal
-
-pub returns : goal.returns
-returns c =
-    a_lent_one_went (Tries (Forgets c.args.device)) c.code_told-code.result _ _ _ c.deref_mut.ensures.value c.in-Some.ensures.value c.put.ensures c.number_of-2.ensures
-    (by_tries (Forgets c.args.device) c.forget.result c.code_told-code.ensures c.forget.ensures)
