@@ -1,6 +1,6 @@
 -- What the lines of a command's end come to, over a device that is replayed: what is due behind each, or nothing where no
 -- plain device answers so.
-use Rattle.std.specs.Prelude.{Option, Some, None, Bool, true, if◌then◌else◌}
+use Rattle.std.specs.Prelude.{◌==◌, Option, Some, None, Bool, true, false, if◌then◌else◌}
 use Rattle.ckd_types.specs.declared.channel.CommandEnd.{CommandEnd}
 use Rattle.ckd_types.specs.declared.sense.Sense.{Sense}
 use Rattle.ckd_types.specs.Sense.{equipment_sense, data_check_sense}
@@ -24,6 +24,10 @@ check_of plans o e sense = check_end (program_of plans o.path o.ordinal) e.index
 
 abbrev pub shows_end : ReplayedState → Running → ReportLine → CommandEnd → Bool
 shows_end r o line e = says (lines.End (end_line o.path r.number o.ordinal e)) line
+
+abbrev pub has_check : ReportLine → Bool
+has_check (lines.End end) = end.status.0 == 14
+has_check line = false
 
 -- END: one with unit check, of which the sense says more; or the plain end
 abbrev pub end_due_by : Plans → ReplayedState → ReportLine → CommandEnd → Option Running → Option Due

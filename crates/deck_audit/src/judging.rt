@@ -3,7 +3,8 @@ ghost use Rattle.plain_defs.specs.Journal.{program_of};
 ghost use Rattle.report_text.specs.Ends.{end_line};
 ghost use Rattle.deck_audit.specs.History.{behind_end, has_sense};
 ghost use Rattle.report_text.specs.declared.line.ReportLine.TheVariants as lines;
-ghost use Rattle.deck_audit.specs.Judging.{check_of, data_due, end_due, sense_due};
+ghost use Rattle.deck_audit.specs.Judging.{check_of, data_due, end_due, has_check, sense_due};
+ghost use Rattle.ckd_types.specs.Sense.{equipment_sense};
 ghost use Rattle.deck_audit.specs.Same.{says};
 
 use crate::replayed::{ReplayedDevice, Running};
@@ -58,6 +59,42 @@ fn shows_end(device: DeviceNo, o: &Running, line: &ReportLine, e: &CommandEnd) -
     says(&ReportLine::End(wanted), line)
 }
 
+fn has_check(line: &ReportLine) -> bool
+    ensures { result ≡ has_check line.now }
+{
+    match line {
+        ReportLine::End(end) => end.status.0 == UnitStatus::check().0,
+        _ => false,
+    }
+}
+
+/// Whether a line shows that the next command ended with a check.
+fn shows_check(
+    plans: &PathPlans,
+    device: DeviceNo,
+    o: &Running,
+    line: &ReportLine,
+    e: &CommandEnd,
+) -> bool
+    ensures { result ≡ says (lines.End (end_line o.now.path device o.now.ordinal (check_of plans.now o.now e.now equipment_sense))) line.now }
+{
+    if !has_check(line) {
+        return false;
+    }
+    let nothing = no_ccw();
+    let word = word_at(program_of(plans, o), usize::from(e.index), &nothing);
+    let wanted = EndLine {
+        path: o.path,
+        device,
+        ordinal: o.ordinal,
+        index: e.index,
+        status: UnitStatus::check(),
+        residual: word.count,
+        note: Note::Plain,
+    };
+    says(&ReportLine::End(wanted), line)
+}
+
 /// Where bytes were sent they come first.
 fn behind_end(e: CommandEnd) -> Due
     ensures { result ≡ behind_end e e.sent }
@@ -100,8 +137,7 @@ impl ReplayedDevice {
     {
         match &self.running {
             Some(o) => {
-                let check = check_of(plans, o, &e, equipment());
-                if shows_end(self.number, o, line, &check) {
+                if shows_check(plans, self.number, o, line, &e) {
                     Some(Due::SenseOf(e))
                 } else if shows_end(self.number, o, line, &e) {
                     Some(behind_end(e))

@@ -100,7 +100,7 @@ impl Kept {
     }
 
     /// A piece of work of the event is taken as done.
-    fn settle_line(&mut self, event: Option<EventLine>, did: &Did) -> Result<Then, NoMemory>
+    pub fn settle_line(&mut self, event: Option<EventLine>, did: &Did) -> Result<Then, NoMemory>
         ensures answer { IfOk result (λ next. next ≡ settle_then event self.old did.now) }
         ensures kept { OnOk result (self.new ≡ settled_kept self.old did.now) }
     {

@@ -1,12 +1,14 @@
 -- What an auditor keeps where no device changes.
 use Rattle.std.proofs.Common.{◌≡◌, ℕ, List, [], ◌∷◌, length, drop, Some, None, Bool, true, false, cond, refl, sym, ap, subst, ◌∙◌}
-use Rattle.std.specs.Prelude.{◌==◌, map}
+use Rattle.std.proofs.Common.{rules}
+use Rattle.std.specs.Prelude.{◌==◌, Ok, map}
+use Rattle.std.specs.Str.{bytes_eq}
 use Rattle.ckd_types.specs.declared.channel.CommandEnd.{CommandEnd}
 use Rattle.deck_plan.specs.declared.event.EventLine.{EventLine}
 use Rattle.deck_text.specs.declared.line.PlannedProgram.{PlannedProgram}
 use Rattle.report_text.specs.declared.line.ReportLine.{ReportLine}
 use Rattle.report_text.specs.declared.line.ReportLine.TheVariants as lines
-use Rattle.report_audit.specs.Auditor.{AllKept, AreKept, ArePowered, IsAt, IsAuditOf, IsFor, Makes, OneKept, due_if, either, gone_on, is_quiet}
+use Rattle.report_audit.specs.Auditor.{AllKept, AreKept, ArePowered, IsAt, IsAuditOf, IsDueData, IsFor, IsJudged, Makes, OneKept, behind_data, due_if, either, gone_on, is_quiet}
 use Rattle.report_audit.specs.declared.auditor.Auditor.{Auditor}
 use Rattle.deck_audit.specs.declared.kept.Kept.{Kept}
 use Rattle.deck_audit.specs.declared.kept.Then.TheVariants.{Passed, Wait}
@@ -20,6 +22,8 @@ use Rattle.deck_audit.specs.Keeping.{IsDue}
 use Rattle.deck_audit.specs.Same.{says}
 use Rattle.deck_audit.specs.Place.{IsDueOf, outline_in}
 use Rattle.deck_audit.specs.State.{AuditState, passed, worker_number}
+use Rattle.deck_audit.specs.Verdict.{judged_text}
+use Rattle.report_reading.specs.Reading.{line_of}
 use Rattle.report_audit.proofs.AuditorLines.{behind_event}
 
 module _ (z : Auditor) (s : AuditState) (f : IsFor z s) (quiet : is_quiet s.due ≡ true) where
@@ -88,6 +92,9 @@ outline_is (b ∷ devices) d a is = outline_by b devices d a (b.number == d) is 
 
 -- DATA
 
+bytes_same : (bytes : List ℕ) → bytes_eq bytes bytes ≡ true
+bytes_same bytes = search rules
+
 module _ (z : Auditor) (s : AuditState) (e : CommandEnd) (f : IsFor z s) (due_is : s.due ≡ DataOf e) where
   one_due : (d : ℕ) × (worker_number s ≡ Some d) × OneKept z.deck.programs (DataOf e) d z.devices.items s.devices
   one_due = subst (λ (due : Due). AreKept z.deck.programs due (worker_number s) z.devices.items s.devices (is_quiet due)) due_is f.devices_are
@@ -129,3 +136,19 @@ module _ (z : Auditor) (s : AuditState) (e : CommandEnd) (f : IsFor z s) (due_is
 
   pub data_none : (line : ReportLine) → None ≡ data_due line e → due_made s line (DataOf e) ≡ None
   data_none line is = none_by (says (lines.Data e.sent) line) (sym is)
+
+  -- the text of its line is judged well
+  sent_text : (text : List ℕ) → line_of text ≡ Ok (lines.Data e.sent)
+      → judged_text s text ≡ Ok (record s { due = Behind true (Ended e) })
+  sent_text text is = rw (is, due_is, bytes_same e.sent) refl
+
+  sent_judged : (text : List ℕ) → line_of text ≡ Ok (lines.Data e.sent) → IsJudged None (record z { due = Behind true (Ended e) }) (judged_text s text)
+  sent_judged text is = (record s { due = Behind true (Ended e) }, sent_text text is, sent_kept)
+
+module _ (z : Auditor) (s : AuditState) (i : IsAuditOf z s) (text : List ℕ) where
+  taken_by : (due : Due) → z.due ≡ due → IsDueData due text → IsJudged None (record z { due = behind_data due }) (judged_text s text)
+  taken_by (DataOf e) is so = sent_judged z s e i.for (sym i.due_is ∙ is) text so
+  taken_by due is so = absurd so
+
+  pub data_taken : IsDueData z.due text → IsJudged None (record z { due = behind_data z.due }) (judged_text s text)
+  data_taken so = taken_by z.due refl so

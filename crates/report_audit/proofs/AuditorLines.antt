@@ -381,3 +381,13 @@ module _ (z : Auditor) (s : AuditState) (d : ℕ) (task : Task) (f : IsFor z s) 
     pub fails : next ≡ None → then_of (device_in s.devices d) (task_made s line task) ≡ None
     fails is = in_device ∙ subst (λ (n : Option Then). Judges s here.found.a (task_made s line task here.found.a) n
         (task_kept here.found.a.plans here.found.k line task)) is judged_so
+
+    -- the auditor with these devices and outlines goes on
+    pub goes_with : (x : Then) → next ≡ Some x → (y w : Auditor) → w ≡ gone_on y x → y.deck ≡ z.deck → y.passed ≡ z.passed → y.devices.items ≡ new
+        → (before after : List Outline) → before ≡ z.outlines.items
+        → ((k : Kept) → slice_get new i ≡ Some k → after ≡ slice_set before i (kept_outline k)) → y.outlines.items ≡ after
+        → Makes true w (then_of (device_in s.devices d) (task_made s line task))
+    goes_with x is y w w_is deck_is passed_is items before after same set outlines =
+        subst (λ (v : Auditor). Makes true v (then_of (device_in s.devices d) (task_made s line task))) (sym w_is)
+        (goes x is y deck_is items passed_is (outlines ∙ new_outlines before after (same ∙ f.outlines_so) set
+        ∙ ap (λ (l : List Kept). map kept_outline l) (sym items)))

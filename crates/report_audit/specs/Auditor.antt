@@ -10,6 +10,7 @@ use Rattle.report_text.specs.declared.answers.LooseAnswer.TheVariants as loose
 use Rattle.report_text.specs.declared.answers.OrderAnswer.TheVariants as order_answers
 use Rattle.report_audit.specs.declared.told.OrderTold.{OrderTold}
 use Rattle.report_audit.specs.declared.told.OrderTold.TheVariants as told
+use Rattle.report_reading.specs.Reading.{line_of}
 use Rattle.report_text.specs.declared.line.ReportLine.{ReportLine}
 use Rattle.report_text.specs.declared.line.ReportLine.TheVariants as lines
 use Rattle.deck_audit.specs.declared.replayed.Running.{Running}
@@ -228,6 +229,16 @@ dark_kept k = record k { device = without_power k.device }
 abbrev pub behind_of : Due → Result (Bool × Did) Due
 behind_of (Behind more did) = Ok (more, did)
 behind_of due = Err due
+
+-- a text is read as the bytes that are due
+abbrev pub IsDueData : Due → List ℕ → Type 0
+IsDueData (DataOf e) text = line_of text ≡ Ok (lines.Data e.sent)
+IsDueData due text = ⊥
+
+-- they are told
+abbrev pub behind_data : Due → Due
+behind_data (DataOf e) = Behind true (Ended e)
+behind_data due = due
 
 -- no device does it
 abbrev pub idle_fault : ReportLine → AuditWhy

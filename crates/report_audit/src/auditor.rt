@@ -1,4 +1,4 @@
-ghost use Rattle.std.specs.Prelude.{◌≡◌, ◌≤◌, Bool, Some, false, true, IfOk, OnOk, drop, length, map};
+ghost use Rattle.std.specs.Prelude.{◌≡◌, ◌≤◌, Bool, None, Some, false, true, IfOk, OnOk, drop, length, map};
 ghost use Rattle.std.specs.List.{All};
 ghost use Rattle.deck_plan.specs.declared.event.EventLine.TheVariants.{Pair, Reset, Start, Unpair};
 ghost use Rattle.deck_audit.specs.declared.state.Did.TheVariants.{Halved};
@@ -13,13 +13,16 @@ ghost use Rattle.deck_audit.specs.History.{act_of_work, done_order, due_made, ev
 ghost use Rattle.deck_audit.specs.History.{loss_made, order_made, power_made, sense_made, shown, totals_made, work_made};
 ghost use Rattle.deck_audit.specs.State.{AuditState, behind_work, first_state, outlines, over_by, settled_by, then_of, worker_number};
 ghost use Rattle.deck_audit.specs.Task.{task_made};
-ghost use Rattle.deck_audit.specs.Verdict.{judged};
+ghost use Rattle.deck_audit.specs.Verdict.{judged, judged_text};
 
 use crate::devices::{
-    any_lent_runs, is_legal, judge_at, kept_devices, lose_power, outline_all, place_of,
-    take_all_back,
+    any_lent_runs, is_legal, judge_at, kept_devices, lose_power, outline_all, place_of, settle_at,
+    take_all_back, work_at,
 };
-use crate::told::{OrderTold, behind_of, cut_at, idle_fault, loose_at, order_told, totals_due};
+use crate::told::{
+    OrderTold, behind_data, behind_of, cut_at, idle_fault, is_due_data, loose_at, order_told,
+    totals_due,
+};
 use ckd_types::{CommandEnd, DeviceNo, NoMemory, PathNo, TrackNo};
 use deck_audit::{
     AuditWhy, Did, Due, Kept, Outline, Task, Then, data_due, in_due, is_act_of, is_io, worker_of,
@@ -58,6 +61,12 @@ fn is_nothing(due: &Due) -> bool
     ensures { result ≡ is_nothing due.now }
 {
     matches!(due, Due::Nothing)
+}
+
+fn is_next(due: &Due) -> bool
+    ensures { result ≡ true → due.now ≡ Next }
+{
+    matches!(due, Due::Next)
 }
 
 /// How many devices something was told of.
@@ -201,8 +210,25 @@ impl Auditor {
         ensures { IfOk result (λ good. (s : AuditState) → IsFor self.old s → is_quiet s.due ≡ true → worker_number s ≡ Some d →
             Makes good self.new (then_of (device_in s.devices d) (work_made s line.now))) }
     {
-        let good = self.device_line(alloc, d, line, Task::Work)?;
-        Ok(good)
+        let at = match place_of(&self.devices, d) {
+            Some(at) => at,
+            None => return Ok(false),
+        };
+        match work_at(
+            alloc,
+            &self.deck,
+            &mut self.devices,
+            &mut self.outlines,
+            at,
+            d,
+            line,
+        )? {
+            Some(next) => {
+                self.go_on(next);
+                Ok(true)
+            }
+            None => Ok(false),
+        }
     }
 
     /// The SENSE of a command that ends so on the plain device.
@@ -235,21 +261,24 @@ impl Auditor {
         Ok(good)
     }
 
-    /// The first line behind a piece of work of this event, which is taken as done.
+    /// A piece of work of this event is taken as done.
     fn settle_line(
         &mut self,
-        alloc: Global,
         d: DeviceNo,
-        line: &ReportLine,
         event: Option<EventLine>,
-        did: Did,
+        did: &Did,
     ) -> Result<bool, NoMemory>
-        ensures { IfOk result (λ good. (s : AuditState) (more : Bool) → IsFor self.old s → s.due ≡ Behind more did → worker_number s ≡ Some d →
+        ensures { IfOk result (λ good. (s : AuditState) (more : Bool) → IsFor self.old s → s.due ≡ Behind more did.now → worker_number s ≡ Some d →
             event ≡ first_event s.events →
-            Makes good self.new (then_of (device_in s.devices d) (λ a. Some (settled_by s a did (over_by a did a.history.running))))) }
+            Makes good self.new (then_of (device_in s.devices d) (λ a. Some (settled_by s a did.now (over_by a did.now a.history.running))))) }
     {
-        let good = self.device_line(alloc, d, line, Task::Settle(event, did))?;
-        Ok(good)
+        let at = match place_of(&self.devices, d) {
+            Some(at) => at,
+            None => return Ok(false),
+        };
+        let next = settle_at(&mut self.devices, &mut self.outlines, at, event, did)?;
+        self.go_on(next);
+        Ok(true)
     }
 
     /// The OVER line that the event's work brings.
@@ -629,6 +658,24 @@ impl Auditor {
         }
     }
 
+    /// A line where the next one is due.
+    fn next_placed(
+        &mut self,
+        alloc: Global,
+        line: &ReportLine,
+    ) -> Result<Option<AuditWhy>, NoMemory>
+        ensures { IfOk result (λ why. (s : AuditState) → IsFor self.old s → s.due ≡ Next → IsJudged why self.new (placed s line.now)) }
+    {
+        if !self.is_placed(line, &Due::Next) {
+            return Ok(Some(AuditWhy::Place));
+        }
+        if self.next_line(alloc, line)? {
+            Ok(None)
+        } else {
+            Ok(Some(AuditWhy::History))
+        }
+    }
+
     /// What the device did that is at the end of a piece of work may be so.
     fn is_legal(&self, d: DeviceNo, did: &Did) -> bool
         ensures { (s : AuditState) (more : Bool) → IsFor self.now s → s.due ≡ Behind more did.now → worker_number s ≡ Some d → (a : AuditedDevice) →
@@ -655,6 +702,10 @@ impl Auditor {
             }
             return Ok(Some(AuditWhy::History));
         }
+        if legal && is_next(&self.due) {
+            let why = self.next_placed(alloc, line)?;
+            return Ok(why);
+        }
         let due = mem::replace(&mut self.due, Due::Nothing);
         if legal {
             let why = self.placed_line(alloc, line, due)?;
@@ -680,7 +731,7 @@ impl Auditor {
     {
         let legal = self.is_legal(d, &did);
         let event = self.event();
-        if !self.settle_line(alloc, d, line, event, did)? {
+        if !self.settle_line(d, event, &did)? {
             return Ok(Some(idle_fault(line)));
         }
         let why = self.settled_line(alloc, line, legal)?;
@@ -709,6 +760,19 @@ impl Auditor {
         } else {
             Ok(Some(AuditWhy::History))
         }
+    }
+
+    /// Takes the DATA line of the bytes that a command sent, where that is due. Else nothing changes.
+    pub fn takes_data(&mut self, text: &[u8]) -> bool
+        ensures taken { result ≡ true → (s : AuditState) → IsAuditOf self.old s → IsJudged None self.new (judged_text s text.now) }
+        ensures same { result ≡ false → self.new ≡ self.old }
+    {
+        if !is_due_data(&self.due, text) {
+            return false;
+        }
+        let due = mem::replace(&mut self.due, Due::Nothing);
+        self.due = behind_data(due);
+        true
     }
 
     /// Judges the report's next line: none, or the fault that it shows, behind which nothing is said of the auditor.

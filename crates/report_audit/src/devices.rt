@@ -1,10 +1,14 @@
-ghost use Rattle.std.specs.Prelude.{Some, slice_get, slice_set, ◌≡◌, ◌<◌, IfOk, IfSome, OnOk, length, map};
+ghost use Rattle.std.specs.Prelude.{List, Some, ℕ, slice_get, slice_set, ◌≡◌, ◌<◌, IfOk, IfSome, OnOk, length, map};
 ghost use Rattle.std.specs.List.{All, list_any};
 ghost use Rattle.deck_audit.specs.declared.kept.Kept.{Kept};
+ghost use Rattle.deck_audit.specs.declared.task.Task.TheVariants.{Settle, Work};
+ghost use Rattle.deck_text.specs.declared.line.PlannedProgram.{PlannedProgram};
+ghost use Rattle.report_text.specs.declared.line.ReportLine.{ReportLine};
 ghost use Rattle.report_audit.specs.Auditor.{IsJudgedAt, IsSized, dark_kept, is_lent, kept_legal, kept_outline, lent_runs, new_kept, place_from, taken_back};
 
 use ckd_types::{DeviceNo, NoMemory};
 use deck_audit::{Did, Kept, OpenProgram, Outline, ReplayedDevice, Task, Then, range_of};
+use deck_plan::EventLine;
 use deck_text::Deck;
 use report_text::ReportLine;
 use std::alloc::Global;
@@ -50,6 +54,50 @@ pub fn judge_at(
     let plans = deck.plans(d);
     let kept = &mut devices[at];
     let next = kept.line(alloc, plans, at, line, task)?;
+    let outline = kept.device.outline();
+    set_outline(outlines, at, outline);
+    Ok(next)
+}
+
+/// The device of that place judges the first line of a piece of work, and its outline is renewed.
+pub fn work_at(
+    alloc: Global,
+    deck: &Deck,
+    devices: &mut [Kept],
+    outlines: &mut [Outline],
+    at: usize,
+    d: DeviceNo,
+    line: &ReportLine,
+) -> Result<Option<Then>, NoMemory>
+    requires { at < length devices.old }
+    ensures outline { IfOk result (λ next. (k : Kept) → slice_get devices.new at ≡ Some k → outlines.new ≡ slice_set outlines.old at (kept_outline k)) }
+    ensures judged { IfOk result (λ next. IsJudgedAt deck.now.programs devices.old devices.new at d line.now Work next) }
+{
+    let _count = devices.len();
+    let plans = deck.plans(d);
+    let kept = &mut devices[at];
+    let next = kept.work_line(alloc, plans, line)?;
+    let outline = kept.device.outline();
+    set_outline(outlines, at, outline);
+    Ok(next)
+}
+
+/// The device of that place takes a piece of work of the event as done, and its outline is renewed.
+pub fn settle_at(
+    devices: &mut [Kept],
+    outlines: &mut [Outline],
+    at: usize,
+    event: Option<EventLine>,
+    did: &Did,
+) -> Result<Then, NoMemory>
+    requires { at < length devices.old }
+    ensures outline { IfOk result (λ next. (k : Kept) → slice_get devices.new at ≡ Some k → outlines.new ≡ slice_set outlines.old at (kept_outline k)) }
+    ensures judged { IfOk result (λ next. (programs : List PlannedProgram) (d : ℕ) (line : ReportLine) →
+        IsJudgedAt programs devices.old devices.new at d line (Settle event did.now) (Some next)) }
+{
+    let _count = devices.len();
+    let kept = &mut devices[at];
+    let next = kept.settle_line(event, did)?;
     let outline = kept.device.outline();
     set_outline(outlines, at, outline);
     Ok(next)

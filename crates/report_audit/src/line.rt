@@ -21,6 +21,9 @@ pub fn judge_text(
     ensures { IfOk result (λ why. (s : AuditState) → IsAuditOf auditor.old s
         → IsJudged why auditor.new (judged_text s text.now)) }
 {
+    if auditor.takes_data(text) {
+        return Ok(None);
+    }
     match read_line(alloc, respelling, text) {
         Ok(line) => auditor.line(alloc, &line),
         Err(LineError::Fault(_)) => Ok(Some(AuditWhy::Form)),

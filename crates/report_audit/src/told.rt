@@ -1,8 +1,9 @@
-ghost use Rattle.std.specs.Prelude.{◌≡◌};
-ghost use Rattle.report_audit.specs.Auditor.{behind_of, cut_at, idle_fault, loose_at, order_told, totals_due};
+ghost use Rattle.std.specs.Prelude.{◌≡◌, true};
+ghost use Rattle.report_audit.specs.Auditor.{IsDueData, behind_data, behind_of, cut_at, idle_fault, loose_at, order_told, totals_due};
 
 use ckd_types::{DeviceNo, TrackNo};
 use deck_audit::{AuditWhy, Did, Due, is_io};
+use report_reading::is_data_of;
 use report_text::{HowOver, LooseAnswer, OrderAnswer, ReportLine};
 
 /// The device and the commands of a program that was cut, where the line tells of one.
@@ -74,6 +75,26 @@ pub fn behind_of(due: Due) -> Result<(bool, Did), Due>
     match due {
         Due::Behind(more, did) => Ok((more, did)),
         due => Err(due),
+    }
+}
+
+/// Whether a text is the DATA line that is due.
+pub fn is_due_data(due: &Due, text: &[u8]) -> bool
+    ensures { result ≡ true → IsDueData due.now text.now }
+{
+    match due {
+        Due::DataOf(e) => is_data_of(text, e.sent.as_slice()),
+        _ => false,
+    }
+}
+
+/// What is due behind the bytes that a command sent.
+pub fn behind_data(due: Due) -> Due
+    ensures { result ≡ behind_data due }
+{
+    match due {
+        Due::DataOf(e) => Due::Behind(true, Did::Ended(e)),
+        due => due,
     }
 }
 

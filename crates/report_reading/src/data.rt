@@ -1,17 +1,18 @@
-ghost use Rattle.std.specs.Prelude.{◌≡◌, ◌<◌, ◌/◌, ◌%◌, ◌∷◌, ◌++◌, false, List, ℕ, MatchOption, codes, slice_index};
+ghost use Rattle.std.specs.Prelude.{◌≡◌, ◌<◌, ◌≤◌, ◌/◌, ◌%◌, ◌&&◌, ◌∷◌, ◌++◌, false, true, List, ℕ, MatchOption, Ok, drop, length, map, slice_index};
 ghost use Rattle.std.specs.Str.{bytes_eq};
 ghost use Rattle.hex.specs.Hex.{encode_upper, upper_digits};
 ghost use Rattle.report_text.specs.declared.line.ReportLine.TheVariants.{Data};
 ghost use Rattle.report_text.specs.Lines.{text_of};
+ghost use Rattle.report_reading.specs.Reading.{line_of};
+
+use crate::ranges::bytes_range;
+use crate::reads_back;
+use std::simd::prelude::*;
 
 /// What the text of a DATA line begins with.
-pub const DATA_HEAD: &[u8; 5] = b"DATA ";
+const DATA_HEAD: &[u8; 5] = b"DATA ";
 
-/// A law: a DATA line is its head and the digits of its bytes, those of a front before those of the rest. So a long line
-/// can be compared piece by piece.
-pub fn data_in_pieces()
-    ensures { (front rest : List ℕ) → text_of (Data (front ++ rest)) ≡ (codes "DATA " ++ encode_upper front) ++ encode_upper rest }
-{}
+const DIGITS: [u8; 16] = *b"0123456789ABCDEF";
 
 fn digit_of(n: u8) -> u8
     requires { n < 16 }
@@ -31,8 +32,8 @@ fn after_byte(text: &[u8], b: u8) -> Option<&[u8]>
     text.strip_prefix(&[high, low])
 }
 
-/// Whether these are exactly the digits of some bytes, in upper case.
-pub fn are_digits_of(digits: &[u8], bytes: &[u8]) -> bool
+/// Whether these are the digits of few bytes.
+fn are_few_digits(digits: &[u8], bytes: &[u8]) -> bool
     ensures { result ≡ bytes_eq digits.now (encode_upper bytes.now) }
 {
     let mut rest = digits;
@@ -43,4 +44,80 @@ pub fn are_digits_of(digits: &[u8], bytes: &[u8]) -> bool
         }
     }
     rest.is_empty()
+}
+
+/// The first digits of sixteen bytes.
+#[inline(always)]
+fn first_digits(bytes: u8x16) -> u8x16
+    ensures { result ≡ map (λ b. slice_index upper_digits (b / 16)) bytes }
+{
+    u8x16::from_array(DIGITS).swizzle_dyn(bytes >> u8x16::splat(4))
+}
+
+/// The second digits of sixteen bytes.
+#[inline(always)]
+fn second_digits(bytes: u8x16) -> u8x16
+    ensures { result ≡ map (λ b. slice_index upper_digits (b % 16)) bytes }
+{
+    u8x16::from_array(DIGITS).swizzle_dyn(bytes & u8x16::splat(15))
+}
+
+/// The digits of sixteen bytes.
+#[inline(always)]
+fn digits_of(bytes: u8x16) -> (u8x16, u8x16)
+    ensures long { (length result.0 ≡ 16) × (length result.1 ≡ 16) }
+    ensures text { result.0 ++ result.1 ≡ encode_upper bytes }
+{
+    let first = first_digits(bytes);
+    let second = second_digits(bytes);
+    (
+        first.shuffle(
+            second,
+            [0, 16, 1, 17, 2, 18, 3, 19, 4, 20, 5, 21, 6, 22, 7, 23],
+        ),
+        first.shuffle(
+            second,
+            [8, 24, 9, 25, 10, 26, 11, 27, 12, 28, 13, 29, 14, 30, 15, 31],
+        ),
+    )
+}
+
+/// Whether a text begins with the digits of the first sixteen bytes.
+#[inline(always)]
+fn begins_with_block(text: &[u8], bytes: &[u8]) -> bool
+    requires text { 32 ≤ length text.now }
+    requires bytes { 16 ≤ length bytes.now }
+    ensures { bytes_eq text.now (encode_upper bytes.now) ≡ (result && bytes_eq (drop 32 text.now) (encode_upper (drop 16 bytes.now))) }
+{
+    let (front, back) = digits_of(u8x16::from_slice(bytes));
+    u8x16::from_slice(text) == front && u8x16::from_slice(&text[16..]) == back
+}
+
+/// Whether these are exactly the digits of some bytes, in upper case.
+fn are_digits_of(digits: &[u8], bytes: &[u8]) -> bool
+    ensures { result ≡ bytes_eq digits.now (encode_upper bytes.now) }
+{
+    let mut text = digits;
+    let mut rest = bytes;
+    'blocks: while rest.len() >= 16 && text.len() >= 32 {
+        if !begins_with_block(text, rest) {
+            return false;
+        }
+        text = &text[32..];
+        rest = &rest[16..];
+    }
+    are_few_digits(text, rest)
+}
+
+/// Whether a text is the DATA line of these bytes.
+pub fn is_data_of(text: &[u8], bytes: &[u8]) -> bool
+    ensures text { result ≡ bytes_eq text.now (text_of (Data bytes.now)) }
+    ensures read { result ≡ true → line_of text.now ≡ Ok (Data bytes.now) }
+{
+    bytes_range(bytes);
+    reads_back();
+    match text.strip_prefix(DATA_HEAD) {
+        Some(digits) => are_digits_of(digits, bytes),
+        None => false,
+    }
 }

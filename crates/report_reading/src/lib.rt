@@ -2,6 +2,7 @@
 #![tactic(auto)]
 
 mod data;
+mod end_ahead;
 mod fault;
 mod law;
 mod line_words;
@@ -11,7 +12,7 @@ mod read;
 mod read_answers;
 mod read_lines;
 
-pub use data::{DATA_HEAD, are_digits_of, data_in_pieces};
+pub use data::is_data_of;
 pub use fault::{LineError, LineFault};
 pub use law::{is_read_back, reads_back};
 pub use ranges::in_ranges;

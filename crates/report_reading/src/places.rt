@@ -118,7 +118,7 @@ pub fn side_at(words: &LineWords, i: usize) -> Result<Side, LineFault>
     side_of(word).ok_or(LineFault::Word)
 }
 
-fn note_of(word: &[u8]) -> Option<Note>
+pub fn note_of(word: &[u8]) -> Option<Note>
     ensures { result ≡ note_of word.now }
 {
     if is_key(word, Keyword::Plain) {

@@ -46,7 +46,7 @@ fn byte_range(n: &u8)
     let _n = *n;
 }
 
-fn bytes_range(bytes: &[u8])
+pub fn bytes_range(bytes: &[u8])
     ensures { IsBytes bytes.now }
 {
     let _bytes = bytes;

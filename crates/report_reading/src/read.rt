@@ -1,12 +1,13 @@
-ghost use Rattle.std.specs.Prelude.{◌≡◌, Ok, IfOk};
+ghost use Rattle.std.specs.Prelude.{◌≡◌, Ok, IfOk, IfSome};
 ghost use Rattle.report_text.specs.Lines.{text_of};
 ghost use Rattle.report_reading.specs.Reading.{Reads, data_line, line_by, line_of};
 
+use crate::end_ahead::end_ahead;
 use crate::line_words::LineWords;
 use crate::places::{is_key, word_at};
 use crate::read_lines::event_line;
-use crate::{LineError, LineFault};
-use ckd_types::Bytes;
+use crate::{LineError, LineFault, is_read_back};
+use ckd_types::{Bytes, NoMemory};
 use hex::FromHexError;
 use report_text::{Keyword, ReportLine, Respelling};
 use std::alloc::Global;
@@ -35,6 +36,22 @@ fn line_by(alloc: Global, words: &LineWords) -> Result<ReportLine, LineError>
     Ok(line)
 }
 
+/// The END line that a text is, if it is one.
+fn end_of(respelling: &mut Respelling, text: &[u8]) -> Result<Option<ReportLine>, NoMemory>
+    ensures { IfOk result (λ found. IfSome found (λ line. (line_of text.now ≡ Ok line) × (text_of line ≡ text.now))) }
+{
+    let Some(end) = end_ahead(text) else {
+        return Ok(None);
+    };
+    let line = ReportLine::End(end);
+    is_read_back(&line);
+    if respelling.is_text_of(&line, text)? {
+        Ok(Some(line))
+    } else {
+        Ok(None)
+    }
+}
+
 /// The line of a report, a history or a summary that a text without a line feed is, or its first fault. It takes
 /// memory for the bytes of a DATA line, and where a line is longer than all before, since it is spelled again and
 /// compared.
@@ -47,6 +64,10 @@ pub fn read_line(
     ensures read { Reads result (line_of text.now) }
     ensures exact { IfOk result (λ line. text_of line ≡ text.now) }
 {
+    // most lines of a long report
+    if let Some(line) = end_of(respelling, text)? {
+        return Ok(line);
+    }
     let line = line_by(alloc, &LineWords::of(text))?;
     if respelling.is_text_of(&line, text)? {
         Ok(line)

@@ -1,22 +1,7 @@
-use Rattle.std.proofs.Common.{◌+◌, ◌∙◌, ap, sym, drop}
-use Rattle.std.specs.Str.{bytes_eq}
-use Rattle.hex.specs.Hex.{encode_upper}
-use Rattle.report_reading.proofs.DataPieces.{at_end, digits_on}
+use Rattle.std.proofs.Common.{◌∙◌}
+use Rattle.report_reading.proofs.DataPieces.{next_block}
 use Rattle.report_reading.proofs.data.are_digits_of.Goals as goal
 
-pub returns-in-None : goal.returns-in-None
-returns-in-None c =
-    sym
-    (c.loop-b.invariant
-    ∙ ap (bytes_eq c.loop-b.rest.now) (digits_on c.args.bytes.now c.loop-b.b-index c.loop-b-test.true)
-    ∙ c.in-None.ensures (encode_upper (drop (c.loop-b.b-index + 1) c.args.bytes.now)))
-
-pub loop-b-preserved : goal.loop-b-preserved
-loop-b-preserved c =
-    c.loop-b.invariant
-    ∙ ap (bytes_eq c.loop-b.rest.now) (digits_on c.args.bytes.now c.loop-b.b-index c.loop-b-test.true)
-    ∙ c.in-Some.ensures (encode_upper (drop (c.loop-b.b-index + 1) c.args.bytes.now))
-
-pub returns : goal.returns
-returns c =
-    c.is_empty.ensures ∙ sym (c.loop-b.invariant ∙ at_end c.loop-b.rest.now c.args.bytes.now c.loop-b.b-index c.loop-b-test.false)
+pub blocks-2-preserved : goal.blocks-2-preserved
+blocks-2-preserved c = c.blocks-2.invariant ∙ next_block c.blocks-2.text.now c.blocks-2.rest.now c.begins_with_block.result
+    c.begins_with_block.ensures c.if-not-begins_with_block.false

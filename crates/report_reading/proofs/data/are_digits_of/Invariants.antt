@@ -1,8 +1,11 @@
-use Rattle.std.proofs.Common.{◌≡◌, drop}
+use Rattle.std.proofs.Common.{◌≡◌, length}
 use Rattle.std.specs.Str.{bytes_eq}
 use Rattle.hex.specs.Hex.{encode_upper}
 use Rattle.report_reading.proofs.data.are_digits_of.Given as goal
 
 -- the rest of the digits and of the bytes decide
-abbrev pub invariant-loop-b : goal.invariant-loop-b
-invariant-loop-b l = bytes_eq l.digits (encode_upper l.bytes) ≡ bytes_eq l.rest (encode_upper (drop l.b-index l.bytes))
+abbrev pub invariant-blocks-2 : goal.invariant-blocks-2
+invariant-blocks-2 l = bytes_eq l.digits (encode_upper l.bytes) ≡ bytes_eq l.text (encode_upper l.rest)
+
+abbrev pub decreases-blocks-2 : goal.decreases-blocks-2
+decreases-blocks-2 l = length l.rest

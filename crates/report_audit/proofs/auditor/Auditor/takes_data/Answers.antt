@@ -1,0 +1,6 @@
+use Rattle.report_audit.proofs.AuditorDues.{data_taken}
+use Rattle.report_audit.proofs.auditor.Auditor.takes_data.Goals as goal
+
+pub returns-clause-taken : goal.returns-clause-taken
+returns-clause-taken c = λ is s i.
+    rw (c.behind_data.ensures, c.replace-due.ensures.value) (data_taken c.args.self.now s i c.args.text.now (c.is_due_data.ensures c.if-not-is_due_data.false))
