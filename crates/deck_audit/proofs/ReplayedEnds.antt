@@ -1,6 +1,6 @@
 -- A device that is replayed ends the next command as the history says.
 use Rattle.std.proofs.Common.{◌≡◌, ℕ, List, Option, Some, None, refl, sym, ap, subst, ◌∙◌}
-use Rattle.std.specs.Prelude.{is_none, false}
+use Rattle.std.specs.Prelude.{is_none, false, true}
 use Rattle.ckd_types.specs.declared.channel.Ccw.{Ccw}
 use Rattle.ckd_types.specs.declared.channel.CommandEnd.{CommandEnd}
 use Rattle.ckd_types.specs.Ccw.{ccw_at}
@@ -16,13 +16,14 @@ use Rattle.plain_defs.specs.Legal.{edit_at}
 use Rattle.plain_defs.specs.PlainState.{PlainState}
 use Rattle.plain_defs.specs.Program.{Part}
 use Rattle.plain_device.specs.Between.{effect_of}
+use Rattle.deck_audit.specs.declared.replayed.Pending.{Pending}
 use Rattle.deck_audit.specs.declared.replayed.Running.{Running}
 use Rattle.deck_audit.specs.declared.state.HalfWrite.{HalfWrite}
 use Rattle.deck_audit.specs.Device.{AuditedDevice, edit_of, is_edit_legal, is_next_legal, loosens, may_loosen}
 use Rattle.deck_audit.specs.Device.{part_of_open, plain_end, plain_end_at, words_of_open}
 use Rattle.deck_audit.specs.Follows.{EndsAs, Follows, FollowsProgram, IsAt, RunsAs, pending_by}
 use Rattle.deck_audit.specs.Replay as replay
-use Rattle.deck_audit.specs.Replayed.{PendingState, ReplayedState}
+use Rattle.deck_audit.specs.Replayed.{PendingState, ReplayedState, pending_of}
 
 -- the effect of the command of a word, on the part that a device and a chain are at
 module _ (p : Part) (ccws : List Ccw) (device : PlainState) (chain : ChainState) (ends : List CommandEnd) (path : ℕ)
@@ -75,6 +76,38 @@ end_here v s o e same runs is more =
     ∙ some_end v o o.chain.at.next more
     ∙ ap (λ (x : Option Running). replay.next_end_by v x) (sym runs)
     ∙ ap (λ (x : ReplayedState). replay.next_end x) same
+
+-- no program runs, or it is over
+pub next_of_none : (r : ReplayedState) → r.running ≡ None → replay.IsNext r None None
+next_of_none r none = (
+  ap (λ (x : Option Running). replay.next_end_by r x) (sym none),
+  ap (λ (x : Option Running). record r { running = x }) (sym none) ∙ ap (λ (x : Option Running). replay.ended_by r x) (sym none),
+)
+
+pub next_of_over : (r : ReplayedState) (o : Running) → r.running ≡ Some o → is_none o.chain.at.next ≡ true → replay.IsNext r None (Some o)
+next_of_over r o runs over = by_next o.chain.at.next refl over where
+  by_next : (next : Option ℕ) → o.chain.at.next ≡ next → is_none next ≡ true → replay.IsNext r None (Some o)
+  by_next (Some i) is over = absurd (cc)
+  by_next None is over = (
+    sym (ap (λ (x : Option Running). replay.next_end_by r x) runs ∙ ap (λ (n : Option ℕ). replay.next_end_at r o n) is),
+    ap (λ (x : Option Running). record r { running = x }) (sym runs)
+        ∙ sym (ap (λ (x : Option Running). replay.ended_by r x) runs ∙ ap (λ (n : Option ℕ). replay.ended_at r o n) is),
+  )
+
+-- its next command
+pub next_of_more : (r : ReplayedState) (o : Running) (e : CommandEnd) (p : Pending) (c : ChainState) → r.running ≡ Some o → is_none o.chain.at.next ≡ false →
+    e ≡ end_with o.chain (replay.effect_at r o).outcome → c ≡ behind o.chain (replay.effect_at r o).outcome →
+    pending_of p ≡ record { edit = (replay.effect_at r o).edit; paths = (replay.effect_at r o).paths; provisional = is_provisional o.chain.at.stance.extent } →
+    replay.IsNext r (Some (e, p)) (Some (record o { chain = c }))
+next_of_more r o e p c runs more is goes pends = by_next o.chain.at.next refl more where
+  by_next : (next : Option ℕ) → o.chain.at.next ≡ next → is_none next ≡ false → replay.IsNext r (Some (e, p)) (Some (record o { chain = c }))
+  by_next None at more = absurd (cc)
+  by_next (Some i) at more = (
+    ap (λ (x : CommandEnd). Some x) is ∙ sym (ap (λ (x : Option Running). replay.next_end_by r x) runs ∙ ap (λ (n : Option ℕ). replay.next_end_at r o n) at),
+    ap (λ (x : ChainState). record r { running = Some (record o { chain = x }); pending = Some (pending_of p) }) goes
+        ∙ ap (λ (w : PendingState). record r { running = Some (record o { chain = behind o.chain (replay.effect_at r o).outcome }); pending = Some w }) pends
+        ∙ sym (ap (λ (x : Option Running). replay.ended_by r x) runs ∙ ap (λ (n : Option ℕ). replay.ended_at r o n) at),
+  )
 
 program_as : (r : ReplayedState) (a : AuditedDevice) (o : OpenEntry) (q : Running) (w : Option PendingState) → Follows r a → r.running ≡ Some q
     → r.pending ≡ w → a.history.running ≡ Some o → FollowsProgram a r.device (Some q) w (Some o)
