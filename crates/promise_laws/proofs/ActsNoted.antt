@@ -89,7 +89,7 @@ use Rattle.device_laws.proofs.TrackMarks as M
 use Rattle.device_laws.proofs.TrackMarks.{marks, is_good, track_at}
 use Rattle.device_laws.proofs.walks.Within.{always, within_always, within_weaker}
 use Rattle.device_laws.proofs.walks.Moves.{Shut, IsKept, stays, IsEnded, ends_keep}
-use Rattle.device_laws.proofs.walks.Events.{follow_comes}
+use Rattle.device_laws.proofs.walks.Events.{reaches_any, follow_comes}
 use Rattle.device_laws.proofs.walks.Writes.{work_comes}
 
 -- Kinds of acts
@@ -182,12 +182,13 @@ module _ {F P H R : Type 0} (c : Contents F P H R) where
 pub follow_acts : (n first : ℕ) (chain : ChainState) (t : ℕ) (s : MarksStore) → list_all takes_none s.acts ≡ true →
     Had (follow by_plain n first chain t s) (λ z _. list_all takes_none z.acts ≡ true)
 follow_acts n first chain t s f =
-    had_always (within_always (within_weaker (follow_comes {w = always} {kind = Shut} {c = by_plain} {k = tt} {s = s} refl n first tt chain t s stays)
+    had_always (within_always (within_weaker (follow_comes {w = always} {kind = Shut} {c = by_plain} {k = tt} {s = s} refl (reaches_any (λ q. tt))
+    n first tt chain t s tt stays)
     (λ m z a moves. ends_keep (kept by_plain) (half_ended by_plain) f moves)))
 
 pub work_acts : (s : MarksStore) → list_all takes_none s.acts ≡ true → Had (work by_plain s) (λ z _. list_all takes_none z.acts ≡ true)
 work_acts s f =
-    had_always (within_always (within_weaker (work_comes {w = always} {kind = Shut} {c = by_plain} {k = tt} {s = s} refl s stays)
+    had_always (within_always (within_weaker (work_comes {w = always} {kind = Shut} {c = by_plain} {k = tt} {s = s} refl s (λ t ts is. tt) stays)
     (λ m z a moves. ends_keep (kept by_plain) (half_ended by_plain) f moves)))
 
 -- The loss of the cache

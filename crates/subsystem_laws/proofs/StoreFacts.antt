@@ -28,6 +28,7 @@ use Rattle.device_laws.proofs.Always.{Always}
 use Rattle.device_laws.proofs.walks.Within.{always, within_always, within_done, within_weaker}
 use Rattle.device_laws.proofs.walks.Moves.{Kind, Shut, Half, Losing, stays, moved, IsKept, moves_keep, IsEnded, ends_keep}
 use Rattle.device_laws.proofs.walks.Events.{
+  reaches_any,
   quiet_leaves,
   command_leads,
   second_leads,
@@ -174,16 +175,16 @@ module _ {F P H R : Type 0} (c : Contents F P H R) (Q : Facts → Type 0) (bears
 
   pub command_leaves : (d : Device F P H) → So d.store → Leaves (command c d)
   command_leaves d f =
-      within_always (command_leads always c tt d (λ n e. So e.store) f (λ n e m. ends_keep shut_kept (facts_ended Shut) f m))
+      within_always (command_leads always c tt d (reaches_any (λ t. tt)) (λ chain t is e. tt) (λ n e. So e.store) f (λ n e m. ends_keep shut_kept (facts_ended Shut) f m))
 
   pub background_leaves : (d : Device F P H) → So d.store → Leaves (background c d)
-  background_leaves d f = within_always (within_weaker (background_leads always c tt d) (λ n e a m. ends_keep shut_kept (facts_ended Shut) f m))
+  background_leaves d f = within_always (within_weaker (background_leads always c tt d (λ t ts is. tt)) (λ n e a m. ends_keep shut_kept (facts_ended Shut) f m))
 
   pub second_leaves : (d : Device F P H) → So d.store → Leaves (second c d)
   second_leaves d f = within_always (within_weaker (second_leads always c tt d Half (λ e. absurd (cc))) (λ n e a m. ends_keep half_kept (facts_ended Half) f m))
 
   pub peek_leaves : (d : Device F P H) (t : ℕ) → So d.store → Leaves (peek c d t)
-  peek_leaves d t f = within_always (within_weaker (peek_leads always c tt d Half t) (λ n e a m. ends_keep half_kept (facts_ended Half) f m))
+  peek_leaves d t f = within_always (within_weaker (peek_leads always c tt d Half t tt) (λ n e a m. ends_keep half_kept (facts_ended Half) f m))
 
   pub lose_leaves : (d : Device F P H) (loss : Loss) → So d.store → ((x : Facts) → Q x → MayFall loss x) → Leaves (lose c d loss)
   lose_leaves d loss f falls =

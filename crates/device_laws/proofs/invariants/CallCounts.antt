@@ -9,7 +9,6 @@ use Rattle.loss_model.specs.declared.Loss.TheVariants as losses
 use Rattle.plain_defs.specs.declared.journal.Act.TheVariants.{CfwLost, Loosen, Harden}
 use Rattle.track_image.specs.Image.{Image}
 use Rattle.device_outside.specs.Interaction.{Interaction}
-use Rattle.device_outside.specs.Pool.{Call}
 use Rattle.device_defs.specs.declared.usage.Usage.{Usage}
 use Rattle.device_defs.specs.Background.{work}
 use Rattle.device_defs.specs.Choosing.{provisionally_written}
@@ -46,7 +45,7 @@ use Rattle.device_laws.proofs.Based.{
   acted_base,
   based_forget,
 }
-use Rattle.device_laws.proofs.walks.Within.{Policy, Within, within_done, within_try, within_ask, within_read, within_write, within_tell, within_weaker}
+use Rattle.device_laws.proofs.walks.Within.{Policy, Inner, inner_hushed, Within, within_done, within_try, within_ask, within_read, within_write, within_tell, within_weaker}
 use Rattle.device_laws.proofs.walks.Moves.{Kind, Shut, Half, Emptied, Losing, Moves, stays, Ends, Goes, Comes, IsKept, moves_keep, IsEnded, ends_keep}
 use Rattle.device_laws.proofs.walks.Reads.{
   over_moves,
@@ -64,13 +63,18 @@ use Rattle.device_laws.proofs.walks.Writes.{write_comes, second_part_goes, work_
 
 -- what a device is goes along, with the calls that it counts
 abbrev pub calls : Policy Base
-calls = record { had = λ ok. true; read = λ b ok. Some (read_base b ok); wrote = λ b ok. Some (write_base b ok) }
+calls = record {
+  had = λ ok. true;
+  read = λ b ok. Some (read_base b ok);
+  wrote = λ b ok. Some (write_base b ok);
+  wants = λ device t. Unit {0};
+}
 
-pub within_based : {R S A : Type 0} {base : S → Base} {may : Call → Type 0} {b : Base} {i : Interaction R Image S A} →
-    Within calls may (λ n s a. base s ≡ n) b i → Based base may b i
+pub within_based : {R S A : Type 0} {base : S → Base} {b : Base} {i : Interaction R Image S A} →
+    Within calls (Inner calls) (λ n s a. base s ≡ n) b i → Based base Hushed b i
 within_based (within_done e) = based_done e
 within_based (within_try x) = based_try (λ ok. within_based (x ok refl))
-within_based (within_ask m x) = based_ask m (λ a. within_based (x a))
+within_based (within_ask {call = call} m x) = based_ask (inner_hushed calls call m) (λ a. within_based (x a))
 within_based {b = b} (within_read x) = based_read (λ got. within_based (x got (read_base b (is_some got)) refl))
 within_based {b = b} (within_write x) = based_write (λ ok. within_based (x ok (write_base b ok) refl))
 within_based (within_tell x) = based_tell (λ r. within_based (x r refl))
@@ -208,10 +212,10 @@ module _ {F P H R : Type 0} (c : Contents F P H R) where
   level_steady s t = moves_steady s (within_weaker (level_goes s t stays) (λ n z g x. x.0))
 
   pub image_steady : (s : Store F P H) (u : Usage) (t : ℕ) → Steady s (image c s u t)
-  image_steady s u t = moves_steady s (image_goes s u t stays)
+  image_steady s u t = moves_steady s (image_goes s u t tt stays)
 
   pub track_steady : (s : Store F P H) (t : ℕ) → Steady s (peek_track c s t)
-  track_steady s t = moves_steady s (track_goes s t stays)
+  track_steady s t = moves_steady s (track_goes s t tt stays)
 
   pub write_steady : (s : Store F P H) (u : Usage) (first t : ℕ) (old : Image) (e : Edit) → Steady s (write c s u first t old e)
   write_steady s u first t old e = ends_steady s (write_comes refl s u first t old e stays)
@@ -222,4 +226,4 @@ module _ {F P H R : Type 0} (c : Contents F P H R) where
       (λ n z a m. moves_keep {q = Counts} (calls_kept Half (λ loss e. absurd (cc))) refl m))
 
   pub work_steady : (s : Store F P H) → Steady s (work c s)
-  work_steady s = ends_steady s (work_comes refl s stays)
+  work_steady s = ends_steady s (work_comes refl s (λ t ts is. tt) stays)
