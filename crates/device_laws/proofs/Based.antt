@@ -111,28 +111,3 @@ based_had {S = S} {A = X} {base = base} {may = may} f x w = based_then (had_by f
     by_answer : (s : S) (o : Option X) → Based base may (base s) (had_by f s o)
     by_answer s (Some a) = w s a
     by_answer s None = based_done refl
-
--- Changes of a store that leave its base
-
-abbrev count_from : ℕ → List Act → ℕ
-count_from n acts = fold (λ k act. k + (if is_loss act then 1 else 0)) n acts
-
-one_act : (n : ℕ) (acts : List Act) (act : Act) → is_loss act ≡ false → count_from n (acts ++ act ∷ []) ≡ count_from n acts
-one_act n [] act e = ap (λ (b : Bool). n + (if b then 1 else 0)) e ∙ (let same : n + 0 ≡ n = omega arith in same)
-one_act n (x ∷ acts) act e = one_act (n + (if is_loss x then 1 else 0)) acts act e
-
-module _ {F P H : Type 0} where
-  pub base_if : (x : Bool) (s z : Store F P H) {b : Base} → base_of s ≡ b → base_of z ≡ b → base_of (if x then s else z) ≡ b
-  base_if true s z e f = e
-  base_if false s z e f = f
-
-  -- an act that is no loss
-  pub acted_base : (s : Store F P H) (act : Act) → is_loss act ≡ false → base_of (act_noted s act) ≡ base_of s
-  acted_base s act e = ap (λ (n : ℕ). record (base_of s) { gone = n }) (one_act 0 s.acts act e)
-
-  pub stale_base : (s : Store F P H) (t : ℕ) → base_of (stale_everywhere s t) ≡ base_of s
-  stale_base s t = base_if s.paired _ _ refl refl
-
-  pub down_base : (s : Store F P H) (side : Side) → base_of (down s side) ≡ base_of s
-  down_base s A = refl
-  down_base s B = refl

@@ -1,6 +1,6 @@
 -- The primitive moves of a device's tracks and sides, and what is kept by each is kept by all.
-use Rattle.std.proofs.Common.{[], ◌≡◌, ◌≤◌, ℕ, Bool, true, false, List, ◌∷◌, ◌++◌, Option, Some, None, is_some, ◌⊎◌, refl, sym, subst}
-use Rattle.std.specs.Prelude.{length, nat_lt, if◌then◌else◌}
+use Rattle.std.proofs.Common.{[], ◌≡◌, ◌≤◌, ℕ, Bool, true, false, List, ◌∷◌, ◌++◌, Option, Some, None, is_some, ◌⊎◌}
+use Rattle.std.specs.Prelude.{length, nat_lt}
 use Rattle.ckd_types.specs.declared.paths.Side.{Side}
 use Rattle.ckd_types.specs.declared.paths.Side.TheVariants as sides
 use Rattle.ckd_types.specs.declared.record.Edit.{Edit}
@@ -266,74 +266,3 @@ ends_keep f e x (moved {z = z} m) = e.weaker _ z (moves_keep f x m)
 ends_keep f e x (opens {z = z} m t i origin is may firm) = e.opens _ z t i origin is may firm (moves_keep f x m)
 ends_keep f e x (opens_cleaned {z = z} m t i origin is may firm) = e.opens_cleaned _ z t i origin is may firm (moves_keep f x m)
 ends_keep f e x (then_pays {z = z} m t o) = e.pays _ z t o (ends_keep f e x m)
-
--- Each move leaves the number of the device
-
-module _ {F P H : Type 0} {n : ℕ} where
-  device_if : (b : Bool) (x y : Store F P H) → x.device ≡ n → y.device ≡ n → (if b then x else y).device ≡ n
-  device_if true x y e f = e
-  device_if false x y e f = f
-
-  device_stale : (z : Store F P H) (side : Side) (t : ℕ) (b : Bool) → z.device ≡ n → (with_stale z side t b).device ≡ n
-  device_stale z sides.A t b e = e
-  device_stale z sides.B t b e = e
-
-  device_down : (z : Store F P H) (side : Side) → z.device ≡ n → (down z side).device ≡ n
-  device_down z sides.A e = e
-  device_down z sides.B e = e
-
-module _ {K F P H R : Type 0} (w : Policy K) (kind : Kind) (c : Contents F P H R) where
-  device_kept : (d : ℕ) → IsKept w kind c (λ n z. z.device ≡ d)
-  device_kept d = record {
-    reads = λ m n z ok is e. e;
-    writes = λ m n z ok is e. e;
-    falls_reading = λ m n z side pair is e. device_down (read_counted z false) side e;
-    falls_writing = λ m n z side pair is e. device_down (write_counted z false) side e;
-    falls = λ n z side lost e. device_down z side e;
-    takes = λ n z t is up e. device_if z.b.up _ _ e e;
-    levels = λ n z side t e. device_stale z side t false e;
-    spoils = λ n z t is alone why e. e;
-    stales = λ n z t half away e. device_if z.paired _ _ e e;
-    firms = λ n z t is loose why e. device_if z.paired _ _ e e;
-    firms_taken = λ m n z t is loose up wrote e. let y = stale_everywhere (hardened z t) t in
-        device_if y.b.up _ _ (device_if z.paired _ _ e e) (device_if z.paired _ _ e e);
-    marks = λ n z t f bare is clean e. e;
-    hardens = λ n z t bare loose e. e;
-    loses = λ n z t bare none half e. e;
-    drops = λ n z t clean e. e;
-    fills = λ n z t i patched is plain e. e;
-    frames = λ n z t o bare why e. e;
-    renews = λ n z t i f bare is e. e;
-    unframes = λ n z t may e. e;
-    patches = λ n z t e. e;
-    unpatches = λ n z t slot e. e;
-    queues = λ n z t room e. e;
-    dequeues = λ n z ts less e. e;
-    edits = λ n z t edit e. e;
-    goes_fast = λ n z t i edit slot there e. e;
-    goes_provisionally = λ n z t i edit is e. device_if (is_loose z t) _ _ e e;
-    goes_back = λ n z may some e. e;
-    loses_loose = λ n z lossy some e. e;
-    closes = λ n z why e. e;
-    cuts = λ n z h bypass edit is e. e;
-    notes = λ n z loss lossy e. e;
-    pays = λ n z t o e. e;
-  }
-
-  device_ended : (d : ℕ) → IsEnded w kind c (λ n z. z.device ≡ d) (λ n z. z.device ≡ d)
-  device_ended d = record {
-    weaker = λ n z e. e;
-    opens = λ n z t i origin is may firm e. e;
-    opens_cleaned = λ n z t i origin is may firm e. e;
-    pays = λ n z t o e. e;
-  }
-
-module _ {K F P H R : Type 0} {w : Policy K} {kind : Kind} {c : Contents F P H R} {k : K} {s : Store F P H} where
-  -- so a frame of a track of that device may be wanted along the way
-  pub still_wants : {n : K} {z : Store F P H} (t : ℕ) → w.wants s.device t → Moves w kind c k s n z → w.wants z.device t
-  still_wants t on m =
-      subst (λ (d : ℕ). w.wants d t) (sym (moves_keep {q = λ n z. z.device ≡ s.device} (device_kept w kind c s.device) refl m)) on
-
-  pub same_device : {n : K} {z : Store F P H} → Ends w kind c k s n z → z.device ≡ s.device
-  same_device m =
-      ends_keep {q = λ n z. z.device ≡ s.device} {g = λ n z. z.device ≡ s.device} (device_kept w kind c s.device) (device_ended w kind c s.device) refl m

@@ -134,8 +134,8 @@ use Rattle.device_laws.proofs.walks.Moves.{
   cuts,
   notes,
   pays,
-  still_wants,
 }
+use Rattle.device_laws.proofs.walks.Shells.{still_wants}
 
 module _ {F P H : Type 0} where
   half_same : (z : Store F P H) (t : ℕ) (o : Option ℕ) → (gives_up z t o).half ≡ z.half

@@ -167,8 +167,8 @@ use Rattle.device_laws.proofs.walks.Moves.{
   moved,
   opens,
   opens_cleaned,
-  still_wants,
 }
+use Rattle.device_laws.proofs.walks.Shells.{still_wants}
 use Rattle.device_laws.proofs.walks.Reads.{
   moves_if,
   settled_moves,
