@@ -1,22 +1,17 @@
 -- What a device is, and what it counts, goes along with the calls that its interactions make: reads and writes are counted, and those that
 -- fail; nothing else of it is changed, and only the end of an event tells how many tracks wait.
-use Rattle.std.proofs.Common.{[], ◌≡◌, ◌+◌, ℕ, Bool, true, false, List, ◌∷◌, ◌++◌, Option, Some, None, is_some, refl, ap, subst, ◌∙◌, arith}
+use Rattle.std.proofs.Common.{◌≡◌, ℕ, Bool, true, false, Option, Some, None, is_some, refl, ap, subst}
 use Rattle.std.specs.Prelude.{if◌then◌else◌, not, count_by}
-use Rattle.std.specs.List.{fold}
 use Rattle.ckd_types.specs.declared.geometry.Geometry.{Geometry}
 use Rattle.ckd_types.specs.declared.paths.Side.{Side}
-use Rattle.ckd_types.specs.declared.paths.Side.TheVariants.{A, B}
 use Rattle.track_image.specs.Image.{Image}
 use Rattle.device_outside.specs.Interaction.{Interaction, Done, Try, Ask, Read, Write, Tell, and_then}
 use Rattle.device_outside.specs.Keeper.{Message, ReplyTo}
 use Rattle.device_outside.specs.Pool.{Call, TellWaiting, AnswerTo}
 use Rattle.device_outside.specs.Volume.{counted, counted_if}
 use Rattle.device_defs.specs.declared.counts.Counts.{Counts}
-use Rattle.device_defs.specs.Losses.{down, stale_everywhere}
-use Rattle.device_defs.specs.Effects.{act_noted}
 use Rattle.device_defs.specs.Memory.{tried, had_by, and_had}
 use Rattle.device_defs.specs.Store.{Store}
-use Rattle.plain_defs.specs.declared.journal.Act.{Act}
 use Rattle.device_defs.specs.Command.{is_loss}
 
 -- what it is, and what it counts

@@ -40,7 +40,7 @@ use Rattle.device_laws.proofs.walks.Within.{Inner, Within, within_done, within_t
 use Rattle.device_laws.proofs.walks.Moves.{Shut, stays, Ends, moved}
 use Rattle.device_laws.proofs.walks.Reads.{powerless_moves}
 use Rattle.device_laws.proofs.walks.Writes.{work_comes}
-use Rattle.device_laws.proofs.walks.Events.{reaches_any, follow_comes, by_bodies, second_bodies, reset_leads}
+use Rattle.device_laws.proofs.walks.Events.{reaches_any, as_it_was, made_store, follow_comes, by_bodies, second_bodies, reset_leads}
 use Rattle.device_laws.proofs.invariants.CallCounts.{calls, within_based, Steady, parts_count, ends_count, half_ends_count, ends_steady, losing_steady, track_steady}
 
 abbrev pub base_in : {F P H : Type 0} → Device F P H → Base
@@ -63,12 +63,16 @@ module _ {F P H R : Type 0} (c : Contents F P H R) where
   -- the body of each event, on the device behind its front
 
   pub command_body : (d : Device F P H) → Settled d (command_by c d d.history.running d.chain)
-  command_body d = bodies_based d (by_bodies refl (reaches_any (λ t. tt)) d d.history.running d.chain (λ chain t is e. tt) stays)
+  command_body d =
+      bodies_based d (within_weaker
+      (by_bodies {d = d} refl (reaches_any (λ t. tt)) d d.history.running d.chain (λ chain t is e. tt) (as_it_was {z = d.store} stays) stays)
+      (λ n e a m. made_store m))
 
   pub second_body : (d : Device F P H) → Settled d (second_of c d d.store.half)
   second_body d =
       based_forget {base = λ e. base_of e.store}
-      (within_based (within_weaker (second_bodies (λ e. absurd (cc)) d d.store.half refl stays) (λ n e a m. half_ends_count c d.store m)))
+      (within_based (within_weaker (second_bodies {d = d} (λ e. absurd (cc)) d d.store.half refl (as_it_was {z = d.store} stays) stays)
+      (λ n e a m. half_ends_count c d.store (made_store m))))
 
   pub work_body : (d : Device F P H) → Settled d (and_then (work c d.store) (λ s (did : Option Did). Done (with_store d s) did))
   work_body d =

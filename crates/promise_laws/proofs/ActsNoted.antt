@@ -33,20 +33,16 @@ use Rattle.std.specs.List.{list_all}
 use Rattle.std.proofs.Common.{arith}
 use Rattle.std.proofs.lemmas.Bool.{cases_lt, cond_both, eqb-true, eqb-false}
 use Rattle.std.proofs.lemmas.List.{get_or-set_same, get_or-set_other, get_or_past, length-set}
-use Rattle.ckd_types.specs.declared.paths.Side.{Side}
 use Rattle.ckd_types.specs.declared.paths.Side.TheVariants as sides
-use Rattle.ckd_types.specs.declared.record.Edit.{Edit}
 use Rattle.ckd_chain.specs.State.{ChainState}
 use Rattle.loss_model.specs.declared.Loss.TheVariants as losses
 use Rattle.plain_defs.specs.declared.journal.Act.{Act}
 use Rattle.plain_defs.specs.declared.journal.Act.TheVariants.{Loosen, Harden, CfwLost}
-use Rattle.track_image.specs.Image.{Image}
 use Rattle.device_defs.specs.Background.{work}
 use Rattle.device_defs.specs.Command.{follow}
-use Rattle.device_defs.specs.Contents.{Contents, by_plain}
-use Rattle.device_defs.specs.Effects.{loosened, hardened, with_loose_edit, gone_back, loose_lost}
+use Rattle.device_defs.specs.Contents.{by_plain}
+use Rattle.device_defs.specs.Effects.{gone_back, loose_lost}
 use Rattle.device_defs.specs.Events.{with_loss, losing}
-use Rattle.device_defs.specs.Image.{read_counted}
 use Rattle.device_defs.specs.Losses as L
 use Rattle.device_defs.specs.Losses.{
   over,
@@ -63,23 +59,7 @@ use Rattle.device_defs.specs.Losses.{
   store_lost,
 }
 use Rattle.device_defs.specs.Marks.{MarksStore}
-use Rattle.device_defs.specs.Store.{
-  Store,
-  tracks_of,
-  has_level,
-  has_loose,
-  frame_at,
-  patch_at,
-  is_lost,
-  is_loose,
-  half_is,
-  owed_at,
-  with_stale,
-  with_frame,
-  with_lost,
-  with_owed,
-}
-use Rattle.device_defs.specs.Writing.{write_counted}
+use Rattle.device_defs.specs.Store.{tracks_of, has_level, has_loose, frame_at, patch_at, is_lost, is_loose, half_is, owed_at, with_stale, with_frame, with_lost, with_owed}
 use Rattle.device_laws.proofs.FailedCall.{IsWell}
 use Rattle.device_laws.proofs.Had.{Had, had_done, had_tell, had_if, had_then, had_weaker}
 use Rattle.device_laws.proofs.PlainEvents.{had_always}

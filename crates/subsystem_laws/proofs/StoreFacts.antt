@@ -22,7 +22,7 @@ use Rattle.device_defs.specs.Peek.{peek}
 use Rattle.device_defs.specs.Store.{Store, tracks_of}
 use Rattle.device_laws.proofs.Always.{Always}
 use Rattle.device_laws.proofs.walks.Within.{always, within_always, within_done, within_weaker}
-use Rattle.device_laws.proofs.walks.Moves.{Kind, Shut, Half, Losing, stays, moved}
+use Rattle.device_laws.proofs.walks.Moves.{Kind, Shut, Half, Losing}
 use Rattle.device_laws.proofs.walks.Shells.{Shell, shell_fallen, shell_read, shell_wrote, IsOfShell, moves_shell, ends_shell}
 use Rattle.device_laws.proofs.walks.Events.{
   reaches_any,
@@ -153,6 +153,5 @@ module _ {F P H R : Type 0} (c : Contents F P H R) (Q : Facts → Type 0) (bears
   pub lend_leaves : (d : Device F P H) (to : ℕ) → So (lent_to (over (tracks_of d.store) (given_up c) (event_begun d).store) to) → Leaves (lend c d to)
   unfolding O.lend
   lend_leaves d to f =
-      within_always (within_weaker
-      (quiet_leaves d (λ z. Done (with_tracks z (lent_to (over (tracks_of z.store) (given_up c) z.store) to)) tt) (within_done (moved stays)))
-      (λ n e a m. ends_shell c half_kept f m))
+      within_always (quiet_leaves {w = always} c {q = λ n e. So e.store} (λ n e t g. g) {n = tt} d
+      (λ z. Done (with_tracks z (lent_to (over (tracks_of z.store) (given_up c) z.store) to)) tt) (within_done f))

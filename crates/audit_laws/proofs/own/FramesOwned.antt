@@ -26,7 +26,7 @@ use Rattle.device_defs.specs.Orders as L
 use Rattle.device_defs.specs.Orders.{given_up, lend, lent_to, with_tracks}
 use Rattle.device_defs.specs.Store.{tracks_of}
 use Rattle.device_laws.proofs.walks.Within.{Policy, always, Outer, Within, within_done, within_try, within_ask, within_read, within_write, within_tell, within_then, within_weaker, within_outer}
-use Rattle.device_laws.proofs.walks.Moves.{Half, stays, moved}
+use Rattle.device_laws.proofs.walks.Moves.{Half}
 use Rattle.device_laws.proofs.walks.Writes.{Stages}
 use Rattle.device_laws.proofs.walks.Events.{Reaches, Begins, Anywhere, reaches_any, command_leads, second_leads, background_leads, lose_leads, power_leads, reset_leads, quiet_leaves}
 use Rattle.deck_audit.specs.Device.{outline_of}
@@ -159,8 +159,8 @@ module _ (P T : ℕ → Type 0) where
   lend_own : (n : ℕ) (d : MarksDevice) (to : ℕ) → Own T n (lend by_plain d to)
   unfolding L.lend
   lend_own n d to =
-      within_weaker (quiet_leaves {w = own T n} {kind = Half} {c = by_plain} {k = tt} d
-      (λ z. Done (with_tracks z (lent_to (over (tracks_of z.store) (given_up by_plain) z.store) to)) tt) (within_done (moved stays))) (λ k e a m. tt)
+      quiet_leaves {w = own T n} by_plain {q = λ k e. Unit {0}} (λ k e t m. tt) {n = tt} d
+      (λ z. Done (with_tracks z (lent_to (over (tracks_of z.store) (given_up by_plain) z.store) to)) tt) (within_done tt)
 
   lends_of : (s : Subsystem) (a b : ℕ) → AreSome s.mounted → AllOf P T s.pool.frames → (o : Option Mounted) → mounted_in s.mounted b ≡ o →
       AllOf P T (lends s a b o).pool.frames

@@ -98,7 +98,7 @@ abbrev count_from : ℕ → List Act → ℕ
 count_from n acts = fold (λ k act. k + (if is_loss act then 1 else 0)) n acts
 
 -- an act that is no loss
-one_act : (n : ℕ) (acts : List Act) (act : Act) → is_loss act ≡ false → count_from n (acts ++ act ∷ []) ≡ count_from n acts
+pub one_act : (n : ℕ) (acts : List Act) (act : Act) → is_loss act ≡ false → count_from n (acts ++ act ∷ []) ≡ count_from n acts
 one_act n [] act e = ap (λ (b : Bool). n + (if b then 1 else 0)) e ∙ (let same : n + 0 ≡ n = omega arith in same)
 one_act n (x ∷ acts) act e = one_act (n + (if is_loss x then 1 else 0)) acts act e
 
