@@ -42,10 +42,6 @@ pub mod PlannedWords
 pub mod PowerDevices
 pub mod PowerTold
 pub mod PowerLines
-pub mod OwnCalls
-pub mod OwnParts
-pub mod Seats
-pub mod OwnEvents
 pub mod FramesOwned
 pub mod FrameTracks
 pub mod NamedGroups

@@ -1,22 +1,17 @@
 -- What a device is, and what it counts, goes along with the calls that its interactions make: reads and writes are counted, and those that
 -- fail; nothing else of it is changed, and only the end of an event tells how many tracks wait.
-use Rattle.std.proofs.Common.{[], ◌≡◌, ◌+◌, ℕ, Bool, true, false, List, ◌∷◌, ◌++◌, Option, Some, None, is_some, refl, ap, subst, ◌∙◌, arith}
+use Rattle.std.proofs.Common.{◌≡◌, ℕ, Bool, true, false, Option, Some, None, is_some, refl, ap, subst}
 use Rattle.std.specs.Prelude.{if◌then◌else◌, not, count_by}
-use Rattle.std.specs.List.{fold}
 use Rattle.ckd_types.specs.declared.geometry.Geometry.{Geometry}
 use Rattle.ckd_types.specs.declared.paths.Side.{Side}
-use Rattle.ckd_types.specs.declared.paths.Side.TheVariants.{A, B}
 use Rattle.track_image.specs.Image.{Image}
 use Rattle.device_outside.specs.Interaction.{Interaction, Done, Try, Ask, Read, Write, Tell, and_then}
 use Rattle.device_outside.specs.Keeper.{Message, ReplyTo}
 use Rattle.device_outside.specs.Pool.{Call, TellWaiting, AnswerTo}
 use Rattle.device_outside.specs.Volume.{counted, counted_if}
 use Rattle.device_defs.specs.declared.counts.Counts.{Counts}
-use Rattle.device_defs.specs.Losses.{down, stale_everywhere}
-use Rattle.device_defs.specs.Effects.{act_noted}
 use Rattle.device_defs.specs.Memory.{tried, had_by, and_had}
 use Rattle.device_defs.specs.Store.{Store}
-use Rattle.plain_defs.specs.declared.journal.Act.{Act}
 use Rattle.device_defs.specs.Command.{is_loss}
 
 -- what it is, and what it counts
@@ -111,28 +106,3 @@ based_had {S = S} {A = X} {base = base} {may = may} f x w = based_then (had_by f
     by_answer : (s : S) (o : Option X) → Based base may (base s) (had_by f s o)
     by_answer s (Some a) = w s a
     by_answer s None = based_done refl
-
--- Changes of a store that leave its base
-
-abbrev count_from : ℕ → List Act → ℕ
-count_from n acts = fold (λ k act. k + (if is_loss act then 1 else 0)) n acts
-
-one_act : (n : ℕ) (acts : List Act) (act : Act) → is_loss act ≡ false → count_from n (acts ++ act ∷ []) ≡ count_from n acts
-one_act n [] act e = ap (λ (b : Bool). n + (if b then 1 else 0)) e ∙ (let same : n + 0 ≡ n = omega arith in same)
-one_act n (x ∷ acts) act e = one_act (n + (if is_loss x then 1 else 0)) acts act e
-
-module _ {F P H : Type 0} where
-  pub base_if : (x : Bool) (s z : Store F P H) {b : Base} → base_of s ≡ b → base_of z ≡ b → base_of (if x then s else z) ≡ b
-  base_if true s z e f = e
-  base_if false s z e f = f
-
-  -- an act that is no loss
-  pub acted_base : (s : Store F P H) (act : Act) → is_loss act ≡ false → base_of (act_noted s act) ≡ base_of s
-  acted_base s act e = ap (λ (n : ℕ). record (base_of s) { gone = n }) (one_act 0 s.acts act e)
-
-  pub stale_base : (s : Store F P H) (t : ℕ) → base_of (stale_everywhere s t) ≡ base_of s
-  stale_base s t = base_if s.paired _ _ refl refl
-
-  pub down_base : (s : Store F P H) (side : Side) → base_of (down s side) ≡ base_of s
-  down_base s A = refl
-  down_base s B = refl

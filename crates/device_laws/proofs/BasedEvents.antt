@@ -35,12 +35,12 @@ use Rattle.device_laws.proofs.Based.{
   based_any,
   based_tried,
 }
-use Rattle.device_laws.proofs.PoolWalks.{asks_based, hear_asks, ended_asks}
-use Rattle.device_laws.proofs.walks.Within.{Within, within_done, within_then, within_weaker}
+use Rattle.device_laws.proofs.PoolWalks.{asks_based, asks_hushed, hear_asks, ended_asks}
+use Rattle.device_laws.proofs.walks.Within.{Inner, Within, within_done, within_then, within_weaker}
 use Rattle.device_laws.proofs.walks.Moves.{Shut, stays, Ends, moved}
 use Rattle.device_laws.proofs.walks.Reads.{powerless_moves}
 use Rattle.device_laws.proofs.walks.Writes.{work_comes}
-use Rattle.device_laws.proofs.walks.Events.{follow_comes, by_bodies, second_bodies, reset_leads}
+use Rattle.device_laws.proofs.walks.Events.{reaches_any, as_it_was, made_store, follow_comes, by_bodies, second_bodies, reset_leads}
 use Rattle.device_laws.proofs.invariants.CallCounts.{calls, within_based, Steady, parts_count, ends_count, half_ends_count, ends_steady, losing_steady, track_steady}
 
 abbrev pub base_in : {F P H : Type 0} → Device F P H → Base
@@ -51,28 +51,32 @@ with_one_loss loss b = record b { counts = record b.counts { losses = one_loss_m
 
 module _ {F P H R : Type 0} (c : Contents F P H R) where
   pub follow_steady : (n first : ℕ) (chain : ChainState) (t : ℕ) (s : Store F P H) → Steady c s (follow c n first chain t s)
-  follow_steady n first chain t s = ends_steady c s (follow_comes refl n first (base_of s) chain t s stays)
+  follow_steady n first chain t s = ends_steady c s (follow_comes refl (reaches_any (λ q. tt)) n first (base_of s) chain t s tt stays)
 
   abbrev Settled : {A : Type 0} → Device F P H → Interaction R Image (Device F P H) A → Type 0
   Settled d i = Based base_in Hushed (kept d.store) i
 
   bodies_based : {A : Type 0} (d : Device F P H) {i : Interaction R Image (Device F P H) A} →
-      Within calls Hushed (λ n e a. Ends calls Shut c (base_of d.store) d.store n e.store) (base_of d.store) i → Settled d i
+      Within calls (Inner calls) (λ n e a. Ends calls Shut c (base_of d.store) d.store n e.store) (base_of d.store) i → Settled d i
   bodies_based d x = based_forget {base = λ e. base_of e.store} (within_based (within_weaker x (λ n e a m. ends_count c d.store m)))
 
   -- the body of each event, on the device behind its front
 
   pub command_body : (d : Device F P H) → Settled d (command_by c d d.history.running d.chain)
-  command_body d = bodies_based d (by_bodies refl d d.history.running d.chain stays)
+  command_body d =
+      bodies_based d (within_weaker
+      (by_bodies {d = d} refl (reaches_any (λ t. tt)) d d.history.running d.chain (λ chain t is e. tt) (as_it_was {z = d.store} stays) stays)
+      (λ n e a m. made_store m))
 
   pub second_body : (d : Device F P H) → Settled d (second_of c d d.store.half)
   second_body d =
       based_forget {base = λ e. base_of e.store}
-      (within_based (within_weaker (second_bodies (λ e. absurd (cc)) d d.store.half refl stays) (λ n e a m. half_ends_count c d.store m)))
+      (within_based (within_weaker (second_bodies {d = d} (λ e. absurd (cc)) d d.store.half refl (as_it_was {z = d.store} stays) stays)
+      (λ n e a m. half_ends_count c d.store (made_store m))))
 
   pub work_body : (d : Device F P H) → Settled d (and_then (work c d.store) (λ s (did : Option Did). Done (with_store d s) did))
   work_body d =
-      bodies_based d (within_then (λ s (did : Option Did). Done (with_store d s) did) (work_comes refl d.store stays) (λ n s did m. within_done m))
+      bodies_based d (within_then (λ s (did : Option Did). Done (with_store d s) did) (work_comes refl d.store (λ t ts is. tt) stays) (λ n s did m. within_done m))
 
   pub lose_body : (loss : Loss) (d : Device F P H) →
       Based base_in Hushed (kept (with_loss d.store loss)) (and_then (losing c d.store loss) (λ s _. Done (with_store d s) (tt {0})))
@@ -100,7 +104,7 @@ module _ {F P H R : Type 0} (c : Contents F P H R) where
         ((y : Device F P H) → Based base_in Hushed (f (kept y.store)) (body y)) → Based base_in Hushed (f (kept d.store)) (fronted d body (event_begun d))
     front_based d body f x =
         based_then {base = λ z. f (kept z)} (λ s _. body (record (event_begun d) { store = s }))
-        (asks_based (hear_asks c (λ z. f (kept z) ≡ f (kept d.store)) (λ z t clean e. e) 960 (event_begun d).store refl))
+        (asks_based (asks_hushed (hear_asks c (λ z. f (kept z) ≡ f (kept d.store)) (λ z t clean e. e) 960 (event_begun d).store refl)))
         (λ z _. x (record (event_begun d) { store = z }))
 
     pub event_based : (d : Device F P H) (body : Device F P H → Interaction R Image (Device F P H) A) (f : Base → Base) →

@@ -44,7 +44,8 @@ use Rattle.device_laws.proofs.Done.{Keeps, goes_keeps, keeps_on}
 use Rattle.device_laws.proofs.FailedCall.{IsWell, Goes, stays}
 use Rattle.device_laws.proofs.Through.{write_keeps_good}
 use Rattle.device_laws.proofs.TrackMarks.{IsFaithful, track_at}
-use Rattle.device_laws.proofs.WholeEvents.{turned_same, event_keeps}
+use Rattle.device_laws.proofs.WholeEvents.{event_keeps}
+use Rattle.device_laws.proofs.walks.Events.{turned_same}
 use Rattle.device_laws.proofs.WholeImage.{Reaches, Looked, image_keeps_good}
 
 -- each track that such a chain comes to is one of the first n

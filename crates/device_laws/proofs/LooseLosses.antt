@@ -2,16 +2,12 @@
 use Rattle.std.proofs.Common.{◌≡◌, ◌≤◌, ◌+◌, ◌==◌, ℕ, Bool, true, false, List, [], ◌∷◌, ◌++◌, Option, Some, None, length, refl, sym, ap, ◌∙◌, arith}
 use Rattle.std.specs.Prelude.{if◌then◌else◌, count_by}
 use Rattle.std.specs.List.{fold}
-use Rattle.ckd_chain.specs.declared.progress.Progress.{Progress}
-use Rattle.ckd_chain.specs.declared.progress.Progress.TheVariants as progresses
-use Rattle.ckd_chain.specs.declared.progress.Settled.TheVariants.{Equipment}
 use Rattle.ckd_chain.specs.State.{ChainState}
-use Rattle.ckd_chain.specs.Steps.{need_of, stepped}
 use Rattle.ckd_types.specs.declared.channel.CommandEnd.{CommandEnd}
 use Rattle.loss_model.specs.declared.Loss.{Loss}
 use Rattle.loss_model.specs.declared.Loss.TheVariants as losses
 use Rattle.plain_defs.specs.declared.journal.Act.{Act}
-use Rattle.plain_defs.specs.declared.journal.Act.TheVariants.{CfwLost}
+use Rattle.plain_defs.specs.declared.journal.Act.TheVariants.{CfwLost, Loosen, Harden}
 use Rattle.plain_defs.specs.declared.journal.Acted.{Acted}
 use Rattle.plain_defs.specs.declared.journal.How.{How}
 use Rattle.plain_defs.specs.declared.journal.How.TheVariants.{Full, Checked, Cut}
@@ -36,16 +32,12 @@ use Rattle.plain_defs.specs.History.{
   with_end,
 }
 use Rattle.plain_defs.specs.Legal.{is_used, is_started}
-use Rattle.plain_device.specs.Acted.{settled_act, paths_behind}
 use Rattle.track_image.specs.Image.{Image}
 use Rattle.device_outside.specs.Interaction.{Interaction, Done, and_then}
 use Rattle.device_outside.specs.Pool.{Call}
 use Rattle.device_defs.specs.declared.answers.Came.{Came}
 use Rattle.device_defs.specs.declared.answers.Came.TheVariants.{Ends, Checks, HalfOpen}
-use Rattle.device_defs.specs.declared.answers.Did.{Did}
-use Rattle.device_defs.specs.Background.{work}
-use Rattle.device_defs.specs.Command as N
-use Rattle.device_defs.specs.Command.{is_loss, has_loss, follow, came_out, on_tracks, answered_by, command_at, command_by, command}
+use Rattle.device_defs.specs.Command.{is_loss, command}
 use Rattle.device_defs.specs.Contents.{Contents}
 use Rattle.device_defs.specs.Cutting as U
 use Rattle.device_defs.specs.Cutting.{half_cut, counts_one_by, path_cut, reset_by, reset, powered_off, power}
@@ -56,18 +48,29 @@ use Rattle.device_defs.specs.Events.{with_loss, lost_by, losing, second_turn, co
 use Rattle.device_defs.specs.Excused.{losses_of, loose_losses}
 use Rattle.device_defs.specs.Losses as L
 use Rattle.device_defs.specs.Losses.{over, without_frame, settled, cache_lost, all_firm_told}
-use Rattle.device_defs.specs.Outcomes.{Turn, ends_with, settles, checks, sense_kept, program_over, turned_by}
-use Rattle.device_defs.specs.Owed.{waiting_count, noted_end as event_end}
-use Rattle.device_defs.specs.Peek as Y
-use Rattle.device_defs.specs.Peek.{Peeked, peek_track, peek}
-use Rattle.device_defs.specs.Store.{Origin, OfCommand, OfCut, OfBackground, HalfWrite, Store, tracks_of, has_loose}
+use Rattle.device_defs.specs.Outcomes.{sense_kept, program_over, turned_by}
+use Rattle.device_defs.specs.Owed.{noted_begin, waiting_count, noted_end as event_end}
+use Rattle.device_defs.specs.Peek.{peek}
+use Rattle.device_defs.specs.Store.{Store, tracks_of, has_loose}
 use Rattle.device_laws.specs.Unharmed.{running_losses, all_losses}
 use Rattle.device_laws.proofs.Always as A
 use Rattle.device_laws.proofs.Always.{Behind, Always, always_done, always_try, always_then}
 use Rattle.device_laws.proofs.Based.{Base, Based, based_done, based_try, based_ask, based_read, based_write, based_tell}
-use Rattle.device_laws.proofs.BasedEvents.{follow_steady}
-use Rattle.device_laws.proofs.invariants.CallCounts.{swept_base, store_base, side_base, hear_steady, firm_steady, second_steady, track_steady, work_steady}
+use Rattle.device_laws.proofs.invariants.CallCounts.{one_act, swept_base, store_base, side_base, hear_steady, firm_steady}
 use Rattle.device_laws.proofs.KeptEvents.{always_any, always_if}
+use Rattle.device_laws.proofs.walks.Within.{always, within_always}
+use Rattle.device_laws.proofs.walks.Moves.{Kind, Shut, Half, Losing}
+use Rattle.device_laws.proofs.walks.Shells.{IsOfShell, ends_shell}
+use Rattle.device_laws.proofs.walks.Events.{
+  IsCarried,
+  made_carries,
+  reaches_any,
+  carries,
+  command_leaves,
+  second_leaves,
+  background_leaves,
+  peek_leaves,
+}
 
 -- Counts of acts and of items
 
@@ -198,6 +201,23 @@ pub always_gone : {R S A : Type 0} {base : S → Base} {may : Call → Type 0} {
     Always i (λ s a. (base s).gone ≡ b.gone)
 always_gone x = record { holds = gone_by x }
 
+none_gone : (kind : Kind) → ((loss : Loss) → kind ≡ Losing loss → ⊥) → IsOfShell always kind (λ n x. loss_count x.acts ≡ 0)
+none_gone kind none = record {
+  reads = λ m n x ok is e. e;
+  writes = λ m n x ok is e. e;
+  falls_reading = λ m n x side pair is e. e;
+  falls_writing = λ m n x side pair is e. e;
+  falls = λ n x side lost e. e;
+  hardens = λ n x t why e. one_act 0 x.acts (Harden t) refl ∙ e;
+  loosens = λ n x t is e. one_act 0 x.acts (Loosen t) refl ∙ e;
+  loses = λ n x t here e. e;
+  goes_back = λ n x may some e. e;
+  loses_loose = λ n x lossy some e. absurd (none losses.Cache lossy);
+  queues = λ n x room e. e;
+  dequeues = λ n x l less e. e;
+  notes = λ n x loss lossy e. e;
+}
+
 module _ {F P H : Type 0} (n : ℕ) where
   -- so many losses in all
   abbrev pub Has : Device F P H → Type 0
@@ -224,50 +244,6 @@ module _ {F P H R : Type 0} (c : Contents F P H R) (n : ℕ) where
   abbrev Holds : {A : Type 0} → Interaction R Image (Device F P H) A → Type 0
   Holds i = Always i (λ e _. Has n e)
 
-  out_has : (d : Device F P H) (path : ℕ) (turn : Turn) → Has n d → Holds (came_out c d path turn)
-  out_has d path turn f = always_done (turned_has n d path turn.chain turn.came f)
-
-  on_has : (d : Device F P H) (path : ℕ) (chain : ChainState) (s : Store F P H) (o : Option Turn) → loss_count s.acts ≡ 0 → Has n d →
-      Holds (on_tracks c d path chain s o)
-  on_has d path chain s (Some turn) none f = out_has (with_store d s) path turn (store_has n d s none f)
-  on_has d path chain s None none f = always_done (store_has n d s none f)
-
-  answered_has : (d : Device F P H) (path : ℕ) (chain : ChainState) (p : Progress) → Has n d → Holds (answered_by c d path chain p)
-  answered_has d path chain (progresses.Ended e) f = out_has d path (ends_with chain e) f
-  answered_has d path chain (progresses.Local act) f =
-      out_has (record d { paths = paths_behind d.paths path act }) path (settles chain (settled_act d.store.geometry d.paths path act)) f
-  answered_has d path chain (progresses.Need q) f = out_has d path (checks chain Equipment) f
-  answered_has d path chain (progresses.Write q e) f = out_has d path (checks chain Equipment) f
-
-  at_has : (d : Device F P H) (path : ℕ) (chain : ChainState) (o : Option ℕ) → loss_count d.store.acts ≡ 0 → Has n d → Holds (command_at c d path chain o)
-  at_has d path chain (Some t) none f =
-      always_then (always_gone (follow_steady c (tracks_of d.store) t chain t d.store)) (λ s o e. on_has d path chain s o (e ∙ none) f)
-  at_has d path chain None none f =
-      always_try (λ ok. always_if ok (answered_has d path (stepped chain None).chain (stepped chain None).progress f) (always_done f))
-
-  by_has : (d : Device F P H) (o : Option OpenEntry) (k : Option ChainState) → loss_count d.store.acts ≡ 0 → Has n d → Holds (command_by c d o k)
-  by_has d (Some o) (Some chain) none f =
-      always_if (has_loss o.acts) (out_has d o.path (checks chain Equipment) f) (at_has d o.path chain (need_of chain) none f)
-  by_has d (Some o) None none f = always_done f
-  by_has d None k none f = always_done f
-
-  command_ended_has : (d : Device F P H) (t : ℕ) (o : Option OpenEntry) (k : Option ChainState) (done : Bool) → Has n d → Holds (command_ended c d t o k done)
-  command_ended_has d t (Some o) (Some chain) done f =
-      always_done (turned_has n d o.path (second_turn c chain done).chain (second_turn c chain done).came f)
-  command_ended_has d t (Some o) None done f = always_done f
-  command_ended_has d t None k done f = always_done f
-
-  second_ended_has : (d : Device F P H) (t : ℕ) (origin : Origin) (done : Bool) → Has n d → Holds (second_ended c d t origin done)
-  second_ended_has d t (OfCommand bypass e) done f = command_ended_has d t d.history.running d.chain done f
-  second_ended_has d t (OfCut bypass) done f = always_done f
-  second_ended_has d t OfBackground done f = always_done f
-
-  second_of_has : (d : Device F P H) (o : Option (HalfWrite H)) → d.store.half ≡ o → loss_count d.store.acts ≡ 0 → Has n d → Holds (second_of c d o)
-  second_of_has d (Some w) is none f =
-      always_then (always_gone (second_steady c d.store w is))
-      (λ s done e. second_ended_has (with_store d s) w.track w.origin done (store_has n d s (e ∙ none) f))
-  second_of_has d None is none f = always_done f
-
   event_has : {A : Type 0} (q : Device F P H → Type 0) → ((y : Device F P H) (s : Store F P H) → q y → q (record y { store = s })) → (d : Device F P H)
       (body : Device F P H → Interaction R Image (Device F P H) A) →
       ((s : Store F P H) → loss_count s.acts ≡ 0 → Always (body (record (event_begun d) { store = s })) (λ e _. q e)) → Always (event c d body) (λ e _. q e)
@@ -276,33 +252,30 @@ module _ {F P H R : Type 0} (c : Contents F P H R) (n : ℕ) where
       (always_then (always_gone (hear_steady c 960 (event_begun d).store)) (λ s _ e. x s e))
       (λ y a f. always_then (always_any (event_end c (waiting_count c d.store) y.store)) (λ z _ _. always_done (stays y z f)))
 
+  carried : (kind : Kind) → ((loss : Loss) → kind ≡ Losing loss → ⊥) → (d : Device F P H) → IsCarried always kind c tt (noted_begin d.store) (λ (e : Device F P H). Has n e)
+  carried kind none d = record {
+    stores = λ m e z y f. store_has n e z (ends_shell c (none_gone kind none) refl y) f;
+    turns = λ e path turn f. turned_has n e path turn.chain turn.came f;
+    leads = λ e paths f. f;
+    tries = λ e chain f. f;
+    rests = λ e z f. f;
+  }
+
   pub command_has : (d : Device F P H) → Has n d → Holds (command c d)
-  unfolding N.command
   command_has d f =
-      always_try (λ ok. always_if ok
-      (event_has (Has n) (λ y s g. g) d (λ z. command_by c z z.history.running z.chain)
-      (λ s none. by_has (record (event_begun d) { store = s }) d.history.running d.chain none f))
-      (always_done f))
+      within_always (command_leaves always c tt d (reaches_any (λ t. tt)) (λ chain t is e. tt) (λ m e. Has n e) f
+      (λ m e y. made_carries (carried Shut (λ loss e. absurd (cc)) d) f y))
 
   pub second_has : (d : Device F P H) → Has n d → Holds (second c d)
-  unfolding E.second
   second_has d f =
-      event_has (Has n) (λ y s g. g) d (λ z. second_of c z z.store.half) (λ s none. second_of_has (record (event_begun d) { store = s }) s.half refl none f)
+      within_always (carries always c tt d (carried Half (λ loss e. absurd (cc)) d) f (second_leaves always c tt d Half (λ e. absurd (cc))))
 
   pub background_has : (d : Device F P H) → Has n d → Holds (background c d)
-  unfolding E.background
   background_has d f =
-      event_has (Has n) (λ y s g. g) d (λ z. and_then (work c z.store) (λ s did. Done (with_store z s) did))
-      (λ s none. always_then (always_gone (work_steady c s))
-      (λ y (did : Option Did) e. always_done (store_has n (record (event_begun d) { store = s }) y (e ∙ none) f)))
+      within_always (carries always c tt d (carried Shut (λ loss e. absurd (cc)) d) f (background_leaves always c tt d (λ t ts is. tt)))
 
   pub peek_has : (d : Device F P H) (t : ℕ) → Has n d → Holds (peek c d t)
-  unfolding Y.peek
-  peek_has d t f =
-      always_then
-      (always_then (always_gone (track_steady c (event_begun d).store t))
-      (λ y (found : Option Peeked) e. always_done (store_has n (event_begun d) y e f)))
-      (λ y a g. always_then (always_any (event_end c (waiting_count c d.store) y.store)) (λ z _ _. always_done g))
+  peek_has d t f = within_always (carries always c tt d (carried Half (λ loss e. absurd (cc)) d) f (peek_leaves always c tt d Half t tt))
 
   -- losses
 

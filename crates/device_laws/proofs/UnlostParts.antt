@@ -37,7 +37,7 @@ use Rattle.device_laws.specs.Unharmed.{MarksAreGood}
 use Rattle.device_laws.proofs.Changes.{rest_of}
 use Rattle.device_laws.proofs.Soundness.{sound_is_good}
 use Rattle.device_laws.proofs.Sweeps.{IsHere}
-use Rattle.device_laws.proofs.WholeEvents.{turned_same}
+use Rattle.device_laws.proofs.walks.Events.{turned_same}
 use Rattle.device_laws.proofs.walks.Moves.{MayOpen}
 use Rattle.device_laws.proofs.walks.Writes.{level_b}
 use Rattle.device_laws.proofs.invariants.PatchesHaveFrames.{levels_still}

@@ -32,7 +32,7 @@ use Rattle.device_laws.specs.InOrder.{IsInOrder}
 use Rattle.device_laws.specs.Whole.{WholeDevice, marks_device, WholeTwins, Leaves, BehindCommand}
 use Rattle.device_laws.proofs.TwinFollow.{follow_order}
 use Rattle.device_laws.proofs.TwinLaws.{in_order, is_in_order}
-use Rattle.device_laws.proofs.WholeEvents.{turned_same}
+use Rattle.device_laws.proofs.walks.Events.{turned_same}
 use Rattle.device_laws.proofs.WholeTwins.{whole_done, whole_ends, store_then, event_twin}
 
 -- How a command comes out is known of the device of a run

@@ -3,12 +3,10 @@ use Rattle.std.proofs.Common.{◌≡◌, ◌<◌, ◌==◌, ℕ, Bool, true, fal
 use Rattle.std.specs.Prelude.{if◌then◌else◌}
 use Rattle.ckd_chain.specs.State.{ChainState}
 use Rattle.ckd_types.specs.declared.record.Edit.{Edit}
-use Rattle.plain_defs.specs.History.{OpenEntry, History, has_used, ended}
+use Rattle.plain_defs.specs.History.{OpenEntry, has_used}
 use Rattle.plain_defs.specs.PlainState.{reset_path}
 use Rattle.track_image.specs.Image.{Image}
 use Rattle.device_outside.specs.Interaction.{Interaction, Done, and_then}
-use Rattle.device_defs.specs.declared.answers.Came.{Came}
-use Rattle.device_defs.specs.declared.answers.Came.TheVariants.{Ends, Checks, HalfOpen}
 use Rattle.device_defs.specs.Background.{work}
 use Rattle.device_defs.specs.Contents.{Contents}
 use Rattle.device_defs.specs.Cutting as U
@@ -19,7 +17,7 @@ use Rattle.device_defs.specs.Events as E
 use Rattle.device_defs.specs.Events.{second_turn, command_ended, second_ended, second_of, second, background}
 use Rattle.device_defs.specs.Image.{Imaged}
 use Rattle.device_defs.specs.Memory.{had_by}
-use Rattle.device_defs.specs.Outcomes.{sense_kept, program_over, turned_by, turned}
+use Rattle.device_defs.specs.Outcomes.{turned}
 use Rattle.device_defs.specs.Owed.{waiting_count}
 use Rattle.device_defs.specs.Peek as Y
 use Rattle.device_defs.specs.Peek.{Peeked, peek_usage, peeked, peek_image, is_in_half, peek_half, peek_track, peek}
@@ -37,20 +35,8 @@ use Rattle.device_laws.proofs.Sweeps.{IsHere, half_within}
 use Rattle.device_laws.proofs.TrackMarks as M
 use Rattle.device_laws.proofs.TrackMarks.{TrackMarks, IsFaithful, is_good, track_at}
 use Rattle.device_laws.proofs.WholeImage.{image_keeps_good}
+use Rattle.device_laws.proofs.walks.Events.{turned_same}
 use Rattle.device_laws.proofs.Working.{work_keeps_good}
-
--- how a command comes out changes nothing of the tracks
-
-module _ {F P H : Type 0} where
-  over_by : (d : Device F P H) (h : History) (chain : ChainState) (b : Bool) →
-      (if b then program_over d h else record d { chain = Some chain; history = h }).store ≡ d.store
-  over_by d h chain true = refl
-  over_by d h chain false = refl
-
-  pub turned_same : (d : Device F P H) (path : ℕ) (chain : ChainState) (came : Came) → (turned_by d path chain came).store ≡ d.store
-  turned_same d path chain (Ends e) = let z = sense_kept d path e in over_by z (ended z.history e) chain e.over
-  turned_same d path chain (Checks e) = refl
-  turned_same d path chain (HalfOpen t) = refl
 
 module _ {F P H R : Type 0} (c : Contents F P H R) (faithful : IsFaithful c) where
   still : (s : Store F P H) → IsWell c s → Keeps c faithful s s

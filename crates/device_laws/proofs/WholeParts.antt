@@ -37,7 +37,7 @@ use Rattle.device_laws.proofs.TwinLaws.{
   cut_leaves_order,
 }
 use Rattle.device_laws.proofs.WholeCommand.{turned_marks}
-use Rattle.device_laws.proofs.WholeEvents.{turned_same}
+use Rattle.device_laws.proofs.walks.Events.{turned_same}
 use Rattle.device_laws.proofs.WholeTwins.{whole_done, whole_ends, store_then, event_twin}
 
 -- The second part

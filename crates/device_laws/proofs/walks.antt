@@ -1,5 +1,6 @@
 pub mod Within
 pub mod Moves
+pub mod Shells
 pub mod Reads
 pub mod Writes
 pub mod Events

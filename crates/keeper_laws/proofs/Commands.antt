@@ -41,7 +41,7 @@ use Rattle.device_defs.specs.Outcomes.{Turn, ends_with, settles, checks, usage_o
 use Rattle.device_defs.specs.Owed.{noted_begin, waiting_count}
 use Rattle.device_defs.specs.Store.{tracks_of, is_lost}
 use Rattle.device_laws.proofs.PlainStores.{core_of}
-use Rattle.device_laws.proofs.WholeEvents.{turned_same}
+use Rattle.device_laws.proofs.walks.Events.{turned_same}
 use Rattle.keeper_laws.proofs.Calm.{Watch, is_watched, watched_image, acts_keep}
 use Rattle.keeper_laws.proofs.Names.{Names, names_done, names_try, names_then, names_if, silent_names}
 use Rattle.keeper_laws.proofs.Parts.{On, Imaging, hear_stays, ended_stays, image_has}

@@ -1,7 +1,6 @@
 -- The other events of a device tell a keeper of no edit, and leave a track that is calm as it is.
 use Rattle.std.proofs.Common.{◌≡◌, ◌==◌, ℕ, Bool, true, false, [], Option, Some, None, is_some, refl, ap}
 use Rattle.std.proofs.lemmas.Bool.{cond_both}
-use Rattle.ckd_types.specs.declared.paths.Side.{Side}
 use Rattle.ckd_chain.specs.State.{ChainState}
 use Rattle.loss_model.specs.declared.Loss.{Loss}
 use Rattle.loss_model.specs.declared.Loss.TheVariants as losses
@@ -9,7 +8,7 @@ use Rattle.plain_defs.specs.History.{OpenEntry, has_used}
 use Rattle.plain_defs.specs.PlainState.{reset_path}
 use Rattle.track_image.specs.Image.{Image}
 use Rattle.device_outside.specs.Interaction.{Interaction, Done, and_then}
-use Rattle.device_defs.specs.Background.{did, work}
+use Rattle.device_defs.specs.Background.{work}
 use Rattle.device_defs.specs.Contents.{by_plain}
 use Rattle.device_defs.specs.Cutting as K
 use Rattle.device_defs.specs.Cutting.{origin_cut, half_cut, reset_noted, counts_one_by, path_cut, reset_by, reset, half_ended, half_lost, loose_gone, powerless, powered_off, power}

@@ -23,7 +23,7 @@ use Rattle.device_defs.specs.Memory.{had_by}
 use Rattle.device_defs.specs.Outcomes.{Turn, ends_with, settles, checks, usage_of, turned}
 use Rattle.device_defs.specs.Owed.{noted_begin, waiting_count}
 use Rattle.device_defs.specs.Store.{tracks_of, is_lost}
-use Rattle.device_laws.proofs.WholeEvents.{turned_same}
+use Rattle.device_laws.proofs.walks.Events.{turned_same}
 use Rattle.keeper_laws.proofs.FirmParts.{Imaging, ended_goes, said}
 use Rattle.keeper_laws.proofs.FirmStores.{half_track, On}
 use Rattle.keeper_laws.proofs.FirmWalk.{hear_goes, image_has}

@@ -8,7 +8,7 @@ use Rattle.ckd_chain.specs.State.{ChainState}
 use Rattle.plain_defs.specs.History.{OpenEntry}
 use Rattle.track_image.specs.Image.{Image}
 use Rattle.device_outside.specs.Interaction.{Interaction, Done, and_then}
-use Rattle.device_defs.specs.Background.{did, work}
+use Rattle.device_defs.specs.Background.{work}
 use Rattle.device_defs.specs.Contents.{by_plain}
 use Rattle.device_defs.specs.Device.{with_store, event_begun, event_ended, event}
 use Rattle.device_defs.specs.Effects.{with_edit}

@@ -1,6 +1,5 @@
 -- What a keeper hears in an event is what it is told in that of a run.
 use Rattle.std.proofs.Common.{◌≡◌, ℕ, true, List, [], ◌∷◌, ◌++◌, Option, Some, sym, ap, subst, ◌∙◌}
-use Rattle.ckd_types.specs.declared.paths.Side.TheVariants.{A}
 use Rattle.ckd_types.specs.declared.record.Track.{Track}
 use Rattle.track_image.specs.Image.{Image}
 use Rattle.device_outside.specs.Hears.{HeardAll, heard_none, heard_next}

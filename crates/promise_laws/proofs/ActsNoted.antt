@@ -33,20 +33,16 @@ use Rattle.std.specs.List.{list_all}
 use Rattle.std.proofs.Common.{arith}
 use Rattle.std.proofs.lemmas.Bool.{cases_lt, cond_both, eqb-true, eqb-false}
 use Rattle.std.proofs.lemmas.List.{get_or-set_same, get_or-set_other, get_or_past, length-set}
-use Rattle.ckd_types.specs.declared.paths.Side.{Side}
 use Rattle.ckd_types.specs.declared.paths.Side.TheVariants as sides
-use Rattle.ckd_types.specs.declared.record.Edit.{Edit}
 use Rattle.ckd_chain.specs.State.{ChainState}
 use Rattle.loss_model.specs.declared.Loss.TheVariants as losses
 use Rattle.plain_defs.specs.declared.journal.Act.{Act}
 use Rattle.plain_defs.specs.declared.journal.Act.TheVariants.{Loosen, Harden, CfwLost}
-use Rattle.track_image.specs.Image.{Image}
 use Rattle.device_defs.specs.Background.{work}
 use Rattle.device_defs.specs.Command.{follow}
-use Rattle.device_defs.specs.Contents.{Contents, by_plain}
-use Rattle.device_defs.specs.Effects.{loosened, hardened, with_loose_edit, gone_back, loose_lost}
+use Rattle.device_defs.specs.Contents.{by_plain}
+use Rattle.device_defs.specs.Effects.{gone_back, loose_lost}
 use Rattle.device_defs.specs.Events.{with_loss, losing}
-use Rattle.device_defs.specs.Image.{read_counted}
 use Rattle.device_defs.specs.Losses as L
 use Rattle.device_defs.specs.Losses.{
   over,
@@ -63,23 +59,7 @@ use Rattle.device_defs.specs.Losses.{
   store_lost,
 }
 use Rattle.device_defs.specs.Marks.{MarksStore}
-use Rattle.device_defs.specs.Store.{
-  Store,
-  tracks_of,
-  has_level,
-  has_loose,
-  frame_at,
-  patch_at,
-  is_lost,
-  is_loose,
-  half_is,
-  owed_at,
-  with_stale,
-  with_frame,
-  with_lost,
-  with_owed,
-}
-use Rattle.device_defs.specs.Writing.{write_counted}
+use Rattle.device_defs.specs.Store.{tracks_of, has_level, has_loose, frame_at, patch_at, is_lost, is_loose, half_is, owed_at, with_stale, with_frame, with_lost, with_owed}
 use Rattle.device_laws.proofs.FailedCall.{IsWell}
 use Rattle.device_laws.proofs.Had.{Had, had_done, had_tell, had_if, had_then, had_weaker}
 use Rattle.device_laws.proofs.PlainEvents.{had_always}
@@ -88,8 +68,9 @@ use Rattle.device_laws.proofs.PlainWalks.{patch_same}
 use Rattle.device_laws.proofs.TrackMarks as M
 use Rattle.device_laws.proofs.TrackMarks.{marks, is_good, track_at}
 use Rattle.device_laws.proofs.walks.Within.{always, within_always, within_weaker}
-use Rattle.device_laws.proofs.walks.Moves.{Shut, IsKept, stays, IsEnded, ends_keep}
-use Rattle.device_laws.proofs.walks.Events.{follow_comes}
+use Rattle.device_laws.proofs.walks.Moves.{Shut, stays}
+use Rattle.device_laws.proofs.walks.Shells.{IsOfShell, ends_shell}
+use Rattle.device_laws.proofs.walks.Events.{reaches_any, follow_comes}
 use Rattle.device_laws.proofs.walks.Writes.{work_comes}
 
 -- Kinds of acts
@@ -112,83 +93,34 @@ more_so ok (x ∷ acts) act all one =
 
 -- A command, and work in the background, take no data
 
-module _ {F P H R : Type 0} (c : Contents F P H R) where
-  abbrev So : Store F P H → Type 0
-  So s = list_all takes_none s.acts ≡ true
-
-  down_so : (z : Store F P H) (side : Side) → So z → So (down z side)
-  down_so z sides.A f = f
-  down_so z sides.B f = f
-
-  level_so : (z : Store F P H) (side : Side) (t : ℕ) → So z → So (with_stale z side t false)
-  level_so z sides.A t f = f
-  level_so z sides.B t f = f
-
-  marked_so : (z : Store F P H) (t : ℕ) (x b : Bool) → So z →
-      So (if b then with_stale (with_stale z sides.A t x) sides.B t true else with_stale z sides.A t x)
-  marked_so z t x true f = f
-  marked_so z t x false f = f
-
-  provisional_so : (z : Store F P H) (t : ℕ) (i : Image) (e : Edit) (b : Bool) → So z →
-      So (with_loose_edit (with_frame (if b then z else loosened z t) t (Some (c.frame i true))) t e)
-  provisional_so z t i e true f = f
-  provisional_so z t i e false f = more_so takes_none z.acts (Loosen t) f refl
-
-  kept : IsKept always Shut c (λ n z. list_all takes_none z.acts ≡ true)
-  kept = record {
-    reads = λ m n z ok is f. f;
-    writes = λ m n z ok is f. f;
-    falls_reading = λ m n z side pair is f. down_so (read_counted z false) side f;
-    falls_writing = λ m n z side pair is f. down_so (write_counted z false) side f;
-    falls = λ n z side lost f. absurd (cc);
-    takes = λ n z t is up f. marked_so z t false z.b.up f;
-    levels = λ n z side t f. level_so z side t f;
-    spoils = λ n z t is alone why f. f;
-    stales = λ n z t other away f. marked_so z t true z.paired f;
-    firms = λ n z t is loose why f. marked_so (hardened z t) t true z.paired (more_so takes_none z.acts (Harden t) f refl);
-    firms_taken = λ m n z t is loose up wrote f. let y = stale_everywhere (hardened z t) t in
-        marked_so (write_counted y true) t false y.b.up (marked_so (hardened z t) t true z.paired (more_so takes_none z.acts (Harden t) f refl));
-    marks = λ n z t g bare is clean f. f;
-    hardens = λ n z t bare loose f. more_so takes_none z.acts (Harden t) f refl;
-    loses = λ n z t bare none half f. f;
-    drops = λ n z t clean f. f;
-    fills = λ n z t i patched is level f. f;
-    frames = λ n z t o bare why f. f;
-    renews = λ n z t i g bare is f. f;
-    unframes = λ n z t may f. f;
-    patches = λ n z t f. f;
-    unpatches = λ n z t slot f. f;
-    queues = λ n z t room f. f;
-    dequeues = λ n z ts less f. f;
-    edits = λ n z t e f. f;
-    goes_fast = λ n z t i e slot there f. f;
-    goes_provisionally = λ n z t i e is f. provisional_so z t i e (is_loose z t) f;
-    goes_back = λ n z may some f. f;
-    loses_loose = λ n z lossy some f. absurd (cc);
-    closes = λ n z why f. f;
-    cuts = λ n z h bypass e is f. f;
-    notes = λ n z loss lossy f. absurd (cc);
-    pays = λ n z t o f. f;
-  }
-
-  half_ended : IsEnded always Shut c (λ n z. list_all takes_none z.acts ≡ true) (λ n z. list_all takes_none z.acts ≡ true)
-  half_ended = record {
-    weaker = λ n z f. f;
-    opens = λ n z t i origin is may firm f. f;
-    opens_cleaned = λ n z t i origin is may firm f. f;
-    pays = λ n z t o f. f;
-  }
+none_taken : IsOfShell always Shut (λ n x. list_all takes_none x.acts ≡ true)
+none_taken = record {
+  reads = λ m n x ok is f. f;
+  writes = λ m n x ok is f. f;
+  falls_reading = λ m n x side pair is f. f;
+  falls_writing = λ m n x side pair is f. f;
+  falls = λ n x side lost f. f;
+  hardens = λ n x t why f. more_so takes_none x.acts (Harden t) f refl;
+  loosens = λ n x t is f. more_so takes_none x.acts (Loosen t) f refl;
+  loses = λ n x t here f. f;
+  goes_back = λ n x may some f. f;
+  loses_loose = λ n x lossy some f. absurd (cc);
+  queues = λ n x room f. f;
+  dequeues = λ n x l less f. f;
+  notes = λ n x loss lossy f. f;
+}
 
 pub follow_acts : (n first : ℕ) (chain : ChainState) (t : ℕ) (s : MarksStore) → list_all takes_none s.acts ≡ true →
     Had (follow by_plain n first chain t s) (λ z _. list_all takes_none z.acts ≡ true)
 follow_acts n first chain t s f =
-    had_always (within_always (within_weaker (follow_comes {w = always} {kind = Shut} {c = by_plain} {k = tt} {s = s} refl n first tt chain t s stays)
-    (λ m z a moves. ends_keep (kept by_plain) (half_ended by_plain) f moves)))
+    had_always (within_always (within_weaker (follow_comes {w = always} {kind = Shut} {c = by_plain} {k = tt} {s = s} refl (reaches_any (λ q. tt))
+    n first tt chain t s tt stays)
+    (λ m z a moves. ends_shell by_plain none_taken f moves)))
 
 pub work_acts : (s : MarksStore) → list_all takes_none s.acts ≡ true → Had (work by_plain s) (λ z _. list_all takes_none z.acts ≡ true)
 work_acts s f =
-    had_always (within_always (within_weaker (work_comes {w = always} {kind = Shut} {c = by_plain} {k = tt} {s = s} refl s stays)
-    (λ m z a moves. ends_keep (kept by_plain) (half_ended by_plain) f moves)))
+    had_always (within_always (within_weaker (work_comes {w = always} {kind = Shut} {c = by_plain} {k = tt} {s = s} refl s (λ t ts is. tt) stays)
+    (λ m z a moves. ends_shell by_plain none_taken f moves)))
 
 -- The loss of the cache
 

@@ -1,5 +1,5 @@
 -- Behind each event of a run the firm volume of each device is what the writes since its last new volume made of what that held.
-use Rattle.std.proofs.Common.{◌≡◌, ◌<◌, ◌*◌, ℕ, false, List, length, refl, sym, ap, subst, ◌∙◌, arith}
+use Rattle.std.proofs.Common.{◌≡◌, ◌<◌, ℕ, false, List, length, refl, sym, ap, subst, ◌∙◌, arith}
 use Rattle.std.proofs.lemmas.List.{get_or_default, ext_get_or}
 use Rattle.std.specs.Prelude.{All}
 use Rattle.ckd_types.specs.declared.record.Track.{Track}

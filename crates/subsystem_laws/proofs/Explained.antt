@@ -39,7 +39,7 @@ use Rattle.ckd_types.specs.declared.paths.Side.TheVariants as sides
 use Rattle.ckd_types.specs.declared.record.Edit.{Edit}
 use Rattle.ckd_types.specs.Commands.{command_of}
 use Rattle.ckd_types.specs.declared.record.Track.{Track}
-use Rattle.ckd_types.specs.Volume.{empty_volume, track_in}
+use Rattle.ckd_types.specs.Volume.{track_in}
 use Rattle.plain_defs.specs.declared.journal.How.TheVariants.{Cut}
 use Rattle.plain_defs.specs.declared.journal.Item.{Item}
 use Rattle.plain_defs.specs.declared.journal.Item.TheVariants as items

@@ -5,7 +5,6 @@ use Rattle.std.specs.Prelude.{All}
 use Rattle.ckd_types.specs.declared.geometry.Geometry.{Geometry}
 use Rattle.ckd_types.specs.declared.paths.Side.{Side}
 use Rattle.ckd_types.specs.declared.record.Track.{Track}
-use Rattle.ckd_types.specs.Volume.{empty_volume}
 use Rattle.deck_text.specs.declared.line.DeviceLine.{DeviceLine}
 use Rattle.deck_text.specs.DeckLines.{DeckLines}
 use Rattle.loss_model.specs.declared.Loss.{Loss}
@@ -58,7 +57,7 @@ use Rattle.subsystem_laws.specs.Excused.{HasExcusedTracks, HaveExcusedTracks}
 use Rattle.subsystem_laws.specs.Served.{IsServedDeck}
 use Rattle.subsystem_laws.specs.Came.{CameTo}
 use Rattle.subsystem_laws.proofs.Came.{at}
-use Rattle.subsystem_laws.proofs.GoodMarks.{home_before, by_lent, lent_is, within}
+use Rattle.subsystem_laws.proofs.GoodMarks.{home_before, by_lent, lent_is}
 use Rattle.subsystem_laws.proofs.LendBase.{stays_still, lend_lends}
 use Rattle.subsystem_laws.proofs.RunLines.{AnyEvent}
 use Rattle.subsystem_laws.proofs.TracksKept.{Fair, fair_kept, new_fair, none_less, below_top, replace_same}

@@ -1,5 +1,5 @@
 -- What a device is stays behind its events; one that is lent keeps its number and cylinders, and is lent then.
-use Rattle.std.proofs.Common.{◌≡◌, ℕ, Bool, true, Option, Some, ap, ◌∙◌, refl}
+use Rattle.std.proofs.Common.{◌≡◌, ℕ, Bool, true, Some, ap, ◌∙◌, refl}
 use Rattle.track_image.specs.Image.{Image}
 use Rattle.device_outside.specs.Interaction.{Interaction, Done}
 use Rattle.device_outside.specs.Pool.{Call}

@@ -33,7 +33,7 @@ use Rattle.device_laws.proofs.UnlostParts.{DeviceGoes}
 use Rattle.device_laws.proofs.invariants.NoTrackIsLost.{command_goes, background_goes, second_event_goes}
 use Rattle.subsystem_laws.specs.Came.{CameTo}
 use Rattle.subsystem_laws.proofs.Came.{at}
-use Rattle.subsystem_laws.proofs.GoodMarks.{good_kept, by_lent, runs_home, half_home, within}
+use Rattle.subsystem_laws.proofs.GoodMarks.{good_kept, by_lent, runs_home, half_home}
 use Rattle.subsystem_laws.proofs.LendBase.{stays_still, lend_lends}
 use Rattle.subsystem_defs.specs.Refusals.{pair_fault}
 use Rattle.subsystem_laws.specs.Causes.{by_loss, by_call, by_full_count, by_half, LosesNone, LosesForCause, LoseForCause}

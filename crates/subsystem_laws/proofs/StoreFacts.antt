@@ -1,33 +1,31 @@
 -- What is said of which sides are up, of failed calls and of lost tracks stays so behind each event, where it bears a lost track more, one failed call
 -- more, and the fall of the side of a pair whose call failed.
-use Rattle.std.proofs.Common.{◌≡◌, ◌<◌, ◌≤◌, ◌++◌, ℕ, suc, Bool, true, false, List, [], ◌∷◌, Some, length, refl, ap, subst}
+use Rattle.std.proofs.Common.{◌≡◌, ◌<◌, ◌≤◌, ℕ, suc, Bool, true, false, List, length, subst}
 use Rattle.std.proofs.lemmas.Bool.{ltb-true}
-use Rattle.std.specs.Prelude.{slice_set, if◌then◌else◌}
+use Rattle.std.specs.Prelude.{slice_set, not}
 use Rattle.ckd_types.specs.declared.paths.Side.{Side}
 use Rattle.ckd_types.specs.declared.paths.Side.TheVariants as sides
-use Rattle.ckd_types.specs.declared.record.Edit.{Edit}
 use Rattle.loss_model.specs.declared.Loss.{Loss}
 use Rattle.loss_model.specs.declared.Loss.TheVariants as losses
 use Rattle.track_image.specs.Image.{Image}
 use Rattle.device_outside.specs.Interaction.{Interaction, Done}
-use Rattle.device_outside.specs.Volume.{counted}
+use Rattle.device_outside.specs.Volume.{counted, counted_if}
 use Rattle.device_defs.specs.Command.{command}
 use Rattle.device_defs.specs.Contents.{Contents}
 use Rattle.device_defs.specs.Cutting.{reset, power}
 use Rattle.device_defs.specs.Device.{Device, event_begun}
-use Rattle.device_defs.specs.Effects.{loosened, hardened, with_loose_edit}
 use Rattle.device_defs.specs.Events.{second, background, lose}
-use Rattle.device_defs.specs.Image.{read_counted}
-use Rattle.device_defs.specs.Losses.{down, over, stale_everywhere}
+use Rattle.device_defs.specs.Losses.{over}
 use Rattle.device_defs.specs.Orders as O
 use Rattle.device_defs.specs.Orders.{given_up, lend, lent_to, with_tracks}
 use Rattle.device_defs.specs.Peek.{peek}
-use Rattle.device_defs.specs.Store.{Store, tracks_of, is_loose, with_stale, with_frame}
-use Rattle.device_defs.specs.Writing.{write_counted}
+use Rattle.device_defs.specs.Store.{Store, tracks_of}
 use Rattle.device_laws.proofs.Always.{Always}
 use Rattle.device_laws.proofs.walks.Within.{always, within_always, within_done, within_weaker}
-use Rattle.device_laws.proofs.walks.Moves.{Kind, Shut, Half, Losing, stays, moved, IsKept, moves_keep, IsEnded, ends_keep}
+use Rattle.device_laws.proofs.walks.Moves.{Kind, Shut, Half, Losing}
+use Rattle.device_laws.proofs.walks.Shells.{Shell, shell_fallen, shell_read, shell_wrote, IsOfShell, moves_shell, ends_shell}
 use Rattle.device_laws.proofs.walks.Events.{
+  reaches_any,
   quiet_leaves,
   command_leads,
   second_leads,
@@ -68,92 +66,46 @@ pub record Bears (Q : Facts → Type 0) : Type 0 where
   pub queues : (x : Facts) → x.queued < 64 → Q x → Q (record x { queued = suc x.queued })
   pub dequeues : (x : Facts) (n : ℕ) → n ≤ x.queued → Q x → Q (record x { queued = n })
 
-one_longer : (l : List ℕ) (t : ℕ) → suc (length l) ≡ length (l ++ t ∷ [])
-one_longer [] t = refl
-one_longer (x ∷ xs) t = ap suc (one_longer xs t)
+abbrev facts_at : Shell → Facts
+facts_at x = record { a = x.up_a; b = x.up_b; paired = x.paired; failed = x.counts.failed; lost = x.lost; queued = x.queued }
+
+module _ (Q : Facts → Type 0) (bears : Bears Q) where
+  counts_so : (x : Facts) (ok : Bool) → Q x → Q (record x { failed = counted_if (not ok) x.failed })
+  counts_so x true f = f
+  counts_so x false f = bears.fails x f
+
+  falls_so : (x : Shell) (side : Side) → Q (fallen side (facts_at x)) → Q (facts_at (shell_fallen side x))
+  falls_so x sides.A f = f
+  falls_so x sides.B f = f
+
+  facts_kept : (kind : Kind) → ((x : Facts) (side : Side) → kind ≡ Losing (losses.Side side) → Q x → Q (fallen side x)) →
+      IsOfShell always kind (λ n x. Q (facts_at x))
+  facts_kept kind may_fall = record {
+    reads = λ m n x ok is f. counts_so (facts_at x) ok f;
+    writes = λ m n x ok is f. counts_so (facts_at x) ok f;
+    falls_reading = λ m n x side pair is f. falls_so (shell_read x false) side (bears.falls (facts_at x) side pair f);
+    falls_writing = λ m n x side pair is f. falls_so (shell_wrote x false) side (bears.falls (facts_at x) side pair f);
+    falls = λ n x side lost f. falls_so x side (may_fall (facts_at x) side lost f);
+    hardens = λ n x t why f. f;
+    loosens = λ n x t is f. f;
+    loses = λ n x t here f. bears.loses (facts_at x) t f;
+    goes_back = λ n x may some f. f;
+    loses_loose = λ n x lossy some f. f;
+    queues = λ n x room f. bears.queues (facts_at x) (ltb-true x.queued 64 room) f;
+    dequeues = λ n x l less f. bears.dequeues (facts_at x) l less f;
+    notes = λ n x loss lossy f. f;
+  }
 
 module _ {F P H R : Type 0} (c : Contents F P H R) (Q : Facts → Type 0) (bears : Bears Q) where
   -- it is so of a store
   abbrev So : Store F P H → Type 0
   So s = Q (facts_of s)
 
-  read_so : (z : Store F P H) (ok : Bool) → So z → So (read_counted z ok)
-  read_so z true f = f
-  read_so z false f = bears.fails (facts_of z) f
+  shut_kept : IsOfShell always Shut (λ n x. Q (facts_at x))
+  shut_kept = facts_kept Q bears Shut (λ x side e f. absurd (cc))
 
-  write_so : (z : Store F P H) (ok : Bool) → So z → So (write_counted z ok)
-  write_so z true f = f
-  write_so z false f = bears.fails (facts_of z) f
-
-  down_so : (z : Store F P H) (side : Side) → Q (fallen side (facts_of z)) → So (down z side)
-  down_so z sides.A f = f
-  down_so z sides.B f = f
-
-  level_so : (z : Store F P H) (side : Side) (t : ℕ) → So z → So (with_stale z side t false)
-  level_so z sides.A t f = f
-  level_so z sides.B t f = f
-
-  marked_so : (z : Store F P H) (t : ℕ) (x b : Bool) → So z →
-      So (if b then with_stale (with_stale z sides.A t x) sides.B t true else with_stale z sides.A t x)
-  marked_so z t x true f = f
-  marked_so z t x false f = f
-
-  provisional_so : (z : Store F P H) (t : ℕ) (i : Image) (e : Edit) (b : Bool) → So z →
-      So (with_loose_edit (with_frame (if b then z else loosened z t) t (Some (c.frame i true))) t e)
-  provisional_so z t i e true f = f
-  provisional_so z t i e false f = f
-
-  facts_kept : (kind : Kind) → ((x : Facts) (side : Side) → kind ≡ Losing (losses.Side side) → Q x → Q (fallen side x)) →
-      IsKept always kind c (λ n z. Q (facts_of z))
-  facts_kept kind may_fall = record {
-    reads = λ m n z ok is f. read_so z ok f;
-    writes = λ m n z ok is f. write_so z ok f;
-    falls_reading = λ m n z side pair is f. down_so (read_counted z false) side (bears.falls (facts_of z) side pair f);
-    falls_writing = λ m n z side pair is f. down_so (write_counted z false) side (bears.falls (facts_of z) side pair f);
-    falls = λ n z side lost f. down_so z side (may_fall (facts_of z) side lost f);
-    takes = λ n z t is up f. marked_so z t false z.b.up f;
-    levels = λ n z side t f. level_so z side t f;
-    spoils = λ n z t is alone why f. f;
-    stales = λ n z t other away f. marked_so z t true z.paired f;
-    firms = λ n z t is loose why f. marked_so (hardened z t) t true z.paired f;
-    firms_taken = λ m n z t is loose up wrote f. let y = stale_everywhere (hardened z t) t in marked_so (write_counted y true) t false y.b.up (marked_so (hardened z t) t true z.paired f);
-    marks = λ n z t g bare is clean f. f;
-    hardens = λ n z t bare loose f. f;
-    loses = λ n z t bare none half f. bears.loses (facts_of z) t f;
-    drops = λ n z t clean f. f;
-    fills = λ n z t i patched is level f. f;
-    frames = λ n z t o bare why f. f;
-    renews = λ n z t i g bare is f. f;
-    unframes = λ n z t may f. f;
-    patches = λ n z t f. f;
-    unpatches = λ n z t slot f. f;
-    queues = λ n z t room f.
-        subst (λ (k : ℕ). Q (record (facts_of z) { queued = k })) (one_longer z.queue t) (bears.queues (facts_of z) (ltb-true (length z.queue) 64 room) f);
-    dequeues = λ n z ts less f. bears.dequeues (facts_of z) (length ts) less f;
-    edits = λ n z t e f. f;
-    goes_fast = λ n z t i e slot there f. f;
-    goes_provisionally = λ n z t i e is f. provisional_so z t i e (is_loose z t) f;
-    goes_back = λ n z may some f. f;
-    loses_loose = λ n z lossy some f. f;
-    closes = λ n z why f. f;
-    cuts = λ n z h bypass e is f. f;
-    notes = λ n z loss lossy f. f;
-    pays = λ n z t o f. f;
-  }
-
-  facts_ended : (kind : Kind) → IsEnded always kind c (λ n z. Q (facts_of z)) (λ n z. Q (facts_of z))
-  facts_ended kind = record {
-    weaker = λ n z f. f;
-    opens = λ n z t i origin is may firm f. f;
-    opens_cleaned = λ n z t i origin is may firm f. f;
-    pays = λ n z t o f. f;
-  }
-
-  shut_kept : IsKept always Shut c (λ n z. Q (facts_of z))
-  shut_kept = facts_kept Shut (λ x side e f. absurd (cc))
-
-  half_kept : IsKept always Half c (λ n z. Q (facts_of z))
-  half_kept = facts_kept Half (λ x side e f. absurd (cc))
+  half_kept : IsOfShell always Half (λ n x. Q (facts_at x))
+  half_kept = facts_kept Q bears Half (λ x side e f. absurd (cc))
 
   -- the loss of a side: also where that is down
   abbrev pub MayFall : Loss → Facts → Type 0
@@ -174,33 +126,32 @@ module _ {F P H R : Type 0} (c : Contents F P H R) (Q : Facts → Type 0) (bears
 
   pub command_leaves : (d : Device F P H) → So d.store → Leaves (command c d)
   command_leaves d f =
-      within_always (command_leads always c tt d (λ n e. So e.store) f (λ n e m. ends_keep shut_kept (facts_ended Shut) f m))
+      within_always (command_leads always c tt d (reaches_any (λ t. tt)) (λ chain t is e. tt) (λ n e. So e.store) f (λ n e m. ends_shell c shut_kept f m))
 
   pub background_leaves : (d : Device F P H) → So d.store → Leaves (background c d)
-  background_leaves d f = within_always (within_weaker (background_leads always c tt d) (λ n e a m. ends_keep shut_kept (facts_ended Shut) f m))
+  background_leaves d f = within_always (within_weaker (background_leads always c tt d (λ t ts is. tt)) (λ n e a m. ends_shell c shut_kept f m))
 
   pub second_leaves : (d : Device F P H) → So d.store → Leaves (second c d)
-  second_leaves d f = within_always (within_weaker (second_leads always c tt d Half (λ e. absurd (cc))) (λ n e a m. ends_keep half_kept (facts_ended Half) f m))
+  second_leaves d f = within_always (within_weaker (second_leads always c tt d Half (λ e. absurd (cc))) (λ n e a m. ends_shell c half_kept f m))
 
   pub peek_leaves : (d : Device F P H) (t : ℕ) → So d.store → Leaves (peek c d t)
-  peek_leaves d t f = within_always (within_weaker (peek_leads always c tt d Half t) (λ n e a m. ends_keep half_kept (facts_ended Half) f m))
+  peek_leaves d t f = within_always (within_weaker (peek_leads always c tt d Half t tt) (λ n e a m. ends_shell c half_kept f m))
 
   pub lose_leaves : (d : Device F P H) (loss : Loss) → So d.store → ((x : Facts) → Q x → MayFall loss x) → Leaves (lose c d loss)
   lose_leaves d loss f falls =
       within_always (within_weaker (lose_leads always c tt d loss)
-      (λ n e a m. ends_keep (facts_kept (Losing loss) (falls_by loss falls)) (facts_ended (Losing loss)) f m))
+      (λ n e a m. ends_shell c (facts_kept Q bears (Losing loss) (falls_by loss falls)) f m))
 
   pub power_leaves : (d : Device F P H) → So d.store → Leaves (power c d)
   power_leaves d f =
       within_always (within_weaker (power_leads always c tt d)
-      (λ n e a m. ends_keep (facts_kept (Losing losses.Cache) (falls_by losses.Cache (λ x g. g))) (facts_ended (Losing losses.Cache)) f m))
+      (λ n e a m. ends_shell c (facts_kept Q bears (Losing losses.Cache) (falls_by losses.Cache (λ x g. g))) f m))
 
   pub reset_leaves : (d : Device F P H) (path : ℕ) → So d.store → Leaves (reset c d path)
-  reset_leaves d path f = within_always (within_weaker (reset_leads always Half c tt d path) (λ n e a m. moves_keep half_kept f m))
+  reset_leaves d path f = within_always (within_weaker (reset_leads always Half c tt d path) (λ n e a m. moves_shell c half_kept f m))
 
   pub lend_leaves : (d : Device F P H) (to : ℕ) → So (lent_to (over (tracks_of d.store) (given_up c) (event_begun d).store) to) → Leaves (lend c d to)
   unfolding O.lend
   lend_leaves d to f =
-      within_always (within_weaker
-      (quiet_leaves d (λ z. Done (with_tracks z (lent_to (over (tracks_of z.store) (given_up c) z.store) to)) tt) (within_done (moved stays)))
-      (λ n e a m. ends_keep half_kept (facts_ended Half) f m))
+      within_always (quiet_leaves {w = always} c {q = λ n e. So e.store} (λ n e t g. g) {n = tt} d
+      (λ z. Done (with_tracks z (lent_to (over (tracks_of z.store) (given_up c) z.store) to)) tt) (within_done f))

@@ -20,7 +20,7 @@ use Rattle.device_laws.proofs.Had.{Had, had_done, had_then, had_weaker}
 use Rattle.device_laws.proofs.PoolWalks.{asks_had, ended_asks, hear_asks}
 use Rattle.device_laws.proofs.TrackMarks as M
 use Rattle.device_laws.proofs.TrackMarks.{is_good, marks}
-use Rattle.device_laws.proofs.WholeEvents.{turned_same}
+use Rattle.device_laws.proofs.walks.Events.{turned_same}
 use Rattle.subsystem_laws.proofs.GoodMarks.{Good, by_lent, half_home}
 use Rattle.audit_laws.proofs.own.Weights.{Spot, left, spot_at, sum_least}
 use Rattle.audit_laws.proofs.own.Lighter.{Lower, Same, WorkSo, not_own, own_is, lower_on, near_frame, same_least, same_self, work_on}

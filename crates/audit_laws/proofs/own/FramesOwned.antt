@@ -7,20 +7,28 @@ use Rattle.std.proofs.lemmas.Bool.{cond_both, eq-eqb, eqb-true}
 use Rattle.std.proofs.lemmas.List.Elements.{All-cons, All-nil}
 use Rattle.ckd_types.specs.declared.paths.Side.{Side}
 use Rattle.deck_text.specs.DeckLines.{DeckLines}
+use Rattle.loss_model.specs.declared.Loss.{Loss}
 use Rattle.loss_model.specs.declared.Loss.TheVariants as losses
 use Rattle.track_image.specs.Image.{Image}
-use Rattle.device_outside.specs.Interaction.{Interaction, Done, and_then, Try, Ask, Read, Write, Tell}
+use Rattle.device_outside.specs.Interaction.{Interaction, Done, and_then}
 use Rattle.device_outside.specs.Keeper.{reply}
 use Rattle.device_outside.specs.Pool as O
-use Rattle.device_outside.specs.Pool.{AnswerTo, Call, DropFrame, Frame, FreeSlot, NextNotice, Pool, SetClean, SetModified, TellWaiting, Touch, WantFrame, WantSlot, after, all_waiting, answer, evicted, frames_wanted, grants, in_front, is_listed, is_of, less_frame, frame_removed}
+use Rattle.device_outside.specs.Pool.{AnswerTo, Call, Frame, Pool, after, all_waiting, answer, evicted, frames_wanted, grants, in_front, is_listed, is_of, less_frame, frame_removed}
 use Rattle.device_outside.specs.Told as Heard
 use Rattle.device_outside.specs.Told.{Calls, Told, calls_of, hold, told_read, read_fails, told_write, write_fails}
 use Rattle.device_defs.specs.Command.{command}
 use Rattle.device_defs.specs.Contents.{by_plain}
-use Rattle.device_defs.specs.Cutting.{reset}
+use Rattle.device_defs.specs.Cutting.{power, reset}
 use Rattle.device_defs.specs.Events.{background, lose, second}
 use Rattle.device_defs.specs.Marks.{MarksDevice}
-use Rattle.device_defs.specs.Orders.{lend}
+use Rattle.device_defs.specs.Losses.{over}
+use Rattle.device_defs.specs.Orders as L
+use Rattle.device_defs.specs.Orders.{given_up, lend, lent_to, with_tracks}
+use Rattle.device_defs.specs.Store.{tracks_of}
+use Rattle.device_laws.proofs.walks.Within.{Policy, always, Outer, Within, within_done, within_try, within_ask, within_read, within_write, within_tell, within_then, within_weaker, within_outer}
+use Rattle.device_laws.proofs.walks.Moves.{Half}
+use Rattle.device_laws.proofs.walks.Writes.{Stages}
+use Rattle.device_laws.proofs.walks.Events.{Reaches, Begins, Anywhere, reaches_any, command_leads, second_leads, background_leads, lose_leads, power_leads, reset_leads, quiet_leaves}
 use Rattle.deck_audit.specs.Device.{outline_of}
 use Rattle.deck_audit.specs.State.{outlines}
 use Rattle.deck_audit.specs.Place.{is_declared}
@@ -39,13 +47,15 @@ use Rattle.subsystem_laws.proofs.DeedWalk.{IsDeedwise, Stands, deed_is}
 use Rattle.subsystem_laws.proofs.RunLines.{AnyEvent, Goes, lines_keep, logs_end}
 use Rattle.subsystem_laws.proofs.Walks.{AreSo, IsKept, device_so, event_so, mounted_so, replaced_so, unpaired_so}
 use Rattle.ckd_chain.specs.State.{ChainState}
-use Rattle.deck_text.proofs.DeckAgain.{Each as EachIs}
-use Rattle.audit_laws.proofs.own.OwnEvents.{Any, Comes, any_chain, any_comes, any_queued, background_own, command_own, lend_own, lose_own, power_own, reset_own, second_own}
-use Rattle.audit_laws.proofs.own.Seats.{Is}
 use Rattle.audit_laws.specs.Standing.{FramesAreDeclared, audited, stand}
-use Rattle.audit_laws.proofs.own.OwnCalls as C
-use Rattle.audit_laws.proofs.own.OwnCalls.{IsOwn, Own, Wants, own_done, own_then}
 use Rattle.audit_laws.proofs.own.Ties.{Tie, Tied, event_tied, numbers_in, opened_tied, replaced_tied, ties, unpaired_tied}
+
+-- a device wants frames of its own tracks alone, and of these
+abbrev pub own : (ℕ → Type 0) → ℕ → Policy (Unit {0})
+own T n = record always { wants = λ device t. (device ≡ n) × T t }
+
+abbrev pub Own : {R S A : Type 0} → (ℕ → Type 0) → ℕ → Interaction R Image S A → Type 0
+Own T n i = Within (own T n) (Outer (own T n)) (λ k s a. Unit {0}) tt i
 
 -- Frames of devices with a number of these
 
@@ -80,7 +90,7 @@ module _ (P T : ℕ → Type 0) where
   front_of fs d t a = front_by (lookup_entry (is_of d t) fs) fs (frame_removed fs d t) (looked_of (is_of d t) fs a) a (removed_of (is_of d t) fs a)
 
   module _ (n : ℕ) (has : P n) where
-    after_of : (p : Pool) (call : Call) (a : AnswerTo call) → IsOwn T n call → AllOf p.frames → AllOf (after p call a).frames
+    after_of : (p : Pool) (call : Call) (a : AnswerTo call) → Outer (own T n) call → AllOf p.frames → AllOf (after p call a).frames
     unfolding O.after
     after_of p call a own all = grind (arith, front_of, cond_both, removed_of, set_of)
 
@@ -91,29 +101,27 @@ module _ (P T : ℕ → Type 0) where
     write_of w side all = grind arith
 
     -- behind a device's own event
-    wants_of : {S A : Type 0} (i : Interaction Bool Image S A) (q : S → A → Type 0) → Wants T n i q → (w : Told) → AllOf w.pool.frames →
-        AllOf (hold true i w).told.pool.frames
-    unfolding Heard.hold C.Wants
-    wants_of (Done s a) q x w all = all
-    wants_of (Try k) q x w all = wants_of (k true) q (x true) w all
-    wants_of (Ask call k) q x w all =
-        let a = answer w.pool call in wants_of (k a) q (x.1 a) (record w { pool = after w.pool call a }) (after_of w.pool call a x.0 all)
-    wants_of (Read side t k) q x w all =
-        let got = if read_fails (calls_of w side) then None else Some true in
-        wants_of (k got) q (x got) (told_read w side) (read_of w side all)
-    wants_of (Write side t r k) q x w all =
-        let ok = if write_fails (calls_of w side) then false else true in wants_of (k ok) q (x ok) (told_write w side) (write_of w side all)
-    wants_of (Tell m k) q x w all = wants_of (k (reply m)) q (x (reply m)) w all
+    within_of : {S A : Type 0} {q : Unit {0} → S → A → Type 0} {k : Unit {0}} {i : Interaction Bool Image S A} →
+        Within (own T n) (Outer (own T n)) q k i → (w : Told) → AllOf w.pool.frames → AllOf (hold true i w).told.pool.frames
+    unfolding Heard.hold
+    within_of (within_done x) w all = all
+    within_of (within_try x) w all = within_of (x true refl) w all
+    within_of (within_ask {call = call} m x) w all =
+        let a = answer w.pool call in within_of (x a) (record w { pool = after w.pool call a }) (after_of w.pool call a m all)
+    within_of {k = k} (within_read {side = side} x) w all =
+        within_of (x (if read_fails (calls_of w side) then None else Some true) k refl) (told_read w side) (read_of w side all)
+    within_of {k = k} (within_write {side = side} x) w all =
+        within_of (x (if write_fails (calls_of w side) then false else true) k refl) (told_write w side) (write_of w side all)
+    within_of (within_tell {m = m} x) w all = within_of (x (reply m) refl) w all
 
-    held_of : {S A : Type 0} {i : Interaction Bool Image S A} {q : S → A → Type 0} → Own T n i q → (w : Told) → AllOf w.pool.frames →
-        AllOf (hold true i w).told.pool.frames
-    held_of {i = i} {q = q} x w all = wants_of i q x.holds w all
+    held_of : {S A : Type 0} {i : Interaction Bool Image S A} → Own T n i → (w : Told) → AllOf w.pool.frames → AllOf (hold true i w).told.pool.frames
+    held_of x w all = within_of x w all
 
 -- Deeds
 
 module _ (P T : ℕ → Type 0) where
   abbrev OwnTalk : {A : Type 0} → MarksDevice → Talk A → Type 0
-  OwnTalk d talk = Own T d.store.device talk (λ (z : MarksDevice) _. Is d.store.device z.store)
+  OwnTalk d talk = Own T d.store.device talk
 
   abbrev KeepsFrames : Subsystem → MarksDeed → Type 0
   KeepsFrames s (Ends end) = Unit {0}
@@ -148,6 +156,12 @@ module _ (P T : ℕ → Type 0) where
   asks_of s d talk own has all (Some m) there = held_of P T d.store.device (some_at s.mounted d.store.device m there has).0 own (told_to s.pool m) all
   asks_of s d talk own has all None there = all
 
+  lend_own : (n : ℕ) (d : MarksDevice) (to : ℕ) → Own T n (lend by_plain d to)
+  unfolding L.lend
+  lend_own n d to =
+      quiet_leaves {w = own T n} by_plain {q = λ k e. Unit {0}} (λ k e t m. tt) {n = tt} d
+      (λ z. Done (with_tracks z (lent_to (over (tracks_of z.store) (given_up by_plain) z.store) to)) tt) (within_done tt)
+
   lends_of : (s : Subsystem) (a b : ℕ) → AreSome s.mounted → AllOf P T s.pool.frames → (o : Option Mounted) → mounted_in s.mounted b ≡ o →
       AllOf P T (lends s a b o).pool.frames
   lends_of s a b has all (Some m) there =
@@ -155,7 +169,7 @@ module _ (P T : ℕ → Type 0) where
       let z = behind_outcome s b o in
       let found = some_at s.mounted b m there has in
       subst (λ (p : Pool). AllOf P T p.frames) (sym (joined_of z a o.told.a (mounted_in z.mounted a)))
-      (held_of P T (number_of m) (subst P (sym found.1) found.0) (lend_own T (number_of m) by_plain m.device a refl) (told_to s.pool m) all)
+      (held_of P T (number_of m) (subst P (sym found.1) found.0) (lend_own (number_of m) m.device a) (told_to s.pool m) all)
   lends_of s a b has all None there = all
 
   happens_of : (s : Subsystem) (x : MarksDeed) → KeepsFrames s x → AreSome s.mounted → AllOf P T s.pool.frames →
@@ -164,32 +178,50 @@ module _ (P T : ℕ → Type 0) where
 
   -- an answer asks nothing
   answered : {X Y : Type 0} (d : MarksDevice) (talk : Talk X) (f : X → Y) → OwnTalk d talk → OwnTalk d (and_then talk (λ z a. Done z (f a)))
-  answered d talk f own = own_then own (λ z a g. own_done g)
+  answered d talk f x = within_then (λ z a. Done z (f a)) x (λ k z a g. within_done tt)
 
   repaired_of : (p q : Pool) (b : Bool) → q.frames ≡ p.frames → AllOf P T p.frames → AllOf P T (if b then q else p).frames
   repaired_of p q b same all = grind arith
 
   -- of devices of which this is so, whose commands and queues come to these tracks
-  module _ (In : ChainState → Type 0) (comes : Comes T In) (K L : MarksDevice → Type 0)
-      (near : (d : MarksDevice) → K d → L d → IfSome d.chain In × EachIs T d.store.queue) where
+  module _ (on : ChainState → ℕ → Type 0) (reach : (n : ℕ) → Reaches (own T n) n on) (K L : MarksDevice → Type 0)
+      (near : (d : MarksDevice) → K d → L d → Begins on d.chain × Stages (own T d.store.device) d.store.device d.store.queue) where
     of_one : (Q : MarksDevice → Type 0) (s : Subsystem) → AreSo Q s.mounted → (d : MarksDevice) → Stands s d → Q d
     of_one Q s all d x = subst (λ (o : Option MarksDevice). IfSome o Q) x.found (device_so Q s.mounted x.number all)
+
+    command_own : (d : MarksDevice) → Begins on d.chain → OwnTalk d (command by_plain d)
+    command_own d begins = command_leads (own T d.store.device) by_plain tt d (reach d.store.device) begins (λ k e. Unit {0}) tt (λ k e m. tt)
+
+    background_own : (d : MarksDevice) → Stages (own T d.store.device) d.store.device d.store.queue → OwnTalk d (background by_plain d)
+    background_own d first = within_weaker (background_leads (own T d.store.device) by_plain tt d first) (λ k e a m. tt)
+
+    second_own : (d : MarksDevice) → OwnTalk d (second by_plain d)
+    second_own d = within_weaker (second_leads (own T d.store.device) by_plain tt d Half (λ e. absurd (cc))) (λ k e a m. tt)
+
+    lose_own : (d : MarksDevice) (loss : Loss) → OwnTalk d (lose by_plain d loss)
+    lose_own d loss = within_weaker (lose_leads (own T d.store.device) by_plain tt d loss) (λ k e a m. tt)
+
+    power_own : (d : MarksDevice) → OwnTalk d (power by_plain d)
+    power_own d = within_weaker (power_leads (own T d.store.device) by_plain tt d) (λ k e a m. tt)
+
+    reset_own : (d : MarksDevice) (path : ℕ) → OwnTalk d (reset by_plain d path)
+    reset_own d path = within_outer (within_weaker (reset_leads (own T d.store.device) Half by_plain tt d path) (λ k e a m. tt))
 
     frames_keep : (s : Subsystem) → AreSo K s.mounted → AreSo L s.mounted → IsDeedwise s (KeepsFrames s)
     frames_keep s so more = record {
       ended = λ end. tt;
       started = λ d x path fault. tt;
-      seconded = λ d x h is. answered d (second by_plain d) (λ a. Some (ends.Second a)) (second_own T d.store.device by_plain d refl);
+      seconded = λ d x h is. answered d (second by_plain d) (λ a. Some (ends.Second a)) (second_own d);
       commanded = λ d x whole o running.
-          answered d (command by_plain d) (end_of ends.Stepped) (command_own T d.store.device by_plain In comes d (near d (of_one K s so d x) (of_one L s more d x)).0 refl);
+          answered d (command by_plain d) (end_of ends.Stepped) (command_own d (near d (of_one K s so d x) (of_one L s more d x)).0);
       worked = λ d x whole.
-          answered d (background by_plain d) (end_of ends.Back) (background_own T d.store.device by_plain d (near d (of_one K s so d x) (of_one L s more d x)).1 refl);
-      cut = λ d x path. answered d (reset by_plain d path) (λ a. Some (ends_done a)) (reset_own T d.store.device by_plain d path refl);
-      lost_cache = ((λ all. tt), λ d. lose_own T d.store.device by_plain d losses.Cache refl);
-      lost_store = ((λ all. all), λ d. lose_own T d.store.device by_plain d losses.Store refl);
+          answered d (background by_plain d) (end_of ends.Back) (background_own d (near d (of_one K s so d x) (of_one L s more d x)).1);
+      cut = λ d x path. answered d (reset by_plain d path) (λ a. Some (ends_done a)) (reset_own d path);
+      lost_cache = ((λ all. tt), λ d. lose_own d losses.Cache);
+      lost_store = ((λ all. all), λ d. lose_own d losses.Store);
       lost_side = λ d x side fault.
-          answered d (lose by_plain d (losses.Side side)) (λ a. Some (ends_done a)) (lose_own T d.store.device by_plain d (losses.Side side) refl);
-      lost_power = ((λ all. tt), λ d. power_own T d.store.device by_plain d refl);
+          answered d (lose by_plain d (losses.Side side)) (λ a. Some (ends_done a)) (lose_own d (losses.Side side));
+      lost_power = ((λ all. tt), λ d. power_own d);
       repaired_cache = λ all. repaired_of s.pool (record s.pool { cache_up = true }) (all_waiting s.pool == 0) refl all;
       repaired_store = λ all. repaired_of s.pool (record s.pool { store_up = true }) (all_waiting s.pool == 0) refl all;
       lent = λ x y z w fault. tt;
@@ -205,8 +237,9 @@ all_some ns [] P T are has = tt
 all_some [] (m ∷ ms) P T are has = absurd (cc)
 all_some (n ∷ ns) (m ∷ ms) P T are has = grind (arith, all_some ns ms P T)
 
-module _ (T : ℕ → Type 0) (In : ChainState → Type 0) (comes : Comes T In) (K L : MarksDevice → Type 0) (kept : IsKept K AnyEvent)
-    (too : IsKept L AnyEvent) (near : (d : MarksDevice) → K d → L d → IfSome d.chain In × EachIs T d.store.queue) where
+module _ (T : ℕ → Type 0) (on : ChainState → ℕ → Type 0) (reach : (n : ℕ) → Reaches (own T n) n on) (K L : MarksDevice → Type 0)
+    (kept : IsKept K AnyEvent) (too : IsKept L AnyEvent)
+    (near : (d : MarksDevice) → K d → L d → Begins on d.chain × Stages (own T d.store.device) d.store.device d.store.queue) where
   module _ (ns : List ℕ) where
     abbrev So : Subsystem → Type 0
     So s = Tied ns (ties s.mounted) × AreSo K s.mounted × AreSo L s.mounted × AllOf (IsOneOf ns) T s.pool.frames
@@ -220,7 +253,7 @@ module _ (T : ℕ → Type 0) (In : ChainState → Type 0) (comes : Comes T In) 
     event_framed : (s : Subsystem) (e : Event) → So s → So (happens s e).behind
     unfolding H.happens
     event_framed s e q =
-        let keeps = deed_is s (KeepsFrames (IsOneOf ns) T s) (frames_keep (IsOneOf ns) T In comes K L near s q.1 q.2) e in
+        let keeps = deed_is s (KeepsFrames (IsOneOf ns) T s) (frames_keep (IsOneOf ns) T on reach K L near s q.1 q.2) e in
         let frames = happens_of (IsOneOf ns) T s (deed by_plain s.pool (devices_of s) e) keeps (some_of s q.0) q.3 in
         (event_tied ns s e q.0, event_so K AnyEvent kept s q.1 e tt, event_so L AnyEvent too s q.2 e tt, frames)
 
@@ -264,6 +297,9 @@ module _ (T : ℕ → Type 0) (In : ChainState → Type 0) (comes : Comes T In) 
 
 -- Any tracks
 
+abbrev Any : {X : Type 0} → X → Type 0
+Any x = Unit {0}
+
 any_are : (ms : List Mounted) → AreSo Any ms
 any_are [] = tt
 any_are (m ∷ ms) = (tt, any_are ms)
@@ -288,7 +324,8 @@ all_declared s (f ∷ fs) all =
 pub frames_are_declared : (deck : DeckLines) → FramesAreDeclared (run_of deck).behind
 frames_are_declared deck =
     let s = (run_of deck).behind in
-    let q = run_so Any Any any_comes Any Any any_kept any_kept (λ d k l. (any_chain d.chain, any_queued d.store.queue)) deck (any_are (opened deck).mounted)
-    (any_are (opened deck).mounted)
+    let all = any_are (opened deck).mounted in
+    let q = run_so Any Anywhere (λ n. reaches_any (λ t. (refl, tt))) Any Any any_kept any_kept (λ d k l. ((λ chain t is e. tt), (λ t ts is. (refl, tt))))
+    deck all all
     in
     all_declared s s.pool.frames (subst (λ (ns : List ℕ). AllOf (IsOneOf ns) Any s.pool.frames) (sym q.0.numbers_are) q.3)

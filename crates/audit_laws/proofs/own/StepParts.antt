@@ -41,7 +41,7 @@ use Rattle.device_laws.proofs.PlainSeconds.{SecondSo, holds_first, part_so}
 use Rattle.device_laws.proofs.PlainStores.{Core, Open, Walks, core_of}
 use Rattle.device_laws.proofs.PlainTurns.{Follows, Halfway, IsMid, IsMidOf, none_mid, some_none}
 use Rattle.device_laws.proofs.PlainWalks.{ended_same, hear_same}
-use Rattle.device_laws.proofs.WholeEvents.{turned_same}
+use Rattle.device_laws.proofs.walks.Events.{turned_same}
 use Rattle.subsystem_defs.specs.Happening.{Talk}
 use Rattle.subsystem_laws.proofs.LendBase.{IsStill, stays_still}
 use Rattle.deck_audit.specs.declared.state.HalfWrite.{HalfWrite}

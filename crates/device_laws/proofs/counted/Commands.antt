@@ -37,7 +37,7 @@ use Rattle.device_laws.proofs.BasedEvents.{base_in, fronted, front_based, comman
 use Rattle.device_laws.proofs.invariants.CallCounts.{hear_steady}
 use Rattle.device_laws.proofs.ChainFeeds.{chain_feeds, runs_looks}
 use Rattle.device_laws.proofs.QuietParts.{quiet_done, quiet_then, hear_quiet, ended_quiet}
-use Rattle.device_laws.proofs.WholeEvents.{turned_same}
+use Rattle.device_laws.proofs.walks.Events.{turned_same}
 use Rattle.device_laws.specs.Seen as seen
 use Rattle.device_laws.specs.Seen.{NotCalled, EndsAs, IsKept, with_act, answered, CameAsSeen, Noticed, CommandCame}
 use Rattle.device_laws.proofs.counted.RanCounts.{none_counted, counted_from, counted_to, try_based, based_rest, quiet_base}

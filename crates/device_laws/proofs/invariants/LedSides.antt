@@ -30,7 +30,7 @@ use Rattle.device_laws.proofs.Unlost.{clear_at}
 use Rattle.device_laws.proofs.walks.Within.{always, within_always, within_weaker}
 use Rattle.device_laws.proofs.walks.Moves.{Kind, Shut, Half, Emptied, Losing, stays, IsKept, moves_keep, IsEnded, ends_keep}
 use Rattle.device_laws.proofs.walks.Reads.{over_moves, unpatched_moves, unframed_moves, side_moves}
-use Rattle.device_laws.proofs.walks.Events.{command_leads, second_leads, background_leads, lose_leads, peek_leads, power_leads, reset_leads}
+use Rattle.device_laws.proofs.walks.Events.{reaches_any, command_leads, second_leads, background_leads, lose_leads, peek_leads, power_leads, reset_leads}
 
 -- what is said of a store
 pub record SideState : Type 0 where
@@ -236,17 +236,18 @@ module _ {F P H R : Type 0} (c : Contents F P H R) where
 
   pub command_steers : (d : Device F P H) → d.store.half ≡ None → IsSide d.store → Steers (command c d)
   command_steers d none f =
-      within_always (command_leads always c tt d (λ n e. IsSide e.store) f (λ n e m. ends_keep shut_kept shut_ended (no_half d.store none f) m))
+      within_always (command_leads always c tt d (reaches_any (λ t. tt)) (λ chain t is e. tt) (λ n e. IsSide e.store) f
+      (λ n e m. ends_keep shut_kept shut_ended (no_half d.store none f) m))
 
   pub background_steers : (d : Device F P H) → d.store.half ≡ None → IsSide d.store → Steers (background c d)
   background_steers d none f =
-      within_always (within_weaker (background_leads always c tt d) (λ n e a m. ends_keep shut_kept shut_ended (no_half d.store none f) m))
+      within_always (within_weaker (background_leads always c tt d (λ t ts is. tt)) (λ n e a m. ends_keep shut_kept shut_ended (no_half d.store none f) m))
 
   pub second_steers : (d : Device F P H) → IsSide d.store → Steers (second c d)
   second_steers d f = within_always (within_weaker (second_leads always c tt d Half (λ e. absurd (cc))) (λ n e a m. ends_keep half_kept (steered_ended Half) f m))
 
   pub peek_steers : (d : Device F P H) (t : ℕ) → IsSide d.store → Steers (peek c d t)
-  peek_steers d t f = within_always (within_weaker (peek_leads always c tt d Half t) (λ n e a m. ends_keep half_kept (steered_ended Half) f m))
+  peek_steers d t f = within_always (within_weaker (peek_leads always c tt d Half t tt) (λ n e a m. ends_keep half_kept (steered_ended Half) f m))
 
   pub lose_steers : (d : Device F P H) (loss : Loss) → IsSide d.store → Steers (lose c d loss)
   lose_steers d loss f = within_always (within_weaker (lose_leads always c tt d loss) (λ n e a m. ends_keep (losing_kept loss) (steered_ended (Losing loss)) f m))

@@ -120,7 +120,7 @@ use Rattle.device_laws.proofs.walks.Moves.{
 use Rattle.device_laws.proofs.walks.Reads as W
 use Rattle.device_laws.proofs.walks.Reads.{clean_plain}
 use Rattle.device_laws.proofs.walks.Writes.{recovered_bytes_comes}
-use Rattle.device_laws.proofs.walks.Events.{WentTo, looked_looks, look_looks, follow_comes, command_leads, second_leads, background_leads, peek_leads}
+use Rattle.device_laws.proofs.walks.Events.{WentTo, Anywhere, reaches_any, looked_looks, look_looks, follow_comes, command_leads, second_leads, background_leads, peek_leads}
 
 -- Good marks
 
@@ -504,25 +504,25 @@ module _ {F P H R : Type 0} (c : Contents F P H R) where
     -- The parts of a command
 
     pub image_goes : (s : Store F P H) (u : Usage) (t : ℕ) → IsWell c s → Goes s (image c s u t)
-    image_goes s u t w = within_lucky (within_weaker (W.image_goes s u t stays) (λ n z a m. moves_fine s w m))
+    image_goes s u t w = within_lucky (within_weaker (W.image_goes s u t tt stays) (λ n z a m. moves_fine s w m))
 
     shut_fine : (s : Store F P H) {m : Unit {0}} {z : Store F P H} → IsWell c s → Ends lucky Shut c tt s m z → Fine (core_of s) (core_of z)
     shut_fine s w m = ends_from Shut (λ may. may) s w s (begins Shut s w (λ e. absurd (cc))) m
 
-    went_fine : (s : Store F P H) (m : Unit {0}) (z : Store F P H) (o : Option Went) → IsWell c s → WentTo lucky Shut c tt s m z o →
+    went_fine : (s : Store F P H) (m : Unit {0}) (z : Store F P H) (o : Option Went) → IsWell c s → WentTo lucky Shut c tt s Anywhere m z o →
         Fine (core_of s) (core_of z)
     went_fine s m z None w g = shut_fine s w g
     went_fine s m z (Some (Over turn)) w g = shut_fine s w g
-    went_fine s m z (Some (On chain q)) w g = moves_fine s w g
+    went_fine s m z (Some (On chain q)) w g = moves_fine s w g.0
 
     pub looked_goes : (chain : ChainState) (first t : ℕ) (s : Store F P H) (o : Option Imaged) → IsWell c s → Goes s (had_by (looked c chain first t) s o)
-    looked_goes chain first t s o w = within_lucky (within_weaker (looked_looks refl chain first t s o stays) (λ n z a g. went_fine s n z a w g))
+    looked_goes chain first t s o w = within_lucky (within_weaker (looked_looks refl (reaches_any (λ q. tt)) chain first t s o tt stays) (λ n z a g. went_fine s n z a w g))
 
     pub look_goes : (chain : ChainState) (first t : ℕ) (s : Store F P H) → IsWell c s → Goes s (look c chain first t s)
-    look_goes chain first t s w = within_lucky (within_weaker (look_looks refl chain first t s stays) (λ n z a g. went_fine s n z a w g))
+    look_goes chain first t s w = within_lucky (within_weaker (look_looks refl (reaches_any (λ q. tt)) chain first t s tt stays) (λ n z a g. went_fine s n z a w g))
 
     pub follow_goes : (k first : ℕ) (chain : ChainState) (t : ℕ) (s : Store F P H) → IsWell c s → Goes s (follow c k first chain t s)
-    follow_goes k first chain t s w = within_lucky (within_weaker (follow_comes refl k first tt chain t s stays) (λ n z a g. shut_fine s w g))
+    follow_goes k first chain t s w = within_lucky (within_weaker (follow_comes refl (reaches_any (λ q. tt)) k first tt chain t s tt stays) (λ n z a g. shut_fine s w g))
 
     pub recovered_bytes_goes : (t : ℕ) (s : Store F P H) (g : Got R) (o : Option R) → IsWell c s → Goes s (recovered_bytes c t s g o)
     recovered_bytes_goes t s g o w = within_lucky (within_weaker (recovered_bytes_comes refl t s g o stays) (λ n z a m. shut_fine s w m))
@@ -531,12 +531,12 @@ module _ {F P H R : Type 0} (c : Contents F P H R) where
 
     pub command_goes : (d : Device F P H) → IsWell c d.store → DeviceGoes c d.store (command c d)
     command_goes d w =
-        within_lucky (command_leads lucky c tt d (λ n e. Fine (core_of d.store) (core_of e.store)) (fine (core_of d.store))
+        within_lucky (command_leads lucky c tt d (reaches_any (λ t. tt)) (λ chain t is e. tt) (λ n e. Fine (core_of d.store) (core_of e.store)) (fine (core_of d.store))
         (λ n e m. ends_from Shut (λ may. may) d.store w (noted_begin d.store) (begins Shut d.store w (λ e. absurd (cc))) m))
 
     pub background_goes : (d : Device F P H) → IsWell c d.store → DeviceGoes c d.store (background c d)
     background_goes d w =
-        within_lucky (within_weaker (background_leads lucky c tt d)
+        within_lucky (within_weaker (background_leads lucky c tt d (λ t ts is. tt))
         (λ n e a m. ends_from Shut (λ may. may) d.store w (noted_begin d.store) (begins Shut d.store w (λ e. absurd (cc))) m))
 
     pub second_event_goes : (d : Device F P H) → IsWell c d.store → HalfIsTried d.store → DeviceGoes c d.store (second c d)
@@ -546,5 +546,5 @@ module _ {F P H R : Type 0} (c : Contents F P H R) where
 
     pub peek_goes : (d : Device F P H) (t : ℕ) → IsWell c d.store → HalfIsTried d.store → DeviceGoes c d.store (peek c d t)
     peek_goes d t w tried =
-        within_lucky (within_weaker (peek_leads lucky c tt d Half t)
+        within_lucky (within_weaker (peek_leads lucky c tt d Half t tt)
         (λ n e a m. ends_from Half (λ may. may) d.store w (noted_begin d.store) (begins Half d.store w (λ e. tried)) m))

@@ -45,7 +45,7 @@ use Rattle.device_laws.proofs.walks.Moves.{
   IsEnded,
   ends_keep,
 }
-use Rattle.device_laws.proofs.walks.Events.{command_leads, second_leads, background_leads, peek_leads, reset_leads}
+use Rattle.device_laws.proofs.walks.Events.{reaches_any, command_leads, second_leads, background_leads, peek_leads, reset_leads}
 
 -- Events that give up no frames
 
@@ -253,12 +253,12 @@ module _ {F P H R : Type 0} (c : Contents F P H R) where
 
     pub command_frames : (d : Device F P H) → d.store.half ≡ None → HasFrames c (plates_of d.store) → DeviceFrames (command c d)
     command_frames d none f =
-        within_lucky (command_leads lucky c tt d (λ n e. HasFrames c (plates_of e.store)) f
+        within_lucky (command_leads lucky c tt d (reaches_any (λ t. tt)) (λ chain t is e. tt) (λ n e. HasFrames c (plates_of e.store)) f
         (λ n e m. ends_keep (frames_kept Shut (λ may. may)) (frames_ended Shut) (f, shut_open d none) m))
 
     pub background_frames : (d : Device F P H) → d.store.half ≡ None → HasFrames c (plates_of d.store) → DeviceFrames (background c d)
     background_frames d none f =
-        within_lucky (within_weaker (background_leads lucky c tt d)
+        within_lucky (within_weaker (background_leads lucky c tt d (λ t ts is. tt))
         (λ n e a m. ends_keep (frames_kept Shut (λ may. may)) (frames_ended Shut) (f, shut_open d none) m))
 
     pub reset_frames : (d : Device F P H) (path : ℕ) →
@@ -279,5 +279,5 @@ module _ {F P H R : Type 0} (c : Contents F P H R) where
         ((h : HalfWrite H) → d.store.half ≡ Some h → (takes_b d.store ≡ true) ⊎ (has_level d.store h.track ≡ true)) →
         HasFrames c (plates_of d.store) → DeviceFrames (peek c d t)
     peek_frames d t tried f =
-        within_lucky (within_weaker (peek_leads lucky c tt d Half t)
+        within_lucky (within_weaker (peek_leads lucky c tt d Half t tt)
         (λ n e a m. ends_keep (frames_kept Half (λ may. may)) (frames_ended Half) (f, (λ e. absurd (cc), λ e. tried)) m))

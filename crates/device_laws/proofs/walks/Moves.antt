@@ -40,8 +40,7 @@ use Rattle.device_defs.specs.Store.{
   with_owed,
 }
 use Rattle.device_defs.specs.Writing.{write_counted, taken_a, cleaned, half_opened}
-use Rattle.device_laws.proofs.Based.{Hushed}
-use Rattle.device_laws.proofs.walks.Within.{Policy, MayFail, Within}
+use Rattle.device_laws.proofs.walks.Within.{Policy, MayFail, Inner, Within}
 
 -- What an event is: no half write is open as it begins, and only there is a loose track written to the volumes; one may be open; or it is one
 -- of a loss; and apart from events, what gives up frames and patches
@@ -164,11 +163,11 @@ module _ {K F P H R : Type 0} (w : Policy K) (kind : Kind) (c : Contents F P H R
 
   -- so an interaction over the tracks moves them
   abbrev pub Goes : {A : Type 0} → K → Interaction R Image (Store F P H) A → Type 0
-  Goes n i = Within w Hushed (λ m z a. Moves m z) n i
+  Goes n i = Within w (Inner w) (λ m z a. Moves m z) n i
 
   -- and so where a half write may be opened at the end
   abbrev pub Comes : {A : Type 0} → K → Interaction R Image (Store F P H) A → Type 0
-  Comes n i = Within w Hushed (λ m z a. Ends m z) n i
+  Comes n i = Within w (Inner w) (λ m z a. Ends m z) n i
 
 -- An invariant, one field a move
 

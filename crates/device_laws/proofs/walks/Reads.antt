@@ -84,7 +84,6 @@ use Rattle.device_defs.specs.Store.{
 }
 use Rattle.device_defs.specs.Writing.{write_counted}
 use Rattle.device_laws.proofs.Bools.{not_true}
-use Rattle.device_laws.proofs.Based.{Hushed}
 use Rattle.device_laws.proofs.HeldPlaces.{none_at}
 use Rattle.device_laws.proofs.PoolWalks.{hear_asks, told_asks}
 use Rattle.device_laws.proofs.walks.Within.{
@@ -92,6 +91,7 @@ use Rattle.device_laws.proofs.walks.Within.{
   MayFail,
   read_fails,
   write_fails,
+  Inner,
   Within,
   within_done,
   within_ask,
@@ -135,6 +135,7 @@ use Rattle.device_laws.proofs.walks.Moves.{
   notes,
   pays,
 }
+use Rattle.device_laws.proofs.walks.Shells.{still_wants}
 
 module _ {F P H : Type 0} where
   half_same : (z : Store F P H) (t : ℕ) (o : Option ℕ) → (gives_up z t o).half ≡ z.half
@@ -149,7 +150,7 @@ module _ {K F P H R : Type 0} (w : Policy K) (kind : Kind) (c : Contents F P H R
 
   -- from x behind a read: the frames are the same, or a call failed
   abbrev Gets : K → Store F P H → Interaction R Image (Store F P H) (Got R) → Type 0
-  Gets n x i = Within w Hushed (λ m z (g : Got R). Moves w kind c k s m z × ((z.frames ≡ x.frames) ⊎ MayFail w)) n i
+  Gets n x i = Within w (Inner w) (λ m z (g : Got R). Moves w kind c k s m z × ((z.frames ≡ x.frames) ⊎ MayFail w)) n i
 
 module _ {K F P H R : Type 0} (w : Policy K) (c : Contents F P H R) where
   plain_if : (t : ℕ) (b : Bool) (x y : Store F P H) → IsPlain w c x t → IsPlain w c y t → IsPlain w c (if b then x else y) t
@@ -271,8 +272,14 @@ module _ {K F P H R : Type 0} {w : Policy K} {kind : Kind} {c : Contents F P H R
 
   -- Notices, and what is told
 
+  -- the queue stays
+  pub heard_goes : {n : K} (j : ℕ) (z : Store F P H) → Moves w kind c k s n z →
+      Within w (Inner w) (λ m y _. Moves w kind c k s m y × (y.queue ≡ z.queue)) n (hear c j z)
+  heard_goes j z m =
+      asks_within (hear_asks c (λ y. Moves w kind c k s _ y × (y.queue ≡ z.queue)) (λ y t clean x. (drops x.0 t clean, x.1)) j z (m, refl))
+
   pub hear_goes : {n : K} (j : ℕ) (z : Store F P H) → Moves w kind c k s n z → Goes w kind c k s n (hear c j z)
-  hear_goes j z m = asks_within (hear_asks c (λ y. Moves w kind c k s _ y) (λ y t clean x. drops x t clean) j z m)
+  hear_goes j z m = within_weaker (heard_goes j z m) (λ n y a x. x.0)
 
   pub all_told_goes : {n : K} (j : ℕ) (z : Store F P H) → Moves w kind c k s n z → Goes w kind c k s n (all_told c j z)
   all_told_goes j z m = asks_within (told_asks c (λ y. Moves w kind c k s _ y) (λ y t x. pays x t _) j z m)
@@ -361,41 +368,42 @@ module _ {K F P H R : Type 0} {w : Policy K} {kind : Kind} {c : Contents F P H R
   granted_goes z t i given plain m =
       within_if given (λ _. within_then (λ y _. Done y (Some (Has i))) (filled_goes z t i plain m) (λ n y _ g. within_done g)) (λ _. within_done m)
 
-  loaded_goes : {n : K} (z : Store F P H) (t : ℕ) (i : Image) (mode : Mode) → IsPlain w c z t → Moves w kind c k s n z →
+  loaded_goes : {n : K} (z : Store F P H) (t : ℕ) (i : Image) (mode : Mode) → w.wants s.device t → IsPlain w c z t → Moves w kind c k s n z →
       Goes w kind c k s n (loaded c z t i mode)
-  loaded_goes z t i mode plain m =
-      within_if (loads mode) (λ _. within_tried z _ m (within_ask tt (λ given. granted_goes z t i given plain m))) (λ _. within_done m)
+  loaded_goes z t i mode on plain m =
+      within_if (loads mode) (λ _. within_tried z _ m (within_ask (still_wants t on m) (λ given. granted_goes z t i given plain m))) (λ _. within_done m)
 
-  delivered_goes : {n : K} (u : Usage) (t : ℕ) (side : Side) (z : Store F P H) (o : Option Image) → IsPlain w c z t → Moves w kind c k s n z →
-      Goes w kind c k s n (delivered c u t side z o)
-  delivered_goes u t side z None plain m = within_done m
-  delivered_goes u t side z (Some i) plain m = loaded_goes (ahead u z t) t i u.mode (ahead_plain w c u z t t plain) (ahead_moves u z t m)
+  delivered_goes : {n : K} (u : Usage) (t : ℕ) (side : Side) (z : Store F P H) (o : Option Image) → w.wants s.device t → IsPlain w c z t →
+      Moves w kind c k s n z → Goes w kind c k s n (delivered c u t side z o)
+  delivered_goes u t side z None on plain m = within_done m
+  delivered_goes u t side z (Some i) on plain m = loaded_goes (ahead u z t) t i u.mode on (ahead_plain w c u z t t plain) (ahead_moves u z t m)
 
-  pub missed_goes : {n : K} (u : Usage) (t : ℕ) (z : Store F P H) (g : Got R) (o : Option R) → IsPlain w c z t →
+  pub missed_goes : {n : K} (u : Usage) (t : ℕ) (z : Store F P H) (g : Got R) (o : Option R) → w.wants s.device t → IsPlain w c z t →
       Moves w kind c k s n z → Goes w kind c k s n (missed c u t z g o)
-  missed_goes u t z g None plain m = within_done m
-  missed_goes u t z g (Some r) plain m = within_tried z _ m (delivered_goes u t g.side z (image_of c z t r) plain m)
+  missed_goes u t z g None on plain m = within_done m
+  missed_goes u t z g (Some r) on plain m = within_tried z _ m (delivered_goes u t g.side z (image_of c z t r) on plain m)
 
-  miss_goes : {n : K} (z : Store F P H) (u : Usage) (t : ℕ) → IsPlain w c z t → Moves w kind c k s n z → Goes w kind c k s n (miss c z u t)
-  miss_goes z u t plain m =
-      within_then (λ y g. missed c u t y g g.bytes) (level_goes z t m) (λ n y g x. missed_goes u t y g g.bytes (plain_on w c z y t plain x.1) x.0)
+  miss_goes : {n : K} (z : Store F P H) (u : Usage) (t : ℕ) → w.wants s.device t → IsPlain w c z t → Moves w kind c k s n z →
+      Goes w kind c k s n (miss c z u t)
+  miss_goes z u t on plain m =
+      within_then (λ y g. missed c u t y g g.bytes) (level_goes z t m) (λ n y g x. missed_goes u t y g g.bytes on (plain_on w c z y t plain x.1) x.0)
 
-  clean_goes : {n : K} (z : Store F P H) (u : Usage) (t : ℕ) (f : F) → is_clean c (frame_at z t) ≡ true → Moves w kind c k s n z →
-      Goes w kind c k s n (clean_image c z u t f)
-  clean_goes z u t f clean m =
-      within_if (is_bypass u.mode) (λ _. miss_goes z u t (inl (clean_plain c (frame_at z t) clean)) m)
-      (λ _. within_ask tt (λ listed. within_if listed (λ _. within_done m) (λ _. miss_goes (with_frame z t None) u t
+  clean_goes : {n : K} (z : Store F P H) (u : Usage) (t : ℕ) (f : F) → w.wants s.device t → is_clean c (frame_at z t) ≡ true →
+      Moves w kind c k s n z → Goes w kind c k s n (clean_image c z u t f)
+  clean_goes z u t f on clean m =
+      within_if (is_bypass u.mode) (λ _. miss_goes z u t on (inl (clean_plain c (frame_at z t) clean)) m)
+      (λ _. within_ask tt (λ listed. within_if listed (λ _. within_done m) (λ _. miss_goes (with_frame z t None) u t on
       (inl (ap (λ (o : Option F). is_modified c o) (none_at z.frames t))) (drops m t clean))))
 
-  by_frame_goes : {n : K} (z : Store F P H) (u : Usage) (t : ℕ) (o : Option F) → frame_at z t ≡ o → Moves w kind c k s n z →
-      Goes w kind c k s n (image_by c z u t o)
-  by_frame_goes z u t None is m = miss_goes z u t (inl (ap (λ (o : Option F). is_modified c o) is)) m
-  by_frame_goes z u t (Some f) is m =
-      within_if (c.modified f) (λ _. within_done m) (λ plain. clean_goes z u t f (ap (is_clean c) is ∙ ap not plain) m)
+  by_frame_goes : {n : K} (z : Store F P H) (u : Usage) (t : ℕ) (o : Option F) → frame_at z t ≡ o → w.wants s.device t →
+      Moves w kind c k s n z → Goes w kind c k s n (image_by c z u t o)
+  by_frame_goes z u t None is on m = miss_goes z u t on (inl (ap (λ (o : Option F). is_modified c o) is)) m
+  by_frame_goes z u t (Some f) is on m =
+      within_if (c.modified f) (λ _. within_done m) (λ plain. clean_goes z u t f on (ap (is_clean c) is ∙ ap not plain) m)
 
-  pub image_goes : {n : K} (z : Store F P H) (u : Usage) (t : ℕ) → Moves w kind c k s n z → Goes w kind c k s n (image c z u t)
+  pub image_goes : {n : K} (z : Store F P H) (u : Usage) (t : ℕ) → w.wants s.device t → Moves w kind c k s n z → Goes w kind c k s n (image c z u t)
   unfolding I.image
-  image_goes z u t m = by_frame_goes z u t (frame_at z t) refl m
+  image_goes z u t on m = by_frame_goes z u t (frame_at z t) refl on m
 
   -- A look past the channel
 
@@ -404,12 +412,12 @@ module _ {K F P H R : Type 0} {w : Policy K} {kind : Kind} {c : Contents F P H R
   found_goes z None m = within_done m
   found_goes z (Some i) m = within_done m
 
-  peeked_goes : {n : K} (z : Store F P H) (t : ℕ) → Moves w kind c k s n z → Goes w kind c k s n (peek_image c z t)
-  peeked_goes z t m = within_then (had_by (λ y i. Done y (Some (peeked i)))) (image_goes z peek_usage t m) (λ n y o g. found_goes y o g)
+  peeked_goes : {n : K} (z : Store F P H) (t : ℕ) → w.wants s.device t → Moves w kind c k s n z → Goes w kind c k s n (peek_image c z t)
+  peeked_goes z t on m = within_then (had_by (λ y i. Done y (Some (peeked i)))) (image_goes z peek_usage t on m) (λ n y o g. found_goes y o g)
 
-  in_half_goes : {n : K} (z : Store F P H) (t : ℕ) (o : Option (HalfWrite H)) → Moves w kind c k s n z → Goes w kind c k s n (peek_half c z t o)
-  in_half_goes z t (Some h) m = within_if (is_in_half c z t h) (λ _. within_tried z _ m (within_done m)) (λ _. peeked_goes z t m)
-  in_half_goes z t None m = peeked_goes z t m
+  in_half_goes : {n : K} (z : Store F P H) (t : ℕ) (o : Option (HalfWrite H)) → w.wants s.device t → Moves w kind c k s n z → Goes w kind c k s n (peek_half c z t o)
+  in_half_goes z t (Some h) on m = within_if (is_in_half c z t h) (λ _. within_tried z _ m (within_done m)) (λ _. peeked_goes z t on m)
+  in_half_goes z t None on m = peeked_goes z t on m
 
-  pub track_goes : {n : K} (z : Store F P H) (t : ℕ) → Moves w kind c k s n z → Goes w kind c k s n (peek_track c z t)
-  track_goes z t m = within_if (is_lost z t) (λ _. within_done m) (λ _. in_half_goes z t z.half m)
+  pub track_goes : {n : K} (z : Store F P H) (t : ℕ) → w.wants s.device t → Moves w kind c k s n z → Goes w kind c k s n (peek_track c z t)
+  track_goes z t on m = within_if (is_lost z t) (λ _. within_done m) (λ _. in_half_goes z t z.half on m)

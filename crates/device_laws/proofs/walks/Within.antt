@@ -4,19 +4,21 @@ use Rattle.std.specs.Prelude.{if◌then◌else◌}
 use Rattle.ckd_types.specs.declared.paths.Side.{Side}
 use Rattle.device_outside.specs.Interaction.{Interaction, Done, Try, Ask, Read, Write, Tell, and_then}
 use Rattle.device_outside.specs.Keeper.{Message, BeforeEdit, Firm, ReplyTo}
-use Rattle.device_outside.specs.Pool.{Call, AnswerTo}
+use Rattle.device_outside.specs.Pool.{Call, TellWaiting, WantFrame, AnswerTo}
 use Rattle.device_defs.specs.Memory.{tried}
 use Rattle.device_laws.proofs.Always as A
 use Rattle.device_laws.proofs.Always.{Behind, Always, always_done, always_try, always_ask, always_read, always_write, always_tell}
-use Rattle.device_laws.proofs.Based.{Any}
+use Rattle.device_laws.proofs.Based.{Hushed}
 use Rattle.device_laws.proofs.Lucky.{Lucky, lucky_done, lucky_try, lucky_ask, lucky_read, lucky_write, lucky_tell}
-use Rattle.device_laws.proofs.PoolWalks.{AsksPool, asks_done, asks_try, asks_ask}
+use Rattle.device_laws.proofs.PoolWalks.{Sated, AsksPool, asks_done, asks_try, asks_ask}
 
--- whether an answer on memory is considered, and what is kept behind a read or a write: none where its answer isn't considered
-pub record Policy (K : Type 0) : Type 0 where
+-- whether an answer on memory is considered, and what is kept behind a read or a write: none where its answer isn't considered; and of which
+-- track of which device a frame may be wanted
+pub record Policy (K : Type 0) : Type 1 where
   pub had : Bool → Bool
   pub read : K → Bool → Option K
   pub wrote : K → Bool → Option K
+  pub wants : ℕ → ℕ → Type 0
 
 -- it considers a failed call of a volume
 pub data MayFail {K : Type 0} (w : Policy K) : Type 0 where
@@ -27,6 +29,29 @@ pub data MayFail {K : Type 0} (w : Policy K) : Type 0 where
 abbrev pub agreed : {I : Type 0} → (m : Message I) → ReplyTo m → Bool
 agreed (BeforeEdit d t i) r = r
 agreed (Firm d t i) r = true
+
+-- the calls of the pool that may be made in an event, where it isn't told how many tracks wait, and with its end
+abbrev pub Inner : {K : Type 0} → Policy K → Call → Type 0
+Inner w (TellWaiting device n) = ⊥
+Inner w (WantFrame device t) = w.wants device t
+Inner w call = Unit {0}
+
+abbrev pub Outer : {K : Type 0} → Policy K → Call → Type 0
+Outer w (WantFrame device t) = w.wants device t
+Outer w call = Unit {0}
+
+sated_inner : {K : Type 0} (w : Policy K) (call : Call) → Sated call → Inner w call
+sated_inner w (TellWaiting device n) m = m
+sated_inner w (WantFrame device t) m = absurd m
+sated_inner w call m = tt
+
+pub inner_hushed : {K : Type 0} (w : Policy K) (call : Call) → Inner w call → Hushed call
+inner_hushed w (TellWaiting device n) m = m
+inner_hushed w call m = tt
+
+inner_outer : {K : Type 0} (w : Policy K) (call : Call) → Inner w call → Outer w call
+inner_outer w (WantFrame device t) m = m
+inner_outer w call m = tt
 
 -- with these calls of the pool
 pub data Within {K R I S A : Type 0} (w : Policy K) (may : Call → Type 0) (q : K → S → A → Type 0) : K → Interaction R I S A → Type 0 where
@@ -60,15 +85,15 @@ within_weaker (within_read x) more = within_read (λ got n is. within_weaker (x 
 within_weaker (within_write x) more = within_write (λ ok n is. within_weaker (x ok n is) more)
 within_weaker (within_tell x) more = within_tell (λ r is. within_weaker (x r is) more)
 
--- with any calls
-pub within_any : {K R I S A : Type 0} {w : Policy K} {may : Call → Type 0} {q : K → S → A → Type 0} {n : K} {i : Interaction R I S A} →
-    Within w may q n i → Within w Any q n i
-within_any (within_done x) = within_done x
-within_any (within_try x) = within_try (λ ok is. within_any (x ok is))
-within_any (within_ask m x) = within_ask tt (λ a. within_any (x a))
-within_any (within_read x) = within_read (λ got n is. within_any (x got n is))
-within_any (within_write x) = within_write (λ ok n is. within_any (x ok n is))
-within_any (within_tell x) = within_tell (λ r is. within_any (x r is))
+-- what an event does it does as a whole
+pub within_outer : {K R I S A : Type 0} {w : Policy K} {q : K → S → A → Type 0} {n : K} {i : Interaction R I S A} →
+    Within w (Inner w) q n i → Within w (Outer w) q n i
+within_outer (within_done x) = within_done x
+within_outer (within_try x) = within_try (λ ok is. within_outer (x ok is))
+within_outer {w = w} (within_ask {call = call} m x) = within_ask (inner_outer w call m) (λ a. within_outer (x a))
+within_outer (within_read x) = within_read (λ got n is. within_outer (x got n is))
+within_outer (within_write x) = within_write (λ ok n is. within_outer (x ok n is))
+within_outer (within_tell x) = within_tell (λ r is. within_outer (x r is))
 
 pub within_if : {K R I S A : Type 0} {w : Policy K} {may : Call → Type 0} {q : K → S → A → Type 0} {n : K} (b : Bool) {i j : Interaction R I S A} →
     (b ≡ true → Within w may q n i) → (b ≡ false → Within w may q n j) → Within w may q n (if b then i else j)
@@ -95,17 +120,18 @@ pub within_and_always : {K R I S A : Type 0} {w : Policy K} {may : Call → Type
 within_and_always {q = q} {p = p} {i = i} x h = within_behind {q = q} {p = p} i h.holds x
 
 -- what calls no volume keeps what the policy kept
-pub asks_within : {K R I S A : Type 0} {w : Policy K} {may : Call → Type 0} {q : K → S → A → Type 0} {n : K} {i : Interaction R I S A} →
-    AsksPool may (λ s a. q n s a) i → Within w may q n i
+pub asks_within : {K R I S A : Type 0} {w : Policy K} {q : K → S → A → Type 0} {n : K} {i : Interaction R I S A} →
+    AsksPool Sated (λ s a. q n s a) i → Within w (Inner w) q n i
 asks_within (asks_done x) = within_done x
 asks_within {w = w} {q = q} {n = n} (asks_try x) = within_try (λ ok is. asks_within {w = w} {q = q} {n = n} (x ok))
-asks_within {w = w} {q = q} {n = n} (asks_ask m x) = within_ask m (λ a. asks_within {w = w} {q = q} {n = n} (x a))
+asks_within {w = w} {q = q} {n = n} (asks_ask {call = call} m x) =
+    within_ask (sated_inner w call m) (λ a. asks_within {w = w} {q = q} {n = n} (x a))
 
 -- The policies
 
 -- whatever is answered
 abbrev pub always : Policy (Unit {0})
-always = record { had = λ ok. true; read = λ n ok. Some n; wrote = λ n ok. Some n }
+always = record { had = λ ok. true; read = λ n ok. Some n; wrote = λ n ok. Some n; wants = λ device t. Unit {0} }
 
 abbrev pub where_so : {K : Type 0} → K → Bool → Option K
 where_so n true = Some n
@@ -113,7 +139,7 @@ where_so n false = None
 
 -- no call of a volume fails
 abbrev pub lucky : Policy (Unit {0})
-lucky = record { had = λ ok. true; read = where_so; wrote = where_so }
+lucky = record { had = λ ok. true; read = where_so; wrote = where_so; wants = λ device t. Unit {0} }
 
 pub none_fails : {X : Type 0} → MayFail lucky → X
 none_fails (read_fails m n is) = absurd (cc)

@@ -109,7 +109,6 @@ use Rattle.device_defs.specs.Writing.{
   write_opened,
 }
 use Rattle.device_laws.proofs.Bools.{and_left, or_left, or_right, up_level}
-use Rattle.device_laws.proofs.Based.{Hushed}
 use Rattle.device_laws.proofs.Choices.{Fits, Chosen, choice_fits}
 use Rattle.device_laws.proofs.HeldPlaces.{none_at}
 use Rattle.device_laws.proofs.PoolWalks.{choose_asks}
@@ -118,6 +117,7 @@ use Rattle.device_laws.proofs.walks.Within.{
   Policy,
   MayFail,
   write_fails,
+  Inner,
   Within,
   within_done,
   within_try,
@@ -168,6 +168,7 @@ use Rattle.device_laws.proofs.walks.Moves.{
   opens,
   opens_cleaned,
 }
+use Rattle.device_laws.proofs.walks.Shells.{still_wants}
 use Rattle.device_laws.proofs.walks.Reads.{
   moves_if,
   settled_moves,
@@ -223,6 +224,10 @@ module _ {F P H : Type 0} where
   up_by z t true = refl
   up_by z t false = refl
 
+-- a frame of the track that is staged first may be wanted
+abbrev pub Stages : {K : Type 0} → Policy K → ℕ → List ℕ → Type 0
+Stages w device queue = (t : ℕ) (ts : List ℕ) → queue ≡ t ∷ ts → w.wants device t
+
 module _ {K F P H : Type 0} (w : Policy K) (kind : Kind) where
   still_written : (z : Store F P H) (t : ℕ) → IsWritten w kind z t → IsWritten w kind (with_patch z t None) t
   still_written z t (first_written level firm) = first_written level firm
@@ -247,7 +252,7 @@ module _ {K F P H R : Type 0} (w : Policy K) (kind : Kind) (c : Contents F P H R
     pub written : (took ≡ Unwritten → ⊥) → IsWritten w kind z t
 
   abbrev Writes : K → ℕ → Interaction R Image (Store F P H) Wrote → Type 0
-  Writes n t i = Within w Hushed (λ m z (v : Wrote). FirstPart m t z v.took) n i
+  Writes n t i = Within w (Inner w) (λ m z (v : Wrote). FirstPart m t z v.took) n i
 
   -- from x behind a second part: side B was tried where that could be, or a call failed
   pub data Tried (x : Store F P H) (t : ℕ) (z : Store F P H) : Type 0 where
@@ -256,7 +261,7 @@ module _ {K F P H R : Type 0} (w : Policy K) (kind : Kind) (c : Contents F P H R
     second_off : z.half ≡ x.half → is_loose z t ≡ is_loose x t → takes_b z ≡ false → Tried x t z
 
   abbrev pub Seconds : K → Store F P H → ℕ → Interaction R Image (Store F P H) (Unit {0}) → Type 0
-  Seconds n x t i = Within w Hushed (λ m y _. Moves w kind c k s m y × Tried x t y) n i
+  Seconds n x t i = Within w (Inner w) (λ m y _. Moves w kind c k s m y × Tried x t y) n i
 
   -- from x behind a write that is done: the store but for the half write, which is this one now
   record Rested (n : K) (x : Store F P H) (t : ℕ) (g : Option (HalfWrite H)) (v : Store F P H) : Type 0 where
@@ -268,7 +273,7 @@ module _ {K F P H R : Type 0} (w : Policy K) (kind : Kind) (c : Contents F P H R
     bare : patch_at z t ≡ None
 
   abbrev Rests : K → Store F P H → ℕ → Option (HalfWrite H) → Interaction R Image (Store F P H) (Unit {0}) → Type 0
-  Rests n x t g i = Within w Hushed (λ m v _. Rested m x t g v) n i
+  Rests n x t g i = Within w (Inner w) (λ m v _. Rested m x t g v) n i
 
 module _ {K F P H R : Type 0} {w : Policy K} {kind : Kind} {c : Contents F P H R} {k : K} {s : Store F P H} where
   pub goes_comes : {A : Type 0} {n : K} {i : Interaction R Image (Store F P H) A} → Goes w kind c k s n i → Comes w kind c k s n i
@@ -323,7 +328,7 @@ module _ {K F P H R : Type 0} {w : Policy K} {kind : Kind} {c : Contents F P H R
   done_goes z t i bypass why m = within_weaker (done_rests z t i bypass z.half why m) (λ n v _ r. rested_moves z t v r)
 
   choose_goes : {n : K} (z : Store F P H) (u : Usage) (t : ℕ) → Moves w kind c k s n z →
-      Within w Hushed (λ m y choice. Moves w kind c k s m y × Chosen c z t y choice) n (choose c z u t)
+      Within w (Inner w) (λ m y choice. Moves w kind c k s m y × Chosen c z t y choice) n (choose c z u t)
   choose_goes z u t m = within_and_always (asks_within (choose_asks c (λ y. Moves w kind c k s _ y) z u t m)) (choice_fits c z u t)
 
   -- What the first part left
@@ -445,10 +450,10 @@ module _ {K F P H R : Type 0} {w : Policy K} {kind : Kind} {c : Contents F P H R
   staged_bytes_goes t z g (Some r) plain m =
       within_try (λ ok _. within_if ok (λ _. staged_image_goes t z g (image_of c z t r) plain m) (λ _. unfilled_goes z t None m))
 
-  stage_goes : {n : K} (z : Store F P H) (t : ℕ) → Moves w kind c k s n z → Goes w kind c k s n (stage c z t)
-  stage_goes z t m =
+  stage_goes : {n : K} (z : Store F P H) (t : ℕ) → w.wants s.device t → Moves w kind c k s n z → Goes w kind c k s n (stage c z t)
+  stage_goes z t on m =
       within_if (is_some (frame_at z t) || is_lost z t) (λ _. within_done m)
-      (λ bare. within_tried z _ m (within_ask tt (λ given. within_if given
+      (λ bare. within_tried z _ m (within_ask (still_wants t on m) (λ given. within_if given
       (λ _. within_then (λ y g. staged_bytes c t y g g.bytes) (level_goes z t m)
       (λ n y g x. staged_bytes_goes t y g g.bytes (plain_on w c z y t (inl (none_plain c (frame_at z t) (is_lost z t) bare)) x.1) x.0))
       (λ _. within_done m))))
@@ -457,7 +462,7 @@ module _ {K F P H R : Type 0} {w : Policy K} {kind : Kind} {c : Contents F P H R
 
   module _ (is_shut : kind ≡ Shut) where
     firm_first_goes : {n : K} (z : Store F P H) (t : ℕ) → Moves w kind c k s n z →
-        Within w Hushed (λ m y (b : Bool). Firmed w kind c k s m t y) n (firm_first c z t)
+        Within w (Inner w) (λ m y (b : Bool). Firmed w kind c k s m t y) n (firm_first c z t)
     firm_first_goes z t m =
         within_if (is_loose z t) (λ loose. within_tell (λ r _. within_done (now_firm m loose))) (λ firm. within_done (was_firm m firm))
 
@@ -642,20 +647,21 @@ module _ {K F P H R : Type 0} {w : Policy K} {kind : Kind} {c : Contents F P H R
     destage_comes z None m = within_done (moved m)
     destage_comes z (Some t) m = saved_comes z t (framed_image c z t (frame_at z t)) (Destaged t) None m
 
-    stage_first_comes : {n : K} (z : Store F P H) (queue : List ℕ) → z.queue ≡ queue → Moves w kind c k s n z → Comes w kind c k s n (stage_first c z queue)
-    stage_first_comes z [] is m = destage_comes z (to_destage c z) m
-    stage_first_comes z (t ∷ ts) is m =
+    stage_first_comes : {n : K} (z : Store F P H) (queue : List ℕ) → z.queue ≡ queue → Stages w s.device z.queue → Moves w kind c k s n z →
+        Comes w kind c k s n (stage_first c z queue)
+    stage_first_comes z [] is on m = destage_comes z (to_destage c z) m
+    stage_first_comes z (t ∷ ts) is on m =
         let more : length z.queue ≡ suc (length ts) = ap (λ (l : List ℕ). length l) is in
-        goes_comes (stage_goes (record z { queue = ts }) t (dequeues m ts (omega (arith, more))))
+        goes_comes (stage_goes (record z { queue = ts }) t (on t ts is) (dequeues m ts (omega (arith, more))))
 
-    copy_first_comes : {n : K} (z : Store F P H) (o : Option ℕ) → Moves w kind c k s n z → Comes w kind c k s n (copy_first c z o)
-    copy_first_comes z None m = stage_first_comes z z.queue refl m
-    copy_first_comes z (Some t) m = goes_comes (copy_goes z t (copies_to z t) m)
+    copy_first_comes : {n : K} (z : Store F P H) (o : Option ℕ) → Stages w s.device z.queue → Moves w kind c k s n z → Comes w kind c k s n (copy_first c z o)
+    copy_first_comes z None on m = stage_first_comes z z.queue refl on m
+    copy_first_comes z (Some t) on m = goes_comes (copy_goes z t (copies_to z t) m)
 
-    recover_first_comes : {n : K} (z : Store F P H) (o : Option ℕ) → Moves w kind c k s n z → Comes w kind c k s n (recover_first c z o)
-    recover_first_comes z None m = copy_first_comes z (to_copy z) m
-    recover_first_comes z (Some t) m = recover_comes z t (frame_at z t) m
+    recover_first_comes : {n : K} (z : Store F P H) (o : Option ℕ) → Stages w s.device z.queue → Moves w kind c k s n z → Comes w kind c k s n (recover_first c z o)
+    recover_first_comes z None on m = copy_first_comes z (to_copy z) on m
+    recover_first_comes z (Some t) on m = recover_comes z t (frame_at z t) m
 
-    pub work_comes : {n : K} (z : Store F P H) → Moves w kind c k s n z → Comes w kind c k s n (work c z)
+    pub work_comes : {n : K} (z : Store F P H) → Stages w s.device z.queue → Moves w kind c k s n z → Comes w kind c k s n (work c z)
     unfolding B.work
-    work_comes z m = recover_first_comes z (to_recover c z) m
+    work_comes z on m = recover_first_comes z (to_recover c z) on m

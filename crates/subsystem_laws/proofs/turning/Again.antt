@@ -1,6 +1,5 @@
 -- A device behind want of memory: a command's program is where it was before the command.
-use Rattle.std.proofs.Common.{◌≡◌, ℕ, Bool, true, false, List, [], Option, Some, None, refl, sym, ap, subst}
-use Rattle.std.specs.Prelude.{if◌then◌else◌, option_map}
+use Rattle.std.proofs.Common.{◌≡◌, ℕ, List, [], Option, Some, None, refl, sym, subst}
 use Rattle.ckd_chain.specs.declared.progress.Progress.{Progress}
 use Rattle.ckd_chain.specs.declared.progress.Progress.TheVariants as progresses
 use Rattle.ckd_chain.specs.State.{ChainState}
@@ -15,11 +14,11 @@ use Rattle.device_defs.specs.Background.{work}
 use Rattle.device_defs.specs.Command as N
 use Rattle.device_defs.specs.Command.{answered_by, command, command_at, command_by, follow, has_loss, on_tracks}
 use Rattle.device_defs.specs.Contents.{Contents}
-use Rattle.device_defs.specs.Device.{Device, all_acted, event, event_begun, event_ended, quiet_event, with_store}
+use Rattle.device_defs.specs.Device.{Device, all_acted, event, event_begun, event_ended, with_store}
 use Rattle.device_defs.specs.Events as V
 use Rattle.device_defs.specs.Events.{background}
 use Rattle.device_defs.specs.Outcomes.{Turn, again}
-use Rattle.device_defs.specs.Owed.{hear, noted_begin, noted_end, waiting_count}
+use Rattle.device_defs.specs.Owed.{noted_begin, noted_end, waiting_count}
 use Rattle.device_defs.specs.Store.{Store, no_debt, tracks_of, with_owed}
 use Rattle.device_laws.proofs.Always.{Always, always_done, always_then, always_try}
 use Rattle.device_laws.proofs.KeptEvents.{always_any, always_if}

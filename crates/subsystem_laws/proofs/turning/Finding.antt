@@ -1,13 +1,12 @@
 -- A look tells a track as lost exactly where it is, and a side as failed where that had the track, or no side has it: whatever is answered.
 use Rattle.std.proofs.Common.{◌≡◌, ℕ, Bool, true, false, List, Option, Some, None, is_some, refl, inl, inr}
-use Rattle.std.specs.Prelude.{◌⊎◌, ◌||◌, if◌then◌else◌}
+use Rattle.std.specs.Prelude.{◌||◌, if◌then◌else◌}
 use Rattle.ckd_types.specs.declared.paths.Side.{Side}
 use Rattle.ckd_types.specs.declared.paths.Side.TheVariants.{A, B}
 use Rattle.ckd_types.specs.Parameters.{is_bypass}
 use Rattle.track_image.specs.Image.{Image}
-use Rattle.device_outside.specs.Interaction.{Interaction, Done, and_then}
+use Rattle.device_outside.specs.Interaction.{Interaction, Done}
 use Rattle.device_defs.specs.Contents.{contents}
-use Rattle.device_defs.specs.Device.{event_begun, with_store}
 use Rattle.device_defs.specs.Image as I
 use Rattle.device_defs.specs.Image.{Got, Has, Imaged, NoBytes, BadTrack, delivered, image, image_by, image_of, level_bytes, miss, missed, read_b, read_counted}
 use Rattle.device_defs.specs.Losses.{call_failed}

@@ -1,6 +1,5 @@
 -- A look at a track of a device that stands beside the plain device of its history finds that one's track.
 use Rattle.std.proofs.Common.{◌≡◌, ◌<◌, ◌==◌, ◌&&◌, ℕ, Bool, true, false, List, [], Option, Some, None, refl, sym, ap, subst, ◌∙◌, arith}
-use Rattle.std.specs.Prelude.{option_map}
 use Rattle.ckd_types.specs.declared.geometry.Geometry.{Geometry}
 use Rattle.ckd_types.specs.declared.paths.Side.{Side}
 use Rattle.ckd_types.specs.declared.record.Track.{Track as PlainTrack}
@@ -16,12 +15,12 @@ use Rattle.device_defs.specs.Contents.{by_plain, contents}
 use Rattle.device_defs.specs.Device.{event_begun, event_ended, with_store}
 use Rattle.device_defs.specs.Image as I
 use Rattle.device_defs.specs.Image.{Got, Has, Imaged, NoBytes, BadTrack, delivered, image, image_by, image_of, miss, missed}
-use Rattle.device_defs.specs.Marks.{MarksDevice, MarksStore, half_mark}
+use Rattle.device_defs.specs.Marks.{MarksDevice, MarksStore}
 use Rattle.device_defs.specs.Memory.{had_by}
 use Rattle.device_defs.specs.Owed.{noted_begin, noted_end, waiting_count}
 use Rattle.device_defs.specs.Peek as P
 use Rattle.device_defs.specs.Peek.{Peeked, Track, Lost, Fault, BadBytes, is_in_half, peek, peek_half, peek_image, peek_track, peek_usage, peeked}
-use Rattle.device_defs.specs.Second.{half_image_of, plainly_written}
+use Rattle.device_defs.specs.Second.{plainly_written}
 use Rattle.device_defs.specs.Store.{Origin, OfCommand, OfCut, OfBackground, HalfWrite, frame_at, is_lost, plain_at, tracks_of, with_frame}
 use Rattle.device_laws.specs.SoundOn.{begun_as}
 use Rattle.device_laws.specs.Whole.{WholeDevice}

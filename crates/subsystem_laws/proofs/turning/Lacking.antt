@@ -1,6 +1,6 @@
 -- Behind want of memory in a command, in work in the background, or in a look there is what looks at tracks leave: nothing was written.
-use Rattle.std.proofs.Common.{zero, suc, ℕ, Bool, true, false, List, [], ◌∷◌, Option, Some, None, is_some, ◌≡◌, refl, subst, sym}
-use Rattle.std.specs.Prelude.{if◌then◌else◌, ◌||◌}
+use Rattle.std.proofs.Common.{zero, suc, ℕ, Bool, List, [], ◌∷◌, Option, Some, None, is_some}
+use Rattle.std.specs.Prelude.{◌||◌}
 use Rattle.ckd_types.specs.declared.paths.Side.{Side}
 use Rattle.ckd_types.specs.declared.paths.Side.TheVariants.{A, B}
 use Rattle.ckd_types.specs.declared.record.Edit.{Edit}
@@ -40,7 +40,6 @@ use Rattle.device_defs.specs.Background.{
   to_recover,
   work,
 }
-use Rattle.device_defs.specs.Choosing.{choose}
 use Rattle.device_defs.specs.Command as N
 use Rattle.device_defs.specs.Command.{Went, Over, On, came_of_write, follow, goes_on, look, looked, went_by}
 use Rattle.device_defs.specs.Contents.{Contents}

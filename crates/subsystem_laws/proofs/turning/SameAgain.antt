@@ -14,7 +14,6 @@ use Rattle.device_outside.specs.Keeper.{Hearing}
 use Rattle.device_outside.specs.Outside.{Outside, Ran}
 use Rattle.device_defs.specs.declared.answers.Did.{Did}
 use Rattle.device_defs.specs.declared.answers.Stepped.{Stepped}
-use Rattle.device_defs.specs.declared.usage.Usage.{Usage}
 use Rattle.device_defs.specs.Command.{command}
 use Rattle.device_defs.specs.Contents.{contents}
 use Rattle.device_defs.specs.Device.{all_acted, with_store}
