@@ -287,7 +287,7 @@ impl Reading {
     pub fn take_line(&mut self, alloc: Global, number: u32, line: &[u8]) -> Result<(), DeckFault>
         ensures { Takes result self.new (take_line number line.now self.old) }
     {
-        if is_comment(line) {
+        if line.is_empty() || is_comment(line) {
             return Ok(());
         }
         let (word, rest) = next_word(line);
