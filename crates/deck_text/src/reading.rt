@@ -205,14 +205,11 @@ impl Reading {
                 return Err(refused(self.line_of(index, number), DeckWhy::Program));
             }
         };
-        self.deck.push_program(
-            alloc,
-            PlannedProgram {
-                path,
-                device,
-                program,
-            },
-        )?;
+        self.deck.push_program(PlannedProgram {
+            path,
+            device,
+            program,
+        })?;
         self.place = LinePlace::Programs;
         self.lines.clear();
         Ok(())
