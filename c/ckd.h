@@ -131,7 +131,7 @@ uint32_t ckd_open(struct ckd_subsystem *subsystem, uint16_t frames, uint16_t slo
  *
  * device          its number, above those of all devices that are there
  * geometry        3380 or 3390
- * cylinders       1 to 4369, with 15 tracks each; 64 KiB of memory are taken for each track
+ * cylinders       1 to 4369, with 15 tracks each; 86,048 bytes are set aside for each track, and resident once written
  * reads, writes   which of the volume's reads and writes fail, counted from 1 on, also in a pair. They are copied.
  * file            where the caller has a descriptor that was opened to read and write, of a plain CKD image in one
  *                 file. The library duplicates it twice, and closes these two at ckd_close: the caller's own stays

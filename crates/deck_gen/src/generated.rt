@@ -61,14 +61,11 @@ fn push_program(alloc: Global, deck: &mut Deck, i: u16, choice: &Choice) -> Resu
     ensures { OnOk result (deck.new ≡ record deck.old { programs = deck.old.programs ++ planned i choice.now ∷ [] }) }
 {
     let program = program_of(alloc, choice)?;
-    deck.push_program(
-        alloc,
-        PlannedProgram {
-            path: path_of(i),
-            device: choice.device,
-            program,
-        },
-    )
+    deck.push_program(PlannedProgram {
+        path: path_of(i),
+        device: choice.device,
+        program,
+    })
 }
 
 fn push_lines(deck: &mut Deck, i: u16, choice: &Choice) -> Result<(), NoMemory>

@@ -1,4 +1,4 @@
-ghost use Rattle.std.specs.Prelude.{◌≡◌, ◌<◌, ◌≤◌, [], IfOk, OnOk, OnErr, length, slice_index_or};
+ghost use Rattle.std.specs.Prelude.{◌≡◌, ◌<◌, ◌≤◌, ◌++◌, ◌∷◌, [], IfOk, OnOk, OnErr, length, slice_index_or};
 ghost use Rattle.deck_plan.specs.Plans.{no_plans, plan_of, with_program};
 
 use ckd_ccw::Program;
@@ -44,6 +44,7 @@ impl PathPlans {
     pub fn push(&mut self, path: PathNo, program: Program) -> Result<(), NoMemory>
         requires { length (plan_of self.old path) < 65535 }
         ensures ok { OnOk result (self.new ≡ with_program self.old path program) }
+        ensures behind { OnOk result (plan_of self.new path ≡ plan_of self.old path ++ program ∷ []) }
         ensures err { OnErr result (self.new ≡ self.old) }
     {
         match path.get() {

@@ -4,6 +4,7 @@ pub mod Numbers
 pub mod Keywords
 pub mod DeckLines
 pub mod Plans
+pub mod Places
 pub mod Forms
 pub mod Events
 pub mod Reading

@@ -1,10 +1,12 @@
 ghost use Rattle.std.specs.Prelude.{◌≡◌, ◌<◌, ◌≤◌, ◌++◌, ◌∷◌, [], IfOk, OnOk, OnErr, length, slice_index_or};
 ghost use Rattle.deck_text.specs.DeckLines.{no_lines};
+ghost use Rattle.deck_text.specs.Places.{planned_as};
 ghost use Rattle.deck_text.specs.Plans.{plans_of};
 
 use crate::planned::Planned;
 use crate::{DeviceLine, FaultLine, PlannedProgram};
-use ckd_types::{DeviceNo, NoMemory};
+use ckd_ccw::Program;
+use ckd_types::{DeviceNo, NoMemory, PathNo};
 use deck_plan::{EventLine, PathPlans, Schedule};
 use std::alloc::Global;
 use std::marker::Model;
@@ -86,12 +88,12 @@ impl Deck {
     }
 
     /// Puts a program behind those that there are: a deck has 512 at most.
-    pub fn push_program(&mut self, alloc: Global, planned: PlannedProgram) -> Result<(), NoMemory>
+    pub fn push_program(&mut self, planned: PlannedProgram) -> Result<(), NoMemory>
         requires { length self.old.programs < 512 }
         ensures ok { OnOk result (self.new ≡ record self.old { programs = self.old.programs ++ planned ∷ [] }) }
         ensures err { OnErr result (self.new ≡ self.old) }
     {
-        self.programs.push(alloc, planned)
+        self.programs.push(planned)
     }
 
     /// Puts an event line behind those that there are: a deck has 65,536 at most.
@@ -117,10 +119,11 @@ impl Deck {
         &self.faults
     }
 
-    pub(crate) fn programs(&self) -> &[PlannedProgram]
-        ensures { result.now ≡ self.now.programs }
+    pub(crate) fn program_at(&self, i: usize) -> (PathNo, DeviceNo, &Program)
+        requires { i < length self.now.programs }
+        ensures { planned_as result.0 result.1 result.2.now ≡ slice_index_or self.now.programs i (planned_as result.0 result.1 result.2.now) }
     {
-        self.programs.programs()
+        self.programs.at(i)
     }
 
     /// The frames of the cache.
@@ -172,7 +175,7 @@ impl Deck {
         ensures value { result ≡ length self.now.programs }
         ensures most { result ≤ 512 }
     {
-        self.programs.programs().len()
+        self.programs.len()
     }
 
     /// The programs of a device by path, in the order in which they are started.

@@ -1,31 +1,41 @@
-ghost use Rattle.std.specs.Prelude.{◌≡◌, ◌<◌, ◌++◌, ◌∷◌, [], IfOk, OnOk, OnErr, length};
+ghost use Rattle.std.specs.Prelude.{◌≡◌, ◌<◌, ◌++◌, ◌∷◌, [], IfOk, OnOk, OnErr, length, slice_index_or};
+ghost use Rattle.deck_text.specs.Places.{planned_as};
 ghost use Rattle.deck_text.specs.Plans.{plans_of, HasPlans};
 
 use crate::PlannedProgram;
-use ckd_types::{DeviceNo, NoMemory};
+use ckd_ccw::Program;
+use ckd_types::{DeviceNo, NoMemory, PathNo};
 use deck_plan::PathPlans;
 use std::alloc::Global;
 use std::marker::Model;
 
 const DEVICES: usize = 16;
 
-/// The programs of a deck in their order, and beside them each device's by path.
+/// Which of a device's programs on a path one is, from 0 on.
+#[derive(Clone, Copy, Debug)]
+struct ProgramPlace {
+    path: PathNo,
+    device: DeviceNo,
+    index: usize,
+}
+
+/// The programs of a deck: each device's by path, and the places of all in the deck's order.
 #[derive(Debug, Drop)]
 pub struct Planned {
-    programs: Vec<PlannedProgram>,
+    places: Vec<ProgramPlace>,
     plans: Vec<PathPlans>,
 }
 
 impl Model for Planned {
-    ghost use Rattle.std.specs.Prelude.{List};
+    ghost use Rattle.std.specs.Prelude.{List, map};
     ghost use Rattle.deck_text.specs.declared.line.PlannedProgram.{PlannedProgram};
-    ghost use Rattle.deck_text.specs.Plans.{HasPlans};
+    ghost use Rattle.deck_text.specs.Places.{IsPlanned, planned_at};
 
     ghost Value = { List PlannedProgram };
 
-    ghost view = { λ p. p.programs.items };
+    ghost view = { λ p. map (planned_at p.plans.items) p.places.items };
 
-    ghost invariant = { λ p. HasPlans p.programs.items p.plans.items };
+    ghost invariant = { λ p. IsPlanned p.places.items p.plans.items };
 }
 
 fn empty_plans(alloc: Global) -> Result<Vec<PathPlans>, NoMemory>
@@ -44,30 +54,49 @@ impl Planned {
         ensures { IfOk result (λ planned. planned ≡ []) }
     {
         Ok(Planned {
-            programs: Vec::new(alloc),
+            places: Vec::new(alloc),
             plans: empty_plans(alloc)?,
         })
     }
 
-    /// Adds a program behind the others, and a copy of it to its device's plans.
-    pub fn push(&mut self, alloc: Global, planned: PlannedProgram) -> Result<(), NoMemory>
+    /// Adds a program behind the others.
+    pub fn push(&mut self, planned: PlannedProgram) -> Result<(), NoMemory>
         requires { length self.old < 512 }
         ensures ok { OnOk result (self.new ≡ self.old ++ planned ∷ []) }
         ensures err { OnErr result (self.new ≡ self.old) }
     {
-        let copied = planned.program.copy(alloc)?;
-        self.programs.reserve(1)?;
-        let plans = &mut self.plans[usize::from(planned.device.get())];
-        plans.push(planned.path, copied)?;
-        self.programs.push_reserved(planned);
+        let PlannedProgram {
+            path,
+            device,
+            program,
+        } = planned;
+        self.places.reserve(1)?;
+        let plans = &mut self.plans[usize::from(device.get())];
+        let index = plans.len(path);
+        plans.push(path, program)?;
+        self.places.push_reserved(ProgramPlace {
+            path,
+            device,
+            index,
+        });
         Ok(())
     }
 
-    /// All programs, in the deck's order.
-    pub fn programs(&self) -> &[PlannedProgram]
-        ensures { result.now ≡ self.now }
+    /// How many programs there are.
+    pub fn len(&self) -> usize
+        ensures { result ≡ length self.now }
     {
-        &self.programs
+        self.places.len()
+    }
+
+    /// A program, from 0 on in the deck's order, with its path and its device.
+    pub fn at(&self, i: usize) -> (PathNo, DeviceNo, &Program)
+        requires { i < length self.now }
+        ensures { planned_as result.0 result.1 result.2.now ≡ slice_index_or self.now i (planned_as result.0 result.1 result.2.now) }
+    {
+        let place = self.places[i];
+        let plans = &self.plans[usize::from(place.device.get())];
+        (place.path, place.device, plans.at(place.path, place.index))
     }
 
     /// A device's programs by path, in the deck's order.

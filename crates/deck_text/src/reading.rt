@@ -205,14 +205,11 @@ impl Reading {
                 return Err(refused(self.line_of(index, number), DeckWhy::Program));
             }
         };
-        self.deck.push_program(
-            alloc,
-            PlannedProgram {
-                path,
-                device,
-                program,
-            },
-        )?;
+        self.deck.push_program(PlannedProgram {
+            path,
+            device,
+            program,
+        })?;
         self.place = LinePlace::Programs;
         self.lines.clear();
         Ok(())
@@ -287,7 +284,7 @@ impl Reading {
     pub fn take_line(&mut self, alloc: Global, number: u32, line: &[u8]) -> Result<(), DeckFault>
         ensures { Takes result self.new (take_line number line.now self.old) }
     {
-        if is_comment(line) {
+        if line.is_empty() || is_comment(line) {
             return Ok(());
         }
         let (word, rest) = next_word(line);

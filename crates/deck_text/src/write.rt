@@ -1,4 +1,5 @@
 ghost use Rattle.std.specs.Prelude.{List, ℕ};
+ghost use Rattle.std.specs.List.{flat_map};
 ghost use Rattle.ckd_outside.specs.Causes.{HasCause};
 ghost use Rattle.ckd_outside.specs.Texts.{Puts, Writes};
 ghost use Rattle.deck_text.specs.Canonical.{canonical, device_text, event_text, fault_text, from_devices};
@@ -7,7 +8,7 @@ ghost use Rattle.deck_text.specs.Canonical.{from_events, from_faults, from_progr
 use crate::write_events::write_event;
 use crate::write_lines::{write_device, write_events_line, write_fault, write_head};
 use crate::write_programs::write_planned;
-use crate::{Deck, DeviceLine, FaultLine, PlannedProgram};
+use crate::{Deck, DeviceLine, FaultLine};
 use ckd_outside::{Failed, LineBuffer, Sink, Spelling, put_all, write_out};
 use deck_plan::EventLine;
 
@@ -27,18 +28,6 @@ impl Spelling<FaultLine> for DeckSpelling {
 
     fn put<K: Sink>(sink: &mut K, buffer: &mut LineBuffer, it: &FaultLine) -> Result<(), Failed> {
         write_fault(sink, buffer, it)
-    }
-}
-
-impl Spelling<PlannedProgram> for DeckSpelling {
-    ghost text = { planned_text };
-
-    fn put<K: Sink>(
-        sink: &mut K,
-        buffer: &mut LineBuffer,
-        it: &PlannedProgram,
-    ) -> Result<(), Failed> {
-        write_planned(sink, buffer, it)
     }
 }
 
@@ -71,6 +60,17 @@ fn write_from_events<K: Sink>(
     put_all::<DeckSpelling, EventLine, K>(sink, buffer, deck.schedule().as_slice())
 }
 
+fn write_programs<K: Sink>(sink: &mut K, buffer: &mut LineBuffer, deck: &Deck) -> Result<(), Failed>
+    ensures bytes { Puts (K.held sink.old) buffer.old (K.held sink.new) buffer.new result (flat_map planned_text deck.now.programs) }
+    ensures cause { HasCause (K.faults sink.old) (K.faults sink.new) result }
+{
+    for i in 0..deck.program_count() {
+        let (path, device, program) = deck.program_at(i);
+        write_planned(sink, buffer, path, device, program)?;
+    }
+    Ok(())
+}
+
 fn write_from_programs<K: Sink>(
     sink: &mut K,
     buffer: &mut LineBuffer,
@@ -79,7 +79,7 @@ fn write_from_programs<K: Sink>(
     ensures bytes { Puts (K.held sink.old) buffer.old (K.held sink.new) buffer.new result (from_programs deck.now) }
     ensures cause { HasCause (K.faults sink.old) (K.faults sink.new) result }
 {
-    put_all::<DeckSpelling, PlannedProgram, K>(sink, buffer, deck.programs())?;
+    write_programs(sink, buffer, deck)?;
     write_from_events(sink, buffer, deck)
 }
 

@@ -3,9 +3,9 @@ ghost use Rattle.ckd_outside.specs.Causes.{HasCause};
 ghost use Rattle.ckd_outside.specs.Texts.{Puts, Writes};
 ghost use Rattle.deck_text.specs.Canonical.{call_text, device_text, end_text, events_text, fault_text, geometry_number, head_text, program_text};
 
-use crate::{DeviceLine, FaultLine, PlannedProgram};
+use crate::{DeviceLine, FaultLine};
 use ckd_outside::{Failed, LineBuffer, Piece, Sink, write_pieces};
-use ckd_types::Geometry;
+use ckd_types::{DeviceNo, Geometry, PathNo};
 
 /// DECK, CACHE and STORE.
 #[tactic(auto, unfolding(crate::specs::Canonical::head_text))]
@@ -91,16 +91,17 @@ pub fn write_fault<K: Sink>(
 pub fn write_program_line<K: Sink>(
     sink: &mut K,
     buffer: &mut LineBuffer,
-    program: &PlannedProgram,
+    path: PathNo,
+    device: DeviceNo,
 ) -> Result<(), Failed>
-    ensures bytes { Puts (K.held sink.old) buffer.old (K.held sink.new) buffer.new result (program_text program.now.path program.now.device) }
+    ensures bytes { Puts (K.held sink.old) buffer.old (K.held sink.new) buffer.new result (program_text path device) }
     ensures cause { HasCause (K.faults sink.old) (K.faults sink.new) result }
 {
     let pieces = [
         Piece::Text(b"PROGRAM "),
-        Piece::Number(u64::from(program.path.get())),
+        Piece::Number(u64::from(path.get())),
         Piece::Text(b" "),
-        Piece::Number(u64::from(program.device.get())),
+        Piece::Number(u64::from(device.get())),
         Piece::Text(b"\n"),
     ];
     write_pieces(sink, buffer, &pieces)

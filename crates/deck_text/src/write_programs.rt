@@ -3,11 +3,12 @@ ghost use Rattle.std.specs.List.{flat_map};
 ghost use Rattle.ckd_outside.specs.Causes.{HasCause};
 ghost use Rattle.ckd_outside.specs.Texts.{Puts, Writes};
 ghost use Rattle.deck_text.specs.Canonical.{bytes_text, ccw_text, end_text, line_end, planned_text, word_text};
+ghost use Rattle.deck_text.specs.Places.{planned_as};
 
-use crate::PlannedProgram;
 use crate::write_lines::{write_end, write_program_line};
+use ckd_ccw::Program;
 use ckd_outside::{Failed, LineBuffer, Sink, Spelling, make_room, put_all, put_hex, put_text};
-use ckd_types::Ccw;
+use ckd_types::{Ccw, DeviceNo, PathNo};
 
 #[tactic(auto, unfolding(crate::specs::Canonical::word_text))]
 fn write_word<K: Sink>(sink: &mut K, buffer: &mut LineBuffer, ccw: &Ccw) -> Result<(), Failed>
@@ -90,11 +91,13 @@ fn write_behind_program<K: Sink>(
 pub fn write_planned<K: Sink>(
     sink: &mut K,
     buffer: &mut LineBuffer,
-    planned: &PlannedProgram,
+    path: PathNo,
+    device: DeviceNo,
+    program: &Program,
 ) -> Result<(), Failed>
-    ensures bytes { Puts (K.held sink.old) buffer.old (K.held sink.new) buffer.new result (planned_text planned.now) }
+    ensures bytes { Puts (K.held sink.old) buffer.old (K.held sink.new) buffer.new result (planned_text (planned_as path device program.now)) }
     ensures cause { HasCause (K.faults sink.old) (K.faults sink.new) result }
 {
-    write_program_line(sink, buffer, planned)?;
-    write_behind_program(sink, buffer, planned.program.ccws())
+    write_program_line(sink, buffer, path, device)?;
+    write_behind_program(sink, buffer, program.ccws())
 }

@@ -4,4 +4,5 @@ pub mod RanAfter
 pub mod BothRules
 pub mod Link
 mod Calls
+mod RoomLemmas
 mod Rows

@@ -2,7 +2,9 @@ pub mod Lists
 pub mod Pool
 pub mod Slots
 pub mod Volume
+pub mod FailingCalls
 pub mod Disk
+pub mod Rooms
 pub mod Last
 pub mod Bay
 pub mod Keeper

@@ -4,17 +4,20 @@
 
 mod bay;
 mod buffer;
+mod failing_calls;
 mod gate;
 mod keep;
 mod memory;
 mod port;
+mod rooms;
 mod tracks;
 mod volume;
 
 pub use bay::{MemBay, Taken};
 pub use buffer::TrackBuffer;
+pub use failing_calls::counted;
 pub use gate::{Gate, NoGate};
 pub use keep::{Keep, NoKeep};
-pub use memory::{MemVolume, counted};
+pub use memory::MemVolume;
 pub use port::{Grant, NoFrames, Port, SlotGrant};
 pub use volume::Volume;

@@ -1,9 +1,8 @@
-ghost use Rattle.std.specs.Prelude.{◌≡◌, ◌<◌, ◌≤◌, ◌*◌, ◌^◌, not, [], IfOk, IsTrue, is_ok, length, slice_index_or};
-ghost use Rattle.ckd_outside.specs.Memory.{to_come};
-ghost use Rattle.device_outside.specs.Lists.{is_in};
-ghost use Rattle.device_outside.specs.Volume.{counted, ReadOf, WriteOf, delivery};
+ghost use Rattle.std.specs.Prelude.{◌≡◌, ◌<◌, ◌≤◌, ◌*◌, not, [], IfOk, is_ok, length, slice_index_or};
+ghost use Rattle.device_outside.specs.Volume.{ReadOf, WriteOf, delivery};
 ghost use Rattle.device_outside.specs.Disk.{new_disk, disk_view, read_of_disk, written_disk, spoiled_disk, read_fails, write_fails};
 
+use crate::failing_calls::{Calls, counted};
 use crate::tracks::Tracks;
 use crate::{TrackBuffer, Volume};
 use ckd_outside::Failed;
@@ -11,50 +10,13 @@ use ckd_types::{NoMemory, TrackNo};
 use std::alloc::Global;
 use std::marker::Model;
 
-/// One more, or the greatest number.
-#[tactic(auto, unfolding(crate::specs::Volume::counted))]
-pub fn counted(n: u64) -> u64
-    ensures value { result ≡ counted n }
-    ensures later { n ≤ result }
-    ensures more { result < 2 ^ 32 → n < result }
-{
-    n.saturating_add(1)
-}
-
-/// Whether a call's number is listed.
-#[tactic(auto, unfolding(crate::specs::Lists::is_in))]
-fn is_listed(call: u64, numbers: &[u32]) -> bool
-    ensures listed { result ≡ is_in call numbers.now }
-    ensures small { IsTrue result → call < 2 ^ 32 }
-{
-    for n in numbers {
-        if call == u64::from(*n) {
-            return true;
-        }
-    }
-    false
-}
-
-/// Counts a call, and answers whether it fails.
-fn count_call(calls: &mut u64, numbers: &[u32]) -> bool
-    ensures count { calls.new ≡ counted calls.old }
-    ensures listed { result ≡ is_in calls.new numbers.now }
-    ensures kept { to_come calls.new numbers.now ≤ to_come calls.old numbers.now }
-    ensures lowered { IsTrue result → to_come calls.new numbers.now < to_come calls.old numbers.now }
-{
-    *calls = counted(*calls);
-    is_listed(*calls, numbers)
-}
-
 /// A volume in memory, of which the calls with listed numbers fail.
 #[derive(Drop)]
 pub struct MemVolume {
     held: Tracks,
-    reads: u64,
-    writes: u64,
+    reads: Calls,
+    writes: Calls,
     faults: u64,
-    fail_reads: Vec<u32>,
-    fail_writes: Vec<u32>,
     spoiled: bool,
 }
 
@@ -66,17 +28,17 @@ impl Model for MemVolume {
     ghost view = { λ v. record {
       tracks = v.held.tracks;
       delivered = v.held.delivered;
-      reads = v.reads;
-      writes = v.writes;
+      reads = v.reads.made;
+      writes = v.writes.made;
       faults = v.faults;
-      plan = record { reads = v.fail_reads.items; writes = v.fail_writes.items };
+      plan = record { reads = v.reads.failing; writes = v.writes.failing };
       spoiled = v.spoiled;
     } };
 }
 
 impl MemVolume {
     /// Empty tracks. Reads and writes are numbered from 1. Room for 65,536 bytes of each track is taken
-    /// here.
+    /// here, of which only what is written becomes resident.
     pub fn new(
         alloc: Global,
         cylinders: u16,
@@ -89,11 +51,9 @@ impl MemVolume {
     {
         Ok(MemVolume {
             held: Tracks::new(alloc, cylinders)?,
-            reads: 0,
-            writes: 0,
+            reads: Calls::new(alloc, fail_reads)?,
+            writes: Calls::new(alloc, fail_writes)?,
             faults: 0,
-            fail_reads: fail_reads.to_vec(alloc)?,
-            fail_writes: fail_writes.to_vec(alloc)?,
             spoiled: false,
         })
     }
@@ -102,14 +62,14 @@ impl MemVolume {
     pub fn reads(&self) -> u64
         ensures { result ≡ self.now.reads }
     {
-        self.reads
+        self.reads.made()
     }
 
     /// How many writes were called for, the failed ones too; at the greatest number the count stays.
     pub fn writes(&self) -> u64
         ensures { result ≡ self.now.writes }
     {
-        self.writes
+        self.writes.made()
     }
 
     /// How many tracks it has: 15 a cylinder.
@@ -147,7 +107,7 @@ impl Volume for MemVolume {
         ensures fails { is_ok result ≡ not (read_fails self.old) }
         ensures gives { ReadOf (disk_view self.old) t (delivery result into.new) (disk_view self.new) }
     {
-        if count_call(&mut self.reads, &self.fail_reads) {
+        if self.reads.count() {
             self.faults = counted(self.faults);
             return Err(Failed);
         }
@@ -163,7 +123,7 @@ impl Volume for MemVolume {
         ensures fails { is_ok result ≡ not (write_fails self.old) }
         ensures takes { WriteOf (disk_view self.old) t bytes.now (is_ok result) (disk_view self.new) }
     {
-        if count_call(&mut self.writes, &self.fail_writes) {
+        if self.writes.count() {
             self.faults = counted(self.faults);
             self.held.put(t, &[]);
             return Err(Failed);

@@ -4,7 +4,7 @@ ghost use Rattle.device_outside.specs.declared.port.SlotGrant.TheVariants as slo
 ghost use Rattle.device_outside.specs.Pool.{NextNotice, Touch, WantFrame, SetModified, SetClean, DropFrame, WantSlot, FreeSlot, TellWaiting};
 ghost use Rattle.device_outside.specs.Outside.{PortView, Answered, WantedFrame, is_given, no_pool};
 
-use crate::memory::counted;
+use crate::failing_calls::counted;
 use ckd_types::{DeviceNo, NoMemory, TrackNo};
 
 /// Whether a track got a frame.

@@ -3,10 +3,10 @@ ghost use Rattle.device_outside.specs.Disk.{empty_bytes, empty_contents};
 ghost use Rattle.device_outside.specs.Last.{is_on};
 
 use crate::TrackBuffer;
+use crate::rooms::Rooms;
 use ckd_types::{HEADS, NoMemory, TrackNo, cchh_of};
 use std::alloc::Global;
 use std::marker::Model;
-use std::mem::swap;
 
 /// The bytes of an empty track.
 #[tactic(auto, unfolding(crate::specs::Disk::empty_bytes))]
@@ -23,16 +23,15 @@ fn empty_bytes(t: TrackNo) -> [u8; 29]
 }
 
 /// The empty tracks of this many cylinders.
-fn empty_tracks(alloc: Global, cylinders: u16) -> Result<Vec<TrackBuffer>, NoMemory>
+fn empty_tracks(alloc: Global, cylinders: u16) -> Result<Rooms, NoMemory>
     requires { cylinders ≤ 4369 }
-    ensures held { IfOk result (λ made. made.items ≡ empty_contents (cylinders * 15)) }
-    ensures tracks { IfOk result (λ made. length made.items ≡ cylinders * 15) }
+    ensures held { IfOk result (λ made. made ≡ empty_contents (cylinders * 15)) }
+    ensures tracks { IfOk result (λ made. length made ≡ cylinders * 15) }
 {
-    let mut tracks = Vec::new(alloc);
-    for n in 0..cylinders * HEADS {
-        let mut track = TrackBuffer::new(alloc)?;
-        track.set(&empty_bytes(TrackNo::new(n).unwrap()));
-        tracks.push(track)?;
+    let count = cylinders * HEADS;
+    let mut tracks = Rooms::new(alloc, usize::from(count))?;
+    for n in 0..count {
+        tracks.set(usize::from(n), &empty_bytes(TrackNo::new(n).unwrap()));
     }
     Ok(tracks)
 }
@@ -55,11 +54,10 @@ fn is_on(last: Last, at: usize) -> bool
     }
 }
 
-/// Tracks of bytes, and the bytes that were delivered last. A write over these moves them and copies
-/// nothing.
+/// Tracks of bytes, and the bytes that were delivered last: a write over these puts them apart first.
 #[derive(Drop)]
 pub(crate) struct Tracks {
-    tracks: Vec<TrackBuffer>,
+    tracks: Rooms,
     last: Last,
     kept: TrackBuffer,
 }
@@ -69,7 +67,7 @@ impl Model for Tracks {
 
     ghost Value = { Held };
 
-    ghost view = { λ v. record { tracks = v.tracks.items; delivered = delivered_by v.last v.tracks.items v.kept } };
+    ghost view = { λ v. record { tracks = v.tracks; delivered = delivered_by v.last v.tracks v.kept } };
 }
 
 impl Tracks {
@@ -95,7 +93,7 @@ impl Tracks {
         requires { t < length self.now.tracks }
         ensures { result.now ≡ slice_index_or self.now.tracks t [] }
     {
-        self.tracks[usize::from(t.get())].bytes()
+        self.tracks.bytes(usize::from(t.get()))
     }
 
     pub(crate) fn deliver(&mut self, t: TrackNo, into: &mut TrackBuffer)
@@ -104,7 +102,7 @@ impl Tracks {
         ensures held { self.new ≡ record self.old { delivered = Some (slice_index_or self.old.tracks t []) } }
     {
         let at = usize::from(t.get());
-        into.set(self.tracks[at].bytes());
+        into.set(self.tracks.bytes(at));
         self.last = Last::Of(at);
     }
 
@@ -115,11 +113,11 @@ impl Tracks {
     {
         let at = usize::from(t.get());
         if is_on(self.last, at) {
-            self.kept.set(bytes);
-            swap(&mut self.tracks[at], &mut self.kept);
+            self.kept.set(self.tracks.bytes(at));
+            self.tracks.set(at, bytes);
             self.last = Last::Kept;
             return;
         }
-        self.tracks[at].set(bytes);
+        self.tracks.set(at, bytes);
     }
 }
