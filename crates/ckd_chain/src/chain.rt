@@ -69,7 +69,6 @@ fn index_of(next: Option<usize>) -> usize
 
 /// The command of the mark's word ends, with the mark's stance behind it. The mark then has the word that the chain goes on
 /// to.
-#[inline(always)]
 fn end_here(program: &Program, at: &mut Mark, ending: Ending) -> CommandEnd
     requires word { IfSome at.old.next (λ i. i < 65536) }
     ensures end { result ≡ end_at_word (index_of at.old.next) (ccw_at program.now (index_of at.old.next)) (record { stance = at.old.stance; ending = ending }) }
@@ -137,6 +136,7 @@ impl Chain {
     }
 
     /// The command at hand has begun.
+    #[inline(always)]
     fn open(&mut self)
         requires running { IsSome self.old.at.next }
         ensures chain { self.new ≡ chain_opened self.old }

@@ -8,18 +8,18 @@ use track_image::{AddFault, RecordRoom, TrackImage};
 
 /// Makes the edit of a command on the image of its track. Takes memory only for a record behind the
 /// last one.
-pub fn edit_image(image: &mut TrackImage, edit: Edit) -> Result<(), NoMemory>
-    requires { Suits image.old.geometry image.old.track.records edit }
-    ensures done { OnOk result (image.new ≡ edited_image edit image.old) }
+pub fn edit_image(image: &mut TrackImage, edit: &Edit) -> Result<(), NoMemory>
+    requires { Suits image.old.geometry image.old.track.records edit.now }
+    ensures done { OnOk result (image.new ≡ edited_image edit.now image.old) }
     ensures same { OnErr result (image.new ≡ image.old) }
-    ensures inside { IsInside edit (length image.old.track.records) → IsOk result }
+    ensures inside { IsInside edit.now (length image.old.track.records) → IsOk result }
 {
     match edit {
         Edit::Update { index, key, body } => {
-            image.update(index, key.as_slice(), body.as_slice());
+            image.update(*index, key.as_slice(), body.as_slice());
             Ok(())
         }
-        Edit::Format { after, added } => match image.cut_and_add(after, added) {
+        Edit::Format { after, added } => match image.cut_and_add(*after, added) {
             Ok(()) => Ok(()),
             Err(AddFault::Unfit) => unreachable!(),
             Err(AddFault::NoMemory) => Err(NoMemory),
@@ -47,16 +47,16 @@ pub fn make_room(image: &TrackImage, edit: &Edit, room: &mut RecordRoom) -> Resu
 }
 
 /// Makes the edit of a command on the image of its track, in room that was made. Takes no memory.
-pub fn edit_within(image: &mut TrackImage, edit: Edit, room: &mut RecordRoom)
-    requires suits { Suits image.old.geometry image.old.track.records edit }
-    requires room { HasRoomFor edit (length image.old.track.records) room.old }
-    ensures { image.new ≡ edited_image edit image.old }
+pub fn edit_within(image: &mut TrackImage, edit: &Edit, room: &mut RecordRoom)
+    requires suits { Suits image.old.geometry image.old.track.records edit.now }
+    requires room { HasRoomFor edit.now (length image.old.track.records) room.old }
+    ensures { image.new ≡ edited_image edit.now image.old }
 {
     match edit {
         Edit::Update { index, key, body } => {
-            image.update(index, key.as_slice(), body.as_slice());
+            image.update(*index, key.as_slice(), body.as_slice());
         }
-        Edit::Format { after, added } => image.cut_and_add_within(after, added, room),
+        Edit::Format { after, added } => image.cut_and_add_within(*after, added, room),
         Edit::Zero { added } => image.set_zero(added),
     }
 }

@@ -5,7 +5,13 @@ use Rattle.std.proofs.lemmas.Bool.{eq-eqb}
 use Rattle.std.proofs.lemmas.List.{get_or-set_same, get_or-set_other}
 use Rattle.std.specs.Map.{lookup, set_value}
 use Rattle.track_cache.specs.declared.frames.Frame.{Frame}
-use Rattle.track_cache.specs.Frames.{is_modified, is_modified_frame}
+use Rattle.track_cache.specs.Frames.{edited_frame, is_modified, is_modified_frame}
+use Rattle.track_image.specs.Image.{edited_image}
+use Rattle.ckd_types.specs.declared.record.Edit.{Edit}
+use Rattle.device_defs.specs.Contents.{contents}
+use Rattle.device_defs.specs.Losses.{framed_image}
+use Rattle.device_defs.specs.Store.{frame_at}
+use Rattle.device_store.specs.Looks.{frame_in, StoreOf}
 use Rattle.device_outside.specs.declared.port.SlotGrant.TheVariants as grants
 use Rattle.device_outside.specs.Lists as lists
 use Rattle.device_outside.specs.Lists.{is_in, less_one, with_number}
@@ -132,3 +138,25 @@ loosened_modified frames loose t f marked there all q is = elim (same_or_not q t
   | inl same ↦ rw same (ap is_modified_frame (get_or-set_same frames t f None there) ∙ marked)
   | inr differ ↦ ap is_modified_frame (get_or-set_other frames t q f None differ) ∙ all q (sym (get_or-set_other loose t q true false differ) ∙ is)
 ]
+
+module _ (s z : StoreOf) (t : ℕ) (e : Edit) where
+  edit_is : (f : Option Frame) → is_some f ≡ true → edited_frame e f ≡ Some (record { image = edited_image e (framed_image contents s t f); modified = true })
+  edit_is None there = absurd cc
+  edit_is (Some f) there = refl
+
+  -- the track has its frame still
+  pub edited_there : frame_at z t ≡ edited_frame e (frame_at s t) → is_some (frame_at s t) ≡ true → is_some (frame_at z t) ≡ true
+  edited_there now there = ap (λ f. is_some f) (now ∙ edit_is (frame_at s t) there)
+
+  image_is : (f : Option Frame) → is_some f ≡ true → framed_image contents z t (edited_frame e f) ≡ edited_image e (framed_image contents s t f)
+  image_is None there = absurd cc
+  image_is (Some f) there = refl
+
+  -- with the edited image in it
+  pub edited_is : frame_at z t ≡ edited_frame e (frame_at s t) → is_some (frame_at s t) ≡ true → frame_in z t ≡ edited_image e (frame_in s t)
+  edited_is now there = ap (λ f. framed_image contents z t f) now ∙ image_is (frame_at s t) there
+
+-- the frames with an edit of one of them
+pub edited_frames : (s : StoreOf) (t : ℕ) (e : Edit) (frames : List (Option Frame)) → frames ≡ slice_set s.frames t (edited_frame e (frame_at s t)) →
+    is_some (frame_at s t) ≡ true → frames ≡ slice_set s.frames t (Some (record { image = edited_image e (frame_in s t); modified = true }))
+edited_frames s t e frames is there = is ∙ ap (λ f. slice_set s.frames t f) (edit_is s s t e (frame_at s t) there)

@@ -1,6 +1,6 @@
 //! A write of a track whose image is in its frame: where it stays there, the edit is made in place.
 
-ghost use Rattle.std.specs.Prelude.{◌≡◌, ◌≤◌, ◌+◌, ℕ, None, OnErr, OnOk, IfOk, Some, is_some, slice_set, true};
+ghost use Rattle.std.specs.Prelude.{◌≡◌, ◌≤◌, ◌+◌, ℕ, None, OnErr, OnOk, IfOk, is_some, true};
 ghost use Rattle.ckd_rules.specs.Facts.{Suits};
 ghost use Rattle.device_defs.specs.declared.answers.Choice.TheVariants.{Fast, Provisional, Through};
 ghost use Rattle.device_defs.specs.declared.answers.Took.TheVariants.{Whole};
@@ -8,105 +8,50 @@ ghost use Rattle.device_defs.specs.Choosing.{choose, provisionally_written};
 ghost use Rattle.device_defs.specs.Contents.{contents};
 ghost use Rattle.device_defs.specs.Editing.{write, write_by, write_chosen};
 ghost use Rattle.device_defs.specs.Store.{frame_at, patch_at};
-ghost use Rattle.device_outside.specs.Keeper.{Firm, Heard};
+ghost use Rattle.device_outside.specs.Keeper.{Heard};
 ghost use Rattle.device_outside.specs.Outside.{PortView, Ran, where_ok};
 ghost use Rattle.event_notes.specs.Loose.{loose_count, weight};
 ghost use Rattle.nv_store.specs.Patches.{stored_at};
 ghost use Rattle.nv_store.specs.Room.{room_for};
 ghost use Rattle.track_cache.specs.Frames as framed;
 ghost use Rattle.track_cache.specs.Frames.{HasFrameRoom, SuitsFrame};
-ghost use Rattle.track_cache.specs.declared.frames.Frame.{Frame};
 ghost use Rattle.track_image.specs.Image.{edited_image};
 ghost use Rattle.ckd_types.specs.declared.record.Edit.{Edit};
-ghost use Rattle.ckd_types.specs.Track.{Fits};
 ghost use Rattle.device_store.specs.Leaves.{IsSameDevice, KeepsLooseTracks, KeepsVolumes, MovesNothing};
 ghost use Rattle.device_store.specs.Chosen.{FitsSlot};
-ghost use Rattle.device_store.specs.Looks.{frame_in, StoreOf};
+ghost use Rattle.device_store.specs.Looks.{frame_in};
 ghost use Rattle.device_store.specs.State.{is_opened, state_of, outside, surely, had, HasTrack, TakesTracks};
 
 use crate::DeviceStore;
-use crate::write::copy_edit;
-use ckd_types::{DeviceNo, Edit, NoMemory, TrackNo};
-use ckd_write::{edit_image, edit_within};
+use ckd_types::{Edit, NoMemory, TrackNo};
+use ckd_write::edit_image;
 use device_defs::{Choice, Took, Usage};
 use device_outside::{Keep, Port, Volume};
-use track_cache::{Frame, Frames};
-use track_image::{RecordRoom, TrackImage};
-
-/// An edit is made in a track's frame, in room that was made, which is then modified.
-#[tactic(auto, using(track_table::proofs::Places::set_again))]
-fn edit_frame(frames: &mut Frames, records: &mut RecordRoom, t: TrackNo, edit: Edit)
-    requires there { is_some (framed.frame_at frames.old t) ≡ true }
-    requires suits { SuitsFrame edit (framed.frame_at frames.old t) }
-    requires room { HasFrameRoom edit (framed.frame_at frames.old t) records.old }
-    ensures frames { (s : StoreOf) → s.frames ≡ frames.old → frames.new
-        ≡ slice_set frames.old t (Some (record { image = edited_image edit (frame_in s t); modified = true })) }
-{
-    let Some(frame) = frames.take(t) else {
-        unreachable!()
-    };
-    let mut image = frame.image;
-    edit_within(&mut image, edit, records);
-    let modified = true;
-    frames.set(t, Some(Frame { image, modified }));
-}
-
-/// The same, and the keeper is told the track behind it.
-#[tactic(auto, using(track_table::proofs::Places::set_again))]
-fn edit_firm<K: Keep<TrackImage>>(
-    frames: &mut Frames,
-    records: &mut RecordRoom,
-    d: DeviceNo,
-    t: TrackNo,
-    edit: Edit,
-    keep: &mut K,
-)
-    requires there { is_some (framed.frame_at frames.old t) ≡ true }
-    requires suits { SuitsFrame edit (framed.frame_at frames.old t) }
-    requires room { HasFrameRoom edit (framed.frame_at frames.old t) records.old }
-    requires takes { (f : Frame) → framed.frame_at frames.old t ≡ Some f → Fits f.image.geometry (edited_image edit f.image).track
-        → K.takes keep.old d t (edited_image edit f.image) }
-    ensures frames { (s : StoreOf) → s.frames ≡ frames.old → frames.new
-        ≡ slice_set frames.old t (Some (record { image = edited_image edit (frame_in s t); modified = true })) }
-    ensures told { (s : StoreOf) → s.frames ≡ frames.old → Heard K.hears K.takes keep.old (Firm d t (edited_image edit (frame_in s t))) tt keep.new }
-{
-    let Some(frame) = frames.take(t) else {
-        unreachable!()
-    };
-    let mut image = frame.image;
-    edit_within(&mut image, edit, records);
-    image.fits();
-    keep.firm(d, t, &image);
-    let modified = true;
-    frames.set(t, Some(Frame { image, modified }));
-}
+use track_image::TrackImage;
 
 impl<V: Volume> DeviceStore<V> {
-    /// Makes all room that an edit in place needs, and a copy of it for the frame.
-    fn room_framed(&mut self, usage: &Usage, t: TrackNo, edit: &Edit) -> Result<Edit, NoMemory>
+    /// Makes all room that an edit in place needs.
+    fn room_framed(&mut self, usage: &Usage, t: TrackNo, edit: &Edit) -> Result<(), NoMemory>
         ensures leaves { MovesNothing self.old self.new }
         ensures state { state_of self.new ≡ state_of self.old }
         ensures patch { OnOk result (room_for (stored_at self.new.patches t) ≤ self.new.edits) }
         ensures loose { OnOk result (usage.now.provisional ≡ true → loose_count self.new.loose.loose + 2 ≤ self.new.loose.spare) }
         ensures frame { OnOk result (HasFrameRoom edit.now (framed.frame_at self.new.frames t) self.new.records) }
-        ensures copy { IfOk result (λ made. made ≡ edit.now) }
     {
         self.make_room(usage, t)?;
         self.frames.room(t, edit, &mut self.records)?;
-        copy_edit(self.alloc, edit)
+        Ok(())
     }
 
-    /// A fast write: the copy of the edit is made in the frame, the edit in the patch, and the keeper is told the track.
+    /// A fast write: the edit is made in the frame and in the patch, and the keeper is told the track.
     fn edit_fast<K: Keep<TrackImage>>(
         &mut self,
         t: TrackNo,
         edit: Edit,
-        copy: Edit,
         slot: Option<usize>,
         keep: &mut K,
     )
         requires track { HasTrack self.old t }
-        requires copy { copy ≡ edit }
         requires fits { FitsSlot (is_some (patch_at (state_of self.old) t)) slot }
         requires there { is_some (frame_at (state_of self.old) t) ≡ true }
         requires suits { SuitsFrame edit (framed.frame_at self.old.frames t) }
@@ -119,31 +64,27 @@ impl<V: Volume> DeviceStore<V> {
             → Ran surely (Heard K.hears K.takes) (write_by contents u first t (edited_image edit (frame_in (state_of self.old) t)) edit (state_of self.old)
             (Fast slot)) (outside p self.old keep.old) (state_of self.new) Whole (outside p self.new keep.new) }
     {
-        edit_firm(
-            &mut self.frames,
-            &mut self.records,
-            self.number,
-            t,
-            copy,
-            keep,
-        );
+        self.frames.edit(t, &edit, &mut self.records);
+        let image = self.frame_image(t);
+        image.fits();
+        keep.firm(self.number, t, image);
         self.keep_edit(t, edit, slot);
     }
 
     /// A write of data of cache fast write: the edit is made in the frame alone.
-    fn edit_loose(&mut self, t: TrackNo, edit: Edit)
+    fn edit_loose(&mut self, t: TrackNo, edit: &Edit)
         requires none { self.old.half ≡ None }
         requires track { HasTrack self.old t }
         requires there { is_some (frame_at (state_of self.old) t) ≡ true }
-        requires suits { SuitsFrame edit (framed.frame_at self.old.frames t) }
-        requires frame { HasFrameRoom edit (framed.frame_at self.old.frames t) self.old.records }
+        requires suits { SuitsFrame edit.now (framed.frame_at self.old.frames t) }
+        requires frame { HasFrameRoom edit.now (framed.frame_at self.old.frames t) self.old.records }
         requires room { loose_count self.old.loose.loose + 2 ≤ self.old.loose.spare }
         ensures leaves { KeepsVolumes self.old self.new }
         ensures weight { weight self.new.loose ≤ weight self.old.loose + 2 }
         ensures state { (e : Edit) → state_of self.new
-            ≡ provisionally_written contents (state_of self.old) t (edited_image edit (frame_in (state_of self.old) t)) e }
+            ≡ provisionally_written contents (state_of self.old) t (edited_image edit.now (frame_in (state_of self.old) t)) e }
     {
-        edit_frame(&mut self.frames, &mut self.records, t, edit);
+        self.frames.edit(t, edit, &mut self.records);
         if self.loose.has(t) {
             return;
         }
@@ -155,14 +96,12 @@ impl<V: Volume> DeviceStore<V> {
         &mut self,
         t: TrackNo,
         edit: Edit,
-        copy: Edit,
         slot: Option<usize>,
         port: &mut P,
         keep: &mut K,
     ) -> Result<Took, NoMemory>
         requires none { self.old.half ≡ None }
         requires track { HasTrack self.old t }
-        requires copy { copy ≡ edit }
         requires fits { FitsSlot (is_some (patch_at (state_of self.old) t)) slot }
         requires there { is_some (frame_at (state_of self.old) t) ≡ true }
         requires suits { SuitsFrame edit (framed.frame_at self.old.frames t) }
@@ -184,7 +123,7 @@ impl<V: Volume> DeviceStore<V> {
                 Err(NoMemory)
             }
             Ok(()) => {
-                self.edit_fast(t, edit, copy, slot, keep);
+                self.edit_fast(t, edit, slot, keep);
                 Ok(Took::Whole)
             }
         }
@@ -194,15 +133,15 @@ impl<V: Volume> DeviceStore<V> {
     fn framed_loose<P: Port, K: Keep<TrackImage>>(
         &mut self,
         t: TrackNo,
-        edit: Edit,
+        edit: &Edit,
         port: &mut P,
         keep: &mut K,
     ) -> Result<Took, NoMemory>
         requires none { self.old.half ≡ None }
         requires track { HasTrack self.old t }
         requires there { is_some (frame_at (state_of self.old) t) ≡ true }
-        requires suits { SuitsFrame edit (framed.frame_at self.old.frames t) }
-        requires frame { HasFrameRoom edit (framed.frame_at self.old.frames t) self.old.records }
+        requires suits { SuitsFrame edit.now (framed.frame_at self.old.frames t) }
+        requires frame { HasFrameRoom edit.now (framed.frame_at self.old.frames t) self.old.records }
         requires room { loose_count self.old.loose.loose + 2 ≤ self.old.loose.spare }
         requires takes { TakesTracks K.takes keep.old self.old }
         ensures leaves { IsSameDevice self.old self.new }
@@ -211,7 +150,7 @@ impl<V: Volume> DeviceStore<V> {
         ensures takes { TakesTracks K.takes keep.new self.new }
         ensures weight { weight self.new.loose ≤ weight self.old.loose + 2 }
         ensures run { (u : Usage) (first : ℕ) → Ran (where_ok result) (Heard K.hears K.takes)
-            (write_chosen contents u first t (frame_in (state_of self.old) t) edit (state_of self.old) Provisional)
+            (write_chosen contents u first t (frame_in (state_of self.old) t) edit.now (state_of self.old) Provisional)
             (outside (P.view port.old) self.old keep.old) (state_of self.new) (had (λ took. took) result) (outside (P.view port.new) self.new keep.new) }
     {
         match self.tell_frame(t, keep) {
@@ -227,10 +166,10 @@ impl<V: Volume> DeviceStore<V> {
     }
 
     /// A copy of the image in a track's frame, with an edit.
-    fn edited_frame(&self, t: TrackNo, edit: Edit) -> Result<TrackImage, NoMemory>
+    fn edited_frame(&self, t: TrackNo, edit: &Edit) -> Result<TrackImage, NoMemory>
         requires framed { is_some (frame_at (state_of self.now) t) ≡ true }
-        requires suits { Suits (frame_in (state_of self.now) t).geometry (frame_in (state_of self.now) t).track.records edit }
-        ensures { IfOk result (λ made. made ≡ edited_image edit (frame_in (state_of self.now) t)) }
+        requires suits { Suits (frame_in (state_of self.now) t).geometry (frame_in (state_of self.now) t).track.records edit.now }
+        ensures { IfOk result (λ made. made ≡ edited_image edit.now (frame_in (state_of self.now) t)) }
     {
         let mut made = self.frame_image(t).copy(self.alloc)?;
         edit_image(&mut made, edit)?;
@@ -278,13 +217,11 @@ impl<V: Volume> DeviceStore<V> {
         first: TrackNo,
         t: TrackNo,
         edit: Edit,
-        copy: Edit,
         port: &mut P,
         keep: &mut K,
     ) -> Result<Took, NoMemory>
         requires none { self.old.half ≡ None }
         requires track { HasTrack self.old t }
-        requires copy { copy ≡ edit }
         requires there { is_some (frame_at (state_of self.old) t) ≡ true }
         requires suits { Suits (frame_in (state_of self.old) t).geometry (frame_in (state_of self.old) t).track.records edit }
         requires patch { room_for (stored_at self.old.patches t) ≤ self.old.edits }
@@ -301,7 +238,7 @@ impl<V: Volume> DeviceStore<V> {
             → Ran (where_ok result) (Heard K.hears K.takes) (write contents (state_of self.old) usage.now first t (frame_in (state_of self.old) t) edit)
             (outside p self.old keep.old) (state_of self.new) (had (λ took. took) result) (outside (P.view port.new) self.new keep.new) }
     {
-        match self.edited_frame(t, copy) {
+        match self.edited_frame(t, &edit) {
             Err(NoMemory) => Err(NoMemory),
             Ok(image) => self.through_image(usage, first, t, image, edit, port, keep),
         }
@@ -314,13 +251,11 @@ impl<V: Volume> DeviceStore<V> {
         first: TrackNo,
         t: TrackNo,
         edit: Edit,
-        copy: Edit,
         port: &mut P,
         keep: &mut K,
     ) -> Result<Took, NoMemory>
         requires none { self.old.half ≡ None }
         requires track { HasTrack self.old t }
-        requires copy { copy ≡ edit }
         requires there { is_some (frame_at (state_of self.old) t) ≡ true }
         requires suits { Suits (frame_in (state_of self.old) t).geometry (frame_in (state_of self.old) t).track.records edit }
         requires patch { room_for (stored_at self.old.patches t) ≤ self.old.edits }
@@ -337,9 +272,9 @@ impl<V: Volume> DeviceStore<V> {
     {
         let choice = self.choose::<P, K>(usage, t, port);
         match choice {
-            Choice::Provisional => self.framed_loose(t, copy, port, keep),
-            Choice::Fast(slot) => self.framed_fast(t, edit, copy, slot, port, keep),
-            Choice::Through => self.framed_through(usage, first, t, edit, copy, port, keep),
+            Choice::Provisional => self.framed_loose(t, &edit, port, keep),
+            Choice::Fast(slot) => self.framed_fast(t, edit, slot, port, keep),
+            Choice::Through => self.framed_through(usage, first, t, edit, port, keep),
         }
     }
 
@@ -366,10 +301,9 @@ impl<V: Volume> DeviceStore<V> {
         ensures run { Ran (where_ok result) (Heard K.hears K.takes) (write contents (state_of self.old) usage.now first t (frame_in (state_of self.old) t) edit)
             (outside (P.view port.old) self.old keep.old) (state_of self.new) (had (λ took. took) result) (outside (P.view port.new) self.new keep.new) }
     {
-        let copy = match self.room_framed(usage, t, &edit) {
-            Err(NoMemory) => return Err(NoMemory),
-            Ok(copy) => copy,
-        };
-        self.chosen_framed(usage, first, t, edit, copy, port, keep)
+        match self.room_framed(usage, t, &edit) {
+            Err(NoMemory) => Err(NoMemory),
+            Ok(()) => self.chosen_framed(usage, first, t, edit, port, keep),
+        }
     }
 }

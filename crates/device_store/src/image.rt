@@ -19,7 +19,6 @@ use ckd_types::{Mode, NoMemory, Side, TrackNo};
 use device_defs::Usage;
 use device_outside::{Grant, Keep, Port, Volume};
 use nv_store::{ApplyFault, Patch};
-use std::alloc::Global;
 use track_image::{BytesFault, TrackImage};
 
 /// What the level sides gave: whether bytes, which are then in the buffer, the side that was read last, and the first that failed.
@@ -58,18 +57,14 @@ pub(crate) fn is_bypass(mode: Mode) -> bool
 }
 
 /// An image with the patch that is held, made in place. There is none where the patch is unfit for it.
-fn patched(
-    alloc: Global,
-    patch: Option<&Patch>,
-    image: TrackImage,
-) -> Result<Option<TrackImage>, NoMemory>
+fn patched(patch: Option<&Patch>, image: TrackImage) -> Result<Option<TrackImage>, NoMemory>
     ensures { IfOk result (λ i. i ≡ applied_by (option_copied patch.entry) image) }
 {
     let patch = match patch {
         None => return Ok(Some(image)),
         Some(patch) => patch,
     };
-    match patch.apply_in_place(alloc, image) {
+    match patch.apply_in_place(image) {
         Ok(image) => Ok(Some(image)),
         Err(ApplyFault::Unfit) => Ok(None),
         Err(ApplyFault::NoMemory) => Err(NoMemory),
@@ -160,7 +155,7 @@ impl<V: Volume> DeviceStore<V> {
         match TrackImage::from_bytes(self.alloc, self.geometry, t, self.buffer.bytes()) {
             Err(BytesFault::NoMemory) => Err(NoMemory),
             Err(BytesFault::BadTrack { .. }) => Ok(None),
-            Ok(image) => patched(self.alloc, self.patches.get(t), image),
+            Ok(image) => patched(self.patches.get(t), image),
         }
     }
 

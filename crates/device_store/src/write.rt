@@ -31,32 +31,11 @@ use std::alloc::Global;
 use track_cache::Frame;
 use track_image::TrackImage;
 
-/// The same edit in memory of its own.
-pub(crate) fn copy_edit(alloc: Global, edit: &Edit) -> Result<Edit, NoMemory>
-    ensures { IfOk result (λ made. made ≡ edit.now) }
-{
-    match edit {
-        Edit::Update { index, key, body } => Ok(Edit::Update {
-            index: *index,
-            key: key.copy(alloc)?,
-            body: body.copy(alloc)?,
-        }),
-        Edit::Format { after, added } => Ok(Edit::Format {
-            after: *after,
-            added: added.copy(alloc)?,
-        }),
-        Edit::Zero { added } => Ok(Edit::Zero {
-            added: added.copy(alloc)?,
-        }),
-    }
-}
-
 /// A copy of an image, with an edit.
 fn edited(alloc: Global, image: &TrackImage, edit: &Edit) -> Result<TrackImage, NoMemory>
     requires { Suits image.now.geometry image.now.track.records edit.now }
     ensures { IfOk result (λ made. made ≡ edited_image edit.now image.now) }
 {
-    let edit = copy_edit(alloc, edit)?;
     let mut made = image.copy(alloc)?;
     edit_image(&mut made, edit)?;
     Ok(made)

@@ -32,7 +32,7 @@ use Rattle.std.proofs.Common.{
 use Rattle.std.specs.Prelude.{nat_le, Some}
 use Rattle.std.proofs.Math.ListN.{set, get_or-append}
 use Rattle.std.proofs.Math.Seq.{take-append-add}
-use Rattle.std.proofs.lemmas.Bool.{and_parts, ltb-true, lt-ltb, leb-true, leb-false, eqb-true, ne_eqb, cases_lt, cases_Bool}
+use Rattle.std.proofs.lemmas.Bool.{and_parts, ltb-true, lt-ltb, leb-true, leb-false, eqb-true, ne_eqb, cases_lt, cases_Bool, cases_eq, eq-eqb}
 use Rattle.std.proofs.lemmas.List.{
   append-nil,
   take_all,
@@ -58,7 +58,7 @@ use Rattle.nv_store.specs.declared.patch.Kept.TheVariants.{Whole, UpTo, Nothing}
 use Rattle.nv_store.specs.Patch.{PatchView, IsPatch, no_edits, is_whole, with_replacement, added, reaches, revised, stay, applied}
 use Rattle.nv_store.specs.Edits.{all_added, all_edited}
 use Rattle.nv_store.proofs.Revisions.{update_take, length_revised, revised_take, revised_nothing}
-use Rattle.nv_store.proofs.Again.{put, erased, revised-push, nothing_behind, length_front, applied_is}
+use Rattle.nv_store.proofs.Again.{put, commuting, erased, nothing_behind, length_front, applied_is}
 
 -- ---- the replacements of a patch after an edit
 
@@ -80,9 +80,23 @@ without_erased r (w ∷ rs) x = elim (cases_Bool (w.index == r.index))
         → put r (revised (without r (w ∷ rs)) x) ≡ put r (revised (w ∷ rs) x)
     there other rest = rw other rest
 
+-- one may go before those of other records
+put_first : (r : Replacement) (rs : List Replacement) (x : List Record)
+    → revised (without r rs) (put r x) ≡ put r (revised (without r rs) x)
+put_first r [] x = refl
+put_first r (w ∷ rs) x = elim (cases_eq w.index r.index) [
+  | inl same ↦ rw (eq-eqb w.index r.index same) (put_first r rs x)
+  | inr other ↦ rw (ne_eqb w.index r.index other)
+      (ap (λ (y : List Record). revised (without r rs) y) (commuting w r other x) ∙ put_first r rs (put w x))
+]
+
 revised_with : (r : Replacement) (rs : List Replacement) (x : List Record)
     → revised (with_replacement r rs) x ≡ put r (revised rs x)
-revised_with r rs x = revised-push (without r rs) r x ∙ without_erased r rs x
+revised_with r [] x = refl
+revised_with r (w ∷ rs) x = elim (cases_eq w.index r.index) [
+  | inl same ↦ rw (eq-eqb w.index r.index same) (put_first r rs x ∙ without_erased r rs x ∙ sym (erased r w same rs x))
+  | inr other ↦ rw (ne_eqb w.index r.index other) (revised_with r rs (put w x))
+]
 
 put_past : (r : Replacement) (x : List Record) → length x ≤ r.index → put r x ≡ x
 put_past r x past = set_past x r.index (record (get_or x r.index (empty_zero 0)) { key = r.key; body = r.body }) past

@@ -187,6 +187,16 @@ reached_added g (Format a new) (UpTo last) rs behind x is reached suits =
     there n = rw n reached
 reached_added g (Zero new) kept rs behind x is reached suits = refl
 
+pub all_replaced : (P : Replacement → Bool) (new : Replacement) (rs : List Replacement) → P new ≡ true → list_all P rs ≡ true
+    → list_all P (with_replacement new rs) ≡ true
+all_replaced P new [] one all = and_from _ _ one refl
+all_replaced P new (r ∷ rs) one all =
+    let both = and_parts (P r) (list_all P rs) all in
+    elim (cases_Bool (r.index == new.index)) [
+      | inl same ↦ rw same (and_from _ _ one (filtered P (λ (w : Replacement). not (w.index == new.index)) rs both.1))
+      | inr other ↦ rw other (and_from _ _ both.0 (all_replaced P new rs one both.1))
+    ]
+
 -- an update of a record that stays
 kept_update : (i : ℕ) (key body : List ℕ) (kept : Kept) (rs : List Replacement) (behind x : List Record)
     → is_kept kept i ≡ true → is_whole kept ≡ (length behind == 0) → reaches kept x ≡ true
@@ -194,10 +204,8 @@ kept_update : (i : ℕ) (key body : List ℕ) (kept : Kept) (rs : List Replaceme
     → list_all (is_replaceable kept x) (with_replacement (record { index = i; key = key; body = body }) rs) ≡ true
 kept_update i key body kept rs behind x here is reached all suits =
     let r : Replacement = record { index = i; key = key; body = body } in
-    list_all-append (is_replaceable kept x) (filter (λ (w : Replacement). not (w.index == r.index)) rs) (r ∷ [])
-    ∙ and_from _ _ (filtered (is_replaceable kept x) (λ (w : Replacement). not (w.index == r.index)) rs all)
-    (and_from _ _ (and_from _ _ here (found kept rs behind x i (length key) (length body) here is reached all
-    ((update_says (revised rs (stay kept x) ++ behind) i key body).1 suits))) refl)
+    all_replaced (is_replaceable kept x) r rs (and_from _ _ here (found kept rs behind x i (length key) (length body) here is reached all
+    ((update_says (revised rs (stay kept x) ++ behind) i key body).1 suits))) all
 
 replaceable_added : (g : Geometry) (e : Edit) (kept : Kept) (rs : List Replacement) (behind x : List Record)
     → is_whole kept ≡ (length behind == 0) → reaches kept x ≡ true → list_all (is_replaceable kept x) rs ≡ true

@@ -1,9 +1,9 @@
 -- What an edit leaves of what is so of every patch.
-use Rattle.std.proofs.Common.{◌≡◌, ℕ, Bool, true, ◌==◌, not, inl, inr, List, [], ◌∷◌, ◌++◌, filter, refl, sym, ap, subst, ◌∙◌}
+use Rattle.std.proofs.Common.{◌≡◌, ℕ, zero, suc, ◌<◌, Bool, true, false, ◌==◌, not, inl, inr, List, [], ◌∷◌, ◌++◌, filter, get_or, length, take, refl, sym, ap, subst, ◌∙◌, arith}
+use Rattle.std.proofs.Math.ListN.{set}
 use Rattle.std.specs.Prelude.{nat_le}
 use Rattle.std.specs.List.{list_all}
-use Rattle.std.proofs.lemmas.Bool.{and_parts, and_from, cases_Bool, cases_eq, ne_eqb}
-use Rattle.std.proofs.lemmas.List.Folds.{list_all-append}
+use Rattle.std.proofs.lemmas.Bool.{and_parts, and_from, cases_Bool, cases_eq, eq-eqb, ne_eqb}
 use Rattle.ckd_types.specs.declared.record.Record.{Record}
 use Rattle.ckd_types.specs.declared.record.Edit.{Edit}
 use Rattle.ckd_types.specs.declared.record.Edit.TheVariants.{Update, Format, Zero}
@@ -11,7 +11,7 @@ use Rattle.nv_store.specs.declared.patch.Replacement.{Replacement}
 use Rattle.nv_store.specs.declared.patch.Kept.{Kept}
 use Rattle.nv_store.specs.Patch.{PatchView, IsPatch, IsReduced, is_once, is_kept, with_replacement, added}
 use Rattle.nv_store.proofs.InOrder.{added_is_patch}
-use Rattle.nv_store.proofs.OneMore.{filtered}
+use Rattle.nv_store.proofs.OneMore.{all_replaced, filtered}
 
 -- the replacements of other records
 abbrev is_other : ℕ → Replacement → Bool
@@ -37,27 +37,59 @@ turned a b = elim (cases_eq a b) [
       (ne_eqb a b other, ne_eqb b a (λ e. other (sym e))) refl
 ]
 
-push_once : (rs : List Replacement) (new : Replacement) → is_once rs ≡ true → list_all (is_other new.index) rs ≡ true
-    → is_once (rs ++ new ∷ []) ≡ true
-push_once [] new once others = refl
-push_once (r ∷ rs) new once others =
-    let both = and_parts (list_all (is_other r.index) rs) (is_once rs) once in
-    let rest = and_parts (is_other new.index r) (list_all (is_other new.index) rs) others in
-    and_from _ _ (list_all-append (is_other r.index) rs (new ∷ [])
-    ∙ and_from _ _ both.0 (and_from _ _ (turned new.index r.index ∙ rest.0) refl)) (push_once rs new both.1 rest.1)
-
 replaced_once : (new : Replacement) (rs : List Replacement) → is_once rs ≡ true
     → is_once (with_replacement new rs) ≡ true
-replaced_once new rs once = push_once (filter (is_other new.index) rs) new (others_once (is_other new.index) rs once)
-    (passed (is_other new.index) rs)
+replaced_once new [] once = refl
+replaced_once new (r ∷ rs) once =
+    let both = and_parts (list_all (is_other r.index) rs) (is_once rs) once in
+    elim (cases_Bool (r.index == new.index)) [
+      | inl same ↦ rw same (and_from _ _ (passed (is_other new.index) rs) (others_once (is_other new.index) rs both.1))
+      | inr other ↦ rw other
+          (and_from _ _ (all_replaced (is_other r.index) new rs (turned new.index r.index ∙ ap not other) both.0) (replaced_once new rs both.1))
+    ]
 
 replaced_stays : (kept : Kept) (new : Replacement) (rs : List Replacement) → is_kept kept new.index ≡ true
     → list_all (λ r. is_kept kept r.index) rs ≡ true → list_all (λ r. is_kept kept r.index) (with_replacement new rs)
     ≡ true
-replaced_stays kept new rs here stays =
-    list_all-append (λ (r : Replacement). is_kept kept r.index) (filter (is_other new.index) rs) (new ∷ [])
-    ∙ and_from _ _ (filtered (λ (r : Replacement). is_kept kept r.index) (is_other new.index) rs stays)
-    (and_from _ _ here refl)
+replaced_stays kept new rs here stays = all_replaced (λ (r : Replacement). is_kept kept r.index) new rs here stays
+
+others_stay : (index : ℕ) (rs : List Replacement) → list_all (is_other index) rs ≡ true → filter (is_other index) rs ≡ rs
+others_stay index [] all = refl
+others_stay index (r ∷ rs) all =
+    let both = and_parts (is_other index r) (list_all (is_other index) rs) all in
+    rw both.0 (ap (λ l. r ∷ l) (others_stay index rs both.1))
+
+-- the first of a record gives its place to a new one
+pub replaced_at : (rs : List Replacement) (n : ℕ) (old new : Replacement) → is_once rs ≡ true → n < length rs → old ≡ get_or rs n old
+    → old.index ≡ new.index → list_all (is_other new.index) (take n rs) ≡ true → set rs n new ≡ with_replacement new rs
+replaced_at [] n old new once inside is same before = absurd (omega (arith, inside))
+replaced_at (r ∷ rs) zero old new once inside is same before =
+    let both = and_parts (list_all (is_other r.index) rs) (is_once rs) once in
+    let index : r.index ≡ new.index = ap (λ (x : Replacement). x.index) (sym is) ∙ same in
+    rw (eq-eqb r.index new.index index)
+    (ap (λ l. new ∷ l) (sym (others_stay new.index rs (subst (λ k. list_all (is_other k) rs ≡ true) index both.0))))
+replaced_at (r ∷ rs) (suc n) old new once inside is same before =
+    let both = and_parts (list_all (is_other r.index) rs) (is_once rs) once in
+    let front = and_parts (is_other new.index r) (list_all (is_other new.index) (take n rs)) before in
+    rw (not_false (r.index == new.index) front.0) (ap (λ l. r ∷ l) (replaced_at rs n old new both.1 (omega (arith, inside)) is same front.1))
+  where
+    not_false : (b : Bool) → not b ≡ true → b ≡ false
+    not_false true is = absurd cc
+    not_false false is = refl
+
+-- one of another record goes behind all
+pub replaced_behind : (rs : List Replacement) (new : Replacement) → list_all (is_other new.index) rs ≡ true → rs ++ new ∷ [] ≡ with_replacement new rs
+replaced_behind [] new all = refl
+replaced_behind (r ∷ rs) new all =
+    let both = and_parts (is_other new.index r) (list_all (is_other new.index) rs) all in
+    elim (cases_Bool (r.index == new.index)) [
+      | inl same ↦ absurd (differ (r.index == new.index) same both.0)
+      | inr other ↦ rw other (ap (λ l. r ∷ l) (replaced_behind rs new both.1))
+    ]
+  where
+    differ : (b : Bool) → b ≡ true → not b ≡ true → ⊥
+    differ true is other = absurd cc
+    differ false is other = absurd cc
 
 pub added_reduced : (p : PatchView) (e : Edit) → IsReduced p → IsReduced (added p e)
 added_reduced p (Update index key body) is = elim (cases_Bool (is_kept p.kept index)) [

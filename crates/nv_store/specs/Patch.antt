@@ -75,9 +75,11 @@ place_behind Whole index = index
 place_behind (UpTo last) index = index - (last + 1)
 place_behind Nothing index = index
 
--- a record has one replacement at most: its last
+-- a record has one replacement at most: its last, where the first stood
 abbrev pub with_replacement : Replacement → List Replacement → List Replacement
-with_replacement new replaced = filter (λ r. not (r.index == new.index)) replaced ++ new ∷ []
+with_replacement new [] = new ∷ []
+with_replacement new (r ∷ replaced) =
+    if r.index == new.index then new ∷ filter (λ s. not (s.index == new.index)) replaced else r ∷ with_replacement new replaced
 
 -- the patch with one more edit, which changes a record that stays or one behind those, or cuts the track
 abbrev pub added : PatchView → Edit → PatchView

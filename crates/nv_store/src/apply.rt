@@ -9,10 +9,9 @@ ghost use Rattle.nv_store.specs.Patch.{is_whole, reaches, has_lengths, is_replac
 
 use crate::fit::fits;
 use crate::{ApplyFault, Kept, Patch, Replacement};
-use ckd_types::{Edit, NoMemory, Record};
-use ckd_write::edit_image;
+use ckd_types::{NoMemory, Record};
 use std::alloc::Global;
-use track_image::TrackImage;
+use track_image::{AddFault, TrackImage};
 
 /// Whether the record that a cut follows is there.
 fn reaches(kept: Kept, image: &TrackImage) -> bool
@@ -63,61 +62,54 @@ fn revise(image: &mut TrackImage, kept: Kept, replaced: &[Replacement])
     }
 }
 
-/// Puts a copy of a record that fits behind record `after`, instead of what stands there.
-fn put_copy(
-    alloc: Global,
-    image: &mut TrackImage,
-    after: usize,
-    new: &Record,
-) -> Result<(), NoMemory>
+/// Puts a record that fits behind record `after`, instead of what stands there.
+fn put_behind(image: &mut TrackImage, after: usize, new: &Record) -> Result<(), NoMemory>
     requires { IsFormat image.old.geometry image.old.track.records after new.now }
     ensures { OnOk result (image.new ≡ edited_image (edits.Format after new.now) image.old) }
 {
-    let added = new.copy(alloc)?;
-    edit_image(image, Edit::Format { after, added })
+    match image.cut_and_add(after, new) {
+        Ok(()) => Ok(()),
+        Err(AddFault::Unfit) => unreachable!(),
+        Err(AddFault::NoMemory) => Err(NoMemory),
+    }
 }
 
-/// Puts copies of records that fit behind the last one.
-fn put_copies(alloc: Global, image: &mut TrackImage, records: &[Record]) -> Result<(), NoMemory>
+/// Puts records that fit behind the last one.
+fn put_records(image: &mut TrackImage, records: &[Record]) -> Result<(), NoMemory>
     requires { is_fit image.old.geometry (image.old.track.records ++ records.now) ≡ true }
     ensures { OnOk result (image.new ≡ record image.old { track = record image.old.track { records = image.old.track.records ++ records.now } }) }
 {
     for record in records {
         let last = image.len() - 1;
-        put_copy(alloc, image, last, record)?;
+        put_behind(image, last, record)?;
     }
     Ok(())
 }
 
-/// Puts copies of records that fit behind record `last`, instead of what stands there.
-fn cut_behind(
-    alloc: Global,
-    image: &mut TrackImage,
-    last: usize,
-    behind: &[Record],
-) -> Result<(), NoMemory>
+/// Puts records that fit behind record `last`, instead of what stands there.
+fn cut_behind(image: &mut TrackImage, last: usize, behind: &[Record]) -> Result<(), NoMemory>
     requires place { last < length image.old.track.records }
     requires some { 0 < length behind.now }
     requires fit { is_fit image.old.geometry (take (last + 1) image.old.track.records ++ behind.now) ≡ true }
     ensures { OnOk result (image.new ≡
         record image.old { track = record image.old.track { records = take (last + 1) image.old.track.records ++ behind.now } }) }
 {
-    put_copy(alloc, image, last, &behind[0])?;
-    put_copies(alloc, image, &behind[1..])
+    put_behind(image, last, &behind[0])?;
+    put_records(image, &behind[1..])
 }
 
-/// Puts copies of records that fit in place of all.
-fn put_all(alloc: Global, image: &mut TrackImage, records: &[Record]) -> Result<(), NoMemory>
+/// Puts records that fit in place of all.
+fn put_all(image: &mut TrackImage, records: &[Record]) -> Result<(), NoMemory>
     requires some { 0 < length records.now }
     requires fit { is_fit image.old.geometry records.now ≡ true }
     ensures { OnOk result (image.new ≡ record image.old { track = record image.old.track { records = records.now } }) }
 {
-    image.set_zero(records[0].copy(alloc)?);
-    put_copies(alloc, image, &records[1..])
+    image.set_zero(&records[0]);
+    put_records(image, &records[1..])
 }
 
-/// Puts copies of a patch's records behind those that stay, where all fit.
-fn cut(alloc: Global, image: &mut TrackImage, kept: Kept, behind: &[Record]) -> Result<(), NoMemory>
+/// Puts a patch's records behind those that stay, where all fit.
+fn cut(image: &mut TrackImage, kept: Kept, behind: &[Record]) -> Result<(), NoMemory>
     requires reached { reaches kept image.old.track.records ≡ true }
     requires behind { is_whole kept ≡ (length behind.now == 0) }
     requires fit { is_fit image.old.geometry (stay kept image.old.track.records ++ behind.now) ≡ true }
@@ -125,8 +117,8 @@ fn cut(alloc: Global, image: &mut TrackImage, kept: Kept, behind: &[Record]) -> 
 {
     match kept {
         Kept::Whole => Ok(()),
-        Kept::UpTo(last) => cut_behind(alloc, image, last, behind),
-        Kept::Nothing => put_all(alloc, image, behind),
+        Kept::UpTo(last) => cut_behind(image, last, behind),
+        Kept::Nothing => put_all(image, behind),
     }
 }
 
@@ -146,7 +138,6 @@ fn applies(image: &TrackImage, kept: Kept, replaced: &[Replacement], behind: &[R
 
 /// The patched image, of one that the patch applies to.
 fn patched(
-    alloc: Global,
     mut image: TrackImage,
     kept: Kept,
     replaced: &[Replacement],
@@ -157,7 +148,7 @@ fn patched(
     ensures { IfOk result (λ made. made ≡ patched_image (record { replaced = replaced.now; kept = kept; behind = behind.now }) image) }
 {
     revise(&mut image, kept, replaced);
-    cut(alloc, &mut image, kept, behind)?;
+    cut(&mut image, kept, behind)?;
     Ok(image)
 }
 
@@ -172,19 +163,19 @@ impl Patch {
             return Err(ApplyFault::Unfit);
         }
         let image = image.copy(alloc)?;
-        let made = patched(alloc, image, self.kept(), self.replaced(), self.behind())?;
+        let made = patched(image, self.kept(), self.replaced(), self.behind())?;
         Ok(made)
     }
 
     /// The same image, made of the one that is handed in, without a copy of it.
-    pub fn apply_in_place(&self, alloc: Global, image: TrackImage) -> Result<TrackImage, ApplyFault>
+    pub fn apply_in_place(&self, image: TrackImage) -> Result<TrackImage, ApplyFault>
         ensures { Gives result (applied self.now image) }
     {
         self.is_patch();
         if !applies(&image, self.kept(), self.replaced(), self.behind()) {
             return Err(ApplyFault::Unfit);
         }
-        let made = patched(alloc, image, self.kept(), self.replaced(), self.behind())?;
+        let made = patched(image, self.kept(), self.replaced(), self.behind())?;
         Ok(made)
     }
 }

@@ -1,7 +1,7 @@
-ghost use Rattle.std.specs.Prelude.{◌≡◌, ◌≤◌, ◌<◌, ◌+◌, ◌==◌, ◌++◌, not, false, IfOk, OnOk, OnErr, [], ◌∷◌, filter, nat_le, length, vec_len, vec_capacity};
+ghost use Rattle.std.specs.Prelude.{◌≡◌, ◌≤◌, ◌<◌, ◌+◌, ◌==◌, ◌++◌, not, false, IfOk, OnOk, OnErr, [], ◌∷◌, filter, nat_le, length, true, vec_len, vec_capacity};
 ghost use Rattle.ckd_types.specs.declared.record.Edit.TheVariants as edits;
 ghost use Rattle.ckd_types.specs.Edit.{edited};
-ghost use Rattle.nv_store.specs.Patch.{IsPatch, IsReduced, no_edits, is_kept, place_behind, with_replacement, added};
+ghost use Rattle.nv_store.specs.Patch.{IsPatch, IsReduced, no_edits, is_kept, is_once, place_behind, with_replacement, added};
 ghost use Rattle.nv_store.specs.Room.{room_of};
 
 use crate::EditRoom;
@@ -69,13 +69,18 @@ impl Model for Patch {
         IsReduced (record { replaced = p.replaced.items; kept = p.kept; behind = p.behind.items }) };
 }
 
-/// Puts a replacement in the place of an older one of its record, in room that was made.
+/// Puts a replacement in the place of an older one of its record, or else behind the others, in room that was made.
 fn put_replacement(replaced: &mut Vec<Replacement>, new: Replacement)
-    requires { vec_len replaced.old < vec_capacity replaced.old }
+    requires once { is_once replaced.old.items ≡ true }
+    requires room { vec_len replaced.old < vec_capacity replaced.old }
     ensures { replaced.new.items ≡ with_replacement new replaced.old.items }
 {
-    let index = new.index;
-    replaced.retain(|r| r.index != index);
+    for i in 0..replaced.len() {
+        if replaced[i].index == new.index {
+            replaced[i] = new;
+            return;
+        }
+    }
     replaced.push_reserved(new);
 }
 
@@ -118,7 +123,8 @@ fn drop_behind(replaced: &mut Vec<Replacement>, after: usize)
 
 /// Adds an edit in room that was made.
 fn put_edit(replaced: &mut Vec<Replacement>, kept: &mut Kept, behind: &mut Vec<Record>, e: Edit)
-    requires { (vec_len replaced.old < vec_capacity replaced.old) × (vec_len behind.old < vec_capacity behind.old) }
+    requires once { is_once replaced.old.items ≡ true }
+    requires room { (vec_len replaced.old < vec_capacity replaced.old) × (vec_len behind.old < vec_capacity behind.old) }
     ensures { record { replaced = replaced.new.items; kept = kept.new; behind = behind.new.items } ≡
         added (record { replaced = replaced.old.items; kept = kept.old; behind = behind.old.items }) e }
 {

@@ -69,7 +69,7 @@ fn a_file_of_64_cylinders(rt: HostRuntime) -> Result<(), Fail> {
     let key = Bytes::from_slice(alloc, b"KEY")?;
     let body = Bytes::from_slice(alloc, &[7; 4000])?;
     image
-        .cut_and_add(0, Record { id, key, body })
+        .cut_and_add(0, &Record { id, key, body })
         .or(Err("full"))?;
     assert_eq!(rt; volume.images().len(), 960);
     assert_eq!(rt; last.get(), 959);

@@ -60,7 +60,7 @@ fn a_record_behind_the_last_comes_in_room_that_was_made(rt: HostRuntime) -> Resu
     assert!(rt; fits);
     let edit = Edit::Format { after, added };
     make_room(&image, &edit, &mut room)?;
-    edit_within(&mut image, edit, &mut room);
+    edit_within(&mut image, &edit, &mut room);
     assert_eq!(rt; image.len(), 2);
     Ok(())
 }

@@ -73,7 +73,7 @@ impl Images {
         ensures done { OnOk result (self.new ≡ record self.old { tracks = slice_set self.old.tracks t (apply_edit edit (track_in self.old.tracks t)) }) }
         ensures same { OnErr result (self.new ≡ self.old) }
     {
-        edit_image(&mut self.images[usize::from(t.get())], edit)?;
+        edit_image(&mut self.images[usize::from(t.get())], &edit)?;
         Ok(())
     }
 

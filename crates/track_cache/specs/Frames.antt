@@ -1,5 +1,5 @@
 -- What a cache holds: a list with a place for each track.
-use Rattle.std.specs.Prelude.{ℕ, ◌+◌, Bool, false, ⊤, List, length, slice_set, Option, Some, None, if◌then◌else◌}
+use Rattle.std.specs.Prelude.{ℕ, ◌+◌, Bool, true, false, ⊤, List, length, slice_set, Option, Some, None, if◌then◌else◌}
 use Rattle.ckd_types.specs.declared.record.Edit.{Edit}
 use Rattle.ckd_types.specs.Edit.{IsInside, HasRoomFor}
 use Rattle.ckd_rules.specs.Facts.{Suits}
@@ -34,10 +34,10 @@ abbrev pub with_mark : Bool → Option Frame → Option Frame
 with_mark modified None = None
 with_mark modified (Some f) = Some (record f { modified = modified })
 
--- the frame with an edit of its image
+-- the frame with an edit of its image, which is modified then
 abbrev pub edited_frame : Edit → Option Frame → Option Frame
 edited_frame e None = None
-edited_frame e (Some f) = Some (record f { image = edited_image e f.image })
+edited_frame e (Some f) = Some (record { image = edited_image e f.image; modified = true })
 
 -- there is a frame, and the edit suits its image
 abbrev pub SuitsFrame : Edit → Option Frame → Type 0

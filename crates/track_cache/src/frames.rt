@@ -178,14 +178,17 @@ impl Frames {
         }
     }
 
-    /// Makes an edit in a track's frame, in place and in room that was made. The frame keeps its mark. Takes
+    /// Makes an edit in a track's frame, in place and in room that was made. The frame is modified then. Takes
     /// no memory.
-    pub fn edit(&mut self, t: TrackNo, edit: Edit, room: &mut RecordRoom)
-        requires suits { SuitsFrame edit (frame_at self.old t) }
-        requires room { HasFrameRoom edit (frame_at self.old t) room.old }
-        ensures { self.new ≡ slice_set self.old t (edited_frame edit (frame_at self.old t)) }
+    pub fn edit(&mut self, t: TrackNo, edit: &Edit, room: &mut RecordRoom)
+        requires suits { SuitsFrame edit.now (frame_at self.old t) }
+        requires room { HasFrameRoom edit.now (frame_at self.old t) room.old }
+        ensures frames { self.new ≡ slice_set self.old t (edited_frame edit.now (frame_at self.old t)) }
+        ensures now { frame_at self.new t ≡ edited_frame edit.now (frame_at self.old t) }
     {
+        self.modified.set(t, true);
         let frame = self.table.entry_mut(t);
+        frame.modified = true;
         edit_within(&mut frame.image, edit, room);
     }
 

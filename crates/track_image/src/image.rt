@@ -192,11 +192,11 @@ impl TrackImage {
 
     /// Adds a record behind record `after`, and erases what stood there. Takes memory only behind
     /// the last record.
-    pub fn cut_and_add(&mut self, after: usize, added: Record) -> Result<(), AddFault>
+    pub fn cut_and_add(&mut self, after: usize, added: &Record) -> Result<(), AddFault>
         requires place { after < length self.old.track.records }
-        requires ranges { IsRecord added }
-        ensures unfit { (result ≡ Err AddFault.Unfit) ↔ (is_room_behind self.old after (length added.key) (length added.body) ≡ false) }
-        ensures added { OnOk result (self.new ≡ edited_image (edits.Format after added) self.old) }
+        requires ranges { IsRecord added.now }
+        ensures unfit { (result ≡ Err AddFault.Unfit) ↔ (is_room_behind self.old after (length added.now.key) (length added.now.body) ≡ false) }
+        ensures added { OnOk result (self.new ≡ edited_image (edits.Format after added.now) self.old) }
         ensures same { OnErr result (self.new ≡ self.old) }
         ensures cut { after + 1 < length self.old.track.records → result ≢ Err AddFault.NoMemory }
     {
@@ -214,12 +214,12 @@ impl TrackImage {
 
     /// Adds a record that fits behind record `after`, and erases what stood there. Behind the last record it
     /// comes into room that was made. Takes no memory.
-    pub fn cut_and_add_within(&mut self, after: usize, added: Record, room: &mut RecordRoom)
+    pub fn cut_and_add_within(&mut self, after: usize, added: &Record, room: &mut RecordRoom)
         requires place { after < length self.old.track.records }
-        requires ranges { IsRecord added }
-        requires fits { is_room_behind self.old after (length added.key) (length added.body) ≡ true }
+        requires ranges { IsRecord added.now }
+        requires fits { is_room_behind self.old after (length added.now.key) (length added.now.body) ≡ true }
         requires room { length self.old.track.records ≤ after + 1 → length self.old.track.records < room.old }
-        ensures { self.new ≡ edited_image (edits.Format after added) self.old }
+        ensures { self.new ≡ edited_image (edits.Format after added.now) self.old }
     {
         let key = added.key.as_slice();
         let body = added.body.as_slice();
@@ -230,12 +230,12 @@ impl TrackImage {
     }
 
     /// Makes a record the track's only one. Takes no memory.
-    pub fn set_zero(&mut self, zero: Record)
-        requires key { length zero.key ≡ 0 }
-        requires body { length zero.body ≡ 8 }
-        ensures { self.new ≡ edited_image (edits.Zero zero) self.old }
+    pub fn set_zero(&mut self, zero: &Record)
+        requires key { length zero.now.key ≡ 0 }
+        requires body { length zero.now.body ≡ 8 }
+        ensures { self.new ≡ edited_image (edits.Zero zero.now) self.old }
     {
-        let zero = RecordRef::new(zero.id, zero.key.as_slice(), zero.body.as_slice());
+        let zero = RecordRef::zero(zero.id, zero.key.as_slice(), zero.body.as_slice());
         self.packed.set_zero(&zero);
         self.spent = 0;
     }

@@ -32,6 +32,15 @@ impl<'a> RecordRef<'a> {
         RecordRef { id, key, body }
     }
 
+    /// A record 0, whatever its id.
+    pub(crate) fn zero(id: RecId, key: &'a [u8], body: &'a [u8]) -> RecordRef<'a>
+        requires key { length key.now ≡ 0 }
+        requires body { length body.now ≡ 8 }
+        ensures { result ≡ record { id = id; key = key.now; body = body.now } }
+    {
+        RecordRef::new(id, key, body)
+    }
+
     /// Its id as it was written, which need not name the track that it is on (IBM).
     pub fn id(&self) -> RecId
         ensures { result ≡ self.now.id }

@@ -1,4 +1,4 @@
-ghost use Rattle.std.specs.Prelude.{◌≡◌, ℕ, ◌≤◌, ◌<◌, ◌+◌, ◌==◌, Bool, IfOk, false, true, if◌then◌else◌, replicate, slice_set};
+ghost use Rattle.std.specs.Prelude.{◌≡◌, ℕ, ◌≤◌, ◌==◌, IfOk, false, true, if◌then◌else◌, replicate, slice_set};
 ghost use Rattle.track_table.specs.Bits.{is_marked};
 ghost use Rattle.track_table.specs.Tracks.{count_below, least};
 
@@ -25,19 +25,6 @@ impl Model for CountedBits {
     ghost view = { λ b. b.bits };
 
     ghost invariant = { λ b. (b.count ≡ count_below 65535 (is_marked b.bits)) × (length b.bits ≡ 65535) };
-}
-
-/// The number of marks where one of them was and is so.
-fn recounted(count: u16, was: bool, is: bool) -> u16
-    requires some { was ≡ true → 1 ≤ count }
-    requires few { is ≡ true → was ≡ false → count < 65535 }
-    ensures { result + (if was then 1 else 0) ≡ count + (if is then 1 else 0) }
-{
-    if is {
-        if was { count } else { count + 1 }
-    } else {
-        if was { count - 1 } else { count }
-    }
 }
 
 impl CountedBits {
@@ -71,10 +58,37 @@ impl CountedBits {
         ensures marks { self.new ≡ slice_set self.old t marked }
         ensures each { (q : ℕ) → is_marked self.new q ≡ (if q == t then marked else is_marked self.old q) }
     {
+        if marked {
+            self.mark(t);
+        } else {
+            self.unmark(t);
+        }
+    }
+
+    /// Marks a track, where it isn't marked.
+    fn mark(&mut self, t: TrackNo)
+        ensures marks { self.new ≡ slice_set self.old t true }
+        ensures each { (q : ℕ) → is_marked self.new q ≡ (if q == t then true else is_marked self.old q) }
+    {
         let _track = t.get();
-        let was = self.bits.has(t);
-        self.count = recounted(self.count, was, marked);
-        self.bits.set(t, marked);
+        if self.bits.has(t) {
+            return;
+        }
+        self.count += 1;
+        self.bits.set(t, true);
+    }
+
+    /// Takes a track's mark away, where it has one.
+    fn unmark(&mut self, t: TrackNo)
+        ensures marks { self.new ≡ slice_set self.old t false }
+        ensures each { (q : ℕ) → is_marked self.new q ≡ (if q == t then false else is_marked self.old q) }
+    {
+        let _track = t.get();
+        if !self.bits.has(t) {
+            return;
+        }
+        self.count -= 1;
+        self.bits.set(t, false);
     }
 
     /// The number of marked tracks, which is kept.

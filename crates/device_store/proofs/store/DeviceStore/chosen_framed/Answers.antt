@@ -13,7 +13,7 @@ returns-in-Provisional-clause-run g c =
     tries true (had_ok c.framed_loose.result)
     (joined (write_chosen contents c.args.usage.now c.args.first c.args.t (frame_in (state_of c.args.self.now) c.args.t) c.args.edit)
     (weaker c.framed_loose.result (c.choose-choice.ensures.run _))
-    (rw (c.in-Provisional.is, ← c.requires.copy) (c.framed_loose.ensures.run c.args.usage.now c.args.first)))
+    (rw c.in-Provisional.is (c.framed_loose.ensures.run c.args.usage.now c.args.first)))
 
 pub returns-in-Fast-clause-run : goal.returns-in-Fast-clause-run
 unfolding write

@@ -13,4 +13,4 @@ pub returns-in-Ok-clause-run : goal.returns-in-Ok-clause-run
 returns-in-Ok-clause-run g c = λ u first.
     tells true c.in-Ok.ensures refl (lands (ap (λ x. outside_of (g.P.Port.view c.args.port.now) g.V.Volume.view x c.tell_frame.new.keep)
     (sym c.edit_loose.ensures.leaves.volume))
-    (joined (λ z took. Done z (Some took)) (ended (sym (c.edit_loose.ensures.state c.args.edit)) refl) done))
+    (joined (λ z took. Done z (Some took)) (ended (sym (c.edit_loose.ensures.state c.args.edit.now)) refl) done))

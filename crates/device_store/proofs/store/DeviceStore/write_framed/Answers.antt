@@ -12,8 +12,8 @@ unfolding write
 returns-in-Err-clause-run g c = lands (ap (λ x. outside_of (g.P.Port.view c.args.port.now) g.V.Volume.view x c.args.keep.now)
     (sym c.room_framed.ensures.leaves.volume)) (tries false tt (ended (sym c.room_framed.ensures.state) refl))
 
-pub returns-clause-run : goal.returns-clause-run
-returns-clause-run g c =
+pub returns-in-Ok-clause-run : goal.returns-in-Ok-clause-run
+returns-in-Ok-clause-run g c =
     from_equal (λ z. write contents z c.args.usage.now c.args.first c.args.t (frame_in z c.args.t) c.args.edit)
     c.room_framed.ensures.state (ap (λ v. outside_of (g.P.Port.view c.args.port.now) g.V.Volume.view v c.args.keep.now) c.room_framed.ensures.leaves.volume)
     c.chosen_framed.ensures.run

@@ -28,7 +28,7 @@ invariant_of-self-2 c =
     (sym c.self.view_is) in
     let units : c.cost.result ≡ cost g (length c.new.result.key) (length c.new.result.body) =
     c.cost.ensures ∙ ap (λ (r : Record). cost g (length r.key) (length r.body)) (sym c.new.ensures) in
-    let same : c.new.result ≡ c.args.added = c.new.ensures
+    let same : c.new.result ≡ c.args.added.now = c.new.ensures
     ∙ rw (c.as_slice-key.ensures, c.as_slice-body.ensures) refl in
     let ranges : IsRecord c.new.result = subst IsRecord (sym same) c.requires.ranges in
     let made = formats g c.self.inside.packed c.args.after c.new.result c.self.invariant.0 ranges

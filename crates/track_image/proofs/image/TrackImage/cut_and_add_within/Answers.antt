@@ -16,10 +16,10 @@ cut_and_add_within-requires-clause-short c =
     (sym c.self.view_is) in
     let units : c.cost.result ≡ cost g (length c.new.result.key) (length c.new.result.body) =
     c.cost.ensures ∙ ap (λ (r : Record). cost g (length r.key) (length r.body)) (sym c.new.ensures) in
-    let same : c.new.result ≡ c.args.added = c.new.ensures
+    let same : c.new.result ≡ c.args.added.now = c.new.ensures
     ∙ rw (c.as_slice-key.ensures, c.as_slice-body.ensures) refl in
     let fits = has_room (record { geometry = g; track = c.self.inside.packed }) c.args.self.now c.args.after
-    c.new.result c.args.added c.self.view_is same c.requires.fits in
+    c.new.result c.args.added.now c.self.view_is same c.requires.fits in
     fits_behind g rs c.args.after c.new.result c.self.invariant.0.zero (omega (arith, spent, units, fits))
 
 pub invariant_of-self : goal.invariant_of-self
@@ -31,11 +31,11 @@ invariant_of-self c =
     (sym c.self.view_is) in
     let units : c.cost.result ≡ cost g (length c.new.result.key) (length c.new.result.body) =
     c.cost.ensures ∙ ap (λ (r : Record). cost g (length r.key) (length r.body)) (sym c.new.ensures) in
-    let same : c.new.result ≡ c.args.added = c.new.ensures
+    let same : c.new.result ≡ c.args.added.now = c.new.ensures
     ∙ rw (c.as_slice-key.ensures, c.as_slice-body.ensures) refl in
     let ranges : IsRecord c.new.result = subst IsRecord (sym same) c.requires.ranges in
     let fits = has_room (record { geometry = g; track = c.self.inside.packed }) c.args.self.now c.args.after
-    c.new.result c.args.added c.self.view_is same c.requires.fits in
+    c.new.result c.args.added.now c.self.view_is same c.requires.fits in
     let made = formats g c.self.inside.packed c.args.after c.new.result c.self.invariant.0 ranges
     (omega (arith, spent, units, fits)) in
     let sum = λ (t : Track). Fits g t × (c.cost_to.result + c.cost.result ≡ cost_of g t.records) in

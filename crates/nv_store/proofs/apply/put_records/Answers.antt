@@ -1,9 +1,9 @@
 use Rattle.std.proofs.Common.{◌≡◌, ◌+◌, ◌-◌, length, arith}
 use Rattle.nv_store.proofs.Fits.{rest_fits}
-use Rattle.nv_store.proofs.apply.put_copies.Goals as goal
+use Rattle.nv_store.proofs.apply.put_records.Goals as goal
 
-pub put_copy-requires : goal.put_copy-requires
-put_copy-requires c =
+pub put_behind-requires : goal.put_behind-requires
+put_behind-requires c =
     let image = c.loop-record.image in
     let ends : c.len-last.result - 1 + 1 ≡ length image.track.records =
     omega (arith, c.len-last.ensures.value, c.len-last.ensures.least) in
