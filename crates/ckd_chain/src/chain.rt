@@ -115,7 +115,9 @@ impl Chain {
         self.at.next.is_none()
     }
 
-    /// The command at hand begins: what it does before it looks at a track.
+    /// The command at hand begins: what it does before it looks at a track. It isn't inlined, so that to ask whether it has begun
+    /// costs little.
+    #[inline(never)]
     fn begin_command(&mut self)
         requires running { IsSome self.old.at.next }
         requires ready { self.old.stage ≡ None }

@@ -211,7 +211,8 @@ impl RunRecord {
         }
     }
 
-    pub(crate) fn push_end_line(
+    /// The END line of a command of this program; for want of memory none.
+    pub fn push_end_line(
         &mut self,
         path: PathNo,
         device: DeviceNo,

@@ -1,7 +1,7 @@
 ghost use Rattle.std.specs.Prelude.{◌≡◌, ◌++◌, ◌∷◌, [], OnOk, map};
 ghost use Rattle.report_text.specs.declared.line.ReportLine.TheVariants as lines;
 ghost use Rattle.report_text.specs.Ends.{data_lines, sense_lines};
-ghost use Rattle.report_text.specs.Events.{ended_lines, first_lines, io_lines, loosed_line, program_over_lines};
+ghost use Rattle.report_text.specs.Events.{ended_lines, first_lines, io_lines, last_line, line_if, loosed_line, program_over_lines};
 ghost use Rattle.run_report.specs.Answers.{order_answer};
 ghost use Rattle.run_report.specs.Beside.{over_of, program_over_line};
 ghost use Rattle.run_report.specs.Events.{end_told};
@@ -11,7 +11,7 @@ use crate::answers::{how_over, order_answer};
 use crate::told::RunningProgram;
 use ckd_types::{CommandEnd, DeviceNo, NoMemory, PathNo, Sense};
 use plain_defs::{Entry, Item};
-use report_text::{EndLine, Happened, Loosed, Order, ProgramOver, ReportLine, RunEvent, RunRecord};
+use report_text::{Happened, Loosed, Order, ProgramOver, ReportLine, RunRecord};
 use subsystem_defs::EventEnd;
 
 fn program_over(device: DeviceNo, entry: &Entry) -> ProgramOver
@@ -50,25 +50,6 @@ pub struct Calls {
 pub struct Gained<'a, 'b> {
     pub acts: &'a [Loosed],
     pub items: &'b [Item],
-}
-
-/// Records an event of one device, by what it did, what came to the device, and its calls.
-pub fn record_event(
-    run: &mut RunRecord,
-    device: DeviceNo,
-    happened: Happened,
-    gained: &Gained,
-    calls: Calls,
-) -> Result<(), NoMemory>
-    ensures { OnOk result (run.new ≡ run.old ++ lines_by device happened gained.now.acts.now calls.reads calls.writes gained.now.items.now) }
-{
-    run.push_event(RunEvent {
-        happened,
-        loosed: gained.acts,
-        reads: calls.reads,
-        writes: calls.writes,
-        over: over_of(device, gained.items),
-    })
 }
 
 fn record_over(run: &mut RunRecord, over: &Option<ProgramOver>) -> Result<(), NoMemory>
@@ -117,15 +98,7 @@ fn record_end(
 ) -> Result<(), NoMemory>
     ensures { OnOk result (run.new ≡ run.old ++ ended_lines path device ordinal end.now) }
 {
-    run.push(ReportLine::End(EndLine {
-        path,
-        device,
-        ordinal,
-        index: end.index,
-        status: end.status,
-        residual: end.residual,
-        note: end.note,
-    }))?;
+    run.push_end_line(path, device, ordinal, end)?;
     record_sent(run, end.sent.as_slice())?;
     record_sense(run, &end.sense)?;
     Ok(())
@@ -156,6 +129,59 @@ fn record_calls(run: &mut RunRecord, calls: Calls) -> Result<(), NoMemory>
         reads: calls.reads,
         writes: calls.writes,
     })
+}
+
+/// What is told first of what happened.
+fn record_happened(run: &mut RunRecord, happened: &Happened) -> Result<(), NoMemory>
+    ensures { OnOk result (run.new ≡ run.old ++ first_lines happened.now) }
+{
+    match happened {
+        Happened::Started(path, device, answer) => {
+            run.push(ReportLine::Start(*path, *device, *answer))
+        }
+        Happened::Ended(path, device, ordinal, end) => {
+            record_end(run, *path, *device, *ordinal, end)
+        }
+        Happened::Half(path, device, track) => run.push(ReportLine::Half(*path, *device, *track)),
+        Happened::Back(device, answer) => run.push(ReportLine::Back(*device, *answer)),
+        Happened::StepIdle(device) => run.push(ReportLine::StepIdle(*device)),
+        Happened::RunIdle(device) => run.push(ReportLine::RunIdle(*device)),
+        Happened::Reset(_, _) | Happened::Ordered(_, _) => Ok(()),
+    }
+}
+
+/// What is told last of it.
+fn record_last(run: &mut RunRecord, happened: &Happened) -> Result<(), NoMemory>
+    ensures { OnOk result (run.new ≡ run.old ++ line_if (last_line happened.now)) }
+{
+    match happened {
+        Happened::Reset(path, device) => run.push(ReportLine::Reset(*path, *device)),
+        Happened::Ordered(order, answer) => run.push(ReportLine::Order(*order, *answer)),
+        Happened::Started(_, _, _)
+        | Happened::Ended(_, _, _, _)
+        | Happened::Half(_, _, _)
+        | Happened::Back(_, _)
+        | Happened::StepIdle(_)
+        | Happened::RunIdle(_) => Ok(()),
+    }
+}
+
+/// Records an event of one device, by what it did, what came to the device, and its calls.
+pub fn record_event(
+    run: &mut RunRecord,
+    device: DeviceNo,
+    happened: Happened,
+    gained: &Gained,
+    calls: Calls,
+) -> Result<(), NoMemory>
+    ensures { OnOk result (run.new ≡ run.old ++ lines_by device happened gained.now.acts.now calls.reads calls.writes gained.now.items.now) }
+{
+    record_happened(run, &happened)?;
+    record_acts(run, gained.acts)?;
+    record_calls(run, calls)?;
+    record_over(run, &over_of(device, gained.items))?;
+    record_last(run, &happened)?;
+    Ok(())
 }
 
 /// Records an event of one device with which a command ended, by the program that ran there before it. The end is read where it

@@ -8,5 +8,5 @@ returns c =
       c.in_ok-record_sense.ensures,
       c.in_ok-record_sent.ensures,
       c.as_slice.ensures,
-      c.in_ok-push.ensures.did,
+      c.in_ok-push_end_line.ensures.did,
     ) (simp append_assoc refl)
