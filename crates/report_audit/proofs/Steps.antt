@@ -1,11 +1,11 @@
 -- What an audit comes to behind one line more.
-use Rattle.std.proofs.Common.{[], ◌≡◌, ◌<◌, ◌+◌, ◌∷◌, ◌++◌, ℕ, ◌-◌, zero, suc, List, Bool, true, false, Option, Some, None, Result, Ok, Err, length, get_or}
+use Rattle.std.proofs.Common.{[], ◌≡◌, ◌≢◌, ◌<◌, ◌+◌, ◌∷◌, ◌++◌, ℕ, ◌-◌, zero, suc, List, Bool, true, false, Option, Some, None, Result, Ok, Err, length, get_or}
 use Rattle.std.proofs.Common.{take, drop}
 use Rattle.std.proofs.Common.{refl, sym, ap, subst, ◌∙◌, arith, add-one, append_assoc}
-use Rattle.std.specs.Prelude.{codes, option_map}
+use Rattle.std.specs.Prelude.{codes, option_map, slice_index}
 use Rattle.std.specs.List.{flat_map}
 use Rattle.std.specs.Str.{bytes_eq}
-use Rattle.std.proofs.lemmas.List.{append-nil}
+use Rattle.std.proofs.lemmas.List.{append-nil, get_or-take, length-take}
 use Rattle.deck_text.specs.DeckLines.{DeckLines}
 use Rattle.deck_text.specs.Parse.{parsed}
 use Rattle.deck_text.specs.declared.line.DeckFault.{DeckFault}
@@ -206,6 +206,18 @@ pub report_ends : (p q : Progress) (why : Option AuditWhy) (line : List ℕ) →
     → q.status ≡ status_of q.lines why → IsOneLine line → 0 < length line → JudgedIn p.auditor q.auditor why line → GoesOn p line q []
 report_ends p q why line some front count status one long judging =
     line_goes p q p.auditor q.auditor why line line [] some front refl refl count status (cut_last line one long) judging
+
+-- a line of a text in which a line feed ends it
+one_front : (text : List ℕ) (end : ℕ) → ((k : ℕ) → k < end → slice_index text k ≢ 10) → IsOneLine (take end text)
+one_front text end none k lt =
+    let small : k < end = omega (arith, lt, length-take end text) in
+    subst (λ (b : ℕ). b ≢ 10) (sym (get_or-take end text k 0 small)) (none k small)
+
+pub front_goes : (p q : Progress) (text rest : List ℕ) (end : ℕ) → ((k : ℕ) → k < end → slice_index text k ≢ 10) → is_reporting p ≡ true
+    → p.status ≡ None → q.lines ≡ p.lines + 1 → q.status ≡ None → JudgedIn p.auditor q.auditor None (take end text)
+    → GoesOn p (take end text ++ 10 ∷ rest) q rest
+front_goes p q text rest end none some front count status judging =
+    report_goes p q None (take end text) rest some front count status (one_front text end none) judging
 
 -- Where it ends
 

@@ -1,9 +1,9 @@
-ghost use Rattle.std.specs.Prelude.{◌≡◌, ◌<◌, ◌≤◌, ◌+◌, ◌++◌, ◌∷◌, [], ℕ, List, IfOk, OnOk, length, codes, Some, None, Bool, true, false};
+ghost use Rattle.std.specs.Prelude.{◌≡◌, ◌≢◌, ◌<◌, ◌≤◌, ◌+◌, ◌++◌, ◌∷◌, [], ℕ, List, IfOk, IfSome, OnOk, length, slice_index, take, codes, Some, None, Bool, true, false};
 ghost use Rattle.deck_audit.specs.declared.status.AuditStatus.{AuditStatus as Answer};
 ghost use Rattle.report_audit.specs.Lines.{IsOneLine};
 ghost use Rattle.deck_text.specs.Parse.{parsed};
 ghost use Rattle.report_audit.specs.Progress.{Comes, GoesOn, JudgedIn, begun, deck_end, fault_answer, is_answer};
-ghost use Rattle.report_audit.specs.Progress.{is_over, is_reporting, may_be, report_end, status_of};
+ghost use Rattle.report_audit.specs.Progress.{is_over, is_reporting, may_be, report_end, some_auditor, status_of};
 
 use crate::Auditor;
 use crate::line::judge_text;
@@ -29,6 +29,20 @@ fn judge_in(
     match auditor {
         Some(auditor) => judge_text(alloc, respelling, auditor, text),
         None => Ok(None),
+    }
+}
+
+/// Where the DATA line that is due ends, where there is an auditor that takes it.
+fn take_data_in(auditor: &mut Option<Auditor>, text: &[u8]) -> Option<usize>
+    ensures taken { IfSome result (λ end. JudgedIn auditor.old auditor.new None (take end text.now)) }
+    ensures some { IfSome result (λ end. some_auditor auditor.old ≡ true) }
+    ensures none { IfSome result (λ end. (k : ℕ) → k < end → slice_index text.now k ≢ 10) }
+    ensures stands { IfSome result (λ end. (end < length text.now) × (slice_index text.now end ≡ 10)) }
+    ensures same { result ≡ None → auditor.new ≡ auditor.old }
+{
+    match auditor {
+        Some(auditor) => auditor.take_data(text),
+        None => None,
     }
 }
 
@@ -224,6 +238,20 @@ impl Audit {
             Some(_) => true,
             None => false,
         }
+    }
+
+    /// Takes the DATA line that is due, where a text begins with it and a line feed follows: where it ends. Else nothing changes.
+    pub fn take_data(&mut self, text: &[u8]) -> Option<usize>
+        requires room { self.old.lines < 4294967295 }
+        requires front { self.old.status ≡ None }
+        ensures follows { IfSome result (λ end. (rest : List ℕ) → GoesOn self.old (take end text.now ++ 10 ∷ rest) self.new rest) }
+        ensures stands { IfSome result (λ end. (end < length text.now) × (slice_index text.now end ≡ 10)) }
+        ensures count { self.new.lines ≤ self.old.lines + 1 }
+        ensures same { result ≡ None → self.new ≡ self.old }
+    {
+        let end = take_data_in(&mut self.auditor, text)?;
+        self.lines += 1;
+        Some(end)
     }
 
     /// Takes the next line, without the line feed that ended it.

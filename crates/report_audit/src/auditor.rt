@@ -1,11 +1,11 @@
-ghost use Rattle.std.specs.Prelude.{◌≡◌, ◌≤◌, Bool, None, Some, false, true, IfOk, OnOk, drop, length, map};
+ghost use Rattle.std.specs.Prelude.{◌≡◌, ◌≢◌, ◌≤◌, ◌<◌, ℕ, Bool, None, Some, false, true, IfOk, IfSome, OnOk, drop, length, map, slice_index, take};
 ghost use Rattle.std.specs.List.{All};
 ghost use Rattle.deck_plan.specs.declared.event.EventLine.TheVariants.{Pair, Reset, Start, Unpair};
 ghost use Rattle.deck_audit.specs.declared.state.Did.TheVariants.{Halved};
 ghost use Rattle.deck_audit.specs.declared.state.Due.TheVariants.{Behind, DataOf, Losses, Next, OverOf, SenseOf};
 ghost use Rattle.report_audit.specs.declared.auditor.Auditor.{Auditor};
-ghost use Rattle.report_audit.specs.Auditor.{Fits, FitsTotals, IsAuditOf, IsFor, IsJudged, IsSized, Makes, NoneRuns, gone_on};
-ghost use Rattle.report_audit.specs.Auditor.{is_nothing, is_quiet, judged_settled, kept_outline, placed, told_of};
+ghost use Rattle.report_audit.specs.Auditor.{Fits, FitsTotals, IsAuditOf, IsFor, IsJudged, IsSized, Makes, NoneRuns, behind_data, gone_on};
+ghost use Rattle.report_audit.specs.Auditor.{is_nothing, is_quiet, judged_settled, kept_outline, placed};
 ghost use Rattle.deck_audit.specs.Place.{IsDueOf, first_event, in_due, in_event, in_next, in_power, is_act_of, worker_of};
 ghost use Rattle.deck_audit.specs.Stands.{in_state};
 ghost use Rattle.deck_audit.specs.Device.{AuditedDevice, device_in};
@@ -20,8 +20,8 @@ use crate::devices::{
     take_all_back, work_at,
 };
 use crate::told::{
-    OrderTold, behind_data, behind_of, cut_at, idle_fault, is_due_data, loose_at, order_told,
-    totals_due,
+    OrderTold, behind_data, behind_of, cut_at, due_data_end, idle_fault, is_due_data, is_next,
+    is_nothing, loose_at, order_told, told_of, totals_due,
 };
 use ckd_types::{CommandEnd, DeviceNo, NoMemory, PathNo, TrackNo};
 use deck_audit::{
@@ -55,29 +55,6 @@ fn left_of(deck: &Deck, passed: usize) -> &[EventLine]
         return &[];
     }
     events.split_at(passed).1
-}
-
-fn is_nothing(due: &Due) -> bool
-    ensures { result ≡ is_nothing due.now }
-{
-    matches!(due, Due::Nothing)
-}
-
-fn is_next(due: &Due) -> bool
-    ensures { result ≡ true → due.now ≡ Next }
-{
-    matches!(due, Due::Next)
-}
-
-/// How many devices something was told of.
-fn told_of(due: &Due) -> usize
-    ensures { result ≡ told_of due.now }
-{
-    match due {
-        Due::Powers(told) => *told,
-        Due::Totals(told) => *told,
-        _ => 0,
-    }
 }
 
 /// Whether a line may stand where this is due, of no more devices than there are.
@@ -116,6 +93,7 @@ impl Auditor {
         is_nothing(&self.due)
     }
 
+    #[inline(always)]
     fn go_on(&mut self, next: Then)
         ensures { self.new ≡ gone_on self.old next }
     {
@@ -762,6 +740,14 @@ impl Auditor {
         }
     }
 
+    /// The bytes that a command sent were told.
+    fn pass_data(&mut self)
+        ensures { self.new ≡ record self.old { due = behind_data self.old.due } }
+    {
+        let due = mem::replace(&mut self.due, Due::Nothing);
+        self.due = behind_data(due);
+    }
+
     /// Takes the DATA line of the bytes that a command sent, where that is due. Else nothing changes.
     pub fn takes_data(&mut self, text: &[u8]) -> bool
         ensures taken { result ≡ true → (s : AuditState) → IsAuditOf self.old s → IsJudged None self.new (judged_text s text.now) }
@@ -770,9 +756,20 @@ impl Auditor {
         if !is_due_data(&self.due, text) {
             return false;
         }
-        let due = mem::replace(&mut self.due, Due::Nothing);
-        self.due = behind_data(due);
+        self.pass_data();
         true
+    }
+
+    /// Takes that line where a text begins with it and a line feed follows: where it ends. Else nothing changes.
+    pub fn take_data(&mut self, text: &[u8]) -> Option<usize>
+        ensures taken { IfSome result (λ end. (s : AuditState) → IsAuditOf self.old s → IsJudged None self.new (judged_text s (take end text.now))) }
+        ensures none { IfSome result (λ end. (k : ℕ) → k < end → slice_index text.now k ≢ 10) }
+        ensures stands { IfSome result (λ end. (end < length text.now) × (slice_index text.now end ≡ 10)) }
+        ensures same { result ≡ None → self.new ≡ self.old }
+    {
+        let end = due_data_end(&self.due, text)?;
+        self.pass_data();
+        Some(end)
     }
 
     /// Judges the report's next line: none, or the fault that it shows, behind which nothing is said of the auditor.

@@ -1,4 +1,4 @@
-ghost use Rattle.std.specs.Prelude.{◌≡◌, ◌<◌, ◌≤◌, ◌+◌, ◌++◌, ◌∷◌, [], ℕ, List, IfOk, OnOk, length, true};
+ghost use Rattle.std.specs.Prelude.{◌≡◌, ◌<◌, ◌≤◌, ◌+◌, ◌++◌, ◌∷◌, [], None, ℕ, List, IfOk, IfSome, OnOk, length, slice_index, take, true};
 ghost use Rattle.deck_audit.specs.Verdict.{read_back};
 ghost use Rattle.deck_audit.specs.declared.status.AuditStatus.{AuditStatus as Answer};
 ghost use Rattle.report_audit.specs.Lines.{IsOneLine};
@@ -66,6 +66,23 @@ impl PieceAudit {
         Ok(())
     }
 
+    /// Takes the DATA line that is due, where no line has begun, and a piece begins with it and a line feed follows: where it ends.
+    /// Else nothing changes.
+    fn take_data(&mut self, piece: &[u8]) -> Option<usize>
+        requires room { self.old.audit.lines < 4294967295 }
+        requires front { self.old.audit.status ≡ None }
+        ensures follows { IfSome result (λ end. (rest : List ℕ) → GoesOn self.old.audit (self.old.line ++ (take end piece.now ++ 10 ∷ rest))
+            self.new.audit (self.new.line ++ rest)) }
+        ensures stands { IfSome result (λ end. (end < length piece.now) × (slice_index piece.now end ≡ 10)) }
+        ensures count { self.new.audit.lines ≤ self.old.audit.lines + 1 }
+        ensures same { result ≡ None → self.new ≡ self.old }
+    {
+        if self.line.is_empty() {
+            return self.audit.take_data(piece);
+        }
+        None
+    }
+
     /// Takes the bytes up to the first line feed, and gives what follows it. Where the audit is over all is passed over.
     fn take_front<'a>(&mut self, alloc: Global, piece: &'a [u8]) -> Result<&'a [u8], NoMemory>
         requires some { 0 < length piece.now }
@@ -77,6 +94,9 @@ impl PieceAudit {
     {
         if self.audit.is_over() {
             return Ok(&[]);
+        }
+        if let Some(end) = self.take_data(piece) {
+            return Ok(&piece[end + 1..]);
         }
         let end = place_of(b'\n', piece);
         if end == piece.len() {

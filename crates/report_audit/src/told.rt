@@ -1,9 +1,10 @@
-ghost use Rattle.std.specs.Prelude.{◌≡◌, true};
-ghost use Rattle.report_audit.specs.Auditor.{IsDueData, behind_data, behind_of, cut_at, idle_fault, loose_at, order_told, totals_due};
+ghost use Rattle.std.specs.Prelude.{◌≡◌, ◌≢◌, ◌<◌, IfSome, ℕ, length, slice_index, take, true};
+ghost use Rattle.deck_audit.specs.declared.state.Due.TheVariants.{Next};
+ghost use Rattle.report_audit.specs.Auditor.{IsDueData, behind_data, behind_of, cut_at, idle_fault, is_nothing, loose_at, order_told, told_of, totals_due};
 
 use ckd_types::{DeviceNo, TrackNo};
 use deck_audit::{AuditWhy, Did, Due, is_io};
-use report_reading::is_data_of;
+use report_reading::{data_end, is_data_of};
 use report_text::{HowOver, LooseAnswer, OrderAnswer, ReportLine};
 
 /// The device and the commands of a program that was cut, where the line tells of one.
@@ -68,6 +69,31 @@ pub fn totals_due(devices: usize, line: &ReportLine, told: usize) -> Due
     }
 }
 
+/// Whether the report has had its last line.
+pub fn is_nothing(due: &Due) -> bool
+    ensures { result ≡ is_nothing due.now }
+{
+    matches!(due, Due::Nothing)
+}
+
+/// Whether an event's first line is due, or that of its next piece of work.
+pub fn is_next(due: &Due) -> bool
+    ensures { result ≡ true → due.now ≡ Next }
+{
+    matches!(due, Due::Next)
+}
+
+/// How many devices something was told of.
+pub fn told_of(due: &Due) -> usize
+    ensures { result ≡ told_of due.now }
+{
+    match due {
+        Due::Powers(told) => *told,
+        Due::Totals(told) => *told,
+        _ => 0,
+    }
+}
+
 /// A piece of work that is at its end, or what else is due.
 pub fn behind_of(due: Due) -> Result<(bool, Did), Due>
     ensures { result ≡ behind_of due }
@@ -85,6 +111,18 @@ pub fn is_due_data(due: &Due, text: &[u8]) -> bool
     match due {
         Due::DataOf(e) => is_data_of(text, e.sent.as_slice()),
         _ => false,
+    }
+}
+
+/// Where the DATA line that is due ends, if a text begins with it and a line feed follows.
+pub fn due_data_end(due: &Due, text: &[u8]) -> Option<usize>
+    ensures due { IfSome result (λ end. IsDueData due.now (take end text.now)) }
+    ensures none { IfSome result (λ end. (k : ℕ) → k < end → slice_index text.now k ≢ 10) }
+    ensures stands { IfSome result (λ end. (end < length text.now) × (slice_index text.now end ≡ 10)) }
+{
+    match due {
+        Due::DataOf(e) => data_end(text, e.sent.as_slice()),
+        _ => None,
     }
 }
 

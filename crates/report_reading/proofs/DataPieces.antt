@@ -1,15 +1,19 @@
 -- The digits of a byte, or of sixteen, at the front of a text.
 use Rattle.std.proofs.Common.{◌≡◌, ◌<◌, ◌+◌, ◌/◌, ◌%◌, ◌&&◌, ◌^◌, ◌*◌, ◌∷◌, [], ◌++◌, ℕ, List, Bool, true, false, cond, map, w8}
-use Rattle.std.proofs.Common.{Option, Some, None, length, get_or, take, drop, refl, sym, ap, ◌∙◌}
-use Rattle.std.proofs.Common.{◌==◌, ◌≤◌, ◌-◌, append_assoc, arith, drop_of_length-le}
+use Rattle.std.proofs.Common.{Option, Some, None, length, get_or, take, drop, refl, sym, ap, subst, ◌∙◌}
+use Rattle.std.proofs.Common.{◌==◌, ◌≢◌, ◌≤◌, ◌-◌, append_assoc, arith, drop_of_length-le}
 use Rattle.std.specs.Prelude.{MatchOption, codes, not, slice_index, nat_eq}
 use Rattle.std.specs.Str.{bytes_eq}
 use Rattle.std.proofs.lemmas.Bool.Decides.{nat_tests}
-use Rattle.std.proofs.lemmas.List.{append-nil, at_drop_more, drop-drop, length-drop, length-take-le, take-append-drop, take_all}
+use Rattle.std.proofs.lemmas.List.{append-nil, at_drop_more, drop-drop, get_or-drop, get_or-take, length-drop, length-take-le, take-append-drop}
+use Rattle.std.proofs.Math.Seq.{take-add}
+use Rattle.std.proofs.lemmas.Slice.Eq.{bytes_eq-Decides}
 use Rattle.std.proofs.lemmas.Simd.{length-zip2, mask_l-mod, tops_compared}
 use lib.Lanes.{mask_l, top, zip2}
 use Rattle.hex.specs.Hex.{encode_upper, encode_with, upper_digits}
+use Rattle.hex.proofs.HexLemmas.{length-encode_with}
 use Rattle.ckd_outside.proofs.HexLemmas.{hex_both}
+use Rattle.report_reading.proofs.Feeds.{both_whole, hex_whole, is_whole, none_stands}
 use Rattle.report_text.specs.declared.line.ReportLine.TheVariants.{Data}
 use Rattle.report_text.specs.Lines.{text_of}
 
@@ -122,15 +126,23 @@ module _ (text bytes front back : List ℕ) (f : length front ≡ 16) (b : lengt
       whole ∙ ap (λ (x : Bool). (x && is_unmarked (take 16 (drop 16 text)) back) && bytes_eq (drop 32 text) (encode_upper (drop 16 bytes))) differs
       ∙ sym (ap (λ (x : Bool). x && bytes_eq (drop 32 text) (encode_upper (drop 16 bytes))) differs)
 
-left_of : (l : List ℕ) (n : ℕ) → take (length l - n) (drop n l) ≡ drop n l
-left_of l n = take_all (length l - n) (drop n l) (omega (arith, length-drop n l))
-
 -- behind a block that is the same
-pub next_block : (text bytes : List ℕ) (is : Bool) → bytes_eq text (encode_upper bytes) ≡ (is && bytes_eq (drop 32 text) (encode_upper (drop 16 bytes)))
-    → is ≡ true → bytes_eq text (encode_upper bytes)
-    ≡ bytes_eq (take (length text - 32) (drop 32 text)) (encode_upper (take (length bytes - 16) (drop 16 bytes)))
-next_block text bytes is begins same = rw (left_of text 32, left_of bytes 16) (begins
-    ∙ ap (λ (b : Bool). b && bytes_eq (drop 32 text) (encode_upper (drop 16 bytes))) same)
+pub next_block : (text bytes : List ℕ) (i : ℕ) (is : Bool)
+    → bytes_eq (drop (2 * i) text) (encode_upper (drop i bytes)) ≡ (is && bytes_eq (drop 32 (drop (2 * i) text)) (encode_upper (drop 16 (drop i bytes))))
+    → is ≡ true → bytes_eq (drop (2 * i) text) (encode_upper (drop i bytes)) ≡ bytes_eq (drop (2 * (i + 16)) text) (encode_upper (drop (i + 16) bytes))
+next_block text bytes i is begins same =
+    begins ∙ ap (λ (b : Bool). b && bytes_eq (drop 32 (drop (2 * i) text)) (encode_upper (drop 16 (drop i bytes)))) same
+    ∙ ap (λ (l : List ℕ). bytes_eq l (encode_upper (drop 16 (drop i bytes)))) (drop-drop 32 (2 * i) text ∙ ap (λ (n : ℕ). drop n text) (omega arith))
+    ∙ ap (λ (l : List ℕ). bytes_eq (drop (2 * (i + 16)) text) (encode_upper l)) (drop-drop 16 i bytes ∙ ap (λ (n : ℕ). drop n bytes) (omega arith))
+
+-- a text that is longer or shorter than the digits
+differs_by : (b : Bool) → (b ≡ true → ⊥) → false ≡ b
+differs_by false other = refl
+differs_by true other = absurd (other refl)
+
+pub length_differs : (text bytes : List ℕ) → (length text ≡ 2 * length bytes → ⊥) → false ≡ bytes_eq text (encode_upper bytes)
+length_differs text bytes other = differs_by (bytes_eq text (encode_upper bytes)) (λ same.
+    other (ap length ((bytes_eq-Decides text (encode_upper bytes)).0 same) ∙ length-encode_with upper_digits bytes))
 
 -- a DATA line
 data_text : (bytes : List ℕ) → text_of (Data bytes) ≡ codes "DATA " ++ encode_upper bytes
@@ -148,3 +160,32 @@ data_starts text bytes digits starts is = ap (λ (l : List ℕ). bytes_eq l (enc
 
 pub data_apart : (text bytes : List ℕ) → bytes_eq (take 5 text) (codes "DATA ") ≡ false → false ≡ bytes_eq text (text_of (Data bytes))
 data_apart text bytes apart = sym (data_by text bytes false apart)
+
+-- it ends behind its digits
+data_front : (text digits bytes : List ℕ) (end : ℕ) → bytes_eq (take 5 text) (codes "DATA ") ≡ true → digits ≡ drop 5 text
+    → take end digits ≡ encode_upper bytes → take (end + 5) text ≡ text_of (Data bytes)
+data_front text digits bytes end starts is front =
+    ap (λ (n : ℕ). take n text) (omega arith) ∙ take-add 5 end text
+    ∙ ap (λ (l : List ℕ). take 5 text ++ l) (ap (take end) (sym is) ∙ front)
+    ∙ ap (λ (l : List ℕ). l ++ encode_upper bytes) ((bytes_eq-Decides (take 5 text) (codes "DATA ")).0 starts)
+    ∙ sym (data_text bytes)
+
+data_whole : (bytes : List ℕ) → is_whole (text_of (Data bytes)) ≡ true
+data_whole bytes = ap is_whole (data_text bytes) ∙ both_whole (codes "DATA ") (encode_upper bytes) refl (hex_whole bytes)
+
+module _ (text digits bytes : List ℕ) (end : ℕ) (starts : bytes_eq (take 5 text) (codes "DATA ") ≡ true) (is : digits ≡ drop 5 text)
+    (front : take end digits ≡ encode_upper bytes) where
+  pub front_is : take (end + 5) text ≡ text_of (Data bytes)
+  front_is = data_front text digits bytes end starts is front
+
+  pub front_whole : (k : ℕ) → k < end + 5 → slice_index text k ≢ 10
+  front_whole k lt =
+      subst (λ (b : ℕ). b ≢ 10) (get_or-take (end + 5) text k 0 lt)
+      (none_stands (take (end + 5) text) (ap is_whole front_is ∙ data_whole bytes) k)
+
+  pub front_ends : (end < length digits) × (slice_index digits end ≡ 10) → (end + 5 < length text) × (slice_index text (end + 5) ≡ 10)
+  front_ends at =
+      let long : length digits ≡ length text - 5 = ap length is ∙ length-drop 5 text in (
+        omega (arith, at.0, long),
+        ap (λ (k : ℕ). get_or text k 0) (omega arith) ∙ sym (get_or-drop 5 text end 0) ∙ ap (λ (l : List ℕ). get_or l end 0) (sym is) ∙ at.1,
+      )

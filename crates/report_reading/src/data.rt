@@ -1,4 +1,4 @@
-ghost use Rattle.std.specs.Prelude.{◌≡◌, ◌<◌, ◌≤◌, ◌/◌, ◌%◌, ◌&&◌, ◌∷◌, ◌++◌, false, true, List, ℕ, MatchOption, Ok, drop, length, map, slice_index};
+ghost use Rattle.std.specs.Prelude.{◌≡◌, ◌≢◌, ◌<◌, ◌≤◌, ◌*◌, ◌/◌, ◌%◌, ◌&&◌, ◌∷◌, ◌++◌, false, true, List, ℕ, IfSome, MatchOption, Ok, drop, length, map, slice_index, take};
 ghost use Rattle.std.specs.Str.{bytes_eq};
 ghost use Rattle.hex.specs.Hex.{encode_upper, upper_digits};
 ghost use Rattle.report_text.specs.declared.line.ReportLine.TheVariants.{Data};
@@ -22,7 +22,7 @@ fn digit_of(n: u8) -> u8
 }
 
 /// What stands behind the two digits of a byte, if a text begins with them.
-fn after_byte(text: &[u8], b: u8) -> Option<&[u8]>
+pub fn after_byte(text: &[u8], b: u8) -> Option<&[u8]>
     ensures { MatchOption result
         ((rest : List ℕ) → bytes_eq text.now (slice_index upper_digits (b / 16) ∷ slice_index upper_digits (b % 16) ∷ rest) ≡ false)
         (λ left. (rest : List ℕ) → bytes_eq text.now (slice_index upper_digits (b / 16) ∷ slice_index upper_digits (b % 16) ∷ rest) ≡ bytes_eq left.now rest) }
@@ -93,20 +93,41 @@ fn begins_with_block(text: &[u8], bytes: &[u8]) -> bool
     u8x16::from_slice(text) == front && u8x16::from_slice(&text[16..]) == back
 }
 
-/// Whether these are exactly the digits of some bytes, in upper case.
-fn are_digits_of(digits: &[u8], bytes: &[u8]) -> bool
-    ensures { result ≡ bytes_eq digits.now (encode_upper bytes.now) }
+/// Whether a text as long as the digits of some bytes is these digits, in upper case.
+fn are_digits_of(text: &[u8], bytes: &[u8]) -> bool
+    requires long { length text.now ≡ 2 * length bytes.now }
+    ensures { result ≡ bytes_eq text.now (encode_upper bytes.now) }
 {
-    let mut text = digits;
-    let mut rest = bytes;
-    'blocks: while rest.len() >= 16 && text.len() >= 32 {
-        if !begins_with_block(text, rest) {
+    let mut i = 0;
+    'blocks: while bytes.len() - i >= 16 {
+        if !begins_with_block(&text[2 * i..], &bytes[i..]) {
             return false;
         }
-        text = &text[32..];
-        rest = &rest[16..];
+        i += 16;
     }
-    are_few_digits(text, rest)
+    are_few_digits(&text[2 * i..], &bytes[i..])
+}
+
+/// Whether these are exactly the digits of some bytes, in upper case.
+fn is_digits_of(text: &[u8], bytes: &[u8]) -> bool
+    ensures { result ≡ bytes_eq text.now (encode_upper bytes.now) }
+{
+    if text.len() == 2 * bytes.len() {
+        return are_digits_of(text, bytes);
+    }
+    false
+}
+
+/// Where the digits of some bytes end, if a text begins with them and a line feed follows.
+fn digits_end(text: &[u8], bytes: &[u8]) -> Option<usize>
+    ensures digits { IfSome result (λ end. take end text.now ≡ encode_upper bytes.now) }
+    ensures stands { IfSome result (λ end. (end < length text.now) × (slice_index text.now end ≡ 10)) }
+{
+    let end = 2 * bytes.len();
+    if end >= text.len() || text[end] != b'\n' || !are_digits_of(&text[..end], bytes) {
+        return None;
+    }
+    Some(end)
 }
 
 /// Whether a text is the DATA line of these bytes.
@@ -117,7 +138,20 @@ pub fn is_data_of(text: &[u8], bytes: &[u8]) -> bool
     bytes_range(bytes);
     reads_back();
     match text.strip_prefix(DATA_HEAD) {
-        Some(digits) => are_digits_of(digits, bytes),
+        Some(digits) => is_digits_of(digits, bytes),
         None => false,
     }
+}
+
+/// Where the DATA line of these bytes ends, if a text begins with it and a line feed follows.
+pub fn data_end(text: &[u8], bytes: &[u8]) -> Option<usize>
+    ensures read { IfSome result (λ end. line_of (take end text.now) ≡ Ok (Data bytes.now)) }
+    ensures none { IfSome result (λ end. (k : ℕ) → k < end → slice_index text.now k ≢ 10) }
+    ensures stands { IfSome result (λ end. (end < length text.now) × (slice_index text.now end ≡ 10)) }
+{
+    bytes_range(bytes);
+    reads_back();
+    let digits = text.strip_prefix(DATA_HEAD)?;
+    let end = digits_end(digits, bytes)?;
+    Some(end + DATA_HEAD.len())
 }

@@ -12,7 +12,7 @@ mod read;
 mod read_answers;
 mod read_lines;
 
-pub use data::is_data_of;
+pub use data::{data_end, is_data_of};
 pub use fault::{LineError, LineFault};
 pub use law::{is_read_back, reads_back};
 pub use ranges::in_ranges;

@@ -37,24 +37,18 @@ fn line_by(alloc: Global, words: &LineWords) -> Result<ReportLine, LineError>
 }
 
 /// The END line that a text is, if it is one.
-fn end_of(respelling: &mut Respelling, text: &[u8]) -> Result<Option<ReportLine>, NoMemory>
-    ensures { IfOk result (λ found. IfSome found (λ line. (line_of text.now ≡ Ok line) × (text_of line ≡ text.now))) }
+fn end_of(text: &[u8]) -> Option<ReportLine>
+    ensures { IfSome result (λ line. (line_of text.now ≡ Ok line) × (text_of line ≡ text.now)) }
 {
-    let Some(end) = end_ahead(text) else {
-        return Ok(None);
-    };
+    let end = end_ahead(text)?;
     let line = ReportLine::End(end);
     is_read_back(&line);
-    if respelling.is_text_of(&line, text)? {
-        Ok(Some(line))
-    } else {
-        Ok(None)
-    }
+    Some(line)
 }
 
 /// The line of a report, a history or a summary that a text without a line feed is, or its first fault. It takes
-/// memory for the bytes of a DATA line, and where a line is longer than all before, since it is spelled again and
-/// compared.
+/// memory for the bytes of a DATA line, and where a line is longer than all before, since a line other than END is
+/// spelled again and compared.
 #[tactic(auto, unfolding(crate::specs::Reading::line_of))]
 pub fn read_line(
     alloc: Global,
@@ -65,7 +59,7 @@ pub fn read_line(
     ensures exact { IfOk result (λ line. text_of line ≡ text.now) }
 {
     // most lines of a long report
-    if let Some(line) = end_of(respelling, text)? {
+    if let Some(line) = end_of(text) {
         return Ok(line);
     }
     let line = line_by(alloc, &LineWords::of(text))?;

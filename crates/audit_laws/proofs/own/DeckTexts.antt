@@ -15,7 +15,8 @@ use Rattle.deck_text.specs.Lines.{is_passed_over, text_lines, onto_first}
 use Rattle.deck_text.specs.Parse.{or_stop, parsed, read_lines, reading_begun}
 use Rattle.deck_text.specs.Reading.{State, take_line}
 use Rattle.deck_audit.specs.Verdict.{ended_line, report_from}
-use Rattle.audit_laws.proofs.own.Feeds.{AreWhole, is_whole}
+use Rattle.report_reading.proofs.Feeds.{is_whole}
+use Rattle.audit_laws.proofs.own.Feeds.{AreWhole}
 
 -- a line of a reading ends at the same line feed
 abbrev BeginsLine : List ℕ → List ℕ → Type 0

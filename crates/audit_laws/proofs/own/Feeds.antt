@@ -1,12 +1,11 @@
 -- The text of a line of a report has no line feed in it.
-use Rattle.std.proofs.Common.{◌≡◌, ◌<◌, ◌^◌, ◌==◌, ◌++◌, ℕ, zero, suc, Bool, true, List, [], ◌∷◌, refl, arith, rules}
-use Rattle.std.specs.Prelude.{◌&&◌, decimal, not, slice_index}
+use Rattle.std.proofs.Common.{◌≡◌, ◌<◌, ◌^◌, ◌==◌, ◌++◌, ℕ, Bool, true, List, [], ◌∷◌, refl, arith, rules}
+use Rattle.std.specs.Prelude.{◌&&◌, decimal}
 use Rattle.std.proofs.lemmas.Bool.{and_from, and_parts}
 use Rattle.std.proofs.lemmas.Fmt.{digits_decimal}
 use Rattle.std.proofs.lemmas.Str.Parse.{IsNumeralModel, numerals_by_fold}
 use Rattle.ckd_types.specs.declared.paths.Owner.{Owner}
 use Rattle.ckd_types.specs.declared.paths.Owner.TheVariants as owners
-use Rattle.hex.specs.Hex.{encode_with, encode_upper, upper_digits}
 use Rattle.report_text.specs.declared.answers.BackAnswer.{BackAnswer}
 use Rattle.report_text.specs.declared.answers.DeviceTotals.{DeviceTotals}
 use Rattle.report_text.specs.declared.answers.LooseAnswer.{LooseAnswer}
@@ -21,20 +20,12 @@ use Rattle.report_text.specs.Keywords.{keyword_text}
 use Rattle.report_text.specs.Lines.{key_of, text_of, words_in_line}
 use Rattle.report_text.specs.Numbers.{are_digits, value_after}
 use Rattle.report_text.specs.Words.{back_words, loose_words, mark_key, owner_words, start_words, totals_words}
+use Rattle.report_reading.proofs.Feeds.{both_whole, hex_whole, is_whole}
 use Rattle.report_reading.specs.Ranges.{IsAnswer, IsBack, IsCount, IsDevice, IsLine, IsLong, IsLoose, IsOrder, IsOwner, IsPath, IsShort, IsStart, IsTotals, IsTrack}
-
--- a text without a line feed
-abbrev pub is_whole : List ℕ → Bool
-is_whole [] = true
-is_whole (b ∷ text) = not (b == 10) && is_whole text
 
 abbrev are_whole : List (List ℕ) → Bool
 are_whole [] = true
 are_whole (w ∷ ws) = is_whole w && are_whole ws
-
-both_whole : (xs ys : List ℕ) → is_whole xs ≡ true → is_whole ys ≡ true → is_whole (xs ++ ys) ≡ true
-both_whole [] ys h g = g
-both_whole (x ∷ xs) ys h g = grind (arith, both_whole xs ys, and_parts, and_from)
 
 -- Its words
 
@@ -66,19 +57,6 @@ module _ (n : ℕ) where
 
   long_whole : IsLong n → is_whole (decimal n) ≡ true
   long_whole h = decimal_whole n h
-
-index_whole : (text : List ℕ) (k : ℕ) → is_whole text ≡ true → not (slice_index text k == 10) ≡ true
-index_whole [] k h = refl
-index_whole (b ∷ text) zero h = (and_parts (not (b == 10)) (is_whole text) h).0
-index_whole (b ∷ text) (suc k) h = index_whole text k (and_parts (not (b == 10)) (is_whole text) h).1
-
-hex_digit : (k : ℕ) → not (slice_index upper_digits k == 10) ≡ true
-hex_digit k = index_whole upper_digits k refl
-
-hex_whole : (bytes : List ℕ) → is_whole (encode_upper bytes) ≡ true
-unfolding encode_with
-hex_whole [] = refl
-hex_whole (b ∷ bytes) = grind (arith, hex_whole bytes, and_from, hex_digit)
 
 owner_whole : (x : Owner) → IsOwner x → are_whole (owner_words x) ≡ true
 owner_whole (owners.Group id) h = rw (hex_whole id.bytes) refl

@@ -19,7 +19,8 @@ use Rattle.report_reading.specs.Reading.{line_of}
 use Rattle.deck_audit.specs.declared.status.AuditStatus.TheVariants.{Yes}
 use Rattle.deck_audit.specs.Verdict.{read_back}
 use Rattle.audit_laws.specs.Texts.{IsEnded, IsOwnReport, own_text}
-use Rattle.audit_laws.proofs.own.Feeds.{AreWhole, is_whole, text_whole}
+use Rattle.report_reading.proofs.Feeds.{is_whole}
+use Rattle.audit_laws.proofs.own.Feeds.{AreWhole, text_whole}
 use Rattle.audit_laws.proofs.own.DeckTexts.{read_has_none}
 use Rattle.audit_laws.proofs.own.RangedRuns.{report_is_in_range}
 use Rattle.audit_laws.proofs.own.Texts.{own_report_is_yes}

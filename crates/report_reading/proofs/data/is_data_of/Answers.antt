@@ -6,7 +6,7 @@ use Rattle.report_reading.proofs.DataPieces.{data_apart, data_starts}
 use Rattle.report_reading.proofs.data.is_data_of.Goals as goal
 
 pub returns-in-Some-clause-text : goal.returns-in-Some-clause-text
-returns-in-Some-clause-text c = c.are_digits_of.ensures
+returns-in-Some-clause-text c = c.is_digits_of.ensures
     ∙ data_starts c.args.text.now c.args.bytes.now c.in-Some.digits.now c.in-Some.ensures.cases.0 c.in-Some.ensures.cases.1
 
 pub returns-in-Some-clause-read : goal.returns-in-Some-clause-read

@@ -3,4 +3,4 @@ use Rattle.report_audit.proofs.auditor.Auditor.takes_data.Goals as goal
 
 pub returns-clause-taken : goal.returns-clause-taken
 returns-clause-taken c = λ is s i.
-    rw (c.behind_data.ensures, c.replace-due.ensures.value) (data_taken c.args.self.now s i c.args.text.now (c.is_due_data.ensures c.if-not-is_due_data.false))
+    rw c.pass_data.ensures (data_taken c.args.self.now s i c.args.text.now (c.is_due_data.ensures c.if-not-is_due_data.false))

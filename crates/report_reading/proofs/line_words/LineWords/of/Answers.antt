@@ -1,4 +1,4 @@
-use Rattle.std.proofs.Common.{◌∙◌, List, ℕ, Bor, None, Some, refl, sym, arith, length-set}
+use Rattle.std.proofs.Common.{◌∙◌, List, ℕ, Bor, None, Some, sym, arith, length-set}
 use Rattle.report_reading.proofs.CutWords.{every_place, one_more}
 use Rattle.report_reading.proofs.line_words.LineWords.of.Goals as goal
 
