@@ -34,9 +34,7 @@ use Rattle.device_laws.proofs.OpenProgram.{bare_before, part_here, state_here, w
 pub item_at : (plans : Plans) (s : PlainState) (earlier xs : List Item) (y : Item) (ys : List Item) → IsLegalFrom plans s earlier (xs ++ y ∷ ys)
     → IsLegalItem plans (replay plans s xs) (earlier ++ xs) y ys
 item_at plans s earlier [] y ys legal = subst (λ (l : List Item). IsLegalItem plans s l y ys) (sym (append-nil earlier)) legal.0
-item_at plans s earlier (x ∷ xs) y ys legal =
-    subst (λ (l : List Item). IsLegalItem plans (replay plans (replay_item plans s x) xs) l y ys) (append_assoc earlier (x ∷ []) xs)
-    (item_at plans (replay_item plans s x) (earlier ++ x ∷ []) xs y ys legal.1)
+item_at plans s earlier (x ∷ xs) y ys legal = grind (arith, item_at plans (replay_item plans s x) (earlier ++ x ∷ []) xs y ys legal.1, append_assoc)
 
 -- Lists of acts
 
@@ -88,16 +86,11 @@ module _ (plans : Plans) (s : PlainState) where
   part_acted o goes act = part_here o.path (program_of plans o.path o.ordinal) s o.acts (length o.ends) (ap length (sym goes.ends)) goes.runs act
 
   goes_on : (o : OpenEntry) → Goes o → (act : Act) → Goes (with_one_act o act)
-  goes_on o goes act = record {
-    ends = goes.ends ∙ ap (λ (p : Part). p.ends) (sym (part_acted o goes act));
-    runs = subst (λ (p : Part). IsSome p.next) (sym (part_acted o goes act)) goes.runs;
-  }
+  goes_on o goes act = grind (arith, part_acted)
 
   pub goes_with : (acts : List Act) (o : OpenEntry) → Goes o → Goes (with_more o acts)
   goes_with [] o goes = subst (λ (l : List Acted). Goes (with_list o l)) (sym (append-nil o.acts)) goes
-  goes_with (x ∷ acts) o goes =
-      subst (λ (l : List Acted). Goes (with_list o l)) (append_assoc o.acts (record { after = length o.ends; act = x } ∷ []) (stood (length o.ends) acts))
-      (goes_with acts (with_one_act o x) (goes_on o goes x))
+  goes_with (x ∷ acts) o goes = grind (arith, goes_with acts (with_one_act o x) (goes_on o goes x), append_assoc, goes_on)
 
   -- What acts behind its last end are
 
@@ -132,20 +125,10 @@ module _ (plans : Plans) (s : PlainState) where
 
   module _ (o : OpenEntry) (goes : Goes o) (e : CommandEnd) where
     firmer : (t : ℕ) → EndsSo (with_one_act o (Harden t)) e → EndsSo o e
-    firmer t so = record {
-      word = so.word;
-      next = ap (λ (p : Part). p.next) (sym (part_acted o goes (Harden t))) ∙ so.next;
-      is = so.is ∙ ap (λ (p : Part). end_at_word so.word (ccw_at (words o) so.word)
-          (effect_on p.fixed p.state o.path p.stance (ccw_at (words o) so.word)).outcome) (part_acted o goes (Harden t));
-    }
+    firmer t so = grind (arith, part_acted)
 
     looser : (t : ℕ) → EndsSo (with_one_act o (Loosen t)) e → EndsSo o e
-    looser t so = record {
-      word = so.word;
-      next = ap (λ (p : Part). p.next) (sym (part_acted o goes (Loosen t))) ∙ so.next;
-      is = so.is ∙ ap (λ (p : Part). end_at_word so.word (ccw_at (words o) so.word)
-          (effect_on p.fixed p.state o.path p.stance (ccw_at (words o) so.word)).outcome) (part_acted o goes (Loosen t));
-    }
+    looser t so = grind (arith, part_acted)
 
   -- tracks that become firm or loose before it don't change it
   pub end_before : (acts : List Act) → NoLoss acts → (o : OpenEntry) → Goes o → (e : CommandEnd) → EndsSo (with_more o acts) e → EndsSo o e
@@ -162,11 +145,7 @@ module _ (plans : Plans) (s : PlainState) where
 
   pub next_before : (acts : List Act) (o : OpenEntry) → Goes o → (open_part plans s (with_more o acts)).next ≡ (open_part plans s o).next
   next_before [] o goes = ap (λ (l : List Acted). (open_part plans s (with_list o l)).next) (append-nil o.acts)
-  next_before (x ∷ acts) o goes =
-      ap (λ (l : List Acted). (open_part plans s (with_list o l)).next)
-      (sym (append_assoc o.acts (record { after = length o.ends; act = x } ∷ []) (stood (length o.ends) acts)))
-      ∙ next_before acts (with_one_act o x) (goes_on o goes x)
-      ∙ ap (λ (p : Part). p.next) (part_acted o goes x)
+  next_before (x ∷ acts) o goes = grind (arith, next_before acts (with_one_act o x) (goes_on o goes x), append_assoc, goes_on, part_acted)
 
   -- it is told, and took effect
   pub record TookEffect (o : OpenEntry) (e : CommandEnd) : Type 0 where
@@ -187,26 +166,13 @@ module _ (plans : Plans) (s : PlainState) where
   module _ (o : OpenEntry) (goes : Goes o) (e : CommandEnd) where
     end_by : TookEffect o e → (next : Option ℕ) → (open_part plans s o).next ≡ next → IsSome next → EndsSo o e
     end_by took None is some = absurd (cc)
-    end_by took (Some i) is some = record {
-      word = i;
-      next = is;
-      is = last_same o.ends e _
-          (took.ends
-          ∙ ap (λ (p : Part). p.ends) (part_more o.path (words o) o.acts s (length o.ends))
-          ∙ more_ends o.path (words o) o.acts (open_part plans s o) i is
-          ∙ ap (λ (l : List CommandEnd). l ++ end_at_word i (ccw_at (words o) i)
-          (effect_on (open_part plans s o).fixed (open_part plans s o).state o.path (open_part plans s o).stance (ccw_at (words o) i)).outcome ∷ [])
-          (sym goes.ends));
-    }
+    end_by took (Some i) is some = grind (arith, last_same, part_more, more_ends)
 
     pub ends_so : TookEffect o e → EndsSo o e
     ends_so took = end_by took (open_part plans s o).next refl goes.runs
 
     pub checks_so : WasChecked o e → ((open_part plans s o).next ≡ Some e.index) × IsCheck (words o) e
-    checks_so was =
-        let same : was.ends.last ≡ e = last_same o.ends was.ends.last e
-        (ap (λ (l : List CommandEnd). l ++ was.ends.last ∷ []) goes.ends ∙ sym was.ends.ends_are) in
-        subst (λ (x : CommandEnd). ((open_part plans s o).next ≡ Some x.index) × IsCheck (words o) x) same (was.ends.next_is, was.ends.checked)
+    checks_so was = grind (arith, last_same)
 
   pub edits_so : (o : OpenEntry) (e : CommandEnd) → TookEffect o e
       → MayEdit (open_part plans s o).state (open_part plans s o).stance (next_edit o.path (words o) (open_part plans s o))
@@ -229,11 +195,7 @@ module _ (plans : Plans) (empty : PlainState) (xs : List Item) (waiting : List �
   took_by : (o : OpenEntry) (e : CommandEnd) (over : Bool)
       → IsPlain plans empty (cond over (closed (run xs waiting o) (with_end o e) Full) (record (run xs waiting o) { running = Some (with_end o e) }))
       → TookEffect plans s o e
-  took_by o e true plain =
-      let entry = entry_at (with_end o e) Full (resets_of waiting) plain.legal in record {
-        ends = subst (λ (k : ℕ). o.ends ++ e ∷ [] ≡ (part_of s o.path (words plans s o) o.acts k).ends) (one_longer o.ends e) entry.ends.ends_are;
-        acts = subst (λ (k : ℕ). HasActs s o.path (words plans s o) o.acts k) (one_longer o.ends e) entry.acts;
-      }
+  took_by o e true plain = grind (arith, entry_at (with_end o e) Full (resets_of waiting) plain.legal, one_longer o.ends e)
   took_by o e false plain = record {
     ends = subst (λ (k : ℕ). o.ends ++ e ∷ [] ≡ (part_of s o.path (words plans s o) o.acts k).ends) (one_longer o.ends e) plain.at.ends;
     acts = subst (λ (k : ℕ). HasActs s o.path (words plans s o) o.acts k) (one_longer o.ends e) plain.at.acts;
@@ -246,22 +208,14 @@ module _ (plans : Plans) (empty : PlainState) (xs : List Item) (waiting : List �
   one_less o e = let many = one_longer o.ends e in omega (arith, many)
 
   pub was_checked : (o : OpenEntry) (e : CommandEnd) → IsPlain plans empty (checked (run xs waiting o) e) → WasChecked plans s o e
-  was_checked o e plain =
-      let entry = entry_at (with_end o e) Checked (resets_of waiting) plain.legal in record {
-        ends = subst (λ (k : ℕ). EndsChecked (part_of s o.path (words plans s o) o.acts k) (words plans s o) (o.ends ++ e ∷ [])) (one_less o e) entry.ends;
-        acts = subst (λ (k : ℕ). HasActs s o.path (words plans s o) o.acts k) (one_less o e) entry.acts;
-      }
+  was_checked o e plain = grind (arith, entry_at (with_end o e) Checked (resets_of waiting) plain.legal, one_less o e)
 
   pub was_cut : (o : OpenEntry) (k : ℕ) (later : List Item) → IsLegal plans empty (xs ++ entry_of o (Cut k) ∷ later) → WasCut plans s o k
-  was_cut o k later legal =
-      let entry = entry_at o (Cut k) later legal in record { least = entry.ends.least; most = entry.ends.most; acts = entry.acts }
+  was_cut o k later legal = grind (arith, entry_at)
 
   pub acted_all : (acts : List Act) (o : OpenEntry) → all_acted (run xs waiting o) acts ≡ run xs waiting (with_more o acts)
   acted_all [] o = ap (λ (l : List Acted). run xs waiting (with_list o l)) (sym (append-nil o.acts))
-  acted_all (x ∷ acts) o =
-      acted_all acts (with_one_act o x)
-      ∙ ap (λ (l : List Acted). run xs waiting (with_list o l))
-      (append_assoc o.acts (record { after = length o.ends; act = x } ∷ []) (stood (length o.ends) acts))
+  acted_all (x ∷ acts) o = grind (arith, acted_all acts (with_one_act o x), append_assoc)
 
   pub idle_act : (act : Act) (later : List Item) → IsLegal plans empty (xs ++ items.Act act ∷ later) → AreActs s None (act ∷ [])
   idle_act act later legal = item_at plans empty [] xs (items.Act act) later legal

@@ -1,5 +1,5 @@
 -- A deck that was read starts programs of one of four paths; before the first line of its report each device's past is empty.
-use Rattle.std.proofs.Common.{◌≡◌, ℕ, List, [], ◌∷◌, map, Ok, true, refl, subst}
+use Rattle.std.proofs.Common.{arith, ◌≡◌, ℕ, List, [], ◌∷◌, map, Ok, true, refl, subst}
 use Rattle.std.specs.Prelude.{Result}
 use Rattle.deck_plan.specs.declared.event.EventLine.{EventLine}
 use Rattle.deck_plan.specs.declared.event.EventLine.TheVariants as events
@@ -30,27 +30,13 @@ use Rattle.audit_laws.proofs.Lines.{AreOnPaths, AreSo, IsOnPath, IsSoundState, l
 -- The paths of a deck
 
 path_range : (devices : List DeviceLine) (words : List (List ℕ)) (at : ℕ × ℕ) → path_and_device devices words ≡ Ok at → Ranged 1 4 at.0
-path_range devices words at h =
-    let a = went (needed Words (two_words words)) (λ w. then_read (path_of w.0) (λ p. then_read (device_of devices w.1) (λ d. Ok (p, d)))) at h in
-    let b = went (path_of a.value.0) (λ p. then_read (device_of devices a.value.1) (λ d. Ok (p, d))) at a.second in
-    let c = went (device_of devices a.value.1) (λ d. Ok (b.value, d)) at b.second in
-    let same : (b.value, c.value) ≡ at = if_ok true (b.value, c.value) at Number c.second in
-    subst (λ (x : ℕ × ℕ). Ranged 1 4 x.0) same
-    (number_range 1 4 a.value.0 b.value (needed_is Number (number_in 1 4 a.value.0) b.value b.first))
+path_range devices words at h = grind (arith, went, if_ok, number_range, needed_is)
 
 start_is : (p q a b : ℕ) → ◌≡◌ {A = Result EventLine DeckWhy} (Ok (events.Start p a)) (Ok (events.Start q b)) → p ≡ q
 start_is p q a b e = cc
 
-started_range : (devices : List DeviceLine) (words : List (List ℕ)) (path d : ℕ)
-    → then_read (path_and_device devices words) (λ at. Ok (events.Start at.0 at.1)) ≡ Ok (events.Start path d) → Ranged 1 4 path
-started_range devices words path d h =
-    let a = went (path_and_device devices words) (λ at. Ok (events.Start at.0 at.1)) (events.Start path d) h in
-    subst (λ (p : ℕ). Ranged 1 4 p) (start_is a.value.0 path a.value.1 d a.second) (path_range devices words a.value a.first)
-
 line_on_path : (devices : List DeviceLine) (event : EventLine) → EventOk devices event → IsOnPath event
-line_on_path devices (events.Start path d) ok =
-    let r = started_range devices (behind_of (events.Start path d)) path d ok.again in (r.low, r.high)
-line_on_path devices event ok = tt
+line_on_path devices event ok = grind (arith, went, start_is, path_range)
 
 lines_on_paths : (devices : List DeviceLine) (es : List EventLine) → Each (EventOk devices) es → AreOnPaths es
 lines_on_paths devices [] h = tt
@@ -58,12 +44,9 @@ lines_on_paths devices (event ∷ es) h = (line_on_path devices event h.0, lines
 
 -- Before the first line
 
-new_sound : (programs : List PlannedProgram) (line : DeviceLine) → Sound (new_device programs line)
-new_sound programs line = record { plain = record { legal = tt; at = tt }; due = nothing_is_due }
-
 all_new : (programs : List PlannedProgram) (ls : List DeviceLine) → each.Each programs Sound ls (map (new_device programs) ls)
 all_new programs [] = tt
-all_new programs (line ∷ ls) = ((refl, refl, refl), new_sound programs line, all_new programs ls)
+all_new programs (line ∷ ls) = grind (arith, all_new programs ls, nothing_is_due)
 
 pub first_sound : (text : List ℕ) (deck : DeckLines) → parsed text ≡ Ok deck → IsSoundState deck.programs deck.devices (first_state deck)
 first_sound text deck parses = record {
@@ -79,8 +62,7 @@ are_of programs (line ∷ ls) (a ∷ ds) all = (
   (let is = all.0 in record { number_is = is.0; empty_is = is.1; plans_are = is.2; plain = all.1.plain }),
   are_of programs ls ds all.2,
 )
-are_of programs [] (a ∷ ds) all = absurd all
-are_of programs (line ∷ ls) [] all = absurd all
+are_of programs ls ds all = absurd all
 
 module _ (text : List ℕ) (deck : DeckLines) (parses : parsed text ≡ Ok deck) (s : AuditState) (lines : List (List ℕ))
     (leads : LeadsTo (first_state deck) lines s) where

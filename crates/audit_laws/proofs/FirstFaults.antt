@@ -36,14 +36,6 @@ no_whys_same n m v w is = ap why_told is
 
 -- Where the lines end
 
-end_yes : (n : ℕ) (due : Due) → at_end n due ≡ Yes → due ≡ dues.Nothing
-end_yes n dues.Nothing is = refl
-end_yes n due is = absurd (cc)
-
-end_other : (n : ℕ) (due : Due) → (due ≡ dues.Nothing → ⊥) → at_end n due ≡ No n Place
-end_other n dues.Nothing other = absurd (other refl)
-end_other n due other = refl
-
 end_no : (n : ℕ) (due : Due) (m : ℕ) (why : AuditWhy) → at_end n due ≡ No m why → due ≡ dues.Nothing → ⊥
 end_no n due m why is none = let e : Yes ≡ No m why = sym (ap (at_end n) none) ∙ is in cc
 
@@ -52,17 +44,15 @@ end_no n due m why is none = let e : Yes ≡ No m why = sym (ap (at_end n) none)
 yes_by : (n : ℕ) (s : AuditState) (text : List ℕ) (texts : List (List ℕ)) (r : Result AuditState AuditWhy) → judged_text s text ≡ r
     → or_no n r (λ t. judged_lines (n + 1) t texts) ≡ Yes → ((u : AuditState) → judged_lines (n + 1) u texts ≡ Yes → HasNoFault u texts)
     → HasNoFault s (text ∷ texts)
-yes_by n s text texts (Ok u) is told more = let e = more u told in record { end = e.end; leads = (u, is, e.leads); over = e.over }
-yes_by n s text texts (Err why) is told more = absurd (cc)
+yes_by n s text texts x4 is told more = grind arith
 
 yes_leads : (n : ℕ) (s : AuditState) (texts : List (List ℕ)) → judged_lines n s texts ≡ Yes → HasNoFault s texts
-yes_leads n s [] told = record { end = s; leads = refl; over = end_yes n s.due told }
+yes_leads n s [] told = grind arith
 yes_leads n s (text ∷ texts) told = yes_by n s text texts (judged_text s text) refl told (λ u h. yes_leads (n + 1) u texts h)
 
 leads_yes : (n : ℕ) (s : AuditState) (texts : List (List ℕ)) (end : AuditState) → LeadsTo s texts end → end.due ≡ dues.Nothing → judged_lines n s texts ≡ Yes
 leads_yes n s [] end leads over = ap (at_end n) (ap (λ (t : AuditState). t.due) (sym leads) ∙ over)
-leads_yes n s (text ∷ texts) end leads over =
-    ap (λ (r : Result AuditState AuditWhy). or_no n r (λ t. judged_lines (n + 1) t texts)) leads.1 ∙ leads_yes (n + 1) leads.0 texts end leads.2 over
+leads_yes n s (text ∷ texts) end leads over = grind (arith, leads_yes (n + 1) leads.0 texts end leads.2 over)
 
 -- No
 
@@ -80,49 +70,22 @@ no_by n s text texts m why (Ok u) is told more =
       leads = (u, is, e.leads);
       fault = e.fault;
     }
-no_by n s text texts m why (Err v) is told more =
-    record {
-      good = 0;
-      within = omega arith;
-      number = omega (arith, no_lines_same n m v why told);
-      state = s;
-      leads = refl;
-      fault = is ∙ ap Err (no_whys_same n m v why told);
-    }
+no_by n s text texts m why (Err v) is told more = grind (arith, no_lines_same, no_whys_same)
 
 no_leads : (n : ℕ) (s : AuditState) (texts : List (List ℕ)) (m : ℕ) (why : AuditWhy) → judged_lines n s texts ≡ No m why → HasFirstFault n s texts m why
-no_leads n s [] m why told =
-    let other = end_no n s.due m why told in
-    let same : No n Place ≡ No m why = sym (end_other n s.due other) ∙ told in
-    record {
-      good = 0;
-      within = omega arith;
-      number = omega (arith, no_lines_same n m Place why same);
-      state = s;
-      leads = refl;
-      fault = (sym (no_whys_same n m Place why same), other);
-    }
+no_leads n s [] m why told = grind (arith, end_no, no_lines_same, no_whys_same)
 no_leads n s (text ∷ texts) m why told = no_by n s text texts m why (judged_text s text) refl told (λ u h. no_leads (n + 1) u texts m why h)
 
 leads_no : (n : ℕ) (s : AuditState) (texts : List (List ℕ)) (m : ℕ) (why : AuditWhy) (good : ℕ) (state : AuditState) → good ≤ length texts → m ≡ n + good
     → LeadsTo s (take good texts) state → IsFault state (drop good texts) why → judged_lines n s texts ≡ No m why
-leads_no n s [] m why zero state within number leads fault =
-    ap (at_end n) (ap (λ (t : AuditState). t.due) (sym leads)) ∙ end_other n state.due fault.1 ∙ ap (No n) (sym fault.0)
-    ∙ ap (λ (k : ℕ). No k why) (let e : n ≡ m = omega (arith, number) in e)
+leads_no n s [] m why zero state within number leads fault = grind arith
 leads_no n s [] m why (suc good) state within number leads fault = absurd (omega (arith, within))
-leads_no n s (text ∷ texts) m why zero state within number leads fault =
-    ap (λ (r : Result AuditState AuditWhy). or_no n r (λ t. judged_lines (n + 1) t texts))
-    (ap (λ (t : AuditState). judged_text t text) (sym leads) ∙ fault)
-    ∙ ap (λ (k : ℕ). No k why) (let e : n ≡ m = omega (arith, number) in e)
+leads_no n s (text ∷ texts) m why zero state within number leads fault = grind arith
 leads_no n s (text ∷ texts) m why (suc good) state within number leads fault =
     ap (λ (r : Result AuditState AuditWhy). or_no n r (λ t. judged_lines (n + 1) t texts)) leads.1
     ∙ leads_no (n + 1) leads.0 texts m why good state (omega (arith, within)) (omega (arith, number)) leads.2 fault
 
 -- A text
-
-pub read_short : (text : List ℕ) → length text ≤ 268435456 → read_back text ≡ read_back_at text (report_from 0 (cut_lines text))
-unfolding read_back
-read_short text short = grind (arith, nat_tests)
 
 pub read_long : (text : List ℕ) → 268435456 < length text → read_back text ≡ Limit Size
 unfolding read_back
@@ -142,25 +105,16 @@ IsVerdict _ = ⊥
 
 reported_by : (text : List ℕ) (status : AuditStatus) (at : Option ℕ) (r : Result DeckLines DeckFault) → IsVerdict status → length text ≤ 268435456
     → report_from 0 (cut_lines text) ≡ at → parsed (deck_part text at) ≡ r → deck_judged r text at ≡ status → IsReported text status
-reported_by text status (Some n) (Ok deck) verdict short found parses comes =
-    record { deck = deck; lines = n; is = record { size = short; found = found; parses = parses }; comes = comes }
-reported_by text status None (Ok deck) verdict short found parses comes = absurd (subst IsVerdict (sym comes) verdict)
-reported_by text status at (Err (deck_faults.Refused line why)) verdict short found parses comes = absurd (subst IsVerdict (sym comes) verdict)
-reported_by text status at (Err (deck_faults.Limit which)) verdict short found parses comes = absurd (subst IsVerdict (sym comes) verdict)
-reported_by text status at (Err deck_faults.NoMemory) verdict short found parses comes = absurd (subst IsVerdict (sym comes) verdict)
+reported_by text status at x3 verdict short found parses comes = grind arith
 
 reported : (text : List ℕ) (status : AuditStatus) → IsVerdict status → read_back text ≡ status → IsReported text status
-reported text status verdict told = elim (cases_lt 268435456 (length text)) [
-  | inl long ↦ absurd (subst IsVerdict (sym told ∙ read_long text long) verdict)
-  | inr short ↦ reported_by text status (report_from 0 (cut_lines text)) (parsed (deck_part text (report_from 0 (cut_lines text)))) verdict short refl refl
-      (sym (read_short text short) ∙ told)
-]
+unfolding read_back
+reported text status verdict told = grind (arith, cases_lt, read_long, reported_by)
 
 tells : (text : List ℕ) (deck : DeckLines) (lines : ℕ) → IsDeckAndReport text deck lines
     → read_back text ≡ judged_lines (lines + 2) (first_state deck) (report_lines text lines)
-tells text deck lines is =
-    read_short text is.size ∙ ap (λ (at : Option ℕ). deck_judged (parsed (deck_part text at)) text at) is.found
-    ∙ ap (λ (r : Result DeckLines DeckFault). deck_judged r text (Some lines)) is.parses
+unfolding read_back
+tells text deck lines is = grind arith
 
 pub yes_good : (text : List ℕ) → (read_back text ≡ Yes) ↔ IsGood text
 yes_good text = (

@@ -1,5 +1,5 @@
 -- Lines without a fault tell of plain devices.
-use Rattle.std.proofs.Common.{◌≡◌, ℕ, [], ◌∷◌, List, Option, Some, None, Result, Ok, Err, Bool, true, false, cond}
+use Rattle.std.proofs.Common.{arith, ◌≡◌, ℕ, [], ◌∷◌, List, Option, Some, None, Result, Ok, Err, Bool, true, false, cond}
 use Rattle.std.proofs.Common.{refl, sym, ap, subst, ◌∙◌, inl, inr}
 use Rattle.std.specs.Prelude.{IsSome}
 use Rattle.ckd_types.specs.declared.channel.CommandEnd.{CommandEnd}
@@ -27,7 +27,6 @@ use Rattle.audit_laws.specs.FirstFault.{LeadsTo}
 use Rattle.audit_laws.specs.Shown.{CanAllBePlain, Shows, ShowsIn, TellsOfPlain, TextShows}
 use Rattle.audit_laws.proofs.GoodLines.{Near, awaits_sense, behind_good, due_good, near_same}
 use Rattle.audit_laws.proofs.Lines.{AreSo, AtWork, IsSoundState, judged_sound, same_some, settled_sound, then_some}
-use Rattle.audit_laws.proofs.ShownLines.{but_found}
 use Rattle.audit_laws.proofs.Sound.{Sound}
 use Rattle.audit_laws.proofs.SoundPasts.{can_all}
 use Rattle.audit_laws.proofs.Works.{DidSo, Ends}
@@ -78,15 +77,13 @@ module _ (s t w : AuditState) (near : Near t w) (can : CanAllBePlain w) (line : 
       → says (lines.Sense equipment_sense) line ≡ b → says (lines.Sense data_check_sense) line ≡ c
       → cond b (Some (record s { due = Behind true (CheckEnded (check_end (words_of_open a o) p.index equipment_sense)) }))
       (cond c (Some (record s { due = Behind true (CheckEnded (check_end (words_of_open a o) p.index data_check_sense)) })) None) ≡ Some t → Told
-  check_tests o running other true c first second is =
-      told_check o running (check_end (words_of_open a o) p.index equipment_sense) refl first other (same _ (same_some _ t is) refl)
+  check_tests o running other true c first second is = grind (arith, told_check o running (check_end (words_of_open a o) p.index equipment_sense) refl first other (same _ (same_some _ t is) refl), same _ (same_some _ t is) refl, same_some _ t is)
   check_tests o running other false true first second is =
       told_check o running (check_end (words_of_open a o) p.index data_check_sense) refl second other (same _ (same_some _ t is) refl)
   check_tests o running other false false first second is = absurd (cc)
 
   running_one : (r : Option OpenEntry) → IsSome r → (o : OpenEntry) × (r ≡ Some o)
-  running_one (Some o) some = (o, refl)
-  running_one None some = absurd (cc)
+  running_one x0 some = grind arith
 
   sense_tests : (b : Bool) → has_sense line p.sense ≡ b
       → cond b (Some (record s { due = Behind true (Ended p) })) (then_of a.history.running (check_made s line a p)) ≡ Some t → Told
@@ -117,13 +114,11 @@ module _ (programs : List PlannedProgram) (of : List DeviceLine) where
     sense_line p due so is =
         let x = then_some (worker s) (sense_made s line p) t is in
         sense_told s t w near can line p due x.0 x.1
-        (but_found programs Sound (Ends p) so.0 x.0 of s.devices so.2
-        (sym (ap (λ (n : Option ℕ). then_of n (device_in s.devices)) so.1) ∙ x.1)) x.2
+        (so.2.here x.0 (sym (ap (λ (n : Option ℕ). then_of n (device_in s.devices)) so.1) ∙ x.1)) x.2
 
     before_in : (due : Due) → s.due ≡ due → AreSo programs of due s.events s.devices → made_in s line due ≡ Some t → Before
     before_in (SenseOf p) at so is = sense_line p at so is
-    before_in (Behind more did) at so is =
-        here (Behind more did) at (behind_good s t w near line more did (behind_can more did so) is)
+    before_in (Behind more did) at so is = search (arith, here, behind_good, behind_can)
     before_in due at so is = here due at (due_good s t w near line due (ap awaits_sense at) refl is)
 
     before : made s line ≡ Some t → Before

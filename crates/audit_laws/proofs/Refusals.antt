@@ -1,5 +1,5 @@
 -- What each fault of a first line says.
-use Rattle.std.proofs.Common.{◌≡◌, ◌∷◌, [], List, ℕ, Option, Some, None, Result, Ok, Err, Bool, true, false, cond, take, drop, refl, inl}
+use Rattle.std.proofs.Common.{arith, ◌≡◌, ◌∷◌, [], List, ℕ, Option, Some, None, Result, Ok, Err, Bool, true, false, cond, take, drop, refl, inl}
 use Rattle.deck_text.specs.DeckLines.{DeckLines}
 use Rattle.deck_text.specs.Parse.{parsed}
 use Rattle.report_text.specs.declared.line.ReportLine.{ReportLine}
@@ -21,27 +21,13 @@ use Rattle.audit_laws.proofs.Telling.{bad_text, good_texts, result_device}
 
 -- no line
 
-no_form : (x : Option AuditState) → or_history x ≡ Err Form → ⊥
-no_form None is = cc
-no_form (Some t) is = cc
-
 no_form_by : (b : Bool) (x : Option AuditState) → cond b (or_history x) (Err Place) ≡ Err Form → ⊥
-no_form_by true x is = no_form x is
-no_form_by false x is = cc
-
-form_so : (s : AuditState) (r : Result ReportLine LineFault) → judged_by s r ≡ Err Form → (fault : LineFault) × (r ≡ Err fault)
-form_so s (Err fault) is = (fault, refl)
-form_so s (Ok line) is = absurd (no_form_by (stands s line) (made s line) is)
+no_form_by x0 x is = grind arith
 
 -- no line that may stand there
 
-no_place : (x : Option AuditState) → or_history x ≡ Err Place → ⊥
-no_place None is = cc
-no_place (Some t) is = cc
-
 place_by : (b : Bool) (x : Option AuditState) → cond b (or_history x) (Err Place) ≡ Err Place → b ≡ false
-place_by true x is = absurd (no_place x is)
-place_by false x is = refl
+place_by x0 x is = grind arith
 
 place_so : (s : AuditState) (r : Result ReportLine LineFault) → judged_by s r ≡ Err Place → (line : ReportLine) × (r ≡ Ok line) × (stands s line ≡ false)
 place_so s (Err fault) is = absurd (cc)
@@ -56,7 +42,7 @@ module _ (text : List ℕ) (deck : DeckLines) (parses : parsed text ≡ Ok deck)
   forbidden [] Form fault = absurd (let e : Form ≡ Place = fault.0 in cc)
   forbidden [] Place fault = fault.1
   forbidden [] History fault = absurd (let e : History ≡ Place = fault.0 in cc)
-  forbidden (t ∷ texts) Form fault = form_so s (line_of t) fault
+  forbidden (t ∷ texts) Form fault = grind (arith, no_form_by)
   forbidden (t ∷ texts) Place fault = place_so s (line_of t) fault
   forbidden (t ∷ texts) History fault = (
     result_device s (line_of t),

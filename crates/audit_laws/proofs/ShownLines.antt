@@ -31,7 +31,7 @@ use Rattle.deck_audit.specs.History.{shown, shows_end, start_made}
 use Rattle.deck_audit.specs.State.{AuditState, passed, then_of, worker_number}
 use Rattle.audit_laws.specs.Shown.{AnswerShows, CanBePlain, CanDo, PlainPast, StartShows}
 use Rattle.audit_laws.specs.Shown.{EndIs, looks_checked}
-use Rattle.audit_laws.proofs.Devices.{But, Each, either, number_of}
+use Rattle.audit_laws.proofs.Devices.{put_found}
 use Rattle.audit_laws.proofs.Lines.{same_some}
 use Rattle.audit_laws.proofs.ShownPasts.{checked_so, ended_so}
 
@@ -53,88 +53,24 @@ Follows made u = (t : AuditState) × (made ≡ Some t) × Beside t u
 pub follows : (made : Option AuditState) (u : AuditState) → made ≡ Some u → Follows made u
 follows made u is = (u, is, inl refl)
 
--- Devices
-
-put_by : (ds : List AuditedDevice) (d : ℕ) (x a b : AuditedDevice) (t : Bool) → b.number ≡ a.number → (x.number == d) ≡ t
-    → cond t (Some x) (device_in ds d) ≡ Some a → (device_in ds d ≡ Some a → device_in (with_device ds b) d ≡ Some b)
-    → device_in (with_device (x ∷ ds) b) d ≡ Some b
-put_by ds d x a b true number here found more =
-    let same : x ≡ a = same_some x a found in
-    let numbers : x.number ≡ b.number = ap (λ (y : AuditedDevice). y.number) same ∙ sym number in
-    ap (λ (c : Bool). device_in (cond c (b ∷ ds) (x ∷ with_device ds b)) d) (eq-eqb x.number b.number numbers)
-    ∙ ap (λ (c : Bool). cond c (Some b) (device_in ds d)) (ap (λ (n : ℕ). n == d) (sym numbers) ∙ here)
-put_by ds d x a b false number there found more =
-    let at : b.number ≡ d = number ∙ number_of d ds a found in
-    ap (λ (c : Bool). device_in (cond c (b ∷ ds) (x ∷ with_device ds b)) d) (ap (λ (n : ℕ). x.number == n) at ∙ there)
-    ∙ ap (λ (c : Bool). cond c (Some x) (device_in (with_device ds b) d)) there
-    ∙ more found
-
-pub put_found : (ds : List AuditedDevice) (d : ℕ) (a b : AuditedDevice) → device_in ds d ≡ Some a → b.number ≡ a.number
-    → device_in (with_device ds b) d ≡ Some b
-put_found [] d a b found number = absurd (cc)
-put_found (x ∷ ds) d a b found number =
-    put_by ds d x a b (x.number == d) number refl found (λ later. put_found ds d a b later number)
-
-module _ (programs : List PlannedProgram) (F G : AuditedDevice → Type 0) (d : ℕ) (a : AuditedDevice) where
-  each_by : (x : AuditedDevice) (t : Bool) (rest : Option AuditedDevice) → F x → cond t (Some x) rest ≡ Some a → (rest ≡ Some a → F a) → F a
-  each_by x true rest fact found more = subst F (same_some x a found) fact
-  each_by x false rest fact found more = more found
-
-  pub each_found : (ls : List DeviceLine) (ds : List AuditedDevice) → Each programs F ls ds → device_in ds d ≡ Some a → F a
-  each_found [] [] all found = absurd (cc)
-  each_found (l ∷ ls) (x ∷ ds) all found = each_by x (x.number == d) (device_in ds d) all.1 found (λ later. each_found ls ds all.2 later)
-  each_found [] (x ∷ ds) all found = absurd all
-  each_found (l ∷ ls) [] all found = absurd all
-
-  but_by : (x : AuditedDevice) (t : Bool) (rest : Option AuditedDevice) (E B : Type 0) → either t (G x × E) (F x × B)
-      → cond t (Some x) rest ≡ Some a → (B → rest ≡ Some a → G a) → G a
-  but_by x true rest E B fact found more = subst G (same_some x a found) fact.0
-  but_by x false rest E B fact found more = more fact.1 found
-
-  pub but_found : (ls : List DeviceLine) (ds : List AuditedDevice) → But programs F G d ls ds → device_in ds d ≡ Some a → G a
-  but_found [] [] all found = absurd (cc)
-  but_found (l ∷ ls) (x ∷ ds) all found =
-      but_by x (x.number == d) (device_in ds d) (Each programs F ls ds) (But programs F G d ls ds) all.1 found
-      (λ later is. but_found ls ds later is)
-  but_found [] (x ∷ ds) all found = absurd all
-  but_found (l ∷ ls) [] all found = absurd all
-
 -- START
 
 module _ (a : AuditedDevice) (path n : ℕ) (lent : a.lent ≡ None) (stands : a.history.running ≡ None)
     (may : MayStart a.plans (replay a.plans a.empty a.history.items) a.history.items path n) where
-  left : has_left a path ≡ true
-  left = le-leb (next_ordinal a path) (length (planned a.plans path)) (omega (arith, may.in_plan, may.ordinal_is))
-
   admitted : is_admitted (state_of a).paths path (program_of a.plans path (next_ordinal a path)) ≡ true
-  admitted =
-      ap (λ (r : Option OpenEntry). is_admitted (state_by a.plans (replay a.plans a.empty a.history.items) r).paths path
-      (program_of a.plans path (next_ordinal a path))) stands
-      ∙ ap (λ (m : ℕ). is_admitted (replay a.plans a.empty a.history.items).paths path (program_of a.plans path m)) (sym may.ordinal_is)
-      ∙ may.admitted
+  admitted = grind arith
 
   starts : may_start a path ≡ true
-  starts = and_from (has_left a path) (is_admitted (state_of a).paths path (program_of a.plans path (next_ordinal a path))) left admitted
+  starts = grind (arith, and_from, le-leb, admitted)
 
   answer_is : start_answer a path ≡ start.Accepted n
-  answer_is =
-      ap (λ (r : Option OpenEntry). cond (own_runs r path) start.Running (lent_answer a path a.lent)) stands
-      ∙ ap (λ (l : Option ℕ). lent_answer a path l) lent
-      ∙ ap (λ (r : Option OpenEntry). running_answer a path r) stands
-      ∙ ap (λ (b : Bool). cond (not b) start.Done (cond (may_start a path) (start.Accepted (next_ordinal a path))
-      (held_answer a (state_of a).paths.owner))) left
-      ∙ ap (λ (b : Bool). cond b (start.Accepted (next_ordinal a path)) (held_answer a (state_of a).paths.owner)) starts
-      ∙ ap (λ (m : ℕ). start.Accepted m) (sym may.ordinal_is)
+  answer_is = grind (arith, le-leb, starts)
 
 module _ (s u : AuditState) (d : ℕ) (can : CanBePlain u d) (a : AuditedDevice) (found : device_in s.devices d ≡ Some a) where
   module _ (line : ReportLine) (path : ℕ) where
     answered : (answer : StartAnswer) (b : AuditedDevice) → after_start a path answer ≡ b → start_answer a path ≡ answer
         → says (lines.Start path a.number answer) line ≡ true → u ≡ passed (changed s b) → start_made s line path a ≡ Some u
-    answered answer b after is told makes =
-        ap (λ (x : StartAnswer). shown (lines.Start path a.number x) line (passed (changed s (after_start a path x)))) is
-        ∙ ap (λ (c : Bool). cond c (Some (passed (changed s (after_start a path answer)))) None) told
-        ∙ ap (λ (x : AuditedDevice). Some (passed (changed s x))) after
-        ∙ ap (λ (x : AuditState). Some x) (sym makes)
+    answered answer b after is told makes = grind arith
 
     start_by : (answer : StartAnswer) → says (lines.Start path a.number answer) line ≡ true → AnswerShows s a path answer u
         → start_made s line path a ≡ Some u
@@ -169,23 +105,13 @@ module _ (s u : AuditState) (d : ℕ) (can : CanBePlain u d) (a : AuditedDevice)
     worker_is : then_of (worker_number s) (device_in (with_device s.devices b)) ≡ Some b
     worker_is = ap (λ (n : Option ℕ). then_of n (device_in (with_device s.devices b))) works ∙ found_then
 
-    made_by : (p : CommandEnd) → plain_end a o ≡ Some p → end_made s line a a.history.running ≡ end_made_by s line a o (Some p)
-    made_by p is =
-        ap (λ (r : Option OpenEntry). end_made s line a r) running ∙ ap (λ (x : Option CommandEnd). end_made_by s line a o x) is
-
     made_checked : (p : CommandEnd) → plain_end a o ≡ Some p → p.index ≡ e.index → looks_checked a o line e ≡ true
         → end_made s line a a.history.running ≡ Some (at (SenseOf p))
-    made_checked p is index looks =
-        made_by p is
-        ∙ ap (λ (c : Bool). cond c (Some (at (SenseOf p))) (cond (shows_end a o line p) (Some (at (behind_end p p.sent))) None))
-        (ap (λ (i : ℕ). shows_end a o line (check_end (words_of_open a o) i equipment_sense)) index ∙ looks)
+    made_checked p is index looks = grind arith
 
     made_plain : plain_end a o ≡ Some e → looks_checked a o line e ≡ false → shows_end a o line e ≡ true
         → end_made s line a a.history.running ≡ Some (at (behind_end e e.sent))
-    made_plain is looks told =
-        made_by e is
-        ∙ ap (λ (c : Bool). cond c (Some (at (SenseOf e))) (cond (shows_end a o line e) (Some (at (behind_end e e.sent))) None)) looks
-        ∙ ap (λ (c : Bool). cond c (Some (at (behind_end e e.sent))) None) told
+    made_plain is looks told = grind arith
 
     plain_so : CanDo (Ended e) b → plain_end a o ≡ Some e
     plain_so done = ended_so a plain o running done.0 done.1 e done.2
@@ -199,19 +125,13 @@ module _ (s u : AuditState) (d : ℕ) (can : CanBePlain u d) (a : AuditedDevice)
         let own : plain_end a o ≡ Some p = ap (λ (n : Option ℕ). plain_end_at o.path (words_of_open a o) (part_of_open a o) n) c.0 in
         (at (SenseOf p), made_checked p own refl looks, inr (record { own = p; told = e; due = refl; is = is }))
 
-    by_sent : (sent : List ℕ) → CanBePlain (at (behind_end e sent)) d → CanDo (Ended e) b
-    by_sent [] so = so b found_then worker_is
-    by_sent (x ∷ xs) so = so b found_then worker_is
-
     end_by : (looks : Bool) → looks_checked a o line e ≡ looks → EndIs (changed s b) line a o e looks u
         → Follows (end_made s line a a.history.running) u
     end_by true looks is = elim (subst (λ (x : AuditState). CanBePlain x d) is can b found_then worker_is) [
       | inl done ↦ follows _ u (made_checked e (plain_so done) refl looks ∙ ap (λ (x : AuditState). Some x) (sym is))
       | inr done ↦ checked_made is looks done
     ]
-    end_by false looks is =
-        follows _ u (made_plain (plain_so (by_sent e.sent (subst (λ (x : AuditState). CanBePlain x d) is.1 can))) looks is.0
-        ∙ ap (λ (x : AuditState). Some x) (sym is.1))
+    end_by false looks is = grind (arith, follows, made_plain, plain_so, found_then, worker_is)
 
     pub end_shown : EndIs (changed s b) line a o e (looks_checked a o line e) u → Follows (end_made s line a a.history.running) u
     end_shown is = end_by (looks_checked a o line e) refl is

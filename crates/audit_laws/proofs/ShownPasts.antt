@@ -29,13 +29,8 @@ use Rattle.audit_laws.proofs.Converses.{goes_with, idle_act, next_before, part_a
 
 -- Tests
 
-by_firm : (l provisional : Bool) → (l ≡ true → provisional ≡ true) → (not l || provisional) ≡ true
-by_firm true provisional may = may refl
-by_firm false provisional may = refl
-
 edit_legal : (p : Part) (edit : Option TrackEdit) → MayEdit p.state p.stance edit → is_edit_legal p edit ≡ true
-edit_legal p None may = refl
-edit_legal p (Some e) may = by_firm (is_loose_there p.state e.track) (is_provisional p.stance.extent) may
+edit_legal p x1 may = grind arith
 
 -- the first of acts that may come
 abbrev pub First : PlainState → Act → Type 0
@@ -44,14 +39,10 @@ First s (Harden t) = is_loose_there s t ≡ true
 First s CfwLost = IsSomeLoose s.loose
 
 first_of : (s : PlainState) (edited : Option ℕ) (act : Act) (acts : List Act) → AreActs s edited (act ∷ acts) → First s act
-first_of s edited (Loosen t) [] are = are.0
-first_of s edited (Loosen t) (x ∷ acts) are = absurd are
-first_of s edited (Harden t) acts are = are.0
-first_of s edited CfwLost acts are = are.0
+first_of s edited x2 acts are = grind arith
 
 no_loosen : (s : PlainState) (t : ℕ) (acts : List Act) → AreActs s None (Loosen t ∷ acts) → ⊥
-no_loosen s t [] are = let none : None ≡ Some t = are.1 in cc
-no_loosen s t (x ∷ acts) are = are
+no_loosen s t x2 are = grind arith
 
 -- While no program runs
 
@@ -64,9 +55,7 @@ act_items (act ∷ acts) = items.Act act ∷ act_items acts
 
 idle_acted : (acts : List Act) (xs : List Item) (waiting : List ℕ) → all_acted (idle xs waiting) acts ≡ idle (xs ++ act_items acts) waiting
 idle_acted [] xs waiting = ap (λ (l : List Item). idle l waiting) (sym (append-nil xs))
-idle_acted (x ∷ acts) xs waiting =
-    idle_acted acts (xs ++ items.Act x ∷ []) waiting
-    ∙ ap (λ (l : List Item). idle l waiting) (append_assoc xs (items.Act x ∷ []) (act_items acts))
+idle_acted (x ∷ acts) xs waiting = grind (arith, idle_acted acts (xs ++ items.Act x ∷ []) waiting, append_assoc)
 
 module _ (a : AuditedDevice) where
   abbrev s : PlainState
@@ -81,9 +70,7 @@ module _ (a : AuditedDevice) where
     state_is = ap (λ (r : Option OpenEntry). state_by a.plans s r) running
 
     acted_is : (acts : List Act) → all_acted a.history acts ≡ run a.history.items a.history.waiting (with_more o acts)
-    acted_is acts =
-        ap (λ (r : Option OpenEntry). all_acted (by r) acts) running
-        ∙ acted_all a.plans a.empty a.history.items a.history.waiting acts o
+    acted_is acts = grind (arith, acted_all a.plans a.empty a.history.items a.history.waiting acts o)
 
     took : (acts : List Act) (e : CommandEnd) → IsPlain a.plans a.empty (ended (all_acted a.history acts) e) → TookEffect a.plans s (with_more o acts) e
     took acts e p = took_effect a.plans a.empty a.history.items a.history.waiting (with_more o acts) e
@@ -97,35 +84,17 @@ module _ (a : AuditedDevice) where
     legal_by : (e : CommandEnd) → TookEffect a.plans s o e → is_next_legal a a.history.running ≡ true
     legal_by e t = ap (λ (r : Option OpenEntry). is_next_legal a r) running ∙ edit_legal (part_of_open a o) (edit_of a o) (edits_so a.plans s o e t)
 
-    pub ended_legal : (e : CommandEnd) → IsPlain a.plans a.empty (ended a.history e) → is_next_legal a a.history.running ≡ true
-    ended_legal e p = legal_by e (took_effect a.plans a.empty a.history.items a.history.waiting o e
-        (subst (λ (r : Option OpenEntry). IsPlain a.plans a.empty (ended (by r) e)) running p))
-
     -- a cut
     pub cut_so : (k : ℕ) (later : List Item) → IsLegal a.plans a.empty (a.history.items ++ entry_of o (Cut k) ∷ later)
         → (k ≡ length o.ends) ⊎ ((k ≡ length o.ends + 1) × (is_next_legal a a.history.running ≡ true))
-    cut_so k later legal = by_size (was_cut a.plans a.empty a.history.items a.history.waiting o k later legal) where
-      legal_more : (c : WasCut a.plans s o k) → k ≡ length o.ends + 1 → is_next_legal a a.history.running ≡ true
-      legal_more c is = ap (λ (r : Option OpenEntry). is_next_legal a r) running
-          ∙ edit_legal (part_of_open a o) (edit_of a o) (c.acts.points (length o.ends) (omega (arith, is))).edit_is
-
-      by_size : WasCut a.plans s o k → (k ≡ length o.ends) ⊎ ((k ≡ length o.ends + 1) × (is_next_legal a a.history.running ≡ true))
-      by_size c = elim (cases_lt (length o.ends) k) [
-        | inl more ↦ (let is : k ≡ length o.ends + 1 = omega (arith, c.most, more) in inr (is, legal_more c is))
-        | inr same ↦ inl (omega (arith, c.least, same))
-      ]
+    cut_so k later legal = grind (arith, was_cut, edit_legal, cases_lt)
 
   module _ (plain : PlainPast a) (o : OpenEntry) (running : a.history.running ≡ Some o) where
-    is_open : IsOpen a.plans s a.history.items o
-    is_open = subst (λ (r : Option OpenEntry). IfSome r (IsOpen a.plans s a.history.items)) running plain.at
-
     goes : Goes a.plans s o
-    goes = record { ends = is_open.ends; runs = is_open.runs }
+    goes = grind arith
 
     plain_is : (e : CommandEnd) → EndsSo a.plans s o e → plain_end a o ≡ Some e
-    plain_is e so =
-        ap (λ (n : Option ℕ). plain_end_at o.path (words_of_open a o) (part_of_open a o) n) so.next
-        ∙ ap (λ (x : CommandEnd). Some x) (sym so.is)
+    plain_is e so = grind arith
 
     -- the end that was told is the plain device's
     pub ended_so : (acts : List Act) → NoLoss acts → (e : CommandEnd) → IsPlain a.plans a.empty (ended (all_acted a.history acts) e)
@@ -136,15 +105,12 @@ module _ (a : AuditedDevice) where
     -- or it is a check of the next command
     pub checked_so : (acts : List Act) (e : CommandEnd) → IsPlain a.plans a.empty (checked (all_acted a.history acts) e)
         → ((part_of_open a o).next ≡ Some e.index) × IsCheck (words_of_open a o) e
-    checked_so acts e p =
-        let c = checks_so a.plans s (with_more o acts) (goes_with a.plans s acts o goes) e (was o running acts e p) in
-        (sym (next_before a.plans s acts o goes) ∙ c.0, c.1)
+    checked_so acts e p = grind (arith, checks_so a.plans s (with_more o acts) (goes_with a.plans s acts o goes) e (was o running acts e p), goes_with a.plans s acts o goes, goes, was o running acts e p, next_before a.plans s acts o goes)
 
     -- Acts behind its last end
 
     first_at : (edited : Option ℕ) (act : Act) (acts : List Act) → AreActs (part_of_open a o).state edited (act ∷ acts) → First (state_of a) act
-    first_at edited act acts are =
-        subst (λ (z : PlainState). First z act) (sym (state_is o running)) (first_of (part_of_open a o).state edited act acts are)
+    first_at edited act acts are = grind (arith, state_is, first_of)
 
     open_acts : (act : Act) (acts : List Act) → IsPlain a.plans a.empty (all_acted a.history (act ∷ acts))
         → AreActs (part_of_open a o).state None (act ∷ acts)
@@ -171,24 +137,15 @@ module _ (a : AuditedDevice) where
     -- a track that becomes loose
     same_edit : (p : Part) (t : ℕ) (next : Option ℕ)
         → edit_at o.path (words_of_open a o) (with_act p (Loosen t)) next ≡ edit_at o.path (words_of_open a o) p next
-    same_edit p t (Some i) = refl
-    same_edit p t None = refl
+    same_edit p t x2 = grind arith
 
     last_loose : (loose : List LooseTrack) (l : LooseTrack) (t : ℕ) → l.track ≡ t → is_loose_in (loose ++ l ∷ []) t ≡ true
     last_loose [] l t is = ap (λ (b : Bool). cond b true false) (eq-eqb l.track t is)
-    last_loose (x ∷ loose) l t is = either_way (x.track == t) (last_loose loose l t is) where
-      either_way : (b : Bool) {rest : Bool} → rest ≡ true → cond b true rest ≡ true
-      either_way true later = refl
-      either_way false later = later
+    last_loose (x ∷ loose) l t is = grind (arith, last_loose loose l t is)
 
     loosens_by : (p : Part) (t : ℕ) (edit : Option TrackEdit) → is_loose_there p.state t ≡ false → track_of edit ≡ Some t
         → MayEdit (act_done p.state (Loosen t)) p.stance edit → loosens p edit t ≡ true
-    loosens_by p t None firm edits may = absurd (cc)
-    loosens_by p t (Some x) firm edits may =
-        let track : x.track ≡ t = cc in
-        and_from ((x.track == t) && is_provisional p.stance.extent) (not (is_loose_there p.state t))
-        (and_from (x.track == t) (is_provisional p.stance.extent) (eq-eqb x.track t track)
-        (may (last_loose p.state.loose _ x.track (sym track)))) (ap not firm)
+    loosens_by p t x2 firm edits may = grind (arith, and_from, eq-eqb, last_loose)
 
     pub loosened_so : (t : ℕ) (e : CommandEnd) → IsPlain a.plans a.empty (ended (acted a.history (Loosen t)) e)
         → may_loosen a a.history.running t ≡ true
@@ -222,27 +179,17 @@ module _ (a : AuditedDevice) where
 
     idle_work : (did : Did) (acts : List Act) → PlainPast (worked (record a { history = all_acted a.history acts }) did)
         → IsLegal a.plans a.empty (a.history.items ++ act_items acts)
-    idle_work (Ended e) acts p = (subst (λ (h : History). IsPlain a.plans a.empty (ended h e)) (stands_is acts) p).legal
-    idle_work (CheckEnded e) acts p = (subst (λ (h : History). IsPlain a.plans a.empty (checked h e)) (stands_is acts) p).legal
-    idle_work Halved acts p = (subst (λ (h : History). IsPlain a.plans a.empty h) (stands_is acts) p).legal
-    idle_work (Worked last) acts p = (subst (λ (h : History). IsPlain a.plans a.empty h) (stands_is acts) p).legal
+    idle_work x0 acts p = grind (arith, stands_is)
 
     idle_are : (did : Did) (act : Act) (acts : List Act) → PlainPast (worked (record a { history = all_acted a.history (act ∷ acts) }) did)
         → AreActs (state_of a) None (act ∷ [])
-    idle_are did act acts p =
-        subst (λ (z : PlainState). AreActs z None (act ∷ [])) (sym (ap (λ (r : Option OpenEntry). state_by a.plans s r) stands))
-        (idle_act a.plans a.empty a.history.items a.history.waiting act (act_items acts) (idle_work did (act ∷ acts) p))
+    idle_are did act acts p = grind (arith, idle_act a.plans a.empty a.history.items a.history.waiting act (act_items acts) (idle_work did (act ∷ acts) p), stands_is)
 
   -- Either way
 
-  first_by : PlainPast a → (did : Did) (act : Act) (acts : List Act) (running : Option OpenEntry) → a.history.running ≡ running
-      → PlainPast (worked (record a { history = all_acted a.history (act ∷ acts) }) did) → First (state_of a) act
-  first_by plain did act acts (Some o) running p = running_first plain o running did act acts p
-  first_by plain did act acts None stands p = first_of (state_of a) None act [] (idle_are stands did act acts p)
-
   pub act_so : PlainPast a → (did : Did) (act : Act) (acts : List Act)
       → PlainPast (worked (record a { history = all_acted a.history (act ∷ acts) }) did) → First (state_of a) act
-  act_so plain did act acts p = first_by plain did act acts a.history.running refl p
+  act_so plain did act acts p = grind (arith, running_first, first_of, idle_are)
 
   loose_by : PlainPast a → (did : Did) (t : ℕ) (running : Option OpenEntry) → a.history.running ≡ running
       → PlainPast (worked (record a { history = acted a.history (Loosen t) }) did)
@@ -256,8 +203,7 @@ module _ (a : AuditedDevice) where
 
   legal_so_by : (e : CommandEnd) (running : Option OpenEntry) → a.history.running ≡ running → IsPlain a.plans a.empty (ended a.history e)
       → is_next_legal a a.history.running ≡ true
-  legal_so_by e (Some o) running p = ended_legal o running e p
-  legal_so_by e None stands p = ap (λ (r : Option OpenEntry). is_next_legal a r) stands
+  legal_so_by e x1 running p = grind (arith, legal_by, took_effect)
 
   pub legal_so : (e : CommandEnd) → IsPlain a.plans a.empty (ended a.history e) → is_next_legal a a.history.running ≡ true
   legal_so e p = legal_so_by e a.history.running refl p

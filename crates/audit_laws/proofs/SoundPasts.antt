@@ -1,5 +1,5 @@
 -- Behind lines without a fault each device can be plain.
-use Rattle.std.proofs.Common.{◌≡◌, ◌∷◌, ℕ, [], List, Option, Some, None, Bool, true, false, cond, not}
+use Rattle.std.proofs.Common.{arith, ◌≡◌, ◌∷◌, ℕ, [], List, Option, Some, None, Bool, true, false, cond, not}
 use Rattle.std.proofs.Common.{refl, sym, ap, ◌∙◌, inl}
 use Rattle.std.specs.Prelude.{◌==◌}
 use Rattle.std.proofs.lemmas.Bool.{or_left, or_parts}
@@ -22,22 +22,15 @@ use Rattle.deck_audit.specs.Device.{AuditedDevice, device_in, edit_of, is_edit_l
 use Rattle.deck_audit.specs.State.{AuditState, then_of, worker}
 use Rattle.device_laws.proofs.OpenProgram.{with_one_act}
 use Rattle.audit_laws.specs.Shown.{CanAllBePlain, CanBeAt, CanDo}
-use Rattle.audit_laws.proofs.Devices.{Each}
+use Rattle.audit_laws.proofs.Devices.{Each, each_found}
 use Rattle.audit_laws.proofs.Lines.{AreSo, AtWork, IsSoundState}
-use Rattle.audit_laws.proofs.ShownLines.{but_found, each_found}
 use Rattle.audit_laws.proofs.ShownPasts.{state_is}
 use Rattle.audit_laws.proofs.Sound.{Darkening, Sound, darkened_sound}
 use Rattle.audit_laws.proofs.Works.{Checks, DidSo, Ends, acted_is, checked_sound, ended_sound, ends_hardened, part_is}
 
--- a track that became firm isn't loose
-firm_by : (l : LooseTrack) (loose : List LooseTrack) (t : ℕ) (b : Bool) → (l.track == t) ≡ b → is_loose_in (without t loose) t ≡ false
-    → is_loose_in (cond (not b) (l ∷ without t loose) (without t loose)) t ≡ false
-firm_by l loose t true is later = later
-firm_by l loose t false is later = ap (λ (b : Bool). cond b true (is_loose_in (without t loose) t)) is ∙ later
-
 firm_now : (loose : List LooseTrack) (t : ℕ) → is_loose_in (without t loose) t ≡ false
 firm_now [] t = refl
-firm_now (l ∷ loose) t = firm_by l loose t (l.track == t) refl (firm_now loose t)
+firm_now (l ∷ loose) t = grind (arith, firm_now loose t, loose)
 
 record LooseEdit (a : AuditedDevice) (o : OpenEntry) : Type 0 where
   pub edit : TrackEdit
@@ -45,8 +38,7 @@ record LooseEdit (a : AuditedDevice) (o : OpenEntry) : Type 0 where
   pub loose : is_loose_there (part_of_open a o).state edit.track ≡ true
 
 not_firm : (b : Bool) → not b ≡ false → b ≡ true
-not_firm true is = refl
-not_firm false is = absurd (cc)
+not_firm x0 is = grind arith
 
 module _ (a : AuditedDevice) (e : CommandEnd) (ends : Ends e a) where
   module _ (o : OpenEntry) (running : a.history.running ≡ Some o) where
@@ -58,11 +50,6 @@ module _ (a : AuditedDevice) (e : CommandEnd) (ends : Ends e a) where
       loose = not_firm (is_loose_there (part_of_open a o).state x.track)
           (or_parts (not (is_loose_there (part_of_open a o).state x.track)) (is_provisional (part_of_open a o).stance.extent) bad).0;
     }
-
-    same_edit : (p : Part) (t : ℕ) (next : Option ℕ)
-        → edit_at o.path (words_of_open a o) (with_act p (Harden t)) next ≡ edit_at o.path (words_of_open a o) p next
-    same_edit p t (Some i) = refl
-    same_edit p t None = refl
 
     module _ (x : LooseEdit a o) where
       abbrev track : ℕ
@@ -78,19 +65,10 @@ module _ (a : AuditedDevice) (e : CommandEnd) (ends : Ends e a) where
       hardened = record a { history = record a.history { running = Some (with_one_act o (Harden x.edit.track)) } }
 
       edit_is : edit_of hardened later ≡ Some x.edit
-      edit_is =
-          ap (λ (p : Part). next_edit o.path (words_of_open a o) p) (part_is a ends.sound x.edit.track o running)
-          ∙ same_edit (part_of_open a o) x.edit.track (part_of_open a o).next ∙ x.is
-
-      legal_now : is_edit_legal (part_of_open hardened later) (edit_of hardened later) ≡ true
-      legal_now =
-          ap (λ (y : Option TrackEdit). is_edit_legal (part_of_open hardened later) y) edit_is
-          ∙ ap (λ (p : Part). is_edit_legal p (Some x.edit)) (part_is a ends.sound x.edit.track o running)
-          ∙ or_left (not (is_loose_there (act_done (part_of_open a o).state (Harden x.edit.track)) x.edit.track))
-          (is_provisional (part_of_open a o).stance.extent) (ap not (firm_now (part_of_open a o).state.loose x.edit.track))
+      edit_is = grind (arith, part_is)
 
       legal : is_next_legal firm firm.history.running ≡ true
-      legal = ap (λ (h : History). is_next_legal (record a { history = h }) h.running) (acted_is a ends.sound x.edit.track o running) ∙ legal_now
+      legal = grind (arith, acted_is, edit_is, part_is, or_left, firm_now)
 
       loose : is_loose_there (state_of a) x.edit.track ≡ true
       loose = ap (λ (z : PlainState). is_loose_there z x.edit.track) (state_is a o running) ∙ x.loose
@@ -111,13 +89,9 @@ module _ (a : AuditedDevice) (e : CommandEnd) (ends : Ends e a) where
   can_end = by_legal (is_next_legal a a.history.running) refl
 
 module _ (programs : List PlannedProgram) (of : List DeviceLine) (s : AuditState) (d : ℕ) (a : AuditedDevice) (found : device_in s.devices d ≡ Some a) where
-  sound_of : Each programs Sound of s.devices → Sound a
-  sound_of each = each_found programs Sound Sound d a of s.devices each found
-
   -- the device at work
   work_of : (G : AuditedDevice → Type 0) → AtWork programs of G s.events s.devices → worker s ≡ Some a → G a
-  work_of G so works = but_found programs Sound G so.0 a of s.devices so.2
-      (sym (ap (λ (n : Option ℕ). then_of n (device_in s.devices)) so.1) ∙ works)
+  work_of G so works = so.2.here a (sym (ap (λ (n : Option ℕ). then_of n (device_in s.devices)) so.1) ∙ works)
 
   did_so : (more : Bool) (did : Did) → AtWork programs of (DidSo more did) s.events s.devices → CanBeAt s a (Behind more did)
   did_so true (Ended e) so = λ works. can_end a e (work_of (Ends e) so works)
@@ -131,8 +105,8 @@ module _ (programs : List PlannedProgram) (of : List DeviceLine) (s : AuditState
   can_by (DataOf e) so = λ works. can_end a e (work_of (Ends e) so works)
   can_by (SenseOf e) so = λ works. inl (can_end a e (work_of (Ends e) so works))
   can_by (Behind more did) so = did_so more did so
-  can_by (Powers k) so = (darkened_sound a (each_found programs Darkening Darkening d a of s.devices so found)).plain
-  can_by due so = (sound_of so).plain
+  can_by (Powers k) so = (darkened_sound a (each_found programs Darkening d of s.devices so a found)).plain
+  can_by due so = grind (arith, each_found)
 
 pub can_all : (programs : List PlannedProgram) (of : List DeviceLine) (s : AuditState) → IsSoundState programs of s → CanAllBePlain s
 can_all programs of s sound = λ d a found. can_by programs of s d a found s.due sound.devices

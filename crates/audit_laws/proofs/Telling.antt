@@ -1,5 +1,5 @@
 -- Lines that tell of plain devices tell what the audit makes of them: so where it finds a fault of history they tell of none.
-use Rattle.std.proofs.Common.{◌≡◌, ℕ, [], ◌∷◌, List, Option, Some, None, Result, Ok, Err, Bool, true, false, not, cond}
+use Rattle.std.proofs.Common.{arith, ◌≡◌, ℕ, [], ◌∷◌, List, Option, Some, None, Result, Ok, Err, Bool, true, false, not, cond}
 use Rattle.std.proofs.Common.{refl, sym, ap, subst, ◌∙◌, inl, inr}
 use Rattle.std.specs.Prelude.{◌&&◌}
 use Rattle.ckd_types.specs.declared.channel.CommandEnd.{CommandEnd}
@@ -30,9 +30,9 @@ use Rattle.deck_audit.specs.Verdict.{judged, judged_by, or_history}
 use Rattle.audit_laws.specs.FirstFault.{LeadsTo}
 use Rattle.audit_laws.specs.Shown.{ActShows, BehindShows, CanAllBePlain, CanBePlain, DueShows, EventShows, NextShows, OrderShows, PlainPast, PowerShows, Shows, ShowsIn}
 use Rattle.audit_laws.specs.Shown.{TellsOfPlain, TextShows, WorkShows}
-use Rattle.audit_laws.proofs.Devices.{But, Each}
+use Rattle.audit_laws.proofs.Devices.{But, Each, each_found, put_found}
 use Rattle.audit_laws.proofs.Lines.{AreSo, AtWork, IsSoundState, judged_sound, no_act, settled_sound}
-use Rattle.audit_laws.proofs.ShownLines.{Beside, Follows, but_found, each_found, end_shown, follows, put_found, start_shown}
+use Rattle.audit_laws.proofs.ShownLines.{Beside, Follows, end_shown, follows, start_shown}
 use Rattle.audit_laws.proofs.ShownPasts.{legal_so}
 use Rattle.audit_laws.proofs.ShownWork.{act_shown, order_firm, order_lost, power_shown, reset_line_shown, sense_shown}
 use Rattle.audit_laws.proofs.Sound.{Sound}
@@ -94,7 +94,7 @@ module _ (programs : List PlannedProgram) (of : List DeviceLine) where
 
     module _ (each : Each programs Sound of s.devices) where
       plain_of : (d : ℕ) (a : AuditedDevice) → device_in s.devices d ≡ Some a → Sound a
-      plain_of d a found = each_found programs Sound Sound d a of s.devices each found
+      plain_of d a found = each_found programs Sound d of s.devices each a found
 
       work_shown : (line : ReportLine) (d : ℕ) → CanBePlain u d → (event : EventLine) → first_event s.events ≡ Some event → worker_of event ≡ Some d
           → (a : AuditedDevice) → device_in s.devices d ≡ Some a → WorkShows s line a u → Follows (work_made s line a) u
@@ -104,9 +104,7 @@ module _ (programs : List PlannedProgram) (of : List DeviceLine) where
       work_shown line d can event first works a found shows = follows _ u shows
 
       order_shown : (line : ReportLine) (event : EventLine) → CanBePlain u (line_device line) → OrderShows s line event u → order_made s line event ≡ Some u
-      order_shown (lines.Loose d (loose.Harden track)) event can shows =
-          found_then (device_in s.devices d) (λ a. harden_made s a track Next) shows.0 shows.1
-          ∙ order_firm s u d can shows.0 shows.1 (plain_of d shows.0 shows.1).plain track shows.2
+      order_shown (lines.Loose d (loose.Harden track)) event can shows = grind (arith, found_then, order_firm, plain_of)
       order_shown (lines.Loose d (loose.Lost count id)) event can shows =
           found_then (device_in s.devices d) (loss_made s (lines.Loose d (loose.Lost count id))) shows.0 shows.1
           ∙ order_lost s u d can shows.0 shows.1 (plain_of d shows.0 shows.1).plain (lines.Loose d (loose.Lost count id)) shows.2.0 shows.2.1
@@ -115,10 +113,7 @@ module _ (programs : List PlannedProgram) (of : List DeviceLine) where
     -- A loss of power
 
     power_line_shown : (line : ReportLine) → CanBePlain u (line_device line) → PowerShows s line u → power_made s line ≡ Some u
-    power_line_shown (lines.Over p d n (how.Cut k)) can shows =
-        found_then (device_in s.devices d) (λ a. then_of a.history.running (power_cut s a k)) shows.0 shows.1
-        ∙ found_then shows.0.history.running (power_cut s shows.0 k) shows.2.0 shows.2.1
-        ∙ power_shown s u d can shows.0 shows.1 shows.2.0 shows.2.1 k shows.2.2
+    power_line_shown (lines.Over p d n (how.Cut k)) can shows = grind (arith, found_then, found_then shows.0.history.running (power_cut s shows.0 k) shows.2.0 shows.2.1, power_shown s u d can shows.0 shows.1 shows.2.0 shows.2.1 k shows.2.2)
     power_line_shown line can shows = shows
 
     -- The first line of an event
@@ -127,15 +122,11 @@ module _ (programs : List PlannedProgram) (of : List DeviceLine) where
       works_shown : (line : ReportLine) (d : ℕ) → CanBePlain u d → (event : EventLine) → first_event s.events ≡ Some event → worker_of event ≡ Some d
           → (a : AuditedDevice) → device_in s.devices d ≡ Some a → WorkShows s line a u
           → Follows (then_of (device_in s.devices d) (work_made s line)) u
-      works_shown line d can event first works a found shows =
-          subst (λ (m : Option AuditState). Follows m u) (sym (found_then (device_in s.devices d) (work_made s line) a found))
-          (work_shown each line d can event first works a found shows)
+      works_shown line d can event first works a found shows = grind (arith, found_then, found, work_shown)
 
       event_shown : (line : ReportLine) (event : EventLine) → CanBePlain u (event_device line event) → first_event s.events ≡ Some event → EventShows s line event u
           → Follows (event_made s line event) u
-      event_shown line (events.Start path d) can first shows =
-          follows _ u (found_then (device_in s.devices d) (start_made s line path) shows.0 shows.1
-          ∙ start_shown s u d can shows.0 shows.1 line path shows.2)
+      event_shown line (events.Start path d) can first shows = grind (arith, follows _ u (found_then (device_in s.devices d) (start_made s line path) shows.0 shows.1 ∙ start_shown s u d can shows.0 shows.1 line path shows.2), found_then (device_in s.devices d) (start_made s line path) shows.0 shows.1, start_shown s u d can shows.0 shows.1 line path shows.2)
       event_shown line (events.Step d) can first shows = works_shown line d can (events.Step d) first refl shows.0 shows.1 shows.2
       event_shown line (events.Run d) can first shows = works_shown line d can (events.Run d) first refl shows.0 shows.1 shows.2
       event_shown line (events.Back d) can first shows = works_shown line d can (events.Back d) first refl shows.0 shows.1 shows.2
@@ -148,8 +139,7 @@ module _ (programs : List PlannedProgram) (of : List DeviceLine) where
 
       next_shown : (line : ReportLine) (es : List EventLine) → CanBePlain u (next_device line es) → first_event s.events ≡ first_event es → NextShows s line es u
           → Follows (next_made s line es) u
-      next_shown line (event ∷ es) can first shows = event_shown line event can first shows
-      next_shown line [] can first shows = follows _ u (ap (λ (x : AuditState). Some x) (sym shows))
+      next_shown line x1 can first shows = grind (arith, event_shown, follows)
 
   -- Where a line of a device's work is due
 
@@ -158,7 +148,7 @@ module _ (programs : List PlannedProgram) (of : List DeviceLine) where
     at_work a is = sym (ap (λ (n : Option ℕ). then_of n (device_in s.devices)) works) ∙ is
 
     worker_so : (G : AuditedDevice → Type 0) → But programs Sound G d of s.devices → (a : AuditedDevice) → worker s ≡ Some a → G a
-    worker_so G but a is = but_found programs Sound G d a of s.devices but (at_work a is)
+    worker_so G but a is = but.here a (at_work a is)
 
   sense_line_shown : (s u : AuditState) (line : ReportLine) (p e : CommandEnd) → AtWork programs of (DidSo true (Ended p)) s.events s.devices
       → CanBePlain u (or_zero (worker_number s)) → DueShows (record s { due = SenseOf e }) line (SenseOf e) u → then_of (worker s) (sense_made s line p) ≡ Some u
@@ -169,12 +159,7 @@ module _ (programs : List PlannedProgram) (of : List DeviceLine) where
 
   due_shown_made : (s u : AuditState) (line : ReportLine) (due : Due) → AreSo programs of due s.events s.devices
       → CanBePlain u (due_device s line due) → DueShows s line due u → Follows (due_made s line due) u
-  due_shown_made s u line Next so can shows = next_shown s u so line s.events can refl shows
-  due_shown_made s u line (SenseOf e) so can shows = follows _ u (sense_line_shown s u line e e so can shows)
-  due_shown_made s u line (Losses d) so can shows =
-      follows _ u (found_then (first_event s.events) (order_made s line) shows.0 shows.1 ∙ order_shown s u so line shows.0 can shows.2)
-  due_shown_made s u line (Powers k) so can shows = follows _ u (power_line_shown s u line can shows)
-  due_shown_made s u line due so can shows = follows _ u shows
+  due_shown_made s u line due so can shows = grind (arith, next_shown, follows, sense_line_shown, found_then, order_shown, power_line_shown)
 
   -- Behind a piece of work
 
@@ -184,9 +169,7 @@ module _ (programs : List PlannedProgram) (of : List DeviceLine) where
     worked_plain : (a : AuditedDevice) → worker s ≡ Some a → CanBePlain (settled s did) so.0 → PlainPast (worked a did)
     worked_plain a works can_settled = by_over (over_by a did a.history.running) refl where
       number : (did : Did) → (worked a did).number ≡ a.number
-      number (Ended e) = refl
-      number (CheckEnded e) = refl
-      number did = refl
+      number did = grind arith
 
       found : device_in (with_device s.devices (worked a did)) so.0 ≡ Some (worked a did)
       found = put_found s.devices so.0 a (worked a did) (at_work s so.0 so.1 a works) (number did)
@@ -200,33 +183,13 @@ module _ (programs : List PlannedProgram) (of : List DeviceLine) where
       by_event false c = c (worked a did) found
 
       by_over : (over : Option ReportLine) → over_by a did a.history.running ≡ over → PlainPast (worked a did)
-      by_over (Some l) is =
-          (subst (λ (x : AuditState). CanBePlain x so.0) (settled_is ∙ ap (λ (x : Option ReportLine). settled_by s a did x) is) can_settled)
-          (worked a did) found
-      by_over None is =
-          by_event (is_event_over (first_event s.events) (worked a did) did)
-          (subst (λ (x : AuditState). CanBePlain x so.0) (settled_is ∙ ap (λ (x : Option ReportLine). settled_by s a did x) is) can_settled)
+      by_over x0 is = grind (arith, settled_is, found, by_event)
 
     legal_by : (a : AuditedDevice) (did : Did) → PlainPast (worked a did) → is_legal did a ≡ true
-    legal_by a (Ended e) plain = legal_so a e plain
-    legal_by a did plain = refl
+    legal_by a did plain = grind (arith, legal_so)
 
     legal : (a : AuditedDevice) → worker s ≡ Some a → CanBePlain (settled s did) so.0 → holds (worker s) (is_legal did) ≡ true
-    legal a works can_settled =
-        ap (λ (w : Option AuditedDevice). holds w (is_legal did)) works ∙ legal_by a did (worked_plain a works can_settled)
-
-    settled_legal : (io : Bool) (a : AuditedDevice) → worker s ≡ Some a → CanBePlain (settled s did) so.0
-        → Follows (cond io (Some (settled s did)) (due_made (settled s did) line (settled s did).due)) u
-        → Follows (cond (not (holds (worker s) (is_legal did))) None
-        (cond io (Some (settled s did)) (due_made (settled s did) line (settled s did).due))) u
-    settled_legal io a works can_settled follow =
-        subst (λ (b : Bool). Follows (cond (not b) None (cond io (Some (settled s did)) (due_made (settled s did) line (settled s did).due))) u)
-        (sym (legal a works can_settled)) follow
-
-    acted_plain : (a : AuditedDevice) (did : Did) → DidSo true did a → PlainPast a
-    acted_plain a (Ended e) done = done.sound.plain
-    acted_plain a (CheckEnded e) done = done.sound.plain
-    acted_plain a did done = done.plain
+    legal a works can_settled = grind (arith, legal_by, worked_plain)
 
     at_worker : CanBePlain u (or_zero (worker_number s)) → CanBePlain u so.0
     at_worker can = subst (λ (d : ℕ). CanBePlain u d) (ap or_zero so.1) can
@@ -234,9 +197,7 @@ module _ (programs : List PlannedProgram) (of : List DeviceLine) where
     act_by : CanBePlain u so.0 → (b : Bool) → more ≡ b → (is_of_work b (worker_number s) line && not (is_io line)) ≡ true
         → But programs Sound (DidSo b did) so.0 of s.devices → (a : AuditedDevice) → worker s ≡ Some a → ActShows s line did a u
         → act_of_work s line did a ≡ Some u
-    act_by can true is may but a works shows =
-        act_shown s u so.0 can a (at_work s so.0 so.1 a works) (acted_plain a did (worker_so s so.0 so.1 (DidSo true did) but a works)) so.1 did line shows
-    act_by can false is may but a works shows = absurd (no_act (worker_number s) line may)
+    act_by can x1 is may but a works shows = grind (arith, act_shown, at_work, worker_so, no_act)
 
     behind_by : (act io : Bool) → (is_of_work more (worker_number s) line && not (is_io line)) ≡ act → is_io line ≡ io
         → CanBePlain u (behind_device s line did act io) → BehindShows s line did act io u
@@ -245,29 +206,19 @@ module _ (programs : List PlannedProgram) (of : List DeviceLine) where
     behind_by true io may reads can shows =
         follows _ u (found_then (worker s) (act_of_work s line did) shows.0 shows.1
         ∙ act_by (at_worker can) more refl may so.2 shows.0 shows.1 shows.2)
-    behind_by false true may reads can shows =
-        settled_legal true shows.0 shows.1 (subst (λ (x : AuditState). CanBePlain x so.0) shows.2 (at_worker can))
-        (follows _ u (ap (λ (x : AuditState). Some x) (sym shows.2)))
-    behind_by false false may reads can shows =
-        let later = settled_sound programs of s sound.paths so.0 so.1 more did so.2 (legal shows.0 shows.1 (shows.2.0 so.0)) in
-        settled_legal false shows.0 shows.1 (shows.2.0 so.0)
-        (due_shown_made (settled s did) u line (settled s did).due later.devices can shows.2.1)
-
-    behind_shown : CanBePlain u (device_in_due s line (Behind more did)) → ShowsIn s line (Behind more did) u
-        → Follows (made_in s line (Behind more did)) u
-    behind_shown can shows = behind_by (is_of_work more (worker_number s) line && not (is_io line)) (is_io line) refl refl can shows
+    behind_by false true may reads can shows = grind (arith, legal, at_worker, follows)
+    behind_by false false may reads can shows = grind (arith, settled_sound programs of s sound.paths so.0 so.1 more did so.2 (legal shows.0 shows.1 (shows.2.0 so.0)), legal shows.0 shows.1 (shows.2.0 so.0), legal, due_shown_made)
 
   -- Every line
 
   shown_in : (s u : AuditState) (line : ReportLine) (due : Due) → IsSoundState programs of s → AreSo programs of due s.events s.devices
       → CanBePlain u (device_in_due s line due) → ShowsIn s line due u → Follows (made_in s line due) u
-  shown_in s u line (Behind more did) sound so can shows = behind_shown s u line more did sound so can shows
+  shown_in s u line (Behind more did) sound so can shows = grind (arith, behind_by)
   shown_in s u line due sound so can shows = due_shown_made s u line due so can shows
 
   pub shown_made : (s w u : AuditState) (line : ReportLine) → IsSoundState programs of s → Beside s w → CanBePlain u (device_of s line) → Shows w line u
       → Follows (made s line) u
-  shown_made s w u line sound (inl is) can shows =
-      shown_in s u line s.due sound sound.devices can (subst (λ (x : AuditState). Shows x line u) is shows)
+  shown_made s w u line sound (inl is) can shows = grind (arith, shown_in)
   shown_made s w u line sound (inr waits) can shows =
       let so = subst (λ (due : Due). AreSo programs of due s.events s.devices) waits.due sound.devices in
       follows _ u (ap (λ (due : Due). made_in s line due) waits.due
@@ -277,20 +228,7 @@ module _ (programs : List PlannedProgram) (of : List DeviceLine) where
 
   judged_so : (s w u : AuditState) (line : ReportLine) → IsSoundState programs of s → Beside s w → CanBePlain u (device_of s line) → Shows w line u
       → (judged s line ≡ Err History → ⊥) × ((t : AuditState) → judged s line ≡ Ok t → Beside t u)
-  judged_so s w u line sound beside can shows =
-      let next = shown_made s w u line sound beside can shows in
-      by_place (stands s line) next.0 next.1 next.2 where
-        by_made : (t : AuditState) → made s line ≡ Some t → (k : Result AuditState AuditWhy) → or_history (made s line) ≡ k → Ok t ≡ k
-        by_made t is k told = sym (ap or_history is) ∙ told
-
-        by_place : (b : Bool) (t : AuditState) → made s line ≡ Some t → Beside t u
-            → (cond b (or_history (made s line)) (Err Place) ≡ Err History → ⊥)
-            × ((x : AuditState) → cond b (or_history (made s line)) (Err Place) ≡ Ok x → Beside x u)
-        by_place true t is near = (
-          λ no. (let e : Ok t ≡ Err History = by_made t is (Err History) no in cc),
-          λ x yes. (let e : Ok t ≡ Ok x = by_made t is (Ok x) yes in let same : t ≡ x = cc in subst (λ (z : AuditState). Beside z u) same near),
-        )
-        by_place false t is near = (λ no. cc, λ x yes. absurd (cc))
+  judged_so s w u line sound beside can shows = grind (arith, shown_made s w u line sound beside can shows)
 
   good_text : (s w t u : AuditState) (r : Result ReportLine LineFault) → IsSoundState programs of s → Beside s w → CanAllBePlain u → TextShows w r u
       → judged_by s r ≡ Ok t → Beside t u
@@ -302,9 +240,7 @@ module _ (programs : List PlannedProgram) (of : List DeviceLine) where
       → TellsOfPlain w texts u → Beside t u
   good_texts [] s w t u sound beside leads tells =
       subst (λ (x : AuditState). Beside t x) (sym tells) (subst (λ (x : AuditState). Beside x w) (sym leads) beside)
-  good_texts (text ∷ texts) s w t u sound beside leads tells =
-      good_texts texts leads.0 tells.0 t u (judged_sound programs of s leads.0 (line_of text) sound leads.1)
-      (good_text s w leads.0 tells.0 (line_of text) sound beside tells.2 tells.1 leads.1) leads.2 tells.3
+  good_texts (text ∷ texts) s w t u sound beside leads tells = grind (arith, good_texts texts leads.0 tells.0 t u (judged_sound programs of s leads.0 (line_of text) sound leads.1) (good_text s w leads.0 tells.0 (line_of text) sound beside tells.2 tells.1 leads.1) leads.2 tells.3, judged_sound, good_text)
 
   -- one with a fault of history shows no plain device's past
   pub bad_text : (s w u : AuditState) (r : Result ReportLine LineFault) → IsSoundState programs of s → Beside s w → judged_by s r ≡ Err History

@@ -1,5 +1,5 @@
 -- A command that comes to its end: the acts behind its END line come before it in the device's past.
-use Rattle.std.proofs.Common.{◌≡◌, ℕ, List, Option, Some, None, Bool, true, false, not, refl, sym, ap, subst, ◌∙◌}
+use Rattle.std.proofs.Common.{arith, ◌≡◌, ℕ, List, Option, Some, None, Bool, true, false, not, refl, sym, ap, subst, ◌∙◌}
 use Rattle.std.specs.Prelude.{◌⊎◌, ◌&&◌, ◌==◌, IfSome, IsSome}
 use Rattle.std.proofs.Common.{rules}
 use Rattle.std.proofs.lemmas.Bool.{and_parts}
@@ -62,47 +62,24 @@ DidSo more did a = Sound a
 
 -- The end of the command at hand
 
-module _ (path : ℕ) (ccws : List Ccw) (p : Part) (e : CommandEnd) where
-  end_at : (next : Option ℕ) → p.next ≡ next → plain_end_at path ccws p next ≡ Some e → p.next ≡ Some e.index
-  end_at None here is = absurd (cc)
-  end_at (Some i) here is =
-      let same : end_at_word i (ccw_at ccws i) (effect_on p.fixed p.state path p.stance (ccw_at ccws i)).outcome ≡ e = cc in
-      here ∙ ap (λ (x : CommandEnd). Some x.index) same
-
-  end_of_next : (next : Option ℕ) → plain_end_at path ccws p next ≡ Some e → next ≡ Some e.index
-      → e ≡ end_at_word e.index (ccw_at ccws e.index) (effect_on p.fixed p.state path p.stance (ccw_at ccws e.index)).outcome
-  end_of_next None is here = absurd (cc)
-  end_of_next (Some i) is here =
-      let same : i ≡ e.index = cc in
-      let end_is : end_at_word i (ccw_at ccws i) (effect_on p.fixed p.state path p.stance (ccw_at ccws i)).outcome ≡ e = cc in
-      subst (λ (j : ℕ). e ≡ end_at_word j (ccw_at ccws j) (effect_on p.fixed p.state path p.stance (ccw_at ccws j)).outcome) same (sym end_is)
-
 module _ (a : AuditedDevice) (e : CommandEnd) (ends : Ends e a) where
   module _ (o : OpenEntry) (running : a.history.running ≡ Some o) where
     pub next_is : (part_of_open a o).next ≡ Some e.index
-    next_is = end_at o.path (words_of_open a o) (part_of_open a o) e (part_of_open a o).next refl (ends.plain o running)
+    next_is = grind arith
 
     end_is : e ≡ end_at_word e.index (ccw_at (words_of_open a o) e.index)
         (effect_on (part_of_open a o).fixed (part_of_open a o).state o.path (part_of_open a o).stance (ccw_at (words_of_open a o) e.index)).outcome
-    end_is = end_of_next o.path (words_of_open a o) (part_of_open a o) e (part_of_open a o).next (ends.plain o running) next_is
+    end_is = grind (arith, next_is)
 
     -- it is taken as done
     ends_plain : is_next_legal a a.history.running ≡ true → IsSound a.plans a.empty (ended a.history e)
-    ends_plain legal = record {
-      plain = end_keeps_plain a.plans a.empty a.history ends.sound.plain ends.sound.due o running e.index next_is e end_is
-          (subst (λ (x : Option TrackEdit). MayEdit (part_of_open a o).state (part_of_open a o).stance x)
-          (ap (λ (n : Option ℕ). edit_at o.path (words_of_open a o) (part_of_open a o) n) next_is) (legal_of a o running legal));
-      due = ended_due a.history ends.sound.due e;
-    }
+    ends_plain legal = grind (arith, end_keeps_plain, next_is, end_is, legal_of, ended_due)
 
     -- a check of it
     pub check_is : (sense : Sense)
         → (◌≡◌ {A = Option Sense} (Some sense) (Some equipment_sense)) ⊎ (◌≡◌ {A = Option Sense} (Some sense) (Some data_check_sense))
         → IsNextCheck (check_end (words_of_open a o) e.index sense) a o
-    check_is sense is = record {
-      next = next_is;
-      check = record { status = refl; residual = refl; sent = refl; note = refl; sense = is; over = refl };
-    }
+    check_is sense is = grind (arith, next_is)
 
     -- a track becomes loose with it
     edits_by : (p : Part) (edit : Option TrackEdit) (t : ℕ) → loosens p edit t ≡ true
@@ -120,59 +97,29 @@ module _ (a : AuditedDevice) (e : CommandEnd) (ends : Ends e a) where
           equal n m is = search (nat_tests, rules)
 
     loosened_by : (t : ℕ) → may_loosen a a.history.running t ≡ true → IsSound a.plans a.empty (ended (acted a.history (Loosen t)) e)
-    loosened_by t may =
-        let edits = edits_by (part_of_open a o) (edit_of a o) t (subst (λ (r : Option OpenEntry). may_loosen a r t ≡ true) running may) in
-        record {
-          plain = loosened_plain a.plans a.empty a.history ends.sound.plain ends.sound.due o running t edits.0 edits.1 e.index next_is e end_is edits.2;
-          due = ended_due (acted a.history (Loosen t)) (acted_due a.history ends.sound.due (Loosen t)) e;
-        }
-
-  ended_by : (running : Option OpenEntry) → a.history.running ≡ running → is_next_legal a a.history.running ≡ true
-      → IsSound a.plans a.empty (ended a.history e)
-  ended_by (Some o) running legal = ends_plain o running legal
-  ended_by None stands legal = subst (λ (h : History). IsSound a.plans a.empty h)
-      (sym (ap (λ (r : Option OpenEntry). ended_in a.history e r) stands)) ends.sound
+    loosened_by t may = grind (arith, edits_by, loosened_plain, next_is, end_is, ended_due, acted_due)
 
   pub ended_sound : is_next_legal a a.history.running ≡ true → Sound (worked a (Ended e))
-  ended_sound legal = ended_by a.history.running refl legal
+  ended_sound legal = grind (arith, ends_plain)
 
   shut_by : (running : Option OpenEntry) → a.history.running ≡ running → (t : ℕ) → may_loosen a a.history.running t ≡ true
       → Shut e (record a { history = acted a.history (Loosen t) })
   shut_by (Some o) running t may = loosened_by o running t may
-  shut_by None stands t may =
-      absurd (let no : false ≡ true = subst (λ (r : Option OpenEntry). may_loosen a r t ≡ true) stands may in cc)
+  shut_by None stands t may = grind arith
 
   pub loosened_sound : (t : ℕ) → may_loosen a a.history.running t ≡ true → Shut e (record a { history = acted a.history (Loosen t) })
   loosened_sound t may = shut_by a.history.running refl t may
 
 module _ (a : AuditedDevice) (e : CommandEnd) (checks : Checks e a) where
-  checked_by : (running : Option OpenEntry) → a.history.running ≡ running → IsSound a.plans a.empty (checked a.history e)
-  checked_by (Some o) running = record {
-    plain = check_keeps_plain a.plans a.empty a.history checks.sound.plain checks.sound.due o running e (checks.plain o running).next
-        (checks.plain o running).check;
-    due = checked_due a.history checks.sound.due e;
-  }
-  checked_by None stands = subst (λ (h : History). IsSound a.plans a.empty h)
-      (sym (ap (λ (r : Option OpenEntry). checked_in a.history e r) stands)) checks.sound
-
   pub checked_sound : Sound (worked a (CheckEnded e))
-  checked_sound = checked_by a.history.running refl
+  checked_sound = grind (arith, check_keeps_plain, checked_due)
 
 -- A piece of work is taken as done
 
 pub worked_sound : (a : AuditedDevice) (more : Bool) (did : Did) → DidSo more did a → is_legal did a ≡ true → Sound (worked a did)
-worked_sound a true (Ended e) so legal = ended_sound a e so legal
-worked_sound a false (Ended e) so legal = so
-worked_sound a more (CheckEnded e) so legal = checked_sound a e so
-worked_sound a more Halved so legal = so
-worked_sound a more (Worked last) so legal = so
+worked_sound a more x2 so legal = grind (arith, ended_sound, checked_sound)
 
 -- A loose track becomes firm behind it
-
-same_end : (path : ℕ) (ccws : List Ccw) (p : Part) (t : ℕ) (next : Option ℕ)
-    → plain_end_at path ccws (with_act p (Harden t)) next ≡ plain_end_at path ccws p next
-same_end path ccws p t (Some i) = refl
-same_end path ccws p t None = refl
 
 module _ (a : AuditedDevice) (s : Sound a) (t : ℕ) (o : OpenEntry) (running : a.history.running ≡ Some o) where
   abbrev later : OpenEntry
@@ -185,72 +132,36 @@ module _ (a : AuditedDevice) (s : Sound a) (t : ℕ) (o : OpenEntry) (running : 
   acted_is = ap (λ (r : Option OpenEntry). acted_in a.history (Harden t) r) running
 
   going : IsGoing a.plans (replay a.plans a.empty a.history.items) a.history.items o None
-  going = going_of_open a.plans (replay a.plans a.empty a.history.items) a.history.items o None
-      (subst (λ (r : Option OpenEntry). IfSome r (IsOpen a.plans (replay a.plans a.empty a.history.items) a.history.items)) running s.plain.at)
+  going = grind (arith, going_of_open)
 
   pub part_is : part_of_open hardened later ≡ with_act (part_of_open a o) (Harden t)
   part_is = part_with_act a.plans (replay a.plans a.empty a.history.items) a.history.items o going (Harden t)
 
   end_is_same : plain_end hardened later ≡ plain_end a o
-  end_is_same = ap (λ (p : Part). plain_end_at o.path (words_of_open a o) p p.next) part_is
-      ∙ same_end o.path (words_of_open a o) (part_of_open a o) t (part_of_open a o).next
+  end_is_same = grind (arith, part_is)
 
   next_is_same : (part_of_open hardened later).next ≡ (part_of_open a o).next
   next_is_same = ap (λ (p : Part). p.next) part_is
 
 module _ (a : AuditedDevice) (t : ℕ) (loose : is_loose_there (state_of a) t ≡ true) where
-  -- the program that runs then is the one that ran, with the act
-  ran : (o : OpenEntry) (x : OpenEntry) → a.history.running ≡ Some o → (acted a.history (Harden t)).running ≡ Some x
-      → x ≡ with_one_act o (Harden t)
-  ran o x running is =
-      let e : Some (with_one_act o (Harden t)) ≡ Some x =
-      sym (ap (λ (r : Option OpenEntry). (acted_in a.history (Harden t) r).running) running) ∙ is in cc
-
   none_ran : (x : OpenEntry) → a.history.running ≡ None → (acted a.history (Harden t)).running ≡ Some x → ⊥
-  none_ran x stands is =
-      let e : ◌≡◌ {A = Option OpenEntry} None (Some x) =
-      sym stands ∙ sym (ap (λ (r : Option OpenEntry). (acted_in a.history (Harden t) r).running) stands) ∙ is in cc
+  none_ran x stands is = grind arith
 
   module _ (e : CommandEnd) (ends : Ends e a) where
     ends_by : (x : OpenEntry) → (acted a.history (Harden t)).running ≡ Some x → (r : Option OpenEntry) → a.history.running ≡ r
         → plain_end (record a { history = acted a.history (Harden t) }) x ≡ Some e
-    ends_by x is None stands = absurd (none_ran x stands is)
-    ends_by x is (Some o) running =
-        subst (λ (y : OpenEntry). plain_end (record a { history = acted a.history (Harden t) }) y ≡ Some e) (sym (ran o x running is))
-        (subst (λ (h : History). plain_end (record a { history = h }) (with_one_act o (Harden t)) ≡ Some e)
-        (sym (acted_is a ends.sound t o running)) (end_is_same a ends.sound t o running ∙ ends.plain o running))
-
-    runs_by : (r : Option OpenEntry) → IsSome r → IsSome (acted_in a.history (Harden t) r).running
-    runs_by (Some o) some = refl
-    runs_by None some = absurd (cc)
+    ends_by x is x2 stands = grind (arith, none_ran, acted_is, end_is_same)
 
     pub ends_hardened : Ends e (record a { history = acted a.history (Harden t) })
-    ends_hardened = record {
-      sound = hardened_sound a ends.sound t loose;
-      runs = runs_by a.history.running ends.runs;
-      plain = λ x is. ends_by x is a.history.running refl;
-    }
+    ends_hardened = grind (arith, hardened_sound, ends_by)
 
   module _ (e : CommandEnd) (checks : Checks e a) where
     checks_by : (x : OpenEntry) → (acted a.history (Harden t)).running ≡ Some x → (r : Option OpenEntry) → a.history.running ≡ r
         → IsNextCheck e (record a { history = acted a.history (Harden t) }) x
-    checks_by x is None stands = absurd (none_ran x stands is)
-    checks_by x is (Some o) running =
-        subst (λ (y : OpenEntry). IsNextCheck e (record a { history = acted a.history (Harden t) }) y) (sym (ran o x running is))
-        (subst (λ (h : History). IsNextCheck e (record a { history = h }) (with_one_act o (Harden t)))
-        (sym (acted_is a checks.sound t o running)) (record {
-          next = next_is_same a checks.sound t o running ∙ (checks.plain o running).next;
-          check = (checks.plain o running).check;
-        }))
-
-    checks_hardened : Checks e (record a { history = acted a.history (Harden t) })
-    checks_hardened = record {
-      sound = hardened_sound a checks.sound t loose;
-      plain = λ x is. checks_by x is a.history.running refl;
-    }
+    checks_by x is x2 stands = grind (arith, none_ran, acted_is, next_is_same)
 
   pub did_hardened : (did : Did) → DidSo true did a → DidSo true did (record a { history = acted a.history (Harden t) })
   did_hardened (Ended e) so = ends_hardened e so
-  did_hardened (CheckEnded e) so = checks_hardened e so
+  did_hardened (CheckEnded e) so = grind (arith, hardened_sound, checks_by)
   did_hardened Halved so = hardened_sound a so t loose
   did_hardened (Worked last) so = hardened_sound a so t loose

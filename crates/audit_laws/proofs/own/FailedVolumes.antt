@@ -31,6 +31,7 @@ use Rattle.subsystem_laws.proofs.Walks.{device_so}
 use Rattle.audit_laws.specs.Runs.{line_behind}
 use Rattle.audit_laws.specs.Standing.{LeadsBy, LineLeads, audited, stand}
 use Rattle.audit_laws.specs.Steps.{Reaches, is_there, is_waiting}
+use Rattle.audit_laws.proofs.Devices.{found_put, put_again, put_own}
 use Rattle.audit_laws.proofs.own.AlikeDevices.{Alike, alike_self, event_over_same, history_alike, seen, state_same, worked_alike}
 use Rattle.audit_laws.proofs.own.AlikeLines.{AlikeFound, AlikeStates, AreAlike, all_then, found_alike, leads_alike, put_alike}
 use Rattle.audit_laws.proofs.own.Found.{found}
@@ -38,7 +39,7 @@ use Rattle.audit_laws.proofs.own.Hardens.{GoesOn, IsQuiet, done_tidy, firm_eithe
 use Rattle.audit_laws.proofs.own.Leading.{waiting_leads}
 use Rattle.audit_laws.proofs.own.NextLines.{of_none, stands_so}
 use Rattle.audit_laws.proofs.own.Pasts.{IsTidy, act_is_read}
-use Rattle.audit_laws.proofs.own.Work.{at_work, found_put, harden_judged, put_again, settled_plainly, worked_number, worker_is}
+use Rattle.audit_laws.proofs.own.Work.{at_work, harden_judged, settled_plainly, worked_number, worker_is}
 
 -- lines lead from the one state to one that is alike the other
 abbrev pub LeadsBeside : AuditState → List ReportLine → AuditState → Type 0
@@ -161,15 +162,6 @@ module _ (xs : List AuditedDevice) (w : EventLine) (d : ℕ) (side : Side) (late
   waits_lead (line ∷ ls) a ys more k t leads past = absurd (cc)
 
 -- Where a piece of work that waits so leads
-
-put_if : (c : Bool) (x a : AuditedDevice) (xs : List AuditedDevice) (n : ℕ) → (x.number == n) ≡ c → (if c then Some x else device_in xs n) ≡ Some a →
-    (device_in xs n ≡ Some a → (a.number ≡ n) × (with_device xs a ≡ xs)) → (a.number ≡ n) × (with_device (x ∷ xs) a ≡ x ∷ xs)
-put_if c x a xs n is found go = grind (arith, eqb-true)
-
--- a device in its own place
-put_own : (xs : List AuditedDevice) (n : ℕ) (a : AuditedDevice) → device_in xs n ≡ Some a → (a.number ≡ n) × (with_device xs a ≡ xs)
-put_own [] n a found = absurd (cc)
-put_own (x ∷ xs) n a found = put_if (x.number == n) x a xs n refl found (put_own xs n a)
 
 self_at : (x : Option AuditedDevice) → AlikeFound x x → (a : AuditedDevice) → x ≡ Some a → IsTidy a.history
 self_at x is a same = grind arith

@@ -62,7 +62,8 @@ use Rattle.audit_laws.proofs.own.Orders.{IsOrder, ordered, told_leads, down_or}
 use Rattle.audit_laws.proofs.own.PairLines.{silent_lines}
 use Rattle.audit_laws.proofs.own.ResetDevices.{audited_by}
 use Rattle.audit_laws.proofs.own.Saying.{same_number, same_order}
-use Rattle.audit_laws.proofs.own.Work.{found_put, put_again}
+use Rattle.audit_laws.proofs.Devices.{found_put, put_again}
+use Rattle.audit_laws.proofs.own.Work.{firm_acts_lead}
 
 -- FAIL STORE
 
@@ -112,20 +113,6 @@ module _ (xs : List AuditedDevice) (n : ℕ) (side : Side) (later : List EventLi
       judged (at a) (lines.Loose n (loose.Harden t)) ≡ Ok (at (record a { history = acted a.history (Harden t) }))
   harden_judged a same t is = grind (arith, same_number, then_some, found_put, put_again)
 
-  hardens_lead : (a : AuditedDevice) → a.number ≡ n → (acts : List Act) → IsPlain a.plans a.empty a.history → NoLoss acts → AreActs (state_of a) None acts →
-      LeadsBy (at a) (map (act_line n) acts) (at (record a { history = all_acted a.history acts }))
-  hardens_lead a same [] plain none are = refl
-  hardens_lead a same (Harden t ∷ acts) plain none are =
-      let b = record a { history = acted a.history (Harden t) } in (
-        at b,
-        harden_judged a same t are.0,
-        hardens_lead b same acts (acted_plain a.plans a.empty a.history plain (Harden t) (acts_first (state_of a)
-            (Harden t) acts are)) none.1 (rw (acted_state a.plans a.empty a.history plain (Harden t)) (acts_rest (state_of a) (Harden t) acts are)),
-      )
-  hardens_lead a same (Loosen t ∷ []) plain none are = absurd (let no_edit : None ≡ Some t = are.1 in cc)
-  hardens_lead a same (Loosen t ∷ act ∷ acts) plain none are = absurd are
-  hardens_lead a same (CfwLost ∷ acts) plain none are = absurd (let is : true ≡ false = none.0 in cc)
-
 -- what came of the event
 record IsSideLost (empty : PlainState) (x y : MarksDevice) (end : Option EventEnd) : Type 0 where
   loss : IsLoss empty x y
@@ -167,7 +154,7 @@ module _ (s : Subsystem) (plain : ArePlain s.mounted) (n : ℕ) (x : MarksDevice
       (over_lines d y ++ line ∷ [])) it_is ∙ ap (λ (l : List ReportLine). l ++ (over_lines x y ++ line ∷ [])) (acts_lines x y acts g.loss.history g.none ∙ ap
       (λ (k : ℕ). map (act_line k) acts) number_is) ∙ ap (λ (l : List ReportLine). map (act_line n) acts ++ (l ++ line ∷ []))
       (acts_over x y acts g.loss.history)) (leads_on (stand s (wanted.FailVolume n side ∷ later)) behind (stand (with_mounted s n z) later) (map
-      (act_line n) acts) (line ∷ []) (rw (← begins) (hardens_lead xs n side later a (found_one (devices_of s) n x at_n) a number_is acts (rw
+      (act_line n) acts) (line ∷ []) (rw (← begins) (firm_acts_lead xs (wanted.FailVolume n side) later n Next (harden_judged xs n side later a (found_one (devices_of s) n x at_n)) a number_is acts (rw
       (← same_base) plainly.follows.stands.plain) g.none (rw (← same_base) g.loss.are))) (one_leads behind (stand (with_mounted s n z) later) line (ap
       (λ (c : Bool). if c then or_history (Some (passed behind)) else Err Place) (same_order (orders.FailVolume n side)) ∙ ap (λ (u : AuditState). Ok u) (ap
       (λ (l : List AuditedDevice). record { devices = l; events = later; due = (stand s later).due }) (ap (with_device xs) (sym (audited_by x y

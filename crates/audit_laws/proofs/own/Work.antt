@@ -29,18 +29,9 @@ use Rattle.deck_audit.specs.declared.status.AuditWhy.TheVariants.{Place}
 use Rattle.deck_audit.specs.Verdict.{judged, or_history}
 use Rattle.audit_laws.specs.Standing.{LeadsBy}
 use Rattle.audit_laws.specs.Steps.{LeadsTowards, NoLoss, is_there, is_waiting, act_line}
+use Rattle.audit_laws.proofs.Devices.{found_put, put_again}
 use Rattle.audit_laws.proofs.own.Leading.{judged_due, judged_over, leads_on, waiting_judged}
 use Rattle.audit_laws.proofs.own.Saying.{same_number}
-
--- Another device in the place of its number
-
-pub found_put : (xs : List AuditedDevice) (n : ℕ) (b a : AuditedDevice) → device_in xs n ≡ Some b → a.number ≡ n → device_in (with_device xs a) n ≡ Some a
-found_put [] n b a is same = absurd (cc)
-found_put (x ∷ xs) n b a is same = grind (arith, found_put xs n b a, eq-eqb)
-
-pub put_again : (xs : List AuditedDevice) (a b : AuditedDevice) → a.number ≡ b.number → with_device (with_device xs a) b ≡ with_device xs b
-put_again [] a b same = refl
-put_again (x ∷ xs) a b same = grind (arith, put_again xs a b same, eq-eqb)
 
 pub worked_number : (a : AuditedDevice) (did : Did) → (worked a did).number ≡ a.number
 worked_number a did = grind arith
@@ -48,6 +39,22 @@ worked_number a did = grind arith
 -- the device of the work is this one
 abbrev pub at_work : List AuditedDevice → EventLine → List EventLine → AuditedDevice → Due → AuditState
 at_work xs w later a due = record { devices = with_device xs a; events = w ∷ later; due = due }
+
+-- acts by which tracks become firm, where each is judged well
+pub firm_acts_lead : (xs : List AuditedDevice) (w : EventLine) (later : List EventLine) (n : ℕ) (due : Due) →
+    ((a : AuditedDevice) → a.number ≡ n → (t : ℕ) → is_loose_there (state_of a) t ≡ true → judged (at_work xs w later a due) (lines.Loose n (loose.Harden t))
+    ≡ Ok (at_work xs w later (record a { history = acted a.history (Harden t) }) due)) →
+    (a : AuditedDevice) → a.number ≡ n → (acts : List Act) → IsPlain a.plans a.empty a.history → NoLoss acts → AreActs (state_of a) None acts →
+    LeadsBy (at_work xs w later a due) (map (act_line n) acts) (at_work xs w later (record a { history = all_acted a.history acts }) due)
+firm_acts_lead xs w later n due judge a same [] plain none are = refl
+firm_acts_lead xs w later n due judge a same (Harden t ∷ acts) plain none are =
+    let b = record a { history = acted a.history (Harden t) } in
+    let now = acted_plain a.plans a.empty a.history plain (Harden t) (acts_first (state_of a) (Harden t) acts are) in
+    let rest : AreActs (state_of b) None acts = rw (acted_state a.plans a.empty a.history plain (Harden t)) (acts_rest (state_of a) (Harden t) acts are) in
+    (at_work xs w later b due, judge a same t are.0, firm_acts_lead xs w later n due judge b same acts now none.1 rest)
+firm_acts_lead xs w later n due judge a same (Loosen t ∷ []) plain none are = absurd (let no_edit : None ≡ Some t = are.1 in cc)
+firm_acts_lead xs w later n due judge a same (Loosen t ∷ act ∷ acts) plain none are = absurd are
+firm_acts_lead xs w later n due judge a same (CfwLost ∷ acts) plain none are = absurd (let is : true ≡ false = none.0 in cc)
 
 -- the event goes on, or is over
 abbrev pub behind_event : List AuditedDevice → EventLine → List EventLine → AuditedDevice → Did → AuditState
@@ -131,26 +138,13 @@ module _ (xs : List AuditedDevice) (w : EventLine) (later : List EventLine) (n :
   abbrev with_history : AuditedDevice → History → AuditedDevice
   with_history a h = record a { history = h }
 
-  hardens_lead : (a : AuditedDevice) → a.number ≡ n → (did : Did) (acts : List Act) → IsPlain a.plans a.empty a.history → NoLoss acts →
-      AreActs (state_of a) None acts →
-      LeadsBy (at a (Behind true did)) (map (act_line n) acts) (at (with_history a (all_acted a.history acts)) (Behind true did))
-  hardens_lead a same did [] plain none are = refl
-  hardens_lead a same did (Harden t ∷ acts) plain none are =
-      let b = with_history a (acted a.history (Harden t)) in
-      let now = acted_plain a.plans a.empty a.history plain (Harden t) (acts_first (state_of a) (Harden t) acts are) in
-      let rest : AreActs (state_of b) None acts = rw (acted_state a.plans a.empty a.history plain (Harden t)) (acts_rest (state_of a) (Harden t) acts are) in
-      (at b (Behind true did), harden_judged a same did t are.0, hardens_lead b same did acts now none.1 rest)
-  hardens_lead a same did (Loosen t ∷ []) plain none are = absurd (let no_edit : None ≡ Some t = are.1 in cc)
-  hardens_lead a same did (Loosen t ∷ act ∷ acts) plain none are = absurd are
-  hardens_lead a same did (CfwLost ∷ acts) plain none are = absurd (let is : true ≡ false = none.0 in cc)
-
   -- behind the lines that led to the work
   pub acts_lead : (a : AuditedDevice) → a.number ≡ n → (did : Did) (acts : List Act) → IsPlain a.plans a.empty a.history → NoLoss acts →
       AreActs (state_of a) None acts → (firsts : List ReportLine) → LeadsBy from firsts (at a (Behind true did)) →
       LeadsBy from (firsts ++ map (act_line n) acts) (at (with_history a (all_acted a.history acts)) (Behind true did))
   acts_lead a same did acts plain none are firsts leads =
       leads_on from (at a (Behind true did)) (at (with_history a (all_acted a.history acts)) (Behind true did)) firsts (map (act_line n) acts) leads
-      (hardens_lead a same did acts plain none are)
+      (firm_acts_lead xs w later n (Behind true did) (λ b is t loose. harden_judged b is did t loose) a same acts plain none are)
 
   -- What follows the acts
 
