@@ -101,4 +101,4 @@ module _ (programs : List PlannedProgram) where
   -- or something else is so of it
   pub but_told : (F G H : AuditedDevice → Type 0) (d : ℕ) (lines : List DeviceLine) (ds : List AuditedDevice) → But F G d lines ds →
       (a : AuditedDevice) → device_in ds d ≡ Some a → (G a → H a) → But F H d lines ds
-  but_told x0 x1 x2 d lines ds but a found go = grind arith
+  but_told F G H d lines ds but a found go = grind arith

@@ -44,7 +44,7 @@ end_no n due m why is none = let e : Yes ≡ No m why = sym (ap (at_end n) none)
 yes_by : (n : ℕ) (s : AuditState) (text : List ℕ) (texts : List (List ℕ)) (r : Result AuditState AuditWhy) → judged_text s text ≡ r
     → or_no n r (λ t. judged_lines (n + 1) t texts) ≡ Yes → ((u : AuditState) → judged_lines (n + 1) u texts ≡ Yes → HasNoFault u texts)
     → HasNoFault s (text ∷ texts)
-yes_by n s text texts x4 is told more = grind arith
+yes_by n s text texts r is told more = grind arith
 
 yes_leads : (n : ℕ) (s : AuditState) (texts : List (List ℕ)) → judged_lines n s texts ≡ Yes → HasNoFault s texts
 yes_leads n s [] told = grind arith
@@ -87,6 +87,10 @@ leads_no n s (text ∷ texts) m why (suc good) state within number leads fault =
 
 -- A text
 
+pub read_short : (text : List ℕ) → length text ≤ 268435456 → read_back text ≡ read_back_at text (report_from 0 (cut_lines text))
+unfolding read_back
+read_short text short = grind (arith, nat_tests)
+
 pub read_long : (text : List ℕ) → 268435456 < length text → read_back text ≡ Limit Size
 unfolding read_back
 read_long text long = grind (arith, nat_tests)
@@ -105,7 +109,7 @@ IsVerdict _ = ⊥
 
 reported_by : (text : List ℕ) (status : AuditStatus) (at : Option ℕ) (r : Result DeckLines DeckFault) → IsVerdict status → length text ≤ 268435456
     → report_from 0 (cut_lines text) ≡ at → parsed (deck_part text at) ≡ r → deck_judged r text at ≡ status → IsReported text status
-reported_by text status at x3 verdict short found parses comes = grind arith
+reported_by text status at r verdict short found parses comes = grind arith
 
 reported : (text : List ℕ) (status : AuditStatus) → IsVerdict status → read_back text ≡ status → IsReported text status
 unfolding read_back

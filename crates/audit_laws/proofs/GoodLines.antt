@@ -61,7 +61,7 @@ near_same s w x2 none = grind arith
 
 module _ (a : AuditedDevice) (path n : ℕ) where
   own_by : (b : Bool) → cond b start.Running (lent_answer a path a.lent) ≡ start.Accepted n → a.lent ≡ None
-  own_by x0 is = grind arith
+  own_by b is = grind arith
 
   starts_own : start_answer a path ≡ start.Accepted n → a.lent ≡ None
   starts_own is = own_by (own_runs a.history.running path) is
@@ -94,7 +94,7 @@ module _ (s t w : AuditState) (near : Near t w) where
     awaited due is sense told (inr waits) = grind arith
 
     no_sense : (sent : List ℕ) → awaits_sense (behind_end p sent) ≡ false
-    no_sense x0 = grind arith
+    no_sense sent = grind arith
 
     end_tests : (b : Bool) → shows_end a o line (check_end (words_of_open a o) p.index equipment_sense) ≡ b
         → cond b (Some (at (SenseOf p))) (cond (shows_end a o line p) (Some (at (behind_end p p.sent))) None) ≡ Some t
@@ -109,7 +109,7 @@ module _ (s t w : AuditState) (near : Near t w) where
 
   end_by : (line : ReportLine) (a : AuditedDevice) (o : OpenEntry) (end : Option CommandEnd) → end_made_by s line a o end ≡ Some t
       → (e : CommandEnd) × EndIs (changed s (record a { half = Closed })) line a o e (looks_checked a o line e) w
-  end_by line a o x3 is = grind (arith, end_tests)
+  end_by line a o end is = grind (arith, end_tests)
 
   passed_good : Some (passed s) ≡ Some t → Some (passed s) ≡ Some w
   passed_good is = kept (Some (passed s)) is (some_due (passed s) is refl)
@@ -120,7 +120,7 @@ module _ (s t w : AuditState) (near : Near t w) where
   -- Orders
 
   unpair_due : (a : ℕ) (b : Bool) → cond b None (Some (passed (record s { devices = map (given_back a) s.devices }))) ≡ Some t → awaits_sense t.due ≡ false
-  unpair_due a x1 is = grind (arith, some_due)
+  unpair_due a b is = grind (arith, some_due)
 
   done_due : (event : EventLine) → done_order s event ≡ Some t → awaits_sense t.due ≡ false
   done_due event is = grind (arith, some_due, then_some, unpair_due)
@@ -166,14 +166,14 @@ module _ (s t w : AuditState) (near : Near t w) where
   totals_due line k none = grind arith
 
   next_good : (line : ReportLine) (es : List EventLine) → awaits_sense s.due ≡ false → next_made s line es ≡ Some t → NextShows s line es w
-  next_good line x1 none is = grind (arith, event_good, same, same_some, totals_due)
+  next_good line es none is = grind (arith, event_good, same, same_some, totals_due)
 
   work_due : (b : Bool) → awaits_sense (cond b (passed s) (record s { due = Next })).due ≡ false
-  work_due x0 = grind arith
+  work_due b = grind arith
 
   pub due_good : (line : ReportLine) (due : Due) → awaits_sense s.due ≡ false → awaits_sense due ≡ false → due_made s line due ≡ Some t
       → DueShows s line due w
-  due_good line x1 none other is = grind (arith, next_good, kept, if_some, then_some, work_due, same, and_parts, done_due, passed_good, some_due, power_good, totals_due)
+  due_good line due none other is = grind (arith, next_good, kept, if_some, then_some, work_due, same, and_parts, done_due, passed_good, some_due, power_good, totals_due)
 
   -- Behind a piece of work
 
@@ -181,7 +181,7 @@ module _ (s t w : AuditState) (near : Near t w) where
   act_good line did a is = grind (arith, same, if_some)
 
 pub holds_some : {T : Type 0} (x : Option T) (is : T → Bool) → holds x is ≡ true → (y : T) × (x ≡ Some y)
-holds_some x0 is so = grind arith
+holds_some x is so = grind arith
 
 settled_due : (s : AuditState) (did : Did) (a : AuditedDevice) → worker s ≡ Some a → awaits_sense (settled s did).due ≡ false
 settled_due s did a works = grind arith
@@ -198,7 +198,7 @@ module _ (s t w : AuditState) (near : Near t w) (line : ReportLine) (more : Bool
 
   behind_by : (act io : Bool) → cond act (then_of (worker s) (act_of_work s line did)) (cond (not (holds (worker s) (is_legal did))) None
       (cond io (Some (settled s did)) (due_made (settled s did) line (settled s did).due))) ≡ Some t → BehindShows s line did act io w
-  behind_by x0 io is = grind (arith, then_some, act_good, settled_good)
+  behind_by act io is = grind (arith, then_some, act_good, settled_good)
 
   pub behind_good : behind_made s line more did ≡ Some t → ShowsIn s line (Behind more did) w
   behind_good is = behind_by (is_of_work more (worker_number s) line && not (is_io line)) (is_io line) is

@@ -83,7 +83,7 @@ module _ (s t w : AuditState) (near : Near t w) (can : CanAllBePlain w) (line : 
   check_tests o running other false false first second is = absurd (cc)
 
   running_one : (r : Option OpenEntry) → IsSome r → (o : OpenEntry) × (r ≡ Some o)
-  running_one x0 some = grind arith
+  running_one r some = grind arith
 
   sense_tests : (b : Bool) → has_sense line p.sense ≡ b
       → cond b (Some (record s { due = Behind true (Ended p) })) (then_of a.history.running (check_made s line a p)) ≡ Some t → Told

@@ -53,18 +53,18 @@ use Rattle.audit_laws.proofs.Works.{Checks, DidSo, Ends, IsNextCheck, check_is, 
 -- What an answer says
 
 pub then_some : {S T : Type 0} (x : Option S) (go : S → Option T) (t : T) → then_of x go ≡ Some t → (y : S) × (x ≡ Some y) × (go y ≡ Some t)
-then_some x0 go t is = grind arith
+then_some x go t is = grind arith
 
 pub same_some : {T : Type 0} (x y : T) → Some x ≡ Some y → x ≡ y
 same_some x y is = cc
 
 pub if_some : {T : Type 0} (b : Bool) (x t : T) → cond b (Some x) None ≡ Some t → (b ≡ true) × (x ≡ t)
-if_some x0 x t is = grind (arith, same_some)
+if_some b x t is = grind (arith, same_some)
 
 -- no act comes behind the last one
 
 pub no_act : (worker : Option ℕ) (line : ReportLine) → (is_of_work false worker line && not (is_io line)) ≡ true → ⊥
-no_act x0 line is = grind arith
+no_act worker line is = grind arith
 
 -- The paths of the events
 
@@ -77,7 +77,7 @@ AreOnPaths [] = ⊤
 AreOnPaths (event ∷ events) = IsOnPath event × AreOnPaths events
 
 on_path : (es : List EventLine) (event : EventLine) → AreOnPaths es → first_event es ≡ Some event → IsOnPath event
-on_path x0 event on is = grind (arith, same_some)
+on_path es event on is = grind (arith, same_some)
 
 module _ (programs : List PlannedProgram) (of : List DeviceLine) where
   -- What is so of the devices where this is due
@@ -102,10 +102,10 @@ module _ (programs : List PlannedProgram) (of : List DeviceLine) where
   Sounds None = ⊤
 
   if_so : (b : Bool) (x y : Option AuditState) → (b ≡ true → Sounds x) → (b ≡ false → Sounds y) → Sounds (cond b x y)
-  if_so x0 x y then_so else_so = grind (arith, then_so)
+  if_so b x y then_so else_so = grind (arith, then_so)
 
   then_so : {S : Type 0} (x : Option S) (go : S → Option AuditState) → ((y : S) → x ≡ Some y → Sounds (go y)) → Sounds (then_of x go)
-  then_so x0 go so = grind arith
+  then_so x go so = grind arith
 
   module _ (s : AuditState) (paths : AreOnPaths s.events) where
     passed_sound : (ds : List AuditedDevice) → Each programs Sound of ds → IsSoundState (passed (record s { devices = ds }))
@@ -195,11 +195,11 @@ module _ (programs : List PlannedProgram) (of : List DeviceLine) where
           (found : device_in s.devices d ≡ Some a) where
         at_work : (G : AuditedDevice → Type 0) (half : HalfWrite) → (Sound a → G (record a { half = half }))
             → AtWork G s.events (with_device s.devices (record a { half = half }))
-        at_work x0 half go = grind (arith, but_put, but_of_each programs Sound d of s.devices each)
+        at_work G half go = grind (arith, but_put, but_of_each programs Sound d of s.devices each)
 
         end_due_sound : (e : CommandEnd) (sent : List ℕ) → (Sound a → Ends e (record a { half = Closed }))
             → AreSo (behind_end e sent) s.events (with_device s.devices (record a { half = Closed }))
-        end_due_sound e x1 go = grind (arith, at_work)
+        end_due_sound e sent go = grind (arith, at_work)
 
         end_sound : (line : ReportLine) (running : Option OpenEntry) → a.history.running ≡ running → Sounds (end_made s line a running)
         end_sound line x1 running = grind (arith, if_so, at_work, end_due_sound, same_some)
@@ -226,7 +226,7 @@ module _ (programs : List PlannedProgram) (of : List DeviceLine) where
       -- Behind a piece of work that is over
 
       behind_tests : (b : Bool) → IsSoundState (cond b (passed s) (record s { due = Next }))
-      behind_tests x0 = grind (arith, passed_sound)
+      behind_tests b = grind (arith, passed_sound)
 
       totals_sound : (line : ReportLine) (k : ℕ) → IsSoundState s → IsSoundState (totals_made s line k)
       totals_sound line k sound = grind arith
@@ -270,7 +270,7 @@ module _ (programs : List PlannedProgram) (of : List DeviceLine) where
 
     act_sound : (more : Bool) (did : Did) → But programs Sound (DidSo more did) d of s.devices → (line : ReportLine)
         → (is_of_work more (worker_number s) line && not (is_io line)) ≡ true → Sounds (then_of (worker s) (act_of_work s line did))
-    act_sound x0 did but line may = grind (arith, then_so, act_by, found_of, no_act)
+    act_sound more did but line may = grind (arith, then_so, act_by, found_of, no_act)
 
     -- The work is taken as done
 
@@ -282,7 +282,7 @@ module _ (programs : List PlannedProgram) (of : List DeviceLine) where
         stays did = grind arith
 
       settled_to : (over : Option ReportLine) → IsSoundState (settled_by s a did over)
-      settled_to x0 = grind (arith, worked_each, behind_tests)
+      settled_to over = grind (arith, worked_each, behind_tests)
 
     pub settled_sound : (more : Bool) (did : Did) → But programs Sound (DidSo more did) d of s.devices → holds (worker s) (is_legal did) ≡ true
         → IsSoundState (settled s did)
@@ -325,7 +325,7 @@ module _ (programs : List PlannedProgram) (of : List DeviceLine) where
   -- Lines one after another
 
   pub judged_sound : (s t : AuditState) (r : Result ReportLine LineFault) → IsSoundState s → judged_by s r ≡ Ok t → IsSoundState t
-  judged_sound s t x2 sound is = grind (arith, made_by)
+  judged_sound s t r sound is = grind (arith, made_by)
 
   pub leads_sound : (s t : AuditState) (texts : List (List ℕ)) → IsSoundState s → LeadsTo s texts t → IsSoundState t
   leads_sound s t [] sound leads = subst (λ (u : AuditState). IsSoundState u) (sym leads) sound

@@ -22,12 +22,12 @@ use Rattle.audit_laws.proofs.Telling.{bad_text, good_texts, result_device}
 -- no line
 
 no_form_by : (b : Bool) (x : Option AuditState) → cond b (or_history x) (Err Place) ≡ Err Form → ⊥
-no_form_by x0 x is = grind arith
+no_form_by b x is = grind arith
 
 -- no line that may stand there
 
 place_by : (b : Bool) (x : Option AuditState) → cond b (or_history x) (Err Place) ≡ Err Place → b ≡ false
-place_by x0 x is = grind arith
+place_by b x is = grind arith
 
 place_so : (s : AuditState) (r : Result ReportLine LineFault) → judged_by s r ≡ Err Place → (line : ReportLine) × (r ≡ Ok line) × (stands s line ≡ false)
 place_so s (Err fault) is = absurd (cc)

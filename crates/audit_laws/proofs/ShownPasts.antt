@@ -30,7 +30,7 @@ use Rattle.audit_laws.proofs.Converses.{goes_with, idle_act, next_before, part_a
 -- Tests
 
 edit_legal : (p : Part) (edit : Option TrackEdit) → MayEdit p.state p.stance edit → is_edit_legal p edit ≡ true
-edit_legal p x1 may = grind arith
+edit_legal p edit may = grind arith
 
 -- the first of acts that may come
 abbrev pub First : PlainState → Act → Type 0
@@ -39,10 +39,10 @@ First s (Harden t) = is_loose_there s t ≡ true
 First s CfwLost = IsSomeLoose s.loose
 
 first_of : (s : PlainState) (edited : Option ℕ) (act : Act) (acts : List Act) → AreActs s edited (act ∷ acts) → First s act
-first_of s edited x2 acts are = grind arith
+first_of s edited act acts are = grind arith
 
 no_loosen : (s : PlainState) (t : ℕ) (acts : List Act) → AreActs s None (Loosen t ∷ acts) → ⊥
-no_loosen s t x2 are = grind arith
+no_loosen s t acts are = grind arith
 
 -- While no program runs
 
@@ -137,7 +137,7 @@ module _ (a : AuditedDevice) where
     -- a track that becomes loose
     same_edit : (p : Part) (t : ℕ) (next : Option ℕ)
         → edit_at o.path (words_of_open a o) (with_act p (Loosen t)) next ≡ edit_at o.path (words_of_open a o) p next
-    same_edit p t x2 = grind arith
+    same_edit p t next = grind arith
 
     last_loose : (loose : List LooseTrack) (l : LooseTrack) (t : ℕ) → l.track ≡ t → is_loose_in (loose ++ l ∷ []) t ≡ true
     last_loose [] l t is = ap (λ (b : Bool). cond b true false) (eq-eqb l.track t is)
@@ -145,7 +145,7 @@ module _ (a : AuditedDevice) where
 
     loosens_by : (p : Part) (t : ℕ) (edit : Option TrackEdit) → is_loose_there p.state t ≡ false → track_of edit ≡ Some t
         → MayEdit (act_done p.state (Loosen t)) p.stance edit → loosens p edit t ≡ true
-    loosens_by p t x2 firm edits may = grind (arith, and_from, eq-eqb, last_loose)
+    loosens_by p t edit firm edits may = grind (arith, and_from, eq-eqb, last_loose)
 
     pub loosened_so : (t : ℕ) (e : CommandEnd) → IsPlain a.plans a.empty (ended (acted a.history (Loosen t)) e)
         → may_loosen a a.history.running t ≡ true
@@ -179,7 +179,7 @@ module _ (a : AuditedDevice) where
 
     idle_work : (did : Did) (acts : List Act) → PlainPast (worked (record a { history = all_acted a.history acts }) did)
         → IsLegal a.plans a.empty (a.history.items ++ act_items acts)
-    idle_work x0 acts p = grind (arith, stands_is)
+    idle_work did acts p = grind (arith, stands_is)
 
     idle_are : (did : Did) (act : Act) (acts : List Act) → PlainPast (worked (record a { history = all_acted a.history (act ∷ acts) }) did)
         → AreActs (state_of a) None (act ∷ [])

@@ -73,7 +73,7 @@ module _ (s u : AuditState) (line : ReportLine) (p e : CommandEnd) (d : ℕ) (a 
 -- Acts
 
 some_loose : (loose : List LooseTrack) → IsSomeLoose loose → nat_lt 0 (length loose) ≡ true
-some_loose x0 some = grind (arith, lt-ltb)
+some_loose loose some = grind (arith, lt-ltb)
 
 module _ (s u : AuditState) (d : ℕ) (can : CanBePlain u d) (a : AuditedDevice) (found : device_in s.devices d ≡ Some a) (plain : PlainPast a) where
   hardened : (track : ℕ) (due : Due) → is_loose_there (state_of a) track ≡ true → u ≡ act_made s a (Harden track) due → harden_made s a track due ≡ Some u

@@ -50,7 +50,7 @@ idle_history xs = record { items = xs; running = None; waiting = [] }
 -- What a test says
 
 pub by_loose : (l provisional : Bool) → (not l || provisional) ≡ true → l ≡ true → provisional ≡ true
-by_loose x0 provisional is loose = grind arith
+by_loose l provisional is loose = grind arith
 
 pub legal_of : (a : AuditedDevice) (o : OpenEntry) → a.history.running ≡ Some o → is_next_legal a a.history.running ≡ true
     → MayEdit (part_of_open a o).state (part_of_open a o).stance (edit_of a o)
@@ -60,7 +60,7 @@ legal_of a o running legal = grind (arith, by_loose)
 
 module _ (a : AuditedDevice) (path n : ℕ) where
   idle_by_loan : (lent : Option ℕ) → lent_answer a path lent ≡ start.Accepted n → a.history.running ≡ None
-  idle_by_loan x0 is = grind arith
+  idle_by_loan lent is = grind arith
 
   pub starts_idle : start_answer a path ≡ start.Accepted n → a.history.running ≡ None
   starts_idle is = grind (arith, idle_by_loan)

@@ -38,7 +38,7 @@ record LooseEdit (a : AuditedDevice) (o : OpenEntry) : Type 0 where
   pub loose : is_loose_there (part_of_open a o).state edit.track ≡ true
 
 not_firm : (b : Bool) → not b ≡ false → b ≡ true
-not_firm x0 is = grind arith
+not_firm b is = grind arith
 
 module _ (a : AuditedDevice) (e : CommandEnd) (ends : Ends e a) where
   module _ (o : OpenEntry) (running : a.history.running ≡ Some o) where

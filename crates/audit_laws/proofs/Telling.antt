@@ -139,7 +139,7 @@ module _ (programs : List PlannedProgram) (of : List DeviceLine) where
 
       next_shown : (line : ReportLine) (es : List EventLine) → CanBePlain u (next_device line es) → first_event s.events ≡ first_event es → NextShows s line es u
           → Follows (next_made s line es) u
-      next_shown line x1 can first shows = grind (arith, event_shown, follows)
+      next_shown line es can first shows = grind (arith, event_shown, follows)
 
   -- Where a line of a device's work is due
 
@@ -183,7 +183,7 @@ module _ (programs : List PlannedProgram) (of : List DeviceLine) where
       by_event false c = c (worked a did) found
 
       by_over : (over : Option ReportLine) → over_by a did a.history.running ≡ over → PlainPast (worked a did)
-      by_over x0 is = grind (arith, settled_is, found, by_event)
+      by_over over is = grind (arith, settled_is, found, by_event)
 
     legal_by : (a : AuditedDevice) (did : Did) → PlainPast (worked a did) → is_legal did a ≡ true
     legal_by a did plain = grind (arith, legal_so)
@@ -197,7 +197,7 @@ module _ (programs : List PlannedProgram) (of : List DeviceLine) where
     act_by : CanBePlain u so.0 → (b : Bool) → more ≡ b → (is_of_work b (worker_number s) line && not (is_io line)) ≡ true
         → But programs Sound (DidSo b did) so.0 of s.devices → (a : AuditedDevice) → worker s ≡ Some a → ActShows s line did a u
         → act_of_work s line did a ≡ Some u
-    act_by can x1 is may but a works shows = grind (arith, act_shown, at_work, worker_so, no_act)
+    act_by can b is may but a works shows = grind (arith, act_shown, at_work, worker_so, no_act)
 
     behind_by : (act io : Bool) → (is_of_work more (worker_number s) line && not (is_io line)) ≡ act → is_io line ≡ io
         → CanBePlain u (behind_device s line did act io) → BehindShows s line did act io u

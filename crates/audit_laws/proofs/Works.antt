@@ -117,7 +117,7 @@ module _ (a : AuditedDevice) (e : CommandEnd) (checks : Checks e a) where
 -- A piece of work is taken as done
 
 pub worked_sound : (a : AuditedDevice) (more : Bool) (did : Did) → DidSo more did a → is_legal did a ≡ true → Sound (worked a did)
-worked_sound a more x2 so legal = grind (arith, ended_sound, checked_sound)
+worked_sound a more did so legal = grind (arith, ended_sound, checked_sound)
 
 -- A loose track becomes firm behind it
 
@@ -150,7 +150,7 @@ module _ (a : AuditedDevice) (t : ℕ) (loose : is_loose_there (state_of a) t �
   module _ (e : CommandEnd) (ends : Ends e a) where
     ends_by : (x : OpenEntry) → (acted a.history (Harden t)).running ≡ Some x → (r : Option OpenEntry) → a.history.running ≡ r
         → plain_end (record a { history = acted a.history (Harden t) }) x ≡ Some e
-    ends_by x is x2 stands = grind (arith, none_ran, acted_is, end_is_same)
+    ends_by x is r stands = grind (arith, none_ran, acted_is, end_is_same)
 
     pub ends_hardened : Ends e (record a { history = acted a.history (Harden t) })
     ends_hardened = grind (arith, hardened_sound, ends_by)
@@ -158,7 +158,7 @@ module _ (a : AuditedDevice) (t : ℕ) (loose : is_loose_there (state_of a) t �
   module _ (e : CommandEnd) (checks : Checks e a) where
     checks_by : (x : OpenEntry) → (acted a.history (Harden t)).running ≡ Some x → (r : Option OpenEntry) → a.history.running ≡ r
         → IsNextCheck e (record a { history = acted a.history (Harden t) }) x
-    checks_by x is x2 stands = grind (arith, none_ran, acted_is, next_is_same)
+    checks_by x is r stands = grind (arith, none_ran, acted_is, next_is_same)
 
   pub did_hardened : (did : Did) → DidSo true did a → DidSo true did (record a { history = acted a.history (Harden t) })
   did_hardened (Ended e) so = ends_hardened e so

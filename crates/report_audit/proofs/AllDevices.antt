@@ -25,27 +25,15 @@ use Rattle.deck_audit.proofs.ReplayedResets.{fresh_follows, power_follows}
 -- a loop over the devices that changes each
 pub changes_all : (f : Kept → Kept) (xs ys : List Kept) (i : ℕ) (x d : Kept) → i < length xs → ys ≡ map f (take i xs) ++ drop i xs
     → x ≡ f (slice_index_or ys i d) → slice_set ys i x ≡ map f (take (i + 1) xs) ++ drop (i + 1) xs
-changes_all f xs ys i x d short so is =
-    let l = length-append (map f (take i xs)) (drop i xs) in
-    let m = length-map (take i xs) f in
-    let t = length-take i xs in
-    let r = length-drop i xs in
-    let s = ap (λ (k : List Kept). length k) so in
-    let inside : i < length ys = omega (arith, short, s, l, m, t, r) in
-    ap (λ (k : Kept). slice_set ys i k) is
-    ∙ map_over_more f xs ys i (slice_index_or ys i d) short so (get_or_default ys i d (slice_index_or ys i d) inside)
+changes_all f xs ys i x d short so is = grind (arith, length-append, length-map, length-take, length-drop, map_over_more, get_or_default)
 
 -- A loss of power
 
 quiet_dark : (r : ReplayedState) (b : Bool) → r.pending ≡ None → (cond b (replay.dark r) (record r { half = Closed })).pending ≡ None
-quiet_dark r true is = refl
-quiet_dark r false is = is
+quiet_dark r b is = grind arith
 
 lost_running : (h : History) → h.running ≡ None → (lost_power h 0).running ≡ None
-lost_running h idle = ap (λ (x : Option OpenEntry). (lost_power_in h 0 x).running) idle ∙ by_start (is_started false h.items) where
-  by_start : (b : Bool) → (cond b (record { items = h.items ++ items.Power ∷ []; running = None; waiting = [] }) h).running ≡ None
-  by_start true = refl
-  by_start false = idle
+lost_running h idle = grind arith
 
 module _ (programs : List PlannedProgram) where
   dark_at : (k : Kept) (a : AuditedDevice) → IsAt programs Next k a → a.history.running ≡ None
@@ -65,40 +53,28 @@ module _ (programs : List PlannedProgram) where
       → AllKept programs (map dark_kept ks) (map without_power ds)
   all_dark [] [] all none = tt
   all_dark (k ∷ ks) (a ∷ ds) all none = (dark_at k a all.0 none.0, all_dark ks ds all.1 none.1)
-  all_dark [] (a ∷ ds) all none = absurd all
-  all_dark (k ∷ ks) [] all none = absurd all
+  all_dark ks ds all none = absurd all
 
 -- The end of a loan
 
-runs_alike : (k : Kept) (a : AuditedDevice) → IsKept k a → has_program k.device.running ≡ runs a.history.running
-runs_alike k a i = by_program k.device a i.follows
-    (λ idle. ap has_program idle.run_is ∙ sym (ap runs idle.entry_is))
-    (λ both. ap has_program both.run_is ∙ sym (ap runs both.entry_is))
-
 not_runs : (x : Option OpenEntry) → runs x ≡ false → x ≡ None
-not_runs (Some o) is = absurd (cc)
-not_runs None is = refl
+not_runs x is = grind arith
 
 or_first : (x y : Bool) → (x || y) ≡ false → x ≡ false
-or_first true y is = absurd (cc)
-or_first false y is = refl
+or_first x y is = grind arith
 
 or_second : (x y : Bool) → (x || y) ≡ false → y ≡ false
-or_second true y is = absurd (cc)
-or_second false y is = is
+or_second x y is = grind arith
 
 module _ (programs : List PlannedProgram) (n : ℕ) where
   lent_alike : (k : Kept) (a : AuditedDevice) → IsKept k a → lent_runs n k ≡ runs_lent n a
-  lent_alike k a i = ap (λ (l : Option ℕ). is_lent_to n l && has_program k.device.running) i.follows.lent_is
-      ∙ ap (λ (b : Bool). is_lent_to n a.lent && b) (runs_alike k a i)
+  lent_alike k a i = grind (arith, by_program)
 
   pub any_alike : (ks : List Kept) (ds : List AuditedDevice) → AllKept programs ks ds
       → list_any (lent_runs n) ks ≡ list_any (runs_lent n) ds
   any_alike [] [] all = refl
-  any_alike (k ∷ ks) (a ∷ ds) all = ap (λ (b : Bool). b || list_any (lent_runs n) ks) (lent_alike k a all.0.kept)
-      ∙ ap (λ (b : Bool). runs_lent n a || b) (any_alike ks ds all.1)
-  any_alike [] (a ∷ ds) all = absurd all
-  any_alike (k ∷ ks) [] all = absurd all
+  any_alike (k ∷ ks) (a ∷ ds) all = grind (arith, any_alike ks ds all.1, lent_alike)
+  any_alike ks ds all = absurd all
 
   back_by : (k : Kept) (a : AuditedDevice) (b : Bool) → IsAt programs Next k a → (b && runs a.history.running) ≡ false
       → IsAt programs Next (cond b (record k { device = replay.given_back k.device }) k)
@@ -126,5 +102,4 @@ module _ (programs : List PlannedProgram) (n : ℕ) where
     back_at k a all.0 (or_first (runs_lent n a) (list_any (runs_lent n) ds) none),
     all_back ks ds all.1 (or_second (runs_lent n a) (list_any (runs_lent n) ds) none),
   )
-  all_back [] (a ∷ ds) all none = absurd all
-  all_back (k ∷ ks) [] all none = absurd all
+  all_back ks ds all none = absurd all

@@ -28,8 +28,7 @@ use Rattle.deck_audit.proofs.ReplayedEnds.{legal_follows}
 -- Whether the command may edit its track
 
 legal_so : (did : Did) (k : Kept) (a : AuditedDevice) → IsKept k a → DidSo did k a → kept_legal did k ≡ is_legal did a
-legal_so (Ended e) k a i so = legal_follows k.device a so.0.entry so.0.run so.0.pending i.follows so.0.run_is so.0.pending_is so.0.entry_is
-legal_so did k a i so = refl
+legal_so did k a i so = grind (arith, legal_follows)
 
 some_same : {T : Type 0} (x y : T) → Some x ≡ Some y → x ≡ y
 some_same x y is = cc
@@ -54,35 +53,17 @@ module _ (z : Auditor) (s : AuditState) (f : IsFor z s) (d : ℕ) (more : Bool) 
       ∙ ap (λ (x : AuditedDevice). is_legal did x) same_device
 
   pub legal_none : place_from 0 z.devices.items d ≡ None → (b : Bool) → b ≡ is_legal did a
-  legal_none place b = let none = none_at z.deck.programs d s.due 0 z.devices.items s.devices one place in
-      absurd (let e : Some a ≡ None = sym device_is ∙ none in cc)
+  legal_none place b = grind (arith, none_at, one)
 
 -- Where no device does it
-
-by_idle : (io act placed : Bool) (m : Option AuditState) → act ≡ false → placed ≡ false
-    → cond ((io || act) || placed) (or_history (cond ((io || act) && not io) m None)) (Err Place) ≡ Err (cond io History Place)
-by_idle io true placed m none away = absurd (cc)
-by_idle io false true m none away = absurd (cc)
-by_idle true false false m none away = refl
-by_idle false false false m none away = refl
-
-by_act : (io act placed : Bool) (m n : Option AuditState) → io ≡ false → act ≡ true
-    → cond ((io || act) || placed) (or_history (cond ((io || act) && not io) m n)) (Err Place) ≡ or_history m
-by_act true act placed m n quiet is = absurd (cc)
-by_act false true placed m n quiet is = refl
-by_act false false placed m n quiet is = absurd (cc)
 
 by_settled : (io act placed legal : Bool) (m n : Option AuditState) (t : AuditState) → act ≡ false
     → cond ((io || act) || placed) (or_history (cond ((io || act) && not io) m (cond (not legal) None (cond io (Some t) n)))) (Err Place)
     ≡ cond (io || placed) (or_history (cond (not legal) None (cond io (Some t) n))) (Err Place)
-by_settled io true placed legal m n t none = absurd (cc)
-by_settled true false placed legal m n t none = refl
-by_settled false false placed legal m n t none = refl
+by_settled io act placed legal m n t none = grind arith
 
 act_not_io : (more : Bool) (d : ℕ) (line : ReportLine) → is_act_of more d line ≡ true → is_io line ≡ false
-act_not_io true d (lines.Io reads writes) is = absurd (cc)
-act_not_io false d line is = absurd (cc)
-act_not_io true d line is = refl
+act_not_io more d line is = grind arith
 
 module _ (s : AuditState) (line : ReportLine) (more : Bool) (did : Did) (due_is : s.due ≡ Behind more did) where
   abbrev by : Option ℕ → Option AuditedDevice → Result AuditState AuditWhy
@@ -95,22 +76,18 @@ module _ (s : AuditState) (line : ReportLine) (more : Bool) (did : Did) (due_is 
   away = ap (λ (due : Due). in_due (outlines s) s.events line due) due_is
 
   is_by : (w : Option ℕ) → worker_number s ≡ w → judged s line ≡ by w (then_of w (device_in s.devices))
-  is_by w worker_is = ap (λ (due : Due). cond (stands_in s line due) (or_history (made_in s line due)) (Err Place)) due_is
-      ∙ ap (λ (v : Option ℕ). by v (then_of v (device_in s.devices))) worker_is
+  is_by w worker_is = grind arith
 
   idle_by : (w : Option ℕ) → holds w (λ d. is_act_of more d line) ≡ false → by w None ≡ Err (idle_fault line)
-  idle_by w none = by_idle (is_io line) (holds w (λ d. is_act_of more d line)) (in_state s line) None none away
+  idle_by w none = grind (arith, away)
 
   module _ (d : ℕ) (worker_is : worker_number s ≡ Some d) where
     pub no_device : is_act_of more d line ≡ false → device_in s.devices d ≡ None → (why : AuditWhy) → why ≡ idle_fault line
         → judged s line ≡ Err why
-    no_device none absent why is = is_by (Some d) worker_is ∙ ap (λ (x : Option AuditedDevice). by (Some d) x) absent
-        ∙ idle_by (Some d) none ∙ ap (λ (x : AuditWhy). Err x) (sym is)
+    no_device none absent why is = grind (arith, is_by, idle_by)
 
     act_is : is_act_of more d line ≡ true → judged s line ≡ or_history (then_of (device_in s.devices d) (act_of_work s line did))
-    act_is act = is_by (Some d) worker_is ∙ by_act (is_io line) (is_act_of more d line)
-        (in_state (settled_in s did (device_in s.devices d)) line) (then_of (device_in s.devices d) (act_of_work s line did)) _
-        (act_not_io more d line act) act
+    act_is act = grind (arith, is_by, act_not_io)
 
     pub act_good : is_act_of more d line ≡ true → (y : Auditor) → Makes true y (then_of (device_in s.devices d) (act_of_work s line did))
         → IsJudged None y (judged s line)
@@ -136,8 +113,7 @@ module _ (s : AuditState) (line : ReportLine) (more : Bool) (did : Did) (due_is 
           ∙ ap (λ (b : Bool). judged_settled t line b) (sym (legal_is a is))
 
 pub none_made : (x : Option AuditedDevice) (go : AuditedDevice → AuditState) → then_of x (λ a. Some (go a)) ≡ None → x ≡ None
-none_made (Some a) go is = absurd (cc)
-none_made None go is = refl
+none_made x go is = grind arith
 
 pub worker_of_left : (z : Auditor) (s : AuditState) → IsFor z s → (left : List EventLine) → s.events ≡ left
     → worker_number s ≡ then_of (first_event left) worker_of

@@ -1,5 +1,5 @@
 -- What an auditor keeps where no device changes.
-use Rattle.std.proofs.Common.{◌≡◌, ℕ, List, [], ◌∷◌, length, drop, Some, None, Bool, true, false, cond, refl, sym, ap, subst, ◌∙◌}
+use Rattle.std.proofs.Common.{arith, ◌≡◌, ℕ, List, [], ◌∷◌, length, drop, Some, None, Bool, true, false, cond, refl, sym, ap, subst, ◌∙◌}
 use Rattle.std.proofs.Common.{rules}
 use Rattle.std.specs.Prelude.{◌==◌, Ok, map}
 use Rattle.std.specs.Str.{bytes_eq}
@@ -32,39 +32,19 @@ module _ (z : Auditor) (s : AuditState) (f : IsFor z s) (quiet : is_quiet s.due 
 
   pub waits_so : (due : Due) → is_quiet due ≡ true → IsDueOf (length s.devices) due → ArePowered due s.devices
       → IsAuditOf (gone_on z (Wait due)) (record s { due = due })
-  waits_so due is told powered = record {
-    for = record {
-      events_are = f.events_are;
-      devices_are = subst (λ (b : Bool). AreKept z.deck.programs due (worker_number s) z.devices.items s.devices b) (sym is) all_here;
-      told = told;
-      powered = powered;
-      outlines_so = f.outlines_so;
-    };
-    due_is = refl;
-  }
+  waits_so due is told powered = grind (arith, all_here)
 
   pub passes_so : IsAuditOf (gone_on z Passed) (passed s)
-  passes_so = record {
-    for = record {
-      events_are = ap (λ (e : List EventLine). drop 1 e) f.events_are ∙ behind_event z.deck.events z.passed;
-      devices_are = all_here;
-      told = tt;
-      powered = tt;
-      outlines_so = f.outlines_so;
-    };
-    due_is = refl;
-  }
+  passes_so = grind (arith, behind_event, all_here)
 
 -- The same is due by another name
 
 module _ (programs : List PlannedProgram) (due next : Due) (go : (k : Kept) (a : AuditedDevice) → IsDue due k a → IsDue next k a) where
   head_so : (k : Kept) (a : AuditedDevice) (b : Bool) → IsAt programs (due_if b due) k a → IsAt programs (due_if b next) k a
-  head_so k a true is = record { kept = is.kept; plans_are = is.plans_are; due_so = go k a is.due_so }
-  head_so k a false is = is
+  head_so k a b is = grind arith
 
   tail_so : (b : Bool) (P Q R : Type 0) → (Q → R) → either b P Q → either b P R
-  tail_so true P Q R on is = is
-  tail_so false P Q R on is = on is
+  tail_so b P Q R on is = grind arith
 
   pub one_so : (d : ℕ) (ks : List Kept) (ds : List AuditedDevice) → OneKept programs due d ks ds → OneKept programs next d ks ds
   one_so d [] [] one = tt
@@ -73,8 +53,7 @@ module _ (programs : List PlannedProgram) (due next : Due) (go : (k : Kept) (a :
     tail_so (a.number == d) (AllKept programs ks ds) (OneKept programs due d ks ds)
         (OneKept programs next d ks ds) (λ later. one_so d ks ds later) one.1,
   )
-  one_so d [] (a ∷ ds) one = absurd one
-  one_so d (k ∷ ks) [] one = absurd one
+  one_so d ks ds one = absurd one
 
 -- The outline of the device of a number
 
@@ -82,8 +61,7 @@ outline_by : (a : AuditedDevice) (devices : List AuditedDevice) (d : ℕ) (b : A
     → cond x (Some a) (device_in devices d) ≡ Some b
     → (device_in devices d ≡ Some b → outline_in (map outline_of devices) d ≡ Some (outline_of b))
     → cond x (Some (outline_of a)) (outline_in (map outline_of devices) d) ≡ Some (outline_of b)
-outline_by a devices d b true is go = ap (λ (x : AuditedDevice). Some (outline_of x)) (let e : a ≡ b = cc in e)
-outline_by a devices d b false is go = go is
+outline_by a devices d b x is go = grind arith
 
 pub outline_is : (devices : List AuditedDevice) (d : ℕ) (a : AuditedDevice) → device_in devices d ≡ Some a
     → outline_in (map outline_of devices) d ≡ Some (outline_of a)
@@ -96,59 +74,18 @@ bytes_same : (bytes : List ℕ) → bytes_eq bytes bytes ≡ true
 bytes_same bytes = search rules
 
 module _ (z : Auditor) (s : AuditState) (e : CommandEnd) (f : IsFor z s) (due_is : s.due ≡ DataOf e) where
-  one_due : (d : ℕ) × (worker_number s ≡ Some d) × OneKept z.deck.programs (DataOf e) d z.devices.items s.devices
-  one_due = subst (λ (due : Due). AreKept z.deck.programs due (worker_number s) z.devices.items s.devices (is_quiet due)) due_is f.devices_are
-
   sent_kept : IsAuditOf (record z { due = Behind true (Ended e) }) (record s { due = Behind true (Ended e) })
-  sent_kept = record {
-    for = record {
-      events_are = f.events_are;
-      devices_are = (
-        one_due.0,
-        one_due.1,
-        one_so z.deck.programs (DataOf e) (Behind true (Ended e)) (λ k a is. is) one_due.0
-            z.devices.items s.devices one_due.2,
-      );
-      told = tt;
-      powered = tt;
-      outlines_so = f.outlines_so;
-    };
-    due_is = refl;
-  }
-
-  data_by : (due : Due) (b : Bool) → cond b (Some (Behind true (Ended e))) None ≡ Some due
-      → Makes true (record z { due = due }) (cond b (Some (record s { due = Behind true (Ended e) })) None)
-  data_by due true is =
-      let same : Behind true (Ended e) ≡ due = cc in (
-        record s { due = Behind true (Ended e) },
-        refl,
-        subst (λ (x : Due). IsAuditOf (record z { due = x }) (record s
-            { due = Behind true (Ended e) })) same sent_kept,
-      )
-  data_by due false is = absurd (cc)
+  sent_kept = grind (arith, one_so)
 
   pub data_makes : (line : ReportLine) (due : Due) → Some due ≡ data_due line e → Makes true (record z { due = due }) (due_made s line (DataOf e))
-  data_makes line due is = data_by due (says (lines.Data e.sent) line) (sym is)
-
-  none_by : (b : Bool) → cond b (Some (Behind true (Ended e))) None ≡ None → cond b (Some (record s { due = Behind true (Ended e) })) None ≡ None
-  none_by true is = absurd (cc)
-  none_by false is = refl
+  data_makes line due is = grind (arith, sent_kept)
 
   pub data_none : (line : ReportLine) → None ≡ data_due line e → due_made s line (DataOf e) ≡ None
-  data_none line is = none_by (says (lines.Data e.sent) line) (sym is)
-
-  -- the text of its line is judged well
-  sent_text : (text : List ℕ) → line_of text ≡ Ok (lines.Data e.sent)
-      → judged_text s text ≡ Ok (record s { due = Behind true (Ended e) })
-  sent_text text is = rw (is, due_is, bytes_same e.sent) refl
+  data_none line is = grind arith
 
   sent_judged : (text : List ℕ) → line_of text ≡ Ok (lines.Data e.sent) → IsJudged None (record z { due = Behind true (Ended e) }) (judged_text s text)
-  sent_judged text is = (record s { due = Behind true (Ended e) }, sent_text text is, sent_kept)
+  sent_judged text is = grind (arith, bytes_same, sent_kept)
 
 module _ (z : Auditor) (s : AuditState) (i : IsAuditOf z s) (text : List ℕ) where
-  taken_by : (due : Due) → z.due ≡ due → IsDueData due text → IsJudged None (record z { due = behind_data due }) (judged_text s text)
-  taken_by (DataOf e) is so = sent_judged z s e i.for (sym i.due_is ∙ is) text so
-  taken_by due is so = absurd so
-
   pub data_taken : IsDueData z.due text → IsJudged None (record z { due = behind_data z.due }) (judged_text s text)
-  data_taken so = taken_by z.due refl so
+  data_taken so = grind (arith, sent_judged)

@@ -53,8 +53,7 @@ IsWait P (Some Passed) = ⊤
 IsWait P (Some (Wait due)) = P due
 
 wait_when : (P : Due → Type 0) (b : Bool) (next : Then) → IsWait P (Some next) → IsWait P (then_if b next)
-wait_when P true next is = is
-wait_when P false next is = tt
+wait_when P b next is = grind arith
 
 -- a due that counts no devices, of a worker if of any
 record Plain (w : Bool) (due : Due) : Type 0 where
@@ -63,72 +62,36 @@ record Plain (w : Bool) (due : Due) : Type 0 where
   powered : (devices : List AuditedDevice) → ArePowered due devices
 
 behind_plain : (e : CommandEnd) (sent : List ℕ) → Plain true (behind_end e sent)
-behind_plain e [] = record { quiet = inr refl; told = λ n. tt; powered = λ devices. tt }
-behind_plain e (b ∷ bytes) = record { quiet = inr refl; told = λ n. tt; powered = λ devices. tt }
+behind_plain e sent = grind arith
 
 module _ (plans : PlansByPath) (r : ReplayedState) (line : ReportLine) (e : CommandEnd) where
-  end_by : (o : Running) (b c : Bool)
-      → IsWait (λ due. Plain true due) (wait_if (cond b (Some (SenseOf e)) (cond c (Some (behind_end e e.sent)) None)))
-  end_by o true c = record { quiet = inr refl; told = λ n. tt; powered = λ devices. tt }
-  end_by o false true = behind_plain e e.sent
-  end_by o false false = tt
-
   end_wait : (running : Option Running) → IsWait (λ due. Plain true due) (wait_if (end_due_by plans r line e running))
-  end_wait (Some o) = end_by o (shows_end r o line (check_of plans o e equipment_sense)) (shows_end r o line e)
-  end_wait None = tt
+  end_wait running = grind (arith, behind_plain)
 
   sense_by : (o : Running) (b c d : Bool) → IsWait (λ due. Plain true due) (wait_if (cond b (Some (Behind true (Ended e)))
       (cond c (Some (Behind true (CheckEnded (check_of plans o e equipment_sense))))
       (cond d (Some (Behind true (CheckEnded (check_of plans o e data_check_sense)))) None))))
-  sense_by o true c d = record { quiet = inr refl; told = λ n. tt; powered = λ devices. tt }
-  sense_by o false true d = record { quiet = inr refl; told = λ n. tt; powered = λ devices. tt }
-  sense_by o false false true = record { quiet = inr refl; told = λ n. tt; powered = λ devices. tt }
-  sense_by o false false false = tt
+  sense_by o b c d = grind arith
 
   sense_wait : (running : Option Running) → IsWait (λ due. Plain true due) (wait_if (sense_due_by plans line e running))
   sense_wait (Some o) = sense_by o (has_sense line e.sense) (says (lines.Sense equipment_sense) line) (says (lines.Sense data_check_sense) line)
   sense_wait None = tt
 
-work_end : (plans : PlansByPath) (k : Kept) (line : ReportLine) (end : Option CommandEnd)
-    → IsWait (λ due. Plain true due) (end_then_by plans k line end)
-work_end plans k line (Some e) =
-    end_wait plans (with_half (ended_next k.device) Closed) line e (with_half (ended_next k.device) Closed).running
-work_end plans k line None = tt
-
 over_wait : (b : Bool) → IsWait (λ due. Plain true due) (Some (cond b Passed (Wait Next)))
-over_wait true = tt
-over_wait false = record { quiet = inl refl; told = λ n. tt; powered = λ devices. tt }
+over_wait b = grind arith
 
 settle_wait : (event : Option EventLine) (k : Kept) (did : Did) (over : Option ReportLine)
     → IsWait (λ due. Plain true due) (Some (settle_then_by event k did over))
-settle_wait event k did (Some line) = record { quiet = inl refl; told = λ n. tt; powered = λ devices. tt }
-settle_wait event k did None = over_wait _
+settle_wait event k did over = grind (arith, over_wait)
 
 cut_wait : (P : Due → Type 0) (k : Kept) (n : ℕ) (due : Due) (running : Option Running) → P due → IsWait P (cut_then_by k n due running)
-cut_wait P k n due (Some o) is = wait_when P _ (Wait due) is
-cut_wait P k n due None is = tt
+cut_wait P k n due running is = grind (arith, wait_when)
 
 work_wait : (plans : PlansByPath) (k : Kept) (line : ReportLine) → IsWait (λ due. Plain true due) (work_then plans k line)
-work_wait plans k (lines.End e) = work_end plans k (lines.End e) _
-work_wait plans k (lines.Half path d t) = record { quiet = inr refl; told = λ n. tt; powered = λ devices. tt }
-work_wait plans k (lines.Back d answer) = record { quiet = inr refl; told = λ n. tt; powered = λ devices. tt }
-work_wait plans k line = tt
-
-loosen_wait : (k : Kept) (t : ℕ) (did : Did) → IsWait (λ due. Plain true due) (loosen_then k t did)
-loosen_wait k t (Ended e) = wait_when (λ due. Plain true due) _ (Wait (Behind false (Ended e)))
-    (record { quiet = inr refl; told = λ n. tt; powered = λ devices. tt })
-loosen_wait k t did = tt
+work_wait plans k line = grind (arith, end_wait)
 
 act_wait : (k : Kept) (line : ReportLine) (did : Did) → IsWait (λ due. Plain true due) (act_then k line did)
-act_wait k (lines.Loose d (loose.Harden t)) did = wait_when (λ due. Plain true due) _ (Wait (Behind true did))
-    (record { quiet = inr refl; told = λ n. tt; powered = λ devices. tt })
-act_wait k (lines.Loose d (loose.Loosen t)) did = loosen_wait k t did
-act_wait k line did = tt
-
-wait_map : (P Q : Due → Type 0) → ((due : Due) → P due → Q due) → (next : Option Then) → IsWait P next → IsWait Q next
-wait_map P Q go None is = tt
-wait_map P Q go (Some Passed) is = tt
-wait_map P Q go (Some (Wait due)) is = go due is
+act_wait k line did = grind (arith, wait_when)
 
 record IsDueBehind (s : AuditState) (d : ℕ) (devices : List AuditedDevice) (due : Due) : Type 0 where
   quiet : (is_quiet due ≡ true) ⊎ (worker_number s ≡ Some d)
@@ -136,24 +99,12 @@ record IsDueBehind (s : AuditState) (d : ℕ) (devices : List AuditedDevice) (du
   powered : ArePowered due devices
 
 module _ (s : AuditState) (d : ℕ) (devices : List AuditedDevice) where
-  by_worker : (w : Bool) (due : Due) → (w ≡ true → worker_number s ≡ Some d) → (is_quiet due ≡ true) ⊎ (w ≡ true)
-      → (is_quiet due ≡ true) ⊎ (worker_number s ≡ Some d)
-  by_worker w due worker (inl quiet) = inl quiet
-  by_worker w due worker (inr is) = inr (worker is)
-
   of_plain : (w : Bool) → (w ≡ true → worker_number s ≡ Some d) → (due : Due) → Plain w due → IsDueBehind s d devices due
-  of_plain w worker due p = record {
-    quiet = by_worker w due worker p.quiet;
-    told = p.told (length devices);
-    powered = p.powered devices;
-  }
+  of_plain w worker due p = grind arith
 
   of_worker : worker_number s ≡ Some d → (next : Option Then) → IsWait (λ due. Plain true due) next
       → IsWait (λ due. IsDueBehind s d devices due) next
-  of_worker worker next is = wait_map (λ due. Plain true due) (λ due. IsDueBehind s d devices due) (of_plain true (λ is. worker)) next is
-
-  quiet_due : (due : Due) → is_quiet due ≡ true → IsDueOf (length devices) due → ArePowered due devices → IsDueBehind s d devices due
-  quiet_due due quiet told powered = record { quiet = inl quiet; told = told; powered = powered }
+  of_worker worker next is = grind (arith, of_plain)
 
   module _ (plans : PlansByPath) (k : Kept) (i : ℕ) (line : ReportLine) (place : place_of s.devices d ≡ i) (short : suc i ≤ length devices)
       (cuts : NoneRuns (place_of s.devices d) s.devices → NoneRuns (place_of s.devices d) devices) where
@@ -167,18 +118,13 @@ module _ (s : AuditState) (d : ℕ) (devices : List AuditedDevice) where
         (settle_wait event k did (settled_over k did))
     task_wait (tasks.Over event wanted) fits lost = of_worker fits.1 _
         (wait_when (λ due. Plain true due) (says wanted line) (next_then event k Halved) (over_wait _))
-    task_wait (tasks.Cut n) fits lost = cut_wait (λ due. IsDueBehind s d devices due) k n ResetOf k.device.running (quiet_due ResetOf refl tt tt)
+    task_wait (tasks.Cut n) fits lost = grind (arith, cut_wait)
     task_wait (tasks.Reset path) fits lost = tt
-    task_wait (tasks.Harden t) fits lost = wait_when (λ due. IsDueBehind s d devices due) _ (Wait Next) (quiet_due Next refl tt tt)
-    task_wait tasks.Loss fits lost = wait_when (λ due. IsDueBehind s d devices due) _ (Wait (Losses k.device.number))
-        (quiet_due (Losses k.device.number) refl tt tt)
+    task_wait (tasks.Harden t) fits lost = grind (arith, wait_when)
+    task_wait tasks.Loss fits lost = grind (arith, wait_when)
     task_wait (tasks.Lend of) fits lost = tt
-    task_wait (tasks.PowerCut n) fits lost = cut_wait (λ due. IsDueBehind s d devices due) k n (Powers i) k.device.running
-        (quiet_due (Powers i) refl (omega (arith, short)) (subst (λ (m : ℕ). NoneRuns m devices) place (cuts fits.1)))
-    task_wait tasks.PowerLoss fits lost = wait_when (λ due. IsDueBehind s d devices due) _ (Wait (Powers (i + 1)))
-        (quiet_due (Powers (i + 1)) refl (omega (arith, short))
-        (subst (λ (l : List AuditedDevice). NoneRuns (i + 1) l) (sym (lost refl))
-        (subst (λ (m : ℕ). NoneRuns (m + 1) s.devices) place fits.1)))
+    task_wait (tasks.PowerCut n) fits lost = grind (arith, cut_wait)
+    task_wait tasks.PowerLoss fits lost = grind (arith, wait_when, lost)
 
 -- An auditor behind the line
 
@@ -196,13 +142,8 @@ abbrev devices_made : Option AuditState → List AuditedDevice
 devices_made (Some s) = s.devices
 devices_made None = []
 
-loss_devices : (s t : AuditState) (b : Bool) (due : Due) → cond b (Some (record s { due = due })) None ≡ Some t → t.devices ≡ s.devices
-loss_devices s t true due is = sym (ap devices_made is)
-loss_devices s t false due is = absurd (cc)
-
 goes_devices : (s : AuditState) (b : AuditedDevice) (x : Then) → (goes_on s b x).devices ≡ with_device s.devices b
-goes_devices s b Passed = refl
-goes_devices s b (Wait due) = refl
+goes_devices s b x = grind arith
 
 set_read : (l : List Kept) (i : ℕ) (k b : Kept) → slice_get l i ≡ Some b → slice_get (slice_set l i k) i ≡ Some k
 set_read [] i k b is = absurd (cc)
@@ -210,43 +151,15 @@ set_read (x ∷ l) zero k b is = refl
 set_read (x ∷ l) (suc i) k b is = set_read l i k b is
 
 module _ (z : Auditor) (s : AuditState) (d : ℕ) (task : Task) (f : IsFor z s) (fits : Fits s d task) where
-  or_worker : (task : Task) → Fits s d task → (is_quiet s.due ≡ true) ⊎ (worker_number s ≡ Some d)
-  or_worker tasks.Work fits = inl fits.0
-  or_worker (tasks.Sense e) fits = inr fits.1
-  or_worker (tasks.Act did) fits = inr fits.2
-  or_worker (tasks.Settle event did) fits = inr fits.2
-  or_worker (tasks.Over event wanted) fits = inl fits.0
-  or_worker (tasks.Reset path) fits = inl fits.0
-  or_worker (tasks.PowerCut n) fits = inl fits.0
-  or_worker tasks.PowerLoss fits = inl fits.0
-  or_worker task fits = inl fits
-
   one_by : (b : Bool) → is_quiet s.due ≡ b → AreKept z.deck.programs s.due (worker_number s) z.devices.items s.devices b
       → (is_quiet s.due ≡ true) ⊎ (worker_number s ≡ Some d) → OneKept z.deck.programs s.due d z.devices.items s.devices
-  one_by true quiet all or = one_of_all z.deck.programs s.due quiet d z.devices.items s.devices all
-  one_by false busy one (inl quiet) = absurd (cc)
-  one_by false busy (n, worker, one) (inr is) =
-      let same : n ≡ d = some_same n d (sym worker ∙ is) in
-      subst (λ (m : ℕ). OneKept z.deck.programs s.due m z.devices.items s.devices) same one
+  one_by b quiet all or = grind (arith, one_of_all, some_same)
 
   pub has_one : OneKept z.deck.programs s.due d z.devices.items s.devices
-  has_one = one_by (is_quiet s.due) refl f.devices_are (or_worker task fits)
+  has_one = grind (arith, one_by)
 
   pub is_absent : place_from 0 z.devices.items d ≡ None → (line : ReportLine) → then_of (device_in s.devices d) (task_made s line task) ≡ None
-  is_absent none line = ap (λ (x : Option AuditedDevice). then_of x (task_made s line task))
-      (none_at z.deck.programs d s.due 0 z.devices.items s.devices has_one none)
-
-  ready_by : (task : Task) → Fits s d task → (k : Kept) (a : AuditedDevice) → IsDue s.due k a → device_in s.devices d ≡ Some a
-      → IsReady s k a task
-  ready_by tasks.Work fits k a due is = quiet_of k a s.due fits.0 due
-  ready_by (tasks.Sense e) fits k a due is = subst (λ (x : Due). IsDue x k a) fits.0 due
-  ready_by (tasks.Act did) fits k a due is = subst (λ (x : Due). IsDue x k a) fits.1 due
-  ready_by (tasks.Settle event did) fits k a due is = (subst (λ (x : Due). IsDue x k a) fits.1 due, fits.3)
-  ready_by (tasks.Over event wanted) fits k a due is = (quiet_of k a s.due fits.0 due, fits.2)
-  ready_by (tasks.Reset path) fits k a due is = (quiet_of k a s.due fits.0 due, fits.1 a is)
-  ready_by (tasks.PowerCut n) fits k a due is = quiet_of k a s.due fits.0 due
-  ready_by tasks.PowerLoss fits k a due is = quiet_of k a s.due fits.0 due
-  ready_by task fits k a due is = quiet_of k a s.due fits due
+  is_absent none line = grind (arith, none_at, has_one)
 
   module _ (line : ReportLine) (i : ℕ) (place : place_from 0 z.devices.items d ≡ Some i) (new : List Kept) (next : Option Then)
       (j : IsJudgedAt z.deck.programs z.devices.items new i d line task next) where
@@ -259,9 +172,6 @@ module _ (z : Auditor) (s : AuditState) (d : ℕ) (task : Task) (f : IsFor z s) 
     abbrev a : AuditedDevice
     a = here.found.a
 
-    same_before : j.before ≡ here.found.k
-    same_before = some_same j.before here.found.k (sym j.before_is ∙ ap (λ (n : ℕ). slice_get z.devices.items n) (sym same_place) ∙ here.found.kept_is)
-
     same_plans : plans_of z.deck.programs d ≡ here.found.a.plans
     same_plans = ap (λ (n : ℕ). plans_of z.deck.programs n) (sym here.found.number_is) ∙ sym here.found.fits.plans_are
 
@@ -273,70 +183,40 @@ module _ (z : Auditor) (s : AuditState) (d : ℕ) (task : Task) (f : IsFor z s) 
 
     all_judged : Judges s here.found.a (task_made s line task here.found.a) (task_then here.found.a.plans here.found.k i line task)
         (task_kept here.found.a.plans here.found.k line task)
-    all_judged = task_judged s here.found.k here.found.a i line here.found.fits.kept unchanged at_place task j.range
-        (ready_by task fits here.found.k here.found.a here.found.fits.due_so here.found.device_is)
+    all_judged = grind (arith, task_judged, here, unchanged, at_place, quiet_of)
 
     same_next : next ≡ task_then here.found.a.plans here.found.k i line task
-    same_next = j.next_is ∙ ap (λ (p : PlansByPath). task_then p j.before i line task) same_plans
-        ∙ ap (λ (k : Kept). task_then here.found.a.plans k i line task) same_before
-
-    judged_so : Judges s here.found.a (task_made s line task here.found.a) next (task_kept here.found.a.plans here.found.k line task)
-    judged_so = subst (λ (x : Option Then). Judges s here.found.a (task_made s line task here.found.a) x
-        (task_kept here.found.a.plans here.found.k line task)) (sym same_next) all_judged
+    same_next = grind (arith, same_plans, here, some_same, same_place)
 
     in_device : then_of (device_in s.devices d) (task_made s line task) ≡ task_made s line task here.found.a
     in_device = ap (λ (x : Option AuditedDevice). then_of x (task_made s line task)) here.found.device_is
 
     module _ (x : Then) (next_is : next ≡ Some x) where
       g : Goes s here.found.a (task_made s line task here.found.a) x (task_kept here.found.a.plans here.found.k line task)
-      g = subst (λ (n : Option Then). Judges s here.found.a (task_made s line task here.found.a) n
-          (task_kept here.found.a.plans here.found.k line task)) next_is judged_so
+      g = grind (arith, here, same_next, all_judged)
 
       abbrev kept : Kept
       kept = task_kept here.found.a.plans here.found.k line task
 
       new_here : new ≡ slice_set z.devices.items here.j kept
-      new_here = j.new_is
-          ∙ ap (λ (k : Kept). slice_set z.devices.items i k) (j.after_is x next_is
-          ∙ ap (λ (p : PlansByPath). task_kept p j.before line task) same_plans
-          ∙ ap (λ (k : Kept). task_kept here.found.a.plans k line task) same_before)
-          ∙ ap (λ (n : ℕ). slice_set z.devices.items n kept) (sym same_place)
+      new_here = grind (arith, same_plans, here, some_same, same_place)
 
       number_is : g.after.number ≡ d
       number_is = g.number_is ∙ here.found.number_is
 
-      at_new : (due : Due) → IsDue due kept g.after → IsAt z.deck.programs due kept g.after
-      at_new due so = record {
-        kept = g.kept;
-        plans_are = g.plans_are ∙ here.found.fits.plans_are ∙ ap (λ (n : ℕ). plans_of z.deck.programs n) (sym g.number_is);
-        due_so = so;
-      }
-
       one_new : (due : Due) → IsDue due kept g.after → OneKept z.deck.programs due d new (with_device s.devices g.after)
-      one_new due so = subst (λ (l : List Kept). OneKept z.deck.programs due d l (with_device s.devices g.after)) (sym new_here)
-          (here.found.set kept g.after due (at_new due so) number_is)
+      one_new due so = grind (arith, g, new_here, here, number_is)
 
       lost : task ≡ tasks.PowerLoss → with_device s.devices g.after ≡ s.devices
-      lost is = sym (goes_devices s g.after x)
-          ∙ loss_devices s (goes_on s g.after x) (has_loose here.found.a && says (history.loss_line here.found.a) line)
-          (Powers (place_of s.devices here.found.a.number + 1))
-          (sym (ap (λ (t : Task). task_made s line t here.found.a) is) ∙ g.made_is)
-
-      behind : IsWait (λ due. IsDueBehind s d (with_device s.devices g.after) due) (Some x)
-      behind = subst (λ (n : Option Then). IsWait (λ due. IsDueBehind s d (with_device s.devices g.after) due) n) (sym same_next ∙ next_is)
-          (task_wait s d (with_device s.devices g.after) here.found.a.plans here.found.k i line (here.found.place_is ∙ same_place)
-          (let p = same_place in let q = same_length s.devices g.after in omega (arith, here.found.short, p, q))
-          (none_before s.devices g.after d number_is) task fits lost)
+      lost is = grind (arith, goes_devices, g, here)
 
       module _ (y : Auditor) (deck_is : y.deck ≡ z.deck) (items_are : y.devices.items ≡ new) (passed_is : y.passed ≡ z.passed)
           (outlines_so : y.outlines.items ≡ map kept_outline y.devices.items) where
         events_on : s.events ≡ drop y.passed y.deck.events
-        events_on = f.events_are ∙ ap (λ (n : ℕ). drop n z.deck.events) (sym passed_is)
-            ∙ ap (λ (e : List EventLine). drop y.passed e) (ap (λ (k : DeckLines). k.events) (sym deck_is))
+        events_on = grind arith
 
         one_now : (due : Due) → IsDue due kept g.after → OneKept y.deck.programs due d y.devices.items (with_device s.devices g.after)
-        one_now due so = subst (λ (k : DeckLines). OneKept k.programs due d y.devices.items (with_device s.devices g.after)) (sym deck_is)
-            (subst (λ (l : List Kept). OneKept z.deck.programs due d l (with_device s.devices g.after)) (sym items_are) (one_new due so))
+        one_now due so = grind (arith, g, one_new)
 
         kept_by : (due : Due) → IsDue due kept g.after → (b : Bool) → is_quiet due ≡ b → (is_quiet due ≡ true) ⊎ (worker_number s ≡ Some d)
             → AreKept y.deck.programs due (worker_number s) y.devices.items (with_device s.devices g.after) b
@@ -356,31 +236,17 @@ module _ (z : Auditor) (s : AuditState) (d : ℕ) (task : Task) (f : IsFor z s) 
           };
           due_is = refl;
         }
-        audit_by (Wait due) so wait = record {
-          for = record {
-            events_are = events_on;
-            devices_are = kept_by due so (is_quiet due) refl wait.quiet;
-            told = wait.told;
-            powered = wait.powered;
-            outlines_so = outlines_so;
-          };
-          due_is = refl;
-        }
+        audit_by (Wait due) so wait = grind (arith, events_on, kept_by)
 
         pub goes : Makes true (gone_on y x) (then_of (device_in s.devices d) (task_made s line task))
-        goes = (goes_on s g.after x, in_device ∙ g.made_is, audit_by x g.due behind)
+        goes = grind (arith, g, in_device, audit_by, same_next, task_wait, here, same_place, same_length, none_before, number_is, lost)
 
     pub new_outlines : (before after : List Outline) → before ≡ map kept_outline z.devices.items
         → ((k : Kept) → slice_get new i ≡ Some k → after ≡ slice_set before i (kept_outline k)) → after ≡ map kept_outline new
-    new_outlines before after is set =
-        let read : slice_get new i ≡ Some j.after = ap (λ (l : List Kept). slice_get l i) j.new_is
-        ∙ set_read z.devices.items i j.after j.before j.before_is in
-        set j.after read ∙ ap (λ (l : List Outline). slice_set l i (kept_outline j.after)) is
-        ∙ sym (map-set kept_outline z.devices.items i j.after) ∙ ap (λ (l : List Kept). map kept_outline l) (sym j.new_is)
+    new_outlines before after is set = grind (arith, set_read, map-set)
 
     pub fails : next ≡ None → then_of (device_in s.devices d) (task_made s line task) ≡ None
-    fails is = in_device ∙ subst (λ (n : Option Then). Judges s here.found.a (task_made s line task here.found.a) n
-        (task_kept here.found.a.plans here.found.k line task)) is judged_so
+    fails is = grind (arith, in_device, here, same_next, all_judged)
 
     -- the auditor with these devices and outlines goes on
     pub goes_with : (x : Then) → next ≡ Some x → (y w : Auditor) → w ≡ gone_on y x → y.deck ≡ z.deck → y.passed ≡ z.passed → y.devices.items ≡ new

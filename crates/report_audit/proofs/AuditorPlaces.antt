@@ -28,18 +28,11 @@ equal_eqb a b is = eq-eqb b a (sym (let e : a ≡ b = search (nat_tests, rules, 
 -- A line that tells of no cut
 
 is_no_cut : (d : ℕ) (o : OpenProgram) (line : ReportLine) → cut_at line ≡ None → is_cut d o line ≡ false
-is_no_cut d o (lines.Over p e n (how.Cut k)) none = absurd (cc)
-is_no_cut d o line none = refl
-
-by_test : (b x y : Bool) → cond b x y ≡ true → x ≡ false → b ≡ false
-by_test true x y may unlike = absurd (cc)
-by_test false x y may unlike = refl
+is_no_cut d o line none = grind arith
 
 not_own : (path d : ℕ) (a : Outline) (line : ReportLine) (running : Option OpenEntry) → cut_at line ≡ None
     → may_reset path d a line (open_program running) ≡ true → own_runs running path ≡ false
-not_own path d a line None none may = refl
-not_own path d a line (Some o) none may = by_test (o.path == path) (is_cut d (record { path = o.path; ordinal = o.ordinal }) line) _ may
-    (is_no_cut d (record { path = o.path; ordinal = o.ordinal }) line none)
+not_own path d a line running none may = grind (arith, is_no_cut)
 
 -- a RESET that cuts none is of another path than the one whose program runs
 pub reset_fits : (s : AuditState) (path d : ℕ) (line : ReportLine) → cut_at line ≡ None → in_event (outlines s) line (events.Reset path d) ≡ true
@@ -58,41 +51,27 @@ count_of_cut None = 0
 pub reset_whole : (s : AuditState) (line : ReportLine) (path d : ℕ) → cut_at line ≡ None
     → then_of (device_in s.devices d) (reset_made s line path)
     ≡ then_of (device_in s.devices d) (λ a. Some (passed (changed s (record a { history = reset_in_history a.history path 0 }))))
-reset_whole s (lines.Over p e m (how.Cut k)) path d is = absurd (cc)
-reset_whole s line path d is = refl
+reset_whole s line path d is = grind arith
 
 -- A loss of power
 
 none_step : (b : Bool) (n : ℕ) (a : AuditedDevice) (ds : List AuditedDevice) → a.history.running ≡ None → (b ≡ false → NoneRuns n ds)
     → NoneRuns (cond b 0 (n + 1)) (a ∷ ds)
-none_step true n a ds none go = tt
-none_step false n a ds none go =
-    let e : n + 1 ≡ suc n = omega arith in subst (λ (m : ℕ). NoneRuns m (a ∷ ds)) (sym e) (none, go refl)
+none_step b n a ds none go = grind arith
 
 none_more : (b : Bool) (n : ℕ) (a : AuditedDevice) (ds : List AuditedDevice) → a.history.running ≡ None → (b ≡ false → NoneRuns (n + 1) ds)
     → NoneRuns (cond b 0 (n + 1) + 1) (a ∷ ds)
-none_more true n a ds none go = (none, tt)
-none_more false n a ds none go =
-    let e : n + 1 + 1 ≡ suc (n + 1) = omega arith in subst (λ (m : ℕ). NoneRuns m (a ∷ ds)) (sym e) (none, go refl)
-
-and_second : (x y z : Bool) → (x && y && z) ≡ true → y ≡ true
-and_second true true z is = refl
-and_second true false z is = absurd (cc)
-and_second false y z is = absurd (cc)
+none_more b n a ds none go = grind arith
 
 last_of_and : (x y : Bool) → (x && y) ≡ true → y ≡ true
-last_of_and true y is = is
-last_of_and false y is = absurd (cc)
+last_of_and x y is = grind arith
 
 module _ (p e m k : ℕ) where
   cut_step : (a : AuditedDevice) (ds : List AuditedDevice) (running : Option OpenEntry) → a.history.running ≡ running
       → in_power_of (outline_of a) (lines.Over p e m (how.Cut k)) (in_power (lines.Over p e m (how.Cut k)) (map outline_of ds)) (open_program running) ≡ true
       → (in_power (lines.Over p e m (how.Cut k)) (map outline_of ds) ≡ true → NoneRuns (place_of ds e) ds)
       → NoneRuns (cond (a.number == e) 0 (place_of ds e + 1)) (a ∷ ds)
-  cut_step a ds None none is go = none_step (a.number == e) (place_of ds e) a ds none
-      (λ other. go (last_of_and (not (outline_of a).loose) (in_power (lines.Over p e m (how.Cut k)) (map outline_of ds)) is))
-  cut_step a ds (Some o) runs is go = subst (λ (b : Bool). NoneRuns (cond b 0 (place_of ds e + 1)) (a ∷ ds))
-      (sym (equal_eqb e a.number (and_second (p == o.path) (e == a.number) (m == o.ordinal) is))) tt
+  cut_step a ds running none is go = grind (arith, none_step, last_of_and, equal_eqb)
 
   cut_none : (ds : List AuditedDevice) → in_power (lines.Over p e m (how.Cut k)) (map outline_of ds) ≡ true → NoneRuns (place_of ds e) ds
   cut_none [] is = tt
@@ -105,23 +84,14 @@ module _ (p e m k : ℕ) where
   cut_told (suc n) (a ∷ ds) none is = none_step (a.number == e) (place_of ds e) a ds none.0 (λ other. cut_told n ds none.1 is)
 
 other_loss : (n e : ℕ) (answer : LooseAnswer) → (n == e) ≡ false → is_loss_of n (lines.Loose e answer) ≡ false
-other_loss n e (loose.Harden t) other = refl
-other_loss n e (loose.Loosen t) other = refl
-other_loss n e (loose.Lost count id) other = search (nat_tests, rules, other)
-
-or_other : (x y : Bool) → (x || y) ≡ true → x ≡ false → y ≡ true
-or_other true y is unlike = absurd (cc)
-or_other false y is unlike = is
+other_loss n e answer other = grind arith
 
 module _ (e : ℕ) (answer : LooseAnswer) where
   loose_step : (a : AuditedDevice) (ds : List AuditedDevice) (running : Option OpenEntry) → a.history.running ≡ running
       → in_power_of (outline_of a) (lines.Loose e answer) (in_power (lines.Loose e answer) (map outline_of ds)) (open_program running) ≡ true
       → (in_power (lines.Loose e answer) (map outline_of ds) ≡ true → NoneRuns (place_of ds e + 1) ds)
       → NoneRuns (cond (a.number == e) 0 (place_of ds e + 1) + 1) (a ∷ ds)
-  loose_step a ds None none is go = none_more (a.number == e) (place_of ds e) a ds none
-      (λ other. go (last_of_and (not (outline_of a).loose) (in_power (lines.Loose e answer) (map outline_of ds))
-      (or_other (is_loss_of a.number (lines.Loose e answer)) _ is (other_loss a.number e answer other))))
-  loose_step a ds (Some o) runs is go = absurd (cc)
+  loose_step a ds running none is go = grind (arith, none_more, last_of_and, other_loss)
 
   loose_none : (ds : List AuditedDevice) → in_power (lines.Loose e answer) (map outline_of ds) ≡ true → NoneRuns (place_of ds e + 1) ds
   loose_none [] is = tt
@@ -134,20 +104,13 @@ module _ (e : ℕ) (answer : LooseAnswer) where
   loose_told (suc n) (a ∷ ds) none is = none_more (a.number == e) (place_of ds e) a ds none.0 (λ other. loose_told n ds none.1 is)
 
 no_loss : (n : ℕ) (line : ReportLine) → loose_at line ≡ None → is_loss_of n line ≡ false
-no_loss n (lines.Loose e answer) none = absurd (cc)
-no_loss n line none = refl
+no_loss n line none = grind arith
 
 module _ (line : ReportLine) (no_loose : loose_at line ≡ None) (no_cut : cut_at line ≡ None) where
   done_step : (a : AuditedDevice) (ds : List AuditedDevice) (running : Option OpenEntry) → a.history.running ≡ running
       → in_power_of (outline_of a) line (in_power line (map outline_of ds)) (open_program running) ≡ true
       → (in_power line (map outline_of ds) ≡ true → NoneRuns (length ds) ds) → NoneRuns (length (a ∷ ds)) (a ∷ ds)
-  done_step a ds None none is go = (
-    none,
-    go (last_of_and (not (outline_of a).loose) (in_power line (map outline_of ds))
-        (or_other (is_loss_of a.number line) _ is (no_loss a.number line no_loose))),
-  )
-  done_step a ds (Some o) runs is go =
-      let unlike = is_no_cut a.number (record { path = o.path; ordinal = o.ordinal }) line no_cut in absurd (cc)
+  done_step a ds running none is go = grind (arith, last_of_and, no_loss, is_no_cut)
 
   done_none : (ds : List AuditedDevice) → in_power line (map outline_of ds) ≡ true → NoneRuns (length ds) ds
   done_none [] is = tt
@@ -160,25 +123,15 @@ module _ (line : ReportLine) (no_loose : loose_at line ≡ None) (no_cut : cut_a
   done_told (suc n) (a ∷ ds) none is = (none.0, done_told n ds none.1 is)
 
   pub done_made : (s : AuditState) → power_made s line ≡ Some (passed (record s { devices = map without_power s.devices }))
-  done_made s = by_line line no_loose no_cut where
-    by_line : (l : ReportLine) → loose_at l ≡ None → cut_at l ≡ None
-        → power_made s l ≡ Some (passed (record s { devices = map without_power s.devices }))
-    by_line (lines.Over p e m (how.Cut k)) free whole = absurd (cc)
-    by_line (lines.Loose e answer) free whole = absurd (cc)
-    by_line l free whole = refl
+  done_made s = grind arith
 
 pub cut_fits : (line : ReportLine) (d n : ℕ) → cut_at line ≡ Some (d, n) → (k : ℕ) (ds : List AuditedDevice) → NoneRuns k ds
     → in_power line (drop k (map outline_of ds)) ≡ true → NoneRuns (place_of ds d) ds
-cut_fits (lines.Over p e m (how.Cut i)) d n is k ds none may =
-    subst (λ (x : ℕ). NoneRuns (place_of ds x) ds) (ap device_of_cut is) (cut_told p e m i k ds none may)
-cut_fits line d n is k ds none may = absurd (cc)
+cut_fits line d n is k ds none may = grind (arith, cut_told)
 
 pub cut_made : (s : AuditState) (line : ReportLine) (d n : ℕ) → cut_at line ≡ Some (d, n)
     → power_made s line ≡ then_of (device_in s.devices d) (λ a. then_of a.history.running (power_cut s a n))
-cut_made s (lines.Over p e m (how.Cut i)) d n is =
-    ap (λ (x : ℕ). then_of (device_in s.devices x) (λ a. then_of a.history.running (power_cut s a i))) (ap device_of_cut is)
-    ∙ ap (λ (x : ℕ). then_of (device_in s.devices d) (λ a. then_of a.history.running (power_cut s a x))) (ap count_of_cut is)
-cut_made s line d n is = absurd (cc)
+cut_made s line d n is = grind arith
 
 abbrev some_nat : Option ℕ → ℕ
 some_nat (Some n) = n
@@ -186,33 +139,22 @@ some_nat None = 0
 
 pub loose_fits : (line : ReportLine) (d : ℕ) → loose_at line ≡ Some d → (k : ℕ) (ds : List AuditedDevice) → NoneRuns k ds
     → in_power line (drop k (map outline_of ds)) ≡ true → NoneRuns (place_of ds d + 1) ds
-loose_fits (lines.Loose e answer) d is k ds none may =
-    subst (λ (x : ℕ). NoneRuns (place_of ds x + 1) ds) (ap some_nat is) (loose_told e answer k ds none may)
-loose_fits line d is k ds none may = absurd (cc)
+loose_fits line d is k ds none may = grind (arith, loose_told)
 
 pub loose_made : (s : AuditState) (line : ReportLine) (d : ℕ) → loose_at line ≡ Some d
     → power_made s line ≡ then_of (device_in s.devices d) (power_loss s line)
-loose_made s (lines.Loose e answer) d is =
-    ap (λ (x : ℕ). then_of (device_in s.devices x) (power_loss s (lines.Loose e answer))) (ap some_nat is)
-loose_made s line d is = absurd (cc)
+loose_made s line d is = grind arith
 
 -- The totals
 
 no_totals : (s : List Outline) (d : ℕ) (t : DeviceTotals) (left : List Outline) → in_totals_of s (lines.Device d t) left ≡ true → 1 ≤ length left
-no_totals s d t [] is = absurd (cc)
-no_totals s d t (a ∷ left) is = omega arith
+no_totals s d t left is = grind arith
 
 no_lost_device : (d : ℕ) (t : DeviceTotals) (x : Option Outline) → holds x (λ a. is_lost_of (lines.Device d t) a a.lent) ≡ false
-no_lost_device d t (Some a) = refl
-no_lost_device d t None = refl
+no_lost_device d t x = grind arith
 
 and_false : (x y : Bool) → y ≡ false → (x && y) ≡ false
-and_false true y unlike = unlike
-and_false false y unlike = refl
+and_false x y unlike = grind arith
 
 pub totals_left : (s : List Outline) (d : ℕ) (t : DeviceTotals) (k : ℕ) → in_totals s (lines.Device d t) k ≡ true → k + 1 ≤ length s
-totals_left s d t k is =
-    let left = no_totals s d t (drop k s) (or_other (nat_lt 0 k && holds (slice_get s (k - 1)) (λ a. is_lost_of (lines.Device d t) a a.lent))
-    (in_totals_of s (lines.Device d t) (drop k s)) is
-    (and_false (nat_lt 0 k) _ (no_lost_device d t (slice_get s (k - 1))))) in
-    let l = length-drop k s in omega (arith, left, l)
+totals_left s d t k is = grind (arith, no_totals, and_false, no_lost_device, length-drop)

@@ -37,13 +37,7 @@ use Rattle.report_audit.proofs.OutlineLaw.{outlines_are}
 pub placed_is : (z : Auditor) (s : AuditState) (f : IsFor z s) (line : ReportLine) (due : Due) → due ≡ s.due
     → (o : List Outline) → o ≡ z.outlines.items → (e : List EventLine) → e ≡ drop z.passed z.deck.events
     → (x : Bool) → (IsDueOf (length o) due → x ≡ in_due o e line due) → x ≡ in_state s line
-placed_is z s f line due due_is o o_is e e_is x is =
-    let same : o ≡ outlines s = o_is ∙ f.outlines_so ∙ outlines_are z s f in
-    let long : length o ≡ length s.devices = ap (λ (l : List Outline). length l) same ∙ length-map s.devices outline_of in
-    is (subst (λ (n : ℕ). IsDueOf n due) (sym long) (subst (λ (d : Due). IsDueOf (length s.devices) d) (sym due_is) f.told))
-    ∙ ap (λ (l : List Outline). in_due l e line due) same
-    ∙ ap (λ (l : List EventLine). in_due (outlines s) l line due) (e_is ∙ sym f.events_are)
-    ∙ ap (λ (d : Due). in_due (outlines s) s.events line d) due_is
+placed_is z s f line due due_is o o_is e e_is x is = grind (arith, outlines_are, length-map)
 
 module _ (z : Auditor) (s : AuditState) (f : IsFor z s) (quiet : is_quiet s.due ≡ true) where
   -- The totals
@@ -54,41 +48,20 @@ module _ (z : Auditor) (s : AuditState) (f : IsFor z s) (quiet : is_quiet s.due 
 
   pub totals_audit : (n : ℕ) → n ≡ length z.devices.items → (line : ReportLine) (k : ℕ) → FitsTotals s line k
       → IsAuditOf (gone_on z (Wait (totals_due n line k))) (totals_made s line k)
-  totals_audit n n_is (lines.Device d t) k fits =
-      let below : nat_lt k n ≡ true = (let c = same_count in let l : k + 1 ≤ n = omega (arith, fits, n_is, c) in search (nat_tests, rules, l)) in
-      subst (λ (b : Bool). IsAuditOf (gone_on z (Wait (Totals (cond b (k + 1) k)))) (record s { due = Totals (k + 1) })) (sym below)
-      (waits_so z s f quiet (Totals (k + 1)) refl fits tt)
-  totals_audit n n_is (lines.Lost d t) k fits =
-      subst (λ (x : AuditState). IsAuditOf (gone_on z (Wait (Totals k))) x) (ap (λ (x : Due). record s { due = x }) (sym fits))
-      (waits_so z s f quiet (Totals k) refl (subst (λ (x : Due). IsDueOf (length s.devices) x) fits f.told) tt)
-  totals_audit n n_is lines.Finish k fits = waits_so z s f quiet Nothing refl tt tt
-  totals_audit n n_is line k fits = waits_so z s f quiet Frames refl tt tt
+  totals_audit n n_is line k fits = grind (arith, same_count, waits_so)
 
   -- An event is over that changes all devices
 
   pub all_changed : (y : Auditor) → y.deck ≡ z.deck → y.passed ≡ z.passed → (ks : List Kept) (ds : List AuditedDevice)
       → y.devices.items ≡ ks → AllKept z.deck.programs ks ds → y.outlines.items ≡ map kept_outline y.devices.items
       → IsAuditOf (gone_on y Passed) (passed (record s { devices = ds }))
-  all_changed y deck_is passed_is ks ds items_are all outlines_so = record {
-    for = record {
-      events_are = ap (λ (e : List EventLine). drop 1 e) (f.events_are
-          ∙ ap (λ (n : ℕ). drop n z.deck.events) (sym passed_is)
-          ∙ ap (λ (k : DeckLines). drop y.passed k.events) (sym deck_is)) ∙ behind_event y.deck.events y.passed;
-      devices_are = subst (λ (k : DeckLines). AllKept k.programs y.devices.items ds) (sym deck_is)
-          (subst (λ (l : List Kept). AllKept z.deck.programs l ds) (sym items_are) all);
-      told = tt;
-      powered = tt;
-      outlines_so = outlines_so;
-    };
-    due_is = refl;
-  }
+  all_changed y deck_is passed_is ks ds items_are all outlines_so = grind (arith, behind_event)
 
   -- The end of a pair
 
   module _ (n : ℕ) (l : List Kept) (same : l ≡ z.devices.items) (b : Bool) (is : b ≡ list_any (lent_runs n) l) where
     lent_is : list_any (runs_lent n) s.devices ≡ b
-    lent_is = sym (is ∙ ap (λ (x : List Kept). list_any (lent_runs n) x) same
-        ∙ any_alike z.deck.programs n z.devices.items s.devices (all_here z s f quiet))
+    lent_is = grind (arith, any_alike, all_here)
 
     pub unpair_none : b ≡ true → done_order s (events.Unpair n) ≡ None
     unpair_none runs = ap (λ (x : Bool). cond x None (Some (passed (record s { devices = map (given_back n) s.devices })))) (lent_is ∙ runs)
@@ -108,25 +81,13 @@ module _ (z : Auditor) (s : AuditState) (f : IsFor z s) (quiet : is_quiet s.due 
   pub pair_same : (a b : ℕ) → (a == b) ≡ true → Makes true (gone_on z Passed) (done_order s (events.Pair a b))
   pair_same a b is = (passed s, ap (λ (x : Bool). cond x (Some (passed s)) (then_of (device_in s.devices b) (lent_to s a))) is, passes_so z s f quiet)
 
-  done_made_so : (event : EventLine) → ((a b : ℕ) → event ≡ events.Pair a b → ⊥) → ((a : ℕ) → event ≡ events.Unpair a → ⊥)
-      → done_order s event ≡ Some (passed s)
-  done_made_so (events.Pair a b) unlike other = absurd (unlike a b refl)
-  done_made_so (events.Unpair a) unlike other = absurd (other a refl)
-  done_made_so event unlike other = refl
-
   pub done_other : (event : EventLine) → ((a b : ℕ) → event ≡ events.Pair a b → ⊥) → ((a : ℕ) → event ≡ events.Unpair a → ⊥)
       → Makes true (gone_on z Passed) (done_order s event)
-  done_other event unlike other = (passed s, done_made_so event unlike other, passes_so z s f quiet)
-
-  other_made : (line : ReportLine) (event : EventLine) → order_told line ≡ told.Other → order_made s line event ≡ Some (passed s)
-  other_made (lines.Order order order_answers.Done) event is = absurd (cc)
-  other_made (lines.Loose d (loose.Harden t)) event is = absurd (cc)
-  other_made (lines.Loose d (loose.Lost count id)) event is = absurd (cc)
-  other_made line event is = refl
+  done_other event unlike other = grind (arith, passes_so)
 
   pub order_other : (line : ReportLine) (event : EventLine) → order_told line ≡ told.Other
       → Makes true (gone_on z Passed) (order_made s line event)
-  order_other line event is = (passed s, other_made line event is, passes_so z s f quiet)
+  order_other line event is = grind (arith, passes_so)
 
   -- A loss of power
 
@@ -144,16 +105,8 @@ module _ (z : Auditor) (s : AuditState) (f : IsFor z s) (quiet : is_quiet s.due 
 -- What is due says what the line may be
 
 pub totals_fit : (s : AuditState) (line : ReportLine) (k : ℕ) → s.due ≡ Totals k → in_totals (outlines s) line k ≡ true → FitsTotals s line k
-totals_fit s (lines.Device d t) k is may =
-    let left = totals_left (outlines s) d t k may in
-    let long = length-map s.devices outline_of in omega (arith, left, long)
-totals_fit s (lines.Lost d t) k is may = is
-totals_fit s line k is may = tt
+totals_fit s line k is may = grind (arith, totals_left, length-map)
 
 pub reset_passed : (z : Auditor) (s : AuditState) → IsFor z s → (line : ReportLine) (due : Due) → due ≡ s.due → due ≡ ResetOf
     → Makes true (gone_on z Passed) (due_made s line due)
-reset_passed z s f line due is reset = (
-  passed s,
-  ap (λ (d : Due). due_made s line d) reset,
-  passes_so z s f (ap is_quiet (sym is ∙ reset)),
-)
+reset_passed z s f line due is reset = grind (arith, passes_so)

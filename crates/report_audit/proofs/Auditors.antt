@@ -24,51 +24,27 @@ use Rattle.deck_audit.specs.Keeping.{IsDue, IsQuiet}
 -- Where nothing is due of a device
 
 pub quiet_of : (k : Kept) (a : AuditedDevice) (due : Due) → is_quiet due ≡ true → IsDue due k a → IsQuiet k
-quiet_of k a (DataOf e) quiet is = absurd (cc)
-quiet_of k a (SenseOf e) quiet is = absurd (cc)
-quiet_of k a (Behind more did) quiet is = absurd (cc)
-quiet_of k a due quiet is = is
-
-due_quiet : (k : Kept) (a : AuditedDevice) (due : Due) → is_quiet due ≡ true → IsQuiet k → IsDue due k a
-due_quiet k a (DataOf e) quiet is = absurd (cc)
-due_quiet k a (SenseOf e) quiet is = absurd (cc)
-due_quiet k a (Behind more did) quiet is = absurd (cc)
-due_quiet k a due quiet is = is
+quiet_of k a due quiet is = grind arith
 
 module _ (programs : List PlannedProgram) where
   to_due : (k : Kept) (a : AuditedDevice) (due : Due) → is_quiet due ≡ true → IsAt programs Next k a → IsAt programs due k a
-  to_due k a due quiet is = record { kept = is.kept; plans_are = is.plans_are; due_so = due_quiet k a due quiet is.due_so }
-
-  from_due : (k : Kept) (a : AuditedDevice) (due : Due) → is_quiet due ≡ true → IsAt programs due k a → IsAt programs Next k a
-  from_due k a due quiet is = record { kept = is.kept; plans_are = is.plans_are; due_so = quiet_of k a due quiet is.due_so }
-
-  one_head : (due : Due) (quiet : is_quiet due ≡ true) (k : Kept) (a : AuditedDevice) (b : Bool) → IsAt programs Next k a
-      → IsAt programs (due_if b due) k a
-  one_head due quiet k a true is = to_due k a due quiet is
-  one_head due quiet k a false is = is
+  to_due k a due quiet is = grind arith
 
   one_tail : (b : Bool) (P Q : Type 0) → P → Q → either b P Q
-  one_tail true P Q p q = p
-  one_tail false P Q p q = q
+  one_tail b P Q p q = grind arith
 
   pub one_of_all : (due : Due) → is_quiet due ≡ true → (d : ℕ) (ks : List Kept) (ds : List AuditedDevice) → AllKept programs ks ds
       → OneKept programs due d ks ds
   one_of_all due quiet d [] [] all = tt
-  one_of_all due quiet d (k ∷ ks) (a ∷ ds) all = (
-    one_head due quiet k a (a.number == d) all.0,
-    one_tail (a.number == d) (AllKept programs ks ds) (OneKept programs due d ks ds) all.1 (one_of_all due quiet d ks ds all.1),
-  )
-  one_of_all due quiet d [] (a ∷ ds) all = absurd all
-  one_of_all due quiet d (k ∷ ks) [] all = absurd all
+  one_of_all due quiet d (k ∷ ks) (a ∷ ds) all = grind (arith, one_of_all due quiet d ks ds all.1, to_due, one_tail)
+  one_of_all due quiet d ks ds all = absurd all
 
   all_head : (due : Due) (quiet : is_quiet due ≡ true) (k : Kept) (a : AuditedDevice) (b : Bool) → IsAt programs (due_if b due) k a
       → IsAt programs Next k a
-  all_head due quiet k a true is = from_due k a due quiet is
-  all_head due quiet k a false is = is
+  all_head due quiet k a b is = grind (arith, quiet_of)
 
   all_tail : (b : Bool) (P Q : Type 0) → (Q → P) → either b P Q → P
-  all_tail true P Q go is = is
-  all_tail false P Q go is = go is
+  all_tail b P Q go is = grind arith
 
   pub all_of_one : (due : Due) → is_quiet due ≡ true → (d : ℕ) (ks : List Kept) (ds : List AuditedDevice) → OneKept programs due d ks ds
       → AllKept programs ks ds
@@ -77,8 +53,7 @@ module _ (programs : List PlannedProgram) where
     all_head due quiet k a (a.number == d) one.0,
     all_tail (a.number == d) (AllKept programs ks ds) (OneKept programs due d ks ds) (λ later. all_of_one due quiet d ks ds later) one.1,
   )
-  all_of_one due quiet d [] (a ∷ ds) one = absurd one
-  all_of_one due quiet d (k ∷ ks) [] one = absurd one
+  all_of_one due quiet d ks ds one = absurd one
 
   -- The device of a number
 
@@ -158,8 +133,7 @@ module _ (programs : List PlannedProgram) where
         → IsAt programs (due_if b due) k a → either b (AllKept programs ks ds) (OneKept programs due d ks ds)
         → cond b (Some n) (place_from (n + 1) ks d) ≡ Some i
         → (OneKept programs due d ks ds → place_from (n + 1) ks d ≡ Some i → At (n + 1) i ks ds) → At n i (k ∷ ks) (a ∷ ds)
-    by_number n i k ks a ds true is fits later found go =
-        let same : n ≡ i = cc in record { j = 0; place = omega (arith, same); found = here k ks a ds is fits later }
+    by_number n i k ks a ds true is fits later found go = grind (arith, here)
     by_number n i k ks a ds false is fits later found go =
         let f = go later found in
         record { j = suc f.j; place = omega (arith, f.place); found = there k ks a ds is fits f.j f.found }
@@ -171,15 +145,13 @@ module _ (programs : List PlannedProgram) where
         by_number n i k ks a ds (a.number == d) refl one.0 one.1
         (subst (λ (m : ℕ). cond (m == d) (Some n) (place_from (n + 1) ks d) ≡ Some i) (number_at k a (a.number == d) one.0) is)
         (λ later found. at (n + 1) ks ds later i found)
-    at n [] (a ∷ ds) one i is = absurd one
-    at n (k ∷ ks) [] one i is = absurd one
+    at n ks ds one i is = absurd one
 
     none_by : (n : ℕ) (k : Kept) (ks : List Kept) (a : AuditedDevice) (ds : List AuditedDevice) (b : Bool)
         → either b (AllKept programs ks ds) (OneKept programs due d ks ds) → cond b (Some n) (place_from (n + 1) ks d) ≡ None
         → (OneKept programs due d ks ds → place_from (n + 1) ks d ≡ None → device_in ds d ≡ None)
         → cond b (Some a) (device_in ds d) ≡ None
-    none_by n k ks a ds true later is go = absurd (cc)
-    none_by n k ks a ds false later is go = go later is
+    none_by n k ks a ds b later is go = grind arith
 
     pub none_at : (n : ℕ) (ks : List Kept) (ds : List AuditedDevice) → OneKept programs due d ks ds → place_from n ks d ≡ None
         → device_in ds d ≡ None
@@ -188,19 +160,13 @@ module _ (programs : List PlannedProgram) where
         none_by n k ks a ds (a.number == d) one.1
         (subst (λ (m : ℕ). cond (m == d) (Some n) (place_from (n + 1) ks d) ≡ None) (number_at k a (a.number == d) one.0) is)
         (λ later found. none_at (n + 1) ks ds later found)
-    none_at n [] (a ∷ ds) one is = absurd one
-    none_at n (k ∷ ks) [] one is = absurd one
+    none_at n ks ds one is = absurd one
 
 -- How many devices there are stays
 
-length_by : (ds : List AuditedDevice) (a b : AuditedDevice) (x : Bool) → length (with_device ds b) ≡ length ds
-    → length (cond x (b ∷ ds) (a ∷ with_device ds b)) ≡ length (a ∷ ds)
-length_by ds a b true is = refl
-length_by ds a b false is = ap suc is
-
 pub same_length : (ds : List AuditedDevice) (b : AuditedDevice) → length (with_device ds b) ≡ length ds
 same_length [] b = refl
-same_length (a ∷ ds) b = length_by ds a b (a.number == b.number) (same_length ds b)
+same_length (a ∷ ds) b = grind (arith, same_length ds b)
 
 -- the devices before the one that changes run no program still
 
@@ -222,25 +188,12 @@ none_before (a ∷ ds) b d is none =
 
 -- what is said where a line is judged well
 
-good_kept : (E : Type 0) (P : Type 0) (next : Option Then) (x : Then) → next ≡ Some x → OnGood {E = E} (Ok next) P → P
-good_kept E P (Some y) x is h = h
-good_kept E P None x is h = absurd (cc)
-
 pub judged_by : (E : Type 0) (programs : List PlannedProgram) (old : List Kept) (i d : ℕ) (line : ReportLine) (task : Task)
     (next : Option Then) (plans : PlansByPath) (after : Kept) (default : Kept) → i < length old → plans ≡ plans_of programs d
     → next ≡ task_then plans (slice_index_or old i default) i line task
     → OnGood {E = E} (Ok next) (after ≡ task_kept plans (slice_index_or old i default) line task) → IsInRange task
     → IsJudgedAt programs old (slice_set old i after) i d line task next
-judged_by E programs old i d line task next plans after default short plans_are next_is kept range = record {
-  before = slice_index_or old i default;
-  before_is = slice_get-get_or old i default short;
-  after = after;
-  new_is = refl;
-  next_is = next_is ∙ ap (λ (p : PlansByPath). task_then p (slice_index_or old i default) i line task) plans_are;
-  after_is = λ x is. good_kept E (after ≡ task_kept plans (slice_index_or old i default) line task) next x is kept
-      ∙ ap (λ (p : PlansByPath). task_kept p (slice_index_or old i default) line task) plans_are;
-  range = range;
-}
+judged_by E programs old i d line task next plans after default short plans_are next_is kept range = grind (arith, slice_get-get_or)
 
 pub place_is : (l m : List Kept) (d : ℕ) (x : Option ℕ) → l ≡ m → x ≡ place_from 0 l d → place_from 0 m d ≡ x
 place_is l m d x same is = sym (is ∙ ap (λ (n : List Kept). place_from 0 n d) same)

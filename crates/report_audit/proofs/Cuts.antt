@@ -27,14 +27,9 @@ cut_last line one some = no_split line one some
 abbrev pub next : ℕ → ℕ
 next n = n + 1
 
-shifted_by : (b : Bool) (n : ℕ) (texts : List (List ℕ)) → report_from (n + 1 + 1) texts ≡ option_map next (report_from (n + 1) texts)
-    → cond b (Some (n + 1)) (report_from (n + 1 + 1) texts) ≡ option_map next (cond b (Some n) (report_from (n + 1) texts))
-shifted_by true n texts more = refl
-shifted_by false n texts more = more
-
 shifted : (n : ℕ) (texts : List (List ℕ)) → report_from (n + 1) texts ≡ option_map next (report_from n texts)
 shifted n [] = refl
-shifted n (text ∷ texts) = shifted_by (bytes_eq text (codes "REPORT")) n texts (shifted (n + 1) texts)
+shifted n (text ∷ texts) = grind (arith, shifted (n + 1) texts)
 
 behind_first : (b : Bool) (texts : List (List ℕ)) → b ≡ false → cond b (Some 0) (report_from 1 texts) ≡ option_map next (report_from 0 texts)
 behind_first false texts is = shifted 0 texts

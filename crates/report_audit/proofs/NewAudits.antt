@@ -1,5 +1,5 @@
 -- An auditor is at first that of no line.
-use Rattle.std.proofs.Common.{◌≡◌, ℕ, List, [], ◌∷◌, drop, false, refl, sym, ap, subst}
+use Rattle.std.proofs.Common.{arith, ◌≡◌, ℕ, List, [], ◌∷◌, drop, false, refl, sym, ap, subst}
 use Rattle.std.specs.Prelude.{map}
 use Rattle.deck_text.specs.declared.line.DeviceLine.{DeviceLine}
 use Rattle.deck_text.specs.declared.line.PlannedProgram.{PlannedProgram}
@@ -13,24 +13,8 @@ use Rattle.deck_audit.specs.Follows.{KeepsPaths}
 use Rattle.deck_audit.specs.Replay.{new_replayed}
 use Rattle.deck_audit.specs.State.{first_state}
 
-keeps_none : (line : DeviceLine) → KeepsPaths (new_replayed line) no_history
-keeps_none line = record {
-  started_are = refl;
-  used_are = refl;
-  waits = record { first = false; second = false; third = false; fourth = false; waits_are = refl; waiting_are = refl };
-  powered_is = refl;
-}
-
 new_at : (programs : List PlannedProgram) (line : DeviceLine) → IsAt programs Next (new_kept line) (new_device programs line)
-new_at programs line = record {
-  kept = record {
-    follows = record { number_is = refl; device_is = refl; half_is = refl; lent_is = refl; program = tt };
-    keeps = keeps_none line;
-    counts = tt;
-  };
-  plans_are = refl;
-  due_so = refl;
-}
+new_at programs line = grind arith
 
 all_new : (programs : List PlannedProgram) (devices : List DeviceLine)
     → AllKept programs (map new_kept devices) (map (new_device programs) devices)
@@ -39,14 +23,4 @@ all_new programs (line ∷ devices) = (new_at programs line, all_new programs de
 
 pub new_audit : (z : Auditor) → z.devices.items ≡ map new_kept z.deck.devices → z.passed ≡ 0 → z.due ≡ Next
     → z.outlines.items ≡ map kept_outline z.devices.items → IsAuditOf z (first_state z.deck)
-new_audit z devices_are passed_is due_is outlines_so = record {
-  for = record {
-    events_are = ap (λ (n : ℕ). drop n z.deck.events) (sym passed_is);
-    devices_are = subst (λ (l : List Kept). AllKept z.deck.programs l (map (new_device z.deck.programs) z.deck.devices)) (sym devices_are)
-        (all_new z.deck.programs z.deck.devices);
-    told = tt;
-    powered = tt;
-    outlines_so = outlines_so;
-  };
-  due_is = due_is;
-}
+new_audit z devices_are passed_is due_is outlines_so = grind (arith, all_new)

@@ -1,5 +1,5 @@
 -- Reports that were judged by the definitions alone: those that a plain device could have made, and forged ones.
-use Rattle.std.proofs.Common.{◌≡◌, ℕ, ◌+◌, List, [], ◌∷◌, ◌++◌, false, refl}
+use Rattle.std.proofs.Common.{arith, ◌≡◌, ℕ, ◌+◌, List, [], ◌∷◌, ◌++◌, false, refl}
 use Rattle.std.specs.Prelude.{replicate, map, take}
 use Rattle.ckd_types.specs.declared.channel.Ccw.{Ccw}
 use Rattle.ckd_types.specs.declared.channel.Note.TheVariants.{Plain}
@@ -23,18 +23,18 @@ use Rattle.deck_audit.specs.State.{AuditState, first_state}
 use Rattle.deck_audit.specs.Verdict.{judged, at_end, or_no}
 
 -- what some lines come to, counted from 1
-unfoldable pub judged_from : ℕ → AuditState → List ReportLine → AuditStatus
+abbrev pub judged_from : ℕ → AuditState → List ReportLine → AuditStatus
 judged_from n s [] = at_end n s.due
 judged_from n s (line ∷ later) = or_no n (judged s line) (λ t. judged_from (n + 1) t later)
 
-unfoldable pub audit : DeckLines → List ReportLine → AuditStatus
+abbrev pub audit : DeckLines → List ReportLine → AuditStatus
 audit deck report = judged_from 1 (first_state deck) report
 
-unfoldable pub audit_all : DeckLines → List (List ReportLine) → List AuditStatus
+abbrev pub audit_all : DeckLines → List (List ReportLine) → List AuditStatus
 audit_all deck reports = map (audit deck) reports
 
 -- one device of one cylinder, with programs of path 1
-unfoldable pub deck_of : List (List Ccw) → List EventLine → DeckLines
+abbrev pub deck_of : List (List Ccw) → List EventLine → DeckLines
 deck_of programs events = record {
   frames = 1;
   slots = 0;
@@ -44,21 +44,21 @@ deck_of programs events = record {
   events = events;
 }
 
-unfoldable pub word : ℕ → ℕ → ℕ → List ℕ → Ccw
+abbrev pub word : ℕ → ℕ → ℕ → List ℕ → Ccw
 word command flags count given = record { command = command; flags = flags; count = count; given = given }
 
 -- a no-operation
-idle : List Ccw
+abbrev idle : List Ccw
 idle = word 3 0 1 [] ∷ []
 
 -- the data of record 0 of track 0
-unfoldable pub read_zero : List Ccw
+abbrev pub read_zero : List Ccw
 read_zero =
     word 0x63 0x40 16 (0x40 ∷ 0xc0 ∷ 0x10 ∷ 0 ∷ replicate 11 0 ++ 0x0e ∷ [])
     ∷ word 0x47 0x40 16 (6 ∷ 0 ∷ 0 ∷ 1 ∷ replicate 12 0)
     ∷ word 6 0 8 [] ∷ []
 
-unfoldable pub ended : ℕ → ℕ → ℕ → ℕ → ReportLine
+abbrev pub ended : ℕ → ℕ → ℕ → ℕ → ReportLine
 ended ordinal index status residual = lines.End (record {
   path = 1;
   device = 0;
@@ -69,40 +69,40 @@ ended ordinal index status residual = lines.End (record {
   note = Plain;
 })
 
-unfoldable pub accepted : ℕ → ReportLine
+abbrev pub accepted : ℕ → ReportLine
 accepted n = lines.Start 1 0 (start.Accepted n)
 
-unfoldable pub over : ℕ → ReportLine
+abbrev pub over : ℕ → ReportLine
 over n = lines.Over 1 0 n how.Full
 
-unfoldable pub checked : ℕ → ReportLine
+abbrev pub checked : ℕ → ReportLine
 checked n = lines.Over 1 0 n how.Checked
 
-unfoldable pub cut : ℕ → ℕ → ReportLine
+abbrev pub cut : ℕ → ℕ → ReportLine
 cut n commands = lines.Over 1 0 n (how.Cut commands)
 
-unfoldable pub io : ℕ → ℕ → ReportLine
+abbrev pub io : ℕ → ℕ → ReportLine
 io reads writes = lines.Io reads writes
 
-unfoldable pub tail : List ReportLine
+abbrev pub tail : List ReportLine
 tail = lines.Device 0 (totals.Calls 1 0 0) ∷ lines.Frame 0 0 false ∷ lines.Finish ∷ []
 
-unfoldable pub run_once : List EventLine
+abbrev pub run_once : List EventLine
 run_once = events.Start 1 0 ∷ events.Run 0 ∷ []
 
 -- The first run: a read of record 0. Its deck has twelve lines, and the line REPORT is the thirteenth
 
-first_run : List ReportLine → AuditStatus
+abbrev first_run : List ReportLine → AuditStatus
 first_run report = judged_from 14 (first_state (deck_of (read_zero ∷ []) run_once)) report
 
-read_lines : ℕ → ℕ → List ReportLine
+abbrev read_lines : ℕ → ℕ → List ReportLine
 read_lines n last =
     accepted n ∷ ended n 0 0x0c 0 ∷ ended n 1 0x0c 0 ∷ io 1 0 ∷ ended n 2 0x0c 0
     ∷ lines.Data (replicate 7 0 ++ last ∷ []) ∷ over n ∷ []
 
 the_first_run : map first_run ((read_lines 1 0 ++ tail) ∷ (read_lines 1 1 ++ tail) ∷ (read_lines 1 0 ++ take 2 tail) ∷ [])
     ≡ Yes ∷ No 19 History ∷ No 23 Place ∷ []
-unfolding first_run read_lines audit audit_all judged_from deck_of word idle read_zero ended accepted over checked cut io tail run_once part_of command_of walk
+unfolding part_of command_of walk
 the_first_run = refl
 
 -- A program that isn't planned; a second start while it runs; and the same answered as it must be
@@ -111,17 +111,17 @@ runs_no_more : audit_all (deck_of (idle ∷ []) (run_once ++ events.Start 1 0 �
     ((accepted 1 ∷ ended 1 0 0x0c 1 ∷ over 1 ∷ accepted 2 ∷ tail)
     ∷ (accepted 1 ∷ ended 1 0 0x0c 1 ∷ over 1 ∷ lines.Start 1 0 start.Done ∷ tail) ∷ [])
     ≡ No 4 History ∷ Yes ∷ []
-unfolding audit audit_all judged_from deck_of word idle read_zero ended accepted over checked cut io tail run_once part_of command_of
+unfolding part_of command_of
 runs_no_more = refl
 
-two_starts : List EventLine
+abbrev two_starts : List EventLine
 two_starts = events.Start 1 0 ∷ events.Start 1 0 ∷ []
 
 starts_once : audit_all (deck_of (idle ∷ idle ∷ []) two_starts)
     ((accepted 1 ∷ accepted 2 ∷ tail) ∷ (accepted 1 ∷ lines.Start 1 0 start.Running ∷ tail)
     ∷ (accepted 1 ∷ lines.Start 2 0 start.Running ∷ tail) ∷ (accepted 2 ∷ tail) ∷ [])
     ≡ No 2 History ∷ Yes ∷ No 2 Place ∷ No 1 History ∷ []
-unfolding two_starts audit audit_all judged_from deck_of word idle read_zero ended accepted over checked cut io tail run_once part_of command_of
+unfolding part_of command_of
 starts_once = refl
 
 -- Ends: another residual, another word, another program; an end behind the last one; none
@@ -132,12 +132,12 @@ ends_as_it_must : audit_all (deck_of (idle ∷ []) run_once)
     ∷ (accepted 1 ∷ ended 1 0 0x0c 1 ∷ ended 1 1 0x0e 1 ∷ lines.Sense equipment_sense ∷ checked 1 ∷ tail)
     ∷ (accepted 1 ∷ over 1 ∷ tail) ∷ (accepted 1 ∷ ended 1 0 0x0c 1 ∷ tail) ∷ (accepted 1 ∷ ended 1 0 0x0c 1 ∷ checked 1 ∷ tail) ∷ [])
     ≡ Yes ∷ No 2 History ∷ No 2 History ∷ No 2 Place ∷ No 3 Place ∷ No 2 Place ∷ No 3 Place ∷ No 3 History ∷ []
-unfolding audit audit_all judged_from deck_of word idle read_zero ended accepted over checked cut io tail run_once part_of command_of
+unfolding part_of command_of
 ends_as_it_must = refl
 
 -- A command that is none: its sense, that of another cause, and an equipment check in its place
 
-no_command : List Ccw
+abbrev no_command : List Ccw
 no_command = word 2 0 1 [] ∷ []
 
 senses_as_it_must : audit_all (deck_of (no_command ∷ []) run_once)
@@ -148,16 +148,16 @@ senses_as_it_must : audit_all (deck_of (no_command ∷ []) run_once)
     ∷ (accepted 1 ∷ ended 1 0 0x0e 1 ∷ lines.Sense equipment_sense ∷ checked 1 ∷ tail)
     ∷ (accepted 1 ∷ ended 1 0 0x0e 1 ∷ lines.Sense equipment_sense ∷ over 1 ∷ tail) ∷ [])
     ≡ Yes ∷ No 3 History ∷ No 3 History ∷ No 3 Place ∷ Yes ∷ No 4 History ∷ []
-unfolding no_command audit audit_all judged_from deck_of word idle read_zero ended accepted over checked cut io tail run_once part_of command_of
+unfolding part_of command_of
 senses_as_it_must = refl
 
 -- A program of two words that is cut behind the first: with its reset, without, behind more commands than it may have
 -- done, and by no reset
 
-two_words : List Ccw
+abbrev two_words : List Ccw
 two_words = word 3 0x40 1 [] ∷ word 3 0 1 [] ∷ []
 
-reset_line : ReportLine
+abbrev reset_line : ReportLine
 reset_line = lines.Reset 1 0
 
 cut_by_reset : audit_all (deck_of (two_words ∷ []) (events.Start 1 0 ∷ events.Step 0 ∷ events.Reset 1 0 ∷ events.Step 0 ∷ []))
@@ -170,5 +170,5 @@ cut_by_reset : audit_all (deck_of (two_words ∷ []) (events.Start 1 0 ∷ event
     ∷ (accepted 1 ∷ cut 1 0 ∷ reset_line ∷ lines.StepIdle 0 ∷ tail)
     ∷ (accepted 1 ∷ ended 1 0 0x0c 1 ∷ cut 1 1 ∷ reset_line ∷ ended 1 1 0x0c 1 ∷ tail) ∷ [])
     ≡ Yes ∷ Yes ∷ No 3 History ∷ No 3 History ∷ No 4 Place ∷ No 3 Place ∷ No 2 Place ∷ No 5 Place ∷ []
-unfolding two_words reset_line audit audit_all judged_from deck_of word idle read_zero ended accepted over checked cut io tail run_once part_of command_of
+unfolding part_of command_of
 cut_by_reset = refl
