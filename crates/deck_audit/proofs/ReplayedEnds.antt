@@ -78,19 +78,22 @@ end_here v s o e same runs is more =
     ∙ ap (λ (x : ReplayedState). replay.next_end x) same
 
 -- no program runs, or it is over
-pub next_of_none : (r : ReplayedState) → r.running ≡ None → replay.IsNext r None None
-next_of_none r none = (
+pub next_of_none : (r : ReplayedState) (w : Option PendingState) → r.pending ≡ w → r.running ≡ None → replay.IsNext r None w None
+next_of_none r w waits none = (
   ap (λ (x : Option Running). replay.next_end_by r x) (sym none),
-  ap (λ (x : Option Running). record r { running = x }) (sym none) ∙ ap (λ (x : Option Running). replay.ended_by r x) (sym none),
+  ap (λ (x : Option PendingState). record r { running = None; pending = x }) (sym waits)
+      ∙ ap (λ (x : Option Running). record r { running = x }) (sym none) ∙ ap (λ (x : Option Running). replay.ended_by r x) (sym none),
 )
 
-pub next_of_over : (r : ReplayedState) (o : Running) → r.running ≡ Some o → is_none o.chain.at.next ≡ true → replay.IsNext r None (Some o)
-next_of_over r o runs over = by_next o.chain.at.next refl over where
-  by_next : (next : Option ℕ) → o.chain.at.next ≡ next → is_none next ≡ true → replay.IsNext r None (Some o)
+pub next_of_over : (r : ReplayedState) (o : Running) (w : Option PendingState) → r.pending ≡ w → r.running ≡ Some o → is_none o.chain.at.next ≡ true →
+    replay.IsNext r None w (Some o)
+next_of_over r o w waits runs over = by_next o.chain.at.next refl over where
+  by_next : (next : Option ℕ) → o.chain.at.next ≡ next → is_none next ≡ true → replay.IsNext r None w (Some o)
   by_next (Some i) is over = absurd (cc)
   by_next None is over = (
     sym (ap (λ (x : Option Running). replay.next_end_by r x) runs ∙ ap (λ (n : Option ℕ). replay.next_end_at r o n) is),
-    ap (λ (x : Option Running). record r { running = x }) (sym runs)
+    ap (λ (x : Option PendingState). record r { running = Some o; pending = x }) (sym waits)
+        ∙ ap (λ (x : Option Running). record r { running = x }) (sym runs)
         ∙ sym (ap (λ (x : Option Running). replay.ended_by r x) runs ∙ ap (λ (n : Option ℕ). replay.ended_at r o n) is),
   )
 
@@ -98,9 +101,10 @@ next_of_over r o runs over = by_next o.chain.at.next refl over where
 pub next_of_more : (r : ReplayedState) (o : Running) (e : CommandEnd) (p : Pending) (c : ChainState) → r.running ≡ Some o → is_none o.chain.at.next ≡ false →
     e ≡ end_with o.chain (replay.effect_at r o).outcome → c ≡ behind o.chain (replay.effect_at r o).outcome →
     pending_of p ≡ record { edit = (replay.effect_at r o).edit; paths = (replay.effect_at r o).paths; provisional = is_provisional o.chain.at.stance.extent } →
-    replay.IsNext r (Some (e, p)) (Some (record o { chain = c }))
+    replay.IsNext r (Some e) (Some (pending_of p)) (Some (record o { chain = c }))
 next_of_more r o e p c runs more is goes pends = by_next o.chain.at.next refl more where
-  by_next : (next : Option ℕ) → o.chain.at.next ≡ next → is_none next ≡ false → replay.IsNext r (Some (e, p)) (Some (record o { chain = c }))
+  by_next : (next : Option ℕ) → o.chain.at.next ≡ next → is_none next ≡ false →
+      replay.IsNext r (Some e) (Some (pending_of p)) (Some (record o { chain = c }))
   by_next None at more = absurd (cc)
   by_next (Some i) at more = (
     ap (λ (x : CommandEnd). Some x) is ∙ sym (ap (λ (x : Option Running). replay.next_end_by r x) runs ∙ ap (λ (n : Option ℕ). replay.next_end_at r o n) at),

@@ -24,7 +24,7 @@ use Rattle.deck_audit.specs.declared.replayed.Running.{Running}
 use Rattle.deck_audit.specs.declared.state.HalfWrite.TheVariants.{Closed}
 use Rattle.deck_audit.specs.declared.state.OpenProgram.{OpenProgram}
 use Rattle.deck_audit.specs.declared.state.Outline.{Outline}
-use Rattle.deck_audit.specs.Replayed.{PendingState, ReplayedState, pending_of}
+use Rattle.deck_audit.specs.Replayed.{PendingState, ReplayedState}
 
 abbrev pub new_replayed : DeviceLine → ReplayedState
 new_replayed line = record {
@@ -154,18 +154,9 @@ ended_by r None = r
 abbrev pub ended_next : ReplayedState → ReplayedState
 ended_next r = ended_by r r.running
 
--- of what an attempt at it gave: its end, and what is then pending
-abbrev pub end_in : Option (CommandEnd × Pending) → Option CommandEnd
-end_in (Some next) = Some next.0
-end_in None = None
-
-abbrev pub pending_in : Option PendingState → Option (CommandEnd × Pending) → Option PendingState
-pending_in waits (Some next) = Some (pending_of next.1)
-pending_in waits None = waits
-
--- an attempt gave what the next command of this device, of which the program goes on so, comes to
-abbrev pub IsNext : ReplayedState → Option (CommandEnd × Pending) → Option Running → Type 0
-IsNext r next running = (end_in next ≡ next_end r) × (record r { running = running; pending = pending_in r.pending next } ≡ ended_next r)
+-- an attempt gave the end of this device's next command, of which this is then pending, and its program goes on so
+abbrev pub IsNext : ReplayedState → Option CommandEnd → Option PendingState → Option Running → Type 0
+IsNext r end pending running = (end ≡ next_end r) × (record r { running = running; pending = pending } ≡ ended_next r)
 
 -- What stands behind an end: acts of cache fast write, that come before it
 

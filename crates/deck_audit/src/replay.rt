@@ -1,10 +1,10 @@
-ghost use Rattle.std.specs.Prelude.{◌≡◌, ◌<◌, ◌≤◌, ◌*◌, IfOk, IfSome, None, OnErr, OnOk, true};
+ghost use Rattle.std.specs.Prelude.{◌≡◌, ◌<◌, ◌≤◌, ◌*◌, IfOk, IfSome, None, OnErr, OnOk, option_map, true};
 ghost use Rattle.plain_defs.specs.declared.journal.Act.TheVariants.{Harden, Loosen};
 ghost use Rattle.deck_audit.specs.Replay.{acted, any_may_start, ended_next, free_answer, given_back, has_left, held_answer, is_legal, lent_answer};
 ghost use Rattle.deck_audit.specs.Replay.{lost, may_loosen, may_start, new_replayed, next_end, outline_of, own_runs, program_of, running_answer};
 ghost use Rattle.deck_audit.specs.Replay.{settled, start_answer, started_next, started_on};
 ghost use Rattle.deck_audit.specs.Replay.{IsNext, IsOn, IsPendingOn};
-ghost use Rattle.deck_audit.specs.Replayed.{ReplayedState};
+ghost use Rattle.deck_audit.specs.Replayed.{ReplayedState, pending_of};
 
 use crate::replayed::{Pending, ReplayedDevice, Running};
 use crate::{HalfWrite, OpenProgram, Outline};
@@ -38,18 +38,21 @@ fn own_runs(running: &Option<Running>, path: PathNo) -> bool
     }
 }
 
-/// The end of the running program's next command, and what it does to the device, which has nothing of it yet. After want of memory no
-/// program runs.
+/// The end of the running program's next command. What it does to the device, which has nothing of it yet, is then pending. After want
+/// of memory no program runs.
 #[tactic(auto, using(crate::proofs::ReplayedEnds::next_of_none, crate::proofs::ReplayedEnds::next_of_over, crate::proofs::ReplayedEnds::next_of_more))]
 fn attempt_next(
     alloc: Global,
     device: &PlainDevice,
     running: &mut Option<Running>,
-) -> Result<Option<(CommandEnd, Pending)>, NoMemory>
-    requires { IfSome running.old (IsOn device.now) }
-    ensures next { (r : ReplayedState) → r.device ≡ device.now → r.running ≡ running.old → IfOk result (λ next. IsNext r next running.new) }
+    pending: &mut Option<Pending>,
+) -> Result<Option<CommandEnd>, NoMemory>
+    requires running { IfSome running.old (IsOn device.now) }
+    requires waits { IfSome pending.old (IsPendingOn device.now) }
+    ensures next { (r : ReplayedState) → r.device ≡ device.now → r.running ≡ running.old → r.pending ≡ option_map pending_of pending.old →
+        IfOk result (λ end. IsNext r end (option_map pending_of pending.new) running.new) }
     ensures runs { OnOk result (IfSome running.new (IsOn device.now)) }
-    ensures pending { IfOk result (λ next. IfSome next (λ n. IsPendingOn device.now n.1)) }
+    ensures pending { IfSome pending.new (IsPendingOn device.now) }
     ensures lacked { OnErr result (running.new ≡ None) }
 {
     let Some(run) = running else {
@@ -63,12 +66,12 @@ fn attempt_next(
         *running = None;
         return Err(NoMemory);
     };
-    let pending = Pending {
+    *pending = Some(Pending {
         edit,
         paths,
         provisional,
-    };
-    Ok(Some((end, pending)))
+    });
+    Ok(Some(end))
 }
 
 impl ReplayedDevice {
@@ -219,13 +222,8 @@ impl ReplayedDevice {
         ensures end { IfOk result (λ end. end ≡ next_end self.old) }
         ensures state { OnOk result (self.new ≡ ended_next self.old) }
     {
-        match attempt_next(alloc, &self.device, &mut self.running)? {
-            Some((end, pending)) => {
-                self.pending = Some(pending);
-                Ok(Some(end))
-            }
-            None => Ok(None),
-        }
+        let end = attempt_next(alloc, &self.device, &mut self.running, &mut self.pending)?;
+        Ok(end)
     }
 
     /// The command that ended last may edit its track: it isn't loose, or its data are of cache fast write.

@@ -1,5 +1,5 @@
 -- The text of a line of a report has no line feed in it.
-use Rattle.std.proofs.Common.{◌≡◌, ◌<◌, ◌^◌, ◌==◌, ◌++◌, ℕ, Bool, true, List, [], ◌∷◌, refl, arith, rules}
+use Rattle.std.proofs.Common.{◌≡◌, ◌<◌, ◌^◌, ℕ, Bool, true, List, [], ◌∷◌, refl, arith, rules}
 use Rattle.std.specs.Prelude.{◌&&◌, decimal}
 use Rattle.std.proofs.lemmas.Bool.{and_from, and_parts}
 use Rattle.std.proofs.lemmas.Fmt.{digits_decimal}
