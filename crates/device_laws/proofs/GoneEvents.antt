@@ -37,18 +37,17 @@ use Rattle.loss_model.specs.declared.Loss.TheVariants as losses
 use Rattle.track_image.specs.Image.{Image}
 use Rattle.track_table.proofs.Places.{empty_places}
 use Rattle.device_outside.specs.Interaction.{Interaction, Done, and_then}
-use Rattle.device_defs.specs.declared.answers.Did.{Did}
 use Rattle.device_defs.specs.Background.{work}
 use Rattle.device_defs.specs.Between.{HasSizes}
 use Rattle.device_defs.specs.Contents.{Contents}
 use Rattle.device_defs.specs.Cutting as U
-use Rattle.device_defs.specs.Cutting.{counts_one_by, half_cut, half_lost, loose_gone, powerless, powered_off, power, reset_noted, reset_by, reset}
+use Rattle.device_defs.specs.Cutting.{counts_one_by, half_cut, half_lost, loose_gone, powerless, powered_off, power, reset_by, reset}
 use Rattle.device_defs.specs.Device.{Device, with_store, event_begun, quiet_event, event}
 use Rattle.device_defs.specs.Effects.{act_noted, gone_back, loose_lost}
 use Rattle.device_defs.specs.Events as E
 use Rattle.device_defs.specs.Events.{with_loss, lost_by, losing, background, lose}
 use Rattle.device_defs.specs.Losses as L
-use Rattle.device_defs.specs.Losses.{over, without_frame, settled, cache_lost, store_lost, all_firm_told}
+use Rattle.device_defs.specs.Losses.{over, cache_lost, store_lost}
 use Rattle.device_defs.specs.Orders as D
 use Rattle.device_defs.specs.Orders.{with_tracks, lent_to, given_up, lend, restore}
 use Rattle.device_defs.specs.Owed as O
@@ -234,8 +233,7 @@ module _ {F P H R : Type 0} (c : Contents F P H R) where
       Always (body (event_begun d)) (λ y _. Gone y) → Always (event c d body) (λ y _. Gone y)
   event_away d body g does =
       quiet_away d (λ z. and_then (hear c 960 z.store) (λ s _. body (record z { store = s })))
-      (always_then (hear_still 960 (event_begun d).store (begun_away d g.store))
-      (λ s _ e. subst (λ (x : Store F P H). Always (body (record (event_begun d) { store = x })) (λ y _. Gone y)) (sym e) does))
+      (always_then (hear_still 960 (event_begun d).store (begun_away d g.store)) (λ s _ e. rw e does))
 
   pub background_away : (d : Device F P H) → Gone d → Always (background c d) (λ y _. Gone y)
   unfolding E.background
@@ -243,9 +241,7 @@ module _ {F P H R : Type 0} (c : Contents F P H R) where
       let s = (event_begun d).store in
       let i = begun_away d g.store in
       event_away d (λ z. and_then (work c z.store) (λ y did. Done (with_store z y) did)) g
-      (subst (λ (w : Interaction R Image (Store F P H) (Option Did)). Always (and_then w (λ y did. Done (with_store (event_begun d) y) did)) (λ y _. Gone y))
-      (sym (work_none c s i.down i.other i.queue))
-      (always_done (record { store = i; idle = all_idle d.history s.acts g.idle })))
+      (rw (work_none c s i.down i.other i.queue) (always_done (record { store = i; idle = all_idle d.history s.acts g.idle })))
 
   pub loss_away : (d : Device F P H) (loss : Loss) → ((side : _) → loss ≡ losses.Side side → ⊥) → Gone d → Always (lose c d loss) (λ y _. Gone y)
   unfolding E.lose

@@ -1,5 +1,5 @@
 -- In a run whose outside is told, too, the pool has been told behind each event how many tracks wait.
-use Rattle.std.proofs.Common.{◌≡◌, ◌==◌, ℕ, Bool, true, false, List, Option, Some, None, set, get_or, refl, sym, ap, subst, ◌∙◌}
+use Rattle.std.proofs.Common.{◌≡◌, ◌==◌, ℕ, Bool, true, false, List, Option, Some, None, set, get_or, refl, sym, ap, ◌∙◌}
 use Rattle.std.proofs.lemmas.Bool.{eqb-true}
 use Rattle.std.proofs.lemmas.List.{set-get_or}
 use Rattle.std.specs.Prelude.{if◌then◌else◌}
@@ -27,17 +27,7 @@ use Rattle.device_defs.specs.Events.{losing, second_of, second, background, lose
 use Rattle.device_defs.specs.Owed.{all_told, waiting_count, waiting_told, noted_end}
 use Rattle.device_defs.specs.Store.{Store, tracks_of}
 use Rattle.device_laws.proofs.Based.{Base, kept, Hushed, Based, based_done, based_try, based_ask, based_read, based_write, based_tell}
-use Rattle.device_laws.proofs.BasedEvents.{
-  base_in,
-  with_one_loss,
-  fronted,
-  front_based,
-  command_body,
-  second_body,
-  work_body,
-  lose_body,
-  power_body,
-}
+use Rattle.device_laws.proofs.BasedEvents.{base_in, with_one_loss, fronted, front_based, command_body, second_body, work_body, lose_body, power_body}
 use Rattle.device_laws.proofs.invariants.CallCounts.{all_told_steady}
 use Rattle.device_laws.proofs.RanBased.{put_in, after_waits}
 
@@ -143,7 +133,7 @@ module _ {F P H R : Type 0} (c : Contents F P H R) (r : R) where
     end_told : y.store.device ≡ d → (w : Told) → w.pool.waiting ≡ ws → HasTold ws d (hold r (and_then (noted_end c before y.store) (put_in y o)) w)
     end_told own w same =
         let x = split r (λ z _. and_then (waiting_told c before z) (put_in y o)) (all_told_steady c (tracks_of y.store) y.store) w in
-        subst (HasTold ws d) (sym (hold_on r (all_told c (tracks_of y.store) y.store) (λ z _. waiting_told c before z) (put_in y o) w ∙ x.same))
+        rw (hold_on r (all_told c (tracks_of y.store) y.store) (λ z _. waiting_told c before z) (put_in y o) w ∙ x.same)
         (count_told x.state (x.device ∙ own) (waiting_count c x.state == before) refl x.told (x.waiting ∙ same))
 
   pub quiet_told : {X : Type 0} (d : Device F P H) (b : Base) (body : Device F P H → Interaction R Image (Device F P H) X) → b.device ≡ d.store.device →
@@ -151,8 +141,7 @@ module _ {F P H R : Type 0} (c : Contents F P H R) (r : R) where
       HasTold w.pool.waiting d.store.device (hold r (quiet_event c d body) w)
   quiet_told d b body own x w number =
       let y = split r (event_ended c d) x w in
-      subst (HasTold w.pool.waiting d.store.device) (sym y.same)
-      (end_told y.state y.answer (waiting_count c d.store) d.store.device w.pool.waiting number (y.device ∙ own) y.told y.waiting)
+      rw y.same (end_told y.state y.answer (waiting_count c d.store) d.store.device w.pool.waiting number (y.device ∙ own) y.told y.waiting)
 
   module _ (d : Device F P H) (w : Told) (number : get_or w.pool.waiting d.store.device 0 ≡ waiting_count c d.store) where
     event_told : {X : Type 0} (body : Device F P H → Interaction R Image (Device F P H) X) (f : Base → Base) → (f (kept d.store)).device ≡ d.store.device →

@@ -27,7 +27,6 @@ use Rattle.nv_store.specs.declared.patches.Stored.{Stored}
 use Rattle.device_outside.specs.Interaction.{Interaction, Done, Tell, and_then}
 use Rattle.device_outside.specs.Keeper.{Firm}
 use Rattle.device_outside.proofs.BothRules.{on_test}
-use Rattle.device_defs.specs.declared.answers.Did.{Did}
 use Rattle.device_defs.specs.declared.answers.Did.TheVariants.{Nothing}
 use Rattle.device_defs.specs.Background as K
 use Rattle.device_defs.specs.Background.{copies_to, copy_first, stage_first, destage_first, recover_first, work}
@@ -37,7 +36,7 @@ use Rattle.device_defs.specs.Cutting.{counts_one_by, half_cut, half_lost, loose_
 use Rattle.device_defs.specs.Device.{Device, all_acted, with_store, event_begun, event_ended, quiet_event, event}
 use Rattle.device_defs.specs.Effects.{gone_back}
 use Rattle.device_defs.specs.Events as E
-use Rattle.device_defs.specs.Events.{with_loss, lost_by, losing, background, lose}
+use Rattle.device_defs.specs.Events.{with_loss, losing, background, lose}
 use Rattle.device_defs.specs.Losses as L
 use Rattle.device_defs.specs.Losses.{over, without_frame, settled, patch_lost, cache_lost, store_lost, framed_image, all_firm_told}
 use Rattle.device_defs.specs.Marks.{MarksStore, MarksDevice, marks_of, frame_mark, patch_mark, half_mark}
@@ -70,7 +69,7 @@ use Rattle.device_laws.proofs.ContentChanges.{same_slots}
 use Rattle.device_laws.proofs.FailedCall.{IsSame}
 use Rattle.device_laws.proofs.Notices.{ending_changes_no_mark}
 use Rattle.device_laws.proofs.TrackContents as T
-use Rattle.device_laws.proofs.TrackContents.{TrackContents, contents_at, none_fits}
+use Rattle.device_laws.proofs.TrackContents.{contents_at, none_fits}
 use Rattle.device_laws.proofs.TrackMarks as M
 use Rattle.device_laws.proofs.TrackMarks.{track_at}
 use Rattle.device_laws.proofs.TwinAsks.{Ordered, ask_notice, right_keeps}
@@ -233,10 +232,7 @@ hear_lent (suc n) v w s h i = ask_notice s.device (λ note. by_note note (hear_l
         Twins Away (heard contents (hear contents n) s note) (heard by_plain (hear by_plain n) (marks_of v w s) note) h
     by_note None later = twin_done i
     by_note (Some t) later =
-        subst (λ (z : DeviceStore). Twins Away (hear contents n z) (hear by_plain n (dropped by_plain (marks_of v w s) t)) h)
-        (sym (dropped_same contents s t (i.frame t)))
-        (subst (λ (m : MarksStore). Twins Away (hear contents n s) (hear by_plain n m) h)
-        (sym (dropped_same by_plain (marks_of v w s) t (marks_frame v w s h i t))) later)
+        rw (dropped_same contents s t (i.frame t)) (rw (dropped_same by_plain (marks_of v w s) t (marks_frame v w s h i t)) later)
 
 -- an event's end
 
@@ -396,10 +392,7 @@ module _ {A : Type 0} where
   quiet_lent v w d h f g x =
       whole_then (event_ended contents d) (event_ended by_plain (marks_device v w d)) x
       (λ v' w' z a b k o.
-      subst (λ (n : ℕ). WholeTwins LeavesLent
-      (and_then (noted_end contents (waiting_count contents d.store) z.store) (λ y _. Done (record z { store = y }) a))
-      (and_then (noted_end by_plain n (marks_of v' w' z.store)) (λ y _. Done (record (marks_device v' w' z) { store = y }) b)) k)
-      (sym (count_twin v w d.store)) (ending (waiting_count contents d.store) v' w' z a b k o))
+      rw (count_twin v w d.store) (ending (waiting_count contents d.store) v' w' z a b k o))
 
   event_lent : (v w : List Track) (d : WholeDevice) (h : Held) (f : WholeDevice → Interaction (List ℕ) Image WholeDevice A)
       (g : MarksDevice → Interaction Bool Image MarksDevice A) → IsLent v w d h →
@@ -421,12 +414,7 @@ background_lent v w d h i =
     (λ z. and_then (work by_plain z.store) (λ s did. Done (with_store z s) did)) i
     (λ v' w' s k o.
     let z : WholeDevice = record (event_begun d) { store = s } in
-    subst (λ (x : Interaction (List ℕ) Image DeviceStore (Option Did)). WholeTwins LeavesLent (and_then x (λ s did. Done (with_store z s) did))
-    (and_then (work by_plain (marks_of v' w' s)) (λ m did. Done (with_store (marks_device v' w' z) m) did)) k)
-    (sym (work_none contents s o.down_a o.down_b o.queue))
-    (subst (λ (x : Interaction Bool Image MarksStore (Option Did)). WholeTwins LeavesLent (Done (with_store z s) (Some Nothing))
-    (and_then x (λ m did. Done (with_store (marks_device v' w' z) m) did)) k)
-    (sym (work_none by_plain (marks_of v' w' s) o.down_a o.down_b o.queue))
+    rw (work_none contents s o.down_a o.down_b o.queue) (rw (work_none by_plain (marks_of v' w' s) o.down_a o.down_b o.queue)
     (whole_done v' w' (with_store z s) (record { lent = record { store = o; idle = all_idle d.history s.acts i.idle }; same = refl }))))
 
 -- Losses
@@ -480,11 +468,7 @@ module _ (v w : List Track) (s : DeviceStore) (h : Held) (i : IsLentStore v w s 
 told_nothing : (v w : List Track) (n : ℕ) (s : DeviceStore) (h : Held) (m : MarksStore) → marks_of v w s ≡ m → IsLentStore v w s h →
     Twins Away (all_firm_told contents n s) (all_firm_told by_plain n m) h
 told_nothing v w n s h m e i =
-    subst (λ (k : MarksStore). Twins Away (all_firm_told contents n s) (all_firm_told by_plain n k) h) e
-    (subst (λ (x : Interaction (List ℕ) Image DeviceStore (Unit {0})). Twins Away x (all_firm_told by_plain n (marks_of v w s)) h)
-    (sym (told_same contents n s i.told))
-    (subst (λ (x : Interaction Bool Image MarksStore (Unit {0})). Twins Away (Done s (tt {0})) x h)
-    (sym (told_same by_plain n (marks_of v w s) (marks_told v w s h i))) (twin_done i)))
+    rw (← e) (rw (told_same contents n s i.told) (rw (told_same by_plain n (marks_of v w s) (marks_told v w s h i)) (twin_done i)))
 
 -- of the cache or the store: that of a side is refused
 abbrev pub IsShared : Loss → Type 0
@@ -497,16 +481,13 @@ losing_lent : (v w : List Track) (s : DeviceStore) (h : Held) (loss : Loss) → 
 losing_lent v w s h losses.Cache shared i =
     let z = with_loss s losses.Cache in
     let o = counted_lent v w s h losses.Cache i in
-    subst (λ (x : DeviceStore). Twins Away (all_firm_told contents (tracks_of s) x)
-    (all_firm_told by_plain (tracks_of s) (cache_lost by_plain (marks_of v w z))) h) (sym (cache_same v w z h o))
+    rw (cache_same v w z h o)
     (told_nothing (if has_loose z then w else v) w (tracks_of s) (begun_with (has_loose z) z) h (cache_lost by_plain (marks_of v w z))
     (sym (cache_marks v w z h o)) (lent_y v w z h o))
 losing_lent v w s h losses.Store shared i =
     let z = with_loss s losses.Store in
     let o = counted_lent v w s h losses.Store i in
-    subst (λ (x : DeviceStore). Twins Away (all_firm_told contents (tracks_of s) x)
-    (all_firm_told by_plain (tracks_of s) (store_lost by_plain (marks_of v w z))) h) (sym (store_same v w z h o))
-    (told_nothing v w (tracks_of s) z h (store_lost by_plain (marks_of v w z)) (sym (store_marks v w z h o)) o)
+    rw (store_same v w z h o) (told_nothing v w (tracks_of s) z h (store_lost by_plain (marks_of v w z)) (sym (store_marks v w z h o)) o)
 losing_lent v w s h (losses.Side side) shared i = absurd shared
 
 pub loss_lent : (v w : List Track) (d : WholeDevice) (h : Held) (loss : Loss) → IsShared loss → IsLent v w d h →
@@ -572,12 +553,7 @@ power_lent v w d h i =
     let e : powerless contents l ≡ y = powerless_same contents l i.store.half i.store.frame i.store.lent in
     quiet_lent v w d h (λ x. and_then (half_cut contents x.store x.store.half) (λ s _. Done (powered_off contents x s) (tt {0})))
     (λ x. and_then (half_cut by_plain x.store x.store.half) (λ s _. Done (powered_off by_plain x s) (tt {0})))
-    (subst (λ (x : Interaction (List ℕ) Image WholeDevice (Unit {0})). WholeTwins LeavesLent x
-    (and_then (half_cut by_plain (marks_of v w s) (marks_of v w s).half) (λ m _. Done (powered_off by_plain (marks_device v w z) m) (tt {0}))) h)
-    (sym (off_same contents z i.store.half))
-    (subst (λ (x : Interaction Bool Image MarksDevice (Unit {0})). WholeTwins LeavesLent (Done (powered_off contents z s) (tt {0})) x h)
-    (sym (off_same by_plain (marks_device v w z) half))
-    (whole_ends u w (powered_off contents z s)
+    (rw (off_same contents z i.store.half) (rw (off_same by_plain (marks_device v w z) half) (whole_ends u w (powered_off contents z s)
     (ap (λ (x : DeviceStore). off (marks_of u w x) (counts_one_by d.store.half)) e
     ∙ ap (λ (m : MarksStore). off m (counts_one_by d.store.half)) (gone_marks v w l any)
     ∙ ap (λ (m : MarksStore). off m (counts_one_by d.store.half))

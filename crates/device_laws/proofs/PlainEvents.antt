@@ -142,7 +142,7 @@ module _ (num : ℕ) (empty : PlainState) (d : MarksDevice) (f : Follows num emp
           some = f.some;
           stands = start_stands empty d f.stands path least most (idle_paths empty d f.keeps none) is;
           keeps = start_keeps empty d f.keeps path none;
-          of = subst (λ (x : PlainState). IsOf x (core_of d.store)) (sym (ap (λ (p : Part). p.state) first_is))
+          of = rw (ap (λ (p : Part). p.state) first_is)
               (of_paths s (core_of d.store) (idle_of none) (sense_begun s.paths path (next_program d path)));
           places = f.places;
           before = Some (begun_chain (next_program d path) (store_fixed d.store));

@@ -20,26 +20,13 @@ use Rattle.device_defs.specs.Losses as L
 use Rattle.device_defs.specs.Losses.{firm_told, all_firm_told, side_lost, call_failed}
 use Rattle.device_defs.specs.Owed.{hear, noted_end}
 use Rattle.device_defs.specs.Second as D
-use Rattle.device_defs.specs.Second.{half_image_of, half_closed, finished, second_done, second_absent, second_by, second_part}
+use Rattle.device_defs.specs.Second.{half_image_of, half_closed, finished, second_done, second_by, second_part}
 use Rattle.device_defs.specs.Store.{Origin, OfCommand, OfCut, OfBackground, HalfWrite, Store, tracks_of, takes_b, has_level}
 use Rattle.device_defs.specs.Transfers as M
 use Rattle.device_defs.specs.Transfers.{Moves, FirstPart, SecondPart, InCache, Loss as LossPart, both, one_or_both, Within, Makes}
 use Rattle.device_defs.specs.Writing as V
 use Rattle.device_defs.specs.declared.answers.Took.TheVariants.{Unwritten}
-use Rattle.device_defs.specs.Writing.{
-  wrote,
-  write_side,
-  write_counted,
-  alone_b,
-  failed_a,
-  first_a,
-  write_first,
-  tried_b,
-  write_second,
-  unpatched,
-  done_by,
-  write_done,
-}
+use Rattle.device_defs.specs.Writing.{wrote, write_side, write_counted, alone_b, failed_a, first_a, write_first, tried_b, write_second, write_done}
 use Rattle.device_laws.proofs.PoolWalks.{AsksPool, asks_done, asks_ask, hear_asks, ended_asks, asks_try, done_asks}
 
 -- It moves nothing
@@ -161,8 +148,7 @@ module _ {F P H R : Type 0} (c : Contents F P H R) where
     within a b e f w low high = record {
       least_reads = omega arith;
       most_reads = omega arith;
-      least_writes = subst (λ (x : Bool). (one_or_both x (takes_b s)).least ≤ w) (sym e)
-          (subst (λ (y : Bool). (one_or_both a y).least ≤ w) (sym f) low);
+      least_writes = rw e (subst (λ (y : Bool). (one_or_both a y).least ≤ w) (sym f) low);
       most_writes = subst (λ (x : Bool). w ≤ both x (takes_b s)) (sym e) (subst (λ (y : Bool). w ≤ both a y) (sym f) high);
     }
 

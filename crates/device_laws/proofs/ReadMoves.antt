@@ -28,25 +28,10 @@ use Rattle.device_defs.specs.Image.{
   delivered,
   missed,
   miss,
-  image_by,
   image,
 }
 use Rattle.device_defs.specs.Losses as L
-use Rattle.device_defs.specs.Losses.{
-  over,
-  down,
-  slot_in,
-  gives_up,
-  lost_now,
-  by_frame,
-  kept_by_frame,
-  settled,
-  settled_but,
-  side_lost,
-  firm_told,
-  all_firm_told,
-  call_failed,
-}
+use Rattle.device_defs.specs.Losses.{over, down, slot_in, gives_up, by_frame, settled, settled_but, side_lost, firm_told, all_firm_told, call_failed}
 use Rattle.device_defs.specs.Store.{SideMarks, Store, tracks_of, level_at, has_level, frame_at, patch_at, is_lost, is_loose, half_is, owed_at, with_lost}
 use Rattle.device_defs.specs.Transfers as M
 use Rattle.device_defs.specs.Transfers.{Moves, Hit, Miss, both, one_or_both, Within, Makes}
@@ -131,8 +116,7 @@ module _ {F P H R : Type 0} (c : Contents F P H R) where
 
     within : (a b : Bool) → level_at s.a t ≡ a → level_at s.b t ≡ b → (r : ℕ) → (one_or_both a b).least ≤ r → r ≤ both a b → q r 0
     within a b e f r low high = record {
-      least_reads = subst (λ (x : Bool). (one_or_both x (level_at s.b t)).least ≤ r) (sym e)
-          (subst (λ (y : Bool). (one_or_both a y).least ≤ r) (sym f) low);
+      least_reads = rw e (subst (λ (y : Bool). (one_or_both a y).least ≤ r) (sym f) low);
       most_reads = subst (λ (x : Bool). r ≤ both x (level_at s.b t)) (sym e) (subst (λ (y : Bool). r ≤ both a y) (sym f) high);
       least_writes = omega arith;
       most_writes = omega arith;
@@ -200,7 +184,7 @@ module _ {F P H R : Type 0} (c : Contents F P H R) where
   pub image_missed : (s : Store F P H) (u : Usage) (t : ℕ) → frame_at s t ≡ None → Makes s (Miss t) (image c s u t)
   unfolding I.image
   image_missed s u t e = record {
-    moves = subst (λ (o : Option F). Moves (Within s (Miss t)) 0 0 (image_by c s u t o)) (sym e) (miss_moves s u t);
+    moves = rw e (miss_moves s u t);
   }
 
   hit_moves : (s : Store F P H) (u : Usage) (t : ℕ) (f : F) (b : Bool) → b ≡ true →
@@ -214,5 +198,5 @@ module _ {F P H R : Type 0} (c : Contents F P H R) where
   pub image_hit : (s : Store F P H) (u : Usage) (t : ℕ) (f : F) → frame_at s t ≡ Some f → c.modified f ≡ true → Makes s Hit (image c s u t)
   unfolding I.image
   image_hit s u t f e is = record {
-    moves = subst (λ (o : Option F). Moves (Within s Hit) 0 0 (image_by c s u t o)) (sym e) (hit_moves s u t f (c.modified f) is);
+    moves = rw e (hit_moves s u t f (c.modified f) is);
   }

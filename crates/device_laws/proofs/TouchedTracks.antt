@@ -16,7 +16,6 @@ use Rattle.ckd_chain.specs.Steps.{
   need_of,
   standing,
   step_turned,
-  stepped_by,
   stepped,
   word_of,
 }
@@ -146,7 +145,7 @@ module _ (p : PlainState) (u : List Track) (g : Geometry) (cylinders : ℕ) (ope
 
     none_at : has_lost lost (walked t later (seen t).stance (seen t).turned).touched ≡ false
     unfolding K.walk
-    none_at = subst (λ (q : ℕ). has_lost lost (walked q later (seen q).stance (seen q).turned).touched ≡ false) place at.none
+    none_at = rw (← place) at.none
 
     there : get_or lost t false ≡ false
     there = (front lost t later (seen t).stance (seen t).turned none_at).0
@@ -155,9 +154,7 @@ module _ (p : PlainState) (u : List Track) (g : Geometry) (cylinders : ℕ) (ope
     next_ahead on = record {
       at = ap (stage_by (standing v (seen t).stance)) stage_is;
       needs = need_at (standing v (seen t).stance) kind stage_is;
-      none = subst (λ (x : ChainState). has_lost lost (walk_from k x).touched ≡ false)
-          (sym (ap (opened_by (standing v (seen t).stance)) stage_is))
-          ((front lost t later (seen t).stance (seen t).turned none_at).1 on);
+      none = rw (ap (opened_by (standing v (seen t).stance)) stage_is) ((front lost t later (seen t).stance (seen t).turned none_at).1 on);
     }
 
     turned_so : (z : MarksStore) → OnWay z → t < tracks_of z → is_lost z t ≡ false → (x : Turned) → (seen t).turned ≡ x →
@@ -179,17 +176,12 @@ module _ (p : PlainState) (u : List Track) (g : Geometry) (cylinders : ℕ) (ope
     has_so : (z : MarksStore) → OnWay z → t < tracks_of z → is_lost z t ≡ false →
         Served (WentSo k t) (looked by_plain chain first t z (Has (plain_image p u g cylinders open_is t)))
     has_so z w lt kept =
-        served_tried z _
-        (subst (λ (x : Stage). Served (WentSo k t)
-        (went_by by_plain (usage_of chain) first t z (plain_image p u g cylinders open_is t)
-        (stepped_by v (Some (plain_image p u g cylinders open_is t)) x).chain (stepped_by v (Some (plain_image p u g cylinders open_is t)) x).progress))
-        (sym at.at) (turned_so z w lt kept (seen t).turned refl))
+        served_tried z _ (rw at.at (turned_so z w lt kept (seen t).turned refl))
 
     looked_so : (z : MarksStore) (o : Option Imaged) → OnWay z → t < tracks_of z → is_lost z t ≡ false → Imaging p u g cylinders open_is t z o → HasBytes o →
         Served (WentSo k t) (had_by (looked by_plain chain first t) z o)
     looked_so z None w lt kept i has = absurd i.image
-    looked_so z (Some (Has x)) w lt kept i has =
-        subst (λ (y : Image). Served (WentSo k t) (looked by_plain chain first t z (Has y))) (sym i.image) (has_so z w lt kept)
+    looked_so z (Some (Has x)) w lt kept i has = rw i.image (has_so z w lt kept)
     looked_so z (Some (NoBytes fault)) w lt kept i has = absurd has
     looked_so z (Some (BadTrack side)) w lt kept i has = served_done refl
 
@@ -297,21 +289,14 @@ module _ (num : ℕ) (empty : PlainState) (d : MarksDevice) (f : Follows num emp
         let here : has_lost d.store.lost
         (walk (tracks_of s) d.store.geometry (track_in d.store.plain) chain.at.stance (word_of chain) look (opening_at chain).stance).touched
         ≡ false =
-        subst (λ (k : ℕ). has_lost d.store.lost
-        (walk k d.store.geometry (track_in d.store.plain) chain.at.stance (word_of chain) look (opening_at chain).stance).touched ≡ false)
-        (ap (λ (k : ℕ). k * 15) on.1 ∙ sym h.tracks)
-        (subst (λ (x : Geometry). has_lost d.store.lost
-        (walk (chain.fixed.cylinders * 15) x (track_in d.store.plain) chain.at.stance (word_of chain) look (opening_at chain).stance).touched ≡ false)
-        on.0 touched) in
+        rw (← (ap (λ (k : ℕ). k * 15) on.1 ∙ sym h.tracks)) (rw (← on.0) touched) in
         served_then (on_tracks by_plain (with_it s) o.path chain)
         (follow_touched (plain_of d.plans empty d.history) d.store.plain d.store.geometry d.store.cylinders (None, (d.store.lent, d.store.device)) m
         (IsWithin m) (within_stays m (whole_cylinders d.store.cylinders)) d.store.lost look chain.at.stance (tracks_of s) t chain t s
         (record {
           at = ap (stage_by chain) fresh ∙ ap stage_for at;
           needs = needs;
-          none = subst (λ (x : ChainState). has_lost d.store.lost
-              (walk (tracks_of s) d.store.geometry (track_in d.store.plain) chain.at.stance (word_of x) look x.at.stance).touched ≡ false)
-              (sym (ap (opened_by chain) fresh)) here;
+          none = rw (ap (opened_by chain) fresh) here;
         })
         inside
         (record {

@@ -1,40 +1,16 @@
 -- Copying and staging leave all right, with their twins on marks.
-use Rattle.std.proofs.Common.{
-  ◌≡◌,
-  ◌<◌,
-  ◌&&◌,
-  ◌||◌,
-  not,
-  ℕ,
-  Bool,
-  true,
-  false,
-  List,
-  [],
-  Option,
-  Some,
-  None,
-  is_some,
-  get_or,
-  refl,
-  sym,
-  ap,
-  subst,
-  ◌∙◌,
-  arith,
-}
+use Rattle.std.proofs.Common.{◌≡◌, ◌<◌, ◌&&◌, ◌||◌, not, ℕ, Bool, true, false, List, [], Option, Some, None, is_some, get_or, refl, sym, ap, ◌∙◌, arith}
 use Rattle.std.specs.Prelude.{if◌then◌else◌}
 use Rattle.ckd_types.specs.declared.paths.Side.{Side}
 use Rattle.ckd_types.specs.declared.paths.Side.TheVariants.{A, B}
 use Rattle.ckd_types.specs.declared.record.Track.{Track}
-use Rattle.track_image.specs.Image.{Image}
 use Rattle.device_outside.specs.After.{with_held}
 use Rattle.device_outside.specs.Both.{both_try, both_read, both_write}
 use Rattle.device_outside.specs.Interaction.{Done, and_then}
 use Rattle.device_outside.proofs.BothRules.{on_test, on_tests}
 use Rattle.device_defs.specs.declared.answers.Did.{Did}
 use Rattle.device_defs.specs.declared.answers.Did.TheVariants.{Nothing, Staged, Skipped, Fault}
-use Rattle.device_defs.specs.Background.{did, copies_to, copy_by, unfilled, staged_image, staged_bytes, staging_granted, stage}
+use Rattle.device_defs.specs.Background.{did, copies_to, copy_by, unfilled, staged_bytes, staging_granted, stage}
 use Rattle.device_defs.specs.Contents.{contents, by_plain, patched_by, image_read}
 use Rattle.device_defs.specs.Image.{Got, read_counted, image_of}
 use Rattle.device_defs.specs.Losses.{call_failed}
@@ -46,24 +22,9 @@ use Rattle.device_laws.specs.Agrees.{Held, image_in}
 use Rattle.device_laws.specs.Twin.{Twins}
 use Rattle.device_laws.proofs.Bools.{neither, or_left, or_right}
 use Rattle.device_laws.proofs.ContentChanges as C
-use Rattle.device_laws.proofs.ContentChanges.{
-  base_of,
-  Altered,
-  altered_twice,
-  altered_on_a,
-  altered_on_b,
-  altered_stale_a,
-  altered_stale_b,
-  slot_of,
-  by_track,
-  unseen_slots,
-  sits_still,
-  unseen_right,
-  Sure,
-  right_altered,
-}
+use Rattle.device_laws.proofs.ContentChanges.{base_of, Altered, altered_twice, altered_on_a, altered_on_b, altered_stale_a, altered_stale_b, unseen_right}
 use Rattle.device_laws.proofs.TrackContents as T
-use Rattle.device_laws.proofs.TrackContents.{TrackContents, contents_at, Keeps, right_fewer, not_both}
+use Rattle.device_laws.proofs.TrackContents.{TrackContents, contents_at, Keeps, not_both}
 use Rattle.device_laws.proofs.TrackImage.{level_bytes_keeps_good}
 use Rattle.device_laws.proofs.TrackMarks as M
 use Rattle.device_laws.proofs.TrackMarks.{track_at, device_is_faithful}
@@ -80,12 +41,12 @@ use Rattle.device_laws.proofs.TwinAsks.{
   Ordered,
   keeps_at,
   right_keeps,
+  altered_order,
 }
 use Rattle.device_laws.proofs.TwinChanges.{has_frame_twin}
 use Rattle.device_laws.proofs.TwinFailed.{fell, failed_twin}
 use Rattle.device_laws.proofs.TwinImage.{Delivers, bytes_twin, filled_twin, not_lost}
 use Rattle.device_laws.proofs.TwinSaving.{Works}
-use Rattle.device_laws.proofs.TwinSettled.{told_altered}
 use Rattle.device_laws.proofs.TwinThrough.{none_off}
 use Rattle.device_laws.proofs.TwinWalks.{twin_done, twin_then, twin_always}
 use Rattle.device_laws.proofs.WholeImage.{unframed_is_firm}
@@ -157,16 +118,9 @@ module _ (u : List Track) (y : DeviceStore) (t : ℕ) where
     sided : (z : DeviceStore) (k : Held) (c : TrackContents) → Altered s h z k t c → c.loose ≡ x.loose → c.patch ≡ x.patch → c.freed ≡ x.freed →
         c.debt ≡ x.debt →
         k.slots ≡ h.slots → Keeps s.geometry t c (image_in s v t) (image_in s w t) → Ordered v w z k
-    sided z k c e loose patch freed debt slots keeps = record {
-      sure = right_altered None v w s h z k t c o.sure e (sits_still v w s h t c lt o.sure.ground loose patch)
-          (unseen_slots s h z k (λ kept q. by_track s h z k t c kept e (slots_by kept) q) slots o.sure.ground.slots)
-          (λ ne. right_keeps s.geometry t s.half c (image_in s v t) (image_in s w t) off keeps);
-      told = told_altered s h z k t c o.told e debt;
-    }
-      where
-        slots_by : (kept : Bool) → slot_of kept c ≡ slot_of kept x
-        slots_by true = ap (λ (p : Option _). slot_of true (record x { patch = p })) patch
-        slots_by false = freed
+    sided z k c e loose patch freed debt slots keeps =
+        altered_order o e lt (record { loose = loose; patch = patch; freed = freed }) debt slots
+        (λ _. right_keeps s.geometry t s.half c (image_in s v t) (image_in s w t) off keeps)
 
     -- to side A
 
@@ -294,10 +248,7 @@ module _ (u : List Track) (y : DeviceStore) (t : ℕ) where
   staged_by v w s h g m (Some r) (Some true) del fault lt there firm off o plain stays =
       let gave : image_of contents s t r ≡ Some (image_in s v t) =
       del.1 ∙ ap (λ (x : Track). Some (record { geometry = s.geometry; track = x })) (o.sure.ground.same t lt firm) in
-      both_try
-      (subst (λ (x : Option Image). Twins Ends (staged_image contents t s g x) (staged_image by_plain t (marks_of v w s) m (Some
-      (image_in s v t))) h) (sym gave)
-      (twin_then (λ z _. Done z (Some (did g.fault (Staged t)))) (λ z _. Done z (Some (did m.fault (Staged t))))
+      both_try (rw gave (twin_then (λ z _. Done z (Some (did g.fault (Staged t)))) (λ z _. Done z (Some (did m.fault (Staged t))))
       (filled_twin v w s h t (image_in s v t) refl lt (there refl) off o)
       (λ v' w' z _ _ k f. ended v' w' z k (Some (did g.fault (Staged t))) (Some (did m.fault (Staged t))) (ap (λ (x : Option Side). Some (did x
       (Staged t))) fault)

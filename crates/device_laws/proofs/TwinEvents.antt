@@ -68,17 +68,7 @@ use Rattle.device_defs.specs.Store.{tracks_of, frame_at, owed_at, with_frame, wi
 use Rattle.device_laws.specs.Agrees.{Held, slot_at, HasSlots}
 use Rattle.device_laws.specs.Twin.{Twins}
 use Rattle.device_laws.proofs.ContentChanges as C
-use Rattle.device_laws.proofs.ContentChanges.{
-  Altered,
-  altered_owed,
-  slot_of,
-  slot_is,
-  by_track,
-  unseen_slots,
-  sits_still,
-  RightBut,
-  right_altered,
-}
+use Rattle.device_laws.proofs.ContentChanges.{Altered, altered_owed, slot_of, slot_is, by_track, unseen_slots, sits_still, right_altered}
 use Rattle.device_laws.proofs.FailedCall.{IsWell}
 use Rattle.device_laws.proofs.Notices.{clean_below, dropped_by}
 use Rattle.device_laws.proofs.TrackContents as K
@@ -132,7 +122,7 @@ by_note n v w s h (Some t) later o =
     let d = drops v w s h t o (is_clean contents (frame_at s t)) refl in
     let z = dropped contents s t in
     let i : InOrder v w z h = record { sure = d.0.sure; told = d.0.told; well = dropped_well s t o.well } in
-    subst (λ (m : MarksStore). Twins (λ v' w' y _ _ k. Hears v s v' w' y k) (hear contents n z) (hear by_plain n m) h) (dropped_twin v w s t)
+    rw (← (dropped_twin v w s t))
     (twin_weaker (later v w z h i) (λ v' w' y _ _ k f. record { order = f.order; plain = f.plain; stays = stays_on s z y d.1 f.stays }))
 
 pub hear_twin : (n : ℕ) → Hearing n
@@ -255,10 +245,7 @@ module _ (v w : List Track) (s : DeviceStore) (t : ℕ) (lt : t < tracks_of s) w
 
     freed_twin : Twins (λ v' w' z _ _ k. (v' ≡ v) × ((w' ≡ w) × ((z ≡ s) × (Ordered v w paid k)))) (freed_told contents s (owed_at s t).freed)
         (freed_told by_plain (marks_of v w s) (owed_at (marks_of v w s) t).freed) h
-    freed_twin =
-        subst (λ (f : Option ℕ). Twins (λ v' w' z _ _ k. (v' ≡ v) × ((w' ≡ w) × ((z ≡ s) × (Ordered v w paid k))))
-        (freed_told contents s (owed_at s t).freed) (freed_told by_plain (marks_of v w s) f) h)
-        (sym (ap (λ (x : Owed). x.freed) (owed_twin v w s t))) (freed_by (owed_at s t).freed refl)
+    freed_twin = rw (ap (λ (x : Owed). x.freed) (owed_twin v w s t)) (freed_by (owed_at s t).freed refl)
 
 -- The end of an event
 
@@ -342,9 +329,7 @@ told_if before count m = if count == before then Done m tt else Ask (TellWaiting
 waiting_twin : (before : ℕ) (v w : List Track) (s : DeviceStore) (h : Held) → Ordered v w s h →
     Twins (λ v' w' z _ _ k. Hears v s v' w' z k) (waiting_told contents before s) (waiting_told by_plain before (marks_of v w s)) h
 waiting_twin before v w s h o =
-    subst (λ (c : ℕ). Twins (λ v' w' z _ _ k. Hears v s v' w' z k) (waiting_told contents before s) (told_if before c (marks_of v w s)) h) (sym
-    (count_twin v w s))
-    (on_test (waiting_count contents s == before)
+    rw (count_twin v w s) (on_test (waiting_count contents s == before)
     (λ _. twin_done (record { order = o; plain = refl; stays = stays_same s }))
     (λ _. ask_waiting s.device (waiting_count contents s) (twin_done (record { order = o; plain = refl; stays = stays_same s }))))
 

@@ -1,6 +1,5 @@
 -- The image of a track is the plain one, and a device and its twin on marks ask the same for it.
-use Rattle.std.proofs.Common.{◌≡◌, ◌≢◌, ◌<◌, ℕ, Bool, true, false, List, [], Option, Some, None, is_some, get_or, refl, sym, ap, subst, ◌∙◌, arith, ◌⊎◌, inl, inr}
-use Rattle.std.proofs.lemmas.Bool.{cases_eq}
+use Rattle.std.proofs.Common.{◌≡◌, ◌≢◌, ◌<◌, ℕ, Bool, true, false, List, [], Option, Some, None, is_some, get_or, refl, ap, ◌∙◌, arith}
 use Rattle.ckd_types.specs.declared.paths.Side.{Side}
 use Rattle.ckd_types.specs.declared.paths.Side.TheVariants.{A, B}
 use Rattle.ckd_types.specs.declared.record.Track.{Track}
@@ -16,58 +15,46 @@ use Rattle.device_defs.specs.Image.{
   got,
   Imaged,
   Has,
-  NoBytes,
   BadTrack,
   first_faulty_side,
-  loads,
   read_counted,
-  read_side,
   second_read,
   read_b,
   first_read,
   level_bytes,
-  image_of,
   framed,
   filled,
-  granted,
-  loaded,
-  ahead,
-  delivered,
-  missed,
-  miss,
-  hit,
-  clean_image,
-  image_by,
   image,
 }
 use Rattle.device_defs.specs.Marks.{marks_of}
 use Rattle.device_defs.specs.Sound.{DeviceStore}
-use Rattle.device_defs.specs.Store.{tracks_of, level_at, has_level, patch_at, is_lost, half_is, with_frame}
+use Rattle.device_defs.specs.Store.{tracks_of, level_at, has_level, patch_at, is_lost, half_is}
 use Rattle.device_laws.specs.Agrees.{Held, image_in}
 use Rattle.device_laws.specs.Twin.{Twins}
 use Rattle.device_laws.proofs.Bools.{or_left, or_right}
 use Rattle.device_laws.proofs.Changes as D
 use Rattle.device_laws.proofs.ContentChanges as C
-use Rattle.device_laws.proofs.ContentChanges.{
-  base_of,
-  Altered,
-  altered_frame,
-  slot_of,
-  by_track,
-  unseen_slots,
-  sits_still,
-  Unseen,
-  unseen_right,
-  right_altered,
-  Sure,
-}
+use Rattle.device_laws.proofs.ContentChanges.{base_of, altered_frame, unseen_right}
 use Rattle.device_laws.proofs.FailedCall.{IsWell, failed_call_keeps_good}
 use Rattle.device_laws.proofs.Soundness.{good_is_nowhere}
 use Rattle.device_laws.proofs.TrackContents as T
-use Rattle.device_laws.proofs.TrackContents.{TrackContents, contents_at, FrameHas, Keeps}
+use Rattle.device_laws.proofs.TrackContents.{contents_at, Keeps}
 use Rattle.device_laws.proofs.TrackMarks as M
 use Rattle.device_laws.proofs.TrackMarks.{track_at, device_is_faithful}
-use Rattle.device_laws.proofs.TwinAsks.{ask_modified, Stays, stays_same, stays_on, stays_by, stays_fell, stays_off, InOrder, Ordered, keeps_at, right_keeps}
+use Rattle.device_laws.proofs.TwinAsks.{
+  ask_modified,
+  Stays,
+  stays_same,
+  stays_on,
+  stays_by,
+  stays_fell,
+  stays_off,
+  InOrder,
+  Ordered,
+  keeps_at,
+  right_keeps,
+  altered_order,
+}
 use Rattle.device_laws.proofs.TwinChanges.{has_patch_twin, with_frame_twin}
 use Rattle.device_laws.proofs.TwinFailed.{fell, Failed, failed_twin}
 use Rattle.device_laws.proofs.TwinWalks.{twin_done, twin_ends, twin_then, twin_always}
@@ -208,45 +195,19 @@ pub record Looks (u : List Track) (s : DeviceStore) (t : ℕ) (v w : List Track)
 -- a frame with the plain track, of one that isn't lost
 framed_order : (v w : List Track) (s : DeviceStore) (h : Held) (t : ℕ) (i : Image) (m : Bool) → i ≡ image_in s v t → t < tracks_of s →
     is_lost s t ≡ false → half_is s.half t ≡ false → Ordered v w s h → Ordered v w (framed contents s t i m) h
-framed_order v w s h t i m is lt there off o = record {
-  sure = right_altered None v w s h z h t y o.sure e (sits_still v w s h t y lt o.sure.ground refl refl)
-      (unseen_slots s h z h (λ kept q. by_track s h z h t y kept e (slots_by kept) q) refl o.sure.ground.slots)
-      (λ ne. right_keeps s.geometry t s.half y (image_in s v t) (image_in s w t) off
-      (record { frame = λ f is'. framed_is f is'; a = kept.a; b = kept.b; patch = kept.patch }));
-  told = λ q. told_by q (cases_eq q t);
-}
+framed_order v w s h t i m is lt there off o =
+    altered_order o (altered_frame s h t lt o.sure.ground.sizes (Some f)) lt (record { loose = refl; patch = refl; freed = refl }) refl refl
+    (λ _. right_keeps s.geometry t s.half (record (contents_at s h t) { frame = Some f }) (image_in s v t) (image_in s w t) off
+    (record { frame = λ g e. framed_is g e; a = kept.a; b = kept.b; patch = kept.patch }))
   where
     f : Frame
     f = record { image = i; modified = m }
 
-    z : DeviceStore
-    z = with_frame s t (Some (record { image = i; modified = m }))
-
-    y : TrackContents
-    y = record (contents_at s h t) { frame = Some (record { image = i; modified = m }) }
-
-    e : Altered s h (with_frame s t (Some (record { image = i; modified = m }))) h t (record (contents_at s h t) {
-      frame = Some
-          (record { image = i; modified = m });
-    })
-    e = altered_frame s h t lt o.sure.ground.sizes (Some (record { image = i; modified = m }))
-
     kept : Keeps s.geometry t (contents_at s h t) (image_in s v t) (image_in s w t)
     kept = keeps_at v w s h t o.sure lt there off
 
-    framed_is : (f : Frame) → Some (record { image = i; modified = m }) ≡ Some f → f.image ≡ image_in s v t
-    framed_is f e = ap (λ (x : Image). x) (let same : f.image ≡ i = cc in same) ∙ is
-
-    slots_by : (kept : Bool) → slot_of kept (record (contents_at s h t) { frame = Some (record { image = i; modified = m }) }) ≡ slot_of kept
-        (contents_at s h t)
-    slots_by true = refl
-    slots_by false = refl
-
-    told_by : (q : ℕ) → ((q ≡ t) ⊎ (q ≢ t)) → (contents_at (with_frame s t (Some (record { image = i; modified = m }))) h q).debt ≡ false
-    told_by q (inl at) =
-        subst (λ (p : ℕ). (contents_at (with_frame s t (Some (record { image = i; modified = m }))) h p).debt ≡ false) (sym at)
-        (ap (λ (c : TrackContents). c.debt) e.here ∙ o.told t)
-    told_by q (inr ne) = ap (λ (c : TrackContents). c.debt) (e.elsewhere q ne) ∙ o.told q
+    framed_is : (g : Frame) → Some f ≡ Some g → g.image ≡ image_in s v t
+    framed_is g e = ap (λ (x : Image). x) (let same : g.image ≡ i = cc in same) ∙ is
 
 -- behind a filling
 pub record Fills (u : List Track) (s : DeviceStore) (v w : List Track) (z : DeviceStore) (k : Held) : Type 0 where

@@ -1,30 +1,5 @@
 -- The image that a command looks at, hit or missed, is the plain track, and the twin on marks has the same.
-use Rattle.std.proofs.Common.{
-  ◌≡◌,
-  ◌≢◌,
-  ◌<◌,
-  ◌+◌,
-  ℕ,
-  Bool,
-  true,
-  false,
-  List,
-  [],
-  Option,
-  Some,
-  None,
-  is_some,
-  refl,
-  sym,
-  ap,
-  subst,
-  ◌∙◌,
-  arith,
-  ◌⊎◌,
-  inl,
-  inr,
-}
-use Rattle.std.proofs.lemmas.Bool.{cases_eq}
+use Rattle.std.proofs.Common.{◌≡◌, ◌<◌, ◌+◌, ℕ, Bool, true, false, List, [], Option, Some, None, is_some, refl, sym, ap, ◌∙◌, arith}
 use Rattle.std.specs.Prelude.{option_map, if◌then◌else◌, nat_le, nat_lt, length, ◌∷◌, ◌++◌}
 use Rattle.ckd_types.specs.declared.parameters.Mode.{Mode}
 use Rattle.ckd_types.specs.declared.paths.Side.{Side}
@@ -43,7 +18,6 @@ use Rattle.device_defs.specs.Image.{
   Imaged,
   Has,
   NoBytes,
-  BadTrack,
   loads,
   is_sequential,
   queued,
@@ -59,19 +33,19 @@ use Rattle.device_defs.specs.Image.{
   image_by,
   image,
 }
-use Rattle.device_defs.specs.Marks.{MarksStore, marks_of, frame_mark}
+use Rattle.device_defs.specs.Marks.{marks_of, frame_mark}
 use Rattle.device_defs.specs.Sound.{DeviceStore}
 use Rattle.device_defs.specs.Store.{Store, tracks_of, frame_at, is_lost, is_loose, half_is, with_frame}
 use Rattle.device_laws.specs.Agrees.{Held, image_in}
 use Rattle.device_laws.specs.Twin.{Twins}
 use Rattle.device_laws.proofs.ContentChanges as C
-use Rattle.device_laws.proofs.ContentChanges.{base_of, Altered, altered_frame, slot_of, by_track, unseen_slots, sits_still, unseen_right, right_altered}
+use Rattle.device_laws.proofs.ContentChanges.{base_of, altered_frame, unseen_right}
 use Rattle.device_laws.proofs.TrackContents as T
-use Rattle.device_laws.proofs.TrackContents.{TrackContents, contents_at, Keeps, right_fewer}
+use Rattle.device_laws.proofs.TrackContents.{contents_at, right_fewer}
 use Rattle.device_laws.proofs.TrackImage.{level_bytes_keeps_good}
 use Rattle.device_laws.proofs.TrackMarks as M
 use Rattle.device_laws.proofs.TrackMarks.{track_at, device_is_faithful}
-use Rattle.device_laws.proofs.TwinAsks.{ask_touch, ask_frame, Stays, stays_same, stays_on, stays_image, stays_off, InOrder, Ordered, keeps_at}
+use Rattle.device_laws.proofs.TwinAsks.{ask_touch, ask_frame, Stays, stays_same, stays_on, stays_image, stays_off, InOrder, Ordered, keeps_at, altered_order}
 use Rattle.device_laws.proofs.TwinChanges.{frame_twin, with_frame_twin}
 use Rattle.device_laws.proofs.TwinImage.{Delivers, Looks, bytes_twin, filled_twin, not_lost}
 use Rattle.device_laws.proofs.TwinWalks.{twin_done, twin_then, twin_always}
@@ -119,28 +93,11 @@ queue_order v w s h q o = record {
 
 -- a frame goes
 pub unframed_order : (v w : List Track) (s : DeviceStore) (h : Held) (t : ℕ) → t < tracks_of s → Ordered v w s h → Ordered v w (with_frame s t None) h
-unframed_order v w s h t lt o = record {
-  sure = right_altered None v w s h (with_frame s t None) h t y o.sure e (sits_still v w s h t y lt o.sure.ground refl refl)
-      (unseen_slots s h (with_frame s t None) h (λ kept q. by_track s h (with_frame s t None) h t y kept e (slots_by kept) q) refl o.sure.ground.slots)
-      (λ ne. right_fewer s.geometry t s.half (contents_at s h t) y (image_in s v t) (image_in s w t)
-      (record { lost = λ l. l; frame = λ i k f l. absurd (cc); patch = refl; a = λ l. (l, refl); b = λ l. (l, refl) }) (o.sure.right t lt ne));
-  told = λ q. told_by q (cases_eq q t);
-}
-  where
-    y : TrackContents
-    y = record (contents_at s h t) { frame = None }
-
-    e : Altered s h (with_frame s t None) h t (record (contents_at s h t) { frame = None })
-    e = altered_frame s h t lt o.sure.ground.sizes None
-
-    slots_by : (kept : Bool) → slot_of kept (record (contents_at s h t) { frame = None }) ≡ slot_of kept (contents_at s h t)
-    slots_by true = refl
-    slots_by false = refl
-
-    told_by : (q : ℕ) → ((q ≡ t) ⊎ (q ≢ t)) → (contents_at (with_frame s t None) h q).debt ≡ false
-    told_by q (inl at) =
-        subst (λ (p : ℕ). (contents_at (with_frame s t None) h p).debt ≡ false) (sym at) (ap (λ (c : TrackContents). c.debt) e.here ∙ o.told t)
-    told_by q (inr ne) = ap (λ (c : TrackContents). c.debt) (e.elsewhere q ne) ∙ o.told q
+unframed_order v w s h t lt o =
+    let x = contents_at s h t in
+    altered_order o (altered_frame s h t lt o.sure.ground.sizes None) lt (record { loose = refl; patch = refl; freed = refl }) refl refl
+    (right_fewer s.geometry t s.half x (record x { frame = None }) (image_in s v t) (image_in s w t)
+    (record { lost = λ l. l; frame = λ i k f l. absurd (cc); patch = refl; a = λ l. (l, refl); b = λ l. (l, refl) }))
 
 has_is : (i j : Image) → Some (Has i) ≡ Some (Has j) → j ≡ i
 has_is i j e = cc
@@ -195,10 +152,7 @@ module _ (u : List Track) (y : DeviceStore) (t : ℕ) where
       Twins Ends (delivered contents u' t side s (Some i)) (delivered by_plain u' t side (marks_of v w s) (Some i)) h
   delivered_twin v w s h u' side i is here lt there off o plain stays =
       let q = queue_ahead u' s.queue t in
-      subst (λ (z : DeviceStore). Twins Ends (loaded contents z t i u'.mode) (loaded by_plain (ahead u' (marks_of v w s) t) t i u'.mode) h)
-      (sym (ahead_is u' s t))
-      (subst (λ (m : MarksStore). Twins Ends (loaded contents (record s { queue = q }) t i u'.mode) (loaded by_plain m t i u'.mode) h)
-      (sym (ahead_is u' (marks_of v w s) t))
+      rw (ahead_is u' s t) (rw (ahead_is u' (marks_of v w s) t)
       (loaded_twin v w (record s { queue = q }) h i u'.mode is here lt there off (queue_order v w s h q o) plain
       (record { geometry = stays.geometry; cylinders = stays.cylinders; half = stays.half })))
 
@@ -224,9 +178,7 @@ module _ (u : List Track) (y : DeviceStore) (t : ℕ) where
       let i = image_in s v t in
       let gave : image_of contents s t r ≡ Some i = d.1 ∙ ap Some (same_volumes v w s h o lt firm) in
       let is : i ≡ image_in y u t = ap (λ (x : List Track). image_in s x t) plain ∙ stays_image y s u t stays in
-      both_try
-      (subst (λ (x : Option Image). Twins Ends (delivered contents u' t g.side s x) (delivered by_plain u' t m.side (marks_of v w s) (Some i)) h) (sym gave)
-      (delivered_twin v w s h u' m.side i is refl lt (there refl) off o plain stays))
+      both_try (rw gave (delivered_twin v w s h u' m.side i is refl lt (there refl) off o plain stays))
       (twin_done (looks_none v w s h o plain stays))
   missed_twin v w s h u' g m (Some r) (Some false) d side fault lt there firm off o plain stays = let e : false ≡ true = d.0 in absurd (cc)
   missed_twin v w s h u' g m None (Some b) d side fault lt there firm off o plain stays = absurd d
@@ -274,8 +226,7 @@ module _ (u : List Track) (y : DeviceStore) (t : ℕ) where
       on_test (is_bypass u'.mode)
       (λ _. miss_twin v w s h u' lt firm off o plain stays)
       (λ _. ask_touch s.device t (λ listed. on_test listed
-      (λ _. hit_twin v w s h f f.modified e lt there off order plain stays)
-      (λ _. subst (λ (m : MarksStore). Twins Ends (miss contents (with_frame s t None) u' t) (miss by_plain m u' t) h) (with_frame_twin v w s t None)
+      (λ _. hit_twin v w s h f f.modified e lt there off order plain stays) (λ _. rw (← (with_frame_twin v w s t None))
       (miss_twin v w (with_frame s t None) h u' lt firm off (record { sure = less.sure; told = less.told; well = gone.well }) plain
       (record { geometry = stays.geometry; cylinders = stays.cylinders; half = stays.half })))))
 
@@ -293,7 +244,4 @@ module _ (u : List Track) (y : DeviceStore) (t : ℕ) where
 pub image_twin : (v w : List Track) (s : DeviceStore) (h : Held) (u : Usage) (t : ℕ) → t < tracks_of s → is_lost s t ≡ false → half_is s.half t ≡ false →
     InOrder v w s h → Twins (λ v' w' z a b k. Looks v s t v' w' z a b k) (image contents s u t) (image by_plain (marks_of v w s) u t) h
 unfolding I.image
-image_twin v w s h u t lt there off o =
-    subst (λ (m : Option Bool). Twins (λ v' w' z a b k. Looks v s t v' w' z a b k) (image_by contents s u t (frame_at s t))
-    (image_by by_plain (marks_of v w s) u t m) h) (sym (frame_twin v w s t))
-    (by_frame_twin v s t v w s h u (frame_at s t) refl lt there off o refl (stays_same s))
+image_twin v w s h u t lt there off o = rw (frame_twin v w s t) (by_frame_twin v s t v w s h u (frame_at s t) refl lt there off o refl (stays_same s))

@@ -1,5 +1,5 @@
 -- The losses of a side and of the store leave all right, with their twins on marks.
-use Rattle.std.proofs.Common.{◌≡◌, ◌<◌, ◌&&◌, not, ℕ, Bool, true, false, List, Option, Some, None, is_some, refl, sym, ap, subst, ◌∙◌, arith, inl}
+use Rattle.std.proofs.Common.{◌≡◌, ◌<◌, ◌&&◌, not, ℕ, Bool, true, false, List, Option, Some, None, is_some, refl, sym, ap, ◌∙◌, arith, inl}
 use Rattle.std.specs.Prelude.{if◌then◌else◌}
 use Rattle.ckd_types.specs.declared.paths.Side.{Side}
 use Rattle.ckd_types.specs.declared.paths.Side.TheVariants.{A, B}
@@ -28,12 +28,10 @@ use Rattle.device_laws.proofs.ContentChanges.{
   altered_stale_a,
   altered_stale_b,
   same_tracks,
-  same_half,
   same_up_b,
   sits_still,
   unseen_right,
   RightBut,
-  Sure,
   right_altered,
 }
 use Rattle.device_laws.proofs.Sweeps.{is_alone}
@@ -41,9 +39,7 @@ use Rattle.device_laws.proofs.TrackContents as T
 use Rattle.device_laws.proofs.TrackContents.{
   TrackContents,
   contents_at,
-  Keeps,
   Writes,
-  HeldBy,
   IsRight,
   right_by,
   right_lost,
@@ -52,7 +48,6 @@ use Rattle.device_laws.proofs.TrackContents.{
   held_of,
   writes_own,
   own_writes,
-  not_both,
 }
 use Rattle.device_laws.proofs.TwinAsks.{InOrder, Ordered}
 use Rattle.device_laws.proofs.TwinChanges.{has_patch_twin, half_twin, without_patch_twin}
@@ -200,8 +195,7 @@ module _ (h : Held) (u : List Track) (s : DeviceStore) (alone : s.paired ≡ fal
         let y = stale_everywhere (without_patch contents z n) n in
         let f = off_settles in
         let same : tracks_of y ≡ tracks_of z = same_tracks s h y h f.base ∙ sym (same_tracks s h z h x.base) in
-        subst (λ (m : MarksStore). Pair (Settles None h u s) (settled contents y n) (settled by_plain m n))
-        (stale_twin v w (without_patch contents z n) n ∙ ap (λ (m : MarksStore). stale_everywhere m n) (without_patch_twin v w z n))
+        rw (← (stale_twin v w (without_patch contents z n) n ∙ ap (λ (m : MarksStore). stale_everywhere m n) (without_patch_twin v w z n)))
         (pair_weaker (settled_pair None h v w y n (omega arith) f.but f.debts (λ e. absurd (cc)))
         (λ v' w' g. settles_on None h u v w v' w' s y (settled contents y n) f g))
 
@@ -215,19 +209,10 @@ module _ (h : Held) (u : List Track) (s : DeviceStore) (alone : s.paired ≡ fal
         (if half_is z.half n then without_patch contents z n else settled contents (stale_everywhere (without_patch contents z n) n) n)
         (if half_is (marks_of v w z).half n then without_patch by_plain (marks_of v w z) n
         else settled by_plain (stale_everywhere (without_patch by_plain (marks_of v w z) n) n) n)
-    halved =
-        subst (λ (b : Bool). Pair (Settles None h u s)
-        (if half_is z.half n then without_patch contents z n else settled contents (stale_everywhere (without_patch contents z n) n) n)
-        (if b then without_patch by_plain (marks_of v w z) n else settled by_plain (stale_everywhere (without_patch by_plain (marks_of v w z) n) n) n))
-        (sym (half_twin v w z n)) (half_pair (half_is z.half n) refl)
+    halved = rw (half_twin v w z n) (half_pair (half_is z.half n) refl)
 
     patch_pair : Pair (Settles None h u s) (patch_lost contents n z) (patch_lost by_plain n (marks_of v w z))
-    patch_pair =
-        subst (λ (b : Bool). Pair (Settles None h u s) (patch_lost contents n z)
-        (if b then (if half_is (marks_of v w z).half n then without_patch by_plain (marks_of v w z) n
-        else settled by_plain (stale_everywhere (without_patch by_plain (marks_of v w z) n) n) n) else marks_of v w z))
-        (sym (has_patch_twin v w z n))
-        (pair_if (is_some (patch_at z n)) (λ _. halved) (λ _. pair_is x))
+    patch_pair = rw (has_patch_twin v w z n) (pair_if (is_some (patch_at z n)) (λ _. halved) (λ _. pair_is x))
 
   store_pair : (w : List Track) → RightBut None u w s h → AllTold s h →
       Pair (Settles None h u s) (store_lost contents s) (store_lost by_plain (marks_of u w s))
@@ -258,9 +243,7 @@ store_loss_twin v w s h o =
     let i = counted_loss v w s h losses.Store (record { sure = o.sure; told = o.told }) in
     let x = store_pair h v y (is_alone s o.well.here) w i.sure i.told in
     let z = store_lost contents y in
-    subst (λ (m : MarksStore). Twins (λ v' w' z _ _ k. Loses v v' w' z k) (L.all_firm_told contents (tracks_of s) z) (L.all_firm_told by_plain
-    (tracks_of s) m) h) x.marks
-    (twin_weaker (told_twin None h v x.plain x.firm z y (tracks_of s) (let same = same_tracks y h z h x.is.base in omega arith) x.is)
+    rw (← x.marks) (twin_weaker (told_twin None h v x.plain x.firm z y (tracks_of s) (let same = same_tracks y h z h x.is.base in omega arith) x.is)
     (λ v' w' a _ _ k f. record { order = record { sure = f.but; told = f.told }; plain = f.plain }))
 
 pub side_loss_twin : (v w : List Track) (s : DeviceStore) (h : Held) (side : Side) → InOrder v w s h →
@@ -271,8 +254,6 @@ side_loss_twin v w s h side o =
     let x = side_pair None h v w y side i.sure i.told in
     let z = side_lost contents y side None in
     let d = L.down y side in
-    subst (λ (m : MarksStore). Twins (λ v' w' z _ _ k. Loses v v' w' z k) (L.all_firm_told contents (tracks_of s) z) (L.all_firm_told by_plain
-    (tracks_of s) m) h) x.marks
-    (twin_weaker (told_twin None h v x.plain x.firm z d (tracks_of s)
+    rw (← x.marks) (twin_weaker (told_twin None h v x.plain x.firm z d (tracks_of s)
     (let same = same_tracks d h z h x.is.base in let still = down_tracks y side in omega arith) x.is)
     (λ v' w' a _ _ k f. record { order = record { sure = f.but; told = f.told }; plain = f.plain }))

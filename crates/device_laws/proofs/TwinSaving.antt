@@ -5,7 +5,6 @@ use Rattle.ckd_types.specs.declared.paths.Side.{Side}
 use Rattle.ckd_types.specs.declared.record.Track.{Track}
 use Rattle.ckd_types.specs.Track.{track_bytes}
 use Rattle.ckd_types.specs.Volume.{track_in}
-use Rattle.nv_store.specs.declared.patches.Stored.{Stored}
 use Rattle.track_image.specs.Image.{Image}
 use Rattle.track_cache.specs.declared.frames.Frame.{Frame}
 use Rattle.device_outside.specs.Both.{both_try}
@@ -14,7 +13,7 @@ use Rattle.device_defs.specs.declared.answers.Did.{Did}
 use Rattle.device_defs.specs.declared.answers.Did.TheVariants.{Nothing, Recovered, Half}
 use Rattle.device_defs.specs.declared.answers.Took.{Took}
 use Rattle.device_defs.specs.declared.answers.Took.TheVariants.{Whole, Opened, Unwritten}
-use Rattle.device_defs.specs.Background.{did, saved_by, saving, saved, recovered_image, recovered_bytes, recover}
+use Rattle.device_defs.specs.Background.{did, saved_by, saving, saved, recovered_bytes, recover}
 use Rattle.device_defs.specs.Contents.{Contents, contents, by_plain}
 use Rattle.device_defs.specs.Image.{Got, image_of}
 use Rattle.device_defs.specs.Losses.{framed_image}
@@ -26,7 +25,7 @@ use Rattle.device_laws.specs.Agrees.{Held, image_in, PatchHas}
 use Rattle.device_laws.specs.Twin.{Twins}
 use Rattle.device_laws.proofs.Sweeps.{is_alone}
 use Rattle.device_laws.proofs.TrackContents as T
-use Rattle.device_laws.proofs.TrackContents.{TrackContents, contents_at, FrameHas, Keeps}
+use Rattle.device_laws.proofs.TrackContents.{contents_at, Keeps}
 use Rattle.device_laws.proofs.TrackImage.{level_bytes_keeps_good}
 use Rattle.device_laws.proofs.TrackMarks as M
 use Rattle.device_laws.proofs.TrackMarks.{track_at, device_is_faithful}
@@ -95,9 +94,7 @@ module _ (u : List Track) (y : DeviceStore) (j : Held) (t : ℕ) (lt : t < track
     whole_end : (failed : Option Side) → Twins Ends (and_then (write_done contents z t i false) (λ q _. Done q (did fault (did failed d))))
         (and_then (write_done by_plain (marks_of v w z) t i false) (λ q _. Done q (did fault (did failed d)))) k
     whole_end failed =
-        subst (λ (p : Image). Twins Ends (and_then (write_done contents z t p false) (λ q _. Done q (did fault (did failed d))))
-        (and_then (write_done by_plain (marks_of v w z) t p false) (λ q _. Done q (did fault (did failed d)))) k) image_is
-        (twin_then (λ q _. Done q (did fault (did failed d))) (λ q _. Done q (did fault (did failed d)))
+        rw (← image_is) (twin_then (λ q _. Done q (did fault (did failed d))) (λ q _. Done q (did fault (did failed d)))
         (write_done_twin t v w (track_in v t) z k false closing)
         (λ v' w' q _ _ n f. twin_done (record {
           order = f.order;
@@ -118,9 +115,7 @@ module _ (u : List Track) (y : DeviceStore) (j : Held) (t : ℕ) (lt : t < track
       a = x.a;
       b = x.b;
       frame = λ f l. own.frame f (sym x.mid.sided.frame ∙ l) ∙ sym image_is;
-      patch =
-          subst (λ (p : Option Stored). PatchHas p (image_in z v t)) (sym x.mid.sided.patch)
-          (subst (λ (n : Image). PatchHas (contents_at y j t).patch n) (sym image_is) own.patch.0);
+      patch = rw x.mid.sided.patch (subst (λ (n : Image). PatchHas (contents_at y j t).patch n) (sym image_is) own.patch.0);
       suits = tt;
     }
 
@@ -195,11 +190,7 @@ saving_twin v w s h t d fault lt there none o =
         Twins (λ v2 w2 q c e i. Works v' z v2 w2 q c e i) (saved_by contents t (image_in z v' t) d fault a m.fault x m.took)
         (saved_by by_plain t (image_in z v' t) d fault a n.fault (marks_of v'' w'' x) n.took) l
     by_wrote v' w' z k t d fault below firm none own v'' w'' x l a m n g =
-        subst (λ (c : Option Side). Twins (λ v2 w2 q c e i. Works v' z v2 w2 q c e i) (saved_by contents t (image_in z v' t) d fault a m.fault x m.took)
-        (saved_by by_plain t (image_in z v' t) d fault a c (marks_of v'' w'' x) n.took) l) g.fault
-        (subst (λ (c : Took). Twins (λ v2 w2 q c e i. Works v' z v2 w2 q c e i) (saved_by contents t (image_in z v' t) d fault a m.fault x m.took)
-        (saved_by by_plain t (image_in z v' t) d fault a m.fault (marks_of v'' w'' x) c) l) g.took
-        (by_took v' z k t below firm none own d fault v'' w'' x l a m.took m.fault g.plain g.stays g.done g.undone))
+        rw (← g.fault) (rw (← g.took) (by_took v' z k t below firm none own d fault v'' w'' x l a m.took m.fault g.plain g.stays g.done g.undone))
 
 -- or memory is lacking
 pub saved_twin : (v w : List Track) (s : DeviceStore) (h : Held) (t : ℕ) (d : Did) (fault : Option Side) → t < tracks_of s → is_lost s t ≡ false →
@@ -246,12 +237,7 @@ recovered_by u y v w s h t g m None None del side fault lt there firm none o pla
 recovered_by u y v w s h t g m (Some r) (Some true) del side fault lt there firm none o plain stays =
     let gave : image_of contents s t r ≡ Some (image_in s v t) =
     del.1 ∙ ap (λ (x : Track). Some (record { geometry = s.geometry; track = x })) (o.sure.ground.same t lt firm) in
-    both_try
-    (subst (λ (x : Option Image). Twins (λ v' w' z a b k. Works u y v' w' z a b k) (recovered_image contents t s g x)
-    (recovered_image by_plain t (marks_of v w s) m (Some (image_in s v t))) h) (sym gave)
-    (subst (λ (x : Option Side). Twins (λ v' w' z a b k. Works u y v' w' z a b k) (saved contents s t (image_in s v t) (Recovered t) g.fault)
-    (saved by_plain (marks_of v w s) t (image_in s v t) (Recovered t) x) h) fault
-    (twin_weaker (saved_twin v w s h t (Recovered t) g.fault lt (there refl) none o)
+    both_try (rw gave (rw (← fault) (twin_weaker (saved_twin v w s h t (Recovered t) g.fault lt (there refl) none o)
     (λ v' w' z a b k f. record {
       order = f.order;
       same = f.same;
@@ -276,8 +262,7 @@ framed_twin : (v w : List Track) (s : DeviceStore) (h : Held) (t : ℕ) (d : Did
     Twins (λ v' w' z a b k. Works v s v' w' z a b k) (saved contents s t f.image d None) (saved by_plain (marks_of v w s) t (image_in s v t) d None) h
 framed_twin v w s h t d f e lt there none o =
     let is = frame_plain v w s h t f (record { sure = o.sure; told = o.told }) lt there (none_off s.half t none) e in
-    subst (λ (i : Image). Twins (λ v' w' z a b k. Works v s v' w' z a b k) (saved contents s t i d None)
-    (saved by_plain (marks_of v w s) t (image_in s v t) d None) h) (sym is) (saved_twin v w s h t d None lt there none o)
+    rw is (saved_twin v w s h t d None lt there none o)
 
 recover_by : (v w : List Track) (s : DeviceStore) (h : Held) (t : ℕ) (f : Option Frame) → frame_at s t ≡ f → t < tracks_of s → is_lost s t ≡ false →
     s.half ≡ None →
@@ -299,10 +284,7 @@ recover_by v w s h t None e lt there none o =
 pub recover_twin : (v w : List Track) (s : DeviceStore) (h : Held) (t : ℕ) → t < tracks_of s → is_lost s t ≡ false → s.half ≡ None → InOrder v w s h →
     Twins (λ v' w' z a b k. Works v s v' w' z a b k) (recover contents s t (frame_at s t)) (recover by_plain (marks_of v w s) t (frame_at
     (marks_of v w s) t)) h
-recover_twin v w s h t lt there none o =
-    subst (λ (f : Option Bool). Twins (λ v' w' z a b k. Works v s v' w' z a b k) (recover contents s t (frame_at s t)) (recover by_plain
-    (marks_of v w s) t f) h)
-    (sym (frame_twin v w s t)) (recover_by v w s h t (frame_at s t) refl lt there none o)
+recover_twin v w s h t lt there none o = rw (frame_twin v w s t) (recover_by v w s h t (frame_at s t) refl lt there none o)
 
 destage_by : (v w : List Track) (s : DeviceStore) (h : Held) (t : ℕ) (d : Did) (f : Option Frame) → frame_at s t ≡ f → is_some f ≡ true → t < tracks_of s →
     is_lost s t ≡ false → s.half ≡ None → InOrder v w s h →

@@ -7,11 +7,9 @@ use Rattle.ckd_types.specs.declared.record.Track.{Track}
 use Rattle.ckd_types.specs.Edit.{apply_edit}
 use Rattle.ckd_types.specs.Track.{Fits, track_bytes}
 use Rattle.ckd_types.specs.Volume.{track_in}
-use Rattle.ckd_rules.specs.Facts.{Suits}
 use Rattle.ckd_write.proofs.Fitting.{edited_fits}
 use Rattle.track_image.specs.Image.{Image, edited_image}
 use Rattle.track_cache.specs.declared.frames.Frame.{Frame}
-use Rattle.nv_store.specs.declared.patches.Stored.{Stored}
 use Rattle.device_outside.specs.Both.{both_tell}
 use Rattle.device_outside.specs.Interaction.{Interaction, Done, and_then}
 use Rattle.device_outside.proofs.BothRules.{on_test}
@@ -21,7 +19,7 @@ use Rattle.device_defs.specs.Losses as L
 use Rattle.device_defs.specs.Losses.{settled, by_frame, lost_now, without_patch}
 use Rattle.device_defs.specs.Marks.{MarksStore, marks_of, frame_mark, half_mark}
 use Rattle.device_defs.specs.Second as S
-use Rattle.device_defs.specs.Second.{plainly_written, half_closed, half_image_of, finished, second_done, cut_kept, left_by, second_absent, second_by, second_part}
+use Rattle.device_defs.specs.Second.{plainly_written, half_closed, finished, second_done, cut_kept, second_absent, second_by, second_part}
 use Rattle.device_defs.specs.Sound.{DeviceStore, written_on}
 use Rattle.device_defs.specs.Store.{
   Origin,
@@ -41,7 +39,7 @@ use Rattle.device_defs.specs.Store.{
   with_lost,
 }
 use Rattle.device_defs.specs.Writing.{write_second}
-use Rattle.device_laws.specs.Agrees.{Held, image_in, PatchHas, PatchFits, PatchOf, slot_at}
+use Rattle.device_laws.specs.Agrees.{Held, image_in, PatchHas, PatchOf, slot_at}
 use Rattle.device_laws.specs.PlainWrites.{SuitsTrack, plain_second, OriginSuits}
 use Rattle.device_laws.specs.Twin.{Twins}
 use Rattle.device_laws.proofs.Bools.{neither}
@@ -68,9 +66,7 @@ use Rattle.device_laws.proofs.TrackContents.{
   contents_at,
   FrameHas,
   FrameOf,
-  Keeps,
   Writes,
-  HeldBy,
   IsRight,
   held_of,
   right_by,
@@ -134,8 +130,7 @@ closed_right hw v w z k is b = record {
     slots = same_slots z (half_closed z) k.slots (closed_slots z) b.ground.slots;
   };
   right = λ q lt ne.
-      subst (λ (c : TrackContents). IsRight z.geometry q None c (image_in z v q) (image_in z w q)) (sym (closed_contents z k q))
-      (right_at q (λ e. ne (ap Some (sym e))) (b.right q lt ne) (contents_at z k q).lost refl);
+      rw (closed_contents z k q) (right_at q (λ e. ne (ap Some (sym e))) (b.right q lt ne) (contents_at z k q).lost refl);
 }
   where
     right_at : (q : ℕ) → q ≢ hw.track → IsRight z.geometry q z.half (contents_at z k q) (image_in z v q) (image_in z w q) → (l : Bool) →
@@ -260,9 +255,7 @@ module _ (u w0 : List Track) (s : DeviceStore) (h : Held) (hw : HalfWrite Image)
     finished_plain : (bypass : Bool) → hw.image ≡ image_in s u t → plain_second hw.origin true u t ≡ u →
         Twins Ends (finished contents (half_closed z) t hw.image bypass) (finished by_plain (half_closed (marks_of v w z)) t hw.image bypass) k
     finished_plain bypass same stays =
-        subst (λ (i : Image). Twins Ends (finished contents (half_closed z) t i bypass) (finished by_plain (half_closed (marks_of v w z)) t i bypass) k)
-        (plain_is ∙ sym same)
-        (twin_then (λ y _. Done y true) (λ y _. Done y true)
+        rw (← (plain_is ∙ sym same)) (twin_then (λ y _. Done y true) (λ y _. Done y true)
         (write_done_twin t v w (track_in v t) (half_closed z) k bypass (closing_plain same))
         (λ v' w' y _ _ n f. twin_done (record {
           order = f.order;
@@ -283,8 +276,7 @@ module _ (u w0 : List Track) (s : DeviceStore) (h : Held) (hw : HalfWrite Image)
       fits : Fits z.geometry n
       fits =
           edited_fits z.geometry (track_in v t) e (d.mid.but.ground.plain.fits t below)
-          (subst (λ (g : Geometry). Suits g (track_in v t).records e) (sym d.mid.stays.geometry)
-          (subst (λ (l : List Track). Suits s.geometry (track_in l t).records e) (sym d.mid.plain) suit.suits)) suit.ranges
+          (rw d.mid.stays.geometry (rw d.mid.plain suit.suits)) suit.ranges
 
       edited_contents : (q : ℕ) → contents_at (with_edit (half_closed z) t e) k q ≡ contents_at z k q
       unfolding T.contents_at
@@ -315,9 +307,7 @@ module _ (u w0 : List Track) (s : DeviceStore) (h : Held) (hw : HalfWrite Image)
           Twins Ends (second_done contents (half_closed z) t hw.image (OfCommand bypass e)) (second_done by_plain (half_closed (marks_of v w z)) t hw.image
           (OfCommand bypass e)) k
       edit_twin after =
-          subst (λ (i : Image). Twins Ends (second_done contents (half_closed z) t i (OfCommand bypass e))
-          (second_done by_plain (half_closed (marks_of v w z)) t i (OfCommand bypass e)) k) (sym image_now)
-          (both_tell (λ _.
+          rw image_now (both_tell (λ _.
           twin_then (λ y _. Done y true) (λ y _. Done y true)
           (write_done_twin t (set v t n) (set w t n) n (with_edit (half_closed z) t e) k bypass closing_edit)
           (λ v' w' y _ _ m f. twin_done (record {
@@ -344,16 +334,12 @@ module _ (u w0 : List Track) (s : DeviceStore) (h : Held) (hw : HalfWrite Image)
         FrameHas c.frame (image_in z v t) → PatchHas c.patch (image_in z v t) → Sure v w y k
     absent_sure c y is b stays a no_b frame patch =
         shut t v w y k b
-        (subst (λ (d : TrackContents). IsRight y.geometry t y.half d (image_in y v t) (image_in y w t)) (sym is)
-        (right_keeps y.geometry t y.half c (image_in y v t) (image_in y w t) (ap (λ (m : Option (HalfWrite Image)). half_is m t) stays.half)
+        (rw is (right_keeps y.geometry t y.half c (image_in y v t) (image_in y w t) (ap (λ (m : Option (HalfWrite Image)). half_is m t) stays.half)
         (record {
           frame = λ f l. frame f l ∙ sym (ap (λ (g : Geometry). record { geometry = g; track = track_in v t }) stays.geometry);
           a = λ l. absurd (not_both c.a a l);
           b = λ l. absurd (not_both c.b no_b l);
-          patch =
-              subst (λ (g : Geometry). PatchFits c.patch (record { geometry = g; track = track_in v t }) (record { geometry = g; track = track_in w t }))
-              (sym stays.geometry)
-              (subst (λ (l : Track). PatchFits c.patch (image_in z v t) (record { geometry = z.geometry; track = l })) (sym firm_is) (patch, patch));
+          patch = rw stays.geometry (rw firm_is (patch, patch));
         })))
 
     absent_ends : (y : DeviceStore) (m : MarksStore) → marks_of v w y ≡ m → Sure v w y k → AllTold y k → Stays (half_closed z) y → is_loose y t ≡ false →
@@ -361,8 +347,7 @@ module _ (u w0 : List Track) (s : DeviceStore) (h : Held) (hw : HalfWrite Image)
         Twins Ends (Done (settled contents y t) false) (Done (settled by_plain m t) false) k
     absent_ends y m is sure told stays loose after =
         let f = settled_ends v w y k t (let same = stays.cylinders in let lt' = below in omega arith) sure told loose in
-        subst (λ (n : MarksStore). Twins Ends (Done (settled contents y t) false) (Done (settled by_plain n t) false) k) is
-        (twin_ends f.marks (record {
+        rw (← is) (twin_ends f.marks (record {
           order = f.is.0;
           same = refl;
           plain = f.is.1.0 ∙ d.mid.plain ∙ sym after;
@@ -384,8 +369,7 @@ module _ (u w0 : List Track) (s : DeviceStore) (h : Held) (hw : HalfWrite Image)
         absent_ends (half_closed z) (half_closed (marks_of v w z)) refl
         (absent_sure (contents_at (half_closed z) k t) (half_closed z) refl but (stays_same (half_closed z)) levels.0 levels.1
         (λ f e. frame f (frame_was f e) ∙ sym plain_is)
-        (subst (λ (o : Option Stored). PatchHas o (image_in z v t)) (sym patch_was)
-        (subst (λ (i : Image). PatchHas (contents_at s h t).patch i) (sym plain_is) patch)))
+        (rw patch_was (subst (λ (i : Image). PatchHas (contents_at s h t).patch i) (sym plain_is) patch)))
         (closed_told z k d.mid.told) (stays_same (half_closed z)) firm_now after
 
     -- the frame of a command that was cut has the new track then, and its patch goes
@@ -449,8 +433,7 @@ module _ (u w0 : List Track) (s : DeviceStore) (h : Held) (hw : HalfWrite Image)
         (unpatched_slots (half_closed z) k y k t c gone_altered refl refl refl but.ground.slots) (λ ne. absurd (ne refl)) in
         record {
           sure = shut t v w y k b
-              (subst (λ (x : TrackContents). IsRight y.geometry t y.half x (image_in y v t) (image_in y w t)) (sym gone_altered.here)
-              (right_lost y.geometry t y.half c (image_in y v t) (image_in y w t) refl));
+              (rw gone_altered.here (right_lost y.geometry t y.half c (image_in y v t) (image_in y w t) refl));
           told = told_altered (half_closed z) k y k t c (closed_told z k d.mid.told) gone_altered refl;
         }
 
@@ -462,10 +445,8 @@ module _ (u w0 : List Track) (s : DeviceStore) (h : Held) (hw : HalfWrite Image)
         Twins Ends (Done (settled contents (half_closed z) t) false) (Done (settled by_plain (half_closed (marks_of v w z)) t) false) k
     gone_ends free e none after =
         let stays = stays_by (half_closed z) k (lost_now contents (half_closed z) t) k gone_altered.base in
-        subst (λ (x : DeviceStore). Twins Ends (Done x false) (Done (settled by_plain (half_closed (marks_of v w z)) t) false) k)
-        (sym (settles_lost contents (half_closed z) t free lost_mark none e refl))
-        (subst (λ (x : MarksStore). Twins Ends (Done (lost_now contents (half_closed z) t) false) (Done x false) k)
-        (sym (settles_lost by_plain (half_closed (marks_of v w z)) t free lost_mark none (frame_twin v w z t ∙ ap (option_map frame_mark) e) refl))
+        rw (settles_lost contents (half_closed z) t free lost_mark none e refl)
+        (rw (settles_lost by_plain (half_closed (marks_of v w z)) t free lost_mark none (frame_twin v w z t ∙ ap (option_map frame_mark) e) refl)
         (twin_ends (without_patch_twin v w (with_lost (half_closed z) t) t) (record {
           order = gone_order;
           same = refl;
@@ -487,9 +468,7 @@ module _ (u w0 : List Track) (s : DeviceStore) (h : Held) (hw : HalfWrite Image)
         Twins Ends (second_absent contents (half_closed z) t hw.image origin) (second_absent by_plain (half_closed (marks_of v w z)) t hw.image origin) k
     absent_by free (OfCommand bypass e) is image frame patch none = kept_ends none frame patch (ap (λ (x : Origin). plain_second x false u t) is)
     absent_by free (OfCut bypass) is image frame patch none =
-        subst (λ (g : Option Bool). Twins Ends (Done (settled contents (cut_kept contents (half_closed z) t hw.image (frame_at z t)) t) false)
-        (Done (settled by_plain (cut_kept by_plain (half_closed (marks_of v w z)) t hw.image g) t) false) k) (sym (frame_twin v w z t))
-        (cut_by free (frame_at z t) refl image none (ap (λ (x : Origin). plain_second x false u t) is))
+        rw (frame_twin v w z t) (cut_by free (frame_at z t) refl image none (ap (λ (x : Origin). plain_second x false u t) is))
     absent_by free OfBackground is image frame patch none = kept_ends none frame patch (ap (λ (x : Origin). plain_second x false u t) is)
 
   there_mark : (track_at contents s t).lost ≡ false
@@ -501,9 +480,7 @@ module _ (u w0 : List Track) (s : DeviceStore) (h : Held) (hw : HalfWrite Image)
   unfolding S.second_part
   second_part_twin =
       let image : plainly_written (marks_of u w0 s) t hw.origin ≡ hw.image = plainly_is u w0 s t hw.origin ∙ sym writes.image in
-      subst (λ (i : Image). Twins Ends (second_part_by contents s t hw.origin (track_bytes hw.image.track) hw.image) (second_part_by by_plain
-      (marks_of u w0 s) t hw.origin true i) h) (sym image)
-      (twin_then (λ z _. second_by contents t hw.image hw.origin z) (λ z _. second_by by_plain t hw.image hw.origin z)
+      rw image (twin_then (λ z _. second_by contents t hw.image hw.origin z) (λ z _. second_by by_plain t hw.image hw.origin z)
       (twin_always (second_twin u s h t r lt firm (is_alone s o.well.here) u w0 s h begins (is_alone s o.well.here))
       (write_second_keeps_others contents device_is_faithful t s lt there_mark r o.well))
       (λ v w z _ _ k d. on_test (has_level z t)

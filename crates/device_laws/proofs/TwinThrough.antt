@@ -7,9 +7,7 @@ use Rattle.ckd_types.specs.declared.record.Track.{Track}
 use Rattle.ckd_types.specs.Edit.{apply_edit}
 use Rattle.ckd_types.specs.Track.{track_bytes}
 use Rattle.ckd_types.specs.Volume.{track_in}
-use Rattle.ckd_rules.specs.Facts.{Suits}
 use Rattle.ckd_write.proofs.Fitting.{edited_fits}
-use Rattle.nv_store.specs.declared.patches.Stored.{Stored}
 use Rattle.track_image.specs.Image.{Image, edited_image}
 use Rattle.device_outside.specs.Both.{both_tell}
 use Rattle.device_outside.specs.Interaction.{Interaction, Done, and_then}
@@ -32,7 +30,7 @@ use Rattle.device_laws.proofs.Bools.{neither}
 use Rattle.device_laws.proofs.PlainVolumes.{put_here}
 use Rattle.device_laws.proofs.Sweeps.{is_alone}
 use Rattle.device_laws.proofs.TrackContents as T
-use Rattle.device_laws.proofs.TrackContents.{TrackContents, contents_at, FrameHas, Keeps, not_both}
+use Rattle.device_laws.proofs.TrackContents.{contents_at, Keeps, not_both}
 use Rattle.device_laws.proofs.TrackMarks as M
 use Rattle.device_laws.proofs.TrackMarks.{track_at, device_is_faithful}
 use Rattle.device_laws.proofs.TwinAsks.{Stays, stays_image, stays_off, InOrder, Ordered, keeps_at}
@@ -78,8 +76,7 @@ module _ (u : List Track) (y : DeviceStore) (j : Held) (t : ℕ) (e : Edit) (lt 
       let n = apply_edit e (track_in v t) in
       let home = m.but.ground.plain.homes t below in
       let fits = edited_fits z.geometry (track_in v t) e (m.but.ground.plain.fits t below)
-      (subst (λ (g : Geometry). Suits g (track_in v t).records e) (sym m.stays.geometry)
-      (subst (λ (l : List Track). Suits y.geometry (track_in l t).records e) (sym plain) suits.suits)) suits.ranges in
+      (rw m.stays.geometry (rw plain suits.suits)) suits.ranges in
       record {
         but = edit_right t (set v t n) (set w t n) z k e (put_right t v w z k n below m.but home fits);
         told = told_edit z k m.told;
@@ -108,8 +105,7 @@ module _ (u : List Track) (y : DeviceStore) (j : Held) (t : ℕ) (e : Edit) (lt 
       let n = apply_edit e (track_in v t) in
       let v' = set v t n in
       let w' = set w t n in
-      subst (λ (p : Image). Twins Ends (whole contents z t p e bypass) (whole by_plain (marks_of v w z) t p e bypass) k) (sym (image_now v w z k d plain))
-      (both_tell (λ _.
+      rw (image_now v w z k d plain) (both_tell (λ _.
       twin_then (λ x _. Done x Whole) (λ x _. Done x Whole)
       (write_done_twin t v' w' n (with_edit z t e) k bypass (closing v w z k d plain))
       (λ v'' w'' x _ _ l f. twin_done (record {
@@ -170,9 +166,7 @@ module _ (u : List Track) (y : DeviceStore) (j : Held) (t : ℕ) (e : Edit) (lt 
         a = d.a;
         b = d.b;
         frame = λ f l. own.frame f (sym m.sided.frame ∙ l) ∙ sym image_is;
-        patch =
-            subst (λ (p : Option Stored). PatchHas p (image_in z v t)) (sym m.sided.patch)
-            (subst (λ (n : Image). PatchHas (contents_at y j t).patch n) (sym image_is) own.patch.0);
+        patch = rw m.sided.patch (subst (λ (n : Image). PatchHas (contents_at y j t).patch n) (sym image_is) own.patch.0);
         suits = subst (λ (n : Image). SuitsTrack n.geometry n.track e) (sym image_is) suits;
       }
 
@@ -200,15 +194,11 @@ module _ (u : List Track) (y : DeviceStore) (j : Held) (t : ℕ) (e : Edit) (lt 
       (is_taken took ≡ true → Written u y j t r v w z k) → (is_taken took ≡ false → Ordered v w z k) → y.half ≡ None → (z.paired ≡ false → z.b.up ≡ false) →
       Twins Ends (through_by contents t i e bypass opens was_loose z took) (through_by by_plain t i e bypass opens was_loose (marks_of v w z) other) k
   by_took v w z k bypass opens was_loose Whole other same plain stays done undone none single =
-      subst (λ (o : Took). Twins Ends (whole contents z t i e bypass) (through_by by_plain t i e bypass opens was_loose (marks_of v w z) o) k) same
-      (whole_twin v w z k bypass (done refl) plain)
+      rw (← same) (whole_twin v w z k bypass (done refl) plain)
   by_took v w z k bypass opens was_loose Opened other same plain stays done undone none single =
-      subst (λ (o : Took). Twins Ends (through_by contents t i e bypass opens was_loose z Opened) (through_by by_plain t i e bypass opens was_loose
-      (marks_of v w z) o) k) same
-      (by_opening v w z k bypass opens was_loose (done refl) (stays.half ∙ none) single)
+      rw (← same) (by_opening v w z k bypass opens was_loose (done refl) (stays.half ∙ none) single)
   by_took v w z k bypass opens was_loose Unwritten other same plain stays done undone none single =
-      subst (λ (o : Took). Twins Ends (Done z Unwritten) (through_by by_plain t i e bypass opens was_loose (marks_of v w z) o) k) same
-      (twin_done (record { order = undone refl; same = refl; plain = plain; geometry = stays.geometry; cylinders = stays.cylinders }))
+      rw (← same) (twin_done (record { order = undone refl; same = refl; plain = plain; geometry = stays.geometry; cylinders = stays.cylinders }))
 
 pub none_off : (o : Option (HalfWrite Image)) (t : ℕ) → o ≡ None → half_is o t ≡ false
 none_off None t e = refl
@@ -245,8 +235,7 @@ through_twin v w s h t e bypass opens lt there none suits o =
     subst (λ (l : Track). Keeps z.geometry t (contents_at z k t) (image_in z v' t) (record { geometry = z.geometry; track = l })) same_track
     (keeps_at v' w' z k t y.order.sure below there' off') in
     let suits' : SuitsTrack z.geometry (track_in v' t) e =
-    subst (λ (g : Geometry). SuitsTrack g (track_in v' t) e) (sym y.stays.geometry)
-    (subst (λ (l : List Track). SuitsTrack s.geometry (track_in l t) e) (sym y.plain) suits) in
+    rw y.stays.geometry (rw y.plain suits) in
     let alone = is_alone z well.here in
     let image_is : edited_image e (image_in s v t) ≡ edited_image e (image_in z v' t) =
     ap (edited_image e) (sym (stays_image s z v' t y.stays ∙ ap (λ (l : List Track). image_in s l t) y.plain)) in

@@ -1,5 +1,5 @@
 -- A command's write leaves all right wherever its edit goes, and the plain volume has the edit where it is done; with its twin on marks.
-use Rattle.std.proofs.Common.{◌≡◌, ◌<◌, not, ℕ, Bool, true, false, List, Option, Some, None, is_some, refl, sym, ap, subst, ◌⊎◌, inl, inr}
+use Rattle.std.proofs.Common.{◌≡◌, ◌<◌, not, ℕ, Bool, true, false, List, Option, Some, None, is_some, refl, ap, subst, ◌⊎◌, inl, inr}
 use Rattle.std.specs.Prelude.{if◌then◌else◌}
 use Rattle.ckd_types.specs.declared.record.Edit.{Edit}
 use Rattle.ckd_types.specs.declared.record.Track.{Track}
@@ -202,13 +202,4 @@ module _ (v w : List Track) (s : DeviceStore) (t : ℕ) (e : Edit) (u : Usage) (
     where
       at_store : (v' w' : List Track) (z : DeviceStore) (a b : Choice) (k : Held) → Chooses v w s v' w' z a b k → Fits contents s t a →
           Twins Ends (write_chosen contents u first t old e z a) (write_chosen by_plain u first t old e (marks_of v' w' z) b) k
-      at_store v' w' z a b k f fit =
-          subst (λ (l : DeviceStore). Twins Ends (write_chosen contents u first t old e l a) (write_chosen by_plain u first t old e
-          (marks_of v' w' l) b) k) (sym f.store)
-          (subst (λ (l : List Track). Twins Ends (write_chosen contents u first t old e s a) (write_chosen by_plain u first t old e
-          (marks_of l w' s) b) k) (sym f.plain)
-          (subst (λ (l : List Track). Twins Ends (write_chosen contents u first t old e s a) (write_chosen by_plain u first t old e
-          (marks_of v l s) b) k) (sym f.firm)
-          (subst (λ (c : Choice). Twins Ends (write_chosen contents u first t old e s a) (write_chosen by_plain u first t old e
-          (marks_of v w s) c) k) (sym f.same)
-          (chosen_twin a k f.order f.new fit))))
+      at_store v' w' z a b k f fit = rw f.store (rw f.plain (rw f.firm (rw f.same (chosen_twin a k f.order f.new fit))))

@@ -39,29 +39,20 @@ use Rattle.device_laws.proofs.ContentChanges as C
 use Rattle.device_laws.proofs.ContentChanges.{
   base_of,
   Altered,
-  altered_twice,
   altered_on_a,
   altered_on_b,
   altered_stale_a,
   altered_stale_b,
-  same_geometry,
-  same_tracks,
-  same_up_a,
   same_up_b,
-  slot_of,
-  by_track,
-  unseen_slots,
-  sits_still,
-  Unseen,
   unseen_right,
   RightBut,
   Sure,
-  right_altered,
   shut,
   opens_write,
+  similar_right,
 }
 use Rattle.device_laws.proofs.TrackContents as T
-use Rattle.device_laws.proofs.TrackContents.{TrackContents, contents_at, Keeps, Fewer, keeps_fewer, IsRight, not_both}
+use Rattle.device_laws.proofs.TrackContents.{TrackContents, contents_at, Keeps, keeps_fewer, not_both}
 use Rattle.device_laws.proofs.TwinAsks.{Stays, stays_same, stays_on, stays_by, stays_fell, stays_image, stays_off, Ordered, right_keeps}
 use Rattle.device_laws.proofs.TwinFailed.{fell, Failed, failed_twin}
 use Rattle.device_laws.proofs.TwinSettled.{AllTold, told_altered, told_debts, settled_pair, settled_told}
@@ -87,10 +78,6 @@ sided_on x y z f g = record {
   loose = g.loose ∙ f.loose;
   freed = g.freed ∙ f.freed;
 }
-
-sided_slots : (x y : TrackContents) → Sided x y → (kept : Bool) → slot_of kept y ≡ slot_of kept x
-sided_slots x y e true = ap (λ (o : Option _). slot_of true (record x { patch = o })) e.patch
-sided_slots x y e false = e.freed
 
 fell_a : (p : Bool) (s : DeviceStore) (h : Held) (t : ℕ) →
     contents_at (fell p s A) h t ≡ record (contents_at s h t) { a = if p then false else (contents_at s h t).a }
@@ -181,8 +168,7 @@ module _ (u : List Track) (s : DeviceStore) (h : Held) (t : ℕ) (r : List ℕ) 
     mid_altered : (v w : List Track) (z : DeviceStore) (k : Held) (y : DeviceStore) (n : Held) (c : TrackContents) → Mid v w z k → Altered z k y n t c →
         Sided (contents_at z k t) c → c.debt ≡ (contents_at z k t).debt → n.slots ≡ k.slots → Mid v w y n
     mid_altered v w z k y n c m e sided debt slots = record {
-      but = right_altered (Some t) v w z k y n t c m.but e (sits_still v w z k t c (below z m.stays) m.but.ground sided.loose sided.patch)
-          (unseen_slots z k y n (λ kept q. by_track z k y n t c kept e (sided_slots (contents_at z k t) c sided kept) q) slots m.but.ground.slots)
+      but = similar_right m.but e (below z m.stays) (record { loose = sided.loose; patch = sided.patch; freed = sided.freed }) slots
           (λ ne. absurd (ne refl));
       told = told_altered z k y n t c m.told e debt;
       plain = m.plain;
@@ -207,12 +193,10 @@ module _ (u : List Track) (s : DeviceStore) (h : Held) (t : ℕ) (r : List ℕ) 
     }
 
     sided_a : (z : DeviceStore) (k : Held) → Sided (contents_at z k t) (contents_at (fell z.paired z A) k t)
-    sided_a z k = subst (Sided (contents_at z k t)) (sym (fell_a z.paired z k t))
-        (record { frame = refl; patch = refl; lost = refl; loose = refl; freed = refl })
+    sided_a z k = rw (fell_a z.paired z k t) (record { frame = refl; patch = refl; lost = refl; loose = refl; freed = refl })
 
     sided_b : (z : DeviceStore) (k : Held) → Sided (contents_at z k t) (contents_at (fell z.paired z B) k t)
-    sided_b z k = subst (Sided (contents_at z k t)) (sym (fell_b z.paired z k t))
-        (record { frame = refl; patch = refl; lost = refl; loose = refl; freed = refl })
+    sided_b z k = rw (fell_b z.paired z k t) (record { frame = refl; patch = refl; lost = refl; loose = refl; freed = refl })
 
     on_b : (v w : List Track) (z : DeviceStore) (k : Held) (m : Mid v w z k) (bytes : List ℕ) → z.b.up ≡ true →
         Altered z k z (with_held k B t bytes) t (record (contents_at z k t) { on_b = bytes })
@@ -364,8 +348,7 @@ module _ (u : List Track) (s : DeviceStore) (h : Held) (t : ℕ) (r : List ℕ) 
       right_mid v w z k y c m but stays is loose keeps =
           shut t v w y k but
           (right_keeps y.geometry t y.half (contents_at y k t) (image_in y v t) (image_in y w t) (stays_off s y t stays off)
-          (subst (λ (d : TrackContents). Keeps y.geometry t d (image_in y v t) (image_in y w t)) is
-          (moved y.geometry stays.geometry (image_in y v t) (image_in y w t) plain_is firm_same)))
+          (rw (← is) (moved y.geometry stays.geometry (image_in y v t) (image_in y w t) plain_is firm_same)))
         where
           plain_is : image_in y v t ≡ image_in s u t
           plain_is = stays_image s y v t stays ∙ ap (λ (l : List Track). image_in s l t) m.plain
@@ -377,7 +360,7 @@ module _ (u : List Track) (s : DeviceStore) (h : Held) (t : ℕ) (r : List ℕ) 
 
           moved : (g : Geometry) → g ≡ s.geometry → (p q : Image) → p ≡ image_in s u t → q ≡ image_in s u t → Keeps g t c p q
           moved g e p q f i =
-              subst (λ (l : Geometry). Keeps l t c p q) (sym e)
+              rw e
               (subst (λ (l : Image). Keeps s.geometry t c l q) (sym f) (subst (λ (l : Image). Keeps s.geometry t c (image_in s u t) l) (sym i) keeps))
 
       -- no side took it: a track as before, but for side A

@@ -6,7 +6,17 @@ use Rattle.ckd_chain.specs.declared.mark.Stage.TheVariants as stages
 use Rattle.ckd_chain.specs.declared.progress.Progress.{Progress}
 use Rattle.ckd_chain.specs.declared.progress.Progress.TheVariants as progresses
 use Rattle.ckd_chain.specs.State.{ChainState}
-use Rattle.ckd_chain.specs.Steps.{chain_opened as opened_chain, stage_of, track_needed, need_of, standing, step_turned as chain_turned, stepped_by, stepped, word_of}
+use Rattle.ckd_chain.specs.Steps.{
+  chain_opened as opened_chain,
+  stage_of,
+  track_needed,
+  need_of,
+  standing,
+  step_turned as chain_turned,
+  stepped_by,
+  stepped,
+  word_of,
+}
 use Rattle.ckd_rules.specs.declared.order.Look.{Look}
 use Rattle.ckd_rules.specs.declared.stance.Stance.{Stance}
 use Rattle.ckd_rules.specs.declared.turned.Turned.{Turned}
@@ -40,7 +50,6 @@ use Rattle.device_defs.specs.Image.{
   NoBytes,
   BadTrack,
   level_bytes,
-  read_b,
   filled,
   loads,
   ahead,
@@ -48,7 +57,6 @@ use Rattle.device_defs.specs.Image.{
   delivered,
   missed,
   miss,
-  hit,
   clean_image,
   image_by,
   image,
@@ -60,7 +68,7 @@ use Rattle.device_defs.specs.Owed.{is_clean}
 use Rattle.device_defs.specs.Outcomes.{Turn, usage_of, wrote_turn}
 use Rattle.device_defs.specs.Store.{OfCommand, Store, tracks_of, level_at, has_level, takes_b, frame_at, is_lost, half_is, with_frame}
 use Rattle.device_defs.specs.Writing as V
-use Rattle.device_defs.specs.Writing.{Wrote, write_counted, firm_first, write_first, write_second, write_done, write_opened}
+use Rattle.device_defs.specs.Writing.{Wrote, write_first, write_done, write_opened}
 use Rattle.device_laws.specs.Unharmed.{some_takes}
 use Rattle.device_laws.proofs.ChainFeeds.{need_is}
 use Rattle.device_laws.proofs.ChainTracks.{begun_stage, need_at}
@@ -82,7 +90,7 @@ use Rattle.device_laws.proofs.Lucky.{
 }
 use Rattle.device_laws.proofs.PlainLooks.{look_stays}
 use Rattle.device_laws.proofs.TrackMarks as M
-use Rattle.device_laws.proofs.TrackMarks.{TrackMarks, marks, is_true, is_good, IsFaithful, frame_mark, track_at}
+use Rattle.device_laws.proofs.TrackMarks.{is_true, is_good, IsFaithful, frame_mark, track_at}
 use Rattle.device_laws.proofs.UnlostParts.{second_lucky, firm_first_off}
 use Rattle.device_laws.proofs.invariants.NoTrackIsLost.{level_of, image_goes, look_goes}
 use Rattle.device_laws.proofs.WholeImage.{Reaches, image_keeps_good}
@@ -303,8 +311,7 @@ module _ {F P H R : Type 0} (c : Contents F P H R) where
     write_taken s u first t old e lt w there up =
         lucky_tried s _ tt
         (lucky_then (write_chosen c u first t old e) (with_always (choice_fits c s u t) (lucky_any (choose c s u t)))
-        (λ z choice k. subst (λ (y : Store F P H). Lucky (λ q (x : Option Took). WasTaken x) (write_chosen c u first t old e y choice)) (sym k.0.same)
-        (chosen_taken u first t old e s choice lt w there up)))
+        (λ z choice k. rw k.0.same (chosen_taken u first t old e s choice lt w there up)))
 
     -- From track to track
 

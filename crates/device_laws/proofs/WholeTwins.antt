@@ -2,7 +2,7 @@
 use Rattle.std.proofs.Common.{◌≡◌, ℕ, Bool, true, List, [], None, refl, sym, ap, subst, ◌∙◌}
 use Rattle.ckd_types.specs.declared.record.Track.{Track}
 use Rattle.track_image.specs.Image.{Image}
-use Rattle.device_outside.specs.Both.{Both, both_done, TellsAll}
+use Rattle.device_outside.specs.Both.{both_done, TellsAll}
 use Rattle.device_outside.specs.Interaction.{Interaction, Done, and_then}
 use Rattle.device_outside.specs.Keeper.{Hearing}
 use Rattle.device_outside.specs.Outside.{Outside, Ran}
@@ -45,15 +45,13 @@ module _ {A B : Type 0} {q : WholeClaim A B} {h : Held} where
       (f : DeviceStore → C → Interaction (List ℕ) Image WholeDevice A) (g : MarksStore → E → Interaction Bool Image MarksDevice B) → Twins p i j h →
       ((v w : List Track) (s : DeviceStore) (c : C) (e : E) (k : Held) → p v w s c e k → WholeTwins q (f s c) (g (marks_of v w s) e) k) →
       WholeTwins q (and_then i f) (and_then j g) h
-  store_then f g x w = first_then f g x (λ s c m e k is. subst (λ (n : MarksStore). Both [] true (WholeTwin q) (f s c) (g n e) k) is.marks
-      (w is.plain is.firm s c e k is.is))
+  store_then f g x w = first_then f g x (λ s c m e k is. rw (← is.marks) (w is.plain is.firm s c e k is.is))
 
   pub whole_then : {C E : Type 0} {p : WholeClaim C E} {i : Interaction (List ℕ) Image WholeDevice C} {j : Interaction Bool Image MarksDevice E}
       (f : WholeDevice → C → Interaction (List ℕ) Image WholeDevice A) (g : MarksDevice → E → Interaction Bool Image MarksDevice B) → WholeTwins p i j h →
       ((v w : List Track) (d : WholeDevice) (c : C) (e : E) (k : Held) → p v w d c e k → WholeTwins q (f d c) (g (marks_device v w d) e) k) →
       WholeTwins q (and_then i f) (and_then j g) h
-  whole_then f g x w = first_then f g x (λ d c m e k is. subst (λ (n : MarksDevice). Both [] true (WholeTwin q) (f d c) (g n e) k) is.marks
-      (w is.plain is.firm d c e k is.is))
+  whole_then f g x w = first_then f g x (λ d c m e k is. rw (← is.marks) (w is.plain is.firm d c e k is.is))
 
 -- The front of an event and its end
 
@@ -121,10 +119,7 @@ module _ {A : Type 0} {p : List Track → Type 0} where
   quiet_twin v w d h f g x =
       whole_then (event_ended contents d) (event_ended by_plain (marks_device v w d)) x
       (λ v' w' z a b k o.
-      subst (λ (n : ℕ). WholeTwins (Leaves p)
-      (and_then (noted_end contents (waiting_count contents d.store) z.store) (λ y _. Done (record z { store = y }) a))
-      (and_then (noted_end by_plain n (marks_of v' w' z.store)) (λ y _. Done (record (marks_device v' w' z) { store = y }) b)) k)
-      (sym (count_twin v w d.store)) (ending (waiting_count contents d.store) v' w' z a b k o))
+      rw (count_twin v w d.store) (ending (waiting_count contents d.store) v' w' z a b k o))
 
   -- and one that first takes the notes
   pub event_twin : (v w : List Track) (d : WholeDevice) (h : Held) (f : WholeDevice → Interaction (List ℕ) Image WholeDevice A)
@@ -138,10 +133,7 @@ module _ {A : Type 0} {p : List Track → Type 0} where
       (store_then (λ s _. f (record (event_begun d) { store = s })) (λ s _. g (record (event_begun (marks_device v w d)) { store = s }))
       (hears 960 v w (noted_begin d.store) h (begun_order v w d.store h i))
       (λ v' w' s _ _ k x.
-      subst (λ (y : List Track). WholeTwins (Leaves p) (f (record (event_begun d) { store = s }))
-      (g (marks_device y w' (record (event_begun d) { store = s }))) k)
-      (sym x.plain)
-      (body w' s k (subst (λ (y : List Track). IsInOrder y w' s k) x.plain x.order)
+      rw x.plain (body w' s k (subst (λ (y : List Track). IsInOrder y w' s k) x.plain x.order)
       (record { geometry = x.stays.geometry; cylinders = x.stays.cylinders; half = x.stays.half }))))
 
 -- The step of a run

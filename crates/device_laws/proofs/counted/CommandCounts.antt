@@ -1,5 +1,5 @@
 -- The reads and writes of a command that goes from track to track, and of a whole one; and that a hit reads nothing.
-use Rattle.std.proofs.Common.{◌≡◌, ◌≢◌, ◌≤◌, ℕ, zero, suc, Bool, true, false, not, Option, Some, None, refl, sym, ap, subst, ◌∙◌, arith}
+use Rattle.std.proofs.Common.{◌≡◌, ◌≢◌, ◌≤◌, ℕ, zero, suc, Bool, true, false, not, Option, Some, None, refl, sym, ap, ◌∙◌, arith}
 use Rattle.std.proofs.lemmas.List.{get_or-set_other}
 use Rattle.std.proofs.Math.Nat.{suc-mul}
 use Rattle.std.specs.Prelude.{if◌then◌else◌}
@@ -26,10 +26,8 @@ use Rattle.device_defs.specs.Command.{
   look,
   goes_on,
   follow,
-  came_out,
   on_tracks,
   answered_by,
-  on_paths,
   command_at,
   command_by,
 }
@@ -96,7 +94,7 @@ module _ {F P H R : Type 0} (c : Contents F P H R) where
         counts_if (is_lost s t) (λ _. counts_done (omega arith, omega arith))
         (λ _. counts_then (had_by (looked c chain first t)) (image_reads c (usage_of chain) t up s few)
         (λ r w z o h.
-        subst (λ (k : ℕ). Counts To r k (had_by (looked c chain first t) z o)) (sym h.writes) (had_so r h.reads z h.sides o)))
+        rw h.writes (had_so r h.reads z h.sides o)))
 
   -- From track to track
 
@@ -114,8 +112,7 @@ module _ {F P H R : Type 0} (c : Contents F P H R) where
     by_went n later r w z None h = counts_done (one_more n r w h.0 h.1)
     by_went n later r w z (Some (Over turn)) h = counts_done (one_more n r w h.0 h.1)
     by_went n later r w z (Some (On chain q)) h =
-        subst (λ (k : ℕ). Counts (λ r w z (o : Option Turn). CommandTransfers (suc n) up r w) r k (follow c n first chain q z)) (sym h.1)
-        (counts_weaker (counts_from r 0 (later chain q z h.2))
+        rw h.1 (counts_weaker (counts_from r 0 (later chain q z h.2))
         (λ m l y o k.
         let le = h.0 in
         let a = k.more_reads in
@@ -204,8 +201,7 @@ module _ (chain : ChainState) (first t : ℕ) (f : Frame) (modified : f.modified
   framed_none s None e = absurd (cc)
   framed_none s (Some g) e =
       let same : f ≡ g = cc in
-      subst (λ (x : Frame). Counts Hit 0 0 (and_then (image_by contents s (usage_of chain) t (Some x)) (had_by (looked contents chain first t)))) same
-      (hit_none s f.modified modified)
+      rw (← same) (hit_none s f.modified modified)
 
   image_none : (s : DeviceStore) → frame_at s t ≡ Some f →
       Counts Hit 0 0 (and_then (image contents s (usage_of chain) t) (had_by (looked contents chain first t)))
@@ -242,8 +238,7 @@ hit_so d o chain t f needs is modified ends = counts_if (has_loss o.acts) (λ _.
     by_need None e = absurd (cc)
     by_need (Some q) e =
         let same : t ≡ q = cc in
-        subst (λ (k : ℕ). Counts (λ r w z (a : Option Stepped). r ≡ 0) 0 0 (command_at contents d o.path chain (Some k))) same
-        (counts_then (on_tracks contents d o.path chain) (follow_none chain t t f modified ends (tracks_of d.store) d.store is)
+        rw (← same) (counts_then (on_tracks contents d o.path chain) (follow_none chain t t f modified ends (tracks_of d.store) d.store is)
         (λ r w z a h. by_turn z r w h a))
 
 -- Notices leave a modified frame

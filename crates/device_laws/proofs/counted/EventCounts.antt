@@ -1,5 +1,5 @@
 -- The reads and writes of whole events: notices and what is told at the end make none.
-use Rattle.std.proofs.Common.{◌≡◌, ◌≤◌, ◌*◌, ◌==◌, ℕ, Bool, true, false, List, Option, Some, None, refl, sym, ap, subst, ◌∙◌, arith}
+use Rattle.std.proofs.Common.{◌≡◌, ◌≤◌, ◌==◌, ℕ, Bool, true, false, List, Option, Some, None, refl, sym, ap, subst, ◌∙◌, arith}
 use Rattle.ckd_chain.specs.State.{ChainState}
 use Rattle.ckd_chain.specs.Steps.{need_of}
 use Rattle.loss_model.specs.declared.Loss.{Loss}
@@ -92,11 +92,7 @@ module _ {F P H R : Type 0} (c : Contents F P H R) where
       counts_try (λ ok. counts_if ok
       (λ _. event_counts (λ r w (a : Option Stepped). CommandTransfers n up r w) d (λ z. command_by c z z.history.running z.chain)
       (λ s e.
-      subst (λ (k : ℕ). Counts (λ r w z (a : Option Stepped). CommandTransfers (k * 15) up r w) 0 0
-      (command_by c (record (event_begun d) { store = s }) d.history.running d.chain)) e.cylinders
-      (subst (λ (k : ℕ). Counts (λ r w z (a : Option Stepped). CommandTransfers (tracks_of s) k r w) 0 0
-      (command_by c (record (event_begun d) { store = s }) d.history.running d.chain)) (same_up d.store s e)
-      (command_so c (record (event_begun d) { store = s }) d.history.running d.chain))))
+      rw (← e.cylinders) (rw (← (same_up d.store s e)) (command_so c (record (event_begun d) { store = s }) d.history.running d.chain))))
       (λ _. counts_done (record { most_reads = omega arith; most_writes = omega arith })))
 
   -- The second part of a write
@@ -136,8 +132,7 @@ module _ {F P H R : Type 0} (c : Contents F P H R) where
   second_counts d =
       event_counts (λ r w (a : SecondEnd). SecondTransfers (second_writing d.store) r w) d (λ z. second_of c z z.store.half)
       (λ s e.
-      subst (λ (k : ℕ). Counts (λ r w z (a : SecondEnd). SecondTransfers k r w) 0 0 (second_of c (record (event_begun d) { store = s }) s.half))
-      (half_same d.store s e) (second_so (record (event_begun d) { store = s }) s.half))
+      rw (← (half_same d.store s e)) (second_so (record (event_begun d) { store = s }) s.half))
 
   -- What it does by itself
 

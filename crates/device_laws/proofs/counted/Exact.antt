@@ -35,7 +35,6 @@ use Rattle.device_defs.specs.Writing.{
   write_first,
   tried_b,
   write_second,
-  write_opened,
 }
 use Rattle.device_laws.proofs.QuietParts.{failed_quiet, done_quiet}
 use Rattle.device_laws.specs.Moved.{sides_writing, miss_reads, choice_writes}
@@ -221,8 +220,7 @@ module _ {F P H R : Type 0} (c : Contents F P H R) where
         (λ z was_loose k.
         counts_then (λ y w. through_by c t i e bypass opens was_loose y w.took) (first_exact z t (c.bytes i))
         (λ m w y x h.
-        subst (λ (j : ℕ). Counts By j w (through_by c t i e bypass opens was_loose y x.took)) (sym h.0)
-        (part_exact bypass opens was_loose w y x.took (subst (λ (j : ℕ). FirstBy j w y x.took) (k.is ∙ same) h.1))))
+        rw h.0 (part_exact bypass opens was_loose w y x.took (subst (λ (j : ℕ). FirstBy j w y x.took) (k.is ∙ same) h.1))))
 
   -- A write that was chosen
 

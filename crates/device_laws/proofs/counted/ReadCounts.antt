@@ -1,5 +1,5 @@
 -- The reads of a track from its level sides, and those of a command's look at it.
-use Rattle.std.proofs.Common.{◌≡◌, ◌≤◌, ℕ, Bool, true, false, Option, Some, None, is_some, refl, sym, subst, arith}
+use Rattle.std.proofs.Common.{◌≡◌, ◌≤◌, ℕ, Bool, true, false, Option, Some, None, is_some, refl, arith}
 use Rattle.std.specs.Prelude.{if◌then◌else◌, ◌&&◌, not}
 use Rattle.ckd_types.specs.declared.parameters.Mode.{Mode}
 use Rattle.ckd_types.specs.declared.paths.Side.{Side}
@@ -189,8 +189,7 @@ module _ {F P H R : Type 0} (c : Contents F P H R) where
         let f = level_fewer s x.so in
         let e = f.1 in
         let k = x.most in
-        subst (λ (n : ℕ). Counts By r n (missed c u t z g g.bytes)) (sym f.0)
-        (missed_so r (omega (arith, k, few)) z (omega (arith, e, few)) g g.bytes))
+        rw f.0 (missed_so r (omega (arith, k, few)) z (omega (arith, e, few)) g g.bytes))
 
     hit_so : (s : Store F P H) → sides_up s ≤ up → (f : F) → Counts By 0 0 (hit c s t f)
     hit_so s few f = at_once 0 (omega arith) s few _

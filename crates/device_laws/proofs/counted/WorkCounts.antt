@@ -1,5 +1,5 @@
 -- The reads and writes of what a device does by itself.
-use Rattle.std.proofs.Common.{◌≡◌, ◌≤◌, ℕ, Bool, true, false, List, [], ◌∷◌, Option, Some, None, is_some, refl, sym, subst, arith}
+use Rattle.std.proofs.Common.{◌≡◌, ◌≤◌, ℕ, Bool, true, false, List, [], ◌∷◌, Option, Some, None, is_some, refl, arith}
 use Rattle.std.specs.Prelude.{◌||◌}
 use Rattle.ckd_types.specs.declared.paths.Side.{Side}
 use Rattle.track_image.specs.Image.{Image}
@@ -8,7 +8,6 @@ use Rattle.device_defs.specs.declared.answers.Did.{Did}
 use Rattle.device_defs.specs.declared.answers.Did.TheVariants.{Nothing, Recovered, Staged, Skipped, Destaged, Fault, BadBytes}
 use Rattle.device_defs.specs.Background as D
 use Rattle.device_defs.specs.Background.{
-  did,
   other,
   copies_to,
   to_copy,
@@ -92,8 +91,7 @@ module _ {F P H R : Type 0} (c : Contents F P H R) where
         (λ r w z o h.
         let le = h.most in
         let most = writing_up s in
-        subst (λ (k : ℕ). WorkTransfers up n o k w) (sym h.reads)
-        (saved_fits d 0 (omega arith) (omega arith) fits (omega (arith, le, most, same, few)) h.by))
+        rw h.reads (saved_fits d 0 (omega arith) (omega arith) fits (omega (arith, le, most, same, few)) h.by))
 
     -- behind one read
     saved_read : (s : Store F P H) → sides_writing s ≡ n → sides_up s ≤ up → 1 ≤ up → (t : ℕ) (i : Image) (d : Did) → Fits d 1 →
@@ -107,9 +105,7 @@ module _ {F P H R : Type 0} (c : Contents F P H R) where
         let f = h.is.reads in
         let is : r ≡ 1 = omega (arith, e, f) in
         let wrote : w ≡ h.writes = let k = h.more_writes in omega (arith, k) in
-        subst (λ (k : ℕ). WorkTransfers up n o k w) (sym is)
-        (subst (λ (k : ℕ). WorkTransfers up n o 1 k) (sym wrote)
-        (saved_fits d 1 (omega arith) one fits (omega (arith, le, most, same, few)) h.is.by)))
+        rw is (rw wrote (saved_fits d 1 (omega arith) one fits (omega (arith, le, most, same, few)) h.is.by)))
 
     -- behind reads of which one failed
     saved_late : (s : Store F P H) → sides_up s ≤ up → (reads : ℕ) → 1 ≤ reads → reads ≤ up → (t : ℕ) (i : Image) (d : Did) (side : Side) →
@@ -123,9 +119,7 @@ module _ {F P H R : Type 0} (c : Contents F P H R) where
         let f = h.is.reads in
         let is : r ≡ reads = omega (arith, e, f) in
         let wrote : w ≡ h.writes = let k = h.more_writes in omega (arith, k) in
-        subst (λ (k : ℕ). WorkTransfers up n o k w) (sym is)
-        (subst (λ (k : ℕ). WorkTransfers up n o reads k) (sym wrote)
-        (faulty_fits d side (sides_writing s) reads one le (omega (arith, less, most, few)) h.is.by)))
+        rw is (rw wrote (faulty_fits d side (sides_writing s) reads one le (omega (arith, less, most, few)) h.is.by)))
 
     -- Recovery
 

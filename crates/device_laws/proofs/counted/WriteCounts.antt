@@ -19,7 +19,7 @@ use Rattle.device_defs.specs.declared.answers.Took.TheVariants.{Whole, Opened, U
 use Rattle.device_defs.specs.declared.usage.Usage.{Usage}
 use Rattle.device_defs.specs.Background.{saved_by, saving, saved}
 use Rattle.device_defs.specs.Choosing as G
-use Rattle.device_defs.specs.Choosing.{choose, choose_loose, choose_firm, fast_or_through, fast_by, slot_by, may_be_fast}
+use Rattle.device_defs.specs.Choosing.{choose, fast_or_through, fast_by, slot_by, may_be_fast}
 use Rattle.device_defs.specs.Contents.{Contents}
 use Rattle.device_defs.specs.Editing as E
 use Rattle.device_defs.specs.Editing.{
@@ -374,7 +374,5 @@ module _ {F P H R : Type 0} (c : Contents F P H R) where
     write_writes s = counts_try (λ ok. counts_if ok
         (λ _. counts_then (write_chosen c u first t old e) (choice_so s u t)
         (λ r w z choice h.
-        subst (λ (k : ℕ). Counts (In (sides_up s)) k w (write_chosen c u first t old e z choice)) (sym h.reads)
-        (subst (λ (k : ℕ). Counts (In (sides_up s)) 0 k (write_chosen c u first t old e z choice)) (sym h.writes)
-        (subst (λ (y : Store F P H). Counts (In (sides_up s)) 0 0 (write_chosen c u first t old e y choice)) (sym h.same) (given_so s choice)))))
+        rw h.reads (rw h.writes (rw h.same (given_so s choice)))))
         (λ _. counts_done (record { reads = refl; writes = omega arith })))
