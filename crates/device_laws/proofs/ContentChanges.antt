@@ -37,6 +37,8 @@ use Rattle.device_laws.proofs.TrackContents as T
 use Rattle.device_laws.proofs.TrackContents.{TrackContents, contents_at, IsRight, Opened, right_is_held, held_is_right}
 use Rattle.device_laws.proofs.EachTrack.{each_track}
 use Rattle.device_laws.proofs.Bools.{some_is}
+use Rattle.device_defs.specs.declared.counts.Counts.{Counts}
+use Rattle.plain_defs.specs.declared.journal.Act.{Act}
 
 -- what no change of one track touches
 pub record Base : Type 0 where
@@ -371,6 +373,15 @@ unseen_right writing v w s h z k b e = record {
   right = λ q lt ne. same_right s h z k e.base v w q (contents_at s h q) (contents_at z k q) (e.same q)
       (b.right q (let same = same_tracks s h z k e.base in omega arith) ne);
 }
+
+-- neither what an event counts, queues and lists nor whether side B is held is of the tracks, and a device keeps no plain volume
+pub beside_right : {writing : Option ℕ} {v w : List Track} {s : DeviceStore} {h : Held} {held : Bool} {queue : List ℕ} {plain firm : List Track}
+    {acts : List Act} {counts : Counts} → RightBut writing v w s h →
+    RightBut writing v w (record s { held = held; queue = queue; plain = plain; firm = firm; acts = acts; counts = counts }) h
+unfolding T.contents_at base_of
+beside_right {writing} {v} {w} {s} {h} {held} {queue} {plain} {firm} {acts} {counts} b =
+    unseen_right writing v w s h (record s { held = held; queue = queue; plain = plain; firm = firm; acts = acts; counts = counts }) h b
+    (record { sizes = record { are = b.ground.sizes.are }; base = refl; same = λ q. refl; slots = refl })
 
 -- one track more is right: it is not being written any more
 pub shut : (t : ℕ) (v w : List Track) (s : DeviceStore) (h : Held) → RightBut (Some t) v w s h →

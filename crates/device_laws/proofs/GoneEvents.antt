@@ -12,6 +12,7 @@ use Rattle.std.proofs.Common.{
   List,
   [],
   ◌∷◌,
+  ◌++◌,
   length,
   Option,
   Some,
@@ -65,6 +66,8 @@ use Rattle.device_laws.proofs.Notices.{ending_changes_no_mark}
 use Rattle.device_laws.proofs.OrderMarks.{IsGone, restore_makes_good, lent_now_gone}
 use Rattle.device_laws.proofs.TrackMarks as M
 use Rattle.device_laws.proofs.TrackMarks.{TrackMarks, IsFaithful, track_at}
+use Rattle.device_defs.specs.declared.counts.Counts.{Counts}
+use Rattle.plain_defs.specs.declared.journal.Act.{Act}
 
 module _ {F P H : Type 0} where
   -- of a store that is lent
@@ -108,56 +111,37 @@ module _ {F P H : Type 0} where
       }
 
   -- acts and counts aren't of its tracks, and nothing is queued
-  unqueued_away : (s z : Store F P H) → IsLentOut s → z ≡ record s { queue = []; acts = z.acts; counts = z.counts } → IsLentOut z
-  unqueued_away s z i e =
-      subst IsLentOut (sym e) (record {
-        sizes = record { are = i.sizes.are };
-        lent = i.lent;
-        single = i.single;
-        down = i.down;
-        other = i.other;
-        none = i.none;
-        queue = refl;
-        frame = i.frame;
-        patch = i.patch;
-        lost = i.lost;
-      })
+  beside_away : (s : Store F P H) (acts : List Act) (counts : Counts) → IsLentOut s → IsLentOut (record s { acts = acts; counts = counts })
+  beside_away s acts counts i = record {
+    sizes = record { are = i.sizes.are };
+    lent = i.lent;
+    single = i.single;
+    down = i.down;
+    other = i.other;
+    none = i.none;
+    queue = i.queue;
+    frame = i.frame;
+    patch = i.patch;
+    lost = i.lost;
+  }
+
+  unqueued_away : (s : Store F P H) → IsLentOut s → IsLentOut (record s { queue = [] })
+  unqueued_away s i = subst (λ (l : List ℕ). IsLentOut (record s { queue = l })) i.queue i
 
   loose_away : (s : Store F P H) (b : Bool) → IsLentOut s → IsLentOut (record (if b then act_noted (gone_back s) CfwLost else s) { queue = [] })
-  loose_away s true i = unqueued_away (gone_back s) (record (act_noted (gone_back s) CfwLost) { queue = [] }) (gone_back_away s i) refl
-  loose_away s false i = unqueued_away s (record s { queue = [] }) i refl
+  loose_away s true i =
+      unqueued_away (act_noted (gone_back s) CfwLost) (beside_away (gone_back s) (s.acts ++ CfwLost ∷ []) s.counts (gone_back_away s i))
+  loose_away s false i = unqueued_away s i
 
   powerless_away : (s : Store F P H) (b : Bool) → IsLentOut s → IsLentOut (record (if b then gone_back s else s) { queue = [] })
-  powerless_away s true i = unqueued_away (gone_back s) (record (gone_back s) { queue = [] }) (gone_back_away s i) refl
-  powerless_away s false i = unqueued_away s (record s { queue = [] }) i refl
+  powerless_away s true i = unqueued_away (gone_back s) (gone_back_away s i)
+  powerless_away s false i = unqueued_away s i
 
   begun_away : (d : Device F P H) → IsLentOut d.store → IsLentOut (event_begun d).store
-  begun_away d i = record {
-    sizes = record { are = i.sizes.are };
-    lent = i.lent;
-    single = i.single;
-    down = i.down;
-    other = i.other;
-    none = i.none;
-    queue = i.queue;
-    frame = i.frame;
-    patch = i.patch;
-    lost = i.lost;
-  }
+  begun_away d i = beside_away d.store [] d.store.counts i
 
   counted_away : (s : Store F P H) (loss : Loss) → IsLentOut s → IsLentOut (with_loss s loss)
-  counted_away s loss i = record {
-    sizes = record { are = i.sizes.are };
-    lent = i.lent;
-    single = i.single;
-    down = i.down;
-    other = i.other;
-    none = i.none;
-    queue = i.queue;
-    frame = i.frame;
-    patch = i.patch;
-    lost = i.lost;
-  }
+  counted_away s loss i = beside_away s s.acts (with_loss s loss).counts i
 
 module _ {F P H R : Type 0} (c : Contents F P H R) where
   frame_of : (o : Option F) → M.frame_mark c o ≡ None → o ≡ None

@@ -33,7 +33,7 @@ use Rattle.device_defs.specs.Background.{copies_to, copy_first, stage_first, des
 use Rattle.device_defs.specs.Contents.{Contents, contents, by_plain}
 use Rattle.device_defs.specs.Cutting as U
 use Rattle.device_defs.specs.Cutting.{counts_one_by, half_cut, half_lost, loose_gone, powerless, powered_off, power, reset_noted, reset_by, reset}
-use Rattle.device_defs.specs.Device.{Device, all_acted, with_store, event_begun, event_ended, quiet_event, event}
+use Rattle.device_defs.specs.Device.{Device, all_acted, with_store, event_begun, quiet_event, event}
 use Rattle.device_defs.specs.Effects.{gone_back}
 use Rattle.device_defs.specs.Events as E
 use Rattle.device_defs.specs.Events.{with_loss, losing, background, lose}
@@ -59,7 +59,7 @@ use Rattle.device_defs.specs.Store.{
   with_frame,
   with_owed,
 }
-use Rattle.device_laws.specs.Agrees.{Held, image_in, slot_at}
+use Rattle.device_laws.specs.Agrees.{Held, image_in, slot_at, IsGround}
 use Rattle.device_laws.specs.Lent.{IsLentStore, IsLent}
 use Rattle.device_laws.specs.Twin.{Twins}
 use Rattle.device_laws.specs.Whole.{WholeDevice, marks_device, WholeTwins}
@@ -78,6 +78,7 @@ use Rattle.device_laws.proofs.TwinChanges.{frame_twin, patch_twin, owed_twin}
 use Rattle.device_laws.proofs.TwinEvents.{ended_twin, count_twin}
 use Rattle.device_laws.proofs.TwinWalks.{twin_done, twin_always, twin_weaker}
 use Rattle.device_laws.proofs.WholeTwins.{whole_done, whole_ends, store_then, whole_then}
+use Rattle.device_defs.specs.declared.counts.Counts.{Counts}
 
 -- No act and no event starts a program
 
@@ -280,96 +281,52 @@ ended_lent before v w s h i =
 
 -- Data of cache fast write go
 
+beside_lent : {v w v' w' : List Track} {s z : DeviceStore} {h : Held} → IsLentStore v w s h → IsGround v' w' z h →
+    z ≡ record s { number = z.number; plain = z.plain; firm = z.firm; loose = z.loose; acts = z.acts; counts = z.counts; queue = [] } →
+    IsLentStore v' w' z h
+beside_lent i ground e = record {
+  ground = ground;
+  told = λ t. ap (λ (x : DeviceStore). (owed_at x t).firm) e ∙ i.told t;
+  lent = ap (λ (x : DeviceStore). is_some x.lent) e ∙ i.lent;
+  single = ap (λ (x : DeviceStore). x.paired) e ∙ i.single;
+  down_a = ap (λ (x : DeviceStore). x.a.up) e ∙ i.down_a;
+  down_b = ap (λ (x : DeviceStore). x.b.up) e ∙ i.down_b;
+  half = ap (λ (x : DeviceStore). x.half) e ∙ i.half;
+  queue = ap (λ (x : DeviceStore). x.queue) e;
+  frame = λ t. ap (λ (x : DeviceStore). frame_at x t) e ∙ i.frame t;
+  patch = λ t. ap (λ (x : DeviceStore). patch_at x t) e ∙ i.patch t;
+  lost = λ t. ap (λ (x : DeviceStore). is_lost x t) e ∙ i.lost t;
+}
+
+ground_beside : {v w : List Track} {s : DeviceStore} {h : Held} (acts : List Act) (counts : Counts) → IsGround v w s h →
+    IsGround v w (record s { acts = acts; counts = counts }) h
+ground_beside {s = s} {h = h} acts counts g = record {
+  sizes = record { are = g.sizes.are };
+  plain = g.plain;
+  firm = g.firm;
+  same = g.same;
+  apart = g.apart;
+  patches = g.patches;
+  long = g.long;
+  slots = same_slots s (record s { acts = acts; counts = counts }) h.slots
+      (λ kept q. elim kept as (λ b. slot_at (record s { acts = acts; counts = counts }) b q ≡ slot_at s b q) [ true ↦ refl | false ↦ refl ]) g.slots;
+}
+
 begun_lent : (v w : List Track) (s : DeviceStore) (h : Held) (any : Bool) → has_loose s ≡ any → IsLentStore v w s h →
     IsLentStore (if any then w else v) w (begun_with any s) h
 begun_lent v w s h true e i =
-    let o = lent_ordered v w s h i in
-    record {
-      ground = (begins v w s h o.sure o.told true e).off.ground;
-      told = i.told;
-      lent = i.lent;
-      single = i.single;
-      down_a = i.down_a;
-      down_b = i.down_b;
-      half = i.half;
-      queue = refl;
-      frame = i.frame;
-      patch = i.patch;
-      lost = i.lost;
-    }
+    let o = lent_ordered v w s h i in beside_lent i (begins v w s h o.sure o.told true e).off.ground refl
 begun_lent v w s h false e i =
-    let o = lent_ordered v w s h i in
-    record {
-      ground = (begins v w s h o.sure o.told false e).off.ground;
-      told = i.told;
-      lent = i.lent;
-      single = i.single;
-      down_a = i.down_a;
-      down_b = i.down_b;
-      half = i.half;
-      queue = refl;
-      frame = i.frame;
-      patch = i.patch;
-      lost = i.lost;
-    }
+    let o = lent_ordered v w s h i in beside_lent i (begins v w s h o.sure o.told false e).off.ground refl
 
 -- its acts and its counts aren't of its tracks
 acts_lent : (v w : List Track) (s : DeviceStore) (h : Held) (acts : List Act) → IsLentStore v w s h → IsLentStore v w (record s { acts = acts }) h
-acts_lent v w s h acts i = record {
-  ground = record {
-    sizes = record { are = i.ground.sizes.are };
-    plain = i.ground.plain;
-    firm = i.ground.firm;
-    same = i.ground.same;
-    apart = i.ground.apart;
-    patches = i.ground.patches;
-    long = i.ground.long;
-    slots = same_slots s (record s { acts = acts }) h.slots slots_same i.ground.slots;
-  };
-  told = i.told;
-  lent = i.lent;
-  single = i.single;
-  down_a = i.down_a;
-  down_b = i.down_b;
-  half = i.half;
-  queue = i.queue;
-  frame = i.frame;
-  patch = i.patch;
-  lost = i.lost;
-}
-  where
-    slots_same : (kept : Bool) (q : ℕ) → slot_at (record s { acts = acts }) kept q
-        ≡ slot_at s kept q
-    slots_same true q = refl
-    slots_same false q = refl
+acts_lent v w s h acts i =
+    beside_lent i (ground_beside acts s.counts i.ground) (ap (λ (l : List ℕ). record s { acts = acts; queue = l }) i.queue)
 
 counted_lent : (v w : List Track) (s : DeviceStore) (h : Held) (loss : Loss) → IsLentStore v w s h → IsLentStore v w (with_loss s loss) h
-counted_lent v w s h loss i = record {
-  ground = record {
-    sizes = record { are = i.ground.sizes.are };
-    plain = i.ground.plain;
-    firm = i.ground.firm;
-    same = i.ground.same;
-    apart = i.ground.apart;
-    patches = i.ground.patches;
-    long = i.ground.long;
-    slots = same_slots s (with_loss s loss) h.slots slots_same i.ground.slots;
-  };
-  told = i.told;
-  lent = i.lent;
-  single = i.single;
-  down_a = i.down_a;
-  down_b = i.down_b;
-  half = i.half;
-  queue = i.queue;
-  frame = i.frame;
-  patch = i.patch;
-  lost = i.lost;
-}
-  where
-    slots_same : (kept : Bool) (q : ℕ) → slot_at (with_loss s loss) kept q ≡ slot_at s kept q
-    slots_same true q = refl
-    slots_same false q = refl
+counted_lent v w s h loss i =
+    beside_lent i (ground_beside s.acts (with_loss s loss).counts i.ground) (ap (λ (l : List ℕ). record (with_loss s loss) { queue = l }) i.queue)
 
 -- Events
 
@@ -382,15 +339,14 @@ module _ {A : Type 0} where
       WholeTwins LeavesLent (and_then (noted_end contents before d.store) (λ z _. Done (record d { store = z }) a))
       (and_then (noted_end by_plain before (marks_of v w d.store)) (λ z _. Done (record (marks_device v w d) { store = z }) b)) h
   ending before v w d a b h x =
-      store_then (λ z _. Done (record d { store = z }) a) (λ z _. Done (record (marks_device v w d) { store = z }) b)
-      (ended_lent before v w d.store h x.lent.store)
+      store_then _ _ (ended_lent before v w d.store h x.lent.store)
       (λ v' w' z _ _ k f. whole_done v' w' (record d { store = z }) (record { lent = record { store = f; idle = x.lent.idle }; same = x.same }))
 
   pub quiet_lent : (v w : List Track) (d : WholeDevice) (h : Held) (f : WholeDevice → Interaction (List ℕ) Image WholeDevice A)
       (g : MarksDevice → Interaction Bool Image MarksDevice A) → WholeTwins LeavesLent (f (event_begun d)) (g (event_begun (marks_device v w d))) h →
       WholeTwins LeavesLent (quiet_event contents d f) (quiet_event by_plain (marks_device v w d) g) h
   quiet_lent v w d h f g x =
-      whole_then (event_ended contents d) (event_ended by_plain (marks_device v w d)) x
+      whole_then _ _ x
       (λ v' w' z a b k o.
       rw (count_twin v w d.store) (ending (waiting_count contents d.store) v' w' z a b k o))
 
@@ -402,8 +358,7 @@ module _ {A : Type 0} where
   event_lent v w d h f g i body =
       quiet_lent v w d h (λ z. and_then (hear contents 960 z.store) (λ s _. f (record z { store = s })))
       (λ z. and_then (hear by_plain 960 z.store) (λ s _. g (record z { store = s })))
-      (store_then (λ s _. f (record (event_begun d) { store = s })) (λ s _. g (record (event_begun (marks_device v w d)) { store = s }))
-      (hear_lent 960 v w (noted_begin d.store) h (acts_lent v w d.store h [] i.store))
+      (store_then _ _ (hear_lent 960 v w (noted_begin d.store) h (acts_lent v w d.store h [] i.store))
       (λ v' w' s _ _ k x. body v' w' s k x))
 
 pub background_lent : (v w : List Track) (d : WholeDevice) (h : Held) → IsLent v w d h →
@@ -498,7 +453,7 @@ loss_lent v w d h loss shared i =
     (λ z. and_then (losing by_plain z.store loss) (λ s _. Done (with_store z s) (tt {0}))) i
     (λ v' w' s k o.
     let z : WholeDevice = record (event_begun d) { store = s } in
-    store_then (λ y _. Done (with_store z y) (tt {0})) (λ m _. Done (with_store (marks_device v' w' z) m) (tt {0})) (losing_lent v' w' s k loss shared o)
+    store_then _ _ (losing_lent v' w' s k loss shared o)
     (λ v2 w2 y a b l f. whole_done v2 w2 (with_store z y) (record { lent = record { store = f; idle = all_idle d.history y.acts i.idle }; same = refl })))
 
 -- Power

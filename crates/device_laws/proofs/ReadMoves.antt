@@ -12,7 +12,6 @@ use Rattle.device_defs.specs.Image as I
 use Rattle.device_defs.specs.Image.{
   Got,
   got,
-  first_faulty_side,
   read_counted,
   ahead,
   loads,
@@ -107,8 +106,7 @@ module _ {F P H R : Type 0} (c : Contents F P H R) where
 
   second_quiet : (fault : Option Side) (s : Store F P H) (bytes : Option R) → Quiet (second_read c fault s bytes)
   second_quiet fault s (Some r) = quiet_done
-  second_quiet fault s None =
-      quiet_then (λ z _. Done z (got B None (Some (first_faulty_side fault B)))) (failed_quiet c s B None) (λ z _. quiet_done)
+  second_quiet fault s None = quiet_then _ (failed_quiet c s B None) (λ z _. quiet_done)
 
   module _ (s : Store F P H) (t : ℕ) where
     abbrev q : ℕ → ℕ → Type 0

@@ -234,7 +234,7 @@ module _ {F P H R : Type 0} (c : Contents F P H R) where
         let origin : k.origin ≡ OfBackground = ap (λ (i : HalfWrite H). i.origin) same ∙ own in
         let track : k.track ≡ h.track = ap (λ (i : HalfWrite H). i.track) same in
         let y : Device F P H = record (event_begun d) { store = s } in
-        lucky_then (λ z done. second_ended c (with_store y z) k.track k.origin done) (second_part_waits s k origin) (λ z done g. rw (← track)
+        lucky_then _ (second_part_waits s k origin) (λ z done g. rw (← track)
         (ended_waits x (with_store y z) k.track k.origin origin done (λ is. done_past x (shelf_of s) k.track (shelf_of z) f (g is))))
 
     -- of the background
@@ -244,9 +244,8 @@ module _ {F P H R : Type 0} (c : Contents F P H R) where
     second_waits d h is own drops =
         let x = shelf_of d.store in
         lucky_then {p = λ (y : Device F P H) a. SecondWaits x h.track (shelf_of y.store) a} (event_ended c d)
-        (lucky_then (λ s _. second_of c (record (event_begun d) { store = s }) s.half)
-        (with_always (hear_waits c 960 (event_begun d).store drops) (lucky_any (hear c 960 (event_begun d).store)))
+        (lucky_then _ (with_always (hear_waits c 960 (event_begun d).store drops) (lucky_any (hear c 960 (event_begun d).store)))
         (λ s _ f. second_of_waits d s h own f.0 s.half (f.0.half ∙ is)))
-        (λ y a g. lucky_then (λ z _. Done (record y { store = z }) a)
+        (λ y a g. lucky_then _
         (with_always (end_shelf c (shelf_of y.store) (waiting_count c d.store) y.store refl) (lucky_any (noted_end c (waiting_count c d.store) y.store)))
         (λ z _ e. lucky_done (subst (λ (w : Shelf F P H). SecondWaits x h.track w a) (sym e.0) g)))

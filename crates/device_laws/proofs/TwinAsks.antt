@@ -16,12 +16,14 @@ use Rattle.device_defs.specs.Sound.{DeviceStore}
 use Rattle.device_defs.specs.Store.{HalfWrite, tracks_of, is_lost, half_is}
 use Rattle.device_laws.specs.Agrees.{Held, image_in}
 use Rattle.device_laws.specs.Twin.{Claim, Twins}
-use Rattle.device_laws.proofs.ContentChanges.{base_of, same_geometry, same_cylinders, same_half, Sure, Similar, similar_right, Altered}
+use Rattle.device_laws.proofs.ContentChanges.{base_of, same_geometry, same_cylinders, same_half, Sure, Similar, similar_right, Altered, beside_right}
 use Rattle.device_laws.proofs.FailedCall.{IsWell}
 use Rattle.device_laws.proofs.TrackContents as T
 use Rattle.device_laws.proofs.TrackContents.{TrackContents, contents_at, IsRight, HeldBy, Keeps, held_of, right_by, keeps_other, other_keeps}
 use Rattle.device_laws.proofs.TwinFailed.{fell}
 use Rattle.device_laws.proofs.TwinSettled.{AllTold, told_altered}
+use Rattle.device_defs.specs.declared.counts.Counts.{Counts}
+use Rattle.plain_defs.specs.declared.journal.Act.{Act}
 
 slots_still : (o : Option (List ℕ)) (call : Call) (a : AnswerTo call) → ((mine : List ℕ) → slots_after mine call a ≡ mine) → held_after o call a ≡ o
 slots_still None call a e = refl
@@ -97,6 +99,12 @@ pub record InOrder (v w : List Track) (s : DeviceStore) (h : Held) : Type 0 wher
 pub record Ordered (v w : List Track) (s : DeviceStore) (h : Held) : Type 0 where
   pub sure : Sure v w s h
   pub told : AllTold s h
+
+pub beside_order : {v w : List Track} {s : DeviceStore} {h : Held} {held : Bool} {queue : List ℕ} {plain firm : List Track} {acts : List Act}
+    {counts : Counts} → Ordered v w s h →
+    Ordered v w (record s { held = held; queue = queue; plain = plain; firm = firm; acts = acts; counts = counts }) h
+unfolding T.contents_at
+beside_order o = record { sure = beside_right o.sure; told = o.told }
 
 -- a change of one track, that stays right and of which nothing more is to be told
 pub altered_order : {v w : List Track} {s : DeviceStore} {h : Held} {z : DeviceStore} {k : Held} {t : ℕ} {y : TrackContents} → Ordered v w s h →

@@ -21,8 +21,7 @@ use Rattle.device_defs.specs.Writing.{write_counted}
 use Rattle.device_laws.specs.Agrees.{Held, image_in}
 use Rattle.device_laws.specs.Twin.{Twins}
 use Rattle.device_laws.proofs.Bools.{neither, or_left, or_right}
-use Rattle.device_laws.proofs.ContentChanges as C
-use Rattle.device_laws.proofs.ContentChanges.{base_of, Altered, altered_twice, altered_on_a, altered_on_b, altered_stale_a, altered_stale_b, unseen_right}
+use Rattle.device_laws.proofs.ContentChanges.{Altered, altered_twice, altered_on_a, altered_on_b, altered_stale_a, altered_stale_b}
 use Rattle.device_laws.proofs.TrackContents as T
 use Rattle.device_laws.proofs.TrackContents.{TrackContents, contents_at, Keeps, not_both}
 use Rattle.device_laws.proofs.TrackImage.{level_bytes_keeps_good}
@@ -42,6 +41,7 @@ use Rattle.device_laws.proofs.TwinAsks.{
   keeps_at,
   right_keeps,
   altered_order,
+  beside_order,
 }
 use Rattle.device_laws.proofs.TwinChanges.{has_frame_twin}
 use Rattle.device_laws.proofs.TwinFailed.{fell, failed_twin}
@@ -52,20 +52,10 @@ use Rattle.device_laws.proofs.TwinWalks.{twin_done, twin_then, twin_always}
 use Rattle.device_laws.proofs.WholeImage.{unframed_is_firm}
 
 counted_read : (v w : List Track) (s : DeviceStore) (h : Held) (ok : Bool) → Ordered v w s h → Ordered v w (read_counted s ok) h
-unfolding T.contents_at C.base_of
-counted_read v w s h ok o = record {
-  sure = unseen_right None v w s h (read_counted s ok) h o.sure
-      (record { sizes = record { are = o.sure.ground.sizes.are }; base = refl; same = λ q. refl; slots = refl });
-  told = o.told;
-}
+counted_read v w s h ok o = beside_order o
 
 counted_write : (v w : List Track) (s : DeviceStore) (h : Held) (ok : Bool) → Ordered v w s h → Ordered v w (write_counted s ok) h
-unfolding T.contents_at C.base_of
-counted_write v w s h ok o = record {
-  sure = unseen_right None v w s h (write_counted s ok) h o.sure
-      (record { sizes = record { are = o.sure.ground.sizes.are }; base = refl; same = λ q. refl; slots = refl });
-  told = o.told;
-}
+counted_write v w s h ok o = beside_order o
 
 -- Copying, while no half write is open
 
@@ -78,8 +68,7 @@ module _ (u : List Track) (y : DeviceStore) (t : ℕ) where
       Twins Ends (and_then (call_failed contents s side None) (λ z _. Done z (Some (Fault side))))
       (and_then (call_failed by_plain (marks_of v w s) side None) (λ z _. Done z (Some (Fault side)))) h
   fault_twin v w s h side o plain stays =
-      twin_then (λ z _. Done z (Some (Fault side))) (λ z _. Done z (Some (Fault side)))
-      (failed_twin None h v w s side o.sure o.told)
+      twin_then _ _ (failed_twin None h v w s side o.sure o.told)
       (λ v' w' z _ _ k f.
       let st = stays_on y s z stays (stays_on s (fell s.paired s side) z (stays_fell s.paired s side) (stays_by (fell s.paired s side) h z k f.base)) in
       twin_done (record {
@@ -248,8 +237,7 @@ module _ (u : List Track) (y : DeviceStore) (t : ℕ) where
   staged_by v w s h g m (Some r) (Some true) del fault lt there firm off o plain stays =
       let gave : image_of contents s t r ≡ Some (image_in s v t) =
       del.1 ∙ ap (λ (x : Track). Some (record { geometry = s.geometry; track = x })) (o.sure.ground.same t lt firm) in
-      both_try (rw gave (twin_then (λ z _. Done z (Some (did g.fault (Staged t)))) (λ z _. Done z (Some (did m.fault (Staged t))))
-      (filled_twin v w s h t (image_in s v t) refl lt (there refl) off o)
+      both_try (rw gave (twin_then _ _ (filled_twin v w s h t (image_in s v t) refl lt (there refl) off o)
       (λ v' w' z _ _ k f. ended v' w' z k (Some (did g.fault (Staged t))) (Some (did m.fault (Staged t))) (ap (λ (x : Option Side). Some (did x
       (Staged t))) fault)
       f.order (f.plain ∙ plain) (stays_on y s z stays f.stays))))
@@ -267,8 +255,7 @@ module _ (u : List Track) (y : DeviceStore) (t : ℕ) where
       v ≡ u → Stays y s → Twins Ends (staging_granted contents s t given) (staging_granted by_plain (marks_of v w s) t given) h
   granted_twin v w s h given lt firm off o plain stays =
       on_test given
-      (λ _. twin_then (λ z g. staged_bytes contents t z g g.bytes) (λ z g. staged_bytes by_plain t z g g.bytes)
-      (twin_always (bytes_twin v w s h t o lt off) (level_bytes_keeps_good contents device_is_faithful s t o.well))
+      (λ _. twin_then _ _ (twin_always (bytes_twin v w s h t o lt off) (level_bytes_keeps_good contents device_is_faithful s t o.well))
       (λ v' w' z g m k f.
       let below : t < tracks_of z = let same = f.1.goes.tracks in omega arith in
       staged_by v' w' z k g m g.bytes m.bytes f.0.bytes f.0.fault below (λ l. not_lost z t below f.1.goes.well (f.1.level l))

@@ -36,12 +36,12 @@ use Rattle.device_laws.proofs.ContentChanges.{
   slot_of,
   slot_is,
   sits_still,
-  unseen_right,
   RightBut,
   Sure,
   right_altered,
   shut,
   similar_right,
+  beside_right,
 }
 use Rattle.device_laws.proofs.PlainVolumes.{put_here, put_elsewhere, put_volume}
 use Rattle.device_laws.proofs.TrackContents as T
@@ -85,10 +85,7 @@ put_right t v w s h x lt b home fits = record {
     right_at q below ne off = rw (put_elsewhere v t x q off) (rw (put_elsewhere w t x q off) (b.right q below ne))
 
 pub edit_right : (t : ℕ) (v w : List Track) (s : DeviceStore) (h : Held) (e : Edit) → RightBut (Some t) v w s h → RightBut (Some t) v w (with_edit s t e) h
-unfolding T.contents_at C.base_of
-edit_right t v w s h e b =
-    unseen_right (Some t) v w s h (with_edit s t e) h b
-    (record { sizes = record { are = b.ground.sizes.are }; base = refl; same = λ q. refl; slots = refl })
+edit_right t v w s h e b = beside_right b
 
 -- Both volumes have the new track, and so has each level side
 module _ (t : ℕ) (v w : List Track) (x : Track) where

@@ -262,7 +262,7 @@ module _ (v w : List Track) (s : DeviceStore) (t : ℕ) (lt : t < tracks_of s) w
       Twins Ends (and_then (freed_told contents s (owed_at s t).freed) (λ x _. Done (with_owed x t no_debt) (tt {0})))
       (and_then (freed_told by_plain (marks_of v w s) (owed_at (marks_of v w s) t).freed) (λ x _. Done (with_owed x t no_debt) (tt {0}))) h
   last_twin h o =
-      twin_then (λ x _. Done (with_owed x t no_debt) (tt {0})) (λ x _. Done (with_owed x t no_debt) (tt {0})) (freed_twin v w s t lt h o)
+      twin_then _ _ (freed_twin v w s t lt h o)
       (λ v' w' z _ _ k f.
       at_same (λ a b c. Twins Ends (Done (with_owed c t no_debt) (tt {0})) (Done (with_owed (marks_of a b c) t no_debt)
       (tt {0})) k) v w s v' w' z f.0 f.1.0 f.1.1.0
@@ -271,12 +271,7 @@ module _ (v w : List Track) (s : DeviceStore) (t : ℕ) (lt : t < tracks_of s) w
 
   debt_twin : (h : Held) → Ordered v w s h → Twins Ends (settles_debt contents t s) (settles_debt by_plain t (marks_of v w s)) h
   debt_twin h o =
-      twin_then
-      (λ z _. and_then (dropped_told contents t z) (λ y _. and_then (freed_told contents y (owed_at y t).freed) (λ x _. Done (with_owed x t no_debt)
-      (tt {0}))))
-      (λ z _. and_then (dropped_told by_plain t z) (λ y _. and_then (freed_told by_plain y (owed_at y t).freed) (λ x _. Done (with_owed x t no_debt)
-      (tt {0}))))
-      (modified_twin v w s t lt h o)
+      twin_then _ _ (modified_twin v w s t lt h o)
       (λ v' w' z _ _ k f.
       at_same
       (λ a b c. Twins Ends
@@ -284,9 +279,7 @@ module _ (v w : List Track) (s : DeviceStore) (t : ℕ) (lt : t < tracks_of s) w
       (and_then (dropped_told by_plain t (marks_of a b c)) (λ y _. and_then (freed_told by_plain y (owed_at y t).freed) (λ x _. Done
       (with_owed x t no_debt) (tt {0})))) k)
       v w s v' w' z f.plain f.firm f.store
-      (twin_then (λ y _. and_then (freed_told contents y (owed_at y t).freed) (λ x _. Done (with_owed x t no_debt) (tt {0})))
-      (λ y _. and_then (freed_told by_plain y (owed_at y t).freed) (λ x _. Done (with_owed x t no_debt) (tt {0})))
-      (drop_twin v w s t lt k f.order)
+      (twin_then _ _ (drop_twin v w s t lt k f.order)
       (λ v2 w2 y _ _ l g.
       at_same
       (λ a b c. Twins Ends (and_then (freed_told contents c (owed_at c t).freed) (λ x _. Done (with_owed x t no_debt) (tt {0})))
@@ -309,7 +302,7 @@ told_twins : (n : ℕ) (v w : List Track) (s : DeviceStore) (h : Held) → n ≤
 unfolding O.all_told
 told_twins zero v w s h le o = twin_done (record { order = o; plain = refl; stays = stays_same s })
 told_twins (suc n) v w s h le o =
-    twin_then (λ z _. track_told contents n z) (λ z _. track_told by_plain n z) (told_twins n v w s h (omega arith) o)
+    twin_then _ _ (told_twins n v w s h (omega arith) o)
     (λ v' w' z _ _ k f.
     twin_weaker (track_twin v' w' z n (let same = f.stays.cylinders in omega arith) k f.order)
     (λ v2 w2 y _ _ l g. record { order = g.order; plain = g.plain ∙ f.plain; stays = stays_on s z y f.stays g.stays }))
@@ -336,7 +329,7 @@ waiting_twin before v w s h o =
 pub ended_twin : (before : ℕ) (v w : List Track) (s : DeviceStore) (h : Held) → Ordered v w s h →
     Twins (λ v' w' z _ _ k. Hears v s v' w' z k) (noted_end contents before s) (noted_end by_plain before (marks_of v w s)) h
 ended_twin before v w s h o =
-    twin_then (λ z _. waiting_told contents before z) (λ z _. waiting_told by_plain before z) (told_twins (tracks_of s) v w s h (omega arith) o)
+    twin_then _ _ (told_twins (tracks_of s) v w s h (omega arith) o)
     (λ v' w' z _ _ k f.
     twin_weaker (waiting_twin before v' w' z k f.order)
     (λ v2 w2 y _ _ l g. record { order = g.order; plain = g.plain ∙ f.plain; stays = stays_on s z y f.stays g.stays }))

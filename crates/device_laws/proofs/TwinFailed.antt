@@ -269,7 +269,7 @@ unfolding L.all_firm_told
 told_all writing h u w s zero b d =
     twin_done (record { but = b; debts = d; base = refl; plain = refl; own = λ t e. refl; told = λ q lt. absurd (omega arith) })
 told_all writing h u w s (suc n) b d =
-    twin_then (λ z _. firm_told contents n z) (λ z _. firm_told by_plain n z) (told_all writing h u w s n b d)
+    twin_then _ _ (told_all writing h u w s n b d)
     (λ v' w' z _ _ k x. one_told writing h u s n v' w' z k x)
 
 -- A failed call

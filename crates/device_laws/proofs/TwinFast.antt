@@ -46,14 +46,14 @@ use Rattle.device_laws.proofs.ContentChanges.{
   RightBut,
   Sure,
   right_altered,
-  unseen_right,
   shut,
   opens_write,
+  beside_right,
 }
 use Rattle.device_laws.proofs.PlainVolumes.{put_here, put_elsewhere, put_volume}
 use Rattle.device_laws.proofs.TrackContents as T
 use Rattle.device_laws.proofs.TrackContents.{TrackContents, contents_at, FrameHas, Keeps, none_fits}
-use Rattle.device_laws.proofs.TwinAsks.{Ordered, keeps_at, right_keeps}
+use Rattle.device_laws.proofs.TwinAsks.{Ordered, keeps_at, right_keeps, beside_order}
 use Rattle.device_laws.proofs.TwinChanges.{patch_twin, with_frame_twin, with_patch_twin}
 use Rattle.device_laws.proofs.TwinChoices.{NewBy}
 use Rattle.device_laws.proofs.TwinDone.{put_right}
@@ -229,8 +229,7 @@ module _ (v w : List Track) (s : DeviceStore) (h : Held) (t : ℕ) (e : Edit) (l
     pub fast_order : Ordered (set v t n) (set w t n) (fast_written contents s t i e slot) h
     unfolding T.contents_at C.base_of
     fast_order = record {
-      sure = unseen_right None (set v t n) (set w t n) both h (with_edit both t e) h fast_sure
-          (record { sizes = record { are = both_altered.sizes.are }; base = refl; same = λ q. refl; slots = refl });
+      sure = beside_right fast_sure;
       told = told_altered s h both h t (record x { frame = Some new; patch = patch }) o.told both_altered refl;
     }
 
@@ -323,12 +322,7 @@ module _ (v w : List Track) (s : DeviceStore) (h : Held) (t : ℕ) (e : Edit) (l
       }
 
   loose_edit : (z : DeviceStore) → Ordered (set v t n) w z h → Ordered (set v t n) w (with_loose_edit z t e) h
-  unfolding T.contents_at C.base_of
-  loose_edit z i = record {
-    sure = unseen_right None (set v t n) w z h (with_loose_edit z t e) h i.sure
-        (record { sizes = record { are = i.sure.ground.sizes.are }; base = refl; same = λ q. refl; slots = refl });
-    told = i.told;
-  }
+  loose_edit z i = beside_order i
 
   by_loose : (b : Bool) → is_loose s t ≡ b → patch_at s t ≡ None → Ordered (set v t n) w (with_loose_edit (with_frame (if b then s else loosened s t) t
       (Some new)) t e) h

@@ -154,7 +154,7 @@ module _ (m : ℕ) (g : Geometry) (looks : ChainState → ℕ → Type 0) (feeds
           })
       by_progress next (progresses.Write q e) is p =
           let f = feeds.writes chain t (plain_image t) q e at refl fits_plain p in
-          rw (← (image_same z v geometry plain)) (twin_then (had_by (came_of_write contents next t)) (had_by (came_of_write by_plain next t))
+          rw (← (image_same z v geometry plain)) (twin_then _ _
           (write_twin v w z t e (usage_of chain) first below there still (suits_here e f.1) o.well k order)
           (λ v' w' y a b l x. wrote v' w' y l a b x.order x.same x.geometry (x.plain ∙ ap (λ (m : List Track). plain_had a m t e) plain) f.0))
         where
@@ -195,8 +195,7 @@ module _ (m : ℕ) (g : Geometry) (looks : ChainState → ℕ → Type 0) (feeds
     look_twin w h o =
         on_test (is_lost s t)
         (λ _. checked u w s h chain Equipment (record { sure = o.sure; told = o.told }) refl refl)
-        (λ there. twin_then (had_by (looked contents chain first t)) (had_by (looked by_plain chain first t))
-        (twin_always (image_twin u w s h (usage_of chain) t lt there (none_off s.half t none) o)
+        (λ there. twin_then _ _ (twin_always (image_twin u w s h (usage_of chain) t lt there (none_off s.half t none) o)
         (image_keeps_good contents device_is_faithful s (usage_of chain) t
         (subst (Reaches (usage_of chain)) (sym all) (feeds.reaches chain t at)) lt o.well))
         (λ v' w' z a b k f.
@@ -259,8 +258,7 @@ module _ (m : ℕ) (g : Geometry) (looks : ChainState → ℕ → Type 0) (feeds
       twin_done (record { order = record { sure = o.sure; told = o.told }; same = refl; geometry = refl; came = λ answer. refl })
   follow_twin (suc n) first chain t s w h at same on none o =
       let lt : t < tracks_of s = let below = feeds.inside chain t at in omega arith in
-      twin_then (had_by (goes_on contents (follow contents n first))) (had_by (goes_on by_plain (follow by_plain n first)))
-      (twin_always (look_twin s chain first t at on same lt none w h o)
+      twin_then _ _ (twin_always (look_twin s chain first t at on same lt none w h o)
       (look_keeps_good contents device_is_faithful m Within within chain first t s (t, at) same lt o.well none))
       (λ v' w' z a b k f.
       rw (← f.0.same) (went_further n first chain s v' w' z k a (follow_twin n first) f.0.order f.0.geometry on f.0.went f.1 same))

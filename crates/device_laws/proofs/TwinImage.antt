@@ -6,26 +6,10 @@ use Rattle.ckd_types.specs.declared.record.Track.{Track}
 use Rattle.track_image.specs.Image.{Image}
 use Rattle.track_cache.specs.declared.frames.Frame.{Frame}
 use Rattle.device_outside.specs.Both.{both_read}
-use Rattle.device_outside.specs.Interaction.{Done}
 use Rattle.device_outside.proofs.BothRules.{on_test, on_tests}
 use Rattle.device_defs.specs.Contents.{contents, by_plain, patched_by, image_read}
 use Rattle.device_defs.specs.Image as I
-use Rattle.device_defs.specs.Image.{
-  Got,
-  got,
-  Imaged,
-  Has,
-  BadTrack,
-  first_faulty_side,
-  read_counted,
-  second_read,
-  read_b,
-  first_read,
-  level_bytes,
-  framed,
-  filled,
-  image,
-}
+use Rattle.device_defs.specs.Image.{Got, Imaged, Has, BadTrack, read_counted, second_read, read_b, first_read, level_bytes, framed, filled, image}
 use Rattle.device_defs.specs.Marks.{marks_of}
 use Rattle.device_defs.specs.Sound.{DeviceStore}
 use Rattle.device_defs.specs.Store.{tracks_of, level_at, has_level, patch_at, is_lost, half_is}
@@ -34,7 +18,7 @@ use Rattle.device_laws.specs.Twin.{Twins}
 use Rattle.device_laws.proofs.Bools.{or_left, or_right}
 use Rattle.device_laws.proofs.Changes as D
 use Rattle.device_laws.proofs.ContentChanges as C
-use Rattle.device_laws.proofs.ContentChanges.{base_of, altered_frame, unseen_right}
+use Rattle.device_laws.proofs.ContentChanges.{base_of, altered_frame, beside_right}
 use Rattle.device_laws.proofs.FailedCall.{IsWell, failed_call_keeps_good}
 use Rattle.device_laws.proofs.Soundness.{good_is_nowhere}
 use Rattle.device_laws.proofs.TrackContents as T
@@ -64,8 +48,7 @@ use Rattle.device_laws.proofs.TwinWalks.{twin_done, twin_ends, twin_then, twin_a
 counted_order : (v w : List Track) (s : DeviceStore) (h : Held) (ok : Bool) → InOrder v w s h → InOrder v w (read_counted s ok) h
 unfolding T.contents_at C.base_of M.track_at D.rest_of
 counted_order v w s h ok i = record {
-  sure = unseen_right None v w s h (read_counted s ok) h i.sure
-      (record { sizes = record { are = i.well.sizes.are }; base = refl; same = λ q. refl; slots = refl });
+  sure = beside_right i.sure;
   told = i.told;
   well = record {
     sizes = record { are = i.well.sizes.are };
@@ -120,8 +103,7 @@ module _ (u : List Track) (y : DeviceStore) (t : ℕ) where
   b_failed : (v w : List Track) (s : DeviceStore) (h : Held) (fault : Option Side) → InOrder v w s h → v ≡ u → Stays y s →
       Twins Gives (second_read contents fault s None) (second_read by_plain fault (marks_of v w s) None) h
   b_failed v w s h fault i plain stays =
-      twin_then (λ z _. Done z (got B None (Some (first_faulty_side fault B)))) (λ z _. Done z (got B None (Some (first_faulty_side fault B))))
-      (failed_twin None h v w s B i.sure i.told)
+      twin_then _ _ (failed_twin None h v w s B i.sure i.told)
       (λ v' w' z _ _ k f. twin_done (record {
         order = record { sure = f.but; told = f.told };
         plain = f.plain ∙ plain;
@@ -159,8 +141,7 @@ module _ (u : List Track) (y : DeviceStore) (t : ℕ) where
   a_failed : (v w : List Track) (s : DeviceStore) (h : Held) → InOrder v w s h → t < tracks_of s → half_is s.half t ≡ false → v ≡ u → Stays y s →
       Twins Gives (first_read contents t s None) (first_read by_plain t (marks_of v w s) None) h
   a_failed v w s h i lt off plain stays =
-      twin_then (λ z _. read_b contents z t (Some A)) (λ z _. read_b by_plain z t (Some A))
-      (twin_always (failed_twin None h v w s A i.sure i.told) (failed_call_keeps_good contents device_is_faithful s A i.well))
+      twin_then _ _ (twin_always (failed_twin None h v w s A i.sure i.told) (failed_call_keeps_good contents device_is_faithful s A i.well))
       (λ v' w' z _ _ k f. let st = failed_stays h v s A v' w' z k f.0 in
       b_read v' w' z k (Some A) (record { sure = f.0.but; told = f.0.told; well = f.1.well })
       (let same = f.1.tracks in omega arith) (stays_off s z t st off) (f.0.plain ∙ plain) (stays_on y s z stays st))

@@ -29,8 +29,7 @@ use Rattle.device_laws.specs.PlainWrites.{SuitsTrack, OriginSuits}
 use Rattle.device_laws.specs.Twin.{Twins}
 use Rattle.device_laws.proofs.TwinThrough.{mark_lost}
 use Rattle.device_laws.proofs.Changes as C
-use Rattle.device_laws.proofs.ContentChanges as D
-use Rattle.device_laws.proofs.ContentChanges.{Sure, agrees_sure, sure_agrees, unseen_right}
+use Rattle.device_laws.proofs.ContentChanges.{Sure, agrees_sure, sure_agrees}
 use Rattle.device_laws.proofs.FailedCall.{IsWell, same_is_well, failed_call_keeps_good}
 use Rattle.loss_model.specs.declared.Loss.TheVariants as losses
 use Rattle.device_laws.proofs.LossEvents.{losing_goes}
@@ -43,7 +42,7 @@ use Rattle.device_laws.proofs.TrackContents as T
 use Rattle.device_laws.proofs.TrackContents.{contents_at, Writes, HeldBy, held_of, writes_own}
 use Rattle.device_laws.proofs.TrackMarks as M
 use Rattle.device_laws.proofs.TrackMarks.{track_at, device_is_faithful}
-use Rattle.device_laws.proofs.TwinAsks.{InOrder, Ordered, keeps_at, lost_is}
+use Rattle.device_laws.proofs.TwinAsks.{InOrder, Ordered, keeps_at, lost_is, beside_order}
 use Rattle.device_laws.proofs.TwinCuts.{cut_by}
 use Rattle.device_laws.proofs.TwinEvents.{hear_twin, ended_twin}
 use Rattle.device_laws.proofs.TwinFailed.{failed_twin}
@@ -217,12 +216,7 @@ command_goes_as_fed tracks g looks v w s h n first t chain feeds at same on none
 -- side B is held, or not any more
 module _ (v w : List Track) (s : DeviceStore) (h : Held) (b : Bool) where
   held_order : Ordered v w s h → Ordered v w (record s { held = b }) h
-  unfolding T.contents_at D.base_of
-  held_order o = record {
-    sure = unseen_right None v w s h (record s { held = b }) h o.sure
-        (record { sizes = record { are = o.sure.ground.sizes.are }; base = refl; same = λ q. refl; slots = refl });
-    told = o.told;
-  }
+  held_order o = beside_order o
 
   held_well : IsWell contents s → IsWell contents (record s { held = b })
   unfolding M.track_at C.rest_of

@@ -8,7 +8,6 @@ use Rattle.ckd_types.specs.Parameters.{is_bypass}
 use Rattle.track_image.specs.Image.{Image}
 use Rattle.track_cache.specs.declared.frames.Frame.{Frame}
 use Rattle.device_outside.specs.Both.{both_try}
-use Rattle.device_outside.specs.Interaction.{Done}
 use Rattle.device_outside.proofs.BothRules.{on_test}
 use Rattle.device_defs.specs.declared.usage.Usage.{Usage}
 use Rattle.device_defs.specs.Contents.{contents, by_plain}
@@ -38,14 +37,26 @@ use Rattle.device_defs.specs.Sound.{DeviceStore}
 use Rattle.device_defs.specs.Store.{Store, tracks_of, frame_at, is_lost, is_loose, half_is, with_frame}
 use Rattle.device_laws.specs.Agrees.{Held, image_in}
 use Rattle.device_laws.specs.Twin.{Twins}
-use Rattle.device_laws.proofs.ContentChanges as C
-use Rattle.device_laws.proofs.ContentChanges.{base_of, altered_frame, unseen_right}
+use Rattle.device_laws.proofs.ContentChanges.{altered_frame}
 use Rattle.device_laws.proofs.TrackContents as T
 use Rattle.device_laws.proofs.TrackContents.{contents_at, right_fewer}
 use Rattle.device_laws.proofs.TrackImage.{level_bytes_keeps_good}
 use Rattle.device_laws.proofs.TrackMarks as M
 use Rattle.device_laws.proofs.TrackMarks.{track_at, device_is_faithful}
-use Rattle.device_laws.proofs.TwinAsks.{ask_touch, ask_frame, Stays, stays_same, stays_on, stays_image, stays_off, InOrder, Ordered, keeps_at, altered_order}
+use Rattle.device_laws.proofs.TwinAsks.{
+  ask_touch,
+  ask_frame,
+  Stays,
+  stays_same,
+  stays_on,
+  stays_image,
+  stays_off,
+  InOrder,
+  Ordered,
+  keeps_at,
+  altered_order,
+  beside_order,
+}
 use Rattle.device_laws.proofs.TwinChanges.{frame_twin, with_frame_twin}
 use Rattle.device_laws.proofs.TwinImage.{Delivers, Looks, bytes_twin, filled_twin, not_lost}
 use Rattle.device_laws.proofs.TwinWalks.{twin_done, twin_then, twin_always}
@@ -84,12 +95,7 @@ module _ {F P H : Type 0} where
   ahead_is u s t = ahead_by u s t (is_sequential u.mode)
 
 pub queue_order : (v w : List Track) (s : DeviceStore) (h : Held) (q : List ℕ) → Ordered v w s h → Ordered v w (record s { queue = q }) h
-unfolding T.contents_at C.base_of
-queue_order v w s h q o = record {
-  sure = unseen_right None v w s h (record s { queue = q }) h o.sure
-      (record { sizes = record { are = o.sure.ground.sizes.are }; base = refl; same = λ q. refl; slots = refl });
-  told = o.told;
-}
+queue_order v w s h q o = beside_order o
 
 -- a frame goes
 pub unframed_order : (v w : List Track) (s : DeviceStore) (h : Held) (t : ℕ) → t < tracks_of s → Ordered v w s h → Ordered v w (with_frame s t None) h
@@ -134,7 +140,7 @@ module _ (u : List Track) (y : DeviceStore) (t : ℕ) where
       Twins Ends (granted contents s t i given) (granted by_plain (marks_of v w s) t i given) h
   granted_twin v w s h i given is here lt there off o plain stays =
       on_test given
-      (λ _. twin_then (λ z _. Done z (Some (Has i))) (λ z _. Done z (Some (Has i))) (filled_twin v w s h t i here lt there off o)
+      (λ _. twin_then _ _ (filled_twin v w s h t i here lt there off o)
       (λ v' w' z _ _ k f. twin_done (looks_has v' w' z k i i is refl f.order (f.plain ∙ plain) (stays_on y s z stays f.stays))))
       (λ _. twin_done (looks_has v w s h i i is refl o plain stays))
 
@@ -191,8 +197,7 @@ module _ (u : List Track) (y : DeviceStore) (t : ℕ) where
   miss_twin : (v w : List Track) (s : DeviceStore) (h : Held) (u' : Usage) → t < tracks_of s → is_loose s t ≡ false → half_is s.half t ≡ false →
       InOrder v w s h → v ≡ u → Stays y s → Twins Ends (miss contents s u' t) (miss by_plain (marks_of v w s) u' t) h
   miss_twin v w s h u' lt firm off o plain stays =
-      twin_then (λ z g. missed contents u' t z g g.bytes) (λ z g. missed by_plain u' t z g g.bytes)
-      (twin_always (bytes_twin v w s h t o lt off) (level_bytes_keeps_good contents device_is_faithful s t o.well))
+      twin_then _ _ (twin_always (bytes_twin v w s h t o lt off) (level_bytes_keeps_good contents device_is_faithful s t o.well))
       (λ v' w' z g m k f.
       let below : t < tracks_of z = let same = f.1.goes.tracks in omega arith in
       missed_twin v' w' z k u' g m g.bytes m.bytes f.0.bytes f.0.side f.0.fault below

@@ -30,7 +30,6 @@ use Rattle.device_laws.proofs.ContentChanges.{
   same_tracks,
   same_up_b,
   sits_still,
-  unseen_right,
   RightBut,
   right_altered,
 }
@@ -49,7 +48,7 @@ use Rattle.device_laws.proofs.TrackContents.{
   writes_own,
   own_writes,
 }
-use Rattle.device_laws.proofs.TwinAsks.{InOrder, Ordered}
+use Rattle.device_laws.proofs.TwinAsks.{InOrder, Ordered, beside_order}
 use Rattle.device_laws.proofs.TwinChanges.{has_patch_twin, half_twin, without_patch_twin}
 use Rattle.device_laws.proofs.TwinFailed.{told_twin, side_pair, settles_on, down_tracks}
 use Rattle.device_laws.proofs.TwinSettled.{AllTold, Owes, debts_altered, told_debts, Settles, settled_pair, unpatched, altered_unpatched, unpatched_slots}
@@ -225,12 +224,7 @@ module _ (h : Held) (u : List Track) (s : DeviceStore) (alone : s.paired ≡ fal
 -- As losses
 
 pub counted_loss : (v w : List Track) (s : DeviceStore) (h : Held) (loss : Loss) → Ordered v w s h → Ordered v w (with_loss s loss) h
-unfolding T.contents_at C.base_of
-counted_loss v w s h loss o = record {
-  sure = unseen_right None v w s h (with_loss s loss) h o.sure
-      (record { sizes = record { are = o.sure.ground.sizes.are }; base = refl; same = λ q. refl; slots = refl });
-  told = o.told;
-}
+counted_loss v w s h loss o = beside_order o
 
 pub record Loses (u v w : List Track) (z : DeviceStore) (k : Held) : Type 0 where
   pub order : Ordered v w z k

@@ -94,8 +94,7 @@ module _ (u : List Track) (y : DeviceStore) (j : Held) (t : ℕ) (lt : t < track
     whole_end : (failed : Option Side) → Twins Ends (and_then (write_done contents z t i false) (λ q _. Done q (did fault (did failed d))))
         (and_then (write_done by_plain (marks_of v w z) t i false) (λ q _. Done q (did fault (did failed d)))) k
     whole_end failed =
-        rw (← image_is) (twin_then (λ q _. Done q (did fault (did failed d))) (λ q _. Done q (did fault (did failed d)))
-        (write_done_twin t v w (track_in v t) z k false closing)
+        rw (← image_is) (twin_then _ _ (write_done_twin t v w (track_in v t) z k false closing)
         (λ v' w' q _ _ n f. twin_done (record {
           order = f.order;
           same = refl;
@@ -122,8 +121,7 @@ module _ (u : List Track) (y : DeviceStore) (j : Held) (t : ℕ) (lt : t < track
     half_end : (was_loose : Bool) → Twins Ends (and_then (write_opened contents z t i OfBackground was_loose) (λ q _. Done q (did fault (Half t))))
         (and_then (write_opened by_plain (marks_of v w z) t i OfBackground was_loose) (λ q _. Done q (did fault (Half t)))) k
     half_end was_loose =
-        twin_then (λ q _. Done q (did fault (Half t))) (λ q _. Done q (did fault (Half t)))
-        (opened_twin t v w i OfBackground z k was_loose opening)
+        twin_then _ _ (opened_twin t v w i OfBackground z k was_loose opening)
         (λ v' w' q _ _ n f. twin_done (record {
           order = f.order;
           same = refl;
@@ -151,8 +149,7 @@ pub saving_twin : (v w : List Track) (s : DeviceStore) (h : Held) (t : ℕ) (d :
     (image_in s v t) d fault) h
 saving_twin v w s h t d fault lt there none o =
     let off = none_off s.half t none in
-    twin_then (saved_then contents t d fault (image_in s v t)) (saved_then by_plain t d fault (image_in s v t))
-    (twin_always (firm_twin v w s h t lt off o) (firm_first_keeps_good contents device_is_faithful s t lt o.well))
+    twin_then _ _ (twin_always (firm_twin v w s h t lt off o) (firm_first_keeps_good contents device_is_faithful s t lt o.well))
     (λ v' w' z a b k f.
     let y = f.0 in
     let well = f.1.goes.well in
@@ -170,9 +167,7 @@ saving_twin v w s h t d fault lt there none o =
     (subst (λ (p : Image). Twins (λ v' w' z a b k. Works v s v' w' z a b k) (saved_then contents t d fault p z a)
     (saved_then by_plain t d fault p (marks_of v' w' z) a) k) (sym image_is)
     (twin_weaker
-    (twin_then (λ x m. saved_by contents t (image_in z v' t) d fault a m.fault x m.took) (λ x m. saved_by by_plain t
-    (image_in z v' t) d fault a m.fault x m.took)
-    (first_twin v' z k t (track_bytes (track_in v' t)) below y.firm alone off' own w' y.order)
+    (twin_then _ _ (first_twin v' z k t (track_bytes (track_in v' t)) below y.firm alone off' own w' y.order)
     (λ v'' w'' x m n l g. by_wrote v' w' z k t d fault below y.firm (y.stays.half ∙ none) own v'' w'' x l a m n g))
     (λ v'' w'' x m n l g. record {
       order = g.order;
@@ -200,7 +195,7 @@ pub saved_twin : (v w : List Track) (s : DeviceStore) (h : Held) (t : ℕ) (d : 
     (image_in s v t) d fault) h
 saved_twin v w s h t d fault lt there none o =
     both_try
-    (twin_then (λ z e. Done z (Some e)) (λ z e. Done z (Some e)) (saving_twin v w s h t d fault lt there none o)
+    (twin_then _ _ (saving_twin v w s h t d fault lt there none o)
     (λ v' w' z a b k f. twin_done (record { order = f.order; same = ap Some f.same; plain = f.plain; geometry = f.geometry; cylinders = f.cylinders })))
     (twin_done (record { order = record { sure = o.sure; told = o.told }; same = refl; plain = refl; geometry = refl; cylinders = refl }))
 
@@ -272,8 +267,7 @@ recover_by v w s h t (Some f) e lt there none o = framed_twin v w s h t (Recover
 recover_by v w s h t None e lt there none o =
     let off = none_off s.half t none in
     let firm = unframed_is_firm (track_at contents s t) (track_frame s t e) (o.well.good t lt) in
-    twin_then (λ z g. recovered_bytes contents t z g g.bytes) (λ z g. recovered_bytes by_plain t z g g.bytes)
-    (twin_always (bytes_twin v w s h t o lt off) (level_bytes_keeps_good contents device_is_faithful s t o.well))
+    twin_then _ _ (twin_always (bytes_twin v w s h t o lt off) (level_bytes_keeps_good contents device_is_faithful s t o.well))
     (λ v' w' z g m k x.
     let below : t < tracks_of z = let same = x.1.goes.tracks in omega arith in
     recovered_by v s v' w' z k t g m g.bytes m.bytes x.0.bytes x.0.side x.0.fault below

@@ -255,8 +255,7 @@ module _ (u w0 : List Track) (s : DeviceStore) (h : Held) (hw : HalfWrite Image)
     finished_plain : (bypass : Bool) → hw.image ≡ image_in s u t → plain_second hw.origin true u t ≡ u →
         Twins Ends (finished contents (half_closed z) t hw.image bypass) (finished by_plain (half_closed (marks_of v w z)) t hw.image bypass) k
     finished_plain bypass same stays =
-        rw (← (plain_is ∙ sym same)) (twin_then (λ y _. Done y true) (λ y _. Done y true)
-        (write_done_twin t v w (track_in v t) (half_closed z) k bypass (closing_plain same))
+        rw (← (plain_is ∙ sym same)) (twin_then _ _ (write_done_twin t v w (track_in v t) (half_closed z) k bypass (closing_plain same))
         (λ v' w' y _ _ n f. twin_done (record {
           order = f.order;
           same = refl;
@@ -308,8 +307,7 @@ module _ (u w0 : List Track) (s : DeviceStore) (h : Held) (hw : HalfWrite Image)
           (OfCommand bypass e)) k
       edit_twin after =
           rw image_now (both_tell (λ _.
-          twin_then (λ y _. Done y true) (λ y _. Done y true)
-          (write_done_twin t (set v t n) (set w t n) n (with_edit (half_closed z) t e) k bypass closing_edit)
+          twin_then _ _ (write_done_twin t (set v t n) (set w t n) n (with_edit (half_closed z) t e) k bypass closing_edit)
           (λ v' w' y _ _ m f. twin_done (record {
             order = f.order;
             same = refl;
@@ -480,8 +478,7 @@ module _ (u w0 : List Track) (s : DeviceStore) (h : Held) (hw : HalfWrite Image)
   unfolding S.second_part
   second_part_twin =
       let image : plainly_written (marks_of u w0 s) t hw.origin ≡ hw.image = plainly_is u w0 s t hw.origin ∙ sym writes.image in
-      rw image (twin_then (λ z _. second_by contents t hw.image hw.origin z) (λ z _. second_by by_plain t hw.image hw.origin z)
-      (twin_always (second_twin u s h t r lt firm (is_alone s o.well.here) u w0 s h begins (is_alone s o.well.here))
+      rw image (twin_then _ _ (twin_always (second_twin u s h t r lt firm (is_alone s o.well.here) u w0 s h begins (is_alone s o.well.here))
       (write_second_keeps_others contents device_is_faithful t s lt there_mark r o.well))
       (λ v w z _ _ k d. on_test (has_level z t)
       (λ _. done_by v w z k d.0 hw.origin refl writes.image suits)

@@ -1,6 +1,5 @@
 -- A write that goes through to the volumes: its edit is the plain one where it is done, and all is right, with its twin on marks.
 use Rattle.std.proofs.Common.{◌≡◌, ◌<◌, ℕ, Bool, true, false, List, Option, Some, None, set, refl, sym, ap, subst, ◌∙◌, arith}
-use Rattle.std.specs.Prelude.{if◌then◌else◌}
 use Rattle.ckd_types.specs.declared.geometry.Geometry.{Geometry}
 use Rattle.ckd_types.specs.declared.record.Edit.{Edit}
 use Rattle.ckd_types.specs.declared.record.Track.{Track}
@@ -106,8 +105,7 @@ module _ (u : List Track) (y : DeviceStore) (j : Held) (t : ℕ) (e : Edit) (lt 
       let v' = set v t n in
       let w' = set w t n in
       rw (image_now v w z k d plain) (both_tell (λ _.
-      twin_then (λ x _. Done x Whole) (λ x _. Done x Whole)
-      (write_done_twin t v' w' n (with_edit z t e) k bypass (closing v w z k d plain))
+      twin_then _ _ (write_done_twin t v' w' n (with_edit z t e) k bypass (closing v w z k d plain))
       (λ v'' w'' x _ _ l f. twin_done (record {
         order = f.order;
         same = refl;
@@ -143,9 +141,7 @@ module _ (u : List Track) (y : DeviceStore) (j : Held) (t : ℕ) (e : Edit) (lt 
   at_once_twin : (v w : List Track) (z : DeviceStore) (k : Held) (bypass : Bool) → Written u y j t r v w z k → (z.paired ≡ false → z.b.up ≡ false) →
       Twins Ends (at_once contents z t i e bypass) (at_once by_plain (marks_of v w z) t i e bypass) k
   at_once_twin v w z k bypass d single =
-      twin_then (λ x _. if has_level x t then whole contents x t i e bypass else Done (settled contents x t) Unwritten)
-      (λ x _. if has_level x t then whole by_plain x t i e bypass else Done (settled by_plain x t) Unwritten)
-      (second_twin u y j t r lt firm alone v w z k d single)
+      twin_then _ _ (second_twin u y j t r lt firm alone v w z k d single)
       (λ v' w' x _ _ l f. on_test (has_level x t)
       (λ _. whole_twin v' w' x l bypass f f.mid.plain)
       (λ none. absent_twin v' w' x l f none))
@@ -174,8 +170,7 @@ module _ (u : List Track) (y : DeviceStore) (j : Held) (t : ℕ) (e : Edit) (lt 
       Twins (λ v' w' x a b l. Ends v' w' x a b l)
       (through_by contents t i e bypass true was_loose z Opened) (through_by by_plain t i e bypass true was_loose (marks_of v w z) Opened) k
   opened_half v w z k bypass was_loose d none =
-      twin_then (λ x _. Done x Opened) (λ x _. Done x Opened)
-      (opened_twin t v w i (OfCommand bypass e) z k was_loose (opening v w z k bypass d none))
+      twin_then _ _ (opened_twin t v w i (OfCommand bypass e) z k was_loose (opening v w z k bypass d none))
       (λ v' w' x _ _ l f. twin_done (record {
         order = f.order;
         same = refl;
@@ -222,8 +217,7 @@ unfolding E.through
 through_twin v w s h t e bypass opens lt there none suits o =
     let off = none_off s.half t none in
     let i = edited_image e (image_in s v t) in
-    twin_then (written_by contents t e bypass opens i) (written_by by_plain t e bypass opens i)
-    (twin_always (firm_twin v w s h t lt off o) (firm_first_keeps_good contents device_is_faithful s t lt o.well))
+    twin_then _ _ (twin_always (firm_twin v w s h t lt off o) (firm_first_keeps_good contents device_is_faithful s t lt o.well))
     (λ v' w' z a b k f.
     let y = f.0 in
     let well = f.1.goes.well in
@@ -244,9 +238,7 @@ through_twin v w s h t e bypass opens lt there none suits o =
     (subst (λ (p : Image). Twins (λ v' w' z a b k. WroteTwin v s t e v' w' z a b k) (written_by contents t e bypass opens p z a)
     (written_by by_plain t e bypass opens p (marks_of v' w' z) a) k) (sym image_is)
     (twin_weaker
-    (twin_then (λ x m. through_by contents t (edited_image e (image_in z v' t)) e bypass opens a x m.took)
-    (λ x m. through_by by_plain t (edited_image e (image_in z v' t)) e bypass opens a x m.took)
-    (twin_always
+    (twin_then _ _ (twin_always
     (first_twin v' z k t (track_bytes (edited_image e (image_in z v' t)).track) below y.firm alone off' own w' y.order)
     (write_first_keeps_good contents device_is_faithful t z below (f.1.lost ∙ mark_lost s t
     ∙ there) (track_bytes (edited_image e (image_in z v' t)).track) well))

@@ -151,7 +151,7 @@ module _ (v w : List Track) (s : DeviceStore) (t : ℕ) (e : Edit) (u : Usage) (
   written_twin : (choice : Choice) (k : Held) → Ordered v w s k → NewBy s choice k.slots → Fits contents s t choice →
       Twins Ends (written contents s u first t old e choice) (written by_plain (marks_of v w s) u first t old e (choice_mark choice)) k
   written_twin choice k o new fit =
-      twin_then (λ z took. Done z (Some took)) (λ z took. Done z (Some took)) (by_choice choice k o new fit)
+      twin_then _ _ (by_choice choice k o new fit)
       (λ v' w' z a b l f. twin_done (record {
         order = f.order;
         same = ap Some f.same;
@@ -195,8 +195,7 @@ module _ (v w : List Track) (s : DeviceStore) (t : ℕ) (e : Edit) (u : Usage) (
   unfolding E.write
   write_twin h o =
       both_try
-      (twin_then (write_chosen contents u first t old e) (write_chosen by_plain u first t old e)
-      (twin_always (choice_twin v w s u t h o) (choice_fits contents s u t))
+      (twin_then _ _ (twin_always (choice_twin v w s u t h o) (choice_fits contents s u t))
       (λ v' w' z a b k f. at_store v' w' z a b k f.0 f.1.fit))
       (as_it_was h o)
     where

@@ -26,7 +26,6 @@ use Rattle.device_defs.specs.Writing.{
   write_side,
   unwritten,
   alone_b,
-  failed_a,
   first_a,
   write_first,
   tried_b,
@@ -44,12 +43,12 @@ use Rattle.device_laws.proofs.ContentChanges.{
   altered_stale_a,
   altered_stale_b,
   same_up_b,
-  unseen_right,
   RightBut,
   Sure,
   shut,
   opens_write,
   similar_right,
+  beside_right,
 }
 use Rattle.device_laws.proofs.TrackContents as T
 use Rattle.device_laws.proofs.TrackContents.{TrackContents, contents_at, Keeps, keeps_fewer, not_both}
@@ -156,8 +155,7 @@ module _ (u : List Track) (s : DeviceStore) (h : Held) (t : ℕ) (r : List ℕ) 
     mid_counted : (v w : List Track) (z : DeviceStore) (k : Held) (ok : Bool) → Mid v w z k → Mid v w (write_counted z ok) k
     unfolding T.contents_at C.base_of
     mid_counted v w z k ok m = record {
-      but = unseen_right (Some t) v w z k (write_counted z ok) k m.but
-          (record { sizes = record { are = m.but.ground.sizes.are }; base = refl; same = λ q. refl; slots = refl });
+      but = beside_right m.but;
       told = m.told;
       plain = m.plain;
       stays = record { geometry = m.stays.geometry; cylinders = m.stays.cylinders; half = m.stays.half };
@@ -443,9 +441,7 @@ module _ (u : List Track) (s : DeviceStore) (h : Held) (t : ℕ) (r : List ℕ) 
           let n = with_held k B t bytes in
           let e = on_b v w z k m bytes up in
           let i = mid_on_b v w z k m bytes up in
-          twin_then (λ y _. Done (unwritten contents y t) (wrote Unwritten (Some first))) (λ y _. Done (unwritten by_plain y t) (wrote Unwritten
-          (Some first)))
-          (failed_twin (Some t) n v w z B i.but i.told)
+          twin_then _ _ (failed_twin (Some t) n v w z B i.but i.told)
           (λ v' w' y _ _ l f.
           let j = mid_failed v w z n B v' w' y l i (sided_b z n) f in
           let own_is = f.own t refl ∙ fell_b z.paired z n t in
@@ -477,8 +473,7 @@ module _ (u : List Track) (s : DeviceStore) (h : Held) (t : ℕ) (r : List ℕ) 
           let n = with_held h A t bytes in
           let e = on_a w z m bytes up in
           let i = mid_on_a w z m bytes up in
-          twin_then (λ y _. failed_a contents t r (takes_b z) y) (λ y _. failed_a by_plain t true (takes_b z) y)
-          (failed_twin (Some t) n u w z A i.but i.told)
+          twin_then _ _ (failed_twin (Some t) n u w z A i.but i.told)
           (λ v' w' y _ _ l f.
           let j = mid_failed u w z n A v' w' y l i (sided_a z n) f in
           let own_is = f.own t refl ∙ fell_a z.paired z n t in

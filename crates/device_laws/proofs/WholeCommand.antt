@@ -109,7 +109,7 @@ module _ (tracks : ℕ) (g : Geometry) (looks : ChainState → ℕ → Type 0) (
         WholeTwins (Leaves (BehindCommand v (tracks_of d.store) (Some chain))) (command_at contents d path chain o)
         (command_at by_plain (marks_device v w d) path chain o) h
     by_need path chain (Some t) at =
-        store_then (on_tracks contents d path chain) (on_tracks by_plain (marks_device v w d) path chain)
+        store_then _ _
         (follow_order tracks g looks feeds v (tracks_of d.store) t chain t d.store w h (at t refl) all on none (in_order v w d.store h i))
         (λ v' w' z a b k f.
         on_tracks_twin v' w' (with_store d z) k (is_in_order v' w' z k f.0.order f.1) v w d path chain a b refl f.0.same

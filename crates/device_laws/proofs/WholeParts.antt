@@ -62,9 +62,7 @@ module _ (v w : List Track) (d : WholeDevice) (h : Held) (i : IsInOrder v w d.st
   by_half : (o : Option (HalfWrite Image)) → d.store.half ≡ o → HalfSuits v d.store →
       WholeTwins (Leaves (BehindSecond v o)) (second_of contents d o) (second_of by_plain (marks_device v w d) (option_map half_mark o)) h
   by_half (Some hw) is suits =
-      store_then (λ s done. second_ended contents (with_store d s) hw.track hw.origin done)
-      (λ s done. second_ended by_plain (with_store (marks_device v w d) s) hw.track hw.origin done)
-      (second_part_is_plain v w d.store h hw i is (suits hw is))
+      store_then _ _ (second_part_is_plain v w d.store h hw i is (suits hw is))
       (λ v' w' s a b k f.
       rw (← f.same) (over v' w' (with_store d s) k (BehindSecond v (Some hw)) f.order (a, f.plain) hw.track hw.origin a))
   by_half None is suits = whole_done v w d (record { order = i; same = refl; is = (false, refl) })
@@ -92,8 +90,7 @@ background_whole v w d h i none =
     (λ z. and_then (work by_plain z.store) (λ s did. Done (with_store z s) did)) i
     (λ w' s k o stays.
     let z : WholeDevice = record (event_begun d) { store = s } in
-    store_then (λ y did. Done (with_store z y) did) (λ y did. Done (with_store (marks_device v w' z) y) did)
-    (work_is_plain v w' s k o (stays.half ∙ none))
+    store_then _ _ (work_is_plain v w' s k o (stays.half ∙ none))
     (λ v2 w2 y a b l f. whole_done v2 w2 (with_store z y) (record { order = f.order; same = f.same; is = f.plain })))
 
 -- Losses
@@ -106,14 +103,13 @@ module _ (v w : List Track) (d : WholeDevice) (h : Held) (i : IsInOrder v w d.st
 
   by_loss : (loss : Loss) → Lost loss
   by_loss losses.Cache =
-      store_then (λ s _. Done (with_store d s) (tt {0})) (λ s _. Done (with_store (marks_device v w d) s) (tt {0})) (lost_cache_leaves_order v w d.store h i)
+      store_then _ _ (lost_cache_leaves_order v w d.store h i)
       (λ v2 w2 y a b l f. whole_done v2 w2 (with_store d y) (record { order = f.order; same = refl; is = tt }))
   by_loss losses.Store =
-      store_then (λ s _. Done (with_store d s) (tt {0})) (λ s _. Done (with_store (marks_device v w d) s) (tt {0})) (lost_store_leaves_order v w d.store h i)
+      store_then _ _ (lost_store_leaves_order v w d.store h i)
       (λ v2 w2 y a b l f. whole_done v2 w2 (with_store d y) (record { order = f.order; same = refl; is = f.plain }))
   by_loss (losses.Side side) =
-      store_then (λ s _. Done (with_store d s) (tt {0})) (λ s _. Done (with_store (marks_device v w d) s) (tt {0}))
-      (lost_side_leaves_order v w d.store h side i)
+      store_then _ _ (lost_side_leaves_order v w d.store h side i)
       (λ v2 w2 y a b l f. whole_done v2 w2 (with_store d y) (record { order = f.order; same = refl; is = f.plain }))
 
 pub loss_whole : (v w : List Track) (d : WholeDevice) (h : Held) (loss : Loss) → IsInOrder v w d.store h →
@@ -140,13 +136,7 @@ module _ (v w : List Track) (d : WholeDevice) (h : Held) (path : ℕ) (i : IsInO
 
   cut : WholeTwins (Leaves (BehindReset v d.store.half)) (path_cut contents d path) (path_cut by_plain (marks_device v w d) path) h
   cut =
-      rw (counts_same d.store.half) (store_then (λ s _. Done (cut_by s) (tt {0}))
-      (λ s _. Done (record (reset_noted by_plain (marks_device v w d) path (counts_one_by d.store.half)) {
-        store = s;
-        chain = None;
-        paths = all_reset (reset_path d.paths path) d.history.waiting;
-      }) (tt {0}))
-      (cut_leaves_order v w d.store h i suits)
+      rw (counts_same d.store.half) (store_then _ _ (cut_leaves_order v w d.store h i suits)
       (λ v2 w2 y a b l f. whole_done v2 w2 (cut_by y) (record { order = f.order; same = refl; is = inr f.plain })))
 
   by_running : (o : Option OpenEntry) → WholeTwins (Leaves (BehindReset v d.store.half)) (reset_by contents d path o) (reset_by by_plain

@@ -370,8 +370,7 @@ power_whole v w d h i =
     let order = begun_order v w d.store h i in
     quiet_twin v w d h (λ x. and_then (half_cut contents x.store x.store.half) (λ s _. Done (powered_off contents x s) (tt {0})))
     (λ x. and_then (half_cut by_plain x.store x.store.half) (λ s _. Done (powered_off by_plain x s) (tt {0})))
-    (store_then (λ s _. Done (powered_off contents z s) (tt {0})) (λ s _. Done (powered_off by_plain (marks_device v w z) s) (tt {0}))
-    (twin_always (cut_leaves_order v w z.store h order (λ hw is. (order.opened hw is).suits)) (cut_is z.store z.store.half refl))
+    (store_then _ _ (twin_always (cut_leaves_order v w z.store h order (λ hw is. (order.opened hw is).suits)) (cut_is z.store z.store.half refl))
     (λ v' w' s _ _ k f.
     let l = with_loss s losses.Cache in
     let o = in_order v' w' s k f.0.order in

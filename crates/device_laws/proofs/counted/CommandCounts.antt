@@ -69,7 +69,7 @@ module _ {F P H R : Type 0} (c : Contents F P H R) where
       progress_so i next (progresses.Ended e) = counts_done (le, omega arith)
       progress_so i next (progresses.Need q) = counts_done (le, refl, few)
       progress_so i next (progresses.Write q e) =
-          counts_then (had_by (came_of_write c next t)) (counts_from r 0 (write_writes c (usage_of chain) first t i e z))
+          counts_then _ (counts_from r 0 (write_writes c (usage_of chain) first t i e z))
           (λ m w y o h.
           let a = h.more_reads in
           let b = h.more_writes in
@@ -92,7 +92,7 @@ module _ {F P H R : Type 0} (c : Contents F P H R) where
     unfolding N.look
     look_so s few =
         counts_if (is_lost s t) (λ _. counts_done (omega arith, omega arith))
-        (λ _. counts_then (had_by (looked c chain first t)) (image_reads c (usage_of chain) t up s few)
+        (λ _. counts_then _ (image_reads c (usage_of chain) t up s few)
         (λ r w z o h.
         rw h.writes (had_so r h.reads z h.sides o)))
 
@@ -125,8 +125,7 @@ module _ {F P H R : Type 0} (c : Contents F P H R) where
     follow_so : (n : ℕ) → Following n
     unfolding N.follow
     follow_so zero chain t s few = counts_done (record { most_reads = omega arith; most_writes = omega arith })
-    follow_so (suc n) chain t s few =
-        counts_then (had_by (goes_on c (follow c n first))) (look_so chain first t up s few) (λ r w z o h. by_went n (follow_so n) r w z o h)
+    follow_so (suc n) chain t s few = counts_then _ (look_so chain first t up s few) (λ r w z o h. by_went n (follow_so n) r w z o h)
 
   -- The whole command
 
@@ -183,7 +182,7 @@ module _ (chain : ChainState) (first t : ℕ) (f : Frame) (modified : f.modified
   progress_none s next (progresses.Ended e) is = counts_done (refl, tt)
   progress_none s next (progresses.Need q) is = absurd (ends q is)
   progress_none s next (progresses.Write q e) is =
-      counts_then (had_by (came_of_write contents next t)) (write_writes contents (usage_of chain) first t f.image e s)
+      counts_then _ (write_writes contents (usage_of chain) first t f.image e s)
       (λ r w z o h. write_so next r w h.reads z o)
   progress_none s next (progresses.Local act) is = counts_done (refl, tt)
 
@@ -221,8 +220,7 @@ module _ (chain : ChainState) (first t : ℕ) (f : Frame) (modified : f.modified
   follow_none : (n : ℕ) (s : DeviceStore) → frame_at s t ≡ Some f → Counts (λ r w z (a : Option Turn). r ≡ 0) 0 0 (follow contents n first chain t s)
   unfolding N.follow
   follow_none zero s is = counts_done refl
-  follow_none (suc n) s is =
-      counts_then (had_by (goes_on contents (follow contents n first))) (look_none s is) (λ r w z o h. over_none n r w z o h)
+  follow_none (suc n) s is = counts_then _ (look_none s is) (λ r w z o h. over_none n r w z o h)
 
 -- of a command at a track with a modified frame
 pub hit_so : (d : WholeDevice) (o : OpenEntry) (chain : ChainState) (t : ℕ) (f : Frame) → need_of chain ≡ Some t → frame_at d.store t ≡ Some f →
@@ -238,7 +236,7 @@ hit_so d o chain t f needs is modified ends = counts_if (has_loss o.acts) (λ _.
     by_need None e = absurd (cc)
     by_need (Some q) e =
         let same : t ≡ q = cc in
-        rw (← same) (counts_then (on_tracks contents d o.path chain) (follow_none chain t t f modified ends (tracks_of d.store) d.store is)
+        rw (← same) (counts_then _ (follow_none chain t t f modified ends (tracks_of d.store) d.store is)
         (λ r w z a h. by_turn z r w h a))
 
 -- Notices leave a modified frame

@@ -271,7 +271,7 @@ module _ {K : Type 0} (had : Bool → Type 0) (hears : Hearing Image K) where
     over_counts {y = y} based first rest =
         let body = λ (x : WholeDevice). command_by contents x x.history.running x.chain in
         let front = based_any (front_based contents d body (λ (b : Base). b) (λ x. command_body contents x)) in
-        let quiet = quiet_then (λ z _. Done (record y { store = z }) _) (ended_quiet contents (waiting_count contents d.store) y.store) (λ z _. quiet_done) in
+        let quiet = quiet_then _ (ended_quiet contents (waiting_count contents d.store) y.store) (λ z _. quiet_done) in
         ap (λ (b : Base). b.counts) (quiet_base quiet (based_rest (event_ended contents d) front based first) rest)
 
     by_room : d.history.running ≡ Some o → d.chain ≡ Some chain → (ok : Bool) → {u z : Calls} {e : WholeDevice} {a : Stepped} →

@@ -6,7 +6,7 @@ use Rattle.ckd_types.specs.declared.paths.Side.TheVariants.{A, B}
 use Rattle.ckd_types.specs.declared.record.Edit.{Edit}
 use Rattle.ckd_types.specs.Parameters.{is_bypass}
 use Rattle.track_image.specs.Image.{Image, edited_image}
-use Rattle.device_outside.specs.Interaction.{Done, and_then}
+use Rattle.device_outside.specs.Interaction.{Done}
 use Rattle.device_defs.specs.declared.answers.Choice.{Choice}
 use Rattle.device_defs.specs.declared.answers.Choice.TheVariants.{Provisional, Fast, Through}
 use Rattle.device_defs.specs.declared.answers.Took.{Took}
@@ -16,26 +16,13 @@ use Rattle.device_defs.specs.Contents.{Contents}
 use Rattle.device_defs.specs.Editing as E
 use Rattle.device_defs.specs.Editing.{whole, at_once, through_by, through, write_by, written, is_given, clean_again, unchosen, write_chosen, another_loose}
 use Rattle.device_defs.specs.Image as I
-use Rattle.device_defs.specs.Image.{Got, got, first_faulty_side, read_counted, read_side, second_read, read_b, first_read, level_bytes}
+use Rattle.device_defs.specs.Image.{Got, got, read_counted, read_side, second_read, read_b, first_read, level_bytes}
 use Rattle.device_defs.specs.Losses.{settled}
 use Rattle.device_defs.specs.Owed.{is_clean}
 use Rattle.device_defs.specs.Store.{OfCommand, SideMarks, Store, level_at, has_level, takes_b, frame_at}
 use Rattle.device_defs.specs.Transfers.{both}
 use Rattle.device_defs.specs.Writing as V
-use Rattle.device_defs.specs.Writing.{
-  Wrote,
-  wrote,
-  write_side,
-  write_counted,
-  alone_b,
-  unwritten,
-  failed_a,
-  first_a,
-  taken_a,
-  write_first,
-  tried_b,
-  write_second,
-}
+use Rattle.device_defs.specs.Writing.{Wrote, wrote, write_side, write_counted, alone_b, failed_a, first_a, taken_a, write_first, tried_b, write_second}
 use Rattle.device_laws.proofs.QuietParts.{failed_quiet, done_quiet}
 use Rattle.device_laws.specs.Moved.{sides_writing, miss_reads, choice_writes}
 use Rattle.device_laws.specs.Seen.{ReadFrom, from_a, from_b, after_a, ReadNone, none_level, a_failed, b_failed, both_failed, is_opened}
@@ -76,7 +63,7 @@ module _ {F P H R : Type 0} (c : Contents F P H R) where
         Counts Level 2 0 (second_read c (Some A) (read_counted z (is_some bytes)) bytes)
     second_at z level other (Some x) = counts_done (refl, refl, after_a level other)
     second_at z level other None =
-        counts_past (λ x _. Done x (got B None (Some (first_faulty_side (Some A) B)))) (failed_quiet c (read_counted z false) B None)
+        counts_past _ (failed_quiet c (read_counted z false) B None)
         (λ x _. counts_done (refl, both_failed level other))
 
     behind_a : (z : Store F P H) → level_at s.a t ≡ true → (l : Bool) → level_at s.b t ≡ l →
@@ -88,14 +75,14 @@ module _ {F P H R : Type 0} (c : Contents F P H R) where
     first_at level (Some r) = counts_done (refl, refl, from_a level)
     first_at level None =
         let y = read_counted s false in
-        counts_first (λ z _. read_b c z t (Some A)) (failed_quiet c y A None) (failed_leaves c y None).holds
+        counts_first _ (failed_quiet c y A None) (failed_leaves c y None).holds
         (λ z _ e. behind_a z level (level_at z.b t) (ap (λ (m : SideMarks). level_at m t) (sym e)))
 
     only_at : level_at s.a t ≡ false → level_at s.b t ≡ true → (bytes : Option R) →
         Counts Level 1 0 (second_read c None (read_counted s (is_some bytes)) bytes)
     only_at stale level (Some r) = counts_done (refl, refl, from_b stale level)
     only_at stale level None =
-        counts_past (λ z _. Done z (got B None (Some (first_faulty_side None B)))) (failed_quiet c (read_counted s false) B None)
+        counts_past _ (failed_quiet c (read_counted s false) B None)
         (λ z _. counts_done (refl, b_failed stale level))
 
     by_b : level_at s.a t ≡ false → (l : Bool) → level_at s.b t ≡ l →
@@ -147,8 +134,7 @@ module _ {F P H R : Type 0} (c : Contents F P H R) where
     last_at : (w : ℕ) → w ≡ sides_writing s → (fault : Option Side) (first : Side) (ok : Bool) (z : Store F P H) →
         Counts First 0 w (alone_b c t fault first z ok)
     last_at w e fault first true z = counts_done (refl, e)
-    last_at w e fault first false z =
-        counts_past (λ y _. Done (unwritten c y t) (wrote Unwritten (Some first))) (failed_quiet c z B (Some t)) (λ y _. counts_done (refl, e))
+    last_at w e fault first false z = counts_past _ (failed_quiet c z B (Some t)) (λ y _. counts_done (refl, e))
 
     failed_at : s.a.up ≡ true → (b : Bool) → takes_b s ≡ b → (z : Store F P H) → Counts First 0 1 (failed_a c t r b z)
     failed_at up true takes z = counts_write (λ ok. last_at 2 (of_two up takes) (Some A) A ok (write_counted z ok))
@@ -161,8 +147,7 @@ module _ {F P H R : Type 0} (c : Contents F P H R) where
 
     first_tried : s.a.up ≡ true → (ok : Bool) → Counts First 0 1 (first_a c t r (write_counted s ok) ok)
     first_tried up true = taken_at up (takes_b s) refl
-    first_tried up false =
-        counts_past (λ z _. failed_a c t r (takes_b s) z) (failed_quiet c (write_counted s false) A (Some t)) (λ z _. failed_at up (takes_b s) refl z)
+    first_tried up false = counts_past _ (failed_quiet c (write_counted s false) A (Some t)) (λ z _. failed_at up (takes_b s) refl z)
 
     by_sides : (a b : Bool) → s.a.up ≡ a → takes_b s ≡ b → Counts First 0 0
         (if a then write_side c s A t r (first_a c t r)
@@ -197,7 +182,7 @@ module _ {F P H R : Type 0} (c : Contents F P H R) where
 
     once_exact : (s : Store F P H) (bypass : Bool) → 2 ≡ n → takes_b s ≡ true → Counts By 0 1 (at_once c s t i e bypass)
     once_exact s bypass two takes =
-        counts_then (λ z _. if has_level z t then whole c z t i e bypass else Done (settled c z t) Unwritten) (second_exact s (c.bytes i) takes)
+        counts_then _ (second_exact s (c.bytes i) takes)
         (λ m w z _ h.
         counts_if (has_level z t)
         (λ _. subst (λ (k : ℕ). Counts By k w (whole c z t i e bypass)) (sym h.0) (whole_exact z bypass w (h.1 ∙ two)))
@@ -215,10 +200,10 @@ module _ {F P H R : Type 0} (c : Contents F P H R) where
     through_exact : (s : Store F P H) → sides_writing s ≡ n → (bypass opens : Bool) → Counts By 0 0 (through c s t i e bypass opens)
     unfolding E.through
     through_exact s same bypass opens =
-        counts_first (λ z was_loose. and_then (write_first c z t (c.bytes i)) (λ y w. through_by c t i e bypass opens was_loose y w.took)) (firm_quiet c s t)
+        counts_first _ (firm_quiet c s t)
         (firm_writes c s t).holds
         (λ z was_loose k.
-        counts_then (λ y w. through_by c t i e bypass opens was_loose y w.took) (first_exact z t (c.bytes i))
+        counts_then _ (first_exact z t (c.bytes i))
         (λ m w y x h.
         rw h.0 (part_exact bypass opens was_loose w y x.took (subst (λ (j : ℕ). FirstBy j w y x.took) (k.is ∙ same) h.1))))
 
@@ -235,7 +220,7 @@ module _ {F P H R : Type 0} (c : Contents F P H R) where
     Ends choice r w z o = ByAnswer (sides_writing s) choice r w o
 
     took_exact : (choice : Choice) → Counts (Ends choice) 0 0 (written c s u first t old e choice)
-    took_exact choice = counts_then (λ z took. Done z (Some took)) (written_by (edited_image e old) choice) (λ r w z took h. counts_done h)
+    took_exact choice = counts_then _ (written_by (edited_image e old) choice) (λ r w z took h. counts_done h)
 
     clean_exact : (choice : Choice) → Counts (Ends choice) 0 0 (clean_again c s t)
     clean_exact choice = counts_if (is_clean c (frame_at s t)) (λ _. counts_ask (λ _. counts_done tt)) (λ _. counts_done tt)

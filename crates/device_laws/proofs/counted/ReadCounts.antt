@@ -16,7 +16,6 @@ use Rattle.device_defs.specs.Image.{
   got,
   Imaged,
   Has,
-  first_faulty_side,
   read_counted,
   ahead,
   loads,
@@ -105,7 +104,7 @@ module _ {F P H R : Type 0} (c : Contents F P H R) where
     second_failed z few r le (Some x) = counts_done (level_failed le (read_again s z true few))
     second_failed z few r le None =
         let y = read_counted z false in
-        counts_first (λ x _. Done x (got B None (Some (first_faulty_side (Some A) B)))) (failed_quiet c y B None) (failed_fewer c y B None).holds
+        counts_first _ (failed_quiet c y B None) (failed_fewer c y B None).holds
         (λ x _ e. counts_done (level_failed le (fewer_then s z x few (none_up z x e))))
 
     after_a : (z : Store F P H) → Fewer s z → (l : Bool) →
@@ -117,14 +116,14 @@ module _ {F P H R : Type 0} (c : Contents F P H R) where
     first_so (Some r) = counts_done level_gave
     first_so None =
         let y = read_counted s false in
-        counts_first (λ z _. read_b c z t (Some A)) (failed_quiet c y A None) (failed_fewer c y A None).holds
+        counts_first _ (failed_quiet c y A None) (failed_fewer c y A None).holds
         (λ z _ e. after_a z (none_up s z e) (level_at z.b t))
 
     only_b : (bytes : Option R) → Counts So 1 0 (second_read c None (read_counted s (is_some bytes)) bytes)
     only_b (Some r) = counts_done level_gave
     only_b None =
         let y = read_counted s false in
-        counts_first (λ z _. Done z (got B None (Some (first_faulty_side None B)))) (failed_quiet c y B None) (failed_fewer c y B None).holds
+        counts_first _ (failed_quiet c y B None) (failed_fewer c y B None).holds
         (λ z _ e. counts_done (level_failed (omega arith) (none_up s z e)))
 
     by_b : (l : Bool) → Counts So 0 0 (if l then read_side c s B t (second_read c None) else Done s (got B None None))
@@ -184,7 +183,7 @@ module _ {F P H R : Type 0} (c : Contents F P H R) where
 
     miss_so : (s : Store F P H) → sides_up s ≤ up → Counts By 0 0 (miss c s u t)
     miss_so s few =
-        counts_then (λ z g. missed c u t z g g.bytes) (level_reads s t)
+        counts_then _ (level_reads s t)
         (λ r w z g x.
         let f = level_fewer s x.so in
         let e = f.1 in

@@ -157,19 +157,18 @@ module _ {F P H R : Type 0} (c : Contents F P H R) where
     recover_so : (s : Store F P H) → sides_writing s ≡ n → sides_up s ≡ up → (t : ℕ) (o : Option F) → Counts Ends 0 0 (recover c s t o)
     recover_so s same few t (Some f) = saved_here s same (omega (arith, few)) t (framed_image c s t (Some f)) (Recovered t) (omega arith, refl)
     recover_so s same few t None =
-        counts_then (λ z g. recovered_bytes c t z g g.bytes) (level_reads c s t)
+        counts_then _ (level_reads c s t)
         (λ r w z g h. recovered_so s same few t (let le = h.most in omega (arith, le, few)) h.so)
 
     -- A copy
 
     copied_so : (t : ℕ) (side : Side) → 1 ≤ up → (s : Store F P H) (ok : Bool) → Counts Ends 1 1 (copied c t side s ok)
     copied_so t side one s true = counts_done (record { most_reads = one; most_writes = one; by_answer = (refl, refl) })
-    copied_so t side one s false =
-        counts_past (λ z _. Done z (Some (Fault side))) (failed_quiet c s side None) (λ z _. counts_done (failed_fits side 1 1 (omega arith) one one))
+    copied_so t side one s false = counts_past _ (failed_quiet c s side None) (λ z _. counts_done (failed_fits side 1 1 (omega arith) one one))
 
     copy_read_so : (t : ℕ) (side : Side) → 1 ≤ up → (s : Store F P H) (bytes : Option R) → Counts Ends 1 0 (copy_read c t side s bytes)
     copy_read_so t side one s None =
-        counts_past (λ z _. Done z (Some (Fault (other side)))) (failed_quiet c s (other side) None)
+        counts_past _ (failed_quiet c s (other side) None)
         (λ z _. counts_done (failed_fits (other side) 1 0 (omega arith) one (omega arith)))
     copy_read_so t side one s (Some r) = counts_write (λ ok. copied_so t side one (write_counted s ok) ok)
 
@@ -228,7 +227,7 @@ module _ {F P H R : Type 0} (c : Contents F P H R) where
 
     granted_so : (s : Store F P H) → sides_up s ≡ up → (t : ℕ) (given : Bool) → Counts Ends 0 0 (staging_granted c s t given)
     granted_so s few t true =
-        counts_then (λ z g. staged_bytes c t z g g.bytes) (level_reads c s t)
+        counts_then _ (level_reads c s t)
         (λ r w z g h. staged_so s t (let le = h.most in omega (arith, le, few)) h.so)
     granted_so s few t false = counts_done (skipped t)
 

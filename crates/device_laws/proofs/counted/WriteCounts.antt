@@ -48,7 +48,6 @@ use Rattle.device_defs.specs.Writing.{
   write_side,
   write_counted,
   alone_b,
-  unwritten,
   failed_a,
   first_a,
   taken_a,
@@ -138,13 +137,11 @@ module _ {F P H R : Type 0} (c : Contents F P H R) where
     -- the last side is tried, behind a failed call or alone
     late_so : (ok : Bool) (z : Store F P H) → Counts So 0 2 (alone_b c t (Some A) A z ok)
     late_so true z = counts_done (wrote_late (omega arith))
-    late_so false z =
-        counts_past (λ y _. Done (unwritten c y t) (wrote Unwritten (Some A))) (failed_quiet c z B (Some t)) (λ y _. counts_done (wrote_lost (omega arith)))
+    late_so false z = counts_past _ (failed_quiet c z B (Some t)) (λ y _. counts_done (wrote_lost (omega arith)))
 
     alone_so : (ok : Bool) (z : Store F P H) → Counts So 0 1 (alone_b c t None B z ok)
     alone_so true z = counts_done wrote_whole
-    alone_so false z =
-        counts_past (λ y _. Done (unwritten c y t) (wrote Unwritten (Some B))) (failed_quiet c z B (Some t)) (λ y _. counts_done (wrote_lost (omega arith)))
+    alone_so false z = counts_past _ (failed_quiet c z B (Some t)) (λ y _. counts_done (wrote_lost (omega arith)))
 
     failed_so : (b : Bool) (z : Store F P H) → Counts So 0 1 (failed_a c t r b z)
     failed_so true z = counts_write (λ ok. late_so ok (write_counted z ok))
@@ -159,7 +156,7 @@ module _ {F P H R : Type 0} (c : Contents F P H R) where
     first_so up true = taken_so up (takes_b s) refl
     first_so up false =
         let y = write_counted s false in
-        counts_past (λ z _. failed_a c t r (takes_b y) z) (failed_quiet c y A (Some t)) (λ z _. failed_so (takes_b y) z)
+        counts_past _ (failed_quiet c y A (Some t)) (λ z _. failed_so (takes_b y) z)
 
     by_sides : (a b : Bool) → s.a.up ≡ a → takes_b s ≡ b → Counts So 0 0
         (if a then write_side c s A t r (first_a c t r)
@@ -230,10 +227,10 @@ module _ {F P H R : Type 0} (c : Contents F P H R) where
 
     saving_so : (s : Store F P H) → sides_writing s ≡ n → (fault : Option Side) → Counts (Ends fault) 0 0 (saving c s t i d fault)
     saving_so s same fault =
-        counts_first (λ z was_loose. and_then (write_first c z t (c.bytes i)) (λ y w. saved_by c t i d fault was_loose w.fault y w.took)) (firm_quiet s t)
+        counts_first _ (firm_quiet s t)
         (firm_writes s t).holds
         (λ z was_loose e.
-        counts_then (λ y w. saved_by c t i d fault was_loose w.fault y w.took) (first_writes z t (c.bytes i))
+        counts_then _ (first_writes z t (c.bytes i))
         (λ m w y x h. part_so fault was_loose z (e.is ∙ same) (let le = h.most in let k = e.is in omega (arith, le, k, same)) h.so))
 
     pub saved_counts : (s : Store F P H) → sides_writing s ≡ n → (fault : Option Side) →
@@ -304,7 +301,7 @@ module _ {F P H R : Type 0} (c : Contents F P H R) where
 
     once_so : (s : Store F P H) (bypass : Bool) → 2 ≤ up → Counts Up 0 1 (at_once c s t i e bypass)
     once_so s bypass two =
-        counts_then (λ z _. if has_level z t then whole c z t i e bypass else Done (settled c z t) Unwritten) (second_so s (c.bytes i))
+        counts_then _ (second_so s (c.bytes i))
         (λ m w z _ h.
         let le = h.writes in
         counts_if (has_level z t)
@@ -316,8 +313,7 @@ module _ {F P H R : Type 0} (c : Contents F P H R) where
     by_part bypass opens was_loose s same {z = z} le wrote_whole = whole_so z bypass 1 le
     by_part bypass opens was_loose s same {z = z} le (wrote_opened two) =
         counts_if opens
-        (λ _. counts_past (λ y _. Done y Opened)
-        (opened_quiet z t i (OfCommand bypass e) was_loose) (λ y _. counts_done (record { reads = refl; writes = le })))
+        (λ _. counts_past _ (opened_quiet z t i (OfCommand bypass e) was_loose) (λ y _. counts_done (record { reads = refl; writes = le })))
         (λ _. once_so z bypass (omega (arith, two, same)))
     by_part bypass opens was_loose s same le (wrote_none none) = counts_done (record { reads = refl; writes = le })
     by_part bypass opens was_loose s same {w = w} {z = z} le (wrote_late one) = whole_so z bypass w le
@@ -326,10 +322,10 @@ module _ {F P H R : Type 0} (c : Contents F P H R) where
     through_up : (s : Store F P H) → sides_up s ≡ up → (bypass opens : Bool) → Counts Up 0 0 (through c s t i e bypass opens)
     unfolding E.through
     through_up s same bypass opens =
-        counts_first (λ z was_loose. and_then (write_first c z t (c.bytes i)) (λ y w. through_by c t i e bypass opens was_loose y w.took)) (firm_quiet s t)
+        counts_first _ (firm_quiet s t)
         (firm_writes s t).holds
         (λ z was_loose k.
-        counts_then (λ y w. through_by c t i e bypass opens was_loose y w.took) (first_writes z t (c.bytes i))
+        counts_then _ (first_writes z t (c.bytes i))
         (λ m w y x h.
         let le = h.most in
         let most = writing_up z in
@@ -349,8 +345,7 @@ module _ {F P H R : Type 0} (c : Contents F P H R) where
     In up r w z x = Written up r w
 
     took_so : (up : ℕ) (s : Store F P H) → sides_up s ≡ up → (choice : Choice) → Counts (In up) 0 0 (written c s u first t old e choice)
-    took_so up s same choice =
-        counts_then (λ z took. Done z (Some took)) (written_by up t (edited_image e old) e u first s same choice) (λ r w z x h. counts_done h)
+    took_so up s same choice = counts_then _ (written_by up t (edited_image e old) e u first s same choice) (λ r w z x h. counts_done h)
 
     clean_so : (up : ℕ) (s : Store F P H) → Counts (In up) 0 0 (clean_again c s t)
     clean_so up s =
@@ -372,7 +367,7 @@ module _ {F P H R : Type 0} (c : Contents F P H R) where
     pub write_writes : (s : Store F P H) → Counts (In (sides_up s)) 0 0 (write c s u first t old e)
     unfolding E.write
     write_writes s = counts_try (λ ok. counts_if ok
-        (λ _. counts_then (write_chosen c u first t old e) (choice_so s u t)
+        (λ _. counts_then _ (choice_so s u t)
         (λ r w z choice h.
         rw h.reads (rw h.writes (rw h.same (given_so s choice)))))
         (λ _. counts_done (record { reads = refl; writes = omega arith })))
