@@ -76,6 +76,15 @@ unaltered s h t sizes = record { sizes = sizes; base = refl; elsewhere = λ q ne
 pub altered_twice : {s z y : DeviceStore} {h k n : Held} {t : ℕ} {x u : TrackContents} → Altered s h z k t x → Altered z k y n t u → Altered s h y n t u
 altered_twice f g = record { sizes = g.sizes; base = g.base ∙ f.base; elsewhere = λ q ne. g.elsewhere q ne ∙ f.elsewhere q ne; here = g.here }
 
+pub altered_then : {s z y : DeviceStore} {h k n : Held} {t : ℕ} {x : TrackContents} (f : TrackContents → TrackContents) → Altered s h z k t x →
+    Altered z k y n t (f (contents_at z k t)) → Altered s h y n t (f x)
+altered_then f e g = record {
+  sizes = g.sizes;
+  base = g.base ∙ e.base;
+  elsewhere = λ q ne. g.elsewhere q ne ∙ e.elsewhere q ne;
+  here = g.here ∙ ap f e.here;
+}
+
 module _ (s : DeviceStore) (h : Held) (t : ℕ) (lt : t < tracks_of s) (sizes : HasSizes s) where
   pub altered_frame : (f : Option Frame) → Altered s h (with_frame s t f) h t (record (contents_at s h t) { frame = f })
   unfolding T.contents_at base_of
@@ -244,11 +253,11 @@ by_track s h z k t x kept e same =
 
 -- Ground
 
-loose_is : (s : DeviceStore) (h : Held) (q : ℕ) → is_loose s q ≡ (contents_at s h q).loose
+pub loose_is : (s : DeviceStore) (h : Held) (q : ℕ) → is_loose s q ≡ (contents_at s h q).loose
 unfolding T.contents_at
 loose_is s h q = refl
 
-patch_is : (s : DeviceStore) (h : Held) (q : ℕ) → patch_at s q ≡ (contents_at s h q).patch
+pub patch_is : (s : DeviceStore) (h : Held) (q : ℕ) → patch_at s q ≡ (contents_at s h q).patch
 unfolding T.contents_at
 patch_is s h q = refl
 

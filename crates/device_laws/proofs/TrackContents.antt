@@ -95,13 +95,13 @@ IsRight g t half x plain firm = By x.lost (Unit {0}) (HeldBy g t x plain firm ha
 
 -- By cases
 
-lost_case : (X Y : Type 0) (b c : Bool) → (b ≡ true → c ≡ true) → (X → Y) → By b (Unit {0}) (X) → By c (Unit {0}) (Y)
+pub lost_case : (X Y : Type 0) (b c : Bool) → (b ≡ true → c ≡ true) → (X → Y) → By b (Unit {0}) (X) → By c (Unit {0}) (Y)
 lost_case X Y true true e k r = tt
 lost_case X Y true false e k r = absurd (let n = e refl in cc)
 lost_case X Y false true e k r = tt
 lost_case X Y false false e k r = k r
 
-own_case : (X Y V W : Type 0) (b : Bool) → (X → Y) → (V → W) → By b (X) (V) → By b (Y) (W)
+pub own_case : (X Y V W : Type 0) (b : Bool) → (X → Y) → (V → W) → By b (X) (V) → By b (Y) (W)
 own_case X Y V W true f g r = f r
 own_case X Y V W false f g r = g r
 

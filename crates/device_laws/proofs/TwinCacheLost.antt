@@ -66,7 +66,6 @@ use Rattle.device_laws.proofs.ContentChanges as C
 use Rattle.device_laws.proofs.ContentChanges.{
   base_of,
   Altered,
-  altered_twice,
   unaltered,
   altered_frame,
   altered_owed,
@@ -76,6 +75,7 @@ use Rattle.device_laws.proofs.ContentChanges.{
   RightOff,
   RightBut,
   similar_right,
+  altered_then,
 }
 use Rattle.device_laws.proofs.TrackContents as T
 use Rattle.device_laws.proofs.TrackContents.{
@@ -86,14 +86,12 @@ use Rattle.device_laws.proofs.TrackContents.{
   Writes,
   HeldBy,
   IsRight,
-  right_by,
-  right_lost,
   right_fewer,
-  held_of,
   keeps_other,
   other_keeps,
   writes_own,
   own_writes,
+  lost_case,
 }
 use Rattle.device_laws.proofs.TrackMarks.{device_is_faithful}
 use Rattle.device_laws.proofs.TwinAsks.{InOrder}
@@ -139,11 +137,8 @@ bare_held g t (Some w) x plain firm same k = by_own (w.track == t) refl
 
 bare_right : (g : Geometry) (t : ℕ) (half : Option (HalfWrite Image)) (x : TrackContents) (plain firm : Image) → (half_is half t ≡ true → firm ≡ plain) →
     IsRight g t half x plain firm → IsRight g t half (bare x) firm firm
-bare_right g t half x plain firm same r = by_lost x.lost refl
-  where
-    by_lost : (l : Bool) → x.lost ≡ l → IsRight g t half (bare x) firm firm
-    by_lost true e = right_lost g t half (bare x) firm firm e
-    by_lost false e = right_by g t half (bare x) firm firm (bare_held g t half x plain firm same (held_of g t half x plain firm e r))
+bare_right g t half x plain firm same r =
+    lost_case (HeldBy g t x plain firm half) (HeldBy g t (bare x) firm firm half) x.lost x.lost (λ e. e) (bare_held g t half x plain firm same) r
 
 -- Its frame is given up
 
@@ -158,12 +153,7 @@ module _ (s : DeviceStore) (h : Held) (t : ℕ) (lt : t < tracks_of s) (sizes : 
       let g = altered_frame s h t lt sizes None in
       let y = with_frame s t None in
       let k = altered_owed y h t lt g.sizes (record (owed_at y t) { dropped = true }) in
-      altered_twice g (record {
-        sizes = k.sizes;
-        base = k.base;
-        elsewhere = k.elsewhere;
-        here = k.here ∙ ap (λ (c : TrackContents). record c { freed = (owed_at s t).freed; debt = (owed_at s t).firm }) g.here;
-      })
+      altered_then (λ (c : TrackContents). record c { freed = (owed_at s t).freed; debt = (owed_at s t).firm }) g k
 
   pub bared : Altered s h (without_frame s t) h t (bare (contents_at s h t))
   bared = bared_by (frame_at s t) refl

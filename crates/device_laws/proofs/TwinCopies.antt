@@ -21,7 +21,7 @@ use Rattle.device_defs.specs.Writing.{write_counted}
 use Rattle.device_laws.specs.Agrees.{Held, image_in}
 use Rattle.device_laws.specs.Twin.{Twins}
 use Rattle.device_laws.proofs.Bools.{neither, or_left, or_right}
-use Rattle.device_laws.proofs.ContentChanges.{Altered, altered_twice, altered_on_a, altered_on_b, altered_stale_a, altered_stale_b}
+use Rattle.device_laws.proofs.ContentChanges.{Altered, altered_on_a, altered_on_b, altered_stale_a, altered_stale_b, altered_then}
 use Rattle.device_laws.proofs.TrackContents as T
 use Rattle.device_laws.proofs.TrackContents.{TrackContents, contents_at, Keeps, not_both}
 use Rattle.device_laws.proofs.TrackImage.{level_bytes_keeps_good}
@@ -128,12 +128,7 @@ module _ (u : List Track) (y : DeviceStore) (t : ℕ) where
         let z = with_stale s A t false in
         let c = record x { on_a = r; a = s.a.up && not false } in
         sided z n c
-        (altered_twice e (record {
-          sizes = f.sizes;
-          base = f.base;
-          elsewhere = f.elsewhere;
-          here = f.here ∙ ap (λ (d : TrackContents). record d { a = s.a.up && not false }) e.here;
-        })) refl refl refl refl refl
+        (altered_then (λ (d : TrackContents). record d { a = s.a.up && not false }) e f) refl refl refl refl refl
         (record {
           frame = kept.frame;
           a = λ l. ap (λ (d : List ℕ). patched_by x.patch (image_read s.geometry t d)) (sym bytes_b)
@@ -159,12 +154,7 @@ module _ (u : List Track) (y : DeviceStore) (t : ℕ) where
         let z = with_stale s B t false in
         let c = record x { on_b = r; b = s.b.up && not false } in
         sided z n c
-        (altered_twice e (record {
-          sizes = f.sizes;
-          base = f.base;
-          elsewhere = f.elsewhere;
-          here = f.here ∙ ap (λ (d : TrackContents). record d { b = s.b.up && not false }) e.here;
-        })) refl refl refl refl refl
+        (altered_then (λ (d : TrackContents). record d { b = s.b.up && not false }) e f) refl refl refl refl refl
         (record {
           frame = kept.frame;
           a = kept.a;

@@ -31,12 +31,12 @@ use Rattle.device_laws.proofs.TrackContents.{
   HeldBy,
   IsRight,
   right_by,
-  right_lost,
   held_of,
   keeps_other,
   other_keeps,
   writes_own,
   own_writes,
+  lost_case,
 }
 use Rattle.device_laws.proofs.TwinAsks.{InOrder}
 use Rattle.device_laws.proofs.TwinDone.{put_right}
@@ -52,17 +52,10 @@ some_is p q e = cc
 -- a track that the half write isn't of
 other_right : (g : Geometry) (q : ℕ) (half : Option (HalfWrite Image)) (hw : HalfWrite Image) (origin : Origin) (x : TrackContents) (plain firm : Image) →
     half ≡ Some hw → (hw.track == q) ≡ false → IsRight g q half x plain firm → IsRight g q (Some (record hw { origin = origin })) x plain firm
-other_right g q half hw origin x plain firm is off r = by_lost x.lost refl
-  where
-    cut : HalfWrite Image
-    cut = record hw { origin = origin }
-
-    by_lost : (l : Bool) → x.lost ≡ l → IsRight g q (Some (record hw { origin = origin })) x plain firm
-    by_lost true e = right_lost g q (Some (record hw { origin = origin })) x plain firm e
-    by_lost false e =
-        right_by g q (Some (record hw { origin = origin })) x plain firm
-        (other_keeps g q (record hw { origin = origin }) x plain firm off
-        (keeps_other g q hw x plain firm off (subst (λ (o : Option (HalfWrite Image)). HeldBy g q x plain firm o) is (held_of g q half x plain firm e r))))
+other_right g q half hw origin x plain firm is off r =
+    lost_case (HeldBy g q x plain firm half) (HeldBy g q x plain firm (Some (record hw { origin = origin }))) x.lost x.lost (λ e. e)
+    (λ k. other_keeps g q (record hw { origin = origin }) x plain firm off
+    (keeps_other g q hw x plain firm off (subst (λ (o : Option (HalfWrite Image)). HeldBy g q x plain firm o) is k))) r
 
 same_place : (t : ℕ) → (t == t) ≡ true
 same_place t = grind arith

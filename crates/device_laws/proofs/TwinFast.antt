@@ -34,7 +34,6 @@ use Rattle.device_laws.proofs.ContentChanges as C
 use Rattle.device_laws.proofs.ContentChanges.{
   base_of,
   Altered,
-  altered_twice,
   altered_frame,
   altered_patch,
   altered_loose,
@@ -49,6 +48,7 @@ use Rattle.device_laws.proofs.ContentChanges.{
   shut,
   opens_write,
   beside_right,
+  altered_then,
 }
 use Rattle.device_laws.proofs.PlainVolumes.{put_here, put_elsewhere, put_volume}
 use Rattle.device_laws.proofs.TrackContents as T
@@ -151,12 +151,7 @@ module _ (v w : List Track) (s : DeviceStore) (h : Held) (t : ℕ) (e : Edit) (l
     both_altered =
         let f = altered_frame s h t lt o.sure.ground.sizes (Some new) in
         let g = altered_patch (with_frame s t (Some new)) h t lt f.sizes patch in
-        altered_twice f (record {
-          sizes = g.sizes;
-          base = g.base;
-          elsewhere = g.elsewhere;
-          here = g.here ∙ ap (λ (c : TrackContents). record c { patch = patch }) f.here;
-        })
+        altered_then (λ (c : TrackContents). record c { patch = patch }) f g
 
     patch_is : x.patch ≡ patch_at s t
     unfolding T.contents_at

@@ -24,7 +24,6 @@ use Rattle.device_laws.proofs.ContentChanges.{
   Base,
   base_of,
   Altered,
-  altered_twice,
   altered_stale_a,
   altered_stale_b,
   same_tracks,
@@ -32,22 +31,11 @@ use Rattle.device_laws.proofs.ContentChanges.{
   sits_still,
   RightBut,
   right_altered,
+  altered_then,
 }
 use Rattle.device_laws.proofs.Sweeps.{is_alone}
 use Rattle.device_laws.proofs.TrackContents as T
-use Rattle.device_laws.proofs.TrackContents.{
-  TrackContents,
-  contents_at,
-  Writes,
-  IsRight,
-  right_by,
-  right_lost,
-  right_bare,
-  none_of,
-  held_of,
-  writes_own,
-  own_writes,
-}
+use Rattle.device_laws.proofs.TrackContents.{TrackContents, contents_at, Writes, IsRight, right_bare, none_of, writes_own, own_writes, lost_case, HeldBy}
 use Rattle.device_laws.proofs.TwinAsks.{InOrder, Ordered, beside_order}
 use Rattle.device_laws.proofs.TwinChanges.{has_patch_twin, half_twin, without_patch_twin}
 use Rattle.device_laws.proofs.TwinFailed.{told_twin, side_pair, settles_on, down_tracks}
@@ -69,14 +57,9 @@ own_writes_still x plain w k = record {
 right_own : (g : Geometry) (t : ℕ) (half : Option (HalfWrite Image)) (x : TrackContents) (plain firm : Image) → half_is half t ≡ true →
     IsRight g t half x plain firm → IsRight g t half (unpatched x) plain firm
 right_own g t None x plain firm own r = absurd (cc)
-right_own g t (Some w) x plain firm own r = by_lost x.lost refl
-  where
-    by_lost : (l : Bool) → x.lost ≡ l → IsRight g t (Some w) (unpatched x) plain firm
-    by_lost true e = right_lost g t (Some w) (unpatched x) plain firm e
-    by_lost false e =
-        right_by g t (Some w) (unpatched x) plain firm
-        (own_writes g t w (unpatched x) plain firm own
-        (own_writes_still x plain w (writes_own g t w x plain firm own (held_of g t (Some w) x plain firm e r))))
+right_own g t (Some w) x plain firm own r =
+    lost_case (HeldBy g t x plain firm (Some w)) (HeldBy g t (unpatched x) plain firm (Some w)) x.lost x.lost (λ e. e)
+    (λ k. own_writes g t w (unpatched x) plain firm own (own_writes_still x plain w (writes_own g t w x plain firm own k))) r
 
 -- A track is stale on every side
 
@@ -110,12 +93,7 @@ stale_now y h t true lt sizes alone =
       on = (y.a.up && not true, y.b.up && not true);
       no_a = and_not_true y.a.up;
       no_b = and_not_true y.b.up;
-      altered = altered_twice f (record {
-        sizes = g.sizes;
-        base = g.base;
-        elsewhere = g.elsewhere;
-        here = g.here ∙ ap (λ (c : TrackContents). record c { b = y.b.up && not true }) f.here;
-      });
+      altered = altered_then (λ (c : TrackContents). record c { b = y.b.up && not true }) f g;
     }
 stale_now y h t false lt sizes alone =
     let f = altered_stale_a y h t lt sizes true in
@@ -178,12 +156,7 @@ module _ (h : Held) (u : List Track) (s : DeviceStore) (alone : s.paired ≡ fal
         let y = without_patch contents z n in
         let g = stale_now y h n y.paired (let same = same_tracks z h y h f.base in omega arith) f.sizes (single y (f.base ∙ x.base)) in
         let d = record (unpatched c) { a = g.on.0; b = g.on.1 } in
-        let e : Altered z h (stale_everywhere y n) h n d = altered_twice f (record {
-          sizes = g.altered.sizes;
-          base = g.altered.base;
-          elsewhere = g.altered.elsewhere;
-          here = g.altered.here ∙ ap (λ (i : TrackContents). record i { a = g.on.0; b = g.on.1 }) f.here;
-        }) in
+        let e : Altered z h (stale_everywhere y n) h n d = altered_then (λ (i : TrackContents). record i { a = g.on.0; b = g.on.1 }) f g.altered in
         settles_of (stale_everywhere y n) d e refl refl refl refl refl refl
         (right_bare z.geometry n z.half c d (image_in z v n) (image_in z w n) (image_in z w n)
         (record { lost = λ l. l; frame = λ i k. k; a = g.no_a; b = g.no_b }) (inl refl) (x.but.right n lt (λ e. absurd (cc))))

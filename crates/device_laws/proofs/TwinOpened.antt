@@ -27,7 +27,6 @@ use Rattle.device_laws.proofs.ContentChanges as C
 use Rattle.device_laws.proofs.ContentChanges.{
   base_of,
   Altered,
-  altered_twice,
   altered_loose,
   altered_stale_a,
   altered_stale_b,
@@ -43,6 +42,7 @@ use Rattle.device_laws.proofs.ContentChanges.{
   shut,
   opens_write,
   similar_right,
+  altered_then,
 }
 use Rattle.device_laws.proofs.PlainVolumes.{put_here, put_elsewhere, put_volume}
 use Rattle.device_laws.proofs.Sweeps.{is_alone}
@@ -54,12 +54,13 @@ use Rattle.device_laws.proofs.TrackContents.{
   FrameOf,
   Keeps,
   IsRight,
-  held_of,
   right_by,
   own_writes,
   other_keeps,
   not_both,
   patch_of,
+  lost_case,
+  HeldBy,
 }
 use Rattle.device_laws.proofs.TrackMarks as M
 use Rattle.device_laws.proofs.TrackMarks.{marks, is_good, track_at}
@@ -153,12 +154,7 @@ module _ (v w : List Track) (s : DeviceStore) (h : Held) (t : ℕ) (lt : t < tra
   off_a =
       let f = firm_altered in
       let g = altered_stale_a (hardened s t) h t lt f.sizes true in
-      altered_twice f (record {
-        sizes = g.sizes;
-        base = g.base;
-        elsewhere = g.elsewhere;
-        here = g.here ∙ ap (λ (c : TrackContents). record c { a = s.a.up && not true }) f.here;
-      })
+      altered_then (λ (c : TrackContents). record c { a = s.a.up && not true }) f g
 
   firms : (z : DeviceStore) (c : TrackContents) → Altered s h z h t c → c.frame ≡ x.frame → c.patch ≡ x.patch → c.freed ≡ x.freed → c.debt ≡ x.debt →
       c.loose ≡ false →
@@ -213,12 +209,7 @@ module _ (v w : List Track) (s : DeviceStore) (h : Held) (t : ℕ) (lt : t < tra
       let g = altered_stale_b y h t lt f.sizes true in
       let z = with_stale y B t true in
       let c = record x { loose = false; a = s.a.up && not true; b = s.b.up && not true } in
-      let e : Altered s h z h t c = altered_twice f (record {
-        sizes = g.sizes;
-        base = g.base;
-        elsewhere = g.elsewhere;
-        here = g.here ∙ ap (λ (d : TrackContents). record d { b = s.b.up && not true }) f.here;
-      }) in
+      let e : Altered s h z h t c = altered_then (λ (d : TrackContents). record d { b = s.b.up && not true }) f g in
       record {
         plain = v;
         firm = firm_now;
@@ -321,20 +312,20 @@ module _ (t : ℕ) (v w : List Track) (i : Image) (origin : Origin) where
           patch = patch_of origin (contents_at z k t).patch (image_in z v t) o.patch;
           suits = o.suits;
         }))))
-        (λ p ne le. rw (same_contents z k p) (some_lost p (o.but.right p le (λ e. ne (sym (some_is t p e)))) ne (contents_at z k p).lost refl)) q lt;
+        (λ p ne le. rw (same_contents z k p) (some_lost p (o.but.right p le (λ e. ne (sym (some_is t p e)))) ne)) q lt;
   }
     where
       open_now : HalfWrite Image
       open_now = record { track = t; origin = origin; image = i }
 
-      some_lost : (q : ℕ) → IsRight z.geometry q z.half (contents_at z k q) (image_in z v q) (image_in z w q) → q ≢ t → (l : Bool) →
-          (contents_at z k q).lost ≡ l → IsRight z.geometry q (Some open_now) (contents_at z k q) (image_in z v q) (image_in z w q)
-      some_lost q r off true e = T.right_lost z.geometry q (Some open_now) (contents_at z k q) (image_in z v q) (image_in z w q) e
-      some_lost q r off false e =
-          right_by z.geometry q (Some open_now) (contents_at z k q) (image_in z v q) (image_in z w q)
-          (other_keeps z.geometry q open_now (contents_at z k q) (image_in z v q) (image_in z w q) (other_half q off)
-          (held_of z.geometry q None (contents_at z k q) (image_in z v q) (image_in z w q) e
-          (subst (λ (n : Option (HalfWrite Image)). IsRight z.geometry q n (contents_at z k q) (image_in z v q) (image_in z w q)) o.none r)))
+      some_lost : (q : ℕ) → IsRight z.geometry q z.half (contents_at z k q) (image_in z v q) (image_in z w q) → q ≢ t →
+          IsRight z.geometry q (Some open_now) (contents_at z k q) (image_in z v q) (image_in z w q)
+      some_lost q r off =
+          lost_case (HeldBy z.geometry q (contents_at z k q) (image_in z v q) (image_in z w q) z.half)
+          (HeldBy z.geometry q (contents_at z k q) (image_in z v q) (image_in z w q) (Some open_now)) (contents_at z k q).lost (contents_at z k q).lost
+          (λ e. e)
+          (λ h. other_keeps z.geometry q open_now (contents_at z k q) (image_in z v q) (image_in z w q) (other_half q off)
+          (subst (λ (n : Option (HalfWrite Image)). HeldBy z.geometry q (contents_at z k q) (image_in z v q) (image_in z w q) n) o.none h)) r
 
   told_half : (z : DeviceStore) (k : Held) → AllTold z k → AllTold (half_opened contents z t i origin) k
   unfolding T.contents_at

@@ -39,6 +39,7 @@ use Rattle.device_laws.proofs.TwinWalks.{twin_done, twin_then, twin_always, twin
 use Rattle.device_laws.proofs.TwinWrites.{Written, First, first_twin}
 use Rattle.device_laws.proofs.WholeImage.{unframed_is_firm}
 use Rattle.device_laws.proofs.Writes.{is_taken, firm_first_keeps_good}
+use Rattle.device_laws.proofs.ContentChanges.{loose_is}
 
 -- the plain volume stays
 pub record Works {A : Type 0} (u : List Track) (s : DeviceStore) (v w : List Track) (z : DeviceStore) (a b : A) (k : Held) : Type 0 where
@@ -60,16 +61,12 @@ module _ (u : List Track) (y : DeviceStore) (j : Held) (t : ℕ) (lt : t < track
   abbrev Ends : List Track → List Track → DeviceStore → Did → Did → Held → Type 0
   Ends v w z a b k = Works u y v w z a b k
 
-  loose_is : (z : DeviceStore) (k : Held) → is_loose z t ≡ (contents_at z k t).loose
-  unfolding T.contents_at
-  loose_is z k = refl
-
   module _ (v w : List Track) (z : DeviceStore) (k : Held) (x : Written u y j t r v w z k) where
     below : t < tracks_of z
     below = let same = x.mid.stays.cylinders in omega arith
 
     firm_now : is_loose z t ≡ false
-    firm_now = loose_is z k ∙ x.mid.sided.loose ∙ sym (loose_is y j) ∙ firm
+    firm_now = loose_is z k t ∙ x.mid.sided.loose ∙ sym (loose_is y j t) ∙ firm
 
     image_is : image_in z v t ≡ image_in y u t
     image_is = stays_image y z v t x.mid.stays ∙ ap (λ (l : List Track). image_in y l t) x.mid.plain

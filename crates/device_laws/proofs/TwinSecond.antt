@@ -45,7 +45,6 @@ use Rattle.device_laws.specs.Twin.{Twins}
 use Rattle.device_laws.proofs.Bools.{neither}
 use Rattle.device_laws.proofs.ContentChanges.{
   Altered,
-  altered_twice,
   altered_frame,
   altered_lost,
   same_slots,
@@ -55,6 +54,8 @@ use Rattle.device_laws.proofs.ContentChanges.{
   right_altered,
   shut,
   opens_write,
+  altered_then,
+  loose_is,
 }
 use Rattle.device_laws.proofs.PlainVolumes.{put_here}
 use Rattle.device_laws.proofs.Sweeps.{is_free, is_alone}
@@ -69,11 +70,13 @@ use Rattle.device_laws.proofs.TrackContents.{
   Writes,
   IsRight,
   held_of,
-  right_by,
   right_lost,
   keeps_other,
   writes_own,
   not_both,
+  lost_case,
+  HeldBy,
+  Keeps,
 }
 use Rattle.device_laws.proofs.TwinAsks.{Stays, stays_same, stays_by, stays_image, InOrder, Ordered, right_keeps}
 use Rattle.device_laws.proofs.TwinChanges.{frame_twin, with_frame_twin, without_patch_twin}
@@ -130,17 +133,17 @@ closed_right hw v w z k is b = record {
     slots = same_slots z (half_closed z) k.slots (closed_slots z) b.ground.slots;
   };
   right = λ q lt ne.
-      rw (closed_contents z k q) (right_at q (λ e. ne (ap Some (sym e))) (b.right q lt ne) (contents_at z k q).lost refl);
+      rw (closed_contents z k q) (right_at q (λ e. ne (ap Some (sym e))) (b.right q lt ne));
 }
   where
-    right_at : (q : ℕ) → q ≢ hw.track → IsRight z.geometry q z.half (contents_at z k q) (image_in z v q) (image_in z w q) → (l : Bool) →
-        (contents_at z k q).lost ≡ l → IsRight z.geometry q None (contents_at z k q) (image_in z v q) (image_in z w q)
-    right_at q off r true e = right_lost z.geometry q None (contents_at z k q) (image_in z v q) (image_in z w q) e
-    right_at q off r false e =
-        right_by z.geometry q None (contents_at z k q) (image_in z v q) (image_in z w q)
-        (keeps_other z.geometry q hw (contents_at z k q) (image_in z v q) (image_in z w q) (let other : (hw.track == q) ≡ false = grind arith in other)
-        (held_of z.geometry q (Some hw) (contents_at z k q) (image_in z v q) (image_in z w q) e
-        (subst (λ (n : Option (HalfWrite Image)). IsRight z.geometry q n (contents_at z k q) (image_in z v q) (image_in z w q)) is r)))
+    right_at : (q : ℕ) → q ≢ hw.track → IsRight z.geometry q z.half (contents_at z k q) (image_in z v q) (image_in z w q) →
+        IsRight z.geometry q None (contents_at z k q) (image_in z v q) (image_in z w q)
+    right_at q off =
+        lost_case (HeldBy z.geometry q (contents_at z k q) (image_in z v q) (image_in z w q) z.half)
+        (Keeps z.geometry q (contents_at z k q) (image_in z v q) (image_in z w q)) (contents_at z k q).lost (contents_at z k q).lost (λ e. e)
+        (λ r. keeps_other z.geometry q hw (contents_at z k q) (image_in z v q) (image_in z w q)
+        (let other : (hw.track == q) ≡ false = grind arith in other)
+        (subst (λ (n : Option (HalfWrite Image)). HeldBy z.geometry q (contents_at z k q) (image_in z v q) (image_in z w q) n) is r))
 
 closed_told : (z : DeviceStore) (k : Held) → AllTold z k → AllTold (half_closed z) k
 unfolding T.contents_at
@@ -211,17 +214,13 @@ module _ (u w0 : List Track) (s : DeviceStore) (h : Held) (hw : HalfWrite Image)
   abbrev Ends : List Track → List Track → DeviceStore → Bool → Bool → Held → Type 0
   Ends v w z a b k = Seconds u s hw.origin t v w z a b k
 
-  loose_is : (z : DeviceStore) (k : Held) → is_loose z t ≡ (contents_at z k t).loose
-  unfolding T.contents_at
-  loose_is z k = refl
-
   -- behind the write of side B
   module _ (v w : List Track) (z : DeviceStore) (k : Held) (d : Written u s h t r v w z k) where
     below : t < tracks_of z
     below = let same = d.mid.stays.cylinders in omega arith
 
     firm_now : is_loose z t ≡ false
-    firm_now = loose_is z k ∙ d.mid.sided.loose ∙ sym (loose_is s h) ∙ firm
+    firm_now = loose_is z k t ∙ d.mid.sided.loose ∙ sym (loose_is s h t) ∙ firm
 
     but : RightBut (Some t) v w (half_closed z) k
     but = closed_right hw v w z k (d.mid.stays.half ∙ is_half) d.mid.but
@@ -382,7 +381,7 @@ module _ (u w0 : List Track) (s : DeviceStore) (h : Held) (hw : HalfWrite Image)
       cut_altered =
           let g = altered_frame (half_closed z) k t below but.ground.sizes (Some fresh) in
           let e = altered_unpatched framed k t below g.sizes in
-          altered_twice g (record { sizes = e.sizes; base = e.base; elsewhere = e.elsewhere; here = e.here ∙ ap unpatched g.here })
+          altered_then unpatched g e
 
       cut_right : RightBut (Some t) v w (without_patch contents framed t) k
       cut_right =
@@ -397,8 +396,8 @@ module _ (u w0 : List Track) (s : DeviceStore) (h : Held) (hw : HalfWrite Image)
 
       loose_cut : is_loose (without_patch contents framed t) t ≡ false
       loose_cut =
-          loose_is (without_patch contents framed t) k ∙ ap (λ (c : TrackContents). c.loose) cut_altered.here
-          ∙ ap (λ (c : TrackContents). c.loose) (closed_contents z k t) ∙ sym (loose_is z k) ∙ firm_now
+          loose_is (without_patch contents framed t) k t ∙ ap (λ (c : TrackContents). c.loose) cut_altered.here
+          ∙ ap (λ (c : TrackContents). c.loose) (closed_contents z k t) ∙ sym (loose_is z k t) ∙ firm_now
 
       cut_ends : plain_second hw.origin false u t ≡ u →
           Twins Ends (Done (settled contents (without_patch contents framed t) t) false)
@@ -419,7 +418,7 @@ module _ (u w0 : List Track) (s : DeviceStore) (h : Held) (hw : HalfWrite Image)
     gone_altered =
         let g = altered_lost (half_closed z) k t below but.ground.sizes in
         let e = altered_unpatched (with_lost (half_closed z) t) k t below g.sizes in
-        altered_twice g (record { sizes = e.sizes; base = e.base; elsewhere = e.elsewhere; here = e.here ∙ ap unpatched g.here })
+        altered_then unpatched g e
 
     gone_order : Ordered v w (lost_now contents (half_closed z) t) k
     gone_order =

@@ -62,7 +62,6 @@ use Rattle.device_laws.proofs.ContentChanges as C
 use Rattle.device_laws.proofs.ContentChanges.{
   base_of,
   Altered,
-  altered_twice,
   unaltered,
   altered_frame,
   altered_patch,
@@ -81,6 +80,7 @@ use Rattle.device_laws.proofs.ContentChanges.{
   RightBut,
   off_altered,
   similar_right,
+  altered_then,
 }
 use Rattle.device_laws.proofs.PlainVolumes.{put_here, put_elsewhere, put_volume}
 use Rattle.device_laws.proofs.TrackContents as T
@@ -188,12 +188,7 @@ module _ (s : DeviceStore) (h : Held) (t : ℕ) (lt : t < tracks_of s) (sizes : 
       let g = altered_patch s h t lt sizes None in
       let y = with_patch s t None in
       let k = altered_owed y h t lt g.sizes (record (owed_at y t) { freed = Some p.slot }) in
-      altered_twice g (record {
-        sizes = k.sizes;
-        base = k.base;
-        elsewhere = k.elsewhere;
-        here = k.here ∙ ap (λ (c : TrackContents). record c { freed = Some p.slot; debt = (owed_at s t).firm }) g.here;
-      })
+      altered_then (λ (c : TrackContents). record c { freed = Some p.slot; debt = (owed_at s t).firm }) g k
 
   pub altered_unpatched : Altered s h (without_patch contents s t) h t (unpatched (contents_at s h t))
   unfolding T.contents_at
@@ -264,12 +259,7 @@ module _ (exempt : ℕ → Type 0) (h : Held) (v w : List Track) (s : DeviceStor
         let g = altered_frame s h t lt b.ground.sizes (Some marked) in
         let z = with_frame s t (Some marked) in
         let k = altered_owed z h t lt g.sizes (record (owed_at z t) { modified = true }) in
-        altered_twice g (record {
-          sizes = k.sizes;
-          base = k.base;
-          elsewhere = k.elsewhere;
-          here = k.here ∙ ap (λ (u : TrackContents). record u { freed = (owed_at s t).freed; debt = (owed_at s t).firm }) g.here;
-        })
+        altered_then (λ (u : TrackContents). record u { freed = (owed_at s t).freed; debt = (owed_at s t).firm }) g k
 
     frame_there : x.frame ≡ Some f
     unfolding T.contents_at
@@ -400,7 +390,7 @@ module _ (exempt : ℕ → Type 0) (h : Held) (v w : List Track) (s : DeviceStor
       let g = altered_lost s h t lt b.ground.sizes in
       let z = with_lost s t in
       let k = altered_unpatched z h t lt g.sizes in
-      altered_twice g (record { sizes = k.sizes; base = k.base; elsewhere = k.elsewhere; here = k.here ∙ ap unpatched g.here })
+      altered_then unpatched g k
 
   frame_none : frame_at s t ≡ None → x.frame ≡ None
   unfolding T.contents_at

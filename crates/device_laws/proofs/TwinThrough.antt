@@ -39,6 +39,7 @@ use Rattle.device_laws.proofs.TwinSettled.{AllTold}
 use Rattle.device_laws.proofs.TwinWalks.{twin_done, twin_ends, twin_then, twin_always, twin_weaker}
 use Rattle.device_laws.proofs.TwinWrites.{Written, first_twin, second_twin, right_mid, keeps_less, settled_end}
 use Rattle.device_laws.proofs.Writes.{is_taken, firm_first_keeps_good, write_first_keeps_good}
+use Rattle.device_laws.proofs.ContentChanges.{loose_is}
 
 pub record WroteTwin (u : List Track) (s : DeviceStore) (t : ℕ) (e : Edit) (v w : List Track) (z : DeviceStore) (a b : Took) (k : Held) : Type 0 where
   pub order : Ordered v w z k
@@ -118,23 +119,19 @@ module _ (u : List Track) (y : DeviceStore) (j : Held) (t : ℕ) (e : Edit) (lt 
   unfolding T.contents_at
   levels_off z k e = neither (level_at z.a t) (level_at z.b t) e
 
-  loose_is : (z : DeviceStore) (k : Held) → is_loose z t ≡ (contents_at z k t).loose
-  unfolding T.contents_at
-  loose_is z k = refl
-
   -- no side has it: it is as it was
   absent_twin : (v w : List Track) (z : DeviceStore) (k : Held) → Written u y j t r v w z k → has_level z t ≡ false →
       Twins Ends (Done (settled contents z t) Unwritten) (Done (settled by_plain (marks_of v w z) t) Unwritten) k
   absent_twin v w z k d none =
       let m = d.mid in
       let levels = levels_off z k none in
-      let loose : (contents_at z k t).loose ≡ false = m.sided.loose ∙ sym (loose_is y j) ∙ firm in
+      let loose : (contents_at z k t).loose ≡ false = m.sided.loose ∙ sym (loose_is y j t) ∙ firm in
       let sure = right_mid u y j t r lt firm alone off own v w z k z (contents_at z k t) m m.but m.stays refl loose
       (keeps_less u y j t r lt firm alone off own (contents_at z k t) m.sided levels.0 (record {
         b = λ l. absurd (not_both
             (contents_at z k t).b levels.1 l);
       })) in
-      let f = settled_end u y j t r lt firm alone off own v w z k sure m.told m.plain m.stays (loose_is z k ∙ loose) in
+      let f = settled_end u y j t r lt firm alone off own v w z k sure m.told m.plain m.stays (loose_is z k t ∙ loose) in
       twin_ends f.marks (record { order = f.is.0; same = refl; plain = f.is.1.0; geometry = f.is.1.1.geometry; cylinders = f.is.1.1.cylinders })
 
   -- the second part in the same event
@@ -157,7 +154,7 @@ module _ (u : List Track) (y : DeviceStore) (j : Held) (t : ℕ) (e : Edit) (lt 
         told = m.told;
         below = let same = m.stays.cylinders in omega arith;
         none = none;
-        firm = loose_is z k ∙ m.sided.loose ∙ sym (loose_is y j) ∙ firm;
+        firm = loose_is z k t ∙ m.sided.loose ∙ sym (loose_is y j t) ∙ firm;
         image = ap (edited_image e) (sym image_is);
         a = d.a;
         b = d.b;

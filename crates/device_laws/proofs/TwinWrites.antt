@@ -49,6 +49,7 @@ use Rattle.device_laws.proofs.ContentChanges.{
   opens_write,
   similar_right,
   beside_right,
+  loose_is,
 }
 use Rattle.device_laws.proofs.TrackContents as T
 use Rattle.device_laws.proofs.TrackContents.{TrackContents, contents_at, Keeps, keeps_fewer, not_both}
@@ -145,10 +146,6 @@ module _ (u : List Track) (s : DeviceStore) (h : Held) (t : ℕ) (r : List ℕ) 
     firm_is : x.loose ≡ false
     unfolding T.contents_at
     firm_is = firm
-
-    loose_mark : (z : DeviceStore) (k : Held) → is_loose z t ≡ (contents_at z k t).loose
-    unfolding T.contents_at
-    loose_mark z k = refl
 
     -- Steps
 
@@ -354,7 +351,7 @@ module _ (u : List Track) (s : DeviceStore) (h : Held) (t : ℕ) (r : List ℕ) 
           firm_same : image_in y w t ≡ image_in s u t
           firm_same =
               ap (λ (l : Track). record { geometry = y.geometry; track = l })
-              (but.ground.same t (below y stays) (loose_mark y k ∙ ap (λ (d : TrackContents). d.loose) (sym is) ∙ loose)) ∙ plain_is
+              (but.ground.same t (below y stays) (loose_is y k t ∙ ap (λ (d : TrackContents). d.loose) (sym is) ∙ loose)) ∙ plain_is
 
           moved : (g : Geometry) → g ≡ s.geometry → (p q : Image) → p ≡ image_in s u t → q ≡ image_in s u t → Keeps g t c p q
           moved g e p q f i =
@@ -405,7 +402,7 @@ module _ (u : List Track) (s : DeviceStore) (h : Held) (t : ℕ) (r : List ℕ) 
           by_paired true gone =
               settled_end v w z k
               (right_mid v w z k z (contents_at z k t) m m.but m.stays refl loose_now (keeps_less (contents_at z k t) m.sided (gone refl) b))
-              m.told m.plain m.stays (loose_mark z k ∙ loose_now)
+              m.told m.plain m.stays (loose_is z k t ∙ loose_now)
           by_paired false gone =
               let i = mid_altered v w z k (with_stale z A t true) k (record (contents_at z k t) { a = z.a.up && not true }) m e
               (record { frame = refl; patch = refl; lost = refl; loose = refl; freed = refl }) refl refl in
@@ -414,7 +411,7 @@ module _ (u : List Track) (s : DeviceStore) (h : Held) (t : ℕ) (r : List ℕ) 
               (right_mid v w (with_stale z A t true) k (with_stale z A t true) d i i.but i.stays (sym e.here) loose_now
               (keeps_less d (sided_on x (contents_at z k t) d m.sided (record { frame = refl; patch = refl; lost = refl; loose = refl; freed = refl }))
               (and_not_true z.a.up) (record { b = b.b })))
-              i.told i.plain i.stays (loose_mark (with_stale z A t true) k ∙ ap (λ (y : TrackContents). y.loose) e.here ∙ loose_now)
+              i.told i.plain i.stays (loose_is (with_stale z A t true) k t ∙ ap (λ (y : TrackContents). y.loose) e.here ∙ loose_now)
 
       abbrev pub Firsts : List Track → List Track → DeviceStore → Wrote → Wrote → Held → Type 0
       Firsts v w z a b k = First v w z a b k
