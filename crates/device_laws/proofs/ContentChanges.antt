@@ -73,9 +73,6 @@ pub unaltered : (s : DeviceStore) (h : Held) (t : ℕ) → HasSizes s → Altere
 unaltered s h t sizes = record { sizes = sizes; base = refl; elsewhere = λ q ne. refl; here = refl }
 
 -- one after another, of the same track
-pub altered_twice : {s z y : DeviceStore} {h k n : Held} {t : ℕ} {x u : TrackContents} → Altered s h z k t x → Altered z k y n t u → Altered s h y n t u
-altered_twice f g = record { sizes = g.sizes; base = g.base ∙ f.base; elsewhere = λ q ne. g.elsewhere q ne ∙ f.elsewhere q ne; here = g.here }
-
 pub altered_then : {s z y : DeviceStore} {h k n : Held} {t : ℕ} {x : TrackContents} (f : TrackContents → TrackContents) → Altered s h z k t x →
     Altered z k y n t (f (contents_at z k t)) → Altered s h y n t (f x)
 altered_then f e g = record {

@@ -269,27 +269,15 @@ module _ {F P H R K : Type 0} (c : Contents F P H R) {hears : Hearing Image K} (
 module _ {F P H : Type 0} (d : Device F P H) (un : IsUncached d.store) where
   pub held_uncached : IsUncached (hold_side d).store × IsUncached (resume d).store
   held_uncached = (
-    λ n. held (un (record { sides = n.sides; failed = n.failed; cache = n.cache })),
-    λ n. resumed (un (record { sides = n.sides; failed = n.failed; cache = n.cache })),
+    λ n. let w = un (record { sides = n.sides; failed = n.failed; cache = n.cache }) in record { up = w.up; kept = w.kept; half = w.half; framed = w.framed },
+    λ n. let w = un (record { sides = n.sides; failed = n.failed; cache = n.cache }) in record { up = w.up; kept = w.kept; half = w.half; framed = w.framed },
   )
-    where
-      held : IsFramed d.store → IsFramed (hold_side d).store
-      held w = record { up = w.up; kept = w.kept; half = w.half; framed = w.framed }
-
-      resumed : IsFramed d.store → IsFramed (resume d).store
-      resumed w = record { up = w.up; kept = w.kept; half = w.half; framed = w.framed }
 
   pub joined_uncached : IsUncached (join d).store × IsUncached (split d).store
   joined_uncached = (
-    λ n. joined (un (record { sides = n.sides; failed = n.failed; cache = n.cache })),
-    λ n. parted (un (record { sides = n.sides; failed = n.failed; cache = n.cache })),
+    λ n. let w = un (record { sides = n.sides; failed = n.failed; cache = n.cache }) in record { up = w.up; kept = w.kept; half = w.half; framed = w.framed },
+    λ n. let w = un (record { sides = n.sides; failed = n.failed; cache = n.cache }) in record { up = w.up; kept = w.kept; half = w.half; framed = w.framed },
   )
-    where
-      joined : IsFramed d.store → IsFramed (join d).store
-      joined w = record { up = w.up; kept = w.kept; half = w.half; framed = w.framed }
-
-      parted : IsFramed d.store → IsFramed (split d).store
-      parted w = record { up = w.up; kept = w.kept; half = w.half; framed = w.framed }
 
   -- a side that isn't up is replaced
   pub replaced_uncached : (side : Side) → (side_of d.store side).up ≡ false → IsUncached (replace d side).store

@@ -49,47 +49,32 @@ write_pool : (w : Told) (side : Side) → (told_write w side).pool ≡ w.pool
 write_pool w sides.A = refl
 write_pool w sides.B = refl
 
+-- one more step
+carried : {R S U X Y : Type 0} {base : S → Base} {b d : Base} {r : R} {i j : Interaction R Image S X} {f : S → X → Interaction R Image U Y} {w v : Told} →
+    d.device ≡ b.device → v.pool.waiting ≡ w.pool.waiting → hold r (and_then i f) w ≡ hold r (and_then j f) v → Split base d r j f v → Split base b r i f w
+carried own e same y = record {
+  state = y.state;
+  answer = y.answer;
+  told = y.told;
+  device = y.device ∙ own;
+  waiting = y.waiting ∙ e;
+  same = same ∙ y.same;
+}
+
 split : {R S U X Y : Type 0} {base : S → Base} {b : Base} {i : Interaction R Image S X} (r : R) (f : S → X → Interaction R Image U Y) → Based base Hushed b i →
     (w : Told) → Split base b r i f w
 unfolding T.hold
 split r f (based_done e) w = record { state = _; answer = _; told = w; device = ap (λ (x : Base). x.device) e; waiting = refl; same = refl }
-split r f (based_try x) w =
-    let y = split r f (x true) w in
-    record { state = y.state; answer = y.answer; told = y.told; device = y.device; waiting = y.waiting; same = y.same }
+split r f (based_try x) w = carried refl refl refl (split r f (x true) w)
 split r f (based_ask {call = call} m x) w =
-    let a = answer w.pool call in
-    let y = split r f (x a) (record w { pool = after w.pool call a }) in
-    record {
-      state = y.state;
-      answer = y.answer;
-      told = y.told;
-      device = y.device;
-      waiting = y.waiting ∙ after_waits w.pool call a m;
-      same = y.same;
-    }
+    let a = answer w.pool call in carried refl (after_waits w.pool call a m) refl (split r f (x a) (record w { pool = after w.pool call a }))
 split r f (based_read {side = side} x) w =
-    let y = split r f (x (if read_fails (calls_of w side) then None else Some r)) (told_read w side) in
-    record {
-      state = y.state;
-      answer = y.answer;
-      told = y.told;
-      device = y.device;
-      waiting = y.waiting ∙ ap (λ (p : O.Pool). p.waiting) (read_pool w side);
-      same = y.same;
-    }
+    carried refl (ap (λ (p : O.Pool). p.waiting) (read_pool w side)) refl
+    (split r f (x (if read_fails (calls_of w side) then None else Some r)) (told_read w side))
 split r f (based_write {side = side} x) w =
-    let y = split r f (x (if write_fails (calls_of w side) then false else true)) (told_write w side) in
-    record {
-      state = y.state;
-      answer = y.answer;
-      told = y.told;
-      device = y.device;
-      waiting = y.waiting ∙ ap (λ (p : O.Pool). p.waiting) (write_pool w side);
-      same = y.same;
-    }
-split r f (based_tell {m = m} x) w =
-    let y = split r f (x (reply m)) w in
-    record { state = y.state; answer = y.answer; told = y.told; device = y.device; waiting = y.waiting; same = y.same }
+    carried refl (ap (λ (p : O.Pool). p.waiting) (write_pool w side)) refl
+    (split r f (x (if write_fails (calls_of w side) then false else true)) (told_write w side))
+split r f (based_tell {m = m} x) w = carried refl refl refl (split r f (x (reply m)) w)
 
 -- one that tells none leaves the numbers that the pool has
 pub hushed_waits : {R S X : Type 0} {base : S → Base} {b : Base} {i : Interaction R Image S X} (r : R) → Based base Hushed b i → (w : Told) →

@@ -69,6 +69,15 @@ pub record Stays (s z : DeviceStore) : Type 0 where
   pub cylinders : z.cylinders ≡ s.cylinders
   pub half : z.half ≡ s.half
 
+abbrev pub SameSize : DeviceStore → DeviceStore → Type 0
+SameSize s z = (z.geometry ≡ s.geometry) × (z.cylinders ≡ s.cylinders)
+
+pub size_of : {s z : DeviceStore} → Stays s z → SameSize s z
+size_of e = (e.geometry, e.cylinders)
+
+pub size_on : {g h k : Geometry} {a b c : ℕ} → (h ≡ g) × (b ≡ a) → (k ≡ h) × (c ≡ b) → (k ≡ g) × (c ≡ a)
+size_on e f = (f.0 ∙ e.0, f.1 ∙ e.1)
+
 pub stays_same : (s : DeviceStore) → Stays s s
 stays_same s = record { geometry = refl; cylinders = refl; half = refl }
 

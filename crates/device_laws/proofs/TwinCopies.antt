@@ -42,6 +42,7 @@ use Rattle.device_laws.proofs.TwinAsks.{
   right_keeps,
   altered_order,
   beside_order,
+  size_of,
 }
 use Rattle.device_laws.proofs.TwinChanges.{has_frame_twin}
 use Rattle.device_laws.proofs.TwinFailed.{fell, failed_twin}
@@ -71,13 +72,7 @@ module _ (u : List Track) (y : DeviceStore) (t : ℕ) where
       twin_then _ _ (failed_twin None h v w s side o.sure o.told)
       (λ v' w' z _ _ k f.
       let st = stays_on y s z stays (stays_on s (fell s.paired s side) z (stays_fell s.paired s side) (stays_by (fell s.paired s side) h z k f.base)) in
-      twin_done (record {
-        order = record { sure = f.but; told = f.told };
-        same = refl;
-        plain = f.plain ∙ plain;
-        geometry = st.geometry;
-        cylinders = st.cylinders;
-      }))
+      twin_done (record { order = record { sure = f.but; told = f.told }; same = refl; plain = f.plain ∙ plain; size = size_of st }))
 
   module _ (v w : List Track) (s : DeviceStore) (h : Held) (o : Ordered v w s h) (lt : t < tracks_of s) (there : is_lost s t ≡ false)
       (off : half_is s.half t ≡ false) (plain : v ≡ u) (stays : Stays y s) where
@@ -184,8 +179,7 @@ module _ (u : List Track) (y : DeviceStore) (t : ℕ) where
           order = a_copied v w (write_counted (read_counted s true) true) h (both_counted true) lt there off plain (still_write true) level up;
           same = refl;
           plain = plain;
-          geometry = stays.geometry;
-          cylinders = stays.cylinders;
+          size = size_of stays;
         }))
         (λ bytes. fault_twin v w (write_counted (read_counted s true) false) (with_held h A t bytes) A
         (a_garbage v w (write_counted (read_counted s true) false) h (both_counted false) lt there off plain
@@ -200,8 +194,7 @@ module _ (u : List Track) (y : DeviceStore) (t : ℕ) where
           order = b_copied v w (write_counted (read_counted s true) true) h (both_counted true) lt there off plain (still_write true) level up;
           same = refl;
           plain = plain;
-          geometry = stays.geometry;
-          cylinders = stays.cylinders;
+          size = size_of stays;
         }))
         (λ bytes. fault_twin v w (write_counted (read_counted s true) false) (with_held h B t bytes) B
         (b_garbage v w (write_counted (read_counted s true) false) h (both_counted false) lt there off plain
@@ -212,7 +205,7 @@ module _ (u : List Track) (y : DeviceStore) (t : ℕ) where
   ended : (v w : List Track) (s : DeviceStore) (h : Held) (d e : Option Did) → d ≡ e → Ordered v w s h → v ≡ u → Stays y s →
       Twins Ends (Done s d) (Done (marks_of v w s) e) h
   ended v w s h d e same o plain stays =
-      twin_done (record { order = o; same = same; plain = plain; geometry = stays.geometry; cylinders = stays.cylinders })
+      twin_done (record { order = o; same = same; plain = plain; size = size_of stays })
 
   unfilled_twin : (v w : List Track) (s : DeviceStore) (h : Held) (d e : Option Did) → d ≡ e → Ordered v w s h → v ≡ u → Stays y s →
       Twins Ends (unfilled contents s t d) (unfilled by_plain (marks_of v w s) t e) h

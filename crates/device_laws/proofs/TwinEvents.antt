@@ -35,15 +35,14 @@ use Rattle.ckd_types.specs.declared.record.Track.{Track}
 use Rattle.ckd_types.specs.Volume.{track_in}
 use Rattle.track_table.specs.Tracks as T
 use Rattle.track_table.specs.Tracks.{count_below}
-use Rattle.track_image.specs.Image.{Image}
 use Rattle.device_outside.specs.Both.{both_free}
-use Rattle.device_outside.specs.Interaction.{Interaction, Done, Ask, and_then}
-use Rattle.device_outside.specs.Pool.{FreeSlot, TellWaiting}
+use Rattle.device_outside.specs.Interaction.{Done, and_then}
+use Rattle.device_outside.specs.Pool.{FreeSlot}
 use Rattle.device_outside.specs.Slots.{held_after}
 use Rattle.device_outside.proofs.BothRules.{on_test, on_tests}
 use Rattle.device_defs.specs.declared.owed.Owed.{Owed}
 use Rattle.device_defs.specs.Contents.{contents, by_plain}
-use Rattle.device_defs.specs.Marks.{MarksStore, marks_of, slot_mark}
+use Rattle.device_defs.specs.Marks.{marks_of, slot_mark}
 use Rattle.device_defs.specs.Owed as O
 use Rattle.device_defs.specs.Owed.{
   is_modified,
@@ -315,9 +314,6 @@ count_same (suc n) p r e =
 
 pub count_twin : (v w : List Track) (s : DeviceStore) → waiting_count by_plain (marks_of v w s) ≡ waiting_count contents s
 count_twin v w s = count_same (tracks_of s) (waits by_plain (marks_of v w s)) (waits contents s) (λ q. waits_same v w s q)
-
-abbrev told_if : ℕ → ℕ → MarksStore → Interaction Bool Image MarksStore (Unit {0})
-told_if before count m = if count == before then Done m tt else Ask (TellWaiting m.device count) (λ _. Done m tt)
 
 waiting_twin : (before : ℕ) (v w : List Track) (s : DeviceStore) (h : Held) → Ordered v w s h →
     Twins (λ v' w' z _ _ k. Hears v s v' w' z k) (waiting_told contents before s) (waiting_told by_plain before (marks_of v w s)) h

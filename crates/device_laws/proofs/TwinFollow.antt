@@ -156,7 +156,7 @@ module _ (m : ℕ) (g : Geometry) (looks : ChainState → ℕ → Type 0) (feeds
           let f = feeds.writes chain t (plain_image t) q e at refl fits_plain p in
           rw (← (image_same z v geometry plain)) (twin_then _ _
           (write_twin v w z t e (usage_of chain) first below there still (suits_here e f.1) o.well k order)
-          (λ v' w' y a b l x. wrote v' w' y l a b x.order x.same x.geometry (x.plain ∙ ap (λ (m : List Track). plain_had a m t e) plain) f.0))
+          (λ v' w' y a b l x. wrote v' w' y l a b x.order x.same x.size.0 (x.plain ∙ ap (λ (m : List Track). plain_had a m t e) plain) f.0))
         where
           wrote : (v' w' : List Track) (y : DeviceStore) (l : Held) (a b : Option Took) → Ordered v' w' y l → a ≡ b → y.geometry ≡ z.geometry →
               v' ≡ plain_had a u t e → q ≡ t →

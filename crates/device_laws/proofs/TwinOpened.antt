@@ -64,7 +64,7 @@ use Rattle.device_laws.proofs.TrackContents.{
 }
 use Rattle.device_laws.proofs.TrackMarks as M
 use Rattle.device_laws.proofs.TrackMarks.{marks, is_good, track_at}
-use Rattle.device_laws.proofs.TwinAsks.{ask_clean, Stays, stays_same, stays_off, InOrder, Ordered, keeps_at, right_keeps}
+use Rattle.device_laws.proofs.TwinAsks.{ask_clean, Stays, stays_same, stays_off, InOrder, Ordered, keeps_at, right_keeps, SameSize}
 use Rattle.device_laws.proofs.TwinChanges.{frame_twin, with_frame_twin}
 use Rattle.device_laws.proofs.TwinSettled.{AllTold, told_altered}
 use Rattle.device_laws.proofs.TwinWalks.{Pair, twin_done, twin_ends}
@@ -268,8 +268,7 @@ module _ (t : ℕ) (v w : List Track) (i : Image) (origin : Origin) where
   pub record Opens (v' w' : List Track) (z : DeviceStore) (s : DeviceStore) (k : Held) : Type 0 where
     pub order : Ordered v' w' z k
     pub plain : v' ≡ v
-    pub geometry : z.geometry ≡ s.geometry
-    pub cylinders : z.cylinders ≡ s.cylinders
+    pub size : SameSize s z
 
   same_contents : (z : DeviceStore) (k : Held) (q : ℕ) → contents_at (half_opened contents z t i origin) k q ≡ contents_at z k q
   unfolding T.contents_at
@@ -364,7 +363,7 @@ module _ (t : ℕ) (v w : List Track) (i : Image) (origin : Origin) where
   cleaned_mark (Some f) = refl
 
   opens_end : (z : DeviceStore) (k : Held) → Opening z k → Opens v w (half_opened contents z t i origin) z k
-  opens_end z k o = record { order = record { sure = opens_sure z k o; told = told_half z k o.told }; plain = refl; geometry = refl; cylinders = refl }
+  opens_end z k o = record { order = record { sure = opens_sure z k o; told = told_half z k o.told }; plain = refl; size = (refl, refl) }
 
   pub opened_twin : (z : DeviceStore) (k : Held) (was_loose : Bool) → Opening z k →
       Twins (λ v' w' y _ _ n. Opens v' w' y z n) (write_opened contents z t i origin was_loose) (write_opened by_plain (marks_of v w z) t i origin was_loose) k
@@ -377,5 +376,5 @@ module _ (t : ℕ) (v w : List Track) (i : Image) (origin : Origin) where
       twin_ends (ap (λ (m : MarksStore). half_opened by_plain m t i origin)
       (with_frame_twin v w z t f ∙ ap (λ (g : Option Bool). with_frame (marks_of v w z) t g)
       (cleaned_mark (frame_at z t) ∙ ap (cleaned by_plain) (sym (frame_twin v w z t)))))
-      (record { order = e.order; plain = refl; geometry = refl; cylinders = refl })))
+      (record { order = e.order; plain = refl; size = (refl, refl) })))
       (λ _. twin_done (opens_end z k o))

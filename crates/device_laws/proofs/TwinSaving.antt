@@ -29,7 +29,7 @@ use Rattle.device_laws.proofs.TrackContents.{contents_at, Keeps}
 use Rattle.device_laws.proofs.TrackImage.{level_bytes_keeps_good}
 use Rattle.device_laws.proofs.TrackMarks as M
 use Rattle.device_laws.proofs.TrackMarks.{track_at, device_is_faithful}
-use Rattle.device_laws.proofs.TwinAsks.{Stays, stays_image, stays_off, InOrder, Ordered, keeps_at}
+use Rattle.device_laws.proofs.TwinAsks.{Stays, stays_image, stays_off, InOrder, Ordered, keeps_at, SameSize, size_of, size_on}
 use Rattle.device_laws.proofs.TwinChanges.{frame_twin}
 use Rattle.device_laws.proofs.TwinDone.{Closing, write_done_twin}
 use Rattle.device_laws.proofs.TwinImage.{Delivers, bytes_twin, not_lost}
@@ -46,8 +46,7 @@ pub record Works {A : Type 0} (u : List Track) (s : DeviceStore) (v w : List Tra
   pub order : Ordered v w z k
   pub same : a ≡ b
   pub plain : v ≡ u
-  pub geometry : z.geometry ≡ s.geometry
-  pub cylinders : z.cylinders ≡ s.cylinders
+  pub size : SameSize s z
 
 -- t is being written as it is plainly, over the store y that the write began with
 module _ (u : List Track) (y : DeviceStore) (j : Held) (t : ℕ) (lt : t < tracks_of y) (firm : is_loose y t ≡ false) (none : y.half ≡ None)
@@ -96,8 +95,7 @@ module _ (u : List Track) (y : DeviceStore) (j : Held) (t : ℕ) (lt : t < track
           order = f.order;
           same = refl;
           plain = f.plain ∙ x.mid.plain;
-          geometry = f.stays.geometry ∙ x.mid.stays.geometry;
-          cylinders = f.stays.cylinders ∙ x.mid.stays.cylinders;
+          size = size_on (size_of x.mid.stays) (size_of f.stays);
         })))
 
     opening : Opening t v w i OfBackground z k
@@ -119,13 +117,7 @@ module _ (u : List Track) (y : DeviceStore) (j : Held) (t : ℕ) (lt : t < track
         (and_then (write_opened by_plain (marks_of v w z) t i OfBackground was_loose) (λ q _. Done q (did fault (Half t)))) k
     half_end was_loose =
         twin_then _ _ (opened_twin t v w i OfBackground z k was_loose opening)
-        (λ v' w' q _ _ n f. twin_done (record {
-          order = f.order;
-          same = refl;
-          plain = f.plain ∙ x.mid.plain;
-          geometry = f.geometry ∙ x.mid.stays.geometry;
-          cylinders = f.cylinders ∙ x.mid.stays.cylinders;
-        }))
+        (λ v' w' q _ _ n f. twin_done (record { order = f.order; same = refl; plain = f.plain ∙ x.mid.plain; size = size_on (size_of x.mid.stays) f.size }))
 
   by_took : (v w : List Track) (z : DeviceStore) (k : Held) (was_loose : Bool) (took : Took) (failed : Option Side) → v ≡ u → Stays y z →
       (is_taken took ≡ true → Written u y j t r v w z k) → (is_taken took ≡ false → Ordered v w z k) →
@@ -133,7 +125,7 @@ module _ (u : List Track) (y : DeviceStore) (j : Held) (t : ℕ) (lt : t < track
   by_took v w z k was_loose Whole failed plain stays done undone = whole_end v w z k (done refl) failed
   by_took v w z k was_loose Opened failed plain stays done undone = half_end v w z k (done refl) was_loose
   by_took v w z k was_loose Unwritten failed plain stays done undone =
-      twin_done (record { order = undone refl; same = refl; plain = plain; geometry = stays.geometry; cylinders = stays.cylinders })
+      twin_done (record { order = undone refl; same = refl; plain = plain; size = size_of stays })
 
 -- what is behind the firm track
 abbrev saved_then : {F P H R : Type 0} (c : Contents F P H R) → ℕ → Did → Option Side → Image → Store F P H → Bool → Interaction R Image (Store F P H) Did
@@ -166,13 +158,7 @@ saving_twin v w s h t d fault lt there none o =
     (twin_weaker
     (twin_then _ _ (first_twin v' z k t (track_bytes (track_in v' t)) below y.firm alone off' own w' y.order)
     (λ v'' w'' x m n l g. by_wrote v' w' z k t d fault below y.firm (y.stays.half ∙ none) own v'' w'' x l a m n g))
-    (λ v'' w'' x m n l g. record {
-      order = g.order;
-      same = g.same;
-      plain = g.plain ∙ y.plain;
-      geometry = g.geometry ∙ y.stays.geometry;
-      cylinders = g.cylinders ∙ y.stays.cylinders;
-    }))))
+    (λ v'' w'' x m n l g. record { order = g.order; same = g.same; plain = g.plain ∙ y.plain; size = size_on (size_of y.stays) g.size }))))
   where
     by_wrote : (v' w' : List Track) (z : DeviceStore) (k : Held) (t : ℕ) (d : Did) (fault : Option Side) (below : t < tracks_of z)
         (firm : is_loose z t ≡ false)
@@ -193,8 +179,8 @@ pub saved_twin : (v w : List Track) (s : DeviceStore) (h : Held) (t : ℕ) (d : 
 saved_twin v w s h t d fault lt there none o =
     both_try
     (twin_then _ _ (saving_twin v w s h t d fault lt there none o)
-    (λ v' w' z a b k f. twin_done (record { order = f.order; same = ap Some f.same; plain = f.plain; geometry = f.geometry; cylinders = f.cylinders })))
-    (twin_done (record { order = record { sure = o.sure; told = o.told }; same = refl; plain = refl; geometry = refl; cylinders = refl }))
+    (λ v' w' z a b k f. twin_done (record { order = f.order; same = ap Some f.same; plain = f.plain; size = f.size })))
+    (twin_done (record { order = record { sure = o.sure; told = o.told }; same = refl; plain = refl; size = (refl, refl) }))
 
 -- Recovery
 
@@ -223,28 +209,14 @@ recovered_by u y v w s h t g m None None del side fault lt there firm none o pla
       order = record { sure = o.sure; told = o.told };
       same = ap (λ (x : Option Side). Some (did x Nothing)) fault;
       plain = plain;
-      geometry = stays.geometry;
-      cylinders = stays.cylinders;
+      size = size_of stays;
     })
 recovered_by u y v w s h t g m (Some r) (Some true) del side fault lt there firm none o plain stays =
     let gave : image_of contents s t r ≡ Some (image_in s v t) =
     del.1 ∙ ap (λ (x : Track). Some (record { geometry = s.geometry; track = x })) (o.sure.ground.same t lt firm) in
     both_try (rw gave (rw (← fault) (twin_weaker (saved_twin v w s h t (Recovered t) g.fault lt (there refl) none o)
-    (λ v' w' z a b k f. record {
-      order = f.order;
-      same = f.same;
-      plain = f.plain ∙ plain;
-      geometry = f.geometry ∙ stays.geometry;
-      cylinders = f.cylinders ∙ stays.cylinders;
-    }))))
-    (twin_done (record {
-      order = record { sure = o.sure; told = o.told };
-      same = refl;
-      plain = plain;
-      geometry = stays.geometry;
-      cylinders =
-          stays.cylinders;
-    }))
+    (λ v' w' z a b k f. record { order = f.order; same = f.same; plain = f.plain ∙ plain; size = size_on (size_of stays) f.size }))))
+    (twin_done (record { order = record { sure = o.sure; told = o.told }; same = refl; plain = plain; size = size_of stays }))
 recovered_by u y v w s h t g m (Some r) (Some false) del side fault lt there firm none o plain stays = let e : false ≡ true = del.0 in absurd (cc)
 recovered_by u y v w s h t g m None (Some b) del side fault lt there firm none o plain stays = absurd del
 recovered_by u y v w s h t g m (Some r) None del side fault lt there firm none o plain stays = absurd del

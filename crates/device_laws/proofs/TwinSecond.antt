@@ -11,7 +11,7 @@ use Rattle.ckd_write.proofs.Fitting.{edited_fits}
 use Rattle.track_image.specs.Image.{Image, edited_image}
 use Rattle.track_cache.specs.declared.frames.Frame.{Frame}
 use Rattle.device_outside.specs.Both.{both_tell}
-use Rattle.device_outside.specs.Interaction.{Interaction, Done, and_then}
+use Rattle.device_outside.specs.Interaction.{Done}
 use Rattle.device_outside.proofs.BothRules.{on_test}
 use Rattle.device_defs.specs.Contents.{Contents, contents, by_plain}
 use Rattle.device_defs.specs.Effects.{with_edit}
@@ -19,7 +19,7 @@ use Rattle.device_defs.specs.Losses as L
 use Rattle.device_defs.specs.Losses.{settled, by_frame, lost_now, without_patch}
 use Rattle.device_defs.specs.Marks.{MarksStore, marks_of, frame_mark, half_mark}
 use Rattle.device_defs.specs.Second as S
-use Rattle.device_defs.specs.Second.{plainly_written, half_closed, finished, second_done, cut_kept, second_absent, second_by, second_part}
+use Rattle.device_defs.specs.Second.{plainly_written, half_closed, finished, second_done, cut_kept, second_absent, second_part}
 use Rattle.device_defs.specs.Sound.{DeviceStore, written_on}
 use Rattle.device_defs.specs.Store.{
   Origin,
@@ -38,7 +38,6 @@ use Rattle.device_defs.specs.Store.{
   with_frame,
   with_lost,
 }
-use Rattle.device_defs.specs.Writing.{write_second}
 use Rattle.device_laws.specs.Agrees.{Held, image_in, PatchHas, PatchOf, slot_at}
 use Rattle.device_laws.specs.PlainWrites.{SuitsTrack, plain_second, OriginSuits}
 use Rattle.device_laws.specs.Twin.{Twins}
@@ -78,7 +77,7 @@ use Rattle.device_laws.proofs.TrackContents.{
   HeldBy,
   Keeps,
 }
-use Rattle.device_laws.proofs.TwinAsks.{Stays, stays_same, stays_by, stays_image, InOrder, Ordered, right_keeps}
+use Rattle.device_laws.proofs.TwinAsks.{Stays, stays_same, stays_by, stays_image, InOrder, Ordered, right_keeps, SameSize, size_of, size_on}
 use Rattle.device_laws.proofs.TwinChanges.{frame_twin, with_frame_twin, without_patch_twin}
 use Rattle.device_laws.proofs.TwinDone.{Closing, put_right, edit_right, write_done_twin}
 use Rattle.device_laws.proofs.TwinSettled.{AllTold, told_altered, told_debts, settled_pair, settled_told, unpatched, altered_unpatched, unpatched_slots}
@@ -90,8 +89,7 @@ pub record Seconds (u : List Track) (s : DeviceStore) (origin : Origin) (t : ℕ
   pub order : Ordered v w z k
   pub same : a ≡ b
   pub plain : v ≡ plain_second origin a u t
-  pub geometry : z.geometry ≡ s.geometry
-  pub cylinders : z.cylinders ≡ s.cylinders
+  pub size : SameSize s z
 
 -- settling a track that isn't loose
 pub settled_ends : (v w : List Track) (z : DeviceStore) (k : Held) (t : ℕ) → t < tracks_of z → Sure v w z k → AllTold z k → is_loose z t ≡ false →
@@ -164,10 +162,6 @@ unfolding L.settled
 settles_lost {F = F} c s t free there off none half =
     ap (λ (o : Option F). if is_some s.lent then s else if is_lost s t then s else if has_level s t then s else by_frame c s t o) none
     ∙ settles_by (is_some s.lent) (is_lost s t) (has_level s t) (half_is s.half t) s (lost_now c s t) free there off half
-
--- the second part of such an image
-abbrev second_part_by : {F P H R : Type 0} (c : Contents F P H R) → Store F P H → ℕ → Origin → R → Image → Interaction R Image (Store F P H) Bool
-second_part_by c s t origin r i = and_then (write_second c s t r) (λ z _. second_by c t i origin z)
 
 module _ (u w0 : List Track) (s : DeviceStore) (h : Held) (hw : HalfWrite Image) (is_half : s.half ≡ Some hw) (lt : hw.track < tracks_of s)
     (there : (contents_at s h hw.track).lost ≡ false) (o : InOrder u w0 s h) (suits : OriginSuits s.geometry (track_in u hw.track) hw.origin) where
@@ -259,8 +253,7 @@ module _ (u w0 : List Track) (s : DeviceStore) (h : Held) (hw : HalfWrite Image)
           order = f.order;
           same = refl;
           plain = f.plain ∙ d.mid.plain ∙ sym stays;
-          geometry = f.stays.geometry ∙ d.mid.stays.geometry;
-          cylinders = f.stays.cylinders ∙ d.mid.stays.cylinders;
+          size = size_on (size_of d.mid.stays) (size_of f.stays);
         })))
 
     -- a command's edit takes effect
@@ -311,8 +304,7 @@ module _ (u w0 : List Track) (s : DeviceStore) (h : Held) (hw : HalfWrite Image)
             order = f.order;
             same = refl;
             plain = f.plain ∙ ap (λ (l : List Track). set l t (apply_edit e (track_in l t))) d.mid.plain ∙ sym after;
-            geometry = f.stays.geometry ∙ d.mid.stays.geometry;
-            cylinders = f.stays.cylinders ∙ d.mid.stays.cylinders;
+            size = size_on (size_of d.mid.stays) (size_of f.stays);
           }))))
 
     done_by : (origin : Origin) → hw.origin ≡ origin → hw.image ≡ written_on (image_in s u t) origin → OriginSuits s.geometry (track_in u t) origin →
@@ -348,8 +340,7 @@ module _ (u w0 : List Track) (s : DeviceStore) (h : Held) (hw : HalfWrite Image)
           order = f.is.0;
           same = refl;
           plain = f.is.1.0 ∙ d.mid.plain ∙ sym after;
-          geometry = f.is.1.1.geometry ∙ stays.geometry ∙ d.mid.stays.geometry;
-          cylinders = f.is.1.1.cylinders ∙ stays.cylinders ∙ d.mid.stays.cylinders;
+          size = size_on (size_of d.mid.stays) (size_on (size_of stays) (size_of f.is.1.1));
         }))
 
     frame_was : (f : Frame) → (contents_at (half_closed z) k t).frame ≡ Some f → (contents_at s h t).frame ≡ Some f
@@ -448,8 +439,7 @@ module _ (u w0 : List Track) (s : DeviceStore) (h : Held) (hw : HalfWrite Image)
           order = gone_order;
           same = refl;
           plain = d.mid.plain ∙ sym after;
-          geometry = stays.geometry ∙ d.mid.stays.geometry;
-          cylinders = stays.cylinders ∙ d.mid.stays.cylinders;
+          size = size_on (size_of d.mid.stays) (size_of stays);
         })))
 
     cut_by : is_some z.lent ≡ false → (o' : Option Frame) → frame_at z t ≡ o' → hw.image ≡ image_in s u t → has_level z t ≡ false →

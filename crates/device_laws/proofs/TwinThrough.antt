@@ -32,7 +32,7 @@ use Rattle.device_laws.proofs.TrackContents as T
 use Rattle.device_laws.proofs.TrackContents.{contents_at, Keeps, not_both}
 use Rattle.device_laws.proofs.TrackMarks as M
 use Rattle.device_laws.proofs.TrackMarks.{track_at, device_is_faithful}
-use Rattle.device_laws.proofs.TwinAsks.{Stays, stays_image, stays_off, InOrder, Ordered, keeps_at}
+use Rattle.device_laws.proofs.TwinAsks.{Stays, stays_image, stays_off, InOrder, Ordered, keeps_at, SameSize, size_of, size_on}
 use Rattle.device_laws.proofs.TwinDone.{Closing, put_right, edit_right, write_done_twin}
 use Rattle.device_laws.proofs.TwinOpened.{Opening, opened_twin, firm_twin}
 use Rattle.device_laws.proofs.TwinSettled.{AllTold}
@@ -45,8 +45,7 @@ pub record WroteTwin (u : List Track) (s : DeviceStore) (t : ℕ) (e : Edit) (v 
   pub order : Ordered v w z k
   pub same : a ≡ b
   pub plain : v ≡ plain_after a u t e
-  pub geometry : z.geometry ≡ s.geometry
-  pub cylinders : z.cylinders ≡ s.cylinders
+  pub size : SameSize s z
 
 -- t is being written with the image i of the edit, over the store y that the write began with
 module _ (u : List Track) (y : DeviceStore) (j : Held) (t : ℕ) (e : Edit) (lt : t < tracks_of y) (firm : is_loose y t ≡ false)
@@ -111,8 +110,7 @@ module _ (u : List Track) (y : DeviceStore) (j : Held) (t : ℕ) (e : Edit) (lt 
         order = f.order;
         same = refl;
         plain = f.plain ∙ ap (λ (l : List Track). set l t (apply_edit e (track_in l t))) plain;
-        geometry = f.stays.geometry ∙ d.mid.stays.geometry;
-        cylinders = f.stays.cylinders ∙ d.mid.stays.cylinders;
+        size = size_on (size_of d.mid.stays) (size_of f.stays);
       }))))
 
   levels_off : (z : DeviceStore) (k : Held) → has_level z t ≡ false → ((contents_at z k t).a ≡ false) × ((contents_at z k t).b ≡ false)
@@ -132,7 +130,7 @@ module _ (u : List Track) (y : DeviceStore) (j : Held) (t : ℕ) (e : Edit) (lt 
             (contents_at z k t).b levels.1 l);
       })) in
       let f = settled_end u y j t r lt firm alone off own v w z k sure m.told m.plain m.stays (loose_is z k t ∙ loose) in
-      twin_ends f.marks (record { order = f.is.0; same = refl; plain = f.is.1.0; geometry = f.is.1.1.geometry; cylinders = f.is.1.1.cylinders })
+      twin_ends f.marks (record { order = f.is.0; same = refl; plain = f.is.1.0; size = size_of f.is.1.1 })
 
   -- the second part in the same event
   at_once_twin : (v w : List Track) (z : DeviceStore) (k : Held) (bypass : Bool) → Written u y j t r v w z k → (z.paired ≡ false → z.b.up ≡ false) →
@@ -168,13 +166,7 @@ module _ (u : List Track) (y : DeviceStore) (j : Held) (t : ℕ) (e : Edit) (lt 
       (through_by contents t i e bypass true was_loose z Opened) (through_by by_plain t i e bypass true was_loose (marks_of v w z) Opened) k
   opened_half v w z k bypass was_loose d none =
       twin_then _ _ (opened_twin t v w i (OfCommand bypass e) z k was_loose (opening v w z k bypass d none))
-      (λ v' w' x _ _ l f. twin_done (record {
-        order = f.order;
-        same = refl;
-        plain = f.plain ∙ d.mid.plain;
-        geometry = f.geometry ∙ d.mid.stays.geometry;
-        cylinders = f.cylinders ∙ d.mid.stays.cylinders;
-      }))
+      (λ v' w' x _ _ l f. twin_done (record { order = f.order; same = refl; plain = f.plain ∙ d.mid.plain; size = size_on (size_of d.mid.stays) f.size }))
 
   by_opening : (v w : List Track) (z : DeviceStore) (k : Held) (bypass opens was_loose : Bool) → Written u y j t r v w z k → z.half ≡ None →
       (z.paired ≡ false → z.b.up ≡ false) →
@@ -190,7 +182,7 @@ module _ (u : List Track) (y : DeviceStore) (j : Held) (t : ℕ) (e : Edit) (lt 
   by_took v w z k bypass opens was_loose Opened other same plain stays done undone none single =
       rw (← same) (by_opening v w z k bypass opens was_loose (done refl) (stays.half ∙ none) single)
   by_took v w z k bypass opens was_loose Unwritten other same plain stays done undone none single =
-      rw (← same) (twin_done (record { order = undone refl; same = refl; plain = plain; geometry = stays.geometry; cylinders = stays.cylinders }))
+      rw (← same) (twin_done (record { order = undone refl; same = refl; plain = plain; size = size_of stays }))
 
 pub none_off : (o : Option (HalfWrite Image)) (t : ℕ) → o ≡ None → half_is o t ≡ false
 none_off None t e = refl
@@ -246,6 +238,5 @@ through_twin v w s h t e bypass opens lt there none suits o =
       order = g.order;
       same = g.same;
       plain = g.plain ∙ ap (λ (l : List Track). plain_after m l t e) y.plain;
-      geometry = g.geometry ∙ y.stays.geometry;
-      cylinders = g.cylinders ∙ y.stays.cylinders;
+      size = size_on (size_of y.stays) g.size;
     }))))

@@ -96,7 +96,7 @@ module _ (v w : List Track) (s : DeviceStore) (h : Held) (none : s.half ≡ None
   order = record { sure = o.sure; told = o.told }
 
   nothing : Twins Ends (Done s (Some Nothing)) (Done (marks_of v w s) (Some Nothing)) h
-  nothing = twin_done (record { order = order; same = refl; plain = refl; geometry = refl; cylinders = refl })
+  nothing = twin_done (record { order = order; same = refl; plain = refl; size = (refl, refl) })
 
   destage_by : (t : Option ℕ) → ((q : ℕ) → t ≡ Some q → (q < tracks_of s) × (is_destaged contents s q ≡ true)) →
       Twins Ends (destage_first contents s t) (destage_first by_plain (marks_of v w s) t) h
@@ -123,7 +123,7 @@ module _ (v w : List Track) (s : DeviceStore) (h : Held) (none : s.half ≡ None
         well =
             (queue_goes contents device_is_faithful s ts below.1 o.well).well;
       }))
-      (λ v' w' y a b k f. record { order = f.order; same = f.same; plain = f.plain; geometry = f.geometry; cylinders = f.cylinders })
+      (λ v' w' y a b k f. record { order = f.order; same = f.same; plain = f.plain; size = f.size })
 
   copy_or : (t : Option ℕ) → ((q : ℕ) → t ≡ Some q → q < tracks_of s) →
       Twins Ends (copy_first contents s t) (copy_first by_plain (marks_of v w s) t) h

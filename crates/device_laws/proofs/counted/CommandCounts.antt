@@ -46,7 +46,7 @@ use Rattle.device_laws.proofs.Always.{Always, always_done, always_ask}
 use Rattle.device_laws.specs.Moved.{sides_up, CommandTransfers, AsksNoMore}
 use Rattle.device_laws.proofs.counted.Counting.{Counts, counts_done, counts_try, counts_then, counts_weaker, counts_if, counts_from}
 use Rattle.device_laws.proofs.counted.ReadCounts.{image_reads}
-use Rattle.device_laws.proofs.counted.WriteCounts.{write_writes}
+use Rattle.device_laws.proofs.counted.Exact.{write_writes}
 
 -- what a look leads to
 abbrev went_to : {F P H : Type 0} → ℕ → ℕ → ℕ → Store F P H → Option Went → Type 0

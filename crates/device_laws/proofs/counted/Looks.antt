@@ -53,7 +53,7 @@ use Rattle.device_laws.specs.Seen as seen
 use Rattle.device_laws.specs.Seen.{NotCalled, LastOf, ReadFrom, ReadNone, IsMissed, IsHit, Saw, SawNone}
 use Rattle.device_laws.specs.Moved.{Moved, Counted, miss_reads}
 use Rattle.device_laws.proofs.counted.Counting.{ran_moved}
-use Rattle.device_laws.proofs.counted.Exact.{LevelBy, level_exact}
+use Rattle.device_laws.proofs.counted.ReadCounts.{LevelBy, level_exact}
 use Rattle.device_laws.proofs.counted.RanCounts.{counted_from, counted_to, moved_counted, based_rest, quiet_base}
 use Rattle.device_laws.proofs.counted.RanParts.{split, quiet_ran, same_calls}
 use Rattle.device_laws.proofs.PoolWalks.{missed_asks}
