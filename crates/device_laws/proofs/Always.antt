@@ -68,3 +68,15 @@ always_weaker {i = i} {p = p} {q = q} h g = record { holds = behind_weaker i p q
 pub always_then : {R I S T A B : Type 0} {i : Interaction R I S A} {f : S → A → Interaction R I T B} {p : S → A → Type 0} {q : T → B → Type 0} →
     Always i p → ((s : S) (a : A) → p s a → Always (f s a) q) → Always (and_then i f) q
 always_then {i = i} {f = f} {p = p} {q = q} h g = record { holds = behind_then i f p q h.holds (λ s a e. (g s a e).holds) }
+
+both_behind : {R I S A : Type 0} (p q : S → A → Type 0) (i : Interaction R I S A) → Behind i p → Behind i q → Behind i (λ s a. p s a × q s a)
+unfolding Behind
+both_behind p q (Done s a) x y = (x, y)
+both_behind p q (Try k) x y = λ ok. both_behind p q (k ok) (x ok) (y ok)
+both_behind p q (Ask call k) x y = λ a. both_behind p q (k a) (x a) (y a)
+both_behind p q (Read side t k) x y = λ got. both_behind p q (k got) (x got) (y got)
+both_behind p q (Write side t r k) x y = λ ok. both_behind p q (k ok) (x ok) (y ok)
+both_behind p q (Tell m k) x y = λ r. both_behind p q (k r) (x r) (y r)
+
+pub always_and : {R I S A : Type 0} {p q : S → A → Type 0} {i : Interaction R I S A} → Always i p → Always i q → Always i (λ s a. p s a × q s a)
+always_and {p = p} {q = q} {i = i} x y = record { holds = both_behind p q i x.holds y.holds }

@@ -1,52 +1,28 @@
 -- The transfers of what a device does by itself: a copy, a track that is staged, and one with a frame that is saved.
-use Rattle.std.proofs.Common.{◌≡◌, ◌≤◌, ◌+◌, ◌||◌, ℕ, Bool, true, false, Option, Some, None, is_some, refl, subst, arith}
+use Rattle.std.proofs.Common.{◌≤◌, ◌||◌, ℕ, Bool, true, false, Option, Some, None, is_some, refl, arith}
 use Rattle.std.specs.Prelude.{if◌then◌else◌}
 use Rattle.ckd_types.specs.declared.paths.Side.{Side}
-use Rattle.ckd_types.specs.declared.paths.Side.TheVariants.{A, B}
 use Rattle.track_image.specs.Image.{Image}
-use Rattle.device_outside.specs.Interaction.{Interaction, Done, Try, Ask, Read, Write, Tell, and_then}
+use Rattle.device_outside.specs.Interaction.{Done, Ask}
 use Rattle.device_defs.specs.declared.answers.Did.{Did}
 use Rattle.device_defs.specs.declared.answers.Took.{Took}
 use Rattle.device_defs.specs.declared.answers.Took.TheVariants.{Whole, Opened, Unwritten}
 use Rattle.device_defs.specs.declared.answers.Did.TheVariants.{Skipped}
-use Rattle.device_outside.specs.Keeper.{Firm}
 use Rattle.device_outside.specs.Pool.{WantFrame}
 use Rattle.device_defs.specs.Memory.{tried}
-use Rattle.device_defs.specs.Background.{other, saved_by, saving, saved, copied, copy_read, copy_by, unfilled, staged_image, staged_bytes, staging_granted, stage}
+use Rattle.device_defs.specs.Background.{other, saved_by, saved, copied, copy_read, copy_by, unfilled, staged_image, staged_bytes, staging_granted, stage}
 use Rattle.device_defs.specs.Contents.{Contents}
-use Rattle.device_defs.specs.Effects.{hardened}
 use Rattle.device_defs.specs.Image.{Got, read_counted, level_bytes, image_of}
-use Rattle.device_defs.specs.Losses.{stale_everywhere, framed_image}
-use Rattle.device_defs.specs.Store.{OfBackground, Store, takes_b, frame_at, is_lost, is_loose, with_stale}
+use Rattle.device_defs.specs.Store.{OfBackground, Store, frame_at, is_lost}
 use Rattle.device_defs.specs.Transfers as M
-use Rattle.device_defs.specs.Transfers.{Moves, Miss, FirstPart, FramedTrack, Copy, Staging, both, one_or_both, Within, Makes}
-use Rattle.device_defs.specs.Writing.{write_counted, firm_first, write_first, write_opened}
-use Rattle.device_laws.proofs.Always.{Always, always_done, always_tell}
-use Rattle.device_laws.proofs.QuietParts.{
-  Quiet,
-  quiet_done,
-  quiet_try,
-  quiet_ask,
-  quiet_tell,
-  quiet_then,
-  quiet_if,
-  quiet_moves,
-  then_quiet,
-  failed_quiet,
-  done_quiet,
-  first_moves,
-}
-use Rattle.device_laws.proofs.ReadMoves.{known_first, level_moves, filled_quiet}
-
--- a wider range
-moves_weaker : {R I S A : Type 0} (p q : ℕ → ℕ → Type 0) (r w : ℕ) (i : Interaction R I S A) → ((r w : ℕ) → p r w → q r w) → Moves p r w i → Moves q r w i
-unfolding M.Moves
-moves_weaker p q r w (Done s a) f x = f r w x
-moves_weaker p q r w (Try k) f x = λ ok. moves_weaker p q r w (k ok) f (x ok)
-moves_weaker p q r w (Ask call k) f x = λ a. moves_weaker p q r w (k a) f (x a)
-moves_weaker p q r w (Read side t k) f x = λ got. moves_weaker p q (r + 1) w (k got) f (x got)
-moves_weaker p q r w (Write side t b k) f x = λ ok. moves_weaker p q r (w + 1) (k ok) f (x ok)
-moves_weaker p q r w (Tell m k) f x = λ a. moves_weaker p q r w (k a) f (x a)
+use Rattle.device_defs.specs.Transfers.{Moves, Miss, FramedTrack, Copy, Staging, Within, Makes}
+use Rattle.device_defs.specs.Writing.{write_counted, write_opened}
+use Rattle.device_laws.proofs.QuietParts.{Quiet, quiet_done, quiet_try, quiet_ask, quiet_then, quiet_if, quiet_moves, then_quiet, failed_quiet, done_quiet}
+use Rattle.device_laws.proofs.ReadMoves.{filled_quiet}
+use Rattle.device_laws.proofs.counted.ReadCounts.{level_walk}
+use Rattle.device_laws.proofs.counted.Counting.{moves_of, counts_weaker}
+use Rattle.device_laws.proofs.counted.WriteCounts.{saved_counts}
+use Rattle.device_laws.specs.Moved.{sides_writing}
 
 module _ {F P H R : Type 0} (c : Contents F P H R) where
   -- A copy
@@ -93,7 +69,7 @@ module _ {F P H R : Type 0} (c : Contents F P H R) where
   unfolding M.Moves
   granted_moves s t true =
       then_quiet (Within s (Staging t)) 0 0 (level_bytes c s t) (λ z g. staged_bytes c t z g g.bytes)
-      (moves_weaker (Within s (Miss t)) (Within s (Staging t)) 0 0 (level_bytes c s t) (stage_fits s t) (level_moves c s t))
+      (moves_of (counts_weaker (level_walk c s t) (λ r w z g x. stage_fits s t r w x.within)))
       (λ z g. bytes_quiet t z g g.bytes)
   granted_moves s t false = nothing_fits s t
 
@@ -114,23 +90,6 @@ module _ {F P H R : Type 0} (c : Contents F P H R) where
 
   -- A track with a frame that is saved
 
-  record SameSides (s z : Store F P H) : Type 0 where
-    a : z.a.up ≡ s.a.up
-    b : takes_b z ≡ takes_b s
-
-  stale_sides : (s : Store F P H) (t : ℕ) (b : Bool) → SameSides s
-      (if b then with_stale (with_stale s A t true) B t true else with_stale s A t true)
-  stale_sides s t true = record { a = refl; b = refl }
-  stale_sides s t false = record { a = refl; b = refl }
-
-  firm_by : (s : Store F P H) (t : ℕ) (b : Bool) → Always {R = R} {I = Image} (if b then Tell (Firm s.device t (framed_image c s t (frame_at s t)))
-      (λ _. Done (stale_everywhere (hardened s t) t) true) else Done s false) (λ z _. SameSides s z)
-  firm_by s t true = always_tell (λ _. always_done (let e = stale_sides (hardened s t) t s.paired in record { a = e.a; b = e.b }))
-  firm_by s t false = always_done (record { a = refl; b = refl })
-
-  firm_quiet : (s : Store F P H) (t : ℕ) → Quiet (firm_first c s t)
-  firm_quiet s t = quiet_if (is_loose s t) (quiet_tell (λ _. quiet_done)) quiet_done
-
   open_quiet : (s : Store F P H) (t : ℕ) (i : Image) (was_loose : Bool) → Quiet (write_opened c s t i OfBackground was_loose)
   open_quiet s t i true = quiet_ask (λ _. quiet_done)
   open_quiet s t i false = quiet_done
@@ -141,34 +100,12 @@ module _ {F P H R : Type 0} (c : Contents F P H R) where
   saved_quiet t i d fault was_loose failed s Opened = quiet_then (λ z _. Done z _) (open_quiet s t i was_loose) (λ z _. quiet_done)
   saved_quiet t i d fault was_loose failed s Unwritten = quiet_done
 
-  framed_fits : (s z : Store F P H) (r w : ℕ) → SameSides s z → Within z FirstPart r w → Within s FramedTrack r w
-  framed_fits s z r w e x = record {
-    least_reads = omega arith;
-    most_reads = x.most_reads;
-    least_writes = omega arith;
-    most_writes = subst (λ (y : Bool). w ≤ both y (takes_b s)) e.a (subst (λ (y : Bool). w ≤ both z.a.up y) e.b x.most_writes);
-  }
-
-  saving_moves : (s : Store F P H) (t : ℕ) (i : Image) (d : Did) (fault : Option Side) → Moves (Within s FramedTrack) 0 0 (saving c s t i d fault)
-  saving_moves s t i d fault =
-      known_first (λ z _. SameSides s z) (Within s FramedTrack) 0 0 (firm_first c s t)
-      (λ z was_loose. and_then (write_first c z t (c.bytes i)) (λ y w. saved_by c t i d fault was_loose w.fault y w.took)) (firm_quiet s t)
-      (firm_by s t (is_loose s t)).holds
-      (λ z was_loose e.
-      then_quiet (Within s FramedTrack) 0 0 (write_first c z t (c.bytes i)) (λ y w. saved_by c t i d fault was_loose w.fault y w.took)
-      (moves_weaker (Within z FirstPart) (Within s FramedTrack) 0 0 (write_first c z t (c.bytes i)) (λ r w x. framed_fits s z r w e x)
-      (first_moves c z t (c.bytes i)).moves)
-      (λ y w. saved_quiet t i d fault was_loose w.fault y w.took))
-
-  lacking_fits : (s : Store F P H) → Within s FramedTrack 0 0
-  lacking_fits s = record { least_reads = omega arith; most_reads = omega arith; least_writes = omega arith; most_writes = omega arith }
-
   pub saved_moves : (s : Store F P H) (t : ℕ) (i : Image) (d : Did) (fault : Option Side) → Makes s FramedTrack (saved c s t i d fault)
-  unfolding M.Moves
-  saved_moves s t i d fault = record { moves = λ ok. by_ok ok }
-    where
-      by_ok : (ok : Bool) → Moves (Within s FramedTrack) 0 0
-          (if ok then and_then (saving c s t i d fault) (λ z e. Done z (Some e)) else Done s None)
-      by_ok true =
-          then_quiet (Within s FramedTrack) 0 0 (saving c s t i d fault) (λ z e. Done z (Some e)) (saving_moves s t i d fault) (λ z e. quiet_done)
-      by_ok false = lacking_fits s
+  saved_moves s t i d fault = record {
+    moves = moves_of (counts_weaker (saved_counts c (sides_writing s) t i d s refl fault) (λ r w z o h. rw h.reads (record {
+      least_reads = omega arith;
+      most_reads = omega arith;
+      least_writes = omega arith;
+      most_writes = h.most;
+    })));
+  }

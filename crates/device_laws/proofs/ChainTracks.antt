@@ -150,7 +150,7 @@ module _ (n : ℕ) (whole : n % 15 ≡ 0) where
         record {
           needs = λ t e. let there = need_at v look at in let here : z.track ≡ t = cc in omega arith;
           used = last;
-          extent = subst (λ (x : ChainState). IfSome x.at.stance.extent (λ e. e.last < n)) (sym (ap (opened_by v) at)) last;
+          extent = rw (ap (opened_by v) at) last;
         },
         omega arith,
       )

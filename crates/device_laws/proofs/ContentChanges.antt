@@ -1,31 +1,5 @@
 -- What each change of a store does to the contents of each track: those of one track, and nothing elsewhere.
-use Rattle.std.proofs.Common.{
-  ◌≡◌,
-  ◌≢◌,
-  ◌<◌,
-  ◌*◌,
-  ◌&&◌,
-  not,
-  ℕ,
-  Bool,
-  true,
-  false,
-  List,
-  Option,
-  Some,
-  None,
-  length,
-  refl,
-  sym,
-  ap,
-  subst,
-  ◌∙◌,
-  arith,
-  ◌⊎◌,
-  inl,
-  inr,
-}
-use Rattle.std.proofs.lemmas.Bool.{cases_eq}
+use Rattle.std.proofs.Common.{◌≡◌, ◌≢◌, ◌<◌, ◌*◌, ◌&&◌, not, ℕ, Bool, true, false, List, Option, Some, None, length, refl, sym, ap, subst, ◌∙◌, arith}
 use Rattle.std.proofs.lemmas.List.{get_or-set_same, get_or-set_other, length-set}
 use Rattle.ckd_types.specs.declared.geometry.Geometry.{Geometry}
 use Rattle.ckd_types.specs.declared.paths.Side.{Side}
@@ -61,6 +35,10 @@ use Rattle.device_laws.specs.Agrees.{Held, image_in, PatchFits, slot_at, HasSlot
 use Rattle.device_laws.specs.InOrder.{IsOpen}
 use Rattle.device_laws.proofs.TrackContents as T
 use Rattle.device_laws.proofs.TrackContents.{TrackContents, contents_at, IsRight, Opened, right_is_held, held_is_right}
+use Rattle.device_laws.proofs.EachTrack.{each_track}
+use Rattle.device_laws.proofs.Bools.{some_is}
+use Rattle.device_defs.specs.declared.counts.Counts.{Counts}
+use Rattle.plain_defs.specs.declared.journal.Act.{Act}
 
 -- what no change of one track touches
 pub record Base : Type 0 where
@@ -95,8 +73,14 @@ pub unaltered : (s : DeviceStore) (h : Held) (t : ℕ) → HasSizes s → Altere
 unaltered s h t sizes = record { sizes = sizes; base = refl; elsewhere = λ q ne. refl; here = refl }
 
 -- one after another, of the same track
-pub altered_twice : {s z y : DeviceStore} {h k n : Held} {t : ℕ} {x u : TrackContents} → Altered s h z k t x → Altered z k y n t u → Altered s h y n t u
-altered_twice f g = record { sizes = g.sizes; base = g.base ∙ f.base; elsewhere = λ q ne. g.elsewhere q ne ∙ f.elsewhere q ne; here = g.here }
+pub altered_then : {s z y : DeviceStore} {h k n : Held} {t : ℕ} {x : TrackContents} (f : TrackContents → TrackContents) → Altered s h z k t x →
+    Altered z k y n t (f (contents_at z k t)) → Altered s h y n t (f x)
+altered_then f e g = record {
+  sizes = g.sizes;
+  base = g.base ∙ e.base;
+  elsewhere = λ q ne. g.elsewhere q ne ∙ e.elsewhere q ne;
+  here = g.here ∙ ap f e.here;
+}
 
 module _ (s : DeviceStore) (h : Held) (t : ℕ) (lt : t < tracks_of s) (sizes : HasSizes s) where
   pub altered_frame : (f : Option Frame) → Altered s h (with_frame s t f) h t (record (contents_at s h t) { frame = f })
@@ -232,11 +216,7 @@ module _ (s : DeviceStore) (h : Held) (z : DeviceStore) (k : Held) (e : base_of 
 
   pub same_right : (v w : List Track) (q : ℕ) (x y : TrackContents) → y ≡ x → IsRight s.geometry q s.half x (image_in s v q) (image_in s w q) →
       IsRight z.geometry q z.half y (image_in z v q) (image_in z w q)
-  same_right v w q x y is r =
-      subst (λ (u : TrackContents). IsRight z.geometry q z.half u (image_in z v q) (image_in z w q)) (sym is)
-      (subst (λ (o : Option (HalfWrite Image)). IsRight z.geometry q o x (image_in z v q) (image_in z w q)) (sym same_half)
-      (subst (λ (g : Geometry). IsRight g q s.half x (record { geometry = g; track = track_in v q }) (record { geometry = g; track = track_in w q }))
-      (sym same_geometry) r))
+  same_right v w q x y is r = rw is (rw same_half (rw same_geometry r))
 
 -- Slots
 
@@ -259,27 +239,22 @@ same_slots s z (Some mine) e x = record {
 pub unseen_slots : (s : DeviceStore) (h : Held) (z : DeviceStore) (k : Held) → ((kept : Bool) (q : ℕ) →
     slot_of kept (contents_at z k q) ≡ slot_of kept (contents_at s h q)) →
     k.slots ≡ h.slots → HasSlots s h.slots → HasSlots z k.slots
-unseen_slots s h z k e same x =
-    subst (HasSlots z) (sym same)
-    (same_slots s z h.slots (λ kept q. slot_is z k kept q ∙ e kept q ∙ sym (slot_is s h kept q)) x)
+unseen_slots s h z k e same x = rw same (same_slots s z h.slots (λ kept q. slot_is z k kept q ∙ e kept q ∙ sym (slot_is s h kept q)) x)
 
 -- by whether it is the track
 pub by_track : (s : DeviceStore) (h : Held) (z : DeviceStore) (k : Held) (t : ℕ) (x : TrackContents) (kept : Bool) → Altered s h z k t x →
     slot_of kept x ≡ slot_of kept (contents_at s h t) → (q : ℕ) → slot_of kept (contents_at z k q) ≡ slot_of kept (contents_at s h q)
-by_track s h z k t x kept e same q = go (cases_eq q t)
-  where
-    go : ((q ≡ t) ⊎ (q ≢ t)) → slot_of kept (contents_at z k q) ≡ slot_of kept (contents_at s h q)
-    go (inl is) =
-        subst (λ (p : ℕ). slot_of kept (contents_at z k p) ≡ slot_of kept (contents_at s h p)) (sym is) (ap (slot_of kept) e.here ∙ same)
-    go (inr ne) = ap (slot_of kept) (e.elsewhere q ne)
+by_track s h z k t x kept e same =
+    each_track (λ q. slot_of kept (contents_at z k q) ≡ slot_of kept (contents_at s h q)) t (ap (slot_of kept) e.here ∙ same)
+    (λ q ne. ap (slot_of kept) (e.elsewhere q ne))
 
 -- Ground
 
-loose_is : (s : DeviceStore) (h : Held) (q : ℕ) → is_loose s q ≡ (contents_at s h q).loose
+pub loose_is : (s : DeviceStore) (h : Held) (q : ℕ) → is_loose s q ≡ (contents_at s h q).loose
 unfolding T.contents_at
 loose_is s h q = refl
 
-patch_is : (s : DeviceStore) (h : Held) (q : ℕ) → patch_at s q ≡ (contents_at s h q).patch
+pub patch_is : (s : DeviceStore) (h : Held) (q : ℕ) → patch_at s q ≡ (contents_at s h q).patch
 unfolding T.contents_at
 patch_is s h q = refl
 
@@ -295,35 +270,17 @@ ground_altered v w s h z k t x g e sits slots = record {
   sizes = e.sizes;
   plain = same_volume s h z k e.base v g.plain;
   firm = same_volume s h z k e.base w g.firm;
-  same = λ q lt f. same_by q (let same = same_tracks s h z k e.base in omega arith) (loose_is z k q) f (cases_eq q t);
-  apart = λ q f. apart_by q (sym (loose_is z k q) ∙ f) (cases_eq q t);
-  patches = λ q p f. patch_by q p (sym (patch_is z k q) ∙ f) (cases_eq q t);
+  same = λ q lt f. each_track (λ p. p < tracks_of s → (contents_at z k p).loose ≡ false → track_in w p ≡ track_in v p) t
+      (λ _ l. sits.same (rw e.here at l)) (λ p ne le l. g.same p le (loose_is s h p ∙ (rw (e.elsewhere p ne) at l)))
+      q (let same = same_tracks s h z k e.base in omega arith) (sym (loose_is z k q) ∙ f);
+  apart = λ q f. ap (λ (o : Option (HalfWrite Image)). half_is o q) (same_half s h z k e.base)
+      ∙ each_track (λ p. (contents_at z k p).loose ≡ true → half_is s.half p ≡ false) t (λ l. sits.apart (rw e.here at l))
+      (λ p ne l. g.apart p (loose_is s h p ∙ (rw (e.elsewhere p ne) at l))) q (sym (loose_is z k q) ∙ f);
+  patches = λ q p f. each_track (λ r. (contents_at z k r).patch ≡ Some p → IsPatch p.patch) t (λ l. sits.patch p (rw e.here at l))
+      (λ r ne l. g.patches r p (patch_is s h r ∙ (rw (e.elsewhere r ne) at l))) q (sym (patch_is z k q) ∙ f);
   long = same_long s h z k e.base g.long;
   slots = slots;
 }
-  where
-    same_by : (q : ℕ) → q < tracks_of s → is_loose z q ≡ (contents_at z k q).loose → is_loose z q ≡ false → ((q ≡ t) ⊎ (q ≢ t)) → track_in w q ≡ track_in v q
-    same_by q lt is f (inl at) =
-        subst (λ (p : ℕ). track_in w p ≡ track_in v p) (sym at)
-        (sits.same (sym (ap (λ (y : TrackContents). y.loose) e.here)
-        ∙ subst (λ (p : ℕ). (contents_at z k p).loose ≡ false) at (sym is ∙ f)))
-    same_by q lt is f (inr ne) =
-        g.same q lt (loose_is s h q ∙ sym (ap (λ (y : TrackContents). y.loose) (e.elsewhere q ne)) ∙ sym is ∙ f)
-
-    apart_by : (q : ℕ) → (contents_at z k q).loose ≡ true → ((q ≡ t) ⊎ (q ≢ t)) → half_is z.half q ≡ false
-    apart_by q f (inl at) =
-        ap (λ (o : Option (HalfWrite Image)). half_is o q) (same_half s h z k e.base)
-        ∙ subst (λ (p : ℕ). half_is s.half p ≡ false) (sym at)
-        (sits.apart (sym (ap (λ (y : TrackContents). y.loose) e.here) ∙ subst (λ (p : ℕ). (contents_at z k p).loose ≡ true) at f))
-    apart_by q f (inr ne) =
-        ap (λ (o : Option (HalfWrite Image)). half_is o q) (same_half s h z k e.base)
-        ∙ g.apart q (loose_is s h q ∙ sym (ap (λ (y : TrackContents). y.loose) (e.elsewhere q ne)) ∙ f)
-
-    patch_by : (q : ℕ) (p : Stored) → (contents_at z k q).patch ≡ Some p → ((q ≡ t) ⊎ (q ≢ t)) → IsPatch p.patch
-    patch_by q p f (inl at) =
-        sits.patch p (sym (ap (λ (y : TrackContents). y.patch) e.here) ∙ subst (λ (r : ℕ). (contents_at z k r).patch ≡ Some p) at f)
-    patch_by q p f (inr ne) =
-        g.patches q p (patch_is s h q ∙ sym (ap (λ (y : TrackContents). y.patch) (e.elsewhere q ne)) ∙ f)
 
 -- of a track as it was
 pub sits_still : (v w : List Track) (s : DeviceStore) (h : Held) (t : ℕ) (x : TrackContents) → t < tracks_of s → IsGround v w s h →
@@ -371,21 +328,36 @@ pub off_altered : (exempt : ℕ → Type 0) (v w : List Track) (s : DeviceStore)
     ((exempt t → ⊥) → IsRight s.geometry t s.half x (image_in s v t) (image_in s w t)) → RightOff exempt v w z k
 off_altered exempt v w s h z k t x b e sits slots here = record {
   ground = ground_altered v w s h z k t x b.ground e sits slots;
-  right = λ q lt ne. go q (let same = same_tracks s h z k e.base in omega arith) ne (cases_eq q t);
+  right = λ q lt. each_track
+      (λ p. p < tracks_of s → (exempt p → ⊥) → IsRight z.geometry p z.half (contents_at z k p) (image_in z v p) (image_in z w p)) t
+      (λ _ ne. same_right s h z k e.base v w t x (contents_at z k t) e.here (here ne))
+      (λ p off le ne. same_right s h z k e.base v w p (contents_at s h p) (contents_at z k p) (e.elsewhere p off) (b.right p le ne))
+      q (let same = same_tracks s h z k e.base in omega arith);
 }
-  where
-    go : (q : ℕ) → q < tracks_of s → (exempt q → ⊥) → ((q ≡ t) ⊎ (q ≢ t)) →
-        IsRight z.geometry q z.half (contents_at z k q) (image_in z v q) (image_in z w q)
-    go q lt ne (inl at) =
-        subst (λ (p : ℕ). IsRight z.geometry p z.half (contents_at z k p) (image_in z v p) (image_in z w p)) (sym at)
-        (same_right s h z k e.base v w t x (contents_at z k t) e.here (here (λ f. ne (subst exempt (sym at) f))))
-    go q lt ne (inr off) =
-        same_right s h z k e.base v w q (contents_at s h q) (contents_at z k q) (e.elsewhere q off) (b.right q lt ne)
 
 pub right_altered : (writing : Option ℕ) (v w : List Track) (s : DeviceStore) (h : Held) (z : DeviceStore) (k : Held) (t : ℕ) (x : TrackContents) →
     RightBut writing v w s h → Altered s h z k t x → Sits v w s.half t x → HasSlots z k.slots →
     (writing ≢ Some t → IsRight s.geometry t s.half x (image_in s v t) (image_in s w t)) → RightBut writing v w z k
 right_altered writing = off_altered (Being writing)
+
+-- a track that is as loose as it was, with the same patch and the same slot owed
+pub record Similar (x y : TrackContents) : Type 0 where
+  pub loose : y.loose ≡ x.loose
+  pub patch : y.patch ≡ x.patch
+  pub freed : y.freed ≡ x.freed
+
+similar_slots : (x y : TrackContents) → Similar x y → (kept : Bool) → slot_of kept y ≡ slot_of kept x
+similar_slots x y e true = ap (slot_in contents) e.patch
+similar_slots x y e false = e.freed
+
+pub similar_right : {exempt : ℕ → Type 0} {v w : List Track} {s : DeviceStore} {h : Held} {z : DeviceStore} {k : Held} {t : ℕ} {y : TrackContents} →
+    RightOff exempt v w s h → Altered s h z k t y → t < tracks_of s → Similar (contents_at s h t) y → k.slots ≡ h.slots →
+    ((exempt t → ⊥) → IsRight s.geometry t s.half (contents_at s h t) (image_in s v t) (image_in s w t) →
+    IsRight s.geometry t s.half y (image_in s v t) (image_in s w t)) → RightOff exempt v w z k
+similar_right {exempt} {v} {w} {s} {h} {z} {k} {t} {y} b e lt same slots here =
+    off_altered exempt v w s h z k t y b e (sits_still v w s h t y lt b.ground same.loose same.patch)
+    (unseen_slots s h z k (λ kept q. by_track s h z k t y kept e (similar_slots (contents_at s h t) y same kept) q) slots b.ground.slots)
+    (λ ne. here ne (b.right t lt ne))
 
 -- a change that is seen in no track
 pub unseen_right : (writing : Option ℕ) (v w : List Track) (s : DeviceStore) (h : Held) (z : DeviceStore) (k : Held) → RightBut writing v w s h →
@@ -408,18 +380,23 @@ unseen_right writing v w s h z k b e = record {
       (b.right q (let same = same_tracks s h z k e.base in omega arith) ne);
 }
 
+-- neither what an event counts, queues and lists nor whether side B is held is of the tracks, and a device keeps no plain volume
+pub beside_right : {writing : Option ℕ} {v w : List Track} {s : DeviceStore} {h : Held} {held : Bool} {queue : List ℕ} {plain firm : List Track}
+    {acts : List Act} {counts : Counts} → RightBut writing v w s h →
+    RightBut writing v w (record s { held = held; queue = queue; plain = plain; firm = firm; acts = acts; counts = counts }) h
+unfolding T.contents_at base_of
+beside_right {writing} {v} {w} {s} {h} {held} {queue} {plain} {firm} {acts} {counts} b =
+    unseen_right writing v w s h (record s { held = held; queue = queue; plain = plain; firm = firm; acts = acts; counts = counts }) h b
+    (record { sizes = record { are = b.ground.sizes.are }; base = refl; same = λ q. refl; slots = refl })
+
 -- one track more is right: it is not being written any more
 pub shut : (t : ℕ) (v w : List Track) (s : DeviceStore) (h : Held) → RightBut (Some t) v w s h →
     IsRight s.geometry t s.half (contents_at s h t) (image_in s v t) (image_in s w t) → Sure v w s h
-shut t v w s h b r = record { ground = b.ground; right = λ q lt ne. go q lt (cases_eq q t) }
-  where
-    some_is : (p q : ℕ) → Some p ≡ Some q → p ≡ q
-    some_is p q e = cc
-
-    go : (q : ℕ) → q < tracks_of s → ((q ≡ t) ⊎ (q ≢ t)) → IsRight s.geometry q s.half (contents_at s h q) (image_in s v q) (image_in s w q)
-    go q lt (inl at) =
-        subst (λ (p : ℕ). IsRight s.geometry p s.half (contents_at s h p) (image_in s v p) (image_in s w p)) (sym at) r
-    go q lt (inr ne) = b.right q lt (λ e. ne (sym (some_is t q e)))
+shut t v w s h b r = record {
+  ground = b.ground;
+  right = λ q lt _. each_track (λ p. p < tracks_of s → IsRight s.geometry p s.half (contents_at s h p) (image_in s v p) (image_in s w p)) t (λ _. r)
+      (λ p ne le. b.right p le (λ e. ne (sym (some_is t p e)))) q lt;
+}
 
 pub opens_write : (t : ℕ) (v w : List Track) (s : DeviceStore) (h : Held) → Sure v w s h → RightBut (Some t) v w s h
 opens_write t v w s h b = record { ground = b.ground; right = λ q lt ne. b.right q lt (λ e. absurd (cc)) }

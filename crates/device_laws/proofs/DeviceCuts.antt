@@ -10,7 +10,7 @@ use Rattle.plain_defs.specs.PlainState.{PlainState, reset_path}
 use Rattle.device_outside.specs.Interaction.{Interaction, Done, Try, Ask, Read, Write, Tell}
 use Rattle.device_defs.specs.Contents.{Contents}
 use Rattle.device_defs.specs.Cutting as K
-use Rattle.device_defs.specs.Cutting.{counts_one_by, half_cut, reset_noted, path_cut, reset_by, powered_off}
+use Rattle.device_defs.specs.Cutting.{counts_one_by, half_cut, reset_noted, path_cut, reset_by}
 use Rattle.device_defs.specs.Device.{Device, event_begun}
 use Rattle.device_defs.specs.Orders.{restore}
 use Rattle.device_defs.specs.Owed.{waiting_count, noted_end}
@@ -46,8 +46,7 @@ module _ {F P H : Type 0} where
   pub stands_by : (empty : PlainState) (d : Device F P H) (h : History) (y : Device F P H) → HasHistory d h y
       → IsPlain d.plans empty h → AreDue h → StandsPlainly empty y
   stands_by empty d h y has plain due = record {
-    plain = subst (λ (k : History). IsPlain y.plans empty k) (sym has.history)
-        (subst (λ (p : Plans). IsPlain p empty h) (sym has.plans) plain);
+    plain = rw has.history (subst (λ (p : Plans). IsPlain p empty h) (sym has.plans) plain);
     due = subst (λ (k : History). AreDue k) (sym has.history) due;
   }
 

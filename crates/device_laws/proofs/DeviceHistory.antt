@@ -43,7 +43,7 @@ use Rattle.ckd_chain.specs.Steps.{index_of, end_with, settled_by, start_of}
 use Rattle.plain_defs.specs.History.{OpenEntry, open_part, is_path_of, started, IsOpen, IsPlain}
 use Rattle.plain_defs.specs.Journal.{Plans, planned, program_of, replay}
 use Rattle.plain_defs.specs.Legal.{MayStart, IsCheck, is_of_path}
-use Rattle.plain_defs.specs.PlainState.{PlainState, PathsState, is_admitted}
+use Rattle.plain_defs.specs.PlainState.{PlainState, is_admitted}
 use Rattle.plain_defs.proofs.HistoryLaws.{started_plain}
 use Rattle.device_defs.specs.declared.answers.StartFault.{StartFault}
 use Rattle.device_defs.specs.declared.answers.StartFault.TheVariants.{PlanDone}
@@ -112,14 +112,12 @@ module _ {F P H : Type 0} (empty : PlainState) (d : Device F P H) (plain : IsPla
     -- a device whose command at hand ends with equipment check has a plain history behind it
     pub equipment_plain : IsPlain d.plans empty (turned d path (checks chain Equipment)).history
     equipment_plain = checked_plain d.plans empty d.history plain.legal due o running open_is
-        (end_with chain (settled_by chain Equipment)) next_is
-        (subst (λ (l : List Ccw). IsCheck l (end_with chain (settled_by chain Equipment))) at_hand.words (equipment_is_check chain))
+        (end_with chain (settled_by chain Equipment)) next_is (rw (← at_hand.words) (equipment_is_check chain))
 
     -- and with data check
     pub data_check_plain : IsPlain d.plans empty (turned d path (checks chain DataCheck)).history
     data_check_plain = checked_plain d.plans empty d.history plain.legal due o running open_is
-        (end_with chain (settled_by chain DataCheck)) next_is
-        (subst (λ (l : List Ccw). IsCheck l (end_with chain (settled_by chain DataCheck))) at_hand.words (data_check_is_check chain))
+        (end_with chain (settled_by chain DataCheck)) next_is (rw (← at_hand.words) (data_check_is_check chain))
 
 -- A start
 
@@ -149,8 +147,7 @@ module _ {F P H : Type 0} (empty : PlainState) (d : Device F P H) (plain : IsPla
       most = most;
       in_plan = in_plan;
       ordinal_is = ordinal_is;
-      admitted = subst (λ (x : PathsState). is_admitted x path (program_of d.plans path (started_count d.history path + 1)) ≡ true)
-          paths_are admitted;
+      admitted = rw (← paths_are) admitted;
     }
 
     begins : IsPlain d.plans empty (started d.history path (started_count d.history path + 1))

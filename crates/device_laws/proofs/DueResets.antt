@@ -124,8 +124,7 @@ module _ (h : History) (due : AreDue h) where
   waits_due o running path apart used = record {
     rising = put_rising path 0 h.waiting (omega arith) due.rising;
     used = put_used h.items path h.waiting used due.used;
-    others = subst (λ (r : Option OpenEntry). WaitFor r (put path h.waiting)) (sym running)
-        (put_others o.path path h.waiting apart (others_of o running));
+    others = rw running (put_others o.path path h.waiting apart (others_of o running));
   }
 
   reset_by : (path more : ℕ) (r : Option OpenEntry) → h.running ≡ r → AreDue (reset_in h path more r)

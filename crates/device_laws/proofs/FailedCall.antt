@@ -11,7 +11,7 @@ use Rattle.device_outside.specs.Keeper.{Firm}
 use Rattle.device_defs.specs.Between.{HasSizes}
 use Rattle.device_defs.specs.Contents.{Contents}
 use Rattle.device_defs.specs.Losses as L
-use Rattle.device_defs.specs.Losses.{down, side_lost, framed_image, firm_told, all_firm_told, call_failed}
+use Rattle.device_defs.specs.Losses.{down, side_lost, framed_image, all_firm_told, call_failed}
 use Rattle.device_defs.specs.Store.{Store, tracks_of, frame_at, owed_at, with_owed}
 use Rattle.device_laws.proofs.Always.{Always, always_done, always_tell, always_then, always_weaker}
 use Rattle.device_laws.proofs.Changes as C
@@ -30,9 +30,7 @@ still_firm None p false true false = refl
 still_firm None p false false false = refl
 
 pub settled_firm : (x : TrackMarks) → x.loose ≡ false → (settled_marks x).loose ≡ false
-settled_firm x e =
-    subst (λ (o : Bool). (settled_marks (marks x.frame x.patched x.lost o x.half x.level)).loose ≡ false) (sym e)
-    (still_firm x.frame x.patched x.lost x.half x.level)
+settled_firm x e = rw e (still_firm x.frame x.patched x.lost x.half x.level)
 
 -- the track of an open half write isn't lost
 abbrev pub IsKept : TrackMarks → Type 0
@@ -176,8 +174,7 @@ module _ {F P H R : Type 0} (c : Contents F P H R) where
   loose_by : (s z : Store F P H) (t : ℕ) (x : TrackMarks) → Changed c s z t x → ((track_at c s t).loose ≡ false → x.loose ≡ false) →
       (q : ℕ) → ((q ≡ t) ⊎ (q ≢ t)) → (track_at c s q).loose ≡ false → (track_at c z q).loose ≡ false
   loose_by s z t x e firm q (inl is) f =
-      subst (λ (p : ℕ). (track_at c z p).loose ≡ false) (sym is)
-      (ap (λ (y : TrackMarks). y.loose) e.here ∙ firm (subst (λ (p : ℕ). (track_at c s p).loose ≡ false) is f))
+      rw is (ap (λ (y : TrackMarks). y.loose) e.here ∙ firm (subst (λ (p : ℕ). (track_at c s p).loose ≡ false) is f))
   loose_by s z t x e firm q (inr ne) f = ap (λ (y : TrackMarks). y.loose) (e.elsewhere q ne) ∙ f
 
   -- a change of one track that leaves it good, and doesn't make it loose

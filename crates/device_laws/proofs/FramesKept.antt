@@ -1,5 +1,5 @@
 -- While the cache isn't lost, each track with a patch has a frame: so it stays behind each part of an event in which no call fails.
-use Rattle.std.proofs.Common.{◌≡◌, ◌≢◌, ◌==◌, ℕ, true, false, List, Option, Some, None, is_some, set, get_or, sym, ap, subst, ◌∙◌, ◌⊎◌, inl, inr, refl}
+use Rattle.std.proofs.Common.{◌≡◌, ◌≢◌, ◌==◌, ℕ, true, false, List, Option, Some, None, is_some, set, get_or, sym, ap, ◌∙◌, ◌⊎◌, inl, inr, refl}
 use Rattle.std.proofs.lemmas.Bool.{cases_eq, eqb-false, ne_eqb}
 use Rattle.std.proofs.lemmas.List.{get_or-set_other}
 use Rattle.std.specs.Prelude.{not}
@@ -41,14 +41,12 @@ module _ {F P H R : Type 0} (c : Contents F P H R) where
       HasFrames (record x { frames = l; patches = m })
   at_place x t l m others framed clean f = record { framed = λ q. framed_by q (cases_eq q t); clean = λ q. clean_by q (cases_eq q t) } where
     framed_by : (q : ℕ) → (q ≡ t) ⊎ (q ≢ t) → half_is x.half q ≡ false → is_some (get_or m q None) ≡ true → is_some (get_or l q None) ≡ true
-    framed_by q (inl is) =
-        subst (λ (p : ℕ). half_is x.half p ≡ false → is_some (get_or m p None) ≡ true → is_some (get_or l p None) ≡ true) (sym is) framed
+    framed_by q (inl is) = rw is framed
     framed_by q (inr ne) = λ none patched.
         ap (λ (o : Option F). is_some o) (others q ne).0 ∙ f.framed q ne none (sym (ap (λ (o : Option P). is_some o) (others q ne).1) ∙ patched)
 
     clean_by : (q : ℕ) → (q ≡ t) ⊎ (q ≢ t) → half_is x.half q ≡ false → is_clean c (get_or l q None) ≡ true → is_some (get_or m q None) ≡ false
-    clean_by q (inl is) =
-        subst (λ (p : ℕ). half_is x.half p ≡ false → is_clean c (get_or l p None) ≡ true → is_some (get_or m p None) ≡ false) (sym is) clean
+    clean_by q (inl is) = rw is clean
     clean_by q (inr ne) = λ none clean.
         ap (λ (o : Option P). is_some o) (others q ne).1 ∙ f.clean q ne none (sym (ap (λ (o : Option F). is_clean c o) (others q ne).0) ∙ clean)
 

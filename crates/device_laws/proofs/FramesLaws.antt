@@ -39,7 +39,7 @@ use Rattle.loss_model.specs.declared.Loss.{Loss}
 use Rattle.loss_model.specs.declared.Loss.TheVariants as losses
 use Rattle.track_image.specs.Image.{Image}
 use Rattle.track_table.proofs.Places.{empty_places}
-use Rattle.device_outside.specs.Interaction.{Interaction, Done, and_then}
+use Rattle.device_outside.specs.Interaction.{Interaction}
 use Rattle.device_outside.specs.Keeper.{Hearing}
 use Rattle.device_outside.specs.Outside.{Outside, Ran}
 use Rattle.device_defs.specs.declared.answers.Did.{Did}
@@ -49,7 +49,7 @@ use Rattle.device_defs.specs.declared.counts.Losses.{Losses}
 use Rattle.device_defs.specs.Command.{command}
 use Rattle.device_defs.specs.Contents.{Contents}
 use Rattle.device_defs.specs.Cutting.{reset, power}
-use Rattle.device_defs.specs.Device.{Device, with_store, event_begun, event_ended}
+use Rattle.device_defs.specs.Device.{Device, event_begun, event_ended}
 use Rattle.device_defs.specs.Events as E
 use Rattle.device_defs.specs.Events.{with_loss, losing, second, background, lose}
 use Rattle.device_defs.specs.Losses as L
@@ -59,21 +59,7 @@ use Rattle.device_defs.specs.Orders.{join, split, replace, hold_side, resume}
 use Rattle.device_defs.specs.Owed.{is_clean, waiting_count, noted_end}
 use Rattle.device_defs.specs.Start as S
 use Rattle.device_defs.specs.Start.{start}
-use Rattle.device_defs.specs.Store.{
-  HalfWrite,
-  Store,
-  tracks_of,
-  stale_at,
-  has_level,
-  takes_b,
-  frame_at,
-  patch_at,
-  is_lost,
-  is_loose,
-  half_is,
-  owed_at,
-  side_of,
-}
+use Rattle.device_defs.specs.Store.{HalfWrite, Store, tracks_of, stale_at, has_level, takes_b, frame_at, patch_at, is_lost, is_loose, half_is, owed_at, side_of}
 use Rattle.device_laws.specs.NewDevice.{new_contents}
 use Rattle.device_laws.specs.Standing.{IsChainOf}
 use Rattle.device_laws.specs.Unharmed.{MarksAreGood, IsUnharmed, IsFramed, IsUncached}
@@ -185,12 +171,10 @@ module _ {F P H R : Type 0} (c : Contents F P H R) where
     unfolding E.lose
     store_event d f up =
         lucky_then {p = λ (y : Device F P H) (a : Unit {0}). UpAndFramed y.store} (event_ended c d)
-        (lucky_then (λ s _. and_then (losing c s losses.Store) (λ y _. Done (with_store (record (event_begun d) { store = s }) y) (tt {0})))
-        (lucky_both (hear_framed c 960 (event_begun d).store f) (hear_goes c 960 (event_begun d).store))
-        (λ s _ g. lucky_then (λ y _. Done (with_store (record (event_begun d) { store = s }) y) (tt {0})) (store_goes s g.0 (g.1.up ∙ up))
+        (lucky_then _ (lucky_both (hear_framed c 960 (event_begun d).store f) (hear_goes c 960 (event_begun d).store))
+        (λ s _ g. lucky_then _ (store_goes s g.0 (g.1.up ∙ up))
         (λ y _ h. lucky_done h)))
-        (λ y a g. lucky_then (λ z _. Done (record y { store = z }) a)
-        (lucky_both (end_goes c faithful (waiting_count c d.store) y.store) (end_keeps (waiting_count c d.store) y.store g.1))
+        (λ y a g. lucky_then _ (lucky_both (end_goes c faithful (waiting_count c d.store) y.store) (end_keeps (waiting_count c d.store) y.store g.1))
         (λ z _ h. lucky_done (h.0.up ∙ g.0, h.1)))
 
     pub lose_store_framed : (d : Device F P H) → HasFrames c (plates_of d.store) → IsFramed d.store →
@@ -285,27 +269,15 @@ module _ {F P H R K : Type 0} (c : Contents F P H R) {hears : Hearing Image K} (
 module _ {F P H : Type 0} (d : Device F P H) (un : IsUncached d.store) where
   pub held_uncached : IsUncached (hold_side d).store × IsUncached (resume d).store
   held_uncached = (
-    λ n. held (un (record { sides = n.sides; failed = n.failed; cache = n.cache })),
-    λ n. resumed (un (record { sides = n.sides; failed = n.failed; cache = n.cache })),
+    λ n. let w = un (record { sides = n.sides; failed = n.failed; cache = n.cache }) in record { up = w.up; kept = w.kept; half = w.half; framed = w.framed },
+    λ n. let w = un (record { sides = n.sides; failed = n.failed; cache = n.cache }) in record { up = w.up; kept = w.kept; half = w.half; framed = w.framed },
   )
-    where
-      held : IsFramed d.store → IsFramed (hold_side d).store
-      held w = record { up = w.up; kept = w.kept; half = w.half; framed = w.framed }
-
-      resumed : IsFramed d.store → IsFramed (resume d).store
-      resumed w = record { up = w.up; kept = w.kept; half = w.half; framed = w.framed }
 
   pub joined_uncached : IsUncached (join d).store × IsUncached (split d).store
   joined_uncached = (
-    λ n. joined (un (record { sides = n.sides; failed = n.failed; cache = n.cache })),
-    λ n. parted (un (record { sides = n.sides; failed = n.failed; cache = n.cache })),
+    λ n. let w = un (record { sides = n.sides; failed = n.failed; cache = n.cache }) in record { up = w.up; kept = w.kept; half = w.half; framed = w.framed },
+    λ n. let w = un (record { sides = n.sides; failed = n.failed; cache = n.cache }) in record { up = w.up; kept = w.kept; half = w.half; framed = w.framed },
   )
-    where
-      joined : IsFramed d.store → IsFramed (join d).store
-      joined w = record { up = w.up; kept = w.kept; half = w.half; framed = w.framed }
-
-      parted : IsFramed d.store → IsFramed (split d).store
-      parted w = record { up = w.up; kept = w.kept; half = w.half; framed = w.framed }
 
   -- a side that isn't up is replaced
   pub replaced_uncached : (side : Side) → (side_of d.store side).up ≡ false → IsUncached (replace d side).store

@@ -12,6 +12,7 @@ use Rattle.std.proofs.Common.{
   List,
   [],
   ◌∷◌,
+  ◌++◌,
   length,
   Option,
   Some,
@@ -37,18 +38,17 @@ use Rattle.loss_model.specs.declared.Loss.TheVariants as losses
 use Rattle.track_image.specs.Image.{Image}
 use Rattle.track_table.proofs.Places.{empty_places}
 use Rattle.device_outside.specs.Interaction.{Interaction, Done, and_then}
-use Rattle.device_defs.specs.declared.answers.Did.{Did}
 use Rattle.device_defs.specs.Background.{work}
 use Rattle.device_defs.specs.Between.{HasSizes}
 use Rattle.device_defs.specs.Contents.{Contents}
 use Rattle.device_defs.specs.Cutting as U
-use Rattle.device_defs.specs.Cutting.{counts_one_by, half_cut, half_lost, loose_gone, powerless, powered_off, power, reset_noted, reset_by, reset}
+use Rattle.device_defs.specs.Cutting.{counts_one_by, half_cut, half_lost, loose_gone, powerless, powered_off, power, reset_by, reset}
 use Rattle.device_defs.specs.Device.{Device, with_store, event_begun, quiet_event, event}
 use Rattle.device_defs.specs.Effects.{act_noted, gone_back, loose_lost}
 use Rattle.device_defs.specs.Events as E
 use Rattle.device_defs.specs.Events.{with_loss, lost_by, losing, background, lose}
 use Rattle.device_defs.specs.Losses as L
-use Rattle.device_defs.specs.Losses.{over, without_frame, settled, cache_lost, store_lost, all_firm_told}
+use Rattle.device_defs.specs.Losses.{over, cache_lost, store_lost}
 use Rattle.device_defs.specs.Orders as D
 use Rattle.device_defs.specs.Orders.{with_tracks, lent_to, given_up, lend, restore}
 use Rattle.device_defs.specs.Owed as O
@@ -66,6 +66,8 @@ use Rattle.device_laws.proofs.Notices.{ending_changes_no_mark}
 use Rattle.device_laws.proofs.OrderMarks.{IsGone, restore_makes_good, lent_now_gone}
 use Rattle.device_laws.proofs.TrackMarks as M
 use Rattle.device_laws.proofs.TrackMarks.{TrackMarks, IsFaithful, track_at}
+use Rattle.device_defs.specs.declared.counts.Counts.{Counts}
+use Rattle.plain_defs.specs.declared.journal.Act.{Act}
 
 module _ {F P H : Type 0} where
   -- of a store that is lent
@@ -109,56 +111,37 @@ module _ {F P H : Type 0} where
       }
 
   -- acts and counts aren't of its tracks, and nothing is queued
-  unqueued_away : (s z : Store F P H) → IsLentOut s → z ≡ record s { queue = []; acts = z.acts; counts = z.counts } → IsLentOut z
-  unqueued_away s z i e =
-      subst IsLentOut (sym e) (record {
-        sizes = record { are = i.sizes.are };
-        lent = i.lent;
-        single = i.single;
-        down = i.down;
-        other = i.other;
-        none = i.none;
-        queue = refl;
-        frame = i.frame;
-        patch = i.patch;
-        lost = i.lost;
-      })
+  beside_away : (s : Store F P H) (acts : List Act) (counts : Counts) → IsLentOut s → IsLentOut (record s { acts = acts; counts = counts })
+  beside_away s acts counts i = record {
+    sizes = record { are = i.sizes.are };
+    lent = i.lent;
+    single = i.single;
+    down = i.down;
+    other = i.other;
+    none = i.none;
+    queue = i.queue;
+    frame = i.frame;
+    patch = i.patch;
+    lost = i.lost;
+  }
+
+  unqueued_away : (s : Store F P H) → IsLentOut s → IsLentOut (record s { queue = [] })
+  unqueued_away s i = subst (λ (l : List ℕ). IsLentOut (record s { queue = l })) i.queue i
 
   loose_away : (s : Store F P H) (b : Bool) → IsLentOut s → IsLentOut (record (if b then act_noted (gone_back s) CfwLost else s) { queue = [] })
-  loose_away s true i = unqueued_away (gone_back s) (record (act_noted (gone_back s) CfwLost) { queue = [] }) (gone_back_away s i) refl
-  loose_away s false i = unqueued_away s (record s { queue = [] }) i refl
+  loose_away s true i =
+      unqueued_away (act_noted (gone_back s) CfwLost) (beside_away (gone_back s) (s.acts ++ CfwLost ∷ []) s.counts (gone_back_away s i))
+  loose_away s false i = unqueued_away s i
 
   powerless_away : (s : Store F P H) (b : Bool) → IsLentOut s → IsLentOut (record (if b then gone_back s else s) { queue = [] })
-  powerless_away s true i = unqueued_away (gone_back s) (record (gone_back s) { queue = [] }) (gone_back_away s i) refl
-  powerless_away s false i = unqueued_away s (record s { queue = [] }) i refl
+  powerless_away s true i = unqueued_away (gone_back s) (gone_back_away s i)
+  powerless_away s false i = unqueued_away s i
 
   begun_away : (d : Device F P H) → IsLentOut d.store → IsLentOut (event_begun d).store
-  begun_away d i = record {
-    sizes = record { are = i.sizes.are };
-    lent = i.lent;
-    single = i.single;
-    down = i.down;
-    other = i.other;
-    none = i.none;
-    queue = i.queue;
-    frame = i.frame;
-    patch = i.patch;
-    lost = i.lost;
-  }
+  begun_away d i = beside_away d.store [] d.store.counts i
 
   counted_away : (s : Store F P H) (loss : Loss) → IsLentOut s → IsLentOut (with_loss s loss)
-  counted_away s loss i = record {
-    sizes = record { are = i.sizes.are };
-    lent = i.lent;
-    single = i.single;
-    down = i.down;
-    other = i.other;
-    none = i.none;
-    queue = i.queue;
-    frame = i.frame;
-    patch = i.patch;
-    lost = i.lost;
-  }
+  counted_away s loss i = beside_away s s.acts (with_loss s loss).counts i
 
 module _ {F P H R : Type 0} (c : Contents F P H R) where
   frame_of : (o : Option F) → M.frame_mark c o ≡ None → o ≡ None
@@ -234,8 +217,7 @@ module _ {F P H R : Type 0} (c : Contents F P H R) where
       Always (body (event_begun d)) (λ y _. Gone y) → Always (event c d body) (λ y _. Gone y)
   event_away d body g does =
       quiet_away d (λ z. and_then (hear c 960 z.store) (λ s _. body (record z { store = s })))
-      (always_then (hear_still 960 (event_begun d).store (begun_away d g.store))
-      (λ s _ e. subst (λ (x : Store F P H). Always (body (record (event_begun d) { store = x })) (λ y _. Gone y)) (sym e) does))
+      (always_then (hear_still 960 (event_begun d).store (begun_away d g.store)) (λ s _ e. rw e does))
 
   pub background_away : (d : Device F P H) → Gone d → Always (background c d) (λ y _. Gone y)
   unfolding E.background
@@ -243,9 +225,7 @@ module _ {F P H R : Type 0} (c : Contents F P H R) where
       let s = (event_begun d).store in
       let i = begun_away d g.store in
       event_away d (λ z. and_then (work c z.store) (λ y did. Done (with_store z y) did)) g
-      (subst (λ (w : Interaction R Image (Store F P H) (Option Did)). Always (and_then w (λ y did. Done (with_store (event_begun d) y) did)) (λ y _. Gone y))
-      (sym (work_none c s i.down i.other i.queue))
-      (always_done (record { store = i; idle = all_idle d.history s.acts g.idle })))
+      (rw (work_none c s i.down i.other i.queue) (always_done (record { store = i; idle = all_idle d.history s.acts g.idle })))
 
   pub loss_away : (d : Device F P H) (loss : Loss) → ((side : _) → loss ≡ losses.Side side → ⊥) → Gone d → Always (lose c d loss) (λ y _. Gone y)
   unfolding E.lose

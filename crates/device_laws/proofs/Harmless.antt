@@ -4,12 +4,10 @@ use Rattle.std.specs.Prelude.{◌&&◌, ◌||◌}
 use Rattle.ckd_types.specs.declared.paths.Side.{Side}
 use Rattle.loss_model.specs.declared.Loss.TheVariants as losses
 use Rattle.plain_defs.specs.History.{OpenEntry, has_used}
-use Rattle.plain_defs.specs.PlainState.{reset_path}
-use Rattle.device_outside.specs.Interaction.{Done}
 use Rattle.device_defs.specs.Contents.{Contents}
 use Rattle.device_defs.specs.Cutting as U
-use Rattle.device_defs.specs.Cutting.{origin_cut, half_cut, counts_one_by, reset_noted, reset_by, reset, power}
-use Rattle.device_defs.specs.Device.{Device, all_reset}
+use Rattle.device_defs.specs.Cutting.{origin_cut, half_cut, reset_by, reset, power}
+use Rattle.device_defs.specs.Device.{Device}
 use Rattle.device_defs.specs.Events.{lose}
 use Rattle.device_defs.specs.Losses as L
 use Rattle.device_defs.specs.Losses.{firm_told, all_firm_told}
@@ -131,11 +129,7 @@ module _ {F P H R : Type 0} (c : Contents F P H R) where
     reset_by_goes : (d : Device F P H) (path : ℕ) (o : Option OpenEntry) → DeviceGoes c d.store (reset_by c d path o)
     reset_by_goes d path (Some o) =
         lucky_if (o.path == path)
-        (λ _. lucky_then (λ s _. Done (record (reset_noted c d path (counts_one_by d.store.half)) {
-          store = s;
-          chain = None;
-          paths = all_reset (reset_path d.paths path) d.history.waiting;
-        }) (tt {0})) (half_cut_goes d.store d.store.half refl) (λ s _ f. lucky_done f))
+        (λ _. lucky_then _ (half_cut_goes d.store d.store.half refl) (λ s _ f. lucky_done f))
         (λ _. lucky_done (fine (core_of d.store)))
     reset_by_goes d path None =
         lucky_if (has_used d.history path) (λ _. lucky_done (fine (core_of d.store))) (λ _. lucky_done (fine (core_of d.store)))

@@ -1,5 +1,5 @@
 -- In a run whose outside is told, too, the pool has been told behind each event how many tracks wait.
-use Rattle.std.proofs.Common.{◌≡◌, ◌==◌, ℕ, Bool, true, false, List, Option, Some, None, set, get_or, refl, sym, ap, subst, ◌∙◌}
+use Rattle.std.proofs.Common.{◌≡◌, ◌==◌, ℕ, Bool, true, false, List, Option, Some, None, set, get_or, refl, sym, ap, ◌∙◌}
 use Rattle.std.proofs.lemmas.Bool.{eqb-true}
 use Rattle.std.proofs.lemmas.List.{set-get_or}
 use Rattle.std.specs.Prelude.{if◌then◌else◌}
@@ -27,17 +27,7 @@ use Rattle.device_defs.specs.Events.{losing, second_of, second, background, lose
 use Rattle.device_defs.specs.Owed.{all_told, waiting_count, waiting_told, noted_end}
 use Rattle.device_defs.specs.Store.{Store, tracks_of}
 use Rattle.device_laws.proofs.Based.{Base, kept, Hushed, Based, based_done, based_try, based_ask, based_read, based_write, based_tell}
-use Rattle.device_laws.proofs.BasedEvents.{
-  base_in,
-  with_one_loss,
-  fronted,
-  front_based,
-  command_body,
-  second_body,
-  work_body,
-  lose_body,
-  power_body,
-}
+use Rattle.device_laws.proofs.BasedEvents.{base_in, with_one_loss, fronted, front_based, command_body, second_body, work_body, lose_body, power_body}
 use Rattle.device_laws.proofs.invariants.CallCounts.{all_told_steady}
 use Rattle.device_laws.proofs.RanBased.{put_in, after_waits}
 
@@ -59,47 +49,32 @@ write_pool : (w : Told) (side : Side) → (told_write w side).pool ≡ w.pool
 write_pool w sides.A = refl
 write_pool w sides.B = refl
 
+-- one more step
+carried : {R S U X Y : Type 0} {base : S → Base} {b d : Base} {r : R} {i j : Interaction R Image S X} {f : S → X → Interaction R Image U Y} {w v : Told} →
+    d.device ≡ b.device → v.pool.waiting ≡ w.pool.waiting → hold r (and_then i f) w ≡ hold r (and_then j f) v → Split base d r j f v → Split base b r i f w
+carried own e same y = record {
+  state = y.state;
+  answer = y.answer;
+  told = y.told;
+  device = y.device ∙ own;
+  waiting = y.waiting ∙ e;
+  same = same ∙ y.same;
+}
+
 split : {R S U X Y : Type 0} {base : S → Base} {b : Base} {i : Interaction R Image S X} (r : R) (f : S → X → Interaction R Image U Y) → Based base Hushed b i →
     (w : Told) → Split base b r i f w
 unfolding T.hold
 split r f (based_done e) w = record { state = _; answer = _; told = w; device = ap (λ (x : Base). x.device) e; waiting = refl; same = refl }
-split r f (based_try x) w =
-    let y = split r f (x true) w in
-    record { state = y.state; answer = y.answer; told = y.told; device = y.device; waiting = y.waiting; same = y.same }
+split r f (based_try x) w = carried refl refl refl (split r f (x true) w)
 split r f (based_ask {call = call} m x) w =
-    let a = answer w.pool call in
-    let y = split r f (x a) (record w { pool = after w.pool call a }) in
-    record {
-      state = y.state;
-      answer = y.answer;
-      told = y.told;
-      device = y.device;
-      waiting = y.waiting ∙ after_waits w.pool call a m;
-      same = y.same;
-    }
+    let a = answer w.pool call in carried refl (after_waits w.pool call a m) refl (split r f (x a) (record w { pool = after w.pool call a }))
 split r f (based_read {side = side} x) w =
-    let y = split r f (x (if read_fails (calls_of w side) then None else Some r)) (told_read w side) in
-    record {
-      state = y.state;
-      answer = y.answer;
-      told = y.told;
-      device = y.device;
-      waiting = y.waiting ∙ ap (λ (p : O.Pool). p.waiting) (read_pool w side);
-      same = y.same;
-    }
+    carried refl (ap (λ (p : O.Pool). p.waiting) (read_pool w side)) refl
+    (split r f (x (if read_fails (calls_of w side) then None else Some r)) (told_read w side))
 split r f (based_write {side = side} x) w =
-    let y = split r f (x (if write_fails (calls_of w side) then false else true)) (told_write w side) in
-    record {
-      state = y.state;
-      answer = y.answer;
-      told = y.told;
-      device = y.device;
-      waiting = y.waiting ∙ ap (λ (p : O.Pool). p.waiting) (write_pool w side);
-      same = y.same;
-    }
-split r f (based_tell {m = m} x) w =
-    let y = split r f (x (reply m)) w in
-    record { state = y.state; answer = y.answer; told = y.told; device = y.device; waiting = y.waiting; same = y.same }
+    carried refl (ap (λ (p : O.Pool). p.waiting) (write_pool w side)) refl
+    (split r f (x (if write_fails (calls_of w side) then false else true)) (told_write w side))
+split r f (based_tell {m = m} x) w = carried refl refl refl (split r f (x (reply m)) w)
 
 -- one that tells none leaves the numbers that the pool has
 pub hushed_waits : {R S X : Type 0} {base : S → Base} {b : Base} {i : Interaction R Image S X} (r : R) → Based base Hushed b i → (w : Told) →
@@ -143,7 +118,7 @@ module _ {F P H R : Type 0} (c : Contents F P H R) (r : R) where
     end_told : y.store.device ≡ d → (w : Told) → w.pool.waiting ≡ ws → HasTold ws d (hold r (and_then (noted_end c before y.store) (put_in y o)) w)
     end_told own w same =
         let x = split r (λ z _. and_then (waiting_told c before z) (put_in y o)) (all_told_steady c (tracks_of y.store) y.store) w in
-        subst (HasTold ws d) (sym (hold_on r (all_told c (tracks_of y.store) y.store) (λ z _. waiting_told c before z) (put_in y o) w ∙ x.same))
+        rw (hold_on r (all_told c (tracks_of y.store) y.store) (λ z _. waiting_told c before z) (put_in y o) w ∙ x.same)
         (count_told x.state (x.device ∙ own) (waiting_count c x.state == before) refl x.told (x.waiting ∙ same))
 
   pub quiet_told : {X : Type 0} (d : Device F P H) (b : Base) (body : Device F P H → Interaction R Image (Device F P H) X) → b.device ≡ d.store.device →
@@ -151,8 +126,7 @@ module _ {F P H R : Type 0} (c : Contents F P H R) (r : R) where
       HasTold w.pool.waiting d.store.device (hold r (quiet_event c d body) w)
   quiet_told d b body own x w number =
       let y = split r (event_ended c d) x w in
-      subst (HasTold w.pool.waiting d.store.device) (sym y.same)
-      (end_told y.state y.answer (waiting_count c d.store) d.store.device w.pool.waiting number (y.device ∙ own) y.told y.waiting)
+      rw y.same (end_told y.state y.answer (waiting_count c d.store) d.store.device w.pool.waiting number (y.device ∙ own) y.told y.waiting)
 
   module _ (d : Device F P H) (w : Told) (number : get_or w.pool.waiting d.store.device 0 ≡ waiting_count c d.store) where
     event_told : {X : Type 0} (body : Device F P H → Interaction R Image (Device F P H) X) (f : Base → Base) → (f (kept d.store)).device ≡ d.store.device →

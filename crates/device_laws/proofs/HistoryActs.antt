@@ -138,8 +138,7 @@ module _ (plans : Plans) (empty : PlainState) (h : History) (plain : IsPlain pla
         ∙ edits
 
     loose_going : IsGoing plans replayed h.items later (edited_next plans replayed h.items later)
-    loose_going = subst (λ (x : Option ℕ). IsGoing plans replayed h.items later x) (sym edited_is)
-        (going_with_act plans replayed h.items o firm_going (Loosen t) (Some t) (firm, refl))
+    loose_going = rw edited_is (going_with_act plans replayed h.items o firm_going (Loosen t) (Some t) (firm, refl))
 
     due_as_before : AreDue loosened
     due_as_before = record {
@@ -162,5 +161,5 @@ module _ (plans : Plans) (empty : PlainState) (h : History) (plain : IsPlain pla
 
     -- directly before the end of the command that edits it, as data of cache fast write
     pub loosened_plain : IsPlain plans empty (ended (acted h (Loosen t)) e)
-    loosened_plain = subst (λ (r : Option OpenEntry). IsPlain plans empty (ended (acted_in h (Loosen t) r) e)) (sym running)
+    loosened_plain = rw running
         (going_ends_plain plans empty loosened plain.legal due_as_before later refl loose_going i later_next e later_end later_may)

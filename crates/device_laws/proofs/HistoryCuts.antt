@@ -104,10 +104,9 @@ module _ (plans : Plans) (s : PlainState) (items : List Item) (o : OpenEntry) (i
   taken_acts : (more : ℕ) → MayTake plans s o more
       → HasActs s o.path (program_of plans o.path o.ordinal) o.acts (length o.ends + more)
   taken_acts zero may = let same : length o.ends ≡ length o.ends + 0 = omega arith in
-      subst (λ (k : ℕ). HasActs s o.path (program_of plans o.path o.ordinal) o.acts k) same is_open.acts
+      rw (← same) is_open.acts
   taken_acts (suc zero) may = let same : suc (length o.ends) ≡ length o.ends + 1 = omega arith in
-      subst (λ (k : ℕ). HasActs s o.path (program_of plans o.path o.ordinal) o.acts k) same
-      (acts_with_one plans s items o (going_of_open plans s items o (edited_next plans s items o) is_open) may)
+      rw (← same) (acts_with_one plans s items o (going_of_open plans s items o (edited_next plans s items o) is_open) may)
   taken_acts (suc (suc more)) may = absurd may
 
   at_most_one : (more : ℕ) → MayTake plans s o more → more ≤ 1
@@ -139,8 +138,7 @@ module _ (plans : Plans) (empty : PlainState) (h : History) (plain : IsPlain pla
       → IsPlain plans empty (record h { items = h.items ++ x ∷ [] })
   idle_with x running legal = record {
     legal = legal;
-    at = subst (λ (r : Option OpenEntry). IfSome r (IsOpen plans (replay plans empty (h.items ++ x ∷ [])) (h.items ++ x ∷ [])))
-        (sym running) tt;
+    at = rw running tt;
   }
 
   module _ (o : OpenEntry) (running : h.running ≡ Some o) (more : ℕ) (may : MayTake plans s o more) where
@@ -193,7 +191,7 @@ module _ (plans : Plans) (empty : PlainState) (h : History) (plain : IsPlain pla
     }
 
     pub power_cut_plain : IsPlain plans empty (lost_power h more)
-    power_cut_plain = subst (λ (r : Option OpenEntry). IsPlain plans empty (lost_power_in h more r)) (sym running) power_cuts
+    power_cut_plain = rw running power_cuts
 
     pub power_cut_state : plain_of plans empty (lost_power h more) ≡ power_off (taken_state plans s o more)
     power_cut_state =

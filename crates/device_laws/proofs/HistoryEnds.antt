@@ -13,7 +13,6 @@ use Rattle.std.proofs.Common.{
   ◌++◌,
   Option,
   Some,
-  None,
   Bool,
   true,
   false,
@@ -29,7 +28,7 @@ use Rattle.std.proofs.Common.{
   inl,
   inr,
 }
-use Rattle.std.specs.Prelude.{◌⊎◌, IsSome, IfSome}
+use Rattle.std.specs.Prelude.{◌⊎◌, IfSome}
 use Rattle.std.proofs.lemmas.Bool.{cases_lt}
 use Rattle.std.proofs.lemmas.List.{length-append}
 use Rattle.ckd_types.specs.declared.channel.Ccw.{Ccw}
@@ -37,9 +36,7 @@ use Rattle.ckd_types.specs.declared.channel.CommandEnd.{CommandEnd}
 use Rattle.ckd_types.specs.declared.sense.Sense.{Sense}
 use Rattle.ckd_types.specs.Ccw.{ccw_at}
 use Rattle.ckd_rules.specs.Ends.{end_at_word, is_over}
-use Rattle.ckd_rules.specs.Walk.{TrackEdit}
 use Rattle.ckd_rules.proofs.Goes.{over_stops, more_goes}
-use Rattle.plain_defs.specs.declared.journal.Act.{Act}
 use Rattle.plain_defs.specs.declared.journal.How.{How}
 use Rattle.plain_defs.specs.declared.journal.How.TheVariants.{Full, Checked}
 use Rattle.plain_defs.specs.declared.journal.Item.{Item}
@@ -61,21 +58,7 @@ use Rattle.plain_defs.specs.History.{
   IsPlain,
 }
 use Rattle.plain_defs.specs.Journal.{Plans, program_of, replay, replay_item, last_sense}
-use Rattle.plain_defs.specs.Legal.{
-  AreInOrder,
-  AreActs,
-  MayEdit,
-  edit_at,
-  track_of,
-  next_edit,
-  bare_part,
-  IsPoint,
-  HasActs,
-  IsCheck,
-  EndsChecked,
-  IsLegalItem,
-  IsLegal,
-}
+use Rattle.plain_defs.specs.Legal.{AreInOrder, MayEdit, edit_at, track_of, next_edit, IsPoint, HasActs, IsCheck, IsLegalItem, IsLegal}
 use Rattle.plain_defs.specs.PlainState.{PlainState, with_sense}
 use Rattle.plain_defs.specs.Program.{Part, command_run, stepped_at, ended_with, part_of}
 use Rattle.plain_defs.proofs.JournalLaws.{legal_more, replay-append}
@@ -98,7 +81,7 @@ module _ (plans : Plans) (empty : PlainState) (h : History) where
   pub closed_plain : IsLegal plans empty h.items → AreDue h → (o : OpenEntry) (how : How)
       → IsLegalItem plans (replay plans empty h.items) h.items (entry_of o how) [] → IsPlain plans empty (closed h o how)
   closed_plain legal due o how item = record {
-    legal = subst (λ (l : List Item). IsLegal plans empty l) (append_assoc h.items (entry_of o how ∷ []) (resets_of h.waiting))
+    legal = rw (← (append_assoc h.items (entry_of o how ∷ []) (resets_of h.waiting)))
         (resets_follow plans empty (h.items ++ entry_of o how ∷ []) h.waiting
         (legal_more plans empty [] h.items (entry_of o how) legal item) due.rising
         (used_behind_program h.items (record { path = o.path; ordinal = o.ordinal; how = how; ends = o.ends; acts = o.acts })
@@ -131,8 +114,7 @@ module _ (plans : Plans) (s : PlainState) (items : List Item) (o : OpenEntry) wh
       point_by j (inl below) inside = going.points j below
       point_by j (inr above) inside =
           let here : length o.ends ≡ j = omega (arith, above, inside) in
-          subst (λ (k : ℕ). IsPoint s o.path (program_of plans o.path o.ordinal) o.acts k) here
-          (record { acts_are = going.here; edit_is = may })
+          rw (← here) (record { acts_are = going.here; edit_is = may })
 
       -- it took effect: one command more with the acts before it
       pub acts_with_one : HasActs s o.path (program_of plans o.path o.ordinal) o.acts (suc (length o.ends))
@@ -140,8 +122,7 @@ module _ (plans : Plans) (s : PlainState) (items : List Item) (o : OpenEntry) wh
         points = λ j below. point_by j (cases_lt j (length o.ends)) below;
         last =
             let stop : length o.ends + 1 ≤ suc (length o.ends) = omega arith in
-            subst (λ (l : List Act). AreActs (bare_part s o.path (program_of plans o.path o.ordinal) o.acts (suc (length o.ends))).state
-            None l) (sym (no_acts 0 (length o.ends + 1) (suc (length o.ends)) o.acts going.order stop)) tt;
+            rw (no_acts 0 (length o.ends + 1) (suc (length o.ends)) o.acts going.order stop) tt;
       }
 
     -- the program's part behind it
@@ -183,7 +164,7 @@ module _ (plans : Plans) (empty : PlainState) (h : History) (legal : IsLegal pla
     checked_item = (
       record {
         started = is_open.start;
-        ends = subst (λ (k : ℕ). EndsChecked (part_of s o.path ccws o.acts k) ccws (o.ends ++ e ∷ [])) (sym one_less) (record {
+        ends = rw one_less (record {
           last = e;
           ends_are = ap (λ (l : List CommandEnd). l ++ e ∷ []) is_open.ends;
           next_is = next;
@@ -198,8 +179,7 @@ module _ (plans : Plans) (empty : PlainState) (h : History) (legal : IsLegal pla
 
     -- the running program ends with a check of its next command
     pub checked_plain : IsPlain plans empty (checked h e)
-    checked_plain = subst (λ (r : Option OpenEntry). IsPlain plans empty (checked_in h e r)) (sym running)
-        (closed_plain plans empty h legal due (with_end o e) Checked checked_item)
+    checked_plain = rw running (closed_plain plans empty h legal due (with_end o e) Checked checked_item)
 
     -- and is as if the command had done nothing, with the sense of the check; then the resets that waited
     pub checked_state : plain_of plans empty (checked h e)
@@ -227,8 +207,7 @@ module _ (plans : Plans) (empty : PlainState) (h : History) (legal : IsLegal pla
     at_end = ap (λ (k : ℕ). part_of s o.path ccws o.acts k) many ∙ part_with_one plans s h.items o going i next
 
     may_next : MayEdit p.state p.stance (next_edit o.path ccws p)
-    may_next = subst (λ (x : Option TrackEdit). MayEdit p.state p.stance x)
-        (sym (ap (λ (n : Option ℕ). edit_at o.path ccws p n) next)) may
+    may_next = rw (ap (λ (n : Option ℕ). edit_at o.path ccws p n) next) may
 
     acts_at_end : HasActs s o.path ccws o.acts (length (o.ends ++ e ∷ []))
     acts_at_end = subst (λ (k : ℕ). HasActs s o.path ccws o.acts k) (sym many) (acts_with_one plans s h.items o going may_next)
@@ -246,8 +225,7 @@ module _ (plans : Plans) (empty : PlainState) (h : History) (legal : IsLegal pla
       at = record {
         start = going.start;
         ends = later_ends;
-        runs = subst (λ (n : Option ℕ). IsSome n)
-            (sym (ap (λ (x : Part). x.next) at_end ∙ more_goes ccws i (effect_at plans s h.items o i).outcome (sym over_is ∙ more))) refl;
+        runs = rw (ap (λ (x : Part). x.next) at_end ∙ more_goes ccws i (effect_at plans s h.items o i).outcome (sym over_is ∙ more)) refl;
         order = order_on 0 (length o.ends + 1) (length (o.ends ++ e ∷ []) + 1) o.acts going.order (omega (arith, many));
         acts = acts_at_end;
       };
@@ -276,7 +254,7 @@ module _ (plans : Plans) (empty : PlainState) (h : History) (legal : IsLegal pla
 
     -- a command of the running program ends, and behind the program's end come the resets that waited
     pub going_ends_plain : IsPlain plans empty (ended h e)
-    going_ends_plain = subst (λ (r : Option OpenEntry). IsPlain plans empty (ended_in h e r)) (sym running) (by_over e.over refl)
+    going_ends_plain = rw running (by_over e.over refl)
 
     -- the plain device behind it
     pub ended_state_on : e.over ≡ false → plain_of plans empty (ended h e) ≡ behind_effect p.state (effect_at plans s h.items o i)

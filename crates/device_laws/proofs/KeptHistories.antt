@@ -1,29 +1,5 @@
 -- What ends, checks and acts make of a journal: it stays one that a turn keeps, and has no more data checks but where a command ended with one.
-use Rattle.std.proofs.Common.{
-  ◌≡◌,
-  ◌≤◌,
-  ◌+◌,
-  zero,
-  suc,
-  ℕ,
-  Bool,
-  true,
-  false,
-  List,
-  [],
-  ◌∷◌,
-  ◌++◌,
-  Option,
-  Some,
-  None,
-  refl,
-  sym,
-  ap,
-  subst,
-  ◌∙◌,
-  append_assoc,
-  arith,
-}
+use Rattle.std.proofs.Common.{◌≡◌, ◌≤◌, ◌+◌, zero, suc, ℕ, Bool, true, false, List, [], ◌∷◌, ◌++◌, Option, Some, None, refl, sym, ap, ◌∙◌, append_assoc, arith}
 use Rattle.std.proofs.lemmas.List.{append-nil}
 use Rattle.std.specs.Prelude.{if◌then◌else◌, ◌&&◌, count_by}
 use Rattle.std.specs.List.{fold}
@@ -132,8 +108,7 @@ extends_on h k l f g = record {
 closed_extends : (h : History) (o : OpenEntry) (how : How) → is_uncut how ≡ true → Extends h (closed h o how)
 closed_extends h o how uncut = record {
   waiting = λ none. refl;
-  kept = λ none n e. subst (λ (l : List ℕ). is_kept_journal n (h.items ++ entry_of o how ∷ resets_of l) ≡ true) (sym none)
-      (kept_more n h.items (entry_of o how) e uncut);
+  kept = λ none n e. rw none (kept_more n h.items (entry_of o how) e uncut);
   fresh = count_more is_fresh h.items (entry_of o how ∷ resets_of h.waiting) (refl, no_fresh_resets h.waiting);
   more = entry_of o how ∷ resets_of h.waiting;
   grown = refl;

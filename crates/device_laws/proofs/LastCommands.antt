@@ -51,7 +51,7 @@ use Rattle.device_outside.specs.Interaction.{Interaction}
 use Rattle.device_defs.specs.declared.answers.Came.TheVariants.{Ends}
 use Rattle.device_defs.specs.declared.answers.SecondEnd.{SecondEnd}
 use Rattle.device_defs.specs.Command as N
-use Rattle.device_defs.specs.Command.{is_loss, has_loss, came_out, on_tracks, answered_by, command_at, command_by, command}
+use Rattle.device_defs.specs.Command.{is_loss, has_loss, on_tracks, answered_by, command_at, command_by, command}
 use Rattle.device_defs.specs.Contents.{by_plain}
 use Rattle.device_defs.specs.Device.{all_acted, with_store, event_begun, event}
 use Rattle.device_defs.specs.Excused.{LastCommand, is_write, is_checked, last_command}
@@ -217,8 +217,7 @@ module _ (num : ℕ) (empty : PlainState) (d : MarksDevice) (f : Follows num emp
       let part = C.part_on num empty d f o running chain is y.acts w.are in
       check_adds_by (all_acted d.history y.acts) on.items r.entry r.path_is r.at
       (ap (λ (s : PlainState). s.volume) part ∙ w.of.volume ∙ w.plain)
-      (ap (λ (s : PlainState). s.paths) part ∙ C.paths_on num empty d f o running chain is y.acts w.are)
-      (subst (λ (x : OpenEntry). has_loss o.acts ≡ true → has_loss x.acts ≡ true) it on.losses) end
+      (ap (λ (s : PlainState). s.paths) part ∙ C.paths_on num empty d f o running chain is y.acts w.are) (rw (← it) on.losses) end
       (all_acted d.history y.acts).running r.running
 
   turn_adds : (z : MarksDevice) → z.history ≡ d.history → (answer : LocalAct → Settled)
@@ -231,11 +230,9 @@ module _ (num : ℕ) (empty : PlainState) (d : MarksDevice) (f : Follows num emp
       ends_add (with_store z y) o.path after e
       (ap (λ (h : History). (all_acted h y.acts).items) hist ∙ (runs_still y.acts d.history o running).items)
   turn_adds z hist answer on k from first turn y c same (equipment at x word w) =
-      subst (λ (h : History). Adds (checked (all_acted h y.acts) (end_with at (settled_by at Equipment)))) (sym hist)
-      (check_adds y (subst Walking (sym same) w) (end_with at (settled_by at Equipment)))
+      rw hist (check_adds y (subst Walking (sym same) w) (end_with at (settled_by at Equipment)))
   turn_adds z hist answer on k from first turn y c same (data_check at x word w) =
-      subst (λ (h : History). Adds (checked (all_acted h y.acts) (end_with at (settled_by at DataCheck)))) (sym hist)
-      (check_adds y (subst Walking (sym same) w) (end_with at (settled_by at DataCheck)))
+      rw hist (check_adds y (subst Walking (sym same) w) (end_with at (settled_by at DataCheck)))
   turn_adds z hist answer on k from first turn y c same (half_open t e next x word below does half) =
       none_adds (all_acted z.history y.acts)
       (ap (λ (h : History). (all_acted h y.acts).items) hist ∙ (runs_still y.acts d.history o running).items)
@@ -349,8 +346,5 @@ module _ (num : ℕ) (empty : PlainState) (d : MarksDevice) (f : Follows num emp
           Had (second_ended by_plain (with_store d y) h.track origin done)
           (λ x (_ : SecondEnd). Adds num empty d f o running halfway.origin halfway.begins x.history)
       by_origin y done origin e k =
-          subst (λ (x : Origin). Had (second_ended by_plain (with_store d y) h.track x done)
-          (λ x (_ : SecondEnd). Adds num empty d f o running halfway.origin halfway.begins x.history)) (sym e)
-          (second_ended_adds num empty d f o running halfway.origin halfway.begins h.track edit halfway.chain halfway.is bypass y done
-          (subst (λ (x : Origin). SecondSo (plain_of d.plans empty d.history) d.store.plain d.store.geometry d.store.cylinders
-          (d.store.lent, d.store.device) h.track x y done) e k))
+          rw e (second_ended_adds num empty d f o running halfway.origin halfway.begins h.track edit halfway.chain halfway.is bypass y done
+          (rw (← e) k))

@@ -27,17 +27,16 @@ use Rattle.nv_store.specs.declared.patches.Stored.{Stored}
 use Rattle.device_outside.specs.Interaction.{Interaction, Done, Tell, and_then}
 use Rattle.device_outside.specs.Keeper.{Firm}
 use Rattle.device_outside.proofs.BothRules.{on_test}
-use Rattle.device_defs.specs.declared.answers.Did.{Did}
 use Rattle.device_defs.specs.declared.answers.Did.TheVariants.{Nothing}
 use Rattle.device_defs.specs.Background as K
 use Rattle.device_defs.specs.Background.{copies_to, copy_first, stage_first, destage_first, recover_first, work}
 use Rattle.device_defs.specs.Contents.{Contents, contents, by_plain}
 use Rattle.device_defs.specs.Cutting as U
 use Rattle.device_defs.specs.Cutting.{counts_one_by, half_cut, half_lost, loose_gone, powerless, powered_off, power, reset_noted, reset_by, reset}
-use Rattle.device_defs.specs.Device.{Device, all_acted, with_store, event_begun, event_ended, quiet_event, event}
+use Rattle.device_defs.specs.Device.{Device, all_acted, with_store, event_begun, quiet_event, event}
 use Rattle.device_defs.specs.Effects.{gone_back}
 use Rattle.device_defs.specs.Events as E
-use Rattle.device_defs.specs.Events.{with_loss, lost_by, losing, background, lose}
+use Rattle.device_defs.specs.Events.{with_loss, losing, background, lose}
 use Rattle.device_defs.specs.Losses as L
 use Rattle.device_defs.specs.Losses.{over, without_frame, settled, patch_lost, cache_lost, store_lost, framed_image, all_firm_told}
 use Rattle.device_defs.specs.Marks.{MarksStore, MarksDevice, marks_of, frame_mark, patch_mark, half_mark}
@@ -60,7 +59,7 @@ use Rattle.device_defs.specs.Store.{
   with_frame,
   with_owed,
 }
-use Rattle.device_laws.specs.Agrees.{Held, image_in, slot_at}
+use Rattle.device_laws.specs.Agrees.{Held, image_in, slot_at, IsGround}
 use Rattle.device_laws.specs.Lent.{IsLentStore, IsLent}
 use Rattle.device_laws.specs.Twin.{Twins}
 use Rattle.device_laws.specs.Whole.{WholeDevice, marks_device, WholeTwins}
@@ -70,7 +69,7 @@ use Rattle.device_laws.proofs.ContentChanges.{same_slots}
 use Rattle.device_laws.proofs.FailedCall.{IsSame}
 use Rattle.device_laws.proofs.Notices.{ending_changes_no_mark}
 use Rattle.device_laws.proofs.TrackContents as T
-use Rattle.device_laws.proofs.TrackContents.{TrackContents, contents_at, none_fits}
+use Rattle.device_laws.proofs.TrackContents.{contents_at, none_fits}
 use Rattle.device_laws.proofs.TrackMarks as M
 use Rattle.device_laws.proofs.TrackMarks.{track_at}
 use Rattle.device_laws.proofs.TwinAsks.{Ordered, ask_notice, right_keeps}
@@ -79,6 +78,7 @@ use Rattle.device_laws.proofs.TwinChanges.{frame_twin, patch_twin, owed_twin}
 use Rattle.device_laws.proofs.TwinEvents.{ended_twin, count_twin}
 use Rattle.device_laws.proofs.TwinWalks.{twin_done, twin_always, twin_weaker}
 use Rattle.device_laws.proofs.WholeTwins.{whole_done, whole_ends, store_then, whole_then}
+use Rattle.device_defs.specs.declared.counts.Counts.{Counts}
 
 -- No act and no event starts a program
 
@@ -233,10 +233,7 @@ hear_lent (suc n) v w s h i = ask_notice s.device (λ note. by_note note (hear_l
         Twins Away (heard contents (hear contents n) s note) (heard by_plain (hear by_plain n) (marks_of v w s) note) h
     by_note None later = twin_done i
     by_note (Some t) later =
-        subst (λ (z : DeviceStore). Twins Away (hear contents n z) (hear by_plain n (dropped by_plain (marks_of v w s) t)) h)
-        (sym (dropped_same contents s t (i.frame t)))
-        (subst (λ (m : MarksStore). Twins Away (hear contents n s) (hear by_plain n m) h)
-        (sym (dropped_same by_plain (marks_of v w s) t (marks_frame v w s h i t))) later)
+        rw (dropped_same contents s t (i.frame t)) (rw (dropped_same by_plain (marks_of v w s) t (marks_frame v w s h i t)) later)
 
 -- an event's end
 
@@ -284,96 +281,52 @@ ended_lent before v w s h i =
 
 -- Data of cache fast write go
 
+beside_lent : {v w v' w' : List Track} {s z : DeviceStore} {h : Held} → IsLentStore v w s h → IsGround v' w' z h →
+    z ≡ record s { number = z.number; plain = z.plain; firm = z.firm; loose = z.loose; acts = z.acts; counts = z.counts; queue = [] } →
+    IsLentStore v' w' z h
+beside_lent i ground e = record {
+  ground = ground;
+  told = λ t. ap (λ (x : DeviceStore). (owed_at x t).firm) e ∙ i.told t;
+  lent = ap (λ (x : DeviceStore). is_some x.lent) e ∙ i.lent;
+  single = ap (λ (x : DeviceStore). x.paired) e ∙ i.single;
+  down_a = ap (λ (x : DeviceStore). x.a.up) e ∙ i.down_a;
+  down_b = ap (λ (x : DeviceStore). x.b.up) e ∙ i.down_b;
+  half = ap (λ (x : DeviceStore). x.half) e ∙ i.half;
+  queue = ap (λ (x : DeviceStore). x.queue) e;
+  frame = λ t. ap (λ (x : DeviceStore). frame_at x t) e ∙ i.frame t;
+  patch = λ t. ap (λ (x : DeviceStore). patch_at x t) e ∙ i.patch t;
+  lost = λ t. ap (λ (x : DeviceStore). is_lost x t) e ∙ i.lost t;
+}
+
+ground_beside : {v w : List Track} {s : DeviceStore} {h : Held} (acts : List Act) (counts : Counts) → IsGround v w s h →
+    IsGround v w (record s { acts = acts; counts = counts }) h
+ground_beside {s = s} {h = h} acts counts g = record {
+  sizes = record { are = g.sizes.are };
+  plain = g.plain;
+  firm = g.firm;
+  same = g.same;
+  apart = g.apart;
+  patches = g.patches;
+  long = g.long;
+  slots = same_slots s (record s { acts = acts; counts = counts }) h.slots
+      (λ kept q. elim kept as (λ b. slot_at (record s { acts = acts; counts = counts }) b q ≡ slot_at s b q) [ true ↦ refl | false ↦ refl ]) g.slots;
+}
+
 begun_lent : (v w : List Track) (s : DeviceStore) (h : Held) (any : Bool) → has_loose s ≡ any → IsLentStore v w s h →
     IsLentStore (if any then w else v) w (begun_with any s) h
 begun_lent v w s h true e i =
-    let o = lent_ordered v w s h i in
-    record {
-      ground = (begins v w s h o.sure o.told true e).off.ground;
-      told = i.told;
-      lent = i.lent;
-      single = i.single;
-      down_a = i.down_a;
-      down_b = i.down_b;
-      half = i.half;
-      queue = refl;
-      frame = i.frame;
-      patch = i.patch;
-      lost = i.lost;
-    }
+    let o = lent_ordered v w s h i in beside_lent i (begins v w s h o.sure o.told true e).off.ground refl
 begun_lent v w s h false e i =
-    let o = lent_ordered v w s h i in
-    record {
-      ground = (begins v w s h o.sure o.told false e).off.ground;
-      told = i.told;
-      lent = i.lent;
-      single = i.single;
-      down_a = i.down_a;
-      down_b = i.down_b;
-      half = i.half;
-      queue = refl;
-      frame = i.frame;
-      patch = i.patch;
-      lost = i.lost;
-    }
+    let o = lent_ordered v w s h i in beside_lent i (begins v w s h o.sure o.told false e).off.ground refl
 
 -- its acts and its counts aren't of its tracks
 acts_lent : (v w : List Track) (s : DeviceStore) (h : Held) (acts : List Act) → IsLentStore v w s h → IsLentStore v w (record s { acts = acts }) h
-acts_lent v w s h acts i = record {
-  ground = record {
-    sizes = record { are = i.ground.sizes.are };
-    plain = i.ground.plain;
-    firm = i.ground.firm;
-    same = i.ground.same;
-    apart = i.ground.apart;
-    patches = i.ground.patches;
-    long = i.ground.long;
-    slots = same_slots s (record s { acts = acts }) h.slots slots_same i.ground.slots;
-  };
-  told = i.told;
-  lent = i.lent;
-  single = i.single;
-  down_a = i.down_a;
-  down_b = i.down_b;
-  half = i.half;
-  queue = i.queue;
-  frame = i.frame;
-  patch = i.patch;
-  lost = i.lost;
-}
-  where
-    slots_same : (kept : Bool) (q : ℕ) → slot_at (record s { acts = acts }) kept q
-        ≡ slot_at s kept q
-    slots_same true q = refl
-    slots_same false q = refl
+acts_lent v w s h acts i =
+    beside_lent i (ground_beside acts s.counts i.ground) (ap (λ (l : List ℕ). record s { acts = acts; queue = l }) i.queue)
 
 counted_lent : (v w : List Track) (s : DeviceStore) (h : Held) (loss : Loss) → IsLentStore v w s h → IsLentStore v w (with_loss s loss) h
-counted_lent v w s h loss i = record {
-  ground = record {
-    sizes = record { are = i.ground.sizes.are };
-    plain = i.ground.plain;
-    firm = i.ground.firm;
-    same = i.ground.same;
-    apart = i.ground.apart;
-    patches = i.ground.patches;
-    long = i.ground.long;
-    slots = same_slots s (with_loss s loss) h.slots slots_same i.ground.slots;
-  };
-  told = i.told;
-  lent = i.lent;
-  single = i.single;
-  down_a = i.down_a;
-  down_b = i.down_b;
-  half = i.half;
-  queue = i.queue;
-  frame = i.frame;
-  patch = i.patch;
-  lost = i.lost;
-}
-  where
-    slots_same : (kept : Bool) (q : ℕ) → slot_at (with_loss s loss) kept q ≡ slot_at s kept q
-    slots_same true q = refl
-    slots_same false q = refl
+counted_lent v w s h loss i =
+    beside_lent i (ground_beside s.acts (with_loss s loss).counts i.ground) (ap (λ (l : List ℕ). record (with_loss s loss) { queue = l }) i.queue)
 
 -- Events
 
@@ -386,20 +339,16 @@ module _ {A : Type 0} where
       WholeTwins LeavesLent (and_then (noted_end contents before d.store) (λ z _. Done (record d { store = z }) a))
       (and_then (noted_end by_plain before (marks_of v w d.store)) (λ z _. Done (record (marks_device v w d) { store = z }) b)) h
   ending before v w d a b h x =
-      store_then (λ z _. Done (record d { store = z }) a) (λ z _. Done (record (marks_device v w d) { store = z }) b)
-      (ended_lent before v w d.store h x.lent.store)
+      store_then _ _ (ended_lent before v w d.store h x.lent.store)
       (λ v' w' z _ _ k f. whole_done v' w' (record d { store = z }) (record { lent = record { store = f; idle = x.lent.idle }; same = x.same }))
 
   pub quiet_lent : (v w : List Track) (d : WholeDevice) (h : Held) (f : WholeDevice → Interaction (List ℕ) Image WholeDevice A)
       (g : MarksDevice → Interaction Bool Image MarksDevice A) → WholeTwins LeavesLent (f (event_begun d)) (g (event_begun (marks_device v w d))) h →
       WholeTwins LeavesLent (quiet_event contents d f) (quiet_event by_plain (marks_device v w d) g) h
   quiet_lent v w d h f g x =
-      whole_then (event_ended contents d) (event_ended by_plain (marks_device v w d)) x
+      whole_then _ _ x
       (λ v' w' z a b k o.
-      subst (λ (n : ℕ). WholeTwins LeavesLent
-      (and_then (noted_end contents (waiting_count contents d.store) z.store) (λ y _. Done (record z { store = y }) a))
-      (and_then (noted_end by_plain n (marks_of v' w' z.store)) (λ y _. Done (record (marks_device v' w' z) { store = y }) b)) k)
-      (sym (count_twin v w d.store)) (ending (waiting_count contents d.store) v' w' z a b k o))
+      rw (count_twin v w d.store) (ending (waiting_count contents d.store) v' w' z a b k o))
 
   event_lent : (v w : List Track) (d : WholeDevice) (h : Held) (f : WholeDevice → Interaction (List ℕ) Image WholeDevice A)
       (g : MarksDevice → Interaction Bool Image MarksDevice A) → IsLent v w d h →
@@ -409,8 +358,7 @@ module _ {A : Type 0} where
   event_lent v w d h f g i body =
       quiet_lent v w d h (λ z. and_then (hear contents 960 z.store) (λ s _. f (record z { store = s })))
       (λ z. and_then (hear by_plain 960 z.store) (λ s _. g (record z { store = s })))
-      (store_then (λ s _. f (record (event_begun d) { store = s })) (λ s _. g (record (event_begun (marks_device v w d)) { store = s }))
-      (hear_lent 960 v w (noted_begin d.store) h (acts_lent v w d.store h [] i.store))
+      (store_then _ _ (hear_lent 960 v w (noted_begin d.store) h (acts_lent v w d.store h [] i.store))
       (λ v' w' s _ _ k x. body v' w' s k x))
 
 pub background_lent : (v w : List Track) (d : WholeDevice) (h : Held) → IsLent v w d h →
@@ -421,12 +369,7 @@ background_lent v w d h i =
     (λ z. and_then (work by_plain z.store) (λ s did. Done (with_store z s) did)) i
     (λ v' w' s k o.
     let z : WholeDevice = record (event_begun d) { store = s } in
-    subst (λ (x : Interaction (List ℕ) Image DeviceStore (Option Did)). WholeTwins LeavesLent (and_then x (λ s did. Done (with_store z s) did))
-    (and_then (work by_plain (marks_of v' w' s)) (λ m did. Done (with_store (marks_device v' w' z) m) did)) k)
-    (sym (work_none contents s o.down_a o.down_b o.queue))
-    (subst (λ (x : Interaction Bool Image MarksStore (Option Did)). WholeTwins LeavesLent (Done (with_store z s) (Some Nothing))
-    (and_then x (λ m did. Done (with_store (marks_device v' w' z) m) did)) k)
-    (sym (work_none by_plain (marks_of v' w' s) o.down_a o.down_b o.queue))
+    rw (work_none contents s o.down_a o.down_b o.queue) (rw (work_none by_plain (marks_of v' w' s) o.down_a o.down_b o.queue)
     (whole_done v' w' (with_store z s) (record { lent = record { store = o; idle = all_idle d.history s.acts i.idle }; same = refl }))))
 
 -- Losses
@@ -480,11 +423,7 @@ module _ (v w : List Track) (s : DeviceStore) (h : Held) (i : IsLentStore v w s 
 told_nothing : (v w : List Track) (n : ℕ) (s : DeviceStore) (h : Held) (m : MarksStore) → marks_of v w s ≡ m → IsLentStore v w s h →
     Twins Away (all_firm_told contents n s) (all_firm_told by_plain n m) h
 told_nothing v w n s h m e i =
-    subst (λ (k : MarksStore). Twins Away (all_firm_told contents n s) (all_firm_told by_plain n k) h) e
-    (subst (λ (x : Interaction (List ℕ) Image DeviceStore (Unit {0})). Twins Away x (all_firm_told by_plain n (marks_of v w s)) h)
-    (sym (told_same contents n s i.told))
-    (subst (λ (x : Interaction Bool Image MarksStore (Unit {0})). Twins Away (Done s (tt {0})) x h)
-    (sym (told_same by_plain n (marks_of v w s) (marks_told v w s h i))) (twin_done i)))
+    rw (← e) (rw (told_same contents n s i.told) (rw (told_same by_plain n (marks_of v w s) (marks_told v w s h i)) (twin_done i)))
 
 -- of the cache or the store: that of a side is refused
 abbrev pub IsShared : Loss → Type 0
@@ -497,16 +436,13 @@ losing_lent : (v w : List Track) (s : DeviceStore) (h : Held) (loss : Loss) → 
 losing_lent v w s h losses.Cache shared i =
     let z = with_loss s losses.Cache in
     let o = counted_lent v w s h losses.Cache i in
-    subst (λ (x : DeviceStore). Twins Away (all_firm_told contents (tracks_of s) x)
-    (all_firm_told by_plain (tracks_of s) (cache_lost by_plain (marks_of v w z))) h) (sym (cache_same v w z h o))
+    rw (cache_same v w z h o)
     (told_nothing (if has_loose z then w else v) w (tracks_of s) (begun_with (has_loose z) z) h (cache_lost by_plain (marks_of v w z))
     (sym (cache_marks v w z h o)) (lent_y v w z h o))
 losing_lent v w s h losses.Store shared i =
     let z = with_loss s losses.Store in
     let o = counted_lent v w s h losses.Store i in
-    subst (λ (x : DeviceStore). Twins Away (all_firm_told contents (tracks_of s) x)
-    (all_firm_told by_plain (tracks_of s) (store_lost by_plain (marks_of v w z))) h) (sym (store_same v w z h o))
-    (told_nothing v w (tracks_of s) z h (store_lost by_plain (marks_of v w z)) (sym (store_marks v w z h o)) o)
+    rw (store_same v w z h o) (told_nothing v w (tracks_of s) z h (store_lost by_plain (marks_of v w z)) (sym (store_marks v w z h o)) o)
 losing_lent v w s h (losses.Side side) shared i = absurd shared
 
 pub loss_lent : (v w : List Track) (d : WholeDevice) (h : Held) (loss : Loss) → IsShared loss → IsLent v w d h →
@@ -517,7 +453,7 @@ loss_lent v w d h loss shared i =
     (λ z. and_then (losing by_plain z.store loss) (λ s _. Done (with_store z s) (tt {0}))) i
     (λ v' w' s k o.
     let z : WholeDevice = record (event_begun d) { store = s } in
-    store_then (λ y _. Done (with_store z y) (tt {0})) (λ m _. Done (with_store (marks_device v' w' z) m) (tt {0})) (losing_lent v' w' s k loss shared o)
+    store_then _ _ (losing_lent v' w' s k loss shared o)
     (λ v2 w2 y a b l f. whole_done v2 w2 (with_store z y) (record { lent = record { store = f; idle = all_idle d.history y.acts i.idle }; same = refl })))
 
 -- Power
@@ -572,12 +508,7 @@ power_lent v w d h i =
     let e : powerless contents l ≡ y = powerless_same contents l i.store.half i.store.frame i.store.lent in
     quiet_lent v w d h (λ x. and_then (half_cut contents x.store x.store.half) (λ s _. Done (powered_off contents x s) (tt {0})))
     (λ x. and_then (half_cut by_plain x.store x.store.half) (λ s _. Done (powered_off by_plain x s) (tt {0})))
-    (subst (λ (x : Interaction (List ℕ) Image WholeDevice (Unit {0})). WholeTwins LeavesLent x
-    (and_then (half_cut by_plain (marks_of v w s) (marks_of v w s).half) (λ m _. Done (powered_off by_plain (marks_device v w z) m) (tt {0}))) h)
-    (sym (off_same contents z i.store.half))
-    (subst (λ (x : Interaction Bool Image MarksDevice (Unit {0})). WholeTwins LeavesLent (Done (powered_off contents z s) (tt {0})) x h)
-    (sym (off_same by_plain (marks_device v w z) half))
-    (whole_ends u w (powered_off contents z s)
+    (rw (off_same contents z i.store.half) (rw (off_same by_plain (marks_device v w z) half) (whole_ends u w (powered_off contents z s)
     (ap (λ (x : DeviceStore). off (marks_of u w x) (counts_one_by d.store.half)) e
     ∙ ap (λ (m : MarksStore). off m (counts_one_by d.store.half)) (gone_marks v w l any)
     ∙ ap (λ (m : MarksStore). off m (counts_one_by d.store.half))

@@ -1,3 +1,4 @@
+pub mod EachTrack
 pub mod TrackMarks
 pub mod HeldPlaces
 pub mod Bools

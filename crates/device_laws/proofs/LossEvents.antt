@@ -56,7 +56,7 @@ module _ {F P H R : Type 0} (c : Contents F P H R) (faithful : IsFaithful c) whe
           good = λ q lt. let below : q < tracks_of s = omega arith in
               lost_cache_keeps_good c faithful s w.sizes w.here q below (w.good q below);
           kept = λ q lt. let below : q < tracks_of s = omega arith in
-              subst IsKept (sym (lost_cache_settles c faithful s w.sizes w.here q below))
+              rw (lost_cache_settles c faithful s w.sizes w.here q below)
               (settled_kept (record (track_at c s q) { frame = None; loose = false }) (w.kept q below));
         };
         tracks = same;

@@ -65,16 +65,7 @@ use Rattle.device_laws.specs.NewDevice.{new_contents}
 use Rattle.device_laws.specs.Standing.{IsChainOf}
 use Rattle.device_laws.specs.Unharmed.{MarksAreGood, NothingLost, IsWholeOnA, IsUnharmed, HalfIsTried, all_losses, LossesAreCounted, RunsUnharmed, IsCalm}
 use Rattle.device_laws.proofs.Based.{Base, kept, Any, Based, based_any}
-use Rattle.device_laws.proofs.BasedEvents.{
-  base_in,
-  with_one_loss,
-  command_based,
-  second_based,
-  background_based,
-  lose_based,
-  power_based,
-  reset_body,
-}
+use Rattle.device_laws.proofs.BasedEvents.{base_in, with_one_loss, command_based, second_based, background_based, lose_based, power_based, reset_body}
 use Rattle.device_laws.proofs.Harmless.{cache_goes, power_goes, reset_goes}
 use Rattle.device_laws.proofs.KeepLaws.{always_ran, ran_same}
 use Rattle.device_laws.proofs.Lucky.{top, failed_in, never_falls, where_none_failed, counted_rises}
@@ -226,27 +217,15 @@ module _ {F P H R K : Type 0} (c : Contents F P H R) {hears : Hearing Image K} w
 module _ {F P H : Type 0} (d : Device F P H) (un : IsUnharmed d.store) where
   pub held_unharmed : IsUnharmed (hold_side d).store × IsUnharmed (resume d).store
   held_unharmed = (
-    λ n. whole_hold (un (record { sides = n.sides; failed = n.failed; store = n.store })),
-    λ n. whole_resume (un (record { sides = n.sides; failed = n.failed; store = n.store })),
+    λ n. let w = un (record { sides = n.sides; failed = n.failed; store = n.store }) in record { up = w.up; level = w.level; kept = w.kept },
+    λ n. let w = un (record { sides = n.sides; failed = n.failed; store = n.store }) in record { up = w.up; level = w.level; kept = w.kept },
   )
-    where
-      whole_hold : IsWholeOnA d.store → IsWholeOnA (hold_side d).store
-      whole_hold w = record { up = w.up; level = w.level; kept = w.kept }
-
-      whole_resume : IsWholeOnA d.store → IsWholeOnA (resume d).store
-      whole_resume w = record { up = w.up; level = w.level; kept = w.kept }
 
   pub joined_unharmed : IsUnharmed (join d).store × IsUnharmed (split d).store
   joined_unharmed = (
-    λ n. whole_join (un (record { sides = n.sides; failed = n.failed; store = n.store })),
-    λ n. whole_split (un (record { sides = n.sides; failed = n.failed; store = n.store })),
+    λ n. let w = un (record { sides = n.sides; failed = n.failed; store = n.store }) in record { up = w.up; level = w.level; kept = w.kept },
+    λ n. let w = un (record { sides = n.sides; failed = n.failed; store = n.store }) in record { up = w.up; level = w.level; kept = w.kept },
   )
-    where
-      whole_join : IsWholeOnA d.store → IsWholeOnA (join d).store
-      whole_join w = record { up = w.up; level = w.level; kept = w.kept }
-
-      whole_split : IsWholeOnA d.store → IsWholeOnA (split d).store
-      whole_split w = record { up = w.up; level = w.level; kept = w.kept }
 
   -- a side that isn't up is replaced
   pub replaced_unharmed : (side : Side) → (side_of d.store side).up ≡ false → IsUnharmed (replace d side).store

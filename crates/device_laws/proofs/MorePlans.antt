@@ -11,18 +11,8 @@ use Rattle.plain_defs.specs.declared.journal.Item.TheVariants as items
 use Rattle.plain_defs.specs.Acknowledged.{EditTold}
 use Rattle.plain_defs.specs.Entry.{ProgramEntry}
 use Rattle.plain_defs.specs.History.{OpenEntry, History, open_part, plain_of, state_by, IsOpen, IsPlain}
-use Rattle.plain_defs.specs.Journal.{Plans, planned, program_of, effects_of, entry_part, last_sense, told_of, replay_program, replay_item, replay, item_told, journal_told}
-use Rattle.plain_defs.specs.Legal.{
-  MayStart,
-  HasActs,
-  HasEnds,
-  EndsFull,
-  EndsCut,
-  EndsChecked,
-  IsLegalEntry,
-  IsLegalItem,
-  IsLegalFrom,
-}
+use Rattle.plain_defs.specs.Journal.{Plans, planned, program_of, entry_part, last_sense, told_of, replay_program, replay_item, replay, item_told, journal_told}
+use Rattle.plain_defs.specs.Legal.{MayStart, HasEnds, EndsFull, EndsCut, IsLegalEntry, IsLegalItem, IsLegalFrom}
 use Rattle.plain_defs.specs.PlainState.{PlainState, is_admitted}
 use Rattle.plain_defs.specs.Program.{Part, part_of}
 use Rattle.device_defs.specs.declared.counts.Counts.{Counts}
@@ -65,14 +55,14 @@ module _ (p q : Plans) (longer : AreLonger p q) where
       ends_legal : (how : How) → HasEnds p s e how → HasEnds q s e how
       ends_legal Full ends = subst (λ (x : Part). EndsFull x e.ends) (sym (part_same (length e.ends))) ends
       ends_legal (Cut effect) ends = subst (λ (x : Part). EndsCut x effect e.ends) (sym (part_same (length e.ends))) ends
-      ends_legal Checked ends = subst (λ (l : List Ccw). EndsChecked (part_of s e.path l e.acts (length e.ends - 1)) l e.ends) (sym same) ends
+      ends_legal Checked ends = rw same ends
 
       entry_legal : IsLegalEntry q s earlier e
       entry_legal = record {
         started = may_start e.path e.ordinal legal.started;
         ends = ends_legal e.how legal.ends;
         order = legal.order;
-        acts = subst (λ (l : List Ccw). HasActs s e.path l e.acts (effects_of e.how e.ends)) (sym same) legal.acts;
+        acts = rw same legal.acts;
       }
 
       unexplained_entry : (lost : List Bool) (n : Counts) → unexplained_item q s lost n (items.Program e) ≡ unexplained_item p s lost n (items.Program e)
@@ -117,8 +107,7 @@ module _ (p q : Plans) (longer : AreLonger p q) where
   legal_from s earlier [] h = tt
   legal_from s earlier (x ∷ xs) h = (
     item_legal s earlier x xs h.0,
-    subst (λ (z : PlainState). IsLegalFrom q z (earlier ++ x ∷ []) xs) (sym (item_same s earlier x xs h.0))
-        (legal_from (replay_item p s x) (earlier ++ x ∷ []) xs h.1),
+    rw (item_same s earlier x xs h.0) (legal_from (replay_item p s x) (earlier ++ x ∷ []) xs h.1),
   )
 
   -- it leads to the same plain device
@@ -156,7 +145,7 @@ module _ (p q : Plans) (longer : AreLonger p q) where
       ends = is.ends ∙ ap (λ (x : Part). x.ends) (sym (open_same o is));
       runs = subst (λ (x : Part). IsSome x.next) (sym (open_same o is)) is.runs;
       order = is.order;
-      acts = subst (λ (l : List Ccw). HasActs s o.path l o.acts (length o.ends)) (sym (started_same s journal o.path o.ordinal is.start)) is.acts;
+      acts = rw (started_same s journal o.path o.ordinal is.start) is.acts;
     }
     open_by None is = tt
 
@@ -186,8 +175,7 @@ module _ (p q : Plans) (longer : AreLonger p q) where
     pub plain_more : IsPlain q empty h
     plain_more = record {
       legal = legal_from empty [] h.items plain.legal;
-      at = subst (λ (z : PlainState). IfSome h.running (IsOpen q z h.items)) (sym journal_same)
-          (open_by (replay p empty h.items) h.items h.running plain.at);
+      at = rw journal_same (open_by (replay p empty h.items) h.items h.running plain.at);
     }
 
     pub plain_of_same : plain_of q empty h ≡ plain_of p empty h

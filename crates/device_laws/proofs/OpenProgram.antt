@@ -1,5 +1,31 @@
 -- An act behind the ends that a running program has so far.
-use Rattle.std.proofs.Common.{◌≡◌, ◌≤◌, ◌<◌, ◌+◌, ◌==◌, ℕ, zero, suc, List, [], ◌∷◌, ◌++◌, Option, Some, None, Bool, false, length, cond, refl, arith, sym, ap, subst, ◌∙◌}
+use Rattle.std.proofs.Common.{
+  ◌≡◌,
+  ◌≤◌,
+  ◌<◌,
+  ◌+◌,
+  ◌==◌,
+  ℕ,
+  zero,
+  suc,
+  List,
+  [],
+  ◌∷◌,
+  ◌++◌,
+  Option,
+  Some,
+  None,
+  Bool,
+  false,
+  length,
+  cond,
+  refl,
+  arith,
+  sym,
+  ap,
+  subst,
+  ◌∙◌,
+}
 use Rattle.std.specs.Prelude.{IsSome}
 use Rattle.std.proofs.lemmas.Bool.{ne_eqb, eq-eqb}
 use Rattle.ckd_types.specs.declared.channel.Ccw.{Ccw}
@@ -9,7 +35,7 @@ use Rattle.plain_defs.specs.declared.journal.Acted.{Acted}
 use Rattle.plain_defs.specs.declared.journal.Item.{Item}
 use Rattle.plain_defs.specs.History.{OpenEntry, open_part, IsOpen}
 use Rattle.plain_defs.specs.Journal.{Plans, program_of}
-use Rattle.plain_defs.specs.Legal.{AreInOrder, AreActs, MayEdit, track_of, next_edit, bare_part, IsPoint, MayStart}
+use Rattle.plain_defs.specs.Legal.{AreInOrder, AreActs, bare_part, IsPoint, MayStart}
 use Rattle.plain_defs.specs.Loose.{act_done}
 use Rattle.plain_defs.specs.PlainState.{PlainState}
 use Rattle.plain_defs.specs.Program.{Part, first_part, acts_at, acts_done, with_act, with_acts, acted_at, acts_made, command_run, part_of}
@@ -144,14 +170,9 @@ module _ (path : ℕ) (ccws : List Ccw) where
     point_before acts a k lt point =
         let later = acts ++ a ∷ [] in record {
           acts_are =
-              subst (λ (b : Part). AreActs b.state (track_of (next_edit path ccws (part_of state path ccws later k))) (acts_at later k))
-              (sym (bare_before acts a k (omega (arith, lt))))
-              (subst (λ (p : Part). AreActs (bare_part state path ccws acts k).state (track_of (next_edit path ccws p)) (acts_at later k))
-              (sym (part_before acts a k lt))
-              (subst (λ (l : List Act). AreActs (bare_part state path ccws acts k).state
-              (track_of (next_edit path ccws (part_of state path ccws acts k))) l)
-              (sym (acts_elsewhere acts a k (ne_eqb a.after k (omega (arith, lt))))) point.acts_are));
-          edit_is = subst (λ (p : Part). MayEdit p.state p.stance (next_edit path ccws p)) (sym (part_before acts a k lt)) point.edit_is;
+              rw (bare_before acts a k (omega (arith, lt))) (rw (part_before acts a k lt)
+              (rw (acts_elsewhere acts a k (ne_eqb a.after k (omega (arith, lt)))) point.acts_are));
+          edit_is = rw (part_before acts a k lt) point.edit_is;
         }
 
 -- A running program that goes as on the plain device
@@ -210,10 +231,7 @@ module _ (plans : Plans) (state : PlainState) (items : List Item) (o : OpenEntry
           order = order_more 0 n o.acts act going.order (omega arith);
           points = λ j below. point_before o.path (program_of plans o.path o.ordinal) state o.acts a j below (going.points j below);
           here =
-              subst (λ (b : Part). AreActs b.state edited (acts_at (o.acts ++ a ∷ []) n))
-              (sym (bare_before o.path (program_of plans o.path o.ordinal) state o.acts a n (omega arith)))
-              (subst (λ (l : List Act). AreActs bare.state edited l) (sym (acts_here o.acts a n (eq-eqb n n refl)))
+              rw (bare_before o.path (program_of plans o.path o.ordinal) state o.acts a n (omega arith)) (rw (acts_here o.acts a n (eq-eqb n n refl))
               (acts_more bare.state edited (acts_at o.acts n) act going.here
-              (subst (λ (s : PlainState). AreActs s edited (act ∷ []))
-              (state_here o.path (program_of plans o.path o.ordinal) state o.acts n many going.runs) may)));
+              (rw (← (state_here o.path (program_of plans o.path o.ordinal) state o.acts n many going.runs)) may)));
         }

@@ -150,12 +150,7 @@ module _ {F P H R : Type 0} (c : Contents F P H R) (faithful : IsFaithful c) whe
 
   restored_marks : (x : TrackMarks) (o v : Bool) → x.frame ≡ None → x.patched ≡ false → x.lost ≡ false → x.half ≡ false → o ≡ false → v ≡ true →
       is_good (record x { loose = o; level = v }) ≡ true
-  restored_marks x o v frame patched lost half firm level =
-      subst (λ (f : Option Bool). is_good (marks f x.patched x.lost o x.half v) ≡ true) (sym frame)
-      (subst (λ (p : Bool). is_good (marks None p x.lost o x.half v) ≡ true) (sym patched)
-      (subst (λ (l : Bool). is_good (marks None false l o x.half v) ≡ true) (sym lost)
-      (subst (λ (b : Bool). is_good (marks None false false b x.half v) ≡ true) (sym firm)
-      (subst (λ (b : Bool). is_good (marks None false false false x.half b) ≡ true) (sym level) (given_good x.half half)))))
+  restored_marks x o v frame patched lost half firm level = rw frame (rw patched (rw lost (rw firm (rw level (given_good x.half half)))))
 
   gone_half : (s : Store F P H) (q : ℕ) → s.half ≡ None → (track_at c s q).half ≡ false
   unfolding M.track_at

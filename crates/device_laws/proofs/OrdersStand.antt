@@ -92,7 +92,7 @@ use Rattle.ckd_chain.specs.declared.progress.Progress.TheVariants.{Need}
 use Rattle.ckd_chain.specs.Facts.{IsChain}
 use Rattle.ckd_chain.specs.State.{ChainState}
 use Rattle.ckd_chain.specs.Steps as S
-use Rattle.ckd_chain.specs.Steps.{begun_chain, chain_opened, need_of, track_needed, stage_of, stepped, word_of}
+use Rattle.ckd_chain.specs.Steps.{begun_chain, chain_opened, track_needed, stage_of, stepped, word_of}
 use Rattle.device_laws.specs.Standing.{IsWithin}
 use Rattle.device_laws.proofs.Bools.{some_is}
 use Rattle.device_laws.proofs.ChainTracks.{within_stays, whole_cylinders}
@@ -147,9 +147,7 @@ head_on n track head t false b on e is = absurd (cc)
 ranged_last : (n mask : ℕ) (mode : Mode) (inhibit : Bool) (number first last : Option ℕ) (e : Extent) → ((t : ℕ) → last ≡ Some t → t < n) →
     ranged_extent mask mode inhibit number first last ≡ Ok e → e.last < n
 ranged_last n mask mode inhibit number (Some first) (Some last) e below is =
-    subst (λ (x : Extent). x.last < n)
-    (ok_if (nat_le first last)
-    (record { mask = mask; mode = mode; inhibit_fast = inhibit; number = number; first = first; last = last }) e BadRange is)
+    rw (← (ok_if (nat_le first last) (record { mask = mask; mode = mode; inhibit_fast = inhibit; number = number; first = first; last = last }) e BadRange is))
     (below last refl)
 ranged_last n mask mode inhibit number (Some first) None e below is = absurd (cc)
 ranged_last n mask mode inhibit number None last e below is = absurd (cc)

@@ -207,7 +207,7 @@ module _ {F P H R : Type 0} (c : Contents F P H R) where
               half = same_half (down z side) y rest ∙ down_half z side ∙ i.half;
               good = λ q ne below. lost_side_keeps_good c faithful z side (Some t) i.sizes i.here q (omega arith)
                   (good_is_near (track_at c z q) (i.good q ne below)) (λ f. ne (cc));
-              kept = λ q ne below. subst IsKept (sym (e.changed q (omega arith)))
+              kept = λ q ne below. rw (e.changed q (omega arith))
                   (unless_kept (track_at c (down z side) q) (q == t) (down_kept c z side q (i.kept q ne below)));
               firm = λ q ne below f. ap (λ (m : TrackMarks). m.loose) (e.changed q (omega arith))
                   ∙ unless_firm (track_at c (down z side) q) (q == t)

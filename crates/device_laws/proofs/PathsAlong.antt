@@ -1,8 +1,7 @@
 -- A device keeps of its paths what the plain device does: behind a start, a check, an end, a reset and a loss of power.
-use Rattle.std.proofs.Common.{◌≡◌, ◌==◌, ◌++◌, ◌∷◌, ℕ, List, [], Option, Some, None, Bool, true, false, cond, refl, sym, ap, subst, ◌∙◌, inl, inr}
+use Rattle.std.proofs.Common.{◌≡◌, ◌==◌, ◌++◌, ◌∷◌, ℕ, [], Option, Some, None, Bool, true, false, cond, refl, sym, ap, ◌∙◌, inl, inr}
 use Rattle.std.specs.Prelude.{◌⊎◌, ◌||◌, if◌then◌else◌}
 use Rattle.std.proofs.lemmas.Bool.{cases_Bool, cond_both, eqb-true}
-use Rattle.ckd_types.specs.declared.channel.Ccw.{Ccw}
 use Rattle.ckd_types.specs.declared.channel.CommandEnd.{CommandEnd}
 use Rattle.ckd_chain.specs.declared.progress.Settled.TheVariants.{Equipment, DataCheck}
 use Rattle.ckd_chain.specs.State.{ChainState}
@@ -81,13 +80,11 @@ module _ {F P H : Type 0} (empty : PlainState) (d : Device F P H) (keeps : Keeps
 
     pub equipment_keeps : KeepsPaths empty (turned d o.path (checks chain Equipment))
     equipment_keeps = check_keeps (end_with chain (settled_by chain Equipment))
-        (next_is empty d stands.plain stands.due o running chain at_hand o.path)
-        (subst (λ (l : List Ccw). IsCheck l (end_with chain (settled_by chain Equipment))) at_hand.words (equipment_is_check chain))
+        (next_is empty d stands.plain stands.due o running chain at_hand o.path) (rw (← at_hand.words) (equipment_is_check chain))
 
     pub data_check_keeps : KeepsPaths empty (turned d o.path (checks chain DataCheck))
     data_check_keeps = check_keeps (end_with chain (settled_by chain DataCheck))
-        (next_is empty d stands.plain stands.due o running chain at_hand o.path)
-        (subst (λ (l : List Ccw). IsCheck l (end_with chain (settled_by chain DataCheck))) at_hand.words (data_check_is_check chain))
+        (next_is empty d stands.plain stands.due o running chain at_hand o.path) (rw (← at_hand.words) (data_check_is_check chain))
 
 module _ {F P H R : Type 0} (c : Contents F P H R) (empty : PlainState) (d : Device F P H) (stands : StandsPlainly empty d)
     (fresh : empty.paths ≡ fresh_paths) where

@@ -29,7 +29,6 @@ use Rattle.std.proofs.Common.{
   arith,
 }
 use Rattle.ckd_types.specs.declared.channel.Ccw.{Ccw}
-use Rattle.ckd_types.specs.declared.channel.CommandEnd.{CommandEnd}
 use Rattle.ckd_types.specs.declared.geometry.Geometry.{Geometry}
 use Rattle.ckd_types.specs.declared.record.Edit.{Edit}
 use Rattle.ckd_types.specs.declared.record.Track.{Track}
@@ -64,7 +63,7 @@ use Rattle.ckd_rules.specs.Opening.{Opened}
 use Rattle.ckd_rules.specs.Walk.{TrackEdit}
 use Rattle.plain_defs.specs.declared.journal.Act.{Act}
 use Rattle.plain_defs.specs.declared.journal.Act.TheVariants.{Loosen}
-use Rattle.plain_defs.specs.Effect.{Effect, command_effect, edited_volume, behind_effect}
+use Rattle.plain_defs.specs.Effect.{Effect, command_effect, edited_volume}
 use Rattle.plain_defs.specs.History.{OpenEntry, History, open_part, plain_of, state_by, acted, acted_in, IsPlain}
 use Rattle.plain_defs.specs.Journal.{program_of, replay}
 use Rattle.plain_defs.specs.Legal.{AreActs, MayEdit, IsLegal, edit_at, track_of}
@@ -160,7 +159,7 @@ module _ (num : ℕ) (empty : PlainState) (d : MarksDevice) (f : Follows num emp
 
   pub at : AtPart d.plans (replay d.plans empty d.history.items) o chain
   at = subst (λ (k : Option ChainState). RunsAt d.plans (replay d.plans empty d.history.items) (Some o) k) is
-      (subst (λ (r : Option OpenEntry). RunsAt d.plans (replay d.plans empty d.history.items) r f.before) running f.runs)
+      (rw (← running) f.runs)
 
   pub on : (chain.fixed.geometry ≡ d.store.geometry) × (chain.fixed.cylinders ≡ d.store.cylinders)
   on = subst (ChainOf d.store.geometry d.store.cylinders) is f.chain
@@ -238,7 +237,7 @@ module _ (num : ℕ) (empty : PlainState) (d : MarksDevice) (f : Follows num emp
           (ap (λ (w : Effect). w.outcome) same)
           (subst (λ (w : Effect). MayEdit part.state part.stance w.edit) same may)
           (ap (λ (path : ℕ). with_sense paths path e.outcome.ending.sense) path_is ∙ sense ∙ ap (λ (w : Effect). w.paths) same)
-          (subst (λ (w : Effect). IsOf (behind_effect part.state w) (core_of y)) same (of_edit part.state e.edit e.paths (core_of y) of))
+          (rw (← same) (of_edit part.state e.edit e.paths (core_of y) of))
           (on_of y z))
 
   -- Behind acts by which no track becomes loose
@@ -280,7 +279,7 @@ module _ (num : ℕ) (empty : PlainState) (d : MarksDevice) (f : Follows num emp
         (checks last Equipment))
     equipment_on of last word =
         let r = runs_on y.acts are in
-        subst (λ (path : ℕ). Follows num empty (turned (with_store d y) path (checks last Equipment))) r.path_is
+        rw (← r.path_is)
         (equipment_follows empty (with_store d y) (base_of y z) (some_of y z) z.places z.whole z.home num z.number r.entry r.running chain check_stands
         (acts_keep_them empty d y f.stands are f.keeps) (subst (λ (x : PlainState). IsOf x (core_of y)) (sym (state_on y.acts are)) of) r.at.hand last word)
 
@@ -288,7 +287,7 @@ module _ (num : ℕ) (empty : PlainState) (d : MarksDevice) (f : Follows num emp
         (checks last DataCheck))
     data_check_on of last word =
         let r = runs_on y.acts are in
-        subst (λ (path : ℕ). Follows num empty (turned (with_store d y) path (checks last DataCheck))) r.path_is
+        rw (← r.path_is)
         (data_check_follows empty (with_store d y) (base_of y z) (some_of y z) z.places z.whole z.home num z.number r.entry r.running chain check_stands
         (acts_keep_them empty d y f.stands are f.keeps) (subst (λ (x : PlainState). IsOf x (core_of y)) (sym (state_on y.acts are)) of) r.at.hand last word)
 
@@ -303,11 +302,8 @@ module _ (num : ℕ) (empty : PlainState) (d : MarksDevice) (f : Follows num emp
         ends_follow y z h paths (plain_on y.acts are).legal (due_on y.acts are) r.entry r.running r.path_is r.at
         (ap (λ (x : PlainState). x.volume) state ∙ volume) (ap (λ (x : PlainState). x.paths) state ∙ paths_on y.acts are)
         (going_of_open d.plans s h.items r.entry (edited_next d.plans s h.items r.entry)
-        (running_is_open d.plans empty h (plain_on y.acts are) (due_on y.acts are) r.entry r.running))
-        (subst (λ (x : PlainState). MayEdit x (open_part d.plans s r.entry).stance the_effect.edit) (sym state)
-        (subst (λ (x : Stance). MayEdit (acts_done p y.acts) x the_effect.edit) r.at.stance may))
-        sense
-        (subst (λ (x : PlainState). IsEditOf x the_effect.edit (core_of y)) (sym state) of)
+        (running_is_open d.plans empty h (plain_on y.acts are) (due_on y.acts are) r.entry r.running)) (rw state (rw (← r.at.stance) may))
+        sense (rw state of)
 
   -- Behind an act by which its track becomes loose, too
 
@@ -374,20 +370,16 @@ module _ (num : ℕ) (empty : PlainState) (d : MarksDevice) (f : Follows num emp
 
     of_later : IsOf (edited (open_part d.plans s1 later).state t e) (core_of y)
     of_later =
-        subst (λ (x : PlainState). IsOf (edited x t e) (core_of y)) (sym part_later)
-        (subst (λ (x : Core). IsOf (edited (act_done (acts_done p c.acts) (Loosen t)) t e) x) (sym core_is)
-        (of_loosely_edited (act_done (acts_done p c.acts) (Loosen t)) (loosened_core c t)
+        rw part_later (rw core_is (of_loosely_edited (act_done (acts_done p c.acts) (Loosen t)) (loosened_core c t)
         (of_loosened (acts_done p c.acts) c w.of t firm inside) t loose_now e))
 
     loosening_on : with_sense d.paths o.path the_effect.outcome.ending.sense ≡ the_effect.paths → Follows num empty (turned (with_store d y) o.path the_turn)
     loosening_on sense =
-        subst (λ (k : History). Follows num empty (turned (record d { store = y; history = k }) o.path the_turn)) (sym history_is)
+        rw history_is
         (ends_follow y z loose_history d.paths (plain_on c.acts w.are).legal due_later later refl r1.path_is here_later volume_later paths_later
         (subst (λ (x : Option ℕ). IsGoing d.plans s1 h1.items later x) (sym edited_is) going_later)
-        (subst (λ (x : Option TrackEdit). MayEdit (open_part d.plans s1 later).state (open_part d.plans s1 later).stance x) (sym edit_is)
-        (λ loose. ap (λ (x : Stance). is_provisional x.extent) (sym here_later.stance) ∙ provisional))
-        sense
-        (subst (λ (x : Option TrackEdit). IsEditOf (open_part d.plans s1 later).state x (core_of y)) (sym edit_is) of_later))
+        (rw edit_is (λ loose. ap (λ (x : Stance). is_provisional x.extent) (sym here_later.stance) ∙ provisional))
+        sense (rw edit_is of_later))
 
   -- Whatever it came to
 
@@ -427,21 +419,17 @@ module _ (num : ℕ) (empty : PlainState) (d : MarksDevice) (f : Follows num emp
       let state = state_of y d2 x same (ap (λ (k : Core). k.acts) how) in
       let z = sized_by y d2 x same w (subst HasPlaces (sym how) w.places) (ap (λ (k : Core). k.geometry) how) (ap (λ (k : Core). k.cylinders) how)
       (ap open_of how) in
-      whole_on y z are d.paths sense (ap (λ (s : PlainState). s.volume) state ∙ w.of.volume ∙ w.plain)
-      (subst (λ (k : Option TrackEdit). MayEdit (acts_done p y.acts) chain.at.stance k) (sym edit_is)
+      whole_on y z are d.paths sense (ap (λ (s : PlainState). s.volume) state ∙ w.of.volume ∙ w.plain) (rw edit_is
       (λ loose. absurd (let both : true ≡ false = sym loose ∙ ap (λ (s : PlainState). is_loose_in s.loose t) state ∙ w.of.loose t ∙ firm in cc)))
-      (subst (λ (k : Option TrackEdit). IsEditOf (acts_done p y.acts) k (core_of y)) (sym edit_is)
-      (subst (λ (s : PlainState). IsOf (edited s t e) (core_of y)) (sym state)
+      (rw edit_is (rw state
       (subst (λ (k : Core). IsOf (edited (acts_done p x.acts) t e) k) (sym (same ∙ how)) (of_edited (acts_done p x.acts) x w.of t firm e))))
   edited_follows y c t e same edit_is sense (loosely x d2 w loose provisional how) =
       let are = acts_are y d2 x same (ap (λ (k : Core). k.acts) how) w in
       let state = state_of y d2 x same (ap (λ (k : Core). k.acts) how) in
       let z = sized_by y d2 x same w (subst HasPlaces (sym how) w.places) (ap (λ (k : Core). k.geometry) how) (ap (λ (k : Core). k.cylinders) how)
       (ap open_of how) in
-      whole_on y z are d.paths sense (ap (λ (s : PlainState). s.volume) state ∙ w.of.volume ∙ w.plain)
-      (subst (λ (k : Option TrackEdit). MayEdit (acts_done p y.acts) chain.at.stance k) (sym edit_is) (λ is_loose. provisional))
-      (subst (λ (k : Option TrackEdit). IsEditOf (acts_done p y.acts) k (core_of y)) (sym edit_is)
-      (subst (λ (s : PlainState). IsOf (edited s t e) (core_of y)) (sym state)
+      whole_on y z are d.paths sense (ap (λ (s : PlainState). s.volume) state ∙ w.of.volume ∙ w.plain) (rw edit_is (λ is_loose. provisional))
+      (rw edit_is (rw state
       (subst (λ (k : Core). IsOf (edited (acts_done p x.acts) t e) k) (sym (same ∙ how)) (of_loosely_edited (acts_done p x.acts) x w.of t loose e))))
   edited_follows y c t e same edit_is sense (loosened x d2 w firm inside provisional how) =
       let z = sized_by y d2 x same w (subst HasPlaces (sym how) (w.places ∙ sym (length-set x.loose t true))) (ap (λ (k : Core). k.geometry) how)
@@ -455,9 +443,8 @@ module _ (num : ℕ) (empty : PlainState) (d : MarksDevice) (f : Follows num emp
       let are = acts_are y c c same refl w in
       let state = state_of y c c same refl in
       whole_on y (sized_by y c c same w w.places refl refl refl) are paths sense (ap (λ (s : PlainState). s.volume) state ∙ w.of.volume ∙ w.plain)
-      (subst (λ (k : Option TrackEdit). MayEdit (acts_done p y.acts) chain.at.stance k) (sym edit_is) tt)
-      (subst (λ (k : Option TrackEdit). IsEditOf (acts_done p y.acts) k (core_of y)) (sym edit_is)
-      (subst (λ (s : PlainState). IsOf s (core_of y)) (sym state) (subst (λ (k : Core). IsOf (acts_done p c.acts) k) (sym same) w.of)))
+      (rw edit_is tt)
+      (rw edit_is (subst (λ (s : PlainState). IsOf s (core_of y)) (sym state) (subst (λ (k : Core). IsOf (acts_done p c.acts) k) (sym same) w.of)))
 
   module _ (first : ℕ) where
     abbrev EditIs : Option TrackEdit → Core → Type 0
@@ -495,11 +482,11 @@ module _ (num : ℕ) (empty : PlainState) (d : MarksDevice) (f : Follows num emp
           some = subst (λ (k : ℕ). 0 < k) (sym n) f.some;
           stands = record { plain = plain_on y.acts are; due = due_on y.acts are };
           keeps = acts_keep_them empty d y f.stands are f.keeps;
-          of = subst (λ (s : PlainState). IsOf s (core_of y)) (sym (state_on y.acts are ∙ state_of y (with_half x h) x core_is refl))
+          of = rw (state_on y.acts are ∙ state_of y (with_half x h) x core_is refl)
               (subst (λ (k : Core). IsOf (acts_done p x.acts) k) (sym core_is) (of_half (acts_done p x.acts) x w.of h));
           places = subst HasPlaces (sym core_is) w.places;
           before = Some chain;
-          runs = subst (λ (k : Option OpenEntry). RunsAt d.plans (replay d.plans empty (all_acted d.history y.acts).items) k (Some chain)) (sym r.running) r.at;
+          runs = rw r.running r.at;
           chain = (on.0 ∙ sym g, on.1 ∙ sym n);
           mid = subst (λ (k : Core). IsMid k k.half (all_acted d.history y.acts).running (Some chain) (Some next)) (sym core_is) (record {
             runs = subst (λ (k : Option OpenEntry). IsSome k) (sym r.running) refl;
@@ -533,20 +520,15 @@ module _ (num : ℕ) (empty : PlainState) (d : MarksDevice) (f : Follows num emp
     turn_follows y c k turn same needs fed_is as_fed sense (ended_so e after d2 end_is chain_is edit) =
         let ends : e ≡ end_with chain the_effect.outcome = sym end_is ∙ ap (λ (x : Fed). x.end) fed_is in
         let goes : after ≡ behind chain the_effect.outcome = sym chain_is ∙ ap (λ (x : Fed). x.chain) fed_is in
-        subst (λ (x : CommandEnd). Follows num empty (turned (with_store d y) o.path (record { came = Ends x; chain = after }))) (sym ends)
-        (subst (λ (x : ChainState). Follows num empty (turned (with_store d y) o.path (record { came = Ends (end_with chain the_effect.outcome); chain = x })))
-        (sym goes)
-        (edit_follows y d2 the_effect.edit same refl sense (subst (λ (x : Fed). EditIs x.edit d2) fed_is edit)))
+        rw ends (rw goes (edit_follows y d2 the_effect.edit same refl sense (subst (λ (x : Fed). EditIs x.edit d2) fed_is edit)))
     turn_follows y c k turn same needs fed_is as_fed sense (half_open t e next d2 word below does half) =
         half_follows y d2 t e next same needs below word (λ v agrees. sym (as_fed v) ∙ does v agrees) half
     turn_follows y c k turn same needs fed_is as_fed sense (equipment last d2 word w) =
         equipment_on y (sized_by y d2 d2 same w w.places refl refl refl) (acts_are y d2 d2 same refl w)
-        (subst (λ (s : PlainState). IsOf s (core_of y)) (sym (state_of y d2 d2 same refl)) (subst (λ (k : Core). IsOf (acts_done p d2.acts) k)
-        (sym same) w.of)) last word
+        (subst (λ (s : PlainState). IsOf s (core_of y)) (sym (state_of y d2 d2 same refl)) (rw same w.of)) last word
     turn_follows y c k turn same needs fed_is as_fed sense (data_check last d2 word w) =
         data_check_on y (sized_by y d2 d2 same w w.places refl refl refl) (acts_are y d2 d2 same refl w)
-        (subst (λ (s : PlainState). IsOf s (core_of y)) (sym (state_of y d2 d2 same refl)) (subst (λ (k : Core). IsOf (acts_done p d2.acts) k)
-        (sym same) w.of)) last word
+        (subst (λ (s : PlainState). IsOf s (core_of y)) (sym (state_of y d2 d2 same refl)) (rw same w.of)) last word
 
   -- In an event that began
 
@@ -610,8 +592,7 @@ module _ (num : ℕ) (empty : PlainState) (d : MarksDevice) (f : Follows num emp
           subst (λ (x : Turn). Follows num empty (turned (record (started_with s) { paths = paths }) o.path x))
           (sym (a.turn_is ∙ ap (λ (x : Effect). record { came = Ends (end_with chain x.outcome); chain = behind chain x.outcome }) same))
           (subst (λ (l : List Act). Follows num empty (turned (record d { store = s; history = all_acted d.history l; paths = paths }) o.path the_turn)) no_acts
-          (walked_follows s (core_of s) refl (ap (λ (x : Effect). x.edit) (sym same) ∙ a.none) paths
-          (subst (λ (x : Effect). with_sense paths o.path x.outcome.ending.sense ≡ x.paths) same a.kept) (walking_first s e)))
+          (walked_follows s (core_of s) refl (ap (λ (x : Effect). x.edit) (sym same) ∙ a.none) paths (rw (← same) a.kept) (walking_first s e)))
 
       opened_answer : (x : Opened) → opening_at chain ≡ x → need_of chain ≡ None →
           Had (answered_by by_plain (started_with s) o.path (stepped_by (begin_with chain x) None (stage_for x.opening)).chain
@@ -635,9 +616,7 @@ module _ (num : ℕ) (empty : PlainState) (d : MarksDevice) (f : Follows num emp
       untracked none =
           let same : stepped chain None ≡ stepped_by (begin_with chain (opening_at chain)) None (stage_for (opening_at chain).opening) =
           ap (λ (k : Option Stage). stepped_by (opened_by chain k) None (stage_by chain k)) at.fresh in
-          had_try (subst (λ (k : _). Had (answered_by by_plain (started_with s) o.path k.chain k.progress) (λ x (_ : Option Stepped). Follows num empty x))
-          (sym same)
-          (opened_answer (opening_at chain) refl none))
+          had_try (rw same (opened_answer (opening_at chain) refl none))
 
       by_need : (k : Option ℕ) → need_of chain ≡ k → Had (command_at by_plain (started_with s) o.path chain k) (λ x (_ : Option Stepped). Follows num empty x)
       by_need (Some t) needs = tracked t needs
@@ -693,8 +672,7 @@ module _ (num : ℕ) (empty : PlainState) where
       (k : Option ChainState) → f.before ≡ k → Had (command by_plain d) (λ y (_ : Option Stepped). Follows num empty y)
   unfolding N.command
   by_chain d f o running whole None is = absurd
-      (subst (λ (k : Option ChainState). RunsAt d.plans (replay d.plans empty d.history.items) (Some o) k) is
-      (subst (λ (r : Option OpenEntry). RunsAt d.plans (replay d.plans empty d.history.items) r f.before) running f.runs))
+      (subst (λ (k : Option ChainState). RunsAt d.plans (replay d.plans empty d.history.items) (Some o) k) is (rw (← running) f.runs))
   by_chain d f o running whole (Some chain) is =
       let now = none_mid (core_of d.store) d.store.half d.history.running f.before d.chain whole f.mid ∙ is in
       had_try (event_follows d (λ z. command_by by_plain z z.history.running z.chain)

@@ -11,7 +11,6 @@ use Rattle.ckd_chain.specs.declared.progress.Settled.TheVariants.{Written}
 use Rattle.ckd_chain.specs.Fed.{Fed, ended_by, fed}
 use Rattle.ckd_chain.specs.State.{ChainState}
 use Rattle.ckd_chain.specs.Steps.{index_of, settled_by}
-use Rattle.ckd_rules.specs.Walk.{TrackEdit}
 use Rattle.plain_defs.specs.declared.journal.Item.TheVariants as items
 use Rattle.plain_defs.specs.Effect.{Effect, behind_effect}
 use Rattle.plain_defs.specs.History.{
@@ -28,7 +27,7 @@ use Rattle.plain_defs.specs.History.{
   reset_in,
 }
 use Rattle.plain_defs.specs.Journal.{program_of, replay}
-use Rattle.plain_defs.specs.Legal.{MayEdit, edit_at, next_edit, is_used}
+use Rattle.plain_defs.specs.Legal.{edit_at, next_edit, is_used}
 use Rattle.plain_defs.specs.Loose.{is_loose_in}
 use Rattle.plain_defs.specs.PlainState.{PathsState, PlainState, with_sense, reset_path}
 use Rattle.plain_defs.specs.Program.{Part}
@@ -46,7 +45,7 @@ use Rattle.device_laws.proofs.Had.{Had, had_done, had_tell, had_if, had_then, ha
 use Rattle.device_laws.proofs.HistoryCuts.{MayTake, taken_state, taken_none, taken_one, cut_state, idle_reset_state, waiting_state}
 use Rattle.device_laws.proofs.HistoryEnds.{effect_at, running_is_open}
 use Rattle.device_laws.proofs.PathsAlong.{reset_keeps_paths}
-use Rattle.device_laws.proofs.PlainCommand.{at, on, the_effect, same_effect, of_edit, IsEditOf, one_more}
+use Rattle.device_laws.proofs.PlainCommand.{at, on, the_effect, same_effect, of_edit, one_more}
 use Rattle.device_laws.proofs.PlainEvents.{had_always, had_both, runs_idle}
 use Rattle.device_laws.proofs.PlainLosses.{of_acts}
 use Rattle.device_laws.proofs.PlainRules.{fed_so, looking_keeps}
@@ -118,8 +117,7 @@ module _ (num : ℕ) (empty : PlainState) (d : MarksDevice) (f : Follows num emp
   firm_there = ap (λ (x : PlainState). is_loose_in x.loose t) (sym state_is) ∙ f.of.loose t ∙ its_track_is_firm
 
   may_one : MayTake d.plans (replay d.plans empty d.history.items) o 1
-  may_one = subst (λ (x : Option TrackEdit). MayEdit part.state part.stance x) (sym next_edit_is)
-      (λ loose. absurd (let both : true ≡ false = sym loose ∙ firm_there in cc))
+  may_one = rw next_edit_is (λ loose. absurd (let both : true ≡ false = sym loose ∙ firm_there in cc))
 
   one_is : taken_state d.plans (replay d.plans empty d.history.items) o 1 ≡ behind_effect part.state its_effect
   one_is =
@@ -131,10 +129,8 @@ module _ (num : ℕ) (empty : PlainState) (d : MarksDevice) (f : Follows num emp
   of_part = subst (λ (x : PlainState). IsOf x (core_of d.store)) state_is f.of
 
   of_one : IsOf (taken_state d.plans (replay d.plans empty d.history.items) o 1) (edited_core (core_of d.store) t e)
-  of_one = subst (λ (x : PlainState). IsOf x (edited_core (core_of d.store) t e)) (sym one_is)
-      (of_edit part.state its_effect.edit its_effect.paths (edited_core (core_of d.store) t e)
-      (subst (λ (x : Option TrackEdit). IsEditOf part.state x (edited_core (core_of d.store) t e)) (sym its_edit)
-      (of_edited part.state (core_of d.store) of_part t its_track_is_firm e)))
+  of_one = rw one_is (of_edit part.state its_effect.edit its_effect.paths (edited_core (core_of d.store) t e)
+      (rw its_edit (of_edited part.state (core_of d.store) of_part t its_track_is_firm e)))
 
   one_forgotten : reset_path (taken_state d.plans (replay d.plans empty d.history.items) o 1).paths o.path ≡ reset_path part.state.paths o.path
   one_forgotten =
@@ -246,19 +242,13 @@ module _ (num : ℕ) (empty : PlainState) (d : MarksDevice) (f : Follows num emp
         (subst (λ (k : Origin). IsMidOf (core_of d.store) h.track k d.history.running f.before d.chain) is
         (subst (λ (k : Option (HalfWrite (Unit {0}))). IsMid (core_of d.store) k d.history.running f.before d.chain) here f.mid)))))
     origin_so h (OfCut bypass) is here there =
-        subst (λ (k : Origin). Had (origin_cut by_plain y h (OfCut bypass)) (λ z (_ : Unit {0}). CutSo r (if K.is_of_command k then 1 else 0) y z))
-        (sym is)
-        (had_done (nothing_cut (λ c x. subst (λ (k : Option (HalfWrite (Unit {0}))). IsMid c k x None None) (sym there)
-        (subst (λ (k : Origin). IsMidOf c h.track k x None None) (sym is) refl))))
+        rw is (had_done (nothing_cut (λ c x. rw there (subst (λ (k : Origin). IsMidOf c h.track k x None None) (sym is) refl))))
     origin_so h OfBackground is here there =
-        subst (λ (k : Origin). Had (origin_cut by_plain y h OfBackground) (λ z (_ : Unit {0}). CutSo r (if K.is_of_command k then 1 else 0) y z))
-        (sym is)
-        (had_done (nothing_cut (λ c x. subst (λ (k : Option (HalfWrite (Unit {0}))). IsMid c k x None None) (sym there)
-        (subst (λ (k : Origin). IsMidOf c h.track k x None None) (sym is) refl))))
+        rw is (had_done (nothing_cut (λ c x. rw there (subst (λ (k : Origin). IsMidOf c h.track k x None None) (sym is) refl))))
 
     pub half_so : (h : Option (HalfWrite (Unit {0}))) → d.store.half ≡ h → y.half ≡ h →
         Had (half_cut by_plain y h) (λ z (_ : Unit {0}). CutSo r (counts_one_by h) y z)
-    half_so None here there = had_done (nothing_cut (λ c x. subst (λ (k : Option (HalfWrite (Unit {0}))). IsMid c k x None None) (sym there) refl))
+    half_so None here there = had_done (nothing_cut (λ c x. rw there refl))
     half_so (Some h) here there = origin_so h h.origin refl here there
 
   -- these hold whatever is cut
@@ -271,14 +261,9 @@ module _ (num : ℕ) (empty : PlainState) (d : MarksDevice) (f : Follows num emp
   may_origin : (h : HalfWrite (Unit {0})) (origin : Origin) → h.origin ≡ origin → IsMidOf (core_of d.store) h.track origin d.history.running f.before d.chain →
       MayAll (Some h)
   may_origin h (OfCommand bypass x) is mid o running =
-      subst (λ (k : Origin). MayBy (Some o) (if K.is_of_command k then 1 else 0) × ForgottenBy (Some o) (if K.is_of_command k then 1 else 0)) (sym is)
-      (may_one num empty d f o running h.track x mid, one_forgotten num empty d f o running h.track x mid)
-  may_origin h (OfCut bypass) is mid o running =
-      subst (λ (k : Origin). MayBy (Some o) (if K.is_of_command k then 1 else 0) × ForgottenBy (Some o) (if K.is_of_command k then 1 else 0)) (sym is)
-      (tt, none_forgotten (Some o) running)
-  may_origin h OfBackground is mid o running =
-      subst (λ (k : Origin). MayBy (Some o) (if K.is_of_command k then 1 else 0) × ForgottenBy (Some o) (if K.is_of_command k then 1 else 0)) (sym is)
-      (tt, none_forgotten (Some o) running)
+      rw is (may_one num empty d f o running h.track x mid, one_forgotten num empty d f o running h.track x mid)
+  may_origin h (OfCut bypass) is mid o running = rw is (tt, none_forgotten (Some o) running)
+  may_origin h OfBackground is mid o running = rw is (tt, none_forgotten (Some o) running)
 
   may_half : (h : Option (HalfWrite (Unit {0}))) → IsMid (core_of d.store) h d.history.running f.before d.chain → MayAll h
   may_half (Some h) mid = may_origin h h.origin refl mid
@@ -325,8 +310,7 @@ module _ (num : ℕ) (empty : PlainState) (d : MarksDevice) (f : Follows num emp
         let stopped : (history_reset d.history path n).running ≡ None = ap (λ (h : History). h.running) is in
         let taken = taken_state d.plans state_at o n in
         record {
-          of = subst (λ (x : PlainState). IsOf x (core_of z))
-              (sym (ap (λ (h : History). plain_of d.plans empty h) is ∙ cut_state d.plans empty d.history f.stands.plain o running n (may o running)))
+          of = rw (ap (λ (h : History). plain_of d.plans empty h) is ∙ cut_state d.plans empty d.history f.stands.plain o running n (may o running))
               (of_paths taken (core_of z) cut.of (all_reset (reset_path taken.paths o.path) d.history.waiting));
           places = cut.places;
           geometry = cut.geometry;
@@ -358,11 +342,10 @@ module _ (num : ℕ) (empty : PlainState) (d : MarksDevice) (f : Follows num emp
           cylinders = refl;
           device = refl;
           before = f.before;
-          runs = subst (λ (h : History). RunsAt d.plans (replay d.plans empty h.items) h.running f.before) (sym is)
-              (cond_both (is_used path false d.history.items) (record d.history { waiting = put path d.history.waiting }) d.history
+          runs = rw is (cond_both (is_used path false d.history.items) (record d.history { waiting = put path d.history.waiting }) d.history
               (λ (h : History). RunsAt d.plans (replay d.plans empty h.items) h.running f.before) (λ _. f.runs) (λ _. f.runs));
           chain = f.chain;
-          mid = subst (λ (r : Option OpenEntry). IsMid (core_of d.store) d.store.half r f.before d.chain) (sym still) f.mid;
+          mid = rw still f.mid;
           home = subst (IsAtHome d.store.lent) (sym still) f.home;
         }
 
@@ -378,7 +361,7 @@ module _ (num : ℕ) (empty : PlainState) (d : MarksDevice) (f : Follows num emp
         ∙ cond_both (is_used path false d.history.items) (record d.history { items = d.history.items ++ items.Reset path ∷ [] }) d.history
         (λ (h : History). h.running ≡ None) (λ _. none) (λ _. none) in
         record {
-          of = subst (λ (x : PlainState). IsOf x (core_of d.store)) (sym (idle_reset_state d.plans empty d.history f.stands.plain none path 0 used_items))
+          of = rw (idle_reset_state d.plans empty d.history f.stands.plain none path 0 used_items)
               (of_paths state_at (core_of d.store) (idle_of none) (reset_path state_at.paths path));
           places = f.places;
           geometry = refl;
@@ -387,7 +370,7 @@ module _ (num : ℕ) (empty : PlainState) (d : MarksDevice) (f : Follows num emp
           before = f.before;
           runs = runs_idle d.plans (replay d.plans empty (history_reset d.history path 0).items) (history_reset d.history path 0).running f.before stopped;
           chain = f.chain;
-          mid = subst (λ (r : Option OpenEntry). IsMid (core_of d.store) d.store.half r f.before d.chain) (none ∙ sym stopped) f.mid;
+          mid = rw (← (none ∙ sym stopped)) f.mid;
           home = home_idle d.store.lent (history_reset d.history path 0).running stopped;
         }
 

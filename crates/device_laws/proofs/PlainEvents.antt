@@ -3,21 +3,18 @@ use Rattle.std.proofs.Common.{◌≡◌, ◌<◌, ◌≤◌, ◌*◌, ℕ, true,
 use Rattle.std.specs.Prelude.{◌⊎◌, replicate}
 use Rattle.std.proofs.lemmas.Bool.{cases_lt}
 use Rattle.std.proofs.lemmas.List.{get_or-replicate, get_or_past, length-replicate}
-use Rattle.std.proofs.lemmas.List.FromFn.{length-map-range_with_len}
 use Rattle.ckd_types.specs.declared.geometry.Geometry.{Geometry}
 use Rattle.ckd_types.specs.declared.record.Track.{Track}
-use Rattle.ckd_types.specs.Track.{empty_track}
-use Rattle.ckd_types.specs.Volume.{empty_volume}
 use Rattle.ckd_chain.specs.State.{ChainState}
 use Rattle.ckd_chain.specs.Steps.{begun_chain}
 use Rattle.plain_defs.specs.History.{OpenEntry, open_part, state_by}
 use Rattle.plain_defs.specs.Journal.{Plans, replay}
-use Rattle.plain_defs.specs.PlainState.{PlainState, empty_state, fixed_of as plain_fixed}
+use Rattle.plain_defs.specs.PlainState.{PlainState, fixed_of as plain_fixed}
 use Rattle.plain_defs.specs.Program.{Part, first_part, sense_begun}
 use Rattle.plain_defs.proofs.PartLemmas.{acted_nothing}
 use Rattle.device_outside.specs.Interaction.{Interaction, Done, Try, Ask, Read, Write, Tell}
 use Rattle.device_outside.specs.Keeper.{reply}
-use Rattle.device_defs.specs.Marks.{MarksDevice, new_device}
+use Rattle.device_defs.specs.Marks.{MarksDevice}
 use Rattle.device_defs.specs.Start as S
 use Rattle.device_defs.specs.Start.{start, start_fault, fault_by, next_program, next_ordinal}
 use Rattle.device_defs.specs.Store.{store_fixed}
@@ -95,9 +92,6 @@ first_follows d g n v plans many some = record {
   home = tt;
 }
 
-pub new_follows : (d : ℕ) (g : Geometry) (n : ℕ) (plans : Plans) → 0 < n → Follows d (empty_state g n) (new_device d g n plans)
-new_follows d g n plans some = first_follows d g n (empty_volume n) plans (length-map-range_with_len empty_track 0 (n * 15)) some
-
 pub runs_idle : (plans : Plans) (x : PlainState) (r : Option OpenEntry) (k : Option ChainState) → r ≡ None → RunsAt plans x r k
 runs_idle plans x (Some o) k is = absurd (cc)
 runs_idle plans x None k is = tt
@@ -142,7 +136,7 @@ module _ (num : ℕ) (empty : PlainState) (d : MarksDevice) (f : Follows num emp
           some = f.some;
           stands = start_stands empty d f.stands path least most (idle_paths empty d f.keeps none) is;
           keeps = start_keeps empty d f.keeps path none;
-          of = subst (λ (x : PlainState). IsOf x (core_of d.store)) (sym (ap (λ (p : Part). p.state) first_is))
+          of = rw (ap (λ (p : Part). p.state) first_is)
               (of_paths s (core_of d.store) (idle_of none) (sense_begun s.paths path (next_program d path)));
           places = f.places;
           before = Some (begun_chain (next_program d path) (store_fixed d.store));

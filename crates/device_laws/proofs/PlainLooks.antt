@@ -66,7 +66,7 @@ use Rattle.device_defs.specs.declared.answers.Came.TheVariants.{Ends, HalfOpen}
 use Rattle.device_defs.specs.declared.answers.Took.{Took}
 use Rattle.device_defs.specs.declared.answers.Took.TheVariants.{Whole, Opened as HalfOpened, Unwritten}
 use Rattle.device_defs.specs.Command as N
-use Rattle.device_defs.specs.Command.{Went, Over, On, came_of_write, went_by, went_on, looked, look, goes_on, follow}
+use Rattle.device_defs.specs.Command.{Went, Over, On, came_of_write, went_by, looked, look, goes_on, follow}
 use Rattle.device_defs.specs.Contents.{by_plain}
 use Rattle.device_defs.specs.Image.{Imaged, Has, NoBytes, BadTrack}
 use Rattle.device_defs.specs.Marks.{MarksStore}
@@ -222,7 +222,7 @@ turned_step origin u first t look z turns.Onward above from at place stays =
       above = omega (arith, on, place, above);
     }) (omega (arith, on, place))
 turned_step origin u first t look z (turns.Edits edit e) above from at place stays =
-    subst (λ (q : ℕ). StepIs origin first q (step_turned u z (turns.Edits edit e))) place (it_writes edit _ (record {
+    rw (← place) (it_writes edit _ (record {
       words = from.words;
       next = from.next;
     }))
@@ -332,8 +332,7 @@ module _ (p : PlainState) (u : List Track) (g : Geometry) (n : ℕ) (m : Open) (
     image_is : (z : MarksStore) (a : Option Imaged) → Imaging p u g n m t z a → Had (had_by (looked by_plain chain first t) z a) (WentSo chain t)
     image_is z None f = absurd f.image
     image_is z (Some (Has i)) f =
-        subst (λ (x : Image). Had (went_on by_plain chain first t z x) (WentSo chain t)) (sym f.image)
-        (had_try (by_step z (stepped chain (Some (plain_image p u g n m t)))
+        rw f.image (had_try (by_step z (stepped chain (Some (plain_image p u g n m t)))
         (step_by origin chain first t (plain_image p u g n m t) (stage_of chain) at.above at.from at.needs refl) refl f.on))
     image_is z (Some (NoBytes fault)) f = checked_so z f.on Equipment
     image_is z (Some (BadTrack side)) f = had_done (λ k. data_check chain (core_of z) (at_word at.from) f.on)

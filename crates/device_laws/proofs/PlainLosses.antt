@@ -124,20 +124,9 @@ use Rattle.device_laws.proofs.PlainStores.{
   walks_hardened,
   acts_done_more,
   not_loose,
+  of_beside,
 }
-use Rattle.device_laws.proofs.PlainTurns.{
-  RunsAt,
-  ChainOf,
-  IsMid,
-  IsAtHome,
-  Follows,
-  of_begun,
-  some_none,
-  mid_none,
-  none_mid,
-  mid_stays,
-  home_stays,
-}
+use Rattle.device_laws.proofs.PlainTurns.{RunsAt, ChainOf, IsMid, Follows, of_begun, some_none, mid_none, none_mid, mid_stays, home_stays}
 use Rattle.device_laws.proofs.PlainWalks.{
   FirstTook,
   framed_same,
@@ -169,7 +158,7 @@ restored_by : (b : Bool) (x : LooseTrack) (l : List LooseTrack) (v : List Track)
 restored_by true x l v q d same lt rest =
     let e = eqb-true x.track q same in
     let many = length_restored l v in
-    subst (λ (k : ℕ). get_or (set (restored l v) k x.firm) q d ≡ x.firm) (sym e) (get_or-set_same (restored l v) q x.firm d (omega (arith, lt, many)))
+    rw e (get_or-set_same (restored l v) q x.firm d (omega (arith, lt, many)))
 restored_by false x l v q d apart lt rest =
     get_or-set_other (restored l v) x.track q x.firm d (λ e. eqb-false x.track q apart (sym e)) ∙ rest
 
@@ -206,17 +195,7 @@ module _ (p : PlainState) (c : Core) (of : IsOf p c) where
 
 -- the acts of an event are none of these
 pub of_acts : (p : PlainState) (c : Core) → IsOf p c → (acts : List Act) → IsOf p (record c { acts = acts })
-of_acts p c of acts = record {
-  geometry = of.geometry;
-  cylinders = of.cylinders;
-  number = of.number;
-  volume = of.volume;
-  loose = of.loose;
-  firm = of.firm;
-  firms = of.firms;
-  looses = of.looses;
-  tracks = of.tracks;
-}
+of_acts p c of acts = of_beside of p.paths acts c.half c.lent
 
 pub places_gone : (p : PlainState) (c : Core) → IsOf p c → HasPlaces c → HasPlaces (gone_core c)
 places_gone p c of places = places ∙ of.looses ∙ of.tracks ∙ sym (length-replicate (c.cylinders * 15) false)
@@ -263,8 +242,7 @@ module _ (p : PlainState) (g : Geometry) (n : ℕ) (first : Core) where
       record {
         plain = s.firm;
         walks = record {
-          of = subst (λ (x : PlainState). IsOf x (record (gone_core c) { acts = s.acts ++ CfwLost ∷ [] })) (sym (acts_done_more p s.acts CfwLost))
-              (of_acts (cfw_lost q) (gone_core c) (of_gone q c k.of) (s.acts ++ CfwLost ∷ []));
+          of = rw (acts_done_more p s.acts CfwLost) (of_acts (cfw_lost q) (gone_core c) (of_gone q c k.of) (s.acts ++ CfwLost ∷ []));
           are = acts_more p None s.acts CfwLost k.are (some_loose q.loose t (k.of.loose t ∙ found.1), tt);
           places = places_gone q c k.of k.places;
           plain = refl;
@@ -448,11 +426,10 @@ module _ (num : ℕ) (empty : PlainState) (d : MarksDevice) (f : Follows num emp
   runs_by : (acts : List Act) → AreActs (plain_of d.plans empty d.history) None acts → (r : Option OpenEntry) → d.history.running ≡ r →
       (k : Option ChainState) → f.before ≡ k → RunsAt d.plans (replay d.plans empty (all_acted d.history acts).items) (all_acted d.history acts).running k
   runs_by acts are (Some o) running None is = absurd
-      (subst (λ (k : Option ChainState). RunsAt d.plans (replay d.plans empty d.history.items) (Some o) k) is
-      (subst (λ (r : Option OpenEntry). RunsAt d.plans (replay d.plans empty d.history.items) r f.before) running f.runs))
+      (subst (λ (k : Option ChainState). RunsAt d.plans (replay d.plans empty d.history.items) (Some o) k) is (rw (← running) f.runs))
   runs_by acts are (Some o) running (Some chain) is =
       let r = all_run num empty d f o running chain is o.path acts d.history f.stands.plain f.stands.due are (runs_first num empty d f o running chain is) in
-      subst (λ (x : Option OpenEntry). RunsAt d.plans (replay d.plans empty (all_acted d.history acts).items) x (Some chain)) (sym r.running) r.at
+      rw r.running r.at
   runs_by acts are None none k is =
       runs_idle d.plans (replay d.plans empty (all_acted d.history acts).items) (all_acted d.history acts).running k (still_none acts d.history none)
 
@@ -473,7 +450,7 @@ module _ (num : ℕ) (empty : PlainState) (d : MarksDevice) (f : Follows num emp
     runs = runs_by y.acts k.are d.history.running refl f.before refl;
     chain = chain_by y k.geometry k.cylinders f.before f.chain;
     mid = mid;
-    home = subst (λ (l : Option ℕ). IsAtHome l (all_acted d.history y.acts).running) (sym (ap (λ (x : Open). x.1.0) k.rest))
+    home = rw (ap (λ (x : Open). x.1.0) k.rest)
         (home_stays d.store.lent d.history.running (all_acted d.history y.acts).running (still_none y.acts d.history) f.home);
   } where
     chain_by : (y : MarksStore) → y.geometry ≡ d.store.geometry → y.cylinders ≡ d.store.cylinders → (c : Option ChainState) →
@@ -496,17 +473,15 @@ module _ (num : ℕ) (empty : PlainState) (d : MarksDevice) (f : Follows num emp
 
   pub walks_first : (s : MarksStore) → core_of s ≡ core_of (noted_begin d.store) →
       Walks (plain_of d.plans empty d.history) d.store.plain d.store.geometry d.store.cylinders (d.store.half, (d.store.lent, d.store.device)) (core_of s)
-  walks_first s e = subst (Walks (plain_of d.plans empty d.history) d.store.plain d.store.geometry d.store.cylinders
-      (d.store.half, (d.store.lent, d.store.device))) (sym e)
-      (record {
-        of = of_begun (plain_of d.plans empty d.history) (core_of d.store) f.of;
-        are = tt;
-        places = f.places;
-        plain = refl;
-        geometry = refl;
-        cylinders = refl;
-        rest = refl;
-      })
+  walks_first s e = rw e (record {
+    of = of_begun (plain_of d.plans empty d.history) (core_of d.store) f.of;
+    are = tt;
+    places = f.places;
+    plain = refl;
+    geometry = refl;
+    cylinders = refl;
+    rest = refl;
+  })
 
   -- a loss
   pub loss_follows : (loss : Loss) → Had (lose by_plain d loss) (λ y (_ : Unit {0}). Follows num empty y)
@@ -524,7 +499,6 @@ module _ (num : ℕ) (empty : PlainState) (d : MarksDevice) (f : Follows num emp
   unfolding V.background
   background_follows whole = event_follows num empty d (λ z. and_then (work by_plain z.store) (λ s did. Done (with_store z s) did)) (λ s e.
       had_then (work_on (plain_of d.plans empty d.history) d.store.plain d.store.geometry d.store.cylinders (d.store.lent, d.store.device) s
-      (subst (λ (h : Option (HalfWrite (Unit {0}))). Walks (plain_of d.plans empty d.history) d.store.plain d.store.geometry d.store.cylinders
-      (h, (d.store.lent, d.store.device)) (core_of s)) whole (walks_first s e)))
+      (rw (← whole) (walks_first s e)))
       (λ z did w. had_done (acts_follow z d.store.plain w.walks (w.free (core_of z) (all_acted d.history z.acts).running f.before d.chain
       (none_mid (core_of d.store) d.store.half d.history.running f.before d.chain whole f.mid)))))

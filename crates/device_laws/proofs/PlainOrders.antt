@@ -25,7 +25,7 @@ use Rattle.device_laws.proofs.HistoryCuts.{emptied_state}
 use Rattle.device_laws.proofs.PathsAlong.{restore_keeps}
 use Rattle.device_laws.proofs.PlainCommand.{follows_store}
 use Rattle.device_laws.proofs.PlainEvents.{none_loose, runs_idle}
-use Rattle.device_laws.proofs.PlainStores.{Core, core_of, IsOf, HasPlaces}
+use Rattle.device_laws.proofs.PlainStores.{Core, core_of, IsOf, HasPlaces, of_beside}
 use Rattle.device_laws.proofs.PlainTurns.{ChainOf, IsMid, Follows, mid_idle, mid_other, home_idle}
 use Rattle.device_laws.proofs.PlainWalks.{framed_same, patch_same, ended_same}
 
@@ -35,17 +35,7 @@ abbrev away_core : Core → ℕ → Core
 away_core c to = record c { acts = []; lent = Some to }
 
 of_away : (p : PlainState) (c : Core) → IsOf p c → (to : ℕ) → IsOf p (away_core c to)
-of_away p c of to = record {
-  geometry = of.geometry;
-  cylinders = of.cylinders;
-  number = of.number;
-  volume = of.volume;
-  loose = of.loose;
-  firm = of.firm;
-  firms = of.firms;
-  looses = of.looses;
-  tracks = of.tracks;
-}
+of_away p c of to = of_beside of p.paths [] c.half (Some to)
 
 over_same : (k : ℕ) (f : ℕ → MarksStore → MarksStore) → ((t : ℕ) (z : MarksStore) → core_of (f t z) ≡ core_of z) → (s : MarksStore) →
     core_of (over k f s) ≡ core_of s

@@ -142,8 +142,7 @@ module _ (p : PlainState) (s : MarksStore) (of : IsOf p (core_of s)) (places : H
 
   gone_by : (o : Option ℕ) → least (tracks_of s) (is_loose s) ≡ o → IsGoneBack p s (if is_some o then gone_back s else s)
   gone_by None e = record {
-    of = subst (λ (x : PlainState). IsOf x (core_of s))
-        (sym (ap (λ (l : List LooseTrack). lost_by_power p l) (all_firm p.loose (none_at (ap (λ (o : Option ℕ). is_some o) e))))) of;
+    of = rw (ap (λ (l : List LooseTrack). lost_by_power p l) (all_firm p.loose (none_at (ap (λ (o : Option ℕ). is_some o) e)))) of;
     places = places;
     acts = none;
     geometry = refl;
@@ -152,8 +151,7 @@ module _ (p : PlainState) (s : MarksStore) (of : IsOf p (core_of s)) (places : H
     device = refl;
   }
   gone_by (Some t) e = record {
-    of = subst (λ (x : PlainState). IsOf x (core_of (gone_back s)))
-        (sym (some_gone p.loose t (of.loose t ∙ (least_found (tracks_of s) (is_loose s) t e).1))) (of_gone p (core_of s) of);
+    of = rw (some_gone p.loose t (of.loose t ∙ (least_found (tracks_of s) (is_loose s) t e).1)) (of_gone p (core_of s) of);
     places = places_gone p (core_of s) of places;
     acts = none;
     geometry = refl;
@@ -217,12 +215,12 @@ module _ (num : ℕ) (empty : PlainState) (d : MarksDevice) (f : Follows num emp
   state_on : (c : Core) (r : Option OpenEntry) → d.history.running ≡ r → IsOf (lost_state (taken_by num empty d f r n)) c →
       IsOf (plain_of d.plans empty (lost_power d.history n)) c
   state_on c (Some o) running of =
-      subst (λ (x : PlainState). IsOf x c) (sym (power_cut_state d.plans empty d.history f.stands.plain o running n (may num empty d f o running)))
+      rw (power_cut_state d.plans empty d.history f.stands.plain o running n (may num empty d f o running))
       (of_paths (lost_state (taken_by num empty d f (Some o) n)) c of fresh_paths)
   state_on c None none of = by_start (cases_Bool (is_started false d.history.items)) where
     by_start : (is_started false d.history.items ≡ true) ⊎ (is_started false d.history.items ≡ false) → IsOf (plain_of d.plans empty (lost_power d.history n)) c
     by_start (inl began) =
-        subst (λ (x : PlainState). IsOf x c) (sym (idle_power_state d.plans empty d.history f.stands.plain none n began))
+        rw (idle_power_state d.plans empty d.history f.stands.plain none n began)
         (of_paths (lost_state (replay d.plans empty d.history.items)) c of fresh_paths)
     by_start (inr not_yet) =
         let s = replay d.plans empty d.history.items in
@@ -231,8 +229,7 @@ module _ (num : ℕ) (empty : PlainState) (d : MarksDevice) (f : Follows num emp
         ∙ ap (λ (b : Bool). cond b (record { items = d.history.items ++ items.Power ∷ []; running = None; waiting = [] }) d.history) not_yet in
         let firm : s.loose ≡ [] =
         unstarted_loose d.plans empty [] d.history.items false (λ no. ap (λ (x : PlainState). x.loose) f.base) f.stands.plain.legal not_yet in
-        subst (λ (h : History). IsOf (plain_of d.plans empty h) c) (sym stays)
-        (subst (λ (x : PlainState). IsOf x c) (sym (ap (λ (r : Option OpenEntry). state_by d.plans s r) none))
+        rw stays (rw (ap (λ (r : Option OpenEntry). state_by d.plans s r) none)
         (subst (λ (x : PlainState). IsOf x c) (ap (λ (l : List LooseTrack). lost_by_power s l) firm) of))
 
   stops : (r : Option OpenEntry) → d.history.running ≡ r → (lost_power d.history n).running ≡ None

@@ -8,7 +8,6 @@ use Rattle.ckd_chain.specs.Fed.{Fed}
 use Rattle.ckd_chain.specs.State.{ChainState}
 use Rattle.ckd_chain.specs.Steps.{behind, end_with}
 use Rattle.plain_defs.specs.History.{OpenEntry, plain_of}
-use Rattle.plain_defs.specs.declared.journal.Act.{Act}
 use Rattle.plain_defs.specs.Legal.{AreActs}
 use Rattle.plain_defs.specs.PlainState.{PlainState}
 use Rattle.track_image.specs.Image.{Image}
@@ -32,16 +31,7 @@ use Rattle.device_laws.proofs.PlainCuts.{its_effect, its_end, its_edit, its_sens
 use Rattle.device_laws.proofs.PlainLosses.{acts_follow, walks_first}
 use Rattle.device_laws.proofs.PlainStores.{Core, Open, core_of, loose_at, edited_core, hardened_core, Walks, walks_on, walks_hardened, walks_half}
 use Rattle.device_laws.proofs.PlainTurns.{Halfway, IsMid, IsMidOf, Follows, some_none, mid_none}
-use Rattle.device_laws.proofs.PlainWalks.{
-  firmly,
-  FirmAt,
-  firm_hardened,
-  framed_same,
-  patch_same,
-  done_same,
-  settled_on,
-  second_part_holds,
-}
+use Rattle.device_laws.proofs.PlainWalks.{firmly, FirmAt, firm_hardened, framed_same, patch_same, done_same, settled_on, second_part_holds}
 
 -- What the other part leaves: the edit of a command took effect, or none
 
@@ -158,7 +148,7 @@ module _ (num : ℕ) (empty : PlainState) (d : MarksDevice) (f : Follows num emp
         SecondSo (plain_of d.plans empty d.history) d.store.plain d.store.geometry d.store.cylinders (d.store.lent, d.store.device) t
         (OfCommand false e) y done →
         AreActs (plain_of d.plans empty d.history) None y.acts
-    acts_legal y true k = subst (λ (l : List Act). AreActs (plain_of d.plans empty d.history) None l) (sym (ap (λ (c : Core). c.acts) k.is)) k.on.are
+    acts_legal y true k = rw (ap (λ (c : Core). c.acts) k.is) k.on.are
     acts_legal y false w = w.are
 
     command_follows : (y : MarksStore) (done : Bool) →
@@ -170,9 +160,7 @@ module _ (num : ℕ) (empty : PlainState) (d : MarksDevice) (f : Follows num emp
         subst (λ (x : Option OpenEntry). Had (command_ended by_plain (with_store d y) t x d.chain done) (λ x (_ : SecondEnd). Follows num empty x))
         (sym r.running)
         (subst (λ (x : Option ChainState). Had (command_ended by_plain (with_store d y) t (Some r.entry) x done) (λ x (_ : SecondEnd). Follows num empty x))
-        (sym mid.is)
-        (had_done (subst (λ (i : ℕ). Follows num empty (turned (with_store d y) i (second_turn by_plain mid.chain done))) (sym r.path_is)
-        (turn_follows y done k))))
+        (sym mid.is) (had_done (rw r.path_is (turn_follows y done k))))
 
   its_second : (t : ℕ) (e : Edit) (mid : Halfway (core_of d.store) t e d.history.running f.before d.chain) (r : Option OpenEntry) →
       d.history.running ≡ r → (y : MarksStore) (done : Bool) →

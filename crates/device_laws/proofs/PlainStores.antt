@@ -42,7 +42,7 @@ use Rattle.plain_defs.specs.declared.journal.Act.{Act}
 use Rattle.plain_defs.specs.declared.journal.Act.TheVariants.{Loosen, Harden}
 use Rattle.plain_defs.specs.Legal.{AreActs}
 use Rattle.plain_defs.specs.Loose.{is_loose_in, firm_in, without, act_done}
-use Rattle.plain_defs.specs.PlainState.{LooseTrack, PlainState}
+use Rattle.plain_defs.specs.PlainState.{LooseTrack, PlainState, PathsState}
 use Rattle.plain_defs.specs.Program.{acts_done}
 use Rattle.device_defs.specs.Marks.{MarksStore}
 use Rattle.device_defs.specs.Store.{HalfWrite}
@@ -261,15 +261,12 @@ module _ (p : PlainState) (c : Core) (of : IsOf p c) (t : ℕ) where
     tracks = of.tracks;
   } where
     loose_by : (q : ℕ) → (q ≡ t) ⊎ (q ≢ t) → is_loose_in (without t p.loose) q ≡ get_or (set c.loose t false) q false
-    loose_by q (inl e) = subst (λ (k : ℕ). is_loose_in (without t p.loose) k ≡ get_or (set c.loose t false) k false) (sym e)
-        (without_same t p.loose ∙ sym (put_false c.loose t))
+    loose_by q (inl e) = rw e (without_same t p.loose ∙ sym (put_false c.loose t))
     loose_by q (inr ne) = without_other t q p.loose ne ∙ of.loose q ∙ sym (get_or-set_other c.loose t q false false ne)
 
     firm_by : (q : ℕ) → (q ≡ t) ⊎ (q ≢ t)
         → firm_in (without t p.loose) q (track_in p.volume q) ≡ track_in (set c.firm t (track_in c.plain t)) q
-    firm_by q (inl e) = subst (λ (k : ℕ). firm_in (without t p.loose) k (track_in p.volume k) ≡ track_in (set c.firm t (track_in c.plain t)) k)
-        (sym e)
-        (not_loose (without t p.loose) t (track_in p.volume t) (without_same t p.loose)
+    firm_by q (inl e) = rw e (not_loose (without t p.loose) t (track_in p.volume t) (without_same t p.loose)
         ∙ ap (λ (v : List Track). track_in v t) of.volume
         ∙ sym (get_or-set_same c.firm t (track_in c.plain t) _ (inside is)))
     firm_by q (inr ne) = firm_other t q (track_in p.volume q) p.loose ne ∙ of.firm q ∙ sym (get_or-set_other c.firm t q _ _ ne)
@@ -288,8 +285,7 @@ module _ (p : PlainState) (c : Core) (of : IsOf p c) (t : ℕ) where
     tracks = of.tracks;
   } where
     loose_by : (q : ℕ) → (q ≡ t) ⊎ (q ≢ t) → cond (loose_at c q) true (t == q) ≡ get_or (set c.loose t true) q false
-    loose_by q (inl e) = subst (λ (k : ℕ). cond (loose_at c k) true (t == k) ≡ get_or (set c.loose t true) k false) (sym e)
-        (ap (λ (b : Bool). cond b true (t == t)) is ∙ eq-eqb t t refl ∙ sym (get_or-set_same c.loose t true false lt))
+    loose_by q (inl e) = rw e (ap (λ (b : Bool). cond b true (t == t)) is ∙ eq-eqb t t refl ∙ sym (get_or-set_same c.loose t true false lt))
     loose_by q (inr ne) =
         ap (λ (b : Bool). cond (loose_at c q) true b) (ne_eqb t q (λ e. ne (sym e)))
         ∙ as_is (loose_at c q) ∙ sym (get_or-set_other c.loose t q true false ne)
@@ -323,9 +319,7 @@ module _ (p : PlainState) (c : Core) (of : IsOf p c) (t : ℕ) where
   } where
     firm_by : (q : ℕ) → (q ≡ t) ⊎ (q ≢ t) → firm_in p.loose q (track_in (put_track p.volume t e) q) ≡ track_in (set c.firm t (apply_edit e
         (track_in c.plain t))) q
-    firm_by q (inl same) = subst (λ (k : ℕ). firm_in p.loose k (track_in (put_track p.volume t e) k) ≡ track_in (set c.firm t (apply_edit e
-        (track_in c.plain t))) k) (sym same)
-        (not_loose p.loose t (track_in (put_track p.volume t e) t) (of.loose t ∙ is)
+    firm_by q (inl same) = rw same (not_loose p.loose t (track_in (put_track p.volume t e) t) (of.loose t ∙ is)
         ∙ ap (λ (v : List Track). track_in v t) (edited_volume e) ∙ put_both c.plain c.firm t (apply_edit e (track_in c.plain t)) _ (sym of.firms))
     firm_by q (inr ne) =
         ap (λ (z : Track). firm_in p.loose q z) (get_or-set_other p.volume t q _ _ ne) ∙ of.firm q ∙ sym (get_or-set_other c.firm t q _ _ ne)
@@ -344,8 +338,7 @@ module _ (p : PlainState) (c : Core) (of : IsOf p c) (t : ℕ) where
     tracks = length-set c.plain t (apply_edit e (track_in c.plain t)) ∙ of.tracks;
   } where
     firm_by : (q : ℕ) → (q ≡ t) ⊎ (q ≢ t) → firm_in p.loose q (track_in (put_track p.volume t e) q) ≡ track_in c.firm q
-    firm_by q (inl same) = subst (λ (k : ℕ). firm_in p.loose k (track_in (put_track p.volume t e) k) ≡ track_in c.firm k) (sym same)
-        (any_loose p.loose t (track_in (put_track p.volume t e) t) (track_in p.volume t) (of.loose t ∙ is) ∙ of.firm t)
+    firm_by q (inl same) = rw same (any_loose p.loose t (track_in (put_track p.volume t e) t) (track_in p.volume t) (of.loose t ∙ is) ∙ of.firm t)
     firm_by q (inr ne) = ap (λ (z : Track). firm_in p.loose q z) (get_or-set_other p.volume t q _ _ ne) ∙ of.firm q
 
 -- Along an event
@@ -371,8 +364,7 @@ module _ (p : PlainState) (u : List Track) (g : Geometry) (n : ℕ) (m : Open) w
 
   pub walks_hardened : (c : Core) (t : ℕ) → Walks p u g n m c → loose_at c t ≡ true → Walks p u g n m (hardened_core c t)
   walks_hardened c t w is = record {
-    of = subst (λ (s : PlainState). IsOf s (hardened_core c t)) (sym (acts_done_more p c.acts (Harden t)))
-        (of_hardened (acts_done p c.acts) c w.of t is);
+    of = rw (acts_done_more p c.acts (Harden t)) (of_hardened (acts_done p c.acts) c w.of t is);
     are = acts_more p None c.acts (Harden t) w.are (w.of.loose t ∙ is, tt);
     places = w.places ∙ sym (length-set c.loose t false);
     plain = w.plain;
@@ -385,8 +377,10 @@ module _ (p : PlainState) (u : List Track) (g : Geometry) (n : ℕ) (m : Open) w
 abbrev pub with_half : Core → Option (HalfWrite (Unit {0})) → Core
 with_half c h = record c { half = h }
 
-pub of_half : (p : PlainState) (c : Core) → IsOf p c → (h : Option (HalfWrite (Unit {0}))) → IsOf p (with_half c h)
-of_half p c of h = record {
+-- neither the paths nor the acts, the half write or whom it is lent to are of its volumes
+pub of_beside : {p : PlainState} {c : Core} → IsOf p c → (paths : PathsState) (acts : List Act) (half : Option (HalfWrite (Unit {0}))) (lent : Option ℕ) →
+    IsOf (record p { paths = paths }) (record c { acts = acts; half = half; lent = lent })
+of_beside of paths acts half lent = record {
   geometry = of.geometry;
   cylinders = of.cylinders;
   number = of.number;
@@ -397,6 +391,9 @@ of_half p c of h = record {
   looses = of.looses;
   tracks = of.tracks;
 }
+
+pub of_half : (p : PlainState) (c : Core) → IsOf p c → (h : Option (HalfWrite (Unit {0}))) → IsOf p (with_half c h)
+of_half p c of h = of_beside of p.paths c.acts h c.lent
 
 pub walks_half : (p : PlainState) (u : List Track) (g : Geometry) (n : ℕ) (m : Open) (c : Core) → Walks p u g n m c →
     (h : Option (HalfWrite (Unit {0}))) → Walks p u g n (h, m.1) (with_half c h)

@@ -26,7 +26,6 @@ use Rattle.plain_defs.specs.History.{
   plain_of,
   state_by,
   acted,
-  acted_in,
   with_end,
   closed,
   ended as history_ended,
@@ -66,7 +65,7 @@ use Rattle.device_laws.proofs.HistoryEnds.{
 use Rattle.device_laws.proofs.OpenProgram.{IsGoing, with_one_act, going_of_open, part_with_act}
 use Rattle.device_laws.proofs.PathsAlong.{equipment_keeps, data_check_keeps}
 use Rattle.device_laws.proofs.PlainLooks.{IsAtWord}
-use Rattle.device_laws.proofs.PlainStores.{Core, core_of, loose_at, IsOf, HasPlaces, Stays}
+use Rattle.device_laws.proofs.PlainStores.{Core, core_of, loose_at, IsOf, HasPlaces, Stays, of_beside}
 use Rattle.device_laws.proofs.WaitingResets.{AreDue}
 
 -- the chain is where the running program goes on, and none of its commands has begun
@@ -213,31 +212,11 @@ home_stays None r x idle home = tt
 
 -- what is kept of the paths is no part of a store
 pub of_paths : (p : PlainState) (c : Core) → IsOf p c → (paths : PathsState) → IsOf (record p { paths = paths }) c
-of_paths p c of paths = record {
-  geometry = of.geometry;
-  cylinders = of.cylinders;
-  number = of.number;
-  volume = of.volume;
-  loose = of.loose;
-  firm = of.firm;
-  firms = of.firms;
-  looses = of.looses;
-  tracks = of.tracks;
-}
+of_paths p c of paths = of_beside of paths c.acts c.half c.lent
 
 -- the acts of an event are none either
 pub of_begun : (p : PlainState) (c : Core) → IsOf p c → IsOf p (record c { acts = [] })
-of_begun p c of = record {
-  geometry = of.geometry;
-  cylinders = of.cylinders;
-  number = of.number;
-  volume = of.volume;
-  loose = of.loose;
-  firm = of.firm;
-  firms = of.firms;
-  looses = of.looses;
-  tracks = of.tracks;
-}
+of_begun p c of = of_beside of p.paths [] c.half c.lent
 
 pub runs_none : (plans : Plans) (s : PlainState) (r : Option OpenEntry) → r ≡ None → RunsAt plans s r None
 runs_none plans s (Some o) is = absurd (cc)
@@ -269,7 +248,7 @@ module _ (plans : Plans) (empty : PlainState) (chain : ChainState) where
   act_runs : (h : History) → IsPlain plans empty h → (o : OpenEntry) → h.running ≡ Some o → AreDue h → AtPart plans (replay plans empty h.items) o chain →
       (act : Act) → StillRuns o.path (acted h act)
   act_runs h plain o running due at act =
-      subst (λ (r : Option OpenEntry). StillRuns o.path (acted_in h act r)) (sym running) (record {
+      rw running (record {
         entry = with_one_act o act;
         running = refl;
         path_is = refl;
@@ -411,9 +390,7 @@ module _ (empty : PlainState) (d : MarksDevice) where
       check_state c next check =
           let is_open = running_is_open d.plans empty d.history stands.plain stands.due o running in
           let p = (open_part d.plans s o).state in
-          subst (λ (x : PlainState). IsOf x (core_of d.store))
-          (sym (checked_state d.plans empty d.history stands.plain.legal stands.due o running is_open c next check))
-          (of_paths p (core_of d.store)
+          rw (checked_state d.plans empty d.history stands.plain.legal stands.due o running is_open c next check) (of_paths p (core_of d.store)
           (subst (λ (x : PlainState). IsOf x (core_of d.store)) (ap (λ (r : Option OpenEntry). state_by d.plans s r) running) of)
           (all_reset (with_sense p.paths o.path c.sense) d.history.waiting))
 
@@ -429,7 +406,7 @@ module _ (empty : PlainState) (d : MarksDevice) where
         stands = equipment_stands empty d o.path at stands o running here;
         keeps = equipment_keeps empty d keeps stands o running at here;
         of = check_state (end_with at (settled_by at Equipment)) (next_is empty d stands.plain stands.due o running at here o.path)
-            (subst (λ (l : List Ccw). IsCheck l (end_with at (settled_by at Equipment))) here.words (equipment_is_check at));
+            (rw (← here.words) (equipment_is_check at));
         places = places;
         before = None;
         runs = over_runs (end_with at (settled_by at Equipment));
@@ -446,7 +423,7 @@ module _ (empty : PlainState) (d : MarksDevice) where
         stands = data_check_stands empty d o.path at stands o running here;
         keeps = data_check_keeps empty d keeps stands o running at here;
         of = check_state (end_with at (settled_by at DataCheck)) (next_is empty d stands.plain stands.due o running at here o.path)
-            (subst (λ (l : List Ccw). IsCheck l (end_with at (settled_by at DataCheck))) here.words (data_check_is_check at));
+            (rw (← here.words) (data_check_is_check at));
         places = places;
         before = None;
         runs = over_runs (end_with at (settled_by at DataCheck));

@@ -1,12 +1,12 @@
 -- A track is put into a volume.
-use Rattle.std.proofs.Common.{◌≡◌, ◌≢◌, ◌<◌, ◌*◌, ℕ, List, length, set, sym, subst, ◌∙◌, arith, ◌⊎◌, inl, inr}
-use Rattle.std.proofs.lemmas.Bool.{cases_eq}
+use Rattle.std.proofs.Common.{◌≡◌, ◌≢◌, ◌<◌, ◌*◌, ℕ, List, length, set, ◌∙◌, arith}
 use Rattle.std.proofs.lemmas.List.{get_or-set_same, get_or-set_other, length-set}
 use Rattle.ckd_types.specs.declared.geometry.Geometry.{Geometry}
 use Rattle.ckd_types.specs.declared.record.Track.{Track}
 use Rattle.ckd_types.specs.Geometry.{cchh_of}
 use Rattle.ckd_types.specs.Track.{Fits, empty_track}
 use Rattle.ckd_types.specs.Volume.{IsVolume, track_in}
+use Rattle.device_laws.proofs.EachTrack.{each_track}
 
 pub put_here : (v : List Track) (t : ℕ) (x : Track) → t < length v → track_in (set v t x) t ≡ x
 put_here v t x lt = get_or-set_same v t x (empty_track t) lt
@@ -18,17 +18,11 @@ pub put_volume : (g : Geometry) (cylinders : ℕ) (v : List Track) (t : ℕ) (x 
     x.home ≡ cchh_of t → Fits g x → IsVolume g cylinders (set v t x)
 put_volume g cylinders v t x is lt home fits = record {
   tracks = length-set v t x ∙ is.tracks;
-  homes = λ q below. home_by q below (cases_eq q t);
-  fits = λ q below. fits_by q below (cases_eq q t);
+  homes = each_track (λ q. q < cylinders * 15 → (track_in (set v t x) q).home ≡ cchh_of q) t (λ _. rw here home)
+      (λ q ne below. rw (put_elsewhere v t x q ne) (is.homes q below));
+  fits = each_track (λ q. q < cylinders * 15 → Fits g (track_in (set v t x) q)) t (λ _. rw here fits)
+      (λ q ne below. rw (put_elsewhere v t x q ne) (is.fits q below));
 }
   where
     here : track_in (set v t x) t ≡ x
     here = put_here v t x (let long = is.tracks in omega arith)
-
-    home_by : (q : ℕ) → q < cylinders * 15 → ((q ≡ t) ⊎ (q ≢ t)) → (track_in (set v t x) q).home ≡ cchh_of q
-    home_by q below (inl e) = subst (λ (p : ℕ). (track_in (set v t x) p).home ≡ cchh_of p) (sym e) (subst (λ (y : Track). y.home ≡ cchh_of t) (sym here) home)
-    home_by q below (inr ne) = subst (λ (y : Track). y.home ≡ cchh_of q) (sym (put_elsewhere v t x q ne)) (is.homes q below)
-
-    fits_by : (q : ℕ) → q < cylinders * 15 → ((q ≡ t) ⊎ (q ≢ t)) → Fits g (track_in (set v t x) q)
-    fits_by q below (inl e) = subst (λ (p : ℕ). Fits g (track_in (set v t x) p)) (sym e) (subst (Fits g) (sym here) fits)
-    fits_by q below (inr ne) = subst (Fits g) (sym (put_elsewhere v t x q ne)) (is.fits q below)

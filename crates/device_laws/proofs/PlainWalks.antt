@@ -116,7 +116,20 @@ use Rattle.device_defs.specs.Store.{
   with_stale,
 }
 use Rattle.device_defs.specs.Writing as W
-use Rattle.device_defs.specs.Writing.{wrote, firm_first, unwritten, write_first, first_a, failed_a, alone_b, write_second, write_done, taken_a, cleaned, write_opened}
+use Rattle.device_defs.specs.Writing.{
+  wrote,
+  firm_first,
+  unwritten,
+  write_first,
+  first_a,
+  failed_a,
+  alone_b,
+  write_second,
+  write_done,
+  taken_a,
+  cleaned,
+  write_opened,
+}
 use Rattle.device_laws.proofs.Bools.{not_true}
 use Rattle.device_laws.proofs.Had.{Had, had_done, had_try, had_ask, had_read, had_write, had_tell, had_if, had_then}
 use Rattle.device_laws.proofs.CacheLost.{none_below}
@@ -577,6 +590,4 @@ module _ (p : PlainState) (u : List Track) (g : Geometry) (n : ℕ) (m : Open) w
     pub write_walks : (s : MarksStore) (old : Image) → On s → Had (write by_plain s v first t old e) (λ z a. WroteSo v.provisional first t e z a)
     unfolding E.write
     write_walks s old w =
-        had_try (had_then (choose_fits s)
-        (λ z choice f. subst (λ (x : MarksStore). Had (write_chosen by_plain v first t old e x choice) (λ z a. WroteSo v.provisional first t e z a)) (sym f.0)
-        (chosen_so s old choice w f.1)))
+        had_try (had_then (choose_fits s) (λ z choice f. rw f.0 (chosen_so s old choice w f.1)))

@@ -14,26 +14,11 @@ use Rattle.device_defs.specs.declared.usage.Usage.{Usage}
 use Rattle.device_defs.specs.Choosing as G
 use Rattle.device_defs.specs.Choosing.{slot_by, fast_by, may_be_fast, fast_or_through, choose_loose, choose_firm, choose}
 use Rattle.device_defs.specs.Image as I
-use Rattle.device_defs.specs.Image.{Got, Imaged, Has, ahead, loads, filled, loaded, delivered, missed}
+use Rattle.device_defs.specs.Image.{Got, ahead, loads, filled, loaded, delivered, missed}
 use Rattle.device_defs.specs.Losses.{slot_in}
 use Rattle.device_defs.specs.Memory.{tried}
 use Rattle.device_defs.specs.Owed as O
-use Rattle.device_defs.specs.Owed.{
-  is_clean,
-  is_modified,
-  heard,
-  hear,
-  modified_told,
-  dropped_told,
-  freed_told,
-  settles_debt,
-  is_owed,
-  track_told,
-  all_told,
-  waiting_count,
-  waiting_told,
-  noted_end,
-}
+use Rattle.device_defs.specs.Owed.{is_clean, is_modified, heard, hear, freed_told, settles_debt, is_owed, track_told, all_told, waiting_count, noted_end}
 use Rattle.device_defs.specs.Store.{Store, no_debt, tracks_of, frame_at, patch_at, is_loose, owed_at, with_frame, with_patch, with_owed}
 use Rattle.device_defs.specs.Writing as V
 use Rattle.device_defs.specs.Writing.{slot_freed, write_done}
@@ -134,11 +119,9 @@ module _ {F P H R : Type 0} (c : Contents F P H R) (Q : Store F P H → Type 0) 
 
     debt_asks : (t : ℕ) (s : Store F P H) → Q s → Asks Sated (settles_debt c t s)
     debt_asks t s f =
-        asks_then (λ z _. and_then (dropped_told c t z) (λ y _. and_then (freed_told c y (owed_at y t).freed) (λ x _. Done (with_owed x t no_debt) (tt {0}))))
-        (asks_if ((owed_at s t).modified && is_modified c (frame_at s t)) (asks_ask tt (λ _. asks_done f)) (asks_done f))
-        (λ z _ g. asks_then (λ y _. and_then (freed_told c y (owed_at y t).freed) (λ x _. Done (with_owed x t no_debt) (tt {0})))
-        (asks_if (owed_at z t).dropped (asks_ask tt (λ _. asks_done g)) (asks_done g))
-        (λ y _ h. asks_then (λ x _. Done (with_owed x t no_debt) (tt {0})) (freed_asks y (owed_at y t).freed h) (λ x _ k. asks_done (settles x t k))))
+        asks_then _ (asks_if ((owed_at s t).modified && is_modified c (frame_at s t)) (asks_ask tt (λ _. asks_done f)) (asks_done f))
+        (λ z _ g. asks_then _ (asks_if (owed_at z t).dropped (asks_ask tt (λ _. asks_done g)) (asks_done g))
+        (λ y _ h. asks_then _ (freed_asks y (owed_at y t).freed h) (λ x _ k. asks_done (settles x t k))))
 
     pub told_asks : (n : ℕ) (s : Store F P H) → Q s → Asks Sated (all_told c n s)
     unfolding O.all_told
@@ -148,7 +131,7 @@ module _ {F P H R : Type 0} (c : Contents F P H R) (Q : Store F P H → Type 0) 
 
     pub ended_asks : (before : ℕ) (s : Store F P H) → Q s → Asks Any (noted_end c before s)
     ended_asks before s f =
-        asks_then (λ z _. waiting_told c before z) (asks_more (λ call m. tt) (told_asks (tracks_of s) s f))
+        asks_then _ (asks_more (λ call m. tt) (told_asks (tracks_of s) s f))
         (λ z _ g. asks_if (waiting_count c z == before) (asks_done g) (asks_ask tt (λ _. asks_done g)))
 
   -- where a write goes
@@ -204,8 +187,7 @@ module _ {F P H R : Type 0} (c : Contents F P H R) (Q : Store F P H → Type 0) 
     -- what a miss does with its bytes, where what it queues keeps it too
     module _ (queues : (u : Usage) (z : Store F P H) (t : ℕ) → Q z → Q (ahead u z t)) where
       granted_asks : (s : Store F P H) (t : ℕ) (i : Image) (given : Bool) → Q s → Asks Hushed (I.granted c s t i given)
-      granted_asks s t i given f =
-          asks_if given (asks_then (λ z _. Done z (Some (Has i))) (asks_hushed (filled_asks s t i f)) (λ z _ g. asks_done g)) (asks_done f)
+      granted_asks s t i given f = asks_if given (asks_then _ (asks_hushed (filled_asks s t i f)) (λ z _ g. asks_done g)) (asks_done f)
 
       loaded_asks : (s : Store F P H) (t : ℕ) (i : Image) (mode : Mode) → Q s → Asks Hushed (loaded c s t i mode)
       loaded_asks s t i mode f = asks_if (loads mode) (asks_tried s _ f (asks_ask tt (λ given. granted_asks s t i given f))) (asks_done f)

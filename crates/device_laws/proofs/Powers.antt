@@ -21,7 +21,7 @@ use Rattle.device_laws.proofs.CacheLost.{none_below, unframed_settled, step}
 use Rattle.device_laws.proofs.Changes as C
 use Rattle.device_laws.proofs.Changes.{Changed, rest_of, changed_unpatched}
 use Rattle.device_laws.proofs.Done.{Keeps, goes_keeps, keeps_on}
-use Rattle.device_laws.proofs.FailedCall.{IsKept, settled_kept, IsWell, goes_same}
+use Rattle.device_laws.proofs.FailedCall.{settled_kept, IsWell, goes_same}
 use Rattle.device_laws.proofs.LossEvents.{begun_same, counted_same}
 use Rattle.device_laws.proofs.Sweeps.{IsHere, Swept, swept, half_within, same_tracks, same_half}
 use Rattle.device_laws.proofs.TrackMarks as M
@@ -98,8 +98,7 @@ module _ {F P H R : Type 0} (c : Contents F P H R) (faithful : IsFaithful c) whe
   bare_at : (s z y : Store F P H) (t : ℕ) → Cleared s z → Changed c z y t (record (track_at c z t) { patched = false }) →
       (q : ℕ) → q < tracks_of s → ((q ≡ t) ⊎ (q ≢ t)) → Bare (track_at c s q) (track_at c y q)
   bare_at s z y t f e q lt (inl is) =
-      bare_on (track_at c s q) (track_at c z q) (track_at c y q) (f.marks q lt)
-      (subst (λ (p : ℕ). track_at c y p ≡ record (track_at c z p) { patched = false }) (sym is) e.here)
+      bare_on (track_at c s q) (track_at c z q) (track_at c y q) (f.marks q lt) (rw is e.here)
   bare_at s z y t f e q lt (inr ne) = subst (λ (m : TrackMarks). Bare (track_at c s q) m) (sym (e.elsewhere q ne)) (f.marks q lt)
 
   patch_cleared : (s z : Store F P H) (t : ℕ) → t < tracks_of z → Cleared s z → Cleared s (without_patch c z t)
@@ -159,11 +158,7 @@ module _ {F P H R : Type 0} (c : Contents F P H R) (faithful : IsFaithful c) whe
 
   bare_near : (x y : TrackMarks) → is_good x ≡ true → Bare x y → y.half ≡ false → is_near (record y { frame = None }) ≡ true
   bare_near x y good b half =
-      subst (λ (h : Bool). is_near (marks None y.patched y.lost y.loose h y.level) ≡ true) (sym half)
-      (subst (λ (o : Bool). is_near (marks None y.patched y.lost o false y.level) ≡ true) (sym b.loose)
-      (subst (λ (l : Bool). is_near (marks None y.patched l false false y.level) ≡ true) (sym b.lost)
-      (subst (λ (v : Bool). is_near (marks None y.patched x.lost false false v) ≡ true) (sym b.level)
-      (gone_near x.frame x.patched x.lost x.loose x.half x.level good y.patched b.patched))))
+      rw half (rw b.loose (rw b.lost (rw b.level (gone_near x.frame x.patched x.lost x.loose x.half x.level good y.patched b.patched))))
 
   swept_off : (n : ℕ) (z : Store F P H) → n ≡ tracks_of z → HasSizes z → IsHere (rest_of z) →
       Swept c unframed_settled z (over n (λ t y. settled c (without_frame y t) t) z) n
@@ -188,8 +183,7 @@ module _ {F P H R : Type 0} (c : Contents F P H R) (faithful : IsFaithful c) whe
               ∙ settling_makes_good (record (track_at c z q) { frame = None })
               (bare_near (track_at c s q) (track_at c z q) (w.good q below) (i.marks q below) (none_half z q f.none));
           kept = λ q lt. let below : q < tracks_of s = omega arith in
-              subst IsKept (sym (e.changed q below))
-              (settled_kept (record (track_at c z q) { frame = None }) (λ h. absurd (let g = none_half z q f.none in cc)));
+              rw (e.changed q below) (settled_kept (record (track_at c z q) { frame = None }) (λ h. absurd (let g = none_half z q f.none in cc)));
         };
         tracks = same;
       }

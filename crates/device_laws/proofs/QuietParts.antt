@@ -1,5 +1,5 @@
 -- Parts of an event that move nothing, and the transfers of those that do.
-use Rattle.std.proofs.Common.{◌≡◌, ◌≤◌, ◌+◌, ℕ, zero, suc, Bool, true, false, Option, Some, None, refl, sym, ap, subst, ◌∙◌, arith}
+use Rattle.std.proofs.Common.{◌≡◌, ◌+◌, ℕ, zero, suc, Bool, true, false, Option, Some, None, refl, ap, ◌∙◌, arith}
 use Rattle.std.specs.Prelude.{if◌then◌else◌}
 use Rattle.ckd_types.specs.declared.paths.Side.{Side}
 use Rattle.ckd_types.specs.declared.paths.Side.TheVariants.{A, B}
@@ -20,26 +20,12 @@ use Rattle.device_defs.specs.Losses as L
 use Rattle.device_defs.specs.Losses.{firm_told, all_firm_told, side_lost, call_failed}
 use Rattle.device_defs.specs.Owed.{hear, noted_end}
 use Rattle.device_defs.specs.Second as D
-use Rattle.device_defs.specs.Second.{half_image_of, half_closed, finished, second_done, second_absent, second_by, second_part}
+use Rattle.device_defs.specs.Second.{half_image_of, half_closed, finished, second_done, second_by, second_part}
 use Rattle.device_defs.specs.Store.{Origin, OfCommand, OfCut, OfBackground, HalfWrite, Store, tracks_of, takes_b, has_level}
 use Rattle.device_defs.specs.Transfers as M
-use Rattle.device_defs.specs.Transfers.{Moves, FirstPart, SecondPart, InCache, Loss as LossPart, both, one_or_both, Within, Makes}
+use Rattle.device_defs.specs.Transfers.{Moves, SecondPart, InCache, Loss as LossPart, both, Within, Makes}
 use Rattle.device_defs.specs.Writing as V
-use Rattle.device_defs.specs.declared.answers.Took.TheVariants.{Unwritten}
-use Rattle.device_defs.specs.Writing.{
-  wrote,
-  write_side,
-  write_counted,
-  alone_b,
-  failed_a,
-  first_a,
-  write_first,
-  tried_b,
-  write_second,
-  unpatched,
-  done_by,
-  write_done,
-}
+use Rattle.device_defs.specs.Writing.{write_side, write_counted, tried_b, write_second, write_done}
 use Rattle.device_laws.proofs.PoolWalks.{AsksPool, asks_done, asks_ask, hear_asks, ended_asks, asks_try, done_asks}
 
 -- It moves nothing
@@ -84,17 +70,6 @@ then_quiet q r w (Ask call k) f x g = λ a. then_quiet q r w (k a) f (x a) g
 then_quiet q r w (Read side t k) f x g = λ got. then_quiet q (r + 1) w (k got) f (x got) g
 then_quiet q r w (Write side t b k) f x g = λ ok. then_quiet q r (w + 1) (k ok) f (x ok) g
 then_quiet q r w (Tell m k) f x g = λ a. then_quiet q r w (k a) f (x a) g
-
--- what moves nothing, and then another
-pub quiet_first : {R I S A T B : Type 0} (q : ℕ → ℕ → Type 0) (r w : ℕ) (i : Interaction R I S A) (f : S → A → Interaction R I T B) → Quiet i →
-    ((s : S) (a : A) → Moves q r w (f s a)) → Moves q r w (and_then i f)
-unfolding M.Moves
-quiet_first q r w (Done s a) f quiet_done g = g s a
-quiet_first q r w (Try k) f (quiet_try x) g = λ ok. quiet_first q r w (k ok) f (x ok) g
-quiet_first q r w (Ask call k) f (quiet_ask x) g = λ a. quiet_first q r w (k a) f (x a) g
-quiet_first q r w (Tell m k) f (quiet_tell x) g = λ a. quiet_first q r w (k a) f (x a) g
-quiet_first q r w (Read side t k) f x g = elim x [ ]
-quiet_first q r w (Write side t b k) f x g = elim x [ ]
 
 -- an edit that goes to a frame
 abbrev pub IsInCache : Choice → Type 0
@@ -152,53 +127,7 @@ module _ {F P H R : Type 0} (c : Contents F P H R) where
 
   -- Writes of the volumes
 
-  alone_quiet : (t : ℕ) (fault : Option Side) (first : Side) (s : Store F P H) (ok : Bool) → Talks (alone_b c t fault first s ok)
-  alone_quiet t fault first s true = quiet_done
-  alone_quiet t fault first s false = quiet_then (λ z _. Done _ _) (failed_quiet s B (Some t)) (λ z _. quiet_done)
-
   module _ (s : Store F P H) (t : ℕ) (r : R) where
-    within : (a b : Bool) → s.a.up ≡ a → takes_b s ≡ b → (w : ℕ) → (one_or_both a b).least ≤ w → w ≤ both a b → Within s FirstPart 0 w
-    within a b e f w low high = record {
-      least_reads = omega arith;
-      most_reads = omega arith;
-      least_writes = subst (λ (x : Bool). (one_or_both x (takes_b s)).least ≤ w) (sym e)
-          (subst (λ (y : Bool). (one_or_both a y).least ≤ w) (sym f) low);
-      most_writes = subst (λ (x : Bool). w ≤ both x (takes_b s)) (sym e) (subst (λ (y : Bool). w ≤ both a y) (sym f) high);
-    }
-
-    one_fits : (b : Bool) → 1 ≤ both true b
-    one_fits true = omega arith
-    one_fits false = omega arith
-
-    failed_moves : (b : Bool) → s.a.up ≡ true → takes_b s ≡ b → (z : Store F P H) → Moves (Within s FirstPart) 0 1 (failed_a c t r b z)
-    unfolding M.Moves
-    failed_moves true e f z = λ ok. quiet_moves (Within s FirstPart) 0 2 (alone_b c t (Some A) A (write_counted z ok) ok) (alone_quiet t (Some A) A
-        (write_counted z ok) ok)
-        (within true true e f 2 (omega arith) (omega arith))
-    failed_moves false e f z = within true false e f 1 (omega arith) (omega arith)
-
-    first_a_moves : s.a.up ≡ true → (ok : Bool) → Moves (Within s FirstPart) 0 1 (first_a c t r (write_counted s ok) ok)
-    unfolding M.Moves
-    first_a_moves e true = within true (takes_b s) e refl 1 (omega arith) (one_fits (takes_b s))
-    first_a_moves e false =
-        quiet_first (Within s FirstPart) 0 1 (call_failed c (write_counted s false) A (Some t)) (λ z _. failed_a c t r (takes_b s) z)
-        (failed_quiet (write_counted s false) A (Some t)) (λ z _. failed_moves (takes_b s) e refl z)
-
-    first_by : (a b : Bool) → s.a.up ≡ a → takes_b s ≡ b → Moves (Within s FirstPart) 0 0
-        (if a then write_side c s A t r (first_a c t r)
-        else if b then write_side c s B t r (alone_b c t None B) else Done (L.settled c s t) (wrote Unwritten None))
-    unfolding M.Moves
-    first_by true b e f = λ ok. first_a_moves e ok
-    first_by false true e f = λ ok. quiet_moves (Within s FirstPart) 0 1 (alone_b c t None B (write_counted s ok) ok) (alone_quiet t None B
-        (write_counted s ok) ok)
-        (within false true e f 1 (omega arith) (omega arith))
-    first_by false false e f = within false false e f 0 (omega arith) (omega arith)
-
-    -- the first part of a write
-    pub first_moves : Makes s FirstPart (write_first c s t r)
-    unfolding V.write_first
-    first_moves = record { moves = first_by s.a.up (takes_b s) refl refl }
-
     within_second : (b : Bool) → takes_b s ≡ b → (w : ℕ) → both b false ≡ w → Within s SecondPart 0 w
     within_second b e w is =
         let same : both (takes_b s) false ≡ w = ap (λ (x : Bool). both x false) e ∙ is in

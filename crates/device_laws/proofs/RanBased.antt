@@ -68,15 +68,14 @@ module _ {R K : Type 0} (p : Option ℕ) (n : ℕ) (ok : Bool) (w : Outside R K)
       call_within p n ok v.allowance u.allowance (allowance_of w.b) spent
       (subst (λ (o : Option (VolumeView R)). StaysWithin p n (in_all (allowance_of o) (allowance_of w.b))) seen k)
   side_within sides.B seen spent k =
-      subst (StaysWithin p (counted_if (not ok) n)) (in_turn u.allowance (allowance_of w.a))
-      (call_within p n ok v.allowance u.allowance (allowance_of w.a) spent
+      rw (← (in_turn u.allowance (allowance_of w.a))) (call_within p n ok v.allowance u.allowance (allowance_of w.a) spent
       (subst (StaysWithin p n) (in_turn (allowance_of w.a) v.allowance)
       (subst (λ (o : Option (VolumeView R)). StaysWithin p n (in_all (allowance_of w.a) (allowance_of o))) seen k)))
 
 pub ran_within : {R K S X : Type 0} {had : Bool → Type 0} {hears : Hearing Image K} {base : S → Base} {may : Call → Type 0} {b : Base}
     {i : Interaction R Image S X} {u z : Outside R K} {s : S} {a : X} (p : Option ℕ) → Based base may b i → Ran had hears i u s a z →
     StaysWithin p b.counts.failed (allowance_in u) → StaysWithin p (base s).counts.failed (allowance_in z)
-ran_within {z = z} p (based_done e) done k = subst (λ (x : Base). StaysWithin p x.counts.failed (allowance_in z)) (sym e) k
+ran_within {z = z} p (based_done e) done k = rw e k
 ran_within p (based_try x) (tried ok m r) k = ran_within p (x ok) r k
 ran_within p (based_ask m x) (asked {a = a} says r) k = ran_within p (x a) r k
 ran_within {b = b} {u = w} p (based_read x) (read {side = side} {got = got} {v = v} {u = u} seen of r) k =

@@ -81,20 +81,7 @@ use Rattle.device_defs.specs.Image as I
 use Rattle.device_defs.specs.Image.{Got, read_counted, first_read, second_read, read_b, level_bytes, image_of, filled}
 use Rattle.device_defs.specs.Losses.{slot_in, stale_everywhere, framed_image, call_failed}
 use Rattle.device_defs.specs.Owed as O
-use Rattle.device_defs.specs.Owed.{
-  is_owed,
-  is_modified,
-  is_clean,
-  heard,
-  hear,
-  freed_told,
-  settles_debt,
-  all_told,
-  waits_by,
-  waits,
-  waiting_count,
-  noted_end,
-}
+use Rattle.device_defs.specs.Owed.{is_owed, is_modified, is_clean, heard, hear, freed_told, settles_debt, all_told, waits_by, waits, waiting_count, noted_end}
 use Rattle.device_defs.specs.Store.{
   OfBackground,
   HalfWrite,
@@ -265,7 +252,7 @@ module _ {F P H R : Type 0} (c : Contents F P H R) where
   dropped_waits : (x : Shelf F P H) (t : ℕ) → is_clean c (get_or x.frames t None) ≡ true → DropsWell x → (q : ℕ) → ((q ≡ t) ⊎ (q ≢ t)) →
       waits_in (dropped_in x t) q ≡ waits_in x q
   dropped_waits x t clean f q (inl is) =
-      subst (λ (k : ℕ). waits_in (dropped_in x t) k ≡ waits_in x k) (sym is)
+      rw is
       (ap (λ (o : Option F). waits_at (get_or x.lost t false) o (is_some (get_or x.patches t None)) (get_or x.loose t false)) (none_at x.frames t)
       ∙ f t clean
       ∙ sym (none_on (get_or x.lost t false) (due (get_or x.frames t None) (is_some (get_or x.patches t None)) (get_or x.loose t false))
@@ -571,9 +558,7 @@ module _ {F P H R : Type 0} (c : Contents F P H R) where
         ap (λ (o : Option F). waits_at (get_or x.lost q false) o (is_some (get_or x.patches q None)) (get_or (set x.loose t false) q false))
         (get_or-set_other x.frames t q (cleaned c (get_or x.frames t None)) None ne)
         ∙ firmed_others x t true q ne
-    loose_opened x t h loose q (inl is) =
-        subst (λ (k : ℕ). waits_in (record (firmed x t true) { frames = set x.frames t (cleaned c (get_or x.frames t None)); half = Some h }) k
-        ≡ waits_in x k) (sym is) (here (get_or x.frames t None) refl)
+    loose_opened x t h loose q (inl is) = rw is (here (get_or x.frames t None) refl)
       where
         lost : Bool
         lost = get_or x.lost t false
@@ -635,8 +620,7 @@ module _ {F P H R : Type 0} (c : Contents F P H R) where
     recovered_waits x s t i None lt waiting e =
         let below : t < tracks_of s = subst (λ (k : Shelf F P H). t < k.cylinders * 15) (sym e) lt in
         let waited : waits_in (shelf_of s) t ≡ true = subst (λ (k : Shelf F P H). waits_in k t ≡ true) (sym e) waiting in
-        subst (λ (k : Shelf F P H). Works k (saved c s t i (dids.Recovered t) None)) e
-        (saved_waits s t i (dids.Recovered t) below (λ y k. (below, waited, k)))
+        rw (← e) (saved_waits s t i (dids.Recovered t) below (λ y k. (below, waited, k)))
     recovered_waits x s t i (Some side) lt waiting e = late_saved x s t i (dids.Recovered t) side
 
     recovered_image_waits : (x : Shelf F P H) (t : ℕ) (s : Store F P H) (g : Got R) (o : Option Image) → t < x.cylinders * 15 → waits_in x t ≡ true →

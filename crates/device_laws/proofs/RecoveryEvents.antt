@@ -65,7 +65,20 @@ use Rattle.device_laws.proofs.Always.{Always, always_done, always_then}
 use Rattle.device_laws.proofs.FailedCall.{IsWell}
 use Rattle.device_laws.proofs.FramesLaws.{clean_bare, clean_is}
 use Rattle.device_laws.proofs.Lucky.{Lucky, lucky_done, lucky_write, lucky_then, lucky_if, with_always}
-use Rattle.device_laws.proofs.Recoveries.{Shelf, shelf_of, DoneIn, SameIn, HalfIn, DropsWell, hear_waits, end_shelf, DidWaits, WorkWaits, write_done_waits, work_waits}
+use Rattle.device_laws.proofs.Recoveries.{
+  Shelf,
+  shelf_of,
+  DoneIn,
+  SameIn,
+  HalfIn,
+  DropsWell,
+  hear_waits,
+  end_shelf,
+  DidWaits,
+  WorkWaits,
+  write_done_waits,
+  work_waits,
+}
 use Rattle.device_laws.proofs.TrackMarks as M
 use Rattle.device_laws.proofs.TrackMarks.{IsFaithful, frame_mark}
 use Rattle.device_laws.proofs.Unchecked.{lucky_any}
@@ -179,8 +192,7 @@ module _ {F P H R : Type 0} (c : Contents F P H R) where
     second_by_waits : (s z : Store F P H) (t : ℕ) (i : Image) (origin : Origin) → origin ≡ OfBackground → shelf_of z ≡ shelf_of s →
         Finishes (shelf_of s) t (second_by c t i origin z)
     second_by_waits s z t i origin own same =
-        subst (λ (o : Origin). Finishes (shelf_of s) t (second_by c t i o z)) (sym own)
-        (lucky_if (has_level z t)
+        rw own (lucky_if (has_level z t)
         (λ _. lucky_then (λ y _. Done y true) (with_always (write_done_waits c faithful (half_closed z) t i) (lucky_any (write_done c (half_closed z) t i false)))
         (λ y _ k. lucky_done (λ _. subst (λ (x : Shelf F P H). DoneIn c x t (shelf_of y)) same (closed_done (shelf_of z) (shelf_of y) t k.0))))
         (λ _. lucky_done (λ e. absurd (cc))))
@@ -222,8 +234,7 @@ module _ {F P H R : Type 0} (c : Contents F P H R) where
         let origin : k.origin ≡ OfBackground = ap (λ (i : HalfWrite H). i.origin) same ∙ own in
         let track : k.track ≡ h.track = ap (λ (i : HalfWrite H). i.track) same in
         let y : Device F P H = record (event_begun d) { store = s } in
-        lucky_then (λ z done. second_ended c (with_store y z) k.track k.origin done) (second_part_waits s k origin)
-        (λ z done g. subst (λ (t : ℕ). Lucky (λ w a. SecondWaits x t (shelf_of w.store) a) (second_ended c (with_store y z) k.track k.origin done)) track
+        lucky_then _ (second_part_waits s k origin) (λ z done g. rw (← track)
         (ended_waits x (with_store y z) k.track k.origin origin done (λ is. done_past x (shelf_of s) k.track (shelf_of z) f (g is))))
 
     -- of the background
@@ -233,9 +244,8 @@ module _ {F P H R : Type 0} (c : Contents F P H R) where
     second_waits d h is own drops =
         let x = shelf_of d.store in
         lucky_then {p = λ (y : Device F P H) a. SecondWaits x h.track (shelf_of y.store) a} (event_ended c d)
-        (lucky_then (λ s _. second_of c (record (event_begun d) { store = s }) s.half)
-        (with_always (hear_waits c 960 (event_begun d).store drops) (lucky_any (hear c 960 (event_begun d).store)))
+        (lucky_then _ (with_always (hear_waits c 960 (event_begun d).store drops) (lucky_any (hear c 960 (event_begun d).store)))
         (λ s _ f. second_of_waits d s h own f.0 s.half (f.0.half ∙ is)))
-        (λ y a g. lucky_then (λ z _. Done (record y { store = z }) a)
+        (λ y a g. lucky_then _
         (with_always (end_shelf c (shelf_of y.store) (waiting_count c d.store) y.store refl) (lucky_any (noted_end c (waiting_count c d.store) y.store)))
         (λ z _ e. lucky_done (subst (λ (w : Shelf F P H). SecondWaits x h.track w a) (sym e.0) g)))

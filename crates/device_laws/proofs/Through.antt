@@ -1,5 +1,5 @@
 -- A command's write keeps good marks good, wherever its edit goes and whatever is answered.
-use Rattle.std.proofs.Common.{◌≡◌, ◌<◌, ℕ, Bool, true, false, Option, Some, None, refl, sym, ap, subst, ◌∙◌, arith}
+use Rattle.std.proofs.Common.{◌≡◌, ◌<◌, ℕ, Bool, true, false, Option, Some, None, refl, ap, ◌∙◌, arith}
 use Rattle.std.specs.Prelude.{if◌then◌else◌, not}
 use Rattle.ckd_types.specs.declared.record.Edit.{Edit}
 use Rattle.ckd_types.specs.Parameters.{is_bypass}
@@ -15,20 +15,7 @@ use Rattle.device_defs.specs.declared.usage.Usage.{Usage}
 use Rattle.device_defs.specs.Choosing.{choose}
 use Rattle.device_defs.specs.Contents.{Contents}
 use Rattle.device_defs.specs.Editing as E
-use Rattle.device_defs.specs.Editing.{
-  another_loose,
-  whole,
-  at_once,
-  through_by,
-  through,
-  write_by,
-  written,
-  is_given,
-  clean_again,
-  unchosen,
-  write_chosen,
-  write,
-}
+use Rattle.device_defs.specs.Editing.{another_loose, whole, at_once, through_by, through, write_by, written, is_given, unchosen, write_chosen, write}
 use Rattle.device_defs.specs.Effects.{with_edit}
 use Rattle.device_defs.specs.Losses.{settled}
 use Rattle.device_defs.specs.Owed.{is_clean}
@@ -40,7 +27,7 @@ use Rattle.device_laws.proofs.Done.{Keeps, goes_keeps, keeps_on, write_done_keep
 use Rattle.device_laws.proofs.FailedCall.{IsWell, Goes, stays, goes_on}
 use Rattle.device_laws.proofs.Others.{Others, Open, opens, others_changed, settled_goes}
 use Rattle.device_laws.proofs.TrackMarks as M
-use Rattle.device_laws.proofs.TrackMarks.{TrackMarks, IsFaithful, is_good, track_at}
+use Rattle.device_laws.proofs.TrackMarks.{TrackMarks, IsFaithful, track_at}
 use Rattle.device_laws.proofs.WriteMarks.{level_is_there}
 use Rattle.device_laws.proofs.Writes.{is_taken, firm_first_keeps_good, write_first_keeps_good, write_second_keeps_others}
 
@@ -157,9 +144,7 @@ module _ {F P H R : Type 0} (c : Contents F P H R) (faithful : IsFaithful c) whe
     tried_by : (old : Image) (e : Edit) (ok : Bool) →
         Always (if ok then and_then (choose c s u t) (write_chosen c u first t old e) else Done s None) (λ y _. Keeps c faithful s y)
     tried_by old e true =
-        always_then (choice_fits c s u t)
-        (λ z choice f. subst (λ (v : Store F P H). Always (write_chosen c u first t old e v choice) (λ y _. Keeps c faithful s y)) (sym f.same)
-        (chosen_keeps old e choice f.fit))
+        always_then (choice_fits c s u t) (λ z choice f. rw f.same (chosen_keeps old e choice f.fit))
     tried_by old e false = always_done still
 
     pub write_keeps_good : (old : Image) (e : Edit) → Always (write c s u first t old e) (λ y _. Keeps c faithful s y)

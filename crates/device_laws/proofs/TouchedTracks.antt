@@ -16,7 +16,6 @@ use Rattle.ckd_chain.specs.Steps.{
   need_of,
   standing,
   step_turned,
-  stepped_by,
   stepped,
   word_of,
 }
@@ -38,27 +37,12 @@ use Rattle.plain_defs.specs.Effect.{Effect}
 use Rattle.plain_defs.specs.History.{OpenEntry, plain_of}
 use Rattle.plain_defs.specs.PlainState.{PlainState}
 use Rattle.track_image.specs.Image.{Image}
-use Rattle.device_outside.specs.Interaction.{Interaction, Done}
+use Rattle.device_outside.specs.Interaction.{Interaction}
 use Rattle.device_defs.specs.declared.answers.Took.{Took}
 use Rattle.device_defs.specs.Command as N
-use Rattle.device_defs.specs.Command.{
-  Went,
-  Over,
-  On,
-  has_loss,
-  came_of_write,
-  went_by,
-  looked,
-  look,
-  goes_on,
-  follow,
-  on_tracks,
-  command_at,
-  command_by,
-  command,
-}
+use Rattle.device_defs.specs.Command.{Went, Over, On, has_loss, came_of_write, went_by, looked, look, goes_on, follow, command_at, command_by, command}
 use Rattle.device_defs.specs.Contents.{by_plain}
-use Rattle.device_defs.specs.Device.{event_begun, event_ended}
+use Rattle.device_defs.specs.Device.{event_begun}
 use Rattle.device_defs.specs.Excused.{is_write, has_lost}
 use Rattle.device_defs.specs.Image.{Imaged, Has, NoBytes, BadTrack}
 use Rattle.device_defs.specs.Marks.{MarksDevice, MarksStore}
@@ -146,7 +130,7 @@ module _ (p : PlainState) (u : List Track) (g : Geometry) (cylinders : ℕ) (ope
 
     none_at : has_lost lost (walked t later (seen t).stance (seen t).turned).touched ≡ false
     unfolding K.walk
-    none_at = subst (λ (q : ℕ). has_lost lost (walked q later (seen q).stance (seen q).turned).touched ≡ false) place at.none
+    none_at = rw (← place) at.none
 
     there : get_or lost t false ≡ false
     there = (front lost t later (seen t).stance (seen t).turned none_at).0
@@ -155,9 +139,7 @@ module _ (p : PlainState) (u : List Track) (g : Geometry) (cylinders : ℕ) (ope
     next_ahead on = record {
       at = ap (stage_by (standing v (seen t).stance)) stage_is;
       needs = need_at (standing v (seen t).stance) kind stage_is;
-      none = subst (λ (x : ChainState). has_lost lost (walk_from k x).touched ≡ false)
-          (sym (ap (opened_by (standing v (seen t).stance)) stage_is))
-          ((front lost t later (seen t).stance (seen t).turned none_at).1 on);
+      none = rw (ap (opened_by (standing v (seen t).stance)) stage_is) ((front lost t later (seen t).stance (seen t).turned none_at).1 on);
     }
 
     turned_so : (z : MarksStore) → OnWay z → t < tracks_of z → is_lost z t ≡ false → (x : Turned) → (seen t).turned ≡ x →
@@ -171,7 +153,7 @@ module _ (p : PlainState) (u : List Track) (g : Geometry) (cylinders : ℕ) (ope
           (w.walks, next_ahead is),
         )
     turned_so z w lt kept (turns.Edits edit e) is =
-        served_then (had_by (came_of_write by_plain (step_turned v (seen t).stance (turns.Edits edit e)).chain t))
+        served_then _
         (of_lucky (write_taken by_plain marks_are_faithful z (usage_of chain) first t (plain_image p u g cylinders open_is t) edit lt w.well kept
         (w.takes (edits_write g (track_in u t) v.at.stance (word_of v) kind edit e is))))
         (λ y took taken. came_so k t (step_turned v (seen t).stance (turns.Edits edit e)).chain t y took taken)
@@ -179,17 +161,12 @@ module _ (p : PlainState) (u : List Track) (g : Geometry) (cylinders : ℕ) (ope
     has_so : (z : MarksStore) → OnWay z → t < tracks_of z → is_lost z t ≡ false →
         Served (WentSo k t) (looked by_plain chain first t z (Has (plain_image p u g cylinders open_is t)))
     has_so z w lt kept =
-        served_tried z _
-        (subst (λ (x : Stage). Served (WentSo k t)
-        (went_by by_plain (usage_of chain) first t z (plain_image p u g cylinders open_is t)
-        (stepped_by v (Some (plain_image p u g cylinders open_is t)) x).chain (stepped_by v (Some (plain_image p u g cylinders open_is t)) x).progress))
-        (sym at.at) (turned_so z w lt kept (seen t).turned refl))
+        served_tried z _ (rw at.at (turned_so z w lt kept (seen t).turned refl))
 
     looked_so : (z : MarksStore) (o : Option Imaged) → OnWay z → t < tracks_of z → is_lost z t ≡ false → Imaging p u g cylinders open_is t z o → HasBytes o →
         Served (WentSo k t) (had_by (looked by_plain chain first t) z o)
     looked_so z None w lt kept i has = absurd i.image
-    looked_so z (Some (Has x)) w lt kept i has =
-        subst (λ (y : Image). Served (WentSo k t) (looked by_plain chain first t z (Has y))) (sym i.image) (has_so z w lt kept)
+    looked_so z (Some (Has x)) w lt kept i has = rw i.image (has_so z w lt kept)
     looked_so z (Some (NoBytes fault)) w lt kept i has = absurd has
     looked_so z (Some (BadTrack side)) w lt kept i has = served_done refl
 
@@ -198,8 +175,7 @@ module _ (p : PlainState) (u : List Track) (g : Geometry) (cylinders : ℕ) (ope
     look_so s is w lt =
         let kept : is_lost s t ≡ false = ap (λ (l : List Bool). get_or l t false) w.same ∙ there in
         served_if (is_lost s t) (λ gone. absurd (let both : true ≡ false = sym gone ∙ kept in cc))
-        (λ _. served_then (had_by (looked by_plain chain first t))
-        (served_by (image_so p u g cylinders open_is t s (usage_of chain) w.walks)
+        (λ _. served_then _ (served_by (image_so p u g cylinders open_is t s (usage_of chain) w.walks)
         (with_always
         (image_keeps_good by_plain marks_are_faithful s (usage_of chain) t
         (subst (Reaches (usage_of chain)) (sym w.tracks) (within.reaches chain is)) lt w.well)
@@ -238,8 +214,7 @@ module _ (p : PlainState) (u : List Track) (g : Geometry) (cylinders : ℕ) (ope
   follow_touched zero first chain t s at is w lt room = absurd (omega (arith, lt, room))
   follow_touched (suc k) first chain t s at is w lt room =
       let below : t < tracks_of s = let tracks = w.tracks in omega arith in
-      served_then (had_by (goes_on by_plain (follow by_plain k first)))
-      (served_also
+      served_then _ (served_also
       (with_always (look_keeps_good by_plain marks_are_faithful m Within within chain first t s is w.tracks below w.well w.whole)
       (look_goes by_plain marks_are_faithful chain first t s w.well))
       (look_so k chain first t at s is w below))
@@ -297,21 +272,14 @@ module _ (num : ℕ) (empty : PlainState) (d : MarksDevice) (f : Follows num emp
         let here : has_lost d.store.lost
         (walk (tracks_of s) d.store.geometry (track_in d.store.plain) chain.at.stance (word_of chain) look (opening_at chain).stance).touched
         ≡ false =
-        subst (λ (k : ℕ). has_lost d.store.lost
-        (walk k d.store.geometry (track_in d.store.plain) chain.at.stance (word_of chain) look (opening_at chain).stance).touched ≡ false)
-        (ap (λ (k : ℕ). k * 15) on.1 ∙ sym h.tracks)
-        (subst (λ (x : Geometry). has_lost d.store.lost
-        (walk (chain.fixed.cylinders * 15) x (track_in d.store.plain) chain.at.stance (word_of chain) look (opening_at chain).stance).touched ≡ false)
-        on.0 touched) in
-        served_then (on_tracks by_plain (with_it s) o.path chain)
+        rw (← (ap (λ (k : ℕ). k * 15) on.1 ∙ sym h.tracks)) (rw (← on.0) touched) in
+        served_then _
         (follow_touched (plain_of d.plans empty d.history) d.store.plain d.store.geometry d.store.cylinders (None, (d.store.lent, d.store.device)) m
         (IsWithin m) (within_stays m (whole_cylinders d.store.cylinders)) d.store.lost look chain.at.stance (tracks_of s) t chain t s
         (record {
           at = ap (stage_by chain) fresh ∙ ap stage_for at;
           needs = needs;
-          none = subst (λ (x : ChainState). has_lost d.store.lost
-              (walk (tracks_of s) d.store.geometry (track_in d.store.plain) chain.at.stance (word_of x) look x.at.stance).touched ≡ false)
-              (sym (ap (opened_by chain) fresh)) here;
+          none = rw (ap (opened_by chain) fresh) here;
         })
         inside
         (record {
@@ -358,8 +326,7 @@ module _ (num : ℕ) (empty : PlainState) (d : MarksDevice) (f : Follows num emp
     command_touched =
         let begins = goes_same by_plain d.store (event_begun d).store w (begun_same by_plain marks_are_faithful d w) in
         served_tried d _
-        (served_then (event_ended by_plain d)
-        (served_then (λ s _. command_by by_plain (with_it s) d.history.running d.chain)
+        (served_then _ (served_then _
         (served_by (hear_same 960 (noted_begin d.store))
         (with_always (hearing_keeps_good by_plain 960 (event_begun d).store begins.well) (hear_goes by_plain 960 (event_begun d).store)))
         (λ s _ g.
@@ -372,5 +339,5 @@ module _ (num : ℕ) (empty : PlainState) (d : MarksDevice) (f : Follows num emp
           lost = g.1.1.lost;
           still = λ up. takes_still by_plain d.store s g.1.1.up g.1.1.takes up;
         })))
-        (λ y a h. served_then (λ z _. Done (record y { store = z }) a) (of_lucky (lucky_any (event_end by_plain (waiting_count by_plain d.store) y.store)))
+        (λ y a h. served_then _ (of_lucky (lucky_any (event_end by_plain (waiting_count by_plain d.store) y.store)))
         (λ z _ _. served_done h)))

@@ -95,13 +95,13 @@ IsRight g t half x plain firm = By x.lost (Unit {0}) (HeldBy g t x plain firm ha
 
 -- By cases
 
-lost_case : (X Y : Type 0) (b c : Bool) → (b ≡ true → c ≡ true) → (X → Y) → By b (Unit {0}) (X) → By c (Unit {0}) (Y)
+pub lost_case : (X Y : Type 0) (b c : Bool) → (b ≡ true → c ≡ true) → (X → Y) → By b (Unit {0}) (X) → By c (Unit {0}) (Y)
 lost_case X Y true true e k r = tt
 lost_case X Y true false e k r = absurd (let n = e refl in cc)
 lost_case X Y false true e k r = tt
 lost_case X Y false false e k r = k r
 
-own_case : (X Y V W : Type 0) (b : Bool) → (X → Y) → (V → W) → By b (X) (V) → By b (Y) (W)
+pub own_case : (X Y V W : Type 0) (b : Bool) → (X → Y) → (V → W) → By b (X) (V) → By b (Y) (W)
 own_case X Y V W true f g r = f r
 own_case X Y V W false f g r = g r
 
@@ -249,10 +249,8 @@ module _ (s : DeviceStore) (h : Held) (t : ℕ) (plain firm : Image) where
     sides_written : Writes (contents_at s h t) plain w → (side : Side) → level_at (side_of s side) w.track ≡ true →
         get_or (holds_of h side) w.track [] ≡ contents.bytes w.image
     unfolding contents_at
-    sides_written k A =
-        subst (λ (q : ℕ). level_at s.a q ≡ true → get_or h.a q [] ≡ track_bytes w.image.track) (sym own) k.a
-    sides_written k B =
-        subst (λ (q : ℕ). level_at s.b q ≡ true → get_or h.b q [] ≡ track_bytes w.image.track) (sym own) k.b
+    sides_written k A = rw own k.a
+    sides_written k B = rw own k.b
 
     written : Writes (contents_at s h t) plain w → IsWritten s h plain w
     unfolding contents_at
@@ -262,8 +260,8 @@ module _ (s : DeviceStore) (h : Held) (t : ℕ) (plain firm : Image) where
     unfolding contents_at
     writes o k = record {
       image = k.image;
-      a = subst (λ (q : ℕ). level_at s.a q ≡ true → get_or h.a q [] ≡ track_bytes w.image.track) own (k.sides A);
-      b = subst (λ (q : ℕ). level_at s.b q ≡ true → get_or h.b q [] ≡ track_bytes w.image.track) own (k.sides B);
+      a = rw (← own) (k.sides A);
+      b = rw (← own) (k.sides B);
       frame = is_frame w.origin k.frame;
       patch = o.patch;
       suits = o.suits;
@@ -346,9 +344,7 @@ patch_of OfBackground o i f = f
 
 fits_again : (x y : TrackContents) (plain firm other : Image) → Repatched x y plain other → PatchFits x.patch plain firm → PatchFits y.patch plain other
 fits_again x y plain firm other (inl e) f = none_fits y.patch plain other e
-fits_again x y plain firm other (inr e) f =
-    subst (λ (o : Option Stored). PatchFits o plain other) (sym e.0)
-    (subst (λ (i : Image). PatchFits x.patch plain i) (sym e.1) (f.0, f.0))
+fits_again x y plain firm other (inr e) f = rw e.0 (subst (λ (i : Image). PatchFits x.patch plain i) (sym e.1) (f.0, f.0))
 
 of_again : (origin : Origin) (x y : TrackContents) (plain other : Image) → Repatched x y plain other → PatchOf origin x.patch plain →
     PatchOf origin y.patch plain

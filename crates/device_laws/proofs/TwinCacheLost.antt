@@ -23,11 +23,7 @@ use Rattle.std.proofs.Common.{
   subst,
   ◌∙◌,
   arith,
-  ◌⊎◌,
-  inl,
-  inr,
 }
-use Rattle.std.proofs.lemmas.Bool.{cases_eq}
 use Rattle.std.specs.Prelude.{if◌then◌else◌}
 use Rattle.ckd_types.specs.declared.geometry.Geometry.{Geometry}
 use Rattle.ckd_types.specs.declared.record.Track.{Track}
@@ -70,39 +66,32 @@ use Rattle.device_laws.proofs.ContentChanges as C
 use Rattle.device_laws.proofs.ContentChanges.{
   base_of,
   Altered,
-  altered_twice,
   unaltered,
   altered_frame,
   altered_owed,
   same_tracks,
   same_right,
   same_slots,
-  slot_of,
-  by_track,
-  unseen_slots,
-  sits_still,
   RightOff,
   RightBut,
-  off_altered,
+  similar_right,
+  altered_then,
 }
 use Rattle.device_laws.proofs.TrackContents as T
 use Rattle.device_laws.proofs.TrackContents.{
   TrackContents,
   contents_at,
-  FrameHas,
   FrameOf,
   Keeps,
   Writes,
   HeldBy,
   IsRight,
-  right_by,
-  right_lost,
   right_fewer,
-  held_of,
   keeps_other,
   other_keeps,
   writes_own,
   own_writes,
+  lost_case,
 }
 use Rattle.device_laws.proofs.TrackMarks.{device_is_faithful}
 use Rattle.device_laws.proofs.TwinAsks.{InOrder}
@@ -111,6 +100,7 @@ use Rattle.device_laws.proofs.TwinFailed.{told_twin}
 use Rattle.device_laws.proofs.TwinLosses.{Loses, counted_loss}
 use Rattle.device_laws.proofs.TwinSettled.{AllTold, told_altered, told_off, told_debts, SettlesOff, Settles, settled_off, settled_told_off}
 use Rattle.device_laws.proofs.TwinWalks.{Pair, pair_is, pair_on, pair_weaker, twin_weaker}
+use Rattle.device_laws.proofs.EachTrack.{each_track}
 
 -- A track without its frame
 
@@ -147,11 +137,8 @@ bare_held g t (Some w) x plain firm same k = by_own (w.track == t) refl
 
 bare_right : (g : Geometry) (t : ℕ) (half : Option (HalfWrite Image)) (x : TrackContents) (plain firm : Image) → (half_is half t ≡ true → firm ≡ plain) →
     IsRight g t half x plain firm → IsRight g t half (bare x) firm firm
-bare_right g t half x plain firm same r = by_lost x.lost refl
-  where
-    by_lost : (l : Bool) → x.lost ≡ l → IsRight g t half (bare x) firm firm
-    by_lost true e = right_lost g t half (bare x) firm firm e
-    by_lost false e = right_by g t half (bare x) firm firm (bare_held g t half x plain firm same (held_of g t half x plain firm e r))
+bare_right g t half x plain firm same r =
+    lost_case (HeldBy g t x plain firm half) (HeldBy g t (bare x) firm firm half) x.lost x.lost (λ e. e) (bare_held g t half x plain firm same) r
 
 -- Its frame is given up
 
@@ -166,12 +153,7 @@ module _ (s : DeviceStore) (h : Held) (t : ℕ) (lt : t < tracks_of s) (sizes : 
       let g = altered_frame s h t lt sizes None in
       let y = with_frame s t None in
       let k = altered_owed y h t lt g.sizes (record (owed_at y t) { dropped = true }) in
-      altered_twice g (record {
-        sizes = k.sizes;
-        base = k.base;
-        elsewhere = k.elsewhere;
-        here = k.here ∙ ap (λ (c : TrackContents). record c { freed = (owed_at s t).freed; debt = (owed_at s t).firm }) g.here;
-      })
+      altered_then (λ (c : TrackContents). record c { freed = (owed_at s t).freed; debt = (owed_at s t).firm }) g k
 
   pub bared : Altered s h (without_frame s t) h t (bare (contents_at s h t))
   bared = bared_by (frame_at s t) refl
@@ -224,39 +206,26 @@ module _ (h : Held) (u : List Track) (y : DeviceStore) (n : ℕ) (v w : List Tra
   still : tracks_of a ≡ tracks_of z
   still = same_tracks z h a h e.base
 
-  slots_by : (kept : Bool) → slot_of kept (bare c) ≡ slot_of kept c
-  slots_by true = refl
-  slots_by false = refl
-
   bared_off : RightOff (From n) v w a h
-  bared_off =
-      off_altered (From n) v w z h a h n (bare c) x.off e (sits_still v w z h n (bare c) lt x.off.ground refl refl)
-      (unseen_slots z h a h (λ kept q. by_track z h a h n (bare c) kept e (slots_by kept) q) refl x.off.ground.slots)
-      (λ ne. absurd (ne (omega arith)))
+  bared_off = similar_right x.off e lt (record { loose = refl; patch = refl; freed = refl }) refl (λ ne. absurd (ne (omega arith)))
 
   firm_here : is_loose z n ≡ false
   firm_here = sym (loose_is z h n) ∙ x.firm n lt (omega arith)
 
   here_right : IsRight a.geometry n a.half (contents_at a h n) (image_in a v n) (image_in a w n)
   here_right =
-      same_right z h a h e.base v w n (bare c) (contents_at a h n) e.here
-      (subst (λ (k : Track). IsRight z.geometry n z.half (bare c) (image_in z v n) (record { geometry = z.geometry; track = k }))
-      (sym (x.off.ground.same n lt firm_here)) (x.later n lt (omega arith)))
+      same_right z h a h e.base v w n (bare c) (contents_at a h n) e.here (rw (x.off.ground.same n lt firm_here) (x.later n lt (omega arith)))
 
   one_off : RightOff (From (suc n)) v w a h
   one_off = record {
     ground = bared_off.ground;
-    right = λ q below ne. by_place q below ne (cases_eq q n);
+    right = λ q below ne. each_track
+        (λ p. p < tracks_of a → (From (suc n) p → ⊥) → IsRight a.geometry p a.half (contents_at a h p) (image_in a v p) (image_in a w p)) n
+        (λ _ _. here_right) (λ p off le more. bared_off.right p le (λ from. more (beyond p off from))) q below ne;
   }
     where
-      by_place : (q : ℕ) → q < tracks_of a → (From (suc n) q → ⊥) → ((q ≡ n) ⊎ (q ≢ n)) →
-          IsRight a.geometry q a.half (contents_at a h q) (image_in a v q) (image_in a w q)
-      by_place q below ne (inl at) =
-          subst (λ (p : ℕ). IsRight a.geometry p a.half (contents_at a h p) (image_in a v p) (image_in a w p)) (sym at) here_right
-      by_place q below ne (inr off) = bared_off.right q below (λ le. ne (beyond le))
-        where
-          beyond : n ≤ q → suc n ≤ q
-          beyond le = omega (arith, off)
+      beyond : (p : ℕ) → p ≢ n → n ≤ p → suc n ≤ p
+      beyond p off le = omega (arith, off)
 
   bared_told : AllTold a h
   bared_told = told_altered z h a h n (bare c) x.told e refl
@@ -278,7 +247,7 @@ module _ (h : Held) (u : List Track) (y : DeviceStore) (n : ℕ) (v w : List Tra
     swept_on = record {
       off = f.but;
       later = λ q below le. let lower : q < tracks_of z = let k = same_tracks z h b h whole in omega arith in
-          subst (λ (l : List Track). IsRight b.geometry q b.half (bare (contents_at b h q)) (image_in b l q) (image_in b l q)) (sym f.plain)
+          rw f.plain
           (same_right z h b h whole v v q (bare (contents_at z h q)) (bare (contents_at b h q)) (ap bare (same q le)) (x.later q lower (omega arith)));
       firm = λ q below le. let lower : q < tracks_of z = let k = same_tracks z h b h whole in omega arith in
           ap (λ (k : TrackContents). k.loose) (same q le) ∙ x.firm q lower (omega arith);
@@ -290,8 +259,7 @@ module _ (h : Held) (u : List Track) (y : DeviceStore) (n : ℕ) (v w : List Tra
 
   one_more : Pair (Swept h u y (suc n)) (settled contents a n) (settled by_plain (without_frame (marks_of v w z) n) n)
   one_more =
-      subst (λ (m : MarksStore). Pair (Swept h u y (suc n)) (settled contents a n) (settled by_plain m n)) (bared_twin v w z n)
-      (pair_weaker
+      rw (← (bared_twin v w z n)) (pair_weaker
       (settled_off (From (suc n)) h v w a n (let k = still in omega arith) one_off (told_off (From (suc n)) a h bared_told) (λ le. absurd (omega arith)))
       (λ v' w' f. swept_on v' w' f))
 
@@ -370,8 +338,7 @@ module _ (v w : List Track) (s : DeviceStore) (h : Held) (sure : RightBut None v
       };
       right = λ q lt ne. absurd (ne (omega arith));
     };
-    later = λ q lt le. subst (λ (i : Image). IsRight s.geometry q s.half (bare (contents_at s h q)) i i)
-        (same_there q lt (none_below (tracks_of s) (is_loose s) some q lt)) (gone_right q lt);
+    later = λ q lt le. rw (← (same_there q lt (none_below (tracks_of s) (is_loose s) some q lt))) (gone_right q lt);
     firm = λ q lt le. none_below (tracks_of s) (is_loose s) some q lt;
     told = told;
     base = refl;
@@ -388,8 +355,7 @@ module _ (v w : List Track) (s : DeviceStore) (h : Held) (sure : RightBut None v
   cache_pair =
       let n = tracks_of s in
       let y = begun_with (has_loose s) s in
-      subst (λ (m : MarksStore). Pair (Swept h (plain_lost s v w) y n) (over n (λ t z. settled contents (without_frame z t) t) y)
-      (over n (λ t z. settled by_plain (without_frame z t) t) m)) (begun_marks (has_loose s))
+      rw (← (begun_marks (has_loose s)))
       (swept_pair h (plain_lost s v w) w y (begins (has_loose s) refl) n (let k = begun_tracks contents device_is_faithful s (has_loose s) in omega arith))
 
 -- As a loss
@@ -414,7 +380,5 @@ cache_loss_twin v w s h o =
     let u = plain_lost s v w in
     let le : tracks_of z ≤ tracks_of s =
     let k = same_tracks d h z h x.is.base in let m = begun_tracks contents device_is_faithful y (has_loose y) in omega arith in
-    subst (λ (m : MarksStore). Twins (λ v' w' a _ _ k. Loses u v' w' a k) (L.all_firm_told contents (tracks_of s) z) (L.all_firm_told by_plain
-    (tracks_of s) m) h) x.marks
-    (twin_weaker (told_twin None h u x.plain x.firm z d (tracks_of s) le (settles_by h u x.plain x.firm d (tracks_of s) z le x.is))
+    rw (← x.marks) (twin_weaker (told_twin None h u x.plain x.firm z d (tracks_of s) le (settles_by h u x.plain x.firm d (tracks_of s) z le x.is))
     (λ v' w' a _ _ k f. record { order = record { sure = f.but; told = f.told }; plain = f.plain }))

@@ -18,7 +18,7 @@ use Rattle.device_defs.specs.declared.answers.Choice.{Choice}
 use Rattle.device_defs.specs.declared.answers.Choice.TheVariants.{Provisional, Fast, Through}
 use Rattle.device_defs.specs.declared.usage.Usage.{Usage}
 use Rattle.device_defs.specs.Choosing as G
-use Rattle.device_defs.specs.Choosing.{slot_by, fast_by, may_be_fast, fast_or_through, choose_loose, choose_firm, choose}
+use Rattle.device_defs.specs.Choosing.{slot_by, fast_by, may_be_fast, fast_or_through, choose}
 use Rattle.device_defs.specs.Contents.{contents, by_plain}
 use Rattle.device_defs.specs.Marks.{marks_of, frame_mark, slot_mark}
 use Rattle.device_defs.specs.Owed.{is_clean}
@@ -27,7 +27,6 @@ use Rattle.device_defs.specs.Store.{tracks_of, side_of, frame_at, patch_at, is_l
 use Rattle.device_laws.specs.Agrees.{Held, HasSlots}
 use Rattle.device_laws.specs.Twin.{Twins}
 use Rattle.device_laws.proofs.ContentChanges as C
-use Rattle.device_laws.proofs.ContentChanges.{RightBut}
 use Rattle.device_laws.proofs.TrackContents as T
 use Rattle.device_laws.proofs.TwinAsks.{ask_modified, Ordered}
 use Rattle.device_laws.proofs.TwinChanges.{frame_twin, has_frame_twin, has_patch_twin}
@@ -139,8 +138,7 @@ module _ (v w : List Track) (s : DeviceStore) (u : Usage) (t : ℕ) where
   fast_twin h o =
       on_tests (may_be_fast contents s u t) (may_be_fast by_plain (marks_of v w s) u t)
       (ap (λ (b : Bool). not (is_bypass u.mode) && not u.inhibit && b) (has_frame_twin v w s t))
-      (λ _. subst (λ (b : Bool). Twins Ends (fast_by contents s t (is_some (patch_at s t))) (fast_by by_plain (marks_of v w s) t b) h)
-      (sym (has_patch_twin v w s t)) (patched_twin h (is_some (patch_at s t)) o))
+      (λ _. rw (has_patch_twin v w s t) (patched_twin h (is_some (patch_at s t)) o))
       (λ _. ends Through h o tt)
 
   listed_twin : (h : Held) (listed : Bool) → Ordered v w s h →

@@ -1,40 +1,16 @@
 -- Copying and staging leave all right, with their twins on marks.
-use Rattle.std.proofs.Common.{
-  ◌≡◌,
-  ◌<◌,
-  ◌&&◌,
-  ◌||◌,
-  not,
-  ℕ,
-  Bool,
-  true,
-  false,
-  List,
-  [],
-  Option,
-  Some,
-  None,
-  is_some,
-  get_or,
-  refl,
-  sym,
-  ap,
-  subst,
-  ◌∙◌,
-  arith,
-}
+use Rattle.std.proofs.Common.{◌≡◌, ◌<◌, ◌&&◌, ◌||◌, not, ℕ, Bool, true, false, List, [], Option, Some, None, is_some, get_or, refl, sym, ap, ◌∙◌, arith}
 use Rattle.std.specs.Prelude.{if◌then◌else◌}
 use Rattle.ckd_types.specs.declared.paths.Side.{Side}
 use Rattle.ckd_types.specs.declared.paths.Side.TheVariants.{A, B}
 use Rattle.ckd_types.specs.declared.record.Track.{Track}
-use Rattle.track_image.specs.Image.{Image}
 use Rattle.device_outside.specs.After.{with_held}
 use Rattle.device_outside.specs.Both.{both_try, both_read, both_write}
 use Rattle.device_outside.specs.Interaction.{Done, and_then}
 use Rattle.device_outside.proofs.BothRules.{on_test, on_tests}
 use Rattle.device_defs.specs.declared.answers.Did.{Did}
 use Rattle.device_defs.specs.declared.answers.Did.TheVariants.{Nothing, Staged, Skipped, Fault}
-use Rattle.device_defs.specs.Background.{did, copies_to, copy_by, unfilled, staged_image, staged_bytes, staging_granted, stage}
+use Rattle.device_defs.specs.Background.{did, copies_to, copy_by, unfilled, staged_bytes, staging_granted, stage}
 use Rattle.device_defs.specs.Contents.{contents, by_plain, patched_by, image_read}
 use Rattle.device_defs.specs.Image.{Got, read_counted, image_of}
 use Rattle.device_defs.specs.Losses.{call_failed}
@@ -45,25 +21,9 @@ use Rattle.device_defs.specs.Writing.{write_counted}
 use Rattle.device_laws.specs.Agrees.{Held, image_in}
 use Rattle.device_laws.specs.Twin.{Twins}
 use Rattle.device_laws.proofs.Bools.{neither, or_left, or_right}
-use Rattle.device_laws.proofs.ContentChanges as C
-use Rattle.device_laws.proofs.ContentChanges.{
-  base_of,
-  Altered,
-  altered_twice,
-  altered_on_a,
-  altered_on_b,
-  altered_stale_a,
-  altered_stale_b,
-  slot_of,
-  by_track,
-  unseen_slots,
-  sits_still,
-  unseen_right,
-  Sure,
-  right_altered,
-}
+use Rattle.device_laws.proofs.ContentChanges.{Altered, altered_on_a, altered_on_b, altered_stale_a, altered_stale_b, altered_then}
 use Rattle.device_laws.proofs.TrackContents as T
-use Rattle.device_laws.proofs.TrackContents.{TrackContents, contents_at, Keeps, right_fewer, not_both}
+use Rattle.device_laws.proofs.TrackContents.{TrackContents, contents_at, Keeps, not_both}
 use Rattle.device_laws.proofs.TrackImage.{level_bytes_keeps_good}
 use Rattle.device_laws.proofs.TrackMarks as M
 use Rattle.device_laws.proofs.TrackMarks.{track_at, device_is_faithful}
@@ -80,31 +40,23 @@ use Rattle.device_laws.proofs.TwinAsks.{
   Ordered,
   keeps_at,
   right_keeps,
+  altered_order,
+  beside_order,
+  size_of,
 }
 use Rattle.device_laws.proofs.TwinChanges.{has_frame_twin}
 use Rattle.device_laws.proofs.TwinFailed.{fell, failed_twin}
 use Rattle.device_laws.proofs.TwinImage.{Delivers, bytes_twin, filled_twin, not_lost}
 use Rattle.device_laws.proofs.TwinSaving.{Works}
-use Rattle.device_laws.proofs.TwinSettled.{told_altered}
 use Rattle.device_laws.proofs.TwinThrough.{none_off}
 use Rattle.device_laws.proofs.TwinWalks.{twin_done, twin_then, twin_always}
 use Rattle.device_laws.proofs.WholeImage.{unframed_is_firm}
 
 counted_read : (v w : List Track) (s : DeviceStore) (h : Held) (ok : Bool) → Ordered v w s h → Ordered v w (read_counted s ok) h
-unfolding T.contents_at C.base_of
-counted_read v w s h ok o = record {
-  sure = unseen_right None v w s h (read_counted s ok) h o.sure
-      (record { sizes = record { are = o.sure.ground.sizes.are }; base = refl; same = λ q. refl; slots = refl });
-  told = o.told;
-}
+counted_read v w s h ok o = beside_order o
 
 counted_write : (v w : List Track) (s : DeviceStore) (h : Held) (ok : Bool) → Ordered v w s h → Ordered v w (write_counted s ok) h
-unfolding T.contents_at C.base_of
-counted_write v w s h ok o = record {
-  sure = unseen_right None v w s h (write_counted s ok) h o.sure
-      (record { sizes = record { are = o.sure.ground.sizes.are }; base = refl; same = λ q. refl; slots = refl });
-  told = o.told;
-}
+counted_write v w s h ok o = beside_order o
 
 -- Copying, while no half write is open
 
@@ -117,17 +69,10 @@ module _ (u : List Track) (y : DeviceStore) (t : ℕ) where
       Twins Ends (and_then (call_failed contents s side None) (λ z _. Done z (Some (Fault side))))
       (and_then (call_failed by_plain (marks_of v w s) side None) (λ z _. Done z (Some (Fault side)))) h
   fault_twin v w s h side o plain stays =
-      twin_then (λ z _. Done z (Some (Fault side))) (λ z _. Done z (Some (Fault side)))
-      (failed_twin None h v w s side o.sure o.told)
+      twin_then _ _ (failed_twin None h v w s side o.sure o.told)
       (λ v' w' z _ _ k f.
       let st = stays_on y s z stays (stays_on s (fell s.paired s side) z (stays_fell s.paired s side) (stays_by (fell s.paired s side) h z k f.base)) in
-      twin_done (record {
-        order = record { sure = f.but; told = f.told };
-        same = refl;
-        plain = f.plain ∙ plain;
-        geometry = st.geometry;
-        cylinders = st.cylinders;
-      }))
+      twin_done (record { order = record { sure = f.but; told = f.told }; same = refl; plain = f.plain ∙ plain; size = size_of st }))
 
   module _ (v w : List Track) (s : DeviceStore) (h : Held) (o : Ordered v w s h) (lt : t < tracks_of s) (there : is_lost s t ≡ false)
       (off : half_is s.half t ≡ false) (plain : v ≡ u) (stays : Stays y s) where
@@ -157,16 +102,9 @@ module _ (u : List Track) (y : DeviceStore) (t : ℕ) where
     sided : (z : DeviceStore) (k : Held) (c : TrackContents) → Altered s h z k t c → c.loose ≡ x.loose → c.patch ≡ x.patch → c.freed ≡ x.freed →
         c.debt ≡ x.debt →
         k.slots ≡ h.slots → Keeps s.geometry t c (image_in s v t) (image_in s w t) → Ordered v w z k
-    sided z k c e loose patch freed debt slots keeps = record {
-      sure = right_altered None v w s h z k t c o.sure e (sits_still v w s h t c lt o.sure.ground loose patch)
-          (unseen_slots s h z k (λ kept q. by_track s h z k t c kept e (slots_by kept) q) slots o.sure.ground.slots)
-          (λ ne. right_keeps s.geometry t s.half c (image_in s v t) (image_in s w t) off keeps);
-      told = told_altered s h z k t c o.told e debt;
-    }
-      where
-        slots_by : (kept : Bool) → slot_of kept c ≡ slot_of kept x
-        slots_by true = ap (λ (p : Option _). slot_of true (record x { patch = p })) patch
-        slots_by false = freed
+    sided z k c e loose patch freed debt slots keeps =
+        altered_order o e lt (record { loose = loose; patch = patch; freed = freed }) debt slots
+        (λ _. right_keeps s.geometry t s.half c (image_in s v t) (image_in s w t) off keeps)
 
     -- to side A
 
@@ -185,12 +123,7 @@ module _ (u : List Track) (y : DeviceStore) (t : ℕ) where
         let z = with_stale s A t false in
         let c = record x { on_a = r; a = s.a.up && not false } in
         sided z n c
-        (altered_twice e (record {
-          sizes = f.sizes;
-          base = f.base;
-          elsewhere = f.elsewhere;
-          here = f.here ∙ ap (λ (d : TrackContents). record d { a = s.a.up && not false }) e.here;
-        })) refl refl refl refl refl
+        (altered_then (λ (d : TrackContents). record d { a = s.a.up && not false }) e f) refl refl refl refl refl
         (record {
           frame = kept.frame;
           a = λ l. ap (λ (d : List ℕ). patched_by x.patch (image_read s.geometry t d)) (sym bytes_b)
@@ -216,12 +149,7 @@ module _ (u : List Track) (y : DeviceStore) (t : ℕ) where
         let z = with_stale s B t false in
         let c = record x { on_b = r; b = s.b.up && not false } in
         sided z n c
-        (altered_twice e (record {
-          sizes = f.sizes;
-          base = f.base;
-          elsewhere = f.elsewhere;
-          here = f.here ∙ ap (λ (d : TrackContents). record d { b = s.b.up && not false }) e.here;
-        })) refl refl refl refl refl
+        (altered_then (λ (d : TrackContents). record d { b = s.b.up && not false }) e f) refl refl refl refl refl
         (record {
           frame = kept.frame;
           a = kept.a;
@@ -251,8 +179,7 @@ module _ (u : List Track) (y : DeviceStore) (t : ℕ) where
           order = a_copied v w (write_counted (read_counted s true) true) h (both_counted true) lt there off plain (still_write true) level up;
           same = refl;
           plain = plain;
-          geometry = stays.geometry;
-          cylinders = stays.cylinders;
+          size = size_of stays;
         }))
         (λ bytes. fault_twin v w (write_counted (read_counted s true) false) (with_held h A t bytes) A
         (a_garbage v w (write_counted (read_counted s true) false) h (both_counted false) lt there off plain
@@ -267,8 +194,7 @@ module _ (u : List Track) (y : DeviceStore) (t : ℕ) where
           order = b_copied v w (write_counted (read_counted s true) true) h (both_counted true) lt there off plain (still_write true) level up;
           same = refl;
           plain = plain;
-          geometry = stays.geometry;
-          cylinders = stays.cylinders;
+          size = size_of stays;
         }))
         (λ bytes. fault_twin v w (write_counted (read_counted s true) false) (with_held h B t bytes) B
         (b_garbage v w (write_counted (read_counted s true) false) h (both_counted false) lt there off plain
@@ -279,7 +205,7 @@ module _ (u : List Track) (y : DeviceStore) (t : ℕ) where
   ended : (v w : List Track) (s : DeviceStore) (h : Held) (d e : Option Did) → d ≡ e → Ordered v w s h → v ≡ u → Stays y s →
       Twins Ends (Done s d) (Done (marks_of v w s) e) h
   ended v w s h d e same o plain stays =
-      twin_done (record { order = o; same = same; plain = plain; geometry = stays.geometry; cylinders = stays.cylinders })
+      twin_done (record { order = o; same = same; plain = plain; size = size_of stays })
 
   unfilled_twin : (v w : List Track) (s : DeviceStore) (h : Held) (d e : Option Did) → d ≡ e → Ordered v w s h → v ≡ u → Stays y s →
       Twins Ends (unfilled contents s t d) (unfilled by_plain (marks_of v w s) t e) h
@@ -294,11 +220,7 @@ module _ (u : List Track) (y : DeviceStore) (t : ℕ) where
   staged_by v w s h g m (Some r) (Some true) del fault lt there firm off o plain stays =
       let gave : image_of contents s t r ≡ Some (image_in s v t) =
       del.1 ∙ ap (λ (x : Track). Some (record { geometry = s.geometry; track = x })) (o.sure.ground.same t lt firm) in
-      both_try
-      (subst (λ (x : Option Image). Twins Ends (staged_image contents t s g x) (staged_image by_plain t (marks_of v w s) m (Some
-      (image_in s v t))) h) (sym gave)
-      (twin_then (λ z _. Done z (Some (did g.fault (Staged t)))) (λ z _. Done z (Some (did m.fault (Staged t))))
-      (filled_twin v w s h t (image_in s v t) refl lt (there refl) off o)
+      both_try (rw gave (twin_then _ _ (filled_twin v w s h t (image_in s v t) refl lt (there refl) off o)
       (λ v' w' z _ _ k f. ended v' w' z k (Some (did g.fault (Staged t))) (Some (did m.fault (Staged t))) (ap (λ (x : Option Side). Some (did x
       (Staged t))) fault)
       f.order (f.plain ∙ plain) (stays_on y s z stays f.stays))))
@@ -316,8 +238,7 @@ module _ (u : List Track) (y : DeviceStore) (t : ℕ) where
       v ≡ u → Stays y s → Twins Ends (staging_granted contents s t given) (staging_granted by_plain (marks_of v w s) t given) h
   granted_twin v w s h given lt firm off o plain stays =
       on_test given
-      (λ _. twin_then (λ z g. staged_bytes contents t z g g.bytes) (λ z g. staged_bytes by_plain t z g g.bytes)
-      (twin_always (bytes_twin v w s h t o lt off) (level_bytes_keeps_good contents device_is_faithful s t o.well))
+      (λ _. twin_then _ _ (twin_always (bytes_twin v w s h t o lt off) (level_bytes_keeps_good contents device_is_faithful s t o.well))
       (λ v' w' z g m k f.
       let below : t < tracks_of z = let same = f.1.goes.tracks in omega arith in
       staged_by v' w' z k g m g.bytes m.bytes f.0.bytes f.0.fault below (λ l. not_lost z t below f.1.goes.well (f.1.level l))

@@ -1,29 +1,5 @@
 -- What cuts a running program leaves all right, with its twin on marks: a half write of its command counts as done.
-use Rattle.std.proofs.Common.{
-  ◌≡◌,
-  ◌≢◌,
-  ◌<◌,
-  ◌==◌,
-  ℕ,
-  Bool,
-  true,
-  false,
-  List,
-  Option,
-  Some,
-  None,
-  set,
-  refl,
-  sym,
-  ap,
-  subst,
-  ◌∙◌,
-  arith,
-  ◌⊎◌,
-  inl,
-  inr,
-}
-use Rattle.std.proofs.lemmas.Bool.{cases_eq}
+use Rattle.std.proofs.Common.{◌≡◌, ◌≢◌, ◌<◌, ◌==◌, ℕ, Bool, true, false, List, Option, Some, None, set, refl, sym, ap, subst, ◌∙◌, arith}
 use Rattle.std.specs.Prelude.{option_map}
 use Rattle.ckd_types.specs.declared.geometry.Geometry.{Geometry}
 use Rattle.ckd_types.specs.declared.record.Edit.{Edit}
@@ -34,8 +10,6 @@ use Rattle.ckd_types.specs.Volume.{track_in}
 use Rattle.ckd_write.proofs.Fitting.{edited_fits}
 use Rattle.track_image.specs.Image.{Image}
 use Rattle.device_outside.specs.Both.{both_tell}
-use Rattle.device_outside.specs.Interaction.{Done, Tell}
-use Rattle.device_outside.specs.Keeper.{Firm}
 use Rattle.device_defs.specs.Contents.{contents, by_plain}
 use Rattle.device_defs.specs.Cutting.{origin_cut, half_cut}
 use Rattle.device_defs.specs.Effects.{with_edit}
@@ -57,12 +31,12 @@ use Rattle.device_laws.proofs.TrackContents.{
   HeldBy,
   IsRight,
   right_by,
-  right_lost,
   held_of,
   keeps_other,
   other_keeps,
   writes_own,
   own_writes,
+  lost_case,
 }
 use Rattle.device_laws.proofs.TwinAsks.{InOrder}
 use Rattle.device_laws.proofs.TwinDone.{put_right}
@@ -70,6 +44,7 @@ use Rattle.device_laws.proofs.TwinLosses.{Loses}
 use Rattle.device_laws.proofs.TwinSecond.{plainly_is}
 use Rattle.device_laws.proofs.TwinSettled.{AllTold}
 use Rattle.device_laws.proofs.TwinWalks.{twin_done, twin_ends}
+use Rattle.device_laws.proofs.EachTrack.{each_track}
 
 some_is : (p q : ℕ) → Some p ≡ Some q → p ≡ q
 some_is p q e = cc
@@ -77,17 +52,10 @@ some_is p q e = cc
 -- a track that the half write isn't of
 other_right : (g : Geometry) (q : ℕ) (half : Option (HalfWrite Image)) (hw : HalfWrite Image) (origin : Origin) (x : TrackContents) (plain firm : Image) →
     half ≡ Some hw → (hw.track == q) ≡ false → IsRight g q half x plain firm → IsRight g q (Some (record hw { origin = origin })) x plain firm
-other_right g q half hw origin x plain firm is off r = by_lost x.lost refl
-  where
-    cut : HalfWrite Image
-    cut = record hw { origin = origin }
-
-    by_lost : (l : Bool) → x.lost ≡ l → IsRight g q (Some (record hw { origin = origin })) x plain firm
-    by_lost true e = right_lost g q (Some (record hw { origin = origin })) x plain firm e
-    by_lost false e =
-        right_by g q (Some (record hw { origin = origin })) x plain firm
-        (other_keeps g q (record hw { origin = origin }) x plain firm off
-        (keeps_other g q hw x plain firm off (subst (λ (o : Option (HalfWrite Image)). HeldBy g q x plain firm o) is (held_of g q half x plain firm e r))))
+other_right g q half hw origin x plain firm is off r =
+    lost_case (HeldBy g q x plain firm half) (HeldBy g q x plain firm (Some (record hw { origin = origin }))) x.lost x.lost (λ e. e)
+    (λ k. other_keeps g q (record hw { origin = origin }) x plain firm off
+    (keeps_other g q hw x plain firm off (subst (λ (o : Option (HalfWrite Image)). HeldBy g q x plain firm o) is k))) r
 
 same_place : (t : ℕ) → (t == t) ≡ true
 same_place t = grind arith
@@ -141,14 +109,6 @@ module _ (v w : List Track) (s : DeviceStore) (h : Held) (o : InOrder v w s h) w
           (own_writes s.geometry t cut c (image_in s (set v t x) t) (image_in s (set w t x) t) (same_place t)
           (record { image = image_now; a = writes.a; b = writes.b; frame = tt; patch = tt; suits = tt }))
 
-      by_place : (q : ℕ) → q < tracks_of s → ((q ≡ t) ⊎ (q ≢ t)) →
-          IsRight s.geometry q (Some cut) (contents_at s h q) (image_in s (set v t x) q) (image_in s (set w t x) q)
-      by_place q below (inl at) =
-          subst (λ (p : ℕ). IsRight s.geometry p (Some cut) (contents_at s h p) (image_in s (set v t x) p) (image_in s (set w t x) p)) (sym at) own_right
-      by_place q below (inr ne) =
-          other_right s.geometry q s.half hw (OfCut bypass) (contents_at s h q) (image_in s (set v t x) q) (image_in s (set w t x) q) is
-          (other_place t q ne) (put.right q below (λ f. ne (sym (some_is t q f))))
-
       slots_same : (kept : Bool) (q : ℕ) → slot_at z kept q ≡ slot_at s kept q
       slots_same true q = refl
       slots_same false q = refl
@@ -166,7 +126,10 @@ module _ (v w : List Track) (s : DeviceStore) (h : Held) (o : InOrder v w s h) w
           long = put.ground.long;
           slots = same_slots s z h.slots slots_same put.ground.slots;
         };
-        right = λ q below ne. by_place q below (cases_eq q t);
+        right = λ q below _. each_track (λ p. p < tracks_of s →
+            IsRight s.geometry p (Some cut) (contents_at s h p) (image_in s (set v t x) p) (image_in s (set w t x) p)) t (λ _. own_right)
+            (λ p ne le. other_right s.geometry p s.half hw (OfCut bypass) (contents_at s h p) (image_in s (set v t x) p) (image_in s (set w t x) p) is
+            (other_place t p ne) (put.right p le (λ f. ne (sym (some_is t p f))))) q below;
       }
 
       cut_told : AllTold z h
@@ -177,11 +140,7 @@ module _ (v w : List Track) (s : DeviceStore) (h : Held) (o : InOrder v w s h) w
           (origin_cut by_plain (marks_of v w s) (half_mark hw) (OfCommand bypass e)) h
       told_twin =
           let image : plainly_written (marks_of v w s) t hw.origin ≡ hw.image = plainly_is v w s t hw.origin ∙ sym writes.image in
-          subst (λ (i : Image). Twins (λ v' w' y _ _ k. Loses (set v t x) v' w' y k)
-          (Tell (Firm s.device t hw.image) (λ _. Done z (tt {0})))
-          (Tell (Firm s.device t i)
-          (λ _. Done (record (with_edit (marks_of v w s) t e) { half = Some (record (half_mark hw) { origin = OfCut bypass }) }) (tt {0}))) h) (sym image)
-          (both_tell (λ _.
+          rw image (both_tell (λ _.
           twin_ends {v = set v t x} {w = set w t x} refl (record { order = record { sure = cut_sure; told = cut_told }; plain = refl })))
 
     by_origin : (origin : Origin) → hw.origin ≡ origin → OriginSuits s.geometry (track_in v t) origin →

@@ -20,11 +20,11 @@ use Rattle.device_outside.proofs.BothRules.{on_test, on_tests}
 use Rattle.device_defs.specs.Contents.{contents, by_plain, image_with, image_read, patched_by}
 use Rattle.device_defs.specs.Effects.{with_edit}
 use Rattle.device_defs.specs.Losses.{slot_in}
-use Rattle.device_defs.specs.Marks.{MarksStore, marks_of, frame_mark, patch_mark}
+use Rattle.device_defs.specs.Marks.{marks_of, frame_mark, patch_mark}
 use Rattle.device_defs.specs.Sound.{DeviceStore}
 use Rattle.device_defs.specs.Store.{tracks_of, frame_at, patch_at, is_loose, half_is, with_frame, with_patch}
 use Rattle.device_defs.specs.Writing as W
-use Rattle.device_defs.specs.Writing.{slot_freed, unpatched, done_by, write_done}
+use Rattle.device_defs.specs.Writing.{slot_freed, unpatched, write_done}
 use Rattle.device_laws.specs.Agrees.{Held, image_in, slot_at}
 use Rattle.device_laws.specs.Twin.{Twins}
 use Rattle.device_laws.proofs.ContentChanges as C
@@ -35,25 +35,23 @@ use Rattle.device_laws.proofs.ContentChanges.{
   altered_patch,
   slot_of,
   slot_is,
-  by_track,
-  unseen_slots,
   sits_still,
-  Unseen,
-  unseen_right,
   RightBut,
   Sure,
   right_altered,
-  ground_altered,
   shut,
+  similar_right,
+  beside_right,
 }
 use Rattle.device_laws.proofs.PlainVolumes.{put_here, put_elsewhere, put_volume}
 use Rattle.device_laws.proofs.TrackContents as T
-use Rattle.device_laws.proofs.TrackContents.{TrackContents, contents_at, FrameHas, SideHas, Keeps, IsRight, none_fits}
+use Rattle.device_laws.proofs.TrackContents.{TrackContents, contents_at, FrameHas, IsRight, none_fits}
 use Rattle.device_laws.proofs.TwinAsks.{ask_clean, ask_drop, Stays, stays_same, Ordered, right_keeps}
 use Rattle.device_laws.proofs.TwinChanges.{patch_twin, has_frame_twin, with_frame_twin, with_patch_twin}
 use Rattle.device_laws.proofs.TwinSettled.{AllTold, told_altered}
 use Rattle.device_laws.proofs.TwinSlots.{may_free, freed_slots}
 use Rattle.device_laws.proofs.TwinWalks.{twin_done, twin_ends, twin_weaker}
+use Rattle.device_laws.proofs.EachTrack.{each_track}
 
 -- the bytes of a track that fits are that track
 pub read_back : (g : Geometry) (t : ℕ) (x : Track) → Fits g x → x.home ≡ cchh_of t →
@@ -70,7 +68,10 @@ put_right t v w s h x lt b home fits = record {
     sizes = b.ground.sizes;
     plain = put_volume s.geometry s.cylinders v t x b.ground.plain lt home fits;
     firm = put_volume s.geometry s.cylinders w t x b.ground.firm lt home fits;
-    same = λ q below e. same_by q below e (cases_eq q t);
+    same = each_track (λ q. q < tracks_of s → is_loose s q ≡ false → track_in (set w t x) q ≡ track_in (set v t x) q) t
+        (λ below e. put_here w t x (let long = b.ground.firm.tracks in omega arith)
+        ∙ sym (put_here v t x (let long = b.ground.plain.tracks in omega arith)))
+        (λ q ne below e. put_elsewhere w t x q ne ∙ b.ground.same q below e ∙ sym (put_elsewhere v t x q ne));
     apart = b.ground.apart;
     patches = b.ground.patches;
     long = b.ground.long;
@@ -79,25 +80,12 @@ put_right t v w s h x lt b home fits = record {
   right = λ q below ne. right_at q below ne (λ e. ne (ap Some (sym e)));
 }
   where
-    same_by : (q : ℕ) → q < tracks_of s → is_loose s q ≡ false → ((q ≡ t) ⊎ (q ≢ t)) → track_in (set w t x) q ≡ track_in (set v t x) q
-    same_by q below e (inl at) =
-        subst (λ (p : ℕ). track_in (set w t x) p ≡ track_in (set v t x) p) (sym at)
-        (put_here w t x (let long = b.ground.firm.tracks in omega arith) ∙ sym (put_here v t x (let long = b.ground.plain.tracks in omega arith)))
-    same_by q below e (inr ne) = put_elsewhere w t x q ne ∙ b.ground.same q below e ∙ sym (put_elsewhere v t x q ne)
-
     right_at : (q : ℕ) → q < tracks_of s → Some t ≢ Some q → q ≢ t →
         IsRight s.geometry q s.half (contents_at s h q) (image_in s (set v t x) q) (image_in s (set w t x) q)
-    right_at q below ne off =
-        subst (λ (l : Track). IsRight s.geometry q s.half (contents_at s h q) (record { geometry = s.geometry; track = l }) (image_in s (set w t x) q))
-        (sym (put_elsewhere v t x q off))
-        (subst (λ (l : Track). IsRight s.geometry q s.half (contents_at s h q) (image_in s v q) (record { geometry = s.geometry; track = l }))
-        (sym (put_elsewhere w t x q off)) (b.right q below ne))
+    right_at q below ne off = rw (put_elsewhere v t x q off) (rw (put_elsewhere w t x q off) (b.right q below ne))
 
 pub edit_right : (t : ℕ) (v w : List Track) (s : DeviceStore) (h : Held) (e : Edit) → RightBut (Some t) v w s h → RightBut (Some t) v w (with_edit s t e) h
-unfolding T.contents_at C.base_of
-edit_right t v w s h e b =
-    unseen_right (Some t) v w s h (with_edit s t e) h b
-    (record { sizes = record { are = b.ground.sizes.are }; base = refl; same = λ q. refl; slots = refl })
+edit_right t v w s h e b = beside_right b
 
 -- Both volumes have the new track, and so has each level side
 module _ (t : ℕ) (v w : List Track) (x : Track) where
@@ -123,11 +111,7 @@ module _ (t : ℕ) (v w : List Track) (x : Track) where
   closed_sure : (z : DeviceStore) (k : Held) → Closing z k → (contents_at z k t).patch ≡ None →
       FrameHas (contents_at z k t).frame (record { geometry = z.geometry; track = x }) → Sure v w z k
   closed_sure z k c none frame =
-      shut t v w z k c.but
-      (subst (λ (l : Track). IsRight z.geometry t z.half (contents_at z k t) (record { geometry = z.geometry; track = l }) (image_in z w t)) (sym c.plain)
-      (subst (λ (l : Track). IsRight z.geometry t z.half (contents_at z k t) (record { geometry = z.geometry; track = x })
-      (record { geometry = z.geometry; track = l }))
-      (sym c.firm)
+      shut t v w z k c.but (rw c.plain (rw c.firm
       (right_keeps z.geometry t z.half (contents_at z k t) (record { geometry = z.geometry; track = x }) (record { geometry = z.geometry; track = x }) c.off
       (record {
         frame = frame;
@@ -147,9 +131,7 @@ module _ (t : ℕ) (v w : List Track) (x : Track) where
       let e = altered_frame z k t c.below c.but.ground.sizes f in
       let y = record (contents_at z k t) { frame = f } in
       record {
-        but = right_altered (Some t) v w z k (with_frame z t f) k t y c.but e (sits_still v w z k t y c.below c.but.ground refl refl)
-            (unseen_slots z k (with_frame z t f) k (λ kept q. by_track z k (with_frame z t f) k t y kept e (slots_by kept) q) refl c.but.ground.slots)
-            (λ ne. absurd (ne refl));
+        but = similar_right c.but e c.below (record { loose = refl; patch = refl; freed = refl }) refl (λ ne. absurd (ne refl));
         told = told_altered z k (with_frame z t f) k t y c.told e refl;
         below = c.below;
         off = c.off;
@@ -160,10 +142,6 @@ module _ (t : ℕ) (v w : List Track) (x : Track) where
         a = λ l. ap (λ (d : TrackContents). d.on_a) e.here ∙ c.a (sym (ap (λ (d : TrackContents). d.a) e.here) ∙ l);
         b = λ l. ap (λ (d : TrackContents). d.on_b) e.here ∙ c.b (sym (ap (λ (d : TrackContents). d.b) e.here) ∙ l);
       }
-    where
-      slots_by : (kept : Bool) → slot_of kept (record (contents_at z k t) { frame = f }) ≡ slot_of kept (contents_at z k t)
-      slots_by true = refl
-      slots_by false = refl
 
   frame_is : (z : DeviceStore) (k : Held) (f : Option Frame) → Closing z k → (contents_at (with_frame z t f) k t).frame ≡ f
   frame_is z k f c = ap (λ (d : TrackContents). d.frame) (altered_frame z k t c.below c.but.ground.sizes f).here
@@ -241,8 +219,7 @@ module _ (t : ℕ) (v w : List Track) (x : Track) where
         (record {
           order = record {
             sure = closed_sure (with_patch z t None) n closing_patch (ap (λ (d : TrackContents). d.patch) e.here)
-                (subst (λ (o : Option Frame). FrameHas o (record { geometry = z.geometry; track = x })) (sym (ap (λ
-                (d : TrackContents). d.frame) e.here)) frame);
+                (rw (ap (λ (d : TrackContents). d.frame) e.here) frame);
             told = closing_patch.told;
           };
           plain = refl;
@@ -259,9 +236,7 @@ module _ (t : ℕ) (v w : List Track) (x : Track) where
 
   unpatched_twin : (z : DeviceStore) (k : Held) → Closing z k → FrameHas (contents_at z k t).frame (record { geometry = z.geometry; track = x }) →
       Twins (λ v' w' y _ _ n. Shuts z v' w' y n) (unpatched contents z t) (unpatched by_plain (marks_of v w z) t) k
-  unpatched_twin z k c frame =
-      subst (λ (o : Option (Unit {0})). Twins (λ v' w' y _ _ n. Shuts z v' w' y n) (unpatched contents z t)
-      (slot_freed by_plain (marks_of v w z) t (slot_in by_plain o)) k) (sym (patch_twin v w z t)) (unpatched_by z k c frame (patch_at z t) refl)
+  unpatched_twin z k c frame = rw (patch_twin v w z t) (unpatched_by z k c frame (patch_at z t) refl)
 
   no_frame : (z : DeviceStore) (k : Held) → is_some (frame_at z t) ≡ false → FrameHas (contents_at z k t).frame (record { geometry = z.geometry; track = x })
   unfolding T.contents_at
@@ -287,11 +262,8 @@ module _ (t : ℕ) (v w : List Track) (x : Track) where
           Twins (λ v' w' y _ _ n. Shuts z v' w' y n) (unpatched contents (with_frame z t f) t)
           (unpatched by_plain (with_frame (marks_of v w z) t (option_map frame_mark f)) t) k
       framed f has =
-          subst (λ (m : MarksStore). Twins (λ v' w' y _ _ n. Shuts z v' w' y n) (unpatched contents (with_frame z t f) t) (unpatched by_plain m t) k)
-          (with_frame_twin v w z t f)
-          (twin_weaker
-          (unpatched_twin (with_frame z t f) k (closing_frame z k f c)
-          (subst (λ (o : Option Frame). FrameHas o (record { geometry = z.geometry; track = x })) (sym (frame_is z k f c)) has))
+          rw (← (with_frame_twin v w z t f)) (twin_weaker
+          (unpatched_twin (with_frame z t f) k (closing_frame z k f c) (rw (frame_is z k f c) has))
           (λ v' w' y _ _ n e. record {
             order = e.order;
             plain = e.plain;

@@ -35,15 +35,14 @@ use Rattle.ckd_types.specs.declared.record.Track.{Track}
 use Rattle.ckd_types.specs.Volume.{track_in}
 use Rattle.track_table.specs.Tracks as T
 use Rattle.track_table.specs.Tracks.{count_below}
-use Rattle.track_image.specs.Image.{Image}
 use Rattle.device_outside.specs.Both.{both_free}
-use Rattle.device_outside.specs.Interaction.{Interaction, Done, Ask, and_then}
-use Rattle.device_outside.specs.Pool.{FreeSlot, TellWaiting}
+use Rattle.device_outside.specs.Interaction.{Done, and_then}
+use Rattle.device_outside.specs.Pool.{FreeSlot}
 use Rattle.device_outside.specs.Slots.{held_after}
 use Rattle.device_outside.proofs.BothRules.{on_test, on_tests}
 use Rattle.device_defs.specs.declared.owed.Owed.{Owed}
 use Rattle.device_defs.specs.Contents.{contents, by_plain}
-use Rattle.device_defs.specs.Marks.{MarksStore, marks_of, slot_mark}
+use Rattle.device_defs.specs.Marks.{marks_of, slot_mark}
 use Rattle.device_defs.specs.Owed as O
 use Rattle.device_defs.specs.Owed.{
   is_modified,
@@ -68,17 +67,7 @@ use Rattle.device_defs.specs.Store.{tracks_of, frame_at, owed_at, with_frame, wi
 use Rattle.device_laws.specs.Agrees.{Held, slot_at, HasSlots}
 use Rattle.device_laws.specs.Twin.{Twins}
 use Rattle.device_laws.proofs.ContentChanges as C
-use Rattle.device_laws.proofs.ContentChanges.{
-  Altered,
-  altered_owed,
-  slot_of,
-  slot_is,
-  by_track,
-  unseen_slots,
-  sits_still,
-  RightBut,
-  right_altered,
-}
+use Rattle.device_laws.proofs.ContentChanges.{Altered, altered_owed, slot_of, slot_is, by_track, unseen_slots, sits_still, right_altered}
 use Rattle.device_laws.proofs.FailedCall.{IsWell}
 use Rattle.device_laws.proofs.Notices.{clean_below, dropped_by}
 use Rattle.device_laws.proofs.TrackContents as K
@@ -132,7 +121,7 @@ by_note n v w s h (Some t) later o =
     let d = drops v w s h t o (is_clean contents (frame_at s t)) refl in
     let z = dropped contents s t in
     let i : InOrder v w z h = record { sure = d.0.sure; told = d.0.told; well = dropped_well s t o.well } in
-    subst (λ (m : MarksStore). Twins (λ v' w' y _ _ k. Hears v s v' w' y k) (hear contents n z) (hear by_plain n m) h) (dropped_twin v w s t)
+    rw (← (dropped_twin v w s t))
     (twin_weaker (later v w z h i) (λ v' w' y _ _ k f. record { order = f.order; plain = f.plain; stays = stays_on s z y d.1 f.stays }))
 
 pub hear_twin : (n : ℕ) → Hearing n
@@ -255,10 +244,7 @@ module _ (v w : List Track) (s : DeviceStore) (t : ℕ) (lt : t < tracks_of s) w
 
     freed_twin : Twins (λ v' w' z _ _ k. (v' ≡ v) × ((w' ≡ w) × ((z ≡ s) × (Ordered v w paid k)))) (freed_told contents s (owed_at s t).freed)
         (freed_told by_plain (marks_of v w s) (owed_at (marks_of v w s) t).freed) h
-    freed_twin =
-        subst (λ (f : Option ℕ). Twins (λ v' w' z _ _ k. (v' ≡ v) × ((w' ≡ w) × ((z ≡ s) × (Ordered v w paid k))))
-        (freed_told contents s (owed_at s t).freed) (freed_told by_plain (marks_of v w s) f) h)
-        (sym (ap (λ (x : Owed). x.freed) (owed_twin v w s t))) (freed_by (owed_at s t).freed refl)
+    freed_twin = rw (ap (λ (x : Owed). x.freed) (owed_twin v w s t)) (freed_by (owed_at s t).freed refl)
 
 -- The end of an event
 
@@ -275,7 +261,7 @@ module _ (v w : List Track) (s : DeviceStore) (t : ℕ) (lt : t < tracks_of s) w
       Twins Ends (and_then (freed_told contents s (owed_at s t).freed) (λ x _. Done (with_owed x t no_debt) (tt {0})))
       (and_then (freed_told by_plain (marks_of v w s) (owed_at (marks_of v w s) t).freed) (λ x _. Done (with_owed x t no_debt) (tt {0}))) h
   last_twin h o =
-      twin_then (λ x _. Done (with_owed x t no_debt) (tt {0})) (λ x _. Done (with_owed x t no_debt) (tt {0})) (freed_twin v w s t lt h o)
+      twin_then _ _ (freed_twin v w s t lt h o)
       (λ v' w' z _ _ k f.
       at_same (λ a b c. Twins Ends (Done (with_owed c t no_debt) (tt {0})) (Done (with_owed (marks_of a b c) t no_debt)
       (tt {0})) k) v w s v' w' z f.0 f.1.0 f.1.1.0
@@ -284,12 +270,7 @@ module _ (v w : List Track) (s : DeviceStore) (t : ℕ) (lt : t < tracks_of s) w
 
   debt_twin : (h : Held) → Ordered v w s h → Twins Ends (settles_debt contents t s) (settles_debt by_plain t (marks_of v w s)) h
   debt_twin h o =
-      twin_then
-      (λ z _. and_then (dropped_told contents t z) (λ y _. and_then (freed_told contents y (owed_at y t).freed) (λ x _. Done (with_owed x t no_debt)
-      (tt {0}))))
-      (λ z _. and_then (dropped_told by_plain t z) (λ y _. and_then (freed_told by_plain y (owed_at y t).freed) (λ x _. Done (with_owed x t no_debt)
-      (tt {0}))))
-      (modified_twin v w s t lt h o)
+      twin_then _ _ (modified_twin v w s t lt h o)
       (λ v' w' z _ _ k f.
       at_same
       (λ a b c. Twins Ends
@@ -297,9 +278,7 @@ module _ (v w : List Track) (s : DeviceStore) (t : ℕ) (lt : t < tracks_of s) w
       (and_then (dropped_told by_plain t (marks_of a b c)) (λ y _. and_then (freed_told by_plain y (owed_at y t).freed) (λ x _. Done
       (with_owed x t no_debt) (tt {0})))) k)
       v w s v' w' z f.plain f.firm f.store
-      (twin_then (λ y _. and_then (freed_told contents y (owed_at y t).freed) (λ x _. Done (with_owed x t no_debt) (tt {0})))
-      (λ y _. and_then (freed_told by_plain y (owed_at y t).freed) (λ x _. Done (with_owed x t no_debt) (tt {0})))
-      (drop_twin v w s t lt k f.order)
+      (twin_then _ _ (drop_twin v w s t lt k f.order)
       (λ v2 w2 y _ _ l g.
       at_same
       (λ a b c. Twins Ends (and_then (freed_told contents c (owed_at c t).freed) (λ x _. Done (with_owed x t no_debt) (tt {0})))
@@ -322,7 +301,7 @@ told_twins : (n : ℕ) (v w : List Track) (s : DeviceStore) (h : Held) → n ≤
 unfolding O.all_told
 told_twins zero v w s h le o = twin_done (record { order = o; plain = refl; stays = stays_same s })
 told_twins (suc n) v w s h le o =
-    twin_then (λ z _. track_told contents n z) (λ z _. track_told by_plain n z) (told_twins n v w s h (omega arith) o)
+    twin_then _ _ (told_twins n v w s h (omega arith) o)
     (λ v' w' z _ _ k f.
     twin_weaker (track_twin v' w' z n (let same = f.stays.cylinders in omega arith) k f.order)
     (λ v2 w2 y _ _ l g. record { order = g.order; plain = g.plain ∙ f.plain; stays = stays_on s z y f.stays g.stays }))
@@ -336,22 +315,17 @@ count_same (suc n) p r e =
 pub count_twin : (v w : List Track) (s : DeviceStore) → waiting_count by_plain (marks_of v w s) ≡ waiting_count contents s
 count_twin v w s = count_same (tracks_of s) (waits by_plain (marks_of v w s)) (waits contents s) (λ q. waits_same v w s q)
 
-abbrev told_if : ℕ → ℕ → MarksStore → Interaction Bool Image MarksStore (Unit {0})
-told_if before count m = if count == before then Done m tt else Ask (TellWaiting m.device count) (λ _. Done m tt)
-
 waiting_twin : (before : ℕ) (v w : List Track) (s : DeviceStore) (h : Held) → Ordered v w s h →
     Twins (λ v' w' z _ _ k. Hears v s v' w' z k) (waiting_told contents before s) (waiting_told by_plain before (marks_of v w s)) h
 waiting_twin before v w s h o =
-    subst (λ (c : ℕ). Twins (λ v' w' z _ _ k. Hears v s v' w' z k) (waiting_told contents before s) (told_if before c (marks_of v w s)) h) (sym
-    (count_twin v w s))
-    (on_test (waiting_count contents s == before)
+    rw (count_twin v w s) (on_test (waiting_count contents s == before)
     (λ _. twin_done (record { order = o; plain = refl; stays = stays_same s }))
     (λ _. ask_waiting s.device (waiting_count contents s) (twin_done (record { order = o; plain = refl; stays = stays_same s }))))
 
 pub ended_twin : (before : ℕ) (v w : List Track) (s : DeviceStore) (h : Held) → Ordered v w s h →
     Twins (λ v' w' z _ _ k. Hears v s v' w' z k) (noted_end contents before s) (noted_end by_plain before (marks_of v w s)) h
 ended_twin before v w s h o =
-    twin_then (λ z _. waiting_told contents before z) (λ z _. waiting_told by_plain before z) (told_twins (tracks_of s) v w s h (omega arith) o)
+    twin_then _ _ (told_twins (tracks_of s) v w s h (omega arith) o)
     (λ v' w' z _ _ k f.
     twin_weaker (waiting_twin before v' w' z k f.order)
     (λ v2 w2 y _ _ l g. record { order = g.order; plain = g.plain ∙ f.plain; stays = stays_on s z y f.stays g.stays }))

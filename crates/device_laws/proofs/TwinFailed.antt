@@ -32,7 +32,6 @@ use Rattle.std.specs.Prelude.{option_map, if◌then◌else◌}
 use Rattle.ckd_types.specs.declared.paths.Side.{Side}
 use Rattle.ckd_types.specs.declared.paths.Side.TheVariants.{A, B}
 use Rattle.ckd_types.specs.declared.record.Track.{Track}
-use Rattle.track_image.specs.Image.{Image}
 use Rattle.track_cache.specs.declared.frames.Frame.{Frame}
 use Rattle.device_outside.specs.After.{holds_of}
 use Rattle.device_outside.specs.Both.{both_tell}
@@ -48,21 +47,9 @@ use Rattle.device_defs.specs.Sound.{DeviceStore}
 use Rattle.device_defs.specs.Store.{tracks_of, side_of, frame_at, half_is, owed_at, with_owed}
 use Rattle.device_laws.specs.Agrees.{Held, image_in, slot_at}
 use Rattle.device_laws.specs.Twin.{Twins}
-use Rattle.device_laws.proofs.ContentChanges.{
-  base_of,
-  Altered,
-  altered_owed,
-  same_tracks,
-  slot_of,
-  by_track,
-  same_slots,
-  unseen_slots,
-  sits_still,
-  RightBut,
-  right_altered,
-}
+use Rattle.device_laws.proofs.ContentChanges.{base_of, Altered, altered_owed, same_tracks, same_slots, RightBut, similar_right}
 use Rattle.device_laws.proofs.TrackContents as T
-use Rattle.device_laws.proofs.TrackContents.{TrackContents, contents_at, IsRight, HeldBy, Keeps, Fewer, right_fewer, held_of, keeps_other}
+use Rattle.device_laws.proofs.TrackContents.{TrackContents, contents_at, HeldBy, right_fewer, held_of, keeps_other}
 use Rattle.device_laws.proofs.TwinChanges.{down_twin, frame_twin, owed_twin, with_owed_twin}
 use Rattle.device_laws.proofs.TwinSettled.{Owes, Debts, debts_altered, AllTold, Settles, settled_pair}
 use Rattle.device_laws.proofs.TwinWalks.{Pair, pair_is, pair_over, pair_weaker, twin_done, twin_ends, twin_then, twin_weaker}
@@ -161,8 +148,7 @@ pub side_pair : (writing : Option ℕ) (h : Held) (v w : List Track) (s : Device
 unfolding L.side_lost
 side_pair writing h v w s side b told =
     let z = down s side in
-    subst (λ (m : MarksStore). Pair (Settles writing h v z) (over_tracks s z) (marks_over s m)) (down_twin v w s side)
-    (pair_over (tracks_of s) (settled_but contents writing) (settled_but by_plain writing)
+    rw (← (down_twin v w s side)) (pair_over (tracks_of s) (settled_but contents writing) (settled_but by_plain writing)
     (λ x y k n lt i. settled_step h v z writing x y k n (let same = down_tracks s side in omega arith) i) v w z (tracks_of s) (omega arith)
     (record {
       but = down_right writing v w s h side b;
@@ -229,17 +215,11 @@ module _ (writing : Option ℕ) (h : Held) (u : List Track) (s : DeviceStore) (n
         subst (λ (p : ℕ). (contents_at paid k p).debt ≡ false) (sym at) (ap (λ (c : TrackContents). c.debt) paid_altered.here)
     paid_told q lt (inr ne) = ap (λ (c : TrackContents). c.debt) (paid_altered.elsewhere q ne) ∙ x.told q (omega arith)
 
-    slots_by : (kept : Bool) → slot_of kept (record y { debt = false }) ≡ slot_of kept y
-    slots_by true = refl
-    slots_by false = refl
-
     paid_tells : Tells writing h u s (suc n) v w paid k
     paid_tells = let e = paid_altered in record {
-      but = right_altered writing v w z k paid k n (record y { debt = false }) x.but e
-          (sits_still v w z k n (record y { debt = false }) debt.below x.but.ground refl refl)
-          (unseen_slots z k paid k (λ kept q. by_track z k paid k n (record y { debt = false }) kept e (slots_by kept) q) refl x.but.ground.slots)
+      but = similar_right x.but e debt.below (record { loose = refl; patch = refl; freed = refl }) refl
           (λ ne. right_fewer z.geometry n z.half y (record y { debt = false }) (image_in z v n) (image_in z w n)
-          (record { lost = λ l. l; frame = λ i f. f; patch = refl; a = λ l. (l, refl); b = λ l. (l, refl) }) (x.but.right n debt.below ne));
+          (record { lost = λ l. l; frame = λ i f. f; patch = refl; a = λ l. (l, refl); b = λ l. (l, refl) }));
       debts = debts_altered writing z k paid k n (record y { debt = false }) x.debts e (λ l. absurd (cc));
       base = e.base ∙ x.base;
       plain = x.plain;
@@ -276,11 +256,7 @@ module _ (writing : Option ℕ) (h : Held) (u : List Track) (s : DeviceStore) (n
         (Tell (Firm z.device n (framed_image contents z n (frame_at z n))) (λ _. Done paid (tt {0})))
         (Tell (Firm z.device n (framed_image by_plain (marks_of v w z) n (frame_at (marks_of v w z) n)))
         (λ _. Done (with_owed (marks_of v w z) n (record (owed_at (marks_of v w z) n) { firm = false })) (tt {0}))) k
-    told_twins =
-        subst (λ (i : Image). Twins (λ v' w' a _ _ c. Tells writing h u s (suc n) v' w' a c)
-        (Tell (Firm z.device n (framed_image contents z n (frame_at z n))) (λ _. Done paid (tt {0})))
-        (Tell (Firm z.device n i) (λ _. Done (with_owed (marks_of v w z) n (record (owed_at (marks_of v w z) n) { firm = false })) (tt {0}))) k) said
-        (both_tell (λ r. twin_ends paid_twin paid_tells))
+    told_twins = rw (← said) (both_tell (λ r. twin_ends paid_twin paid_tells))
 
   one_told : Twins (λ v' w' a _ _ c. Tells writing h u s (suc n) v' w' a c) (firm_told contents n z) (firm_told by_plain n (marks_of v w z)) k
   one_told =
@@ -293,7 +269,7 @@ unfolding L.all_firm_told
 told_all writing h u w s zero b d =
     twin_done (record { but = b; debts = d; base = refl; plain = refl; own = λ t e. refl; told = λ q lt. absurd (omega arith) })
 told_all writing h u w s (suc n) b d =
-    twin_then (λ z _. firm_told contents n z) (λ z _. firm_told by_plain n z) (told_all writing h u w s n b d)
+    twin_then _ _ (told_all writing h u w s n b d)
     (λ v' w' z _ _ k x. one_told writing h u s n v' w' z k x)
 
 -- A failed call
@@ -336,9 +312,7 @@ failed_by : (writing : Option ℕ) (h : Held) (v w : List Track) (s : DeviceStor
 failed_by writing h v w s side true b told =
     let x = side_pair writing h v w s side b told in
     let z = side_lost contents s side writing in
-    subst (λ (m : MarksStore). Twins (λ v' w' z _ _ k. Failed writing h v (down s side) v' w' z k)
-    (all_firm_told contents (tracks_of s) z) (all_firm_told by_plain (tracks_of s) m) h) x.marks
-    (told_twin writing h v x.plain x.firm z (down s side) (tracks_of s)
+    rw (← x.marks) (told_twin writing h v x.plain x.firm z (down s side) (tracks_of s)
     (let same = same_tracks (down s side) h z h x.is.base in let still = down_tracks s side in omega arith) x.is)
 failed_by writing h v w s side false b told =
     twin_done (record { but = b; told = told; base = refl; plain = refl; own = λ t e. refl })

@@ -1,30 +1,5 @@
 -- Fast and provisional writes leave all right: the frame is the edited track, and each level side has it with the patch, or what it goes back to.
-use Rattle.std.proofs.Common.{
-  ◌≡◌,
-  ◌≢◌,
-  ◌<◌,
-  ℕ,
-  Bool,
-  true,
-  false,
-  List,
-  Option,
-  Some,
-  None,
-  set,
-  length,
-  refl,
-  sym,
-  ap,
-  subst,
-  ◌∙◌,
-  arith,
-  cond,
-  ◌⊎◌,
-  inl,
-  inr,
-}
-use Rattle.std.proofs.lemmas.Bool.{cases_eq}
+use Rattle.std.proofs.Common.{◌≡◌, ◌≢◌, ◌<◌, ℕ, Bool, true, false, List, Option, Some, None, set, length, refl, sym, ap, subst, ◌∙◌, arith, cond}
 use Rattle.std.proofs.lemmas.List.{append-nil}
 use Rattle.std.specs.Prelude.{option_map, if◌then◌else◌}
 use Rattle.ckd_types.specs.declared.geometry.Geometry.{Geometry}
@@ -59,7 +34,6 @@ use Rattle.device_laws.proofs.ContentChanges as C
 use Rattle.device_laws.proofs.ContentChanges.{
   base_of,
   Altered,
-  altered_twice,
   altered_frame,
   altered_patch,
   altered_loose,
@@ -68,24 +42,25 @@ use Rattle.device_laws.proofs.ContentChanges.{
   by_track,
   unseen_slots,
   sits_still,
-  Sits,
   RightBut,
   Sure,
   right_altered,
-  unseen_right,
   shut,
   opens_write,
+  beside_right,
+  altered_then,
 }
 use Rattle.device_laws.proofs.PlainVolumes.{put_here, put_elsewhere, put_volume}
 use Rattle.device_laws.proofs.TrackContents as T
-use Rattle.device_laws.proofs.TrackContents.{TrackContents, contents_at, FrameHas, Keeps, IsRight, none_fits}
-use Rattle.device_laws.proofs.TwinAsks.{Ordered, keeps_at, right_keeps}
+use Rattle.device_laws.proofs.TrackContents.{TrackContents, contents_at, FrameHas, Keeps, none_fits}
+use Rattle.device_laws.proofs.TwinAsks.{Ordered, keeps_at, right_keeps, beside_order}
 use Rattle.device_laws.proofs.TwinChanges.{patch_twin, with_frame_twin, with_patch_twin}
 use Rattle.device_laws.proofs.TwinChoices.{NewBy}
 use Rattle.device_laws.proofs.TwinDone.{put_right}
 use Rattle.device_laws.proofs.TwinSettled.{told_altered}
 use Rattle.device_laws.proofs.TwinSlots.{new_slots}
 use Rattle.device_defs.specs.declared.answers.Choice.TheVariants.{Fast}
+use Rattle.device_laws.proofs.EachTrack.{each_track}
 
 -- One more edit
 
@@ -123,8 +98,7 @@ gives_some p q o i e f = ap (λ (r : Option Stored). patched_by r o) (sym e) ∙
 patch_still : (p : Option Stored) (slot : Option ℕ) (e : Edit) → ((q : Stored) → p ≡ Some q → IsPatch q.patch) → (n : Stored) →
     patch_with contents e slot p ≡ Some n → IsPatch n.patch
 patch_still None None e is n f = absurd (cc)
-patch_still None (Some k) e is n f = subst (λ (s : Stored). IsPatch s.patch) (some_is _ n f)
-    (added_is_patch e no_edits.kept no_edits.replaced no_edits.behind refl)
+patch_still None (Some k) e is n f = rw (← (some_is _ n f)) (added_is_patch e no_edits.kept no_edits.replaced no_edits.behind refl)
 patch_still (Some q) None e is n f =
     subst (λ (s : Stored). IsPatch s.patch) (some_is _ n f) (added_is_patch e q.patch.kept q.patch.replaced q.patch.behind (is q refl).behind)
 patch_still (Some q) (Some k) e is n f =
@@ -177,12 +151,7 @@ module _ (v w : List Track) (s : DeviceStore) (h : Held) (t : ℕ) (e : Edit) (l
     both_altered =
         let f = altered_frame s h t lt o.sure.ground.sizes (Some new) in
         let g = altered_patch (with_frame s t (Some new)) h t lt f.sizes patch in
-        altered_twice f (record {
-          sizes = g.sizes;
-          base = g.base;
-          elsewhere = g.elsewhere;
-          here = g.here ∙ ap (λ (c : TrackContents). record c { patch = patch }) f.here;
-        })
+        altered_then (λ (c : TrackContents). record c { patch = patch }) f g
 
     patch_is : x.patch ≡ patch_at s t
     unfolding T.contents_at
@@ -247,20 +216,15 @@ module _ (v w : List Track) (s : DeviceStore) (h : Held) (t : ℕ) (e : Edit) (l
     fast_sure : Sure (set v t n) (set w t n) both h
     fast_sure =
         shut t (set v t n) (set w t n) both h fast_right
-        (subst (λ (c : TrackContents). IsRight s.geometry t s.half c (image_in s (set v t n) t) (image_in s (set w t n) t)) (sym both_altered.here)
-        (subst (λ (l : Track). IsRight s.geometry t s.half (record x { frame = Some new; patch = patch })
-        (record { geometry = s.geometry; track = l }) (image_in s (set w t n) t))
-        (sym (put_here v t n (let long = o.sure.ground.plain.tracks in omega arith)))
-        (subst (λ (l : Track). IsRight s.geometry t s.half (record x { frame = Some new; patch = patch }) i (record { geometry = s.geometry; track = l }))
-        (sym (put_here w t n (let long = o.sure.ground.firm.tracks in omega arith)))
+        (rw both_altered.here (rw (put_here v t n (let long = o.sure.ground.plain.tracks in omega arith))
+        (rw (put_here w t n (let long = o.sure.ground.firm.tracks in omega arith))
         (right_keeps s.geometry t s.half (record x { frame = Some new; patch = patch }) i i off
         (record { frame = frame_new; a = gives x.a x.on_a kept.a; b = gives x.b x.on_b kept.b; patch = (fits_new, fits_new) })))))
 
     pub fast_order : Ordered (set v t n) (set w t n) (fast_written contents s t i e slot) h
     unfolding T.contents_at C.base_of
     fast_order = record {
-      sure = unseen_right None (set v t n) (set w t n) both h (with_edit both t e) h fast_sure
-          (record { sizes = record { are = both_altered.sizes.are }; base = refl; same = λ q. refl; slots = refl });
+      sure = beside_right fast_sure;
       told = told_altered s h both h t (record x { frame = Some new; patch = patch }) o.told both_altered refl;
     }
 
@@ -296,9 +260,7 @@ module _ (v w : List Track) (s : DeviceStore) (h : Held) (t : ℕ) (e : Edit) (l
       (unseen_slots s h z h (λ kept q. by_track s h z h t c kept f (slots_same kept) q) refl o.sure.ground.slots) (λ ne. absurd (ne refl)) in
       record {
         sure = shut t (set v t n) w z h (moved z f put)
-            (subst (λ (d : TrackContents). IsRight z.geometry t z.half d (image_in z (set v t n) t) (image_in z w t)) (sym f.here)
-            (C.same_right s h z h f.base (set v t n) w t c c refl
-            (subst (λ (l : Track). IsRight s.geometry t s.half c (record { geometry = s.geometry; track = l }) (image_in s w t)) (sym (put_here v t n long))
+            (rw f.here (C.same_right s h z h f.base (set v t n) w t c c refl (rw (put_here v t n long)
             (right_keeps s.geometry t s.half c i (image_in s w t) off (record { frame = frame_new; a = kept.a; b = kept.b; patch = bare_fits bare })))));
         told = told_altered s h z h t c o.told f refl;
       }
@@ -318,21 +280,17 @@ module _ (v w : List Track) (s : DeviceStore) (h : Held) (t : ℕ) (e : Edit) (l
           plain = put_volume z.geometry z.cylinders v t n b.ground.plain (let same = C.same_cylinders s h z h f.base in omega arith) home
               (subst (λ (g : Geometry). Fits g n) (sym (C.same_geometry s h z h f.base)) fits);
           firm = b.ground.firm;
-          same = λ q below l. same_by q below l (cases_eq q t);
+          same = each_track (λ q. q < tracks_of z → is_loose z q ≡ false → track_in w q ≡ track_in (set v t n) q) t
+              (λ below l. absurd (loose_now z (ap (λ (d : TrackContents). d.loose) f.here) (loose_is z) l))
+              (λ q ne below l. b.ground.same q below l ∙ sym (put_elsewhere v t n q ne));
           apart = b.ground.apart;
           patches = b.ground.patches;
           long = b.ground.long;
           slots = b.ground.slots;
         };
         right = λ q below ne.
-            subst (λ (l : Track). IsRight z.geometry q z.half (contents_at z h q) (record { geometry = z.geometry; track = l }) (image_in z w q))
-            (sym (put_elsewhere v t n q (λ l. ne (ap Some (sym l))))) (b.right q below ne);
+            rw (put_elsewhere v t n q (λ l. ne (ap Some (sym l)))) (b.right q below ne);
       }
-        where
-          same_by : (q : ℕ) → q < tracks_of z → is_loose z q ≡ false → ((q ≡ t) ⊎ (q ≢ t)) → track_in w q ≡ track_in (set v t n) q
-          same_by q below l (inl at) =
-              absurd (loose_now z (ap (λ (d : TrackContents). d.loose) f.here) (loose_is z) (subst (λ (p : ℕ). is_loose z p ≡ false) at l))
-          same_by q below l (inr ne) = b.ground.same q below l ∙ sym (put_elsewhere v t n q ne)
 
   again_altered : is_loose s t ≡ true → Altered s h (with_frame s t (Some new)) h t (record x { frame = Some new; loose = true })
   unfolding T.contents_at
@@ -359,12 +317,7 @@ module _ (v w : List Track) (s : DeviceStore) (h : Held) (t : ℕ) (e : Edit) (l
       }
 
   loose_edit : (z : DeviceStore) → Ordered (set v t n) w z h → Ordered (set v t n) w (with_loose_edit z t e) h
-  unfolding T.contents_at C.base_of
-  loose_edit z i = record {
-    sure = unseen_right None (set v t n) w z h (with_loose_edit z t e) h i.sure
-        (record { sizes = record { are = i.sure.ground.sizes.are }; base = refl; same = λ q. refl; slots = refl });
-    told = i.told;
-  }
+  loose_edit z i = beside_order i
 
   by_loose : (b : Bool) → is_loose s t ≡ b → patch_at s t ≡ None → Ordered (set v t n) w (with_loose_edit (with_frame (if b then s else loosened s t) t
       (Some new)) t e) h

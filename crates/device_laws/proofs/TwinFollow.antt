@@ -118,14 +118,10 @@ module _ (m : ℕ) (g : Geometry) (looks : ChainState → ℕ → Type 0) (feeds
       order = record { sure = o.sure; told = o.told }
 
       fits_plain : Fits g (track_in u t)
-      fits_plain =
-          subst (λ (x : Geometry). Fits x (track_in u t)) (geometry ∙ on)
-          (subst (λ (x : List Track). Fits z.geometry (track_in x t)) plain (o.sure.ground.plain.fits t below))
+      fits_plain = rw (← (geometry ∙ on)) (subst (λ (x : List Track). Fits z.geometry (track_in x t)) plain (o.sure.ground.plain.fits t below))
 
       suits_here : (e : Edit) → SuitsTrack g (track_in u t) e → SuitsTrack z.geometry (track_in v t) e
-      suits_here e x =
-          subst (λ (l : Geometry). SuitsTrack l (track_in v t) e) (sym (geometry
-          ∙ on)) (subst (λ (l : List Track). SuitsTrack g (track_in l t) e) (sym plain) x)
+      suits_here e x = rw (geometry ∙ on) (subst (λ (l : List Track). SuitsTrack g (track_in l t) e) (sym plain) x)
 
       by_progress : (next : ChainState) (p : Progress) → (stepped chain (Some (plain_image t))).chain ≡ next →
           (stepped chain (Some (plain_image t))).progress ≡ p →
@@ -158,21 +154,16 @@ module _ (m : ℕ) (g : Geometry) (looks : ChainState → ℕ → Type 0) (feeds
           })
       by_progress next (progresses.Write q e) is p =
           let f = feeds.writes chain t (plain_image t) q e at refl fits_plain p in
-          subst (λ (i : Image). Twins Ends (went_by contents (usage_of chain) first t z i next (progresses.Write q e))
-          (went_by by_plain (usage_of chain) first t (marks_of v w z) i next (progresses.Write q e)) k) (image_same z v geometry plain)
-          (twin_then (had_by (came_of_write contents next t)) (had_by (came_of_write by_plain next t))
+          rw (← (image_same z v geometry plain)) (twin_then _ _
           (write_twin v w z t e (usage_of chain) first below there still (suits_here e f.1) o.well k order)
-          (λ v' w' y a b l x. wrote v' w' y l a b x.order x.same x.geometry (x.plain ∙ ap (λ (m : List Track). plain_had a m t e) plain) f.0))
+          (λ v' w' y a b l x. wrote v' w' y l a b x.order x.same x.size.0 (x.plain ∙ ap (λ (m : List Track). plain_had a m t e) plain) f.0))
         where
           wrote : (v' w' : List Track) (y : DeviceStore) (l : Held) (a b : Option Took) → Ordered v' w' y l → a ≡ b → y.geometry ≡ z.geometry →
               v' ≡ plain_had a u t e → q ≡ t →
               Twins Ends (had_by (came_of_write contents next t) y a) (had_by (came_of_write by_plain next t) (marks_of v' w' y) b) l
-          wrote v' w' y l None b i same geo had at_t =
-              subst (λ (x : Option Took). Twins Ends (Done y None) (had_by (came_of_write by_plain next t) (marks_of v' w' y) x) l) same
-              (lacking v' w' y l i (geo ∙ geometry) had)
+          wrote v' w' y l None b i same geo had at_t = rw (← same) (lacking v' w' y l i (geo ∙ geometry) had)
           wrote v' w' y l (Some took) b i same geo had at_t =
-              subst (λ (x : Option Took). Twins Ends (came_of_write contents next t y took) (had_by (came_of_write by_plain next t)
-              (marks_of v' w' y) x) l) same
+              rw (← same)
               (twin_done (record { order = i; same = refl; geometry = geo ∙ geometry; went = wrote_as chain next t q e v' took at at_t is p had }))
       by_progress next (progresses.Local act) is p = checked v w z k next Equipment order geometry plain
 
@@ -185,17 +176,13 @@ module _ (m : ℕ) (g : Geometry) (looks : ChainState → ℕ → Type 0) (feeds
         z.geometry ≡ s.geometry → v ≡ u →
         t < tracks_of z → z.half ≡ None → ((i : Image) → a ≡ Some (Has i) → i ≡ plain_image t) → ((i : Image) → a ≡ Some (Has i) → is_lost z t ≡ false) →
         Twins Ends (had_by (looked contents chain first t) z a) (had_by (looked by_plain chain first t) (marks_of v w z) b) k
-    looked_by v w z k a b o well same geometry plain below still image there =
-        subst (λ (x : Option Imaged). Twins Ends (had_by (looked contents chain first t) z a) (had_by (looked by_plain chain first t)
-        (marks_of v w z) x) k) same
-        (by_image a image there)
+    looked_by v w z k a b o well same geometry plain below still image there = rw (← same) (by_image a image there)
       where
         by_image : (a : Option Imaged) → ((i : Image) → a ≡ Some (Has i) → i ≡ plain_image t) → ((i : Image) → a ≡ Some (Has i) → is_lost z t ≡ false) →
             Twins Ends (had_by (looked contents chain first t) z a) (had_by (looked by_plain chain first t) (marks_of v w z) a) k
         by_image None image there = lacking v w z k o geometry plain
         by_image (Some (Has i)) image there =
-            subst (λ (x : Image). Twins Ends (went_on contents chain first t z x) (went_on by_plain chain first t (marks_of v w z) x) k) (sym (image i refl))
-            (went_twin v w z k (record { sure = o.sure; told = o.told; well = well }) geometry plain below (there i refl) still)
+            rw (image i refl) (went_twin v w z k (record { sure = o.sure; told = o.told; well = well }) geometry plain below (there i refl) still)
         by_image (Some (NoBytes fault)) image there = checked v w z k chain Equipment o geometry plain
         by_image (Some (BadTrack side)) image there = checked v w z k chain DataCheck o geometry plain
 
@@ -208,8 +195,7 @@ module _ (m : ℕ) (g : Geometry) (looks : ChainState → ℕ → Type 0) (feeds
     look_twin w h o =
         on_test (is_lost s t)
         (λ _. checked u w s h chain Equipment (record { sure = o.sure; told = o.told }) refl refl)
-        (λ there. twin_then (had_by (looked contents chain first t)) (had_by (looked by_plain chain first t))
-        (twin_always (image_twin u w s h (usage_of chain) t lt there (none_off s.half t none) o)
+        (λ there. twin_then _ _ (twin_always (image_twin u w s h (usage_of chain) t lt there (none_off s.half t none) o)
         (image_keeps_good contents device_is_faithful s (usage_of chain) t
         (subst (Reaches (usage_of chain)) (sym all) (feeds.reaches chain t at)) lt o.well))
         (λ v' w' z a b k f.
@@ -257,9 +243,7 @@ module _ (m : ℕ) (g : Geometry) (looks : ChainState → ℕ → Type 0) (feeds
       twin_done (record { order = o; same = refl; geometry = geometry; came = went n })
   went_further n first chain s v w z k (Some (On next q)) later o geometry on went seen same =
       let i : InOrder u w z k = subst (λ (x : List Track). InOrder x w z k) went.0 (record { sure = o.sure; told = o.told; well = seen.keeps.well }) in
-      subst (λ (x : List Track). Twins (λ v' w' y b c l. FollowTwin s (suc n) chain v' w' y b c l) (follow contents n first next q z)
-      (follow by_plain n first next q (marks_of x w z)) k) (sym went.0)
-      (twin_weaker (later next q z w k went.1.0 (seen.keeps.tracks ∙ same) (geometry ∙ on) seen.on.0 i)
+      rw went.0 (twin_weaker (later next q z w k went.1.0 (seen.keeps.tracks ∙ same) (geometry ∙ on) seen.on.0 i)
       (λ v' w' y b c l f. record { order = f.order; same = f.same; geometry = f.geometry ∙ geometry; came = as_fed n chain next b v' went.1.1 f.came }))
     where
       as_fed : (n : ℕ) (chain next : ChainState) (b : Option Turn) (v' : List Track) →
@@ -274,13 +258,10 @@ module _ (m : ℕ) (g : Geometry) (looks : ChainState → ℕ → Type 0) (feeds
       twin_done (record { order = record { sure = o.sure; told = o.told }; same = refl; geometry = refl; came = λ answer. refl })
   follow_twin (suc n) first chain t s w h at same on none o =
       let lt : t < tracks_of s = let below = feeds.inside chain t at in omega arith in
-      twin_then (had_by (goes_on contents (follow contents n first))) (had_by (goes_on by_plain (follow by_plain n first)))
-      (twin_always (look_twin s chain first t at on same lt none w h o)
+      twin_then _ _ (twin_always (look_twin s chain first t at on same lt none w h o)
       (look_keeps_good contents device_is_faithful m Within within chain first t s (t, at) same lt o.well none))
       (λ v' w' z a b k f.
-      subst (λ (x : Option Went). Twins (λ v2 w2 y c d l. FollowTwin s (suc n) chain v2 w2 y c d l) (had_by (goes_on contents (follow contents n first)) z a)
-      (had_by (goes_on by_plain (follow by_plain n first)) (marks_of v' w' z) x) k) f.0.same
-      (went_further n first chain s v' w' z k a (follow_twin n first) f.0.order f.0.geometry on f.0.went f.1 same))
+      rw (← f.0.same) (went_further n first chain s v' w' z k a (follow_twin n first) f.0.order f.0.geometry on f.0.went f.1 same))
 
   -- what is known of marks alone
   pub follow_order : (n first : ℕ) (chain : ChainState) (t : ℕ) (s : DeviceStore) (w : List Track) (h : Held) → looks chain t → tracks_of s ≡ m →

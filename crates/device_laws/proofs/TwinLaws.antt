@@ -1,5 +1,5 @@
 -- The laws of a device that tells what it holds: its parts leave it in order, and do on marks what they do on contents.
-use Rattle.std.proofs.Common.{◌≡◌, ◌<◌, ◌==◌, ℕ, Bool, true, false, List, Option, Some, None, refl, sym, ap, subst, ◌∙◌, arith}
+use Rattle.std.proofs.Common.{◌≡◌, ◌<◌, ◌==◌, ℕ, Bool, true, false, List, Option, Some, None, refl, ap, subst, ◌∙◌, arith}
 use Rattle.std.specs.Prelude.{IfSome}
 use Rattle.ckd_chain.specs.State.{ChainState}
 use Rattle.ckd_types.specs.declared.geometry.Geometry.{Geometry}
@@ -8,7 +8,6 @@ use Rattle.ckd_types.specs.declared.record.Edit.{Edit}
 use Rattle.ckd_types.specs.declared.record.Track.{Track}
 use Rattle.ckd_types.specs.Volume.{track_in}
 use Rattle.track_image.specs.Image.{Image}
-use Rattle.nv_store.specs.declared.patches.Stored.{Stored}
 use Rattle.device_defs.specs.declared.usage.Usage.{Usage}
 use Rattle.device_defs.specs.Background.{work}
 use Rattle.device_defs.specs.Command.{follow}
@@ -23,15 +22,14 @@ use Rattle.device_defs.specs.Owed.{hear, noted_end}
 use Rattle.device_defs.specs.Second.{second_part}
 use Rattle.device_defs.specs.Sound.{DeviceStore}
 use Rattle.device_defs.specs.Store.{HalfWrite, tracks_of, patch_at, is_lost, half_is}
-use Rattle.device_laws.specs.Agrees.{Held, image_in, PatchFits, PatchOf}
+use Rattle.device_laws.specs.Agrees.{Held, image_in, PatchFits}
 use Rattle.device_laws.specs.Feeding.{Feeds, FollowIs}
 use Rattle.device_laws.specs.InOrder.{IsOpen, IsInOrder, StaysInOrder, ImageIs, WriteIs, SecondIs, plain_lost, plain_cut}
 use Rattle.device_laws.specs.PlainWrites.{SuitsTrack, OriginSuits}
 use Rattle.device_laws.specs.Twin.{Twins}
 use Rattle.device_laws.proofs.TwinThrough.{mark_lost}
 use Rattle.device_laws.proofs.Changes as C
-use Rattle.device_laws.proofs.ContentChanges as D
-use Rattle.device_laws.proofs.ContentChanges.{Sure, agrees_sure, sure_agrees, unseen_right}
+use Rattle.device_laws.proofs.ContentChanges.{Sure, agrees_sure, sure_agrees}
 use Rattle.device_laws.proofs.FailedCall.{IsWell, same_is_well, failed_call_keeps_good}
 use Rattle.loss_model.specs.declared.Loss.TheVariants as losses
 use Rattle.device_laws.proofs.LossEvents.{losing_goes}
@@ -44,7 +42,7 @@ use Rattle.device_laws.proofs.TrackContents as T
 use Rattle.device_laws.proofs.TrackContents.{contents_at, Writes, HeldBy, held_of, writes_own}
 use Rattle.device_laws.proofs.TrackMarks as M
 use Rattle.device_laws.proofs.TrackMarks.{track_at, device_is_faithful}
-use Rattle.device_laws.proofs.TwinAsks.{InOrder, Ordered, keeps_at, lost_is}
+use Rattle.device_laws.proofs.TwinAsks.{InOrder, Ordered, keeps_at, lost_is, beside_order}
 use Rattle.device_laws.proofs.TwinCuts.{cut_by}
 use Rattle.device_laws.proofs.TwinEvents.{hear_twin, ended_twin}
 use Rattle.device_laws.proofs.TwinFailed.{failed_twin}
@@ -96,8 +94,7 @@ module _ (v w : List Track) (s : DeviceStore) (h : Held) where
 
   patched_at : Sure v w s h → (q : ℕ) → q < tracks_of s → is_lost s q ≡ false → half_is s.half q ≡ false →
       PatchFits (patch_at s q) (image_in s v q) (image_in s w q)
-  patched_at sure q lt there off =
-      subst (λ (p : Option Stored). PatchFits p (image_in s v q) (image_in s w q)) (sym (patched_there q)) (keeps_at v w s h q sure lt there off).patch
+  patched_at sure q lt there off = rw (patched_there q) (keeps_at v w s h q sure lt there off).patch
 
   opened_there : Sure v w s h → IsWell contents s → (i : HalfWrite Image) → s.half ≡ Some i → IsOpen v s i
   opened_there sure w' i e =
@@ -110,7 +107,7 @@ module _ (v w : List Track) (s : DeviceStore) (h : Held) where
       (held_of s.geometry t s.half (contents_at s h t) (image_in s v t) (image_in s w t) (lost_there_is t ∙ kept_is i e w') right)) in
       record {
         suits = k.suits;
-        patch = subst (λ (p : Option Stored). PatchOf i.origin p (image_in s v t)) (sym (patched_there t)) k.patch;
+        patch = rw (patched_there t) k.patch;
       }
 
   pub is_in_order : Ordered v w s h → IsWell contents s → IsInOrder v w s h
@@ -219,12 +216,7 @@ command_goes_as_fed tracks g looks v w s h n first t chain feeds at same on none
 -- side B is held, or not any more
 module _ (v w : List Track) (s : DeviceStore) (h : Held) (b : Bool) where
   held_order : Ordered v w s h → Ordered v w (record s { held = b }) h
-  unfolding T.contents_at D.base_of
-  held_order o = record {
-    sure = unseen_right None v w s h (record s { held = b }) h o.sure
-        (record { sizes = record { are = o.sure.ground.sizes.are }; base = refl; same = λ q. refl; slots = refl });
-    told = o.told;
-  }
+  held_order o = beside_order o
 
   held_well : IsWell contents s → IsWell contents (record s { held = b })
   unfolding M.track_at C.rest_of

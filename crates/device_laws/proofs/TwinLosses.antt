@@ -1,5 +1,5 @@
 -- The losses of a side and of the store leave all right, with their twins on marks.
-use Rattle.std.proofs.Common.{◌≡◌, ◌<◌, ◌&&◌, not, ℕ, Bool, true, false, List, Option, Some, None, is_some, refl, sym, ap, subst, ◌∙◌, arith, inl}
+use Rattle.std.proofs.Common.{◌≡◌, ◌<◌, ◌&&◌, not, ℕ, Bool, true, false, List, Option, Some, None, is_some, refl, sym, ap, ◌∙◌, arith, inl}
 use Rattle.std.specs.Prelude.{if◌then◌else◌}
 use Rattle.ckd_types.specs.declared.paths.Side.{Side}
 use Rattle.ckd_types.specs.declared.paths.Side.TheVariants.{A, B}
@@ -24,37 +24,19 @@ use Rattle.device_laws.proofs.ContentChanges.{
   Base,
   base_of,
   Altered,
-  altered_twice,
   altered_stale_a,
   altered_stale_b,
   same_tracks,
-  same_half,
   same_up_b,
   sits_still,
-  unseen_right,
   RightBut,
-  Sure,
   right_altered,
+  altered_then,
 }
 use Rattle.device_laws.proofs.Sweeps.{is_alone}
 use Rattle.device_laws.proofs.TrackContents as T
-use Rattle.device_laws.proofs.TrackContents.{
-  TrackContents,
-  contents_at,
-  Keeps,
-  Writes,
-  HeldBy,
-  IsRight,
-  right_by,
-  right_lost,
-  right_bare,
-  none_of,
-  held_of,
-  writes_own,
-  own_writes,
-  not_both,
-}
-use Rattle.device_laws.proofs.TwinAsks.{InOrder, Ordered}
+use Rattle.device_laws.proofs.TrackContents.{TrackContents, contents_at, Writes, IsRight, right_bare, none_of, writes_own, own_writes, lost_case, HeldBy}
+use Rattle.device_laws.proofs.TwinAsks.{InOrder, Ordered, beside_order}
 use Rattle.device_laws.proofs.TwinChanges.{has_patch_twin, half_twin, without_patch_twin}
 use Rattle.device_laws.proofs.TwinFailed.{told_twin, side_pair, settles_on, down_tracks}
 use Rattle.device_laws.proofs.TwinSettled.{AllTold, Owes, debts_altered, told_debts, Settles, settled_pair, unpatched, altered_unpatched, unpatched_slots}
@@ -75,14 +57,9 @@ own_writes_still x plain w k = record {
 right_own : (g : Geometry) (t : ℕ) (half : Option (HalfWrite Image)) (x : TrackContents) (plain firm : Image) → half_is half t ≡ true →
     IsRight g t half x plain firm → IsRight g t half (unpatched x) plain firm
 right_own g t None x plain firm own r = absurd (cc)
-right_own g t (Some w) x plain firm own r = by_lost x.lost refl
-  where
-    by_lost : (l : Bool) → x.lost ≡ l → IsRight g t (Some w) (unpatched x) plain firm
-    by_lost true e = right_lost g t (Some w) (unpatched x) plain firm e
-    by_lost false e =
-        right_by g t (Some w) (unpatched x) plain firm
-        (own_writes g t w (unpatched x) plain firm own
-        (own_writes_still x plain w (writes_own g t w x plain firm own (held_of g t (Some w) x plain firm e r))))
+right_own g t (Some w) x plain firm own r =
+    lost_case (HeldBy g t x plain firm (Some w)) (HeldBy g t (unpatched x) plain firm (Some w)) x.lost x.lost (λ e. e)
+    (λ k. own_writes g t w (unpatched x) plain firm own (own_writes_still x plain w (writes_own g t w x plain firm own k))) r
 
 -- A track is stale on every side
 
@@ -116,12 +93,7 @@ stale_now y h t true lt sizes alone =
       on = (y.a.up && not true, y.b.up && not true);
       no_a = and_not_true y.a.up;
       no_b = and_not_true y.b.up;
-      altered = altered_twice f (record {
-        sizes = g.sizes;
-        base = g.base;
-        elsewhere = g.elsewhere;
-        here = g.here ∙ ap (λ (c : TrackContents). record c { b = y.b.up && not true }) f.here;
-      });
+      altered = altered_then (λ (c : TrackContents). record c { b = y.b.up && not true }) f g;
     }
 stale_now y h t false lt sizes alone =
     let f = altered_stale_a y h t lt sizes true in
@@ -184,12 +156,7 @@ module _ (h : Held) (u : List Track) (s : DeviceStore) (alone : s.paired ≡ fal
         let y = without_patch contents z n in
         let g = stale_now y h n y.paired (let same = same_tracks z h y h f.base in omega arith) f.sizes (single y (f.base ∙ x.base)) in
         let d = record (unpatched c) { a = g.on.0; b = g.on.1 } in
-        let e : Altered z h (stale_everywhere y n) h n d = altered_twice f (record {
-          sizes = g.altered.sizes;
-          base = g.altered.base;
-          elsewhere = g.altered.elsewhere;
-          here = g.altered.here ∙ ap (λ (i : TrackContents). record i { a = g.on.0; b = g.on.1 }) f.here;
-        }) in
+        let e : Altered z h (stale_everywhere y n) h n d = altered_then (λ (i : TrackContents). record i { a = g.on.0; b = g.on.1 }) f g.altered in
         settles_of (stale_everywhere y n) d e refl refl refl refl refl refl
         (right_bare z.geometry n z.half c d (image_in z v n) (image_in z w n) (image_in z w n)
         (record { lost = λ l. l; frame = λ i k. k; a = g.no_a; b = g.no_b }) (inl refl) (x.but.right n lt (λ e. absurd (cc))))
@@ -200,8 +167,7 @@ module _ (h : Held) (u : List Track) (s : DeviceStore) (alone : s.paired ≡ fal
         let y = stale_everywhere (without_patch contents z n) n in
         let f = off_settles in
         let same : tracks_of y ≡ tracks_of z = same_tracks s h y h f.base ∙ sym (same_tracks s h z h x.base) in
-        subst (λ (m : MarksStore). Pair (Settles None h u s) (settled contents y n) (settled by_plain m n))
-        (stale_twin v w (without_patch contents z n) n ∙ ap (λ (m : MarksStore). stale_everywhere m n) (without_patch_twin v w z n))
+        rw (← (stale_twin v w (without_patch contents z n) n ∙ ap (λ (m : MarksStore). stale_everywhere m n) (without_patch_twin v w z n)))
         (pair_weaker (settled_pair None h v w y n (omega arith) f.but f.debts (λ e. absurd (cc)))
         (λ v' w' g. settles_on None h u v w v' w' s y (settled contents y n) f g))
 
@@ -215,19 +181,10 @@ module _ (h : Held) (u : List Track) (s : DeviceStore) (alone : s.paired ≡ fal
         (if half_is z.half n then without_patch contents z n else settled contents (stale_everywhere (without_patch contents z n) n) n)
         (if half_is (marks_of v w z).half n then without_patch by_plain (marks_of v w z) n
         else settled by_plain (stale_everywhere (without_patch by_plain (marks_of v w z) n) n) n)
-    halved =
-        subst (λ (b : Bool). Pair (Settles None h u s)
-        (if half_is z.half n then without_patch contents z n else settled contents (stale_everywhere (without_patch contents z n) n) n)
-        (if b then without_patch by_plain (marks_of v w z) n else settled by_plain (stale_everywhere (without_patch by_plain (marks_of v w z) n) n) n))
-        (sym (half_twin v w z n)) (half_pair (half_is z.half n) refl)
+    halved = rw (half_twin v w z n) (half_pair (half_is z.half n) refl)
 
     patch_pair : Pair (Settles None h u s) (patch_lost contents n z) (patch_lost by_plain n (marks_of v w z))
-    patch_pair =
-        subst (λ (b : Bool). Pair (Settles None h u s) (patch_lost contents n z)
-        (if b then (if half_is (marks_of v w z).half n then without_patch by_plain (marks_of v w z) n
-        else settled by_plain (stale_everywhere (without_patch by_plain (marks_of v w z) n) n) n) else marks_of v w z))
-        (sym (has_patch_twin v w z n))
-        (pair_if (is_some (patch_at z n)) (λ _. halved) (λ _. pair_is x))
+    patch_pair = rw (has_patch_twin v w z n) (pair_if (is_some (patch_at z n)) (λ _. halved) (λ _. pair_is x))
 
   store_pair : (w : List Track) → RightBut None u w s h → AllTold s h →
       Pair (Settles None h u s) (store_lost contents s) (store_lost by_plain (marks_of u w s))
@@ -240,12 +197,7 @@ module _ (h : Held) (u : List Track) (s : DeviceStore) (alone : s.paired ≡ fal
 -- As losses
 
 pub counted_loss : (v w : List Track) (s : DeviceStore) (h : Held) (loss : Loss) → Ordered v w s h → Ordered v w (with_loss s loss) h
-unfolding T.contents_at C.base_of
-counted_loss v w s h loss o = record {
-  sure = unseen_right None v w s h (with_loss s loss) h o.sure
-      (record { sizes = record { are = o.sure.ground.sizes.are }; base = refl; same = λ q. refl; slots = refl });
-  told = o.told;
-}
+counted_loss v w s h loss o = beside_order o
 
 pub record Loses (u v w : List Track) (z : DeviceStore) (k : Held) : Type 0 where
   pub order : Ordered v w z k
@@ -258,9 +210,7 @@ store_loss_twin v w s h o =
     let i = counted_loss v w s h losses.Store (record { sure = o.sure; told = o.told }) in
     let x = store_pair h v y (is_alone s o.well.here) w i.sure i.told in
     let z = store_lost contents y in
-    subst (λ (m : MarksStore). Twins (λ v' w' z _ _ k. Loses v v' w' z k) (L.all_firm_told contents (tracks_of s) z) (L.all_firm_told by_plain
-    (tracks_of s) m) h) x.marks
-    (twin_weaker (told_twin None h v x.plain x.firm z y (tracks_of s) (let same = same_tracks y h z h x.is.base in omega arith) x.is)
+    rw (← x.marks) (twin_weaker (told_twin None h v x.plain x.firm z y (tracks_of s) (let same = same_tracks y h z h x.is.base in omega arith) x.is)
     (λ v' w' a _ _ k f. record { order = record { sure = f.but; told = f.told }; plain = f.plain }))
 
 pub side_loss_twin : (v w : List Track) (s : DeviceStore) (h : Held) (side : Side) → InOrder v w s h →
@@ -271,8 +221,6 @@ side_loss_twin v w s h side o =
     let x = side_pair None h v w y side i.sure i.told in
     let z = side_lost contents y side None in
     let d = L.down y side in
-    subst (λ (m : MarksStore). Twins (λ v' w' z _ _ k. Loses v v' w' z k) (L.all_firm_told contents (tracks_of s) z) (L.all_firm_told by_plain
-    (tracks_of s) m) h) x.marks
-    (twin_weaker (told_twin None h v x.plain x.firm z d (tracks_of s)
+    rw (← x.marks) (twin_weaker (told_twin None h v x.plain x.firm z d (tracks_of s)
     (let same = same_tracks d h z h x.is.base in let still = down_tracks y side in omega arith) x.is)
     (λ v' w' a _ _ k f. record { order = record { sure = f.but; told = f.told }; plain = f.plain }))

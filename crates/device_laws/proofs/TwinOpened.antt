@@ -1,35 +1,7 @@
 -- Before the first write of a loose track it becomes firm; behind a first part a half write is opened. Both leave all right.
-use Rattle.std.proofs.Common.{
-  ◌≡◌,
-  ◌≢◌,
-  ◌<◌,
-  ◌==◌,
-  ◌&&◌,
-  not,
-  ℕ,
-  Bool,
-  true,
-  false,
-  List,
-  Option,
-  Some,
-  None,
-  is_some,
-  set,
-  refl,
-  sym,
-  ap,
-  subst,
-  ◌∙◌,
-  arith,
-  ◌⊎◌,
-  inl,
-  inr,
-}
-use Rattle.std.proofs.lemmas.Bool.{cases_eq}
+use Rattle.std.proofs.Common.{◌≡◌, ◌≢◌, ◌<◌, ◌==◌, ◌&&◌, not, ℕ, Bool, true, false, List, Option, Some, None, is_some, set, refl, sym, ap, subst, ◌∙◌, arith}
 use Rattle.std.specs.Prelude.{option_map, if◌then◌else◌}
 use Rattle.ckd_types.specs.declared.paths.Side.TheVariants.{A, B}
-use Rattle.ckd_types.specs.declared.geometry.Geometry.{Geometry}
 use Rattle.ckd_types.specs.declared.record.Track.{Track}
 use Rattle.ckd_types.specs.Track.{track_bytes}
 use Rattle.ckd_types.specs.Volume.{track_in}
@@ -45,30 +17,16 @@ use Rattle.device_defs.specs.Effects.{hardened}
 use Rattle.device_defs.specs.Losses.{stale_everywhere, framed_image}
 use Rattle.device_defs.specs.Marks.{MarksStore, marks_of, frame_mark}
 use Rattle.device_defs.specs.Sound.{DeviceStore, written_on}
-use Rattle.device_defs.specs.Store.{
-  Origin,
-  OfCommand,
-  OfCut,
-  OfBackground,
-  HalfWrite,
-  tracks_of,
-  frame_at,
-  is_lost,
-  is_loose,
-  half_is,
-  with_stale,
-  with_frame,
-}
+use Rattle.device_defs.specs.Store.{Origin, OfCommand, OfCut, OfBackground, HalfWrite, tracks_of, frame_at, is_lost, is_loose, half_is, with_stale, with_frame}
 use Rattle.device_defs.specs.Writing.{firm_first, half_opened, cleaned, write_opened}
 use Rattle.device_laws.specs.Agrees.{Held, image_in, PatchHas, PatchFits, slot_at}
 use Rattle.device_laws.specs.PlainWrites.{OriginSuits}
 use Rattle.device_laws.specs.Twin.{Twins}
-use Rattle.device_laws.proofs.Bools.{and_not_true}
+use Rattle.device_laws.proofs.Bools.{and_not_true, some_is}
 use Rattle.device_laws.proofs.ContentChanges as C
 use Rattle.device_laws.proofs.ContentChanges.{
   base_of,
   Altered,
-  altered_twice,
   altered_loose,
   altered_stale_a,
   altered_stale_b,
@@ -83,6 +41,8 @@ use Rattle.device_laws.proofs.ContentChanges.{
   right_altered,
   shut,
   opens_write,
+  similar_right,
+  altered_then,
 }
 use Rattle.device_laws.proofs.PlainVolumes.{put_here, put_elsewhere, put_volume}
 use Rattle.device_laws.proofs.Sweeps.{is_alone}
@@ -93,22 +53,22 @@ use Rattle.device_laws.proofs.TrackContents.{
   FrameHas,
   FrameOf,
   Keeps,
-  Writes,
-  HeldBy,
   IsRight,
-  held_of,
   right_by,
   own_writes,
   other_keeps,
   not_both,
   patch_of,
+  lost_case,
+  HeldBy,
 }
 use Rattle.device_laws.proofs.TrackMarks as M
-use Rattle.device_laws.proofs.TrackMarks.{TrackMarks, marks, is_good, track_at}
-use Rattle.device_laws.proofs.TwinAsks.{ask_clean, Stays, stays_same, stays_off, InOrder, Ordered, keeps_at, right_keeps}
+use Rattle.device_laws.proofs.TrackMarks.{marks, is_good, track_at}
+use Rattle.device_laws.proofs.TwinAsks.{ask_clean, Stays, stays_same, stays_off, InOrder, Ordered, keeps_at, right_keeps, SameSize}
 use Rattle.device_laws.proofs.TwinChanges.{frame_twin, with_frame_twin}
 use Rattle.device_laws.proofs.TwinSettled.{AllTold, told_altered}
 use Rattle.device_laws.proofs.TwinWalks.{Pair, twin_done, twin_ends}
+use Rattle.device_laws.proofs.EachTrack.{each_track}
 
 -- The track of a loose frame becomes firm
 
@@ -173,21 +133,17 @@ module _ (v w : List Track) (s : DeviceStore) (h : Held) (t : ℕ) (lt : t < tra
           sizes = b.ground.sizes;
           plain = b.ground.plain;
           firm = put_volume s.geometry s.cylinders w t (track_in v t) b.ground.firm lt (b.ground.plain.homes t lt) (b.ground.plain.fits t lt);
-          same = λ q below e. same_by q below e (cases_eq q t);
+          same = each_track (λ q. q < tracks_of s → is_loose s q ≡ false → track_in firm_now q ≡ track_in v q) t
+              (λ below e. put_here w t (track_in v t) (let same = o.sure.ground.firm.tracks in omega arith))
+              (λ q ne below e. put_elsewhere w t (track_in v t) q ne ∙ o.sure.ground.same q below e);
           apart = b.ground.apart;
           patches = b.ground.patches;
           long = b.ground.long;
           slots = b.ground.slots;
         };
         right = λ q below ne.
-            subst (λ (l : Track). IsRight s.geometry q s.half (contents_at s h q) (image_in s v q) (record { geometry = s.geometry; track = l }))
-            (sym (put_elsewhere w t (track_in v t) q (λ e. ne (ap Some (sym e))))) (b.right q below ne);
+            rw (put_elsewhere w t (track_in v t) q (λ e. ne (ap Some (sym e)))) (b.right q below ne);
       }
-    where
-      same_by : (q : ℕ) → q < tracks_of s → is_loose s q ≡ false → ((q ≡ t) ⊎ (q ≢ t)) → track_in firm_now q ≡ track_in v q
-      same_by q below e (inl at) =
-          subst (λ (p : ℕ). track_in firm_now p ≡ track_in v p) (sym at) (put_here w t (track_in v t) (let same = o.sure.ground.firm.tracks in omega arith))
-      same_by q below e (inr ne) = put_elsewhere w t (track_in v t) q ne ∙ o.sure.ground.same q below e
 
   firm_altered : Altered s h (hardened s t) h t (record x { loose = false })
   unfolding T.contents_at C.base_of
@@ -198,12 +154,7 @@ module _ (v w : List Track) (s : DeviceStore) (h : Held) (t : ℕ) (lt : t < tra
   off_a =
       let f = firm_altered in
       let g = altered_stale_a (hardened s t) h t lt f.sizes true in
-      altered_twice f (record {
-        sizes = g.sizes;
-        base = g.base;
-        elsewhere = g.elsewhere;
-        here = g.here ∙ ap (λ (c : TrackContents). record c { a = s.a.up && not true }) f.here;
-      })
+      altered_then (λ (c : TrackContents). record c { a = s.a.up && not true }) f g
 
   firms : (z : DeviceStore) (c : TrackContents) → Altered s h z h t c → c.frame ≡ x.frame → c.patch ≡ x.patch → c.freed ≡ x.freed → c.debt ≡ x.debt →
       c.loose ≡ false →
@@ -218,8 +169,7 @@ module _ (v w : List Track) (s : DeviceStore) (h : Held) (t : ℕ) (lt : t < tra
         order = record {
           sure = shut t v firm_now z h but
               (right_keeps z.geometry t z.half (contents_at z h t) (image_in z v t) (image_in z firm_now t) (stays_off s z t stays off)
-              (subst (λ (d : TrackContents). Keeps z.geometry t d (image_in z v t) (image_in z firm_now t)) (sym e.here)
-              (record {
+              (rw e.here (record {
                 frame = λ f l. kept.frame f (sym frame ∙ l) ∙ sym (ap (λ (g : _). record { geometry = g; track = track_in v t }) stays.geometry);
                 a = λ l. absurd (not_both c.a a l);
                 b = λ l. absurd (not_both c.b b l);
@@ -240,10 +190,7 @@ module _ (v w : List Track) (s : DeviceStore) (h : Held) (t : ℕ) (lt : t < tra
       firm_fits : (z : DeviceStore) (c : TrackContents) → c.patch ≡ x.patch → Stays s z → PatchFits c.patch (image_in z v t) (image_in z firm_now t)
       firm_fits z c patch stays =
           let here : track_in firm_now t ≡ track_in v t = put_here w t (track_in v t) (let same = o.sure.ground.firm.tracks in omega arith) in
-          subst (λ (p : Option Stored). PatchFits p (image_in z v t) (image_in z firm_now t)) (sym patch)
-          (subst (λ (g : Geometry). PatchFits x.patch (record { geometry = g; track = track_in v t }) (record { geometry = g; track = track_in firm_now t }))
-          (sym stays.geometry)
-          (subst (λ (l : Track). PatchFits x.patch (image_in s v t) (record { geometry = s.geometry; track = l })) (sym here) (kept.patch.0, kept.patch.0)))
+          rw patch (rw stays.geometry (rw here (kept.patch.0, kept.patch.0)))
 
   loose_gone : (z : DeviceStore) (c : TrackContents) → Altered s h z h t c → c.loose ≡ false → is_loose z t ≡ false
   unfolding T.contents_at
@@ -262,12 +209,7 @@ module _ (v w : List Track) (s : DeviceStore) (h : Held) (t : ℕ) (lt : t < tra
       let g = altered_stale_b y h t lt f.sizes true in
       let z = with_stale y B t true in
       let c = record x { loose = false; a = s.a.up && not true; b = s.b.up && not true } in
-      let e : Altered s h z h t c = altered_twice f (record {
-        sizes = g.sizes;
-        base = g.base;
-        elsewhere = g.elsewhere;
-        here = g.here ∙ ap (λ (d : TrackContents). record d { b = s.b.up && not true }) f.here;
-      }) in
+      let e : Altered s h z h t c = altered_then (λ (d : TrackContents). record d { b = s.b.up && not true }) f g in
       record {
         plain = v;
         firm = firm_now;
@@ -293,10 +235,7 @@ module _ (v w : List Track) (s : DeviceStore) (h : Held) (t : ℕ) (lt : t < tra
       (λ _. Done (stale_everywhere (hardened (marks_of v w s) t) t) true)) h
   loose_twin =
       let e = stale_pair s.paired refl in
-      subst (λ (i : Image). Twins (λ v' w' z a b k. Firms v s t v' w' z a b k)
-      (Tell (Firm s.device t (framed_image contents s t (frame_at s t))) (λ _. Done (stale_everywhere (hardened s t) t) true))
-      (Tell (Firm s.device t i) (λ _. Done (stale_everywhere (hardened (marks_of v w s) t) t) true)) h) said
-      (both_tell (λ r. twin_ends e.marks e.is))
+      rw (← said) (both_tell (λ r. twin_ends e.marks e.is))
 
 pub firm_twin : (v w : List Track) (s : DeviceStore) (h : Held) (t : ℕ) → t < tracks_of s → half_is s.half t ≡ false → InOrder v w s h →
     Twins (λ v' w' z a b k. Firms v s t v' w' z a b k) (firm_first contents s t) (firm_first by_plain (marks_of v w s) t) h
@@ -329,8 +268,7 @@ module _ (t : ℕ) (v w : List Track) (i : Image) (origin : Origin) where
   pub record Opens (v' w' : List Track) (z : DeviceStore) (s : DeviceStore) (k : Held) : Type 0 where
     pub order : Ordered v' w' z k
     pub plain : v' ≡ v
-    pub geometry : z.geometry ≡ s.geometry
-    pub cylinders : z.cylinders ≡ s.cylinders
+    pub size : SameSize s z
 
   same_contents : (z : DeviceStore) (k : Held) (q : ℕ) → contents_at (half_opened contents z t i origin) k q ≡ contents_at z k q
   unfolding T.contents_at
@@ -361,47 +299,32 @@ module _ (t : ℕ) (v w : List Track) (i : Image) (origin : Origin) where
       long = o.but.ground.long;
       slots = same_slots z (half_opened contents z t i origin) k.slots (half_slots z) o.but.ground.slots;
     };
-    right = λ q lt ne. right_at q lt (cases_eq q t);
+    right = λ q lt ne. each_track (λ p. p < tracks_of z →
+        IsRight z.geometry p (Some open_now) (contents_at (half_opened contents z t i origin) k p) (image_in z v p) (image_in z w p)) t
+        (λ _. rw (same_contents z k t) (right_by z.geometry t (Some open_now) (contents_at z k t) (image_in z v t) (image_in z w t)
+        (own_writes z.geometry t open_now (contents_at z k t) (image_in z v t) (image_in z w t) own_half
+        (record {
+          image = o.image;
+          a = o.a;
+          b = o.b;
+          frame = frame_of origin (contents_at z k t).frame (image_in z v t) o.frame;
+          patch = patch_of origin (contents_at z k t).patch (image_in z v t) o.patch;
+          suits = o.suits;
+        }))))
+        (λ p ne le. rw (same_contents z k p) (some_lost p (o.but.right p le (λ e. ne (sym (some_is t p e)))) ne)) q lt;
   }
     where
-      some_lost : (q : ℕ) → IsRight z.geometry q z.half (contents_at z k q) (image_in z v q) (image_in z w q) → q ≢ t → (l : Bool) →
-          (contents_at z k q).lost ≡ l →
-          IsRight z.geometry q (Some (record { track = t; origin = origin; image = i })) (contents_at z k q) (image_in z v q) (image_in z w q)
-      some_lost q r off true e = T.right_lost z.geometry q (Some (record { track = t; origin = origin; image = i })) (contents_at z k q)
-          (image_in z v q) (image_in z w q) e
-      some_lost q r off false e =
-          right_by z.geometry q (Some (record { track = t; origin = origin; image = i })) (contents_at z k q) (image_in z v q) (image_in z w q)
-          (other_keeps z.geometry q (record { track = t; origin = origin; image = i }) (contents_at z k q) (image_in z v q) (image_in z w q)
-          (other_half q off)
-          (held_of z.geometry q None (contents_at z k q) (image_in z v q) (image_in z w q) e
-          (subst (λ (n : Option (HalfWrite Image)). IsRight z.geometry q n (contents_at z k q) (image_in z v q) (image_in z w q)) o.none r)))
+      open_now : HalfWrite Image
+      open_now = record { track = t; origin = origin; image = i }
 
-      right_at : (q : ℕ) → q < tracks_of z → ((q ≡ t) ⊎ (q ≢ t)) →
-          IsRight z.geometry q (Some (record { track = t; origin = origin; image = i })) (contents_at (half_opened contents z t i origin) k q)
-          (image_in z v q) (image_in z w q)
-      right_at q lt (inl at) =
-          subst (λ (p : ℕ). IsRight z.geometry p (Some (record { track = t; origin = origin; image = i })) (contents_at
-          (half_opened contents z t i origin) k p)
-          (image_in z v p) (image_in z w p)) (sym at)
-          (subst (λ (c : TrackContents). IsRight z.geometry t (Some (record { track = t; origin = origin; image = i })) c (image_in z v t) (image_in z w t))
-          (sym (same_contents z k t))
-          (right_by z.geometry t (Some (record { track = t; origin = origin; image = i })) (contents_at z k t) (image_in z v t) (image_in z w t)
-          (own_writes z.geometry t (record { track = t; origin = origin; image = i }) (contents_at z k t) (image_in z v t) (image_in z w t) own_half
-          (record {
-            image = o.image;
-            a = o.a;
-            b = o.b;
-            frame = frame_of origin (contents_at z k t).frame (image_in z v t) o.frame;
-            patch = patch_of origin (contents_at z k t).patch (image_in z v t) o.patch;
-            suits = o.suits;
-          }))))
-      right_at q lt (inr ne) =
-          subst (λ (c : TrackContents). IsRight z.geometry q (Some (record { track = t; origin = origin; image = i })) c (image_in z v q) (image_in z w q))
-          (sym (same_contents z k q))
-          (some_lost q (o.but.right q lt (λ e. ne (sym (some_is t q e)))) ne (contents_at z k q).lost refl)
-        where
-          some_is : (p q : ℕ) → Some p ≡ Some q → p ≡ q
-          some_is p q e = cc
+      some_lost : (q : ℕ) → IsRight z.geometry q z.half (contents_at z k q) (image_in z v q) (image_in z w q) → q ≢ t →
+          IsRight z.geometry q (Some open_now) (contents_at z k q) (image_in z v q) (image_in z w q)
+      some_lost q r off =
+          lost_case (HeldBy z.geometry q (contents_at z k q) (image_in z v q) (image_in z w q) z.half)
+          (HeldBy z.geometry q (contents_at z k q) (image_in z v q) (image_in z w q) (Some open_now)) (contents_at z k q).lost (contents_at z k q).lost
+          (λ e. e)
+          (λ h. other_keeps z.geometry q open_now (contents_at z k q) (image_in z v q) (image_in z w q) (other_half q off)
+          (subst (λ (n : Option (HalfWrite Image)). HeldBy z.geometry q (contents_at z k q) (image_in z v q) (image_in z w q) n) o.none h)) r
 
   told_half : (z : DeviceStore) (k : Held) → AllTold z k → AllTold (half_opened contents z t i origin) k
   unfolding T.contents_at
@@ -421,9 +344,7 @@ module _ (t : ℕ) (v w : List Track) (i : Image) (origin : Origin) where
       let e = altered_frame z k t o.below o.but.ground.sizes f in
       let y = record (contents_at z k t) { frame = f } in
       record {
-        but = right_altered (Some t) v w z k (with_frame z t f) k t y o.but e (sits_still v w z k t y o.below o.but.ground refl refl)
-            (unseen_slots z k (with_frame z t f) k (λ kept q. by_track z k (with_frame z t f) k t y kept e (slots_by kept) q) refl o.but.ground.slots)
-            (λ ne. absurd (ne refl));
+        but = similar_right o.but e o.below (record { loose = refl; patch = refl; freed = refl }) refl (λ ne. absurd (ne refl));
         told = told_altered z k (with_frame z t f) k t y o.told e refl;
         below = o.below;
         none = o.none;
@@ -431,22 +352,18 @@ module _ (t : ℕ) (v w : List Track) (i : Image) (origin : Origin) where
         image = o.image;
         a = λ l. ap (λ (d : TrackContents). d.on_a) e.here ∙ o.a (sym (ap (λ (d : TrackContents). d.a) e.here) ∙ l);
         b = λ l. ap (λ (d : TrackContents). d.on_b) e.here ∙ o.b (sym (ap (λ (d : TrackContents). d.b) e.here) ∙ l);
-        frame = subst (λ (g : Option Frame). FrameHas g (image_in z v t)) (sym (ap (λ (d : TrackContents). d.frame) e.here))
+        frame = rw (ap (λ (d : TrackContents). d.frame) e.here)
             (cleaned_has (frame_at z t) (image_in z v t) (subst (λ (g : Option Frame). FrameHas g (image_in z v t)) (frame_at_is z k) o.frame));
         patch = subst (λ (p : Option Stored). PatchHas p (image_in z v t)) (sym (ap (λ (d : TrackContents). d.patch) e.here)) o.patch;
         suits = o.suits;
       }
-    where
-      slots_by : (kept : Bool) → slot_of kept (record (contents_at z k t) { frame = cleaned contents (frame_at z t) }) ≡ slot_of kept (contents_at z k t)
-      slots_by true = refl
-      slots_by false = refl
 
   cleaned_mark : (f : Option Frame) → option_map frame_mark (cleaned contents f) ≡ cleaned by_plain (option_map frame_mark f)
   cleaned_mark None = refl
   cleaned_mark (Some f) = refl
 
   opens_end : (z : DeviceStore) (k : Held) → Opening z k → Opens v w (half_opened contents z t i origin) z k
-  opens_end z k o = record { order = record { sure = opens_sure z k o; told = told_half z k o.told }; plain = refl; geometry = refl; cylinders = refl }
+  opens_end z k o = record { order = record { sure = opens_sure z k o; told = told_half z k o.told }; plain = refl; size = (refl, refl) }
 
   pub opened_twin : (z : DeviceStore) (k : Held) (was_loose : Bool) → Opening z k →
       Twins (λ v' w' y _ _ n. Opens v' w' y z n) (write_opened contents z t i origin was_loose) (write_opened by_plain (marks_of v w z) t i origin was_loose) k
@@ -459,5 +376,5 @@ module _ (t : ℕ) (v w : List Track) (i : Image) (origin : Origin) where
       twin_ends (ap (λ (m : MarksStore). half_opened by_plain m t i origin)
       (with_frame_twin v w z t f ∙ ap (λ (g : Option Bool). with_frame (marks_of v w z) t g)
       (cleaned_mark (frame_at z t) ∙ ap (cleaned by_plain) (sym (frame_twin v w z t)))))
-      (record { order = e.order; plain = refl; geometry = refl; cylinders = refl })))
+      (record { order = e.order; plain = refl; size = (refl, refl) })))
       (λ _. twin_done (opens_end z k o))

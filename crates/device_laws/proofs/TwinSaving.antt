@@ -5,7 +5,6 @@ use Rattle.ckd_types.specs.declared.paths.Side.{Side}
 use Rattle.ckd_types.specs.declared.record.Track.{Track}
 use Rattle.ckd_types.specs.Track.{track_bytes}
 use Rattle.ckd_types.specs.Volume.{track_in}
-use Rattle.nv_store.specs.declared.patches.Stored.{Stored}
 use Rattle.track_image.specs.Image.{Image}
 use Rattle.track_cache.specs.declared.frames.Frame.{Frame}
 use Rattle.device_outside.specs.Both.{both_try}
@@ -14,7 +13,7 @@ use Rattle.device_defs.specs.declared.answers.Did.{Did}
 use Rattle.device_defs.specs.declared.answers.Did.TheVariants.{Nothing, Recovered, Half}
 use Rattle.device_defs.specs.declared.answers.Took.{Took}
 use Rattle.device_defs.specs.declared.answers.Took.TheVariants.{Whole, Opened, Unwritten}
-use Rattle.device_defs.specs.Background.{did, saved_by, saving, saved, recovered_image, recovered_bytes, recover}
+use Rattle.device_defs.specs.Background.{did, saved_by, saving, saved, recovered_bytes, recover}
 use Rattle.device_defs.specs.Contents.{Contents, contents, by_plain}
 use Rattle.device_defs.specs.Image.{Got, image_of}
 use Rattle.device_defs.specs.Losses.{framed_image}
@@ -26,11 +25,11 @@ use Rattle.device_laws.specs.Agrees.{Held, image_in, PatchHas}
 use Rattle.device_laws.specs.Twin.{Twins}
 use Rattle.device_laws.proofs.Sweeps.{is_alone}
 use Rattle.device_laws.proofs.TrackContents as T
-use Rattle.device_laws.proofs.TrackContents.{TrackContents, contents_at, FrameHas, Keeps}
+use Rattle.device_laws.proofs.TrackContents.{contents_at, Keeps}
 use Rattle.device_laws.proofs.TrackImage.{level_bytes_keeps_good}
 use Rattle.device_laws.proofs.TrackMarks as M
 use Rattle.device_laws.proofs.TrackMarks.{track_at, device_is_faithful}
-use Rattle.device_laws.proofs.TwinAsks.{Stays, stays_image, stays_off, InOrder, Ordered, keeps_at}
+use Rattle.device_laws.proofs.TwinAsks.{Stays, stays_image, stays_off, InOrder, Ordered, keeps_at, SameSize, size_of, size_on}
 use Rattle.device_laws.proofs.TwinChanges.{frame_twin}
 use Rattle.device_laws.proofs.TwinDone.{Closing, write_done_twin}
 use Rattle.device_laws.proofs.TwinImage.{Delivers, bytes_twin, not_lost}
@@ -40,14 +39,14 @@ use Rattle.device_laws.proofs.TwinWalks.{twin_done, twin_then, twin_always, twin
 use Rattle.device_laws.proofs.TwinWrites.{Written, First, first_twin}
 use Rattle.device_laws.proofs.WholeImage.{unframed_is_firm}
 use Rattle.device_laws.proofs.Writes.{is_taken, firm_first_keeps_good}
+use Rattle.device_laws.proofs.ContentChanges.{loose_is}
 
 -- the plain volume stays
 pub record Works {A : Type 0} (u : List Track) (s : DeviceStore) (v w : List Track) (z : DeviceStore) (a b : A) (k : Held) : Type 0 where
   pub order : Ordered v w z k
   pub same : a ≡ b
   pub plain : v ≡ u
-  pub geometry : z.geometry ≡ s.geometry
-  pub cylinders : z.cylinders ≡ s.cylinders
+  pub size : SameSize s z
 
 -- t is being written as it is plainly, over the store y that the write began with
 module _ (u : List Track) (y : DeviceStore) (j : Held) (t : ℕ) (lt : t < tracks_of y) (firm : is_loose y t ≡ false) (none : y.half ≡ None)
@@ -61,16 +60,12 @@ module _ (u : List Track) (y : DeviceStore) (j : Held) (t : ℕ) (lt : t < track
   abbrev Ends : List Track → List Track → DeviceStore → Did → Did → Held → Type 0
   Ends v w z a b k = Works u y v w z a b k
 
-  loose_is : (z : DeviceStore) (k : Held) → is_loose z t ≡ (contents_at z k t).loose
-  unfolding T.contents_at
-  loose_is z k = refl
-
   module _ (v w : List Track) (z : DeviceStore) (k : Held) (x : Written u y j t r v w z k) where
     below : t < tracks_of z
     below = let same = x.mid.stays.cylinders in omega arith
 
     firm_now : is_loose z t ≡ false
-    firm_now = loose_is z k ∙ x.mid.sided.loose ∙ sym (loose_is y j) ∙ firm
+    firm_now = loose_is z k t ∙ x.mid.sided.loose ∙ sym (loose_is y j t) ∙ firm
 
     image_is : image_in z v t ≡ image_in y u t
     image_is = stays_image y z v t x.mid.stays ∙ ap (λ (l : List Track). image_in y l t) x.mid.plain
@@ -95,16 +90,12 @@ module _ (u : List Track) (y : DeviceStore) (j : Held) (t : ℕ) (lt : t < track
     whole_end : (failed : Option Side) → Twins Ends (and_then (write_done contents z t i false) (λ q _. Done q (did fault (did failed d))))
         (and_then (write_done by_plain (marks_of v w z) t i false) (λ q _. Done q (did fault (did failed d)))) k
     whole_end failed =
-        subst (λ (p : Image). Twins Ends (and_then (write_done contents z t p false) (λ q _. Done q (did fault (did failed d))))
-        (and_then (write_done by_plain (marks_of v w z) t p false) (λ q _. Done q (did fault (did failed d)))) k) image_is
-        (twin_then (λ q _. Done q (did fault (did failed d))) (λ q _. Done q (did fault (did failed d)))
-        (write_done_twin t v w (track_in v t) z k false closing)
+        rw (← image_is) (twin_then _ _ (write_done_twin t v w (track_in v t) z k false closing)
         (λ v' w' q _ _ n f. twin_done (record {
           order = f.order;
           same = refl;
           plain = f.plain ∙ x.mid.plain;
-          geometry = f.stays.geometry ∙ x.mid.stays.geometry;
-          cylinders = f.stays.cylinders ∙ x.mid.stays.cylinders;
+          size = size_on (size_of x.mid.stays) (size_of f.stays);
         })))
 
     opening : Opening t v w i OfBackground z k
@@ -118,24 +109,15 @@ module _ (u : List Track) (y : DeviceStore) (j : Held) (t : ℕ) (lt : t < track
       a = x.a;
       b = x.b;
       frame = λ f l. own.frame f (sym x.mid.sided.frame ∙ l) ∙ sym image_is;
-      patch =
-          subst (λ (p : Option Stored). PatchHas p (image_in z v t)) (sym x.mid.sided.patch)
-          (subst (λ (n : Image). PatchHas (contents_at y j t).patch n) (sym image_is) own.patch.0);
+      patch = rw x.mid.sided.patch (subst (λ (n : Image). PatchHas (contents_at y j t).patch n) (sym image_is) own.patch.0);
       suits = tt;
     }
 
     half_end : (was_loose : Bool) → Twins Ends (and_then (write_opened contents z t i OfBackground was_loose) (λ q _. Done q (did fault (Half t))))
         (and_then (write_opened by_plain (marks_of v w z) t i OfBackground was_loose) (λ q _. Done q (did fault (Half t)))) k
     half_end was_loose =
-        twin_then (λ q _. Done q (did fault (Half t))) (λ q _. Done q (did fault (Half t)))
-        (opened_twin t v w i OfBackground z k was_loose opening)
-        (λ v' w' q _ _ n f. twin_done (record {
-          order = f.order;
-          same = refl;
-          plain = f.plain ∙ x.mid.plain;
-          geometry = f.geometry ∙ x.mid.stays.geometry;
-          cylinders = f.cylinders ∙ x.mid.stays.cylinders;
-        }))
+        twin_then _ _ (opened_twin t v w i OfBackground z k was_loose opening)
+        (λ v' w' q _ _ n f. twin_done (record { order = f.order; same = refl; plain = f.plain ∙ x.mid.plain; size = size_on (size_of x.mid.stays) f.size }))
 
   by_took : (v w : List Track) (z : DeviceStore) (k : Held) (was_loose : Bool) (took : Took) (failed : Option Side) → v ≡ u → Stays y z →
       (is_taken took ≡ true → Written u y j t r v w z k) → (is_taken took ≡ false → Ordered v w z k) →
@@ -143,7 +125,7 @@ module _ (u : List Track) (y : DeviceStore) (j : Held) (t : ℕ) (lt : t < track
   by_took v w z k was_loose Whole failed plain stays done undone = whole_end v w z k (done refl) failed
   by_took v w z k was_loose Opened failed plain stays done undone = half_end v w z k (done refl) was_loose
   by_took v w z k was_loose Unwritten failed plain stays done undone =
-      twin_done (record { order = undone refl; same = refl; plain = plain; geometry = stays.geometry; cylinders = stays.cylinders })
+      twin_done (record { order = undone refl; same = refl; plain = plain; size = size_of stays })
 
 -- what is behind the firm track
 abbrev saved_then : {F P H R : Type 0} (c : Contents F P H R) → ℕ → Did → Option Side → Image → Store F P H → Bool → Interaction R Image (Store F P H) Did
@@ -156,8 +138,7 @@ pub saving_twin : (v w : List Track) (s : DeviceStore) (h : Held) (t : ℕ) (d :
     (image_in s v t) d fault) h
 saving_twin v w s h t d fault lt there none o =
     let off = none_off s.half t none in
-    twin_then (saved_then contents t d fault (image_in s v t)) (saved_then by_plain t d fault (image_in s v t))
-    (twin_always (firm_twin v w s h t lt off o) (firm_first_keeps_good contents device_is_faithful s t lt o.well))
+    twin_then _ _ (twin_always (firm_twin v w s h t lt off o) (firm_first_keeps_good contents device_is_faithful s t lt o.well))
     (λ v' w' z a b k f.
     let y = f.0 in
     let well = f.1.goes.well in
@@ -175,17 +156,9 @@ saving_twin v w s h t d fault lt there none o =
     (subst (λ (p : Image). Twins (λ v' w' z a b k. Works v s v' w' z a b k) (saved_then contents t d fault p z a)
     (saved_then by_plain t d fault p (marks_of v' w' z) a) k) (sym image_is)
     (twin_weaker
-    (twin_then (λ x m. saved_by contents t (image_in z v' t) d fault a m.fault x m.took) (λ x m. saved_by by_plain t
-    (image_in z v' t) d fault a m.fault x m.took)
-    (first_twin v' z k t (track_bytes (track_in v' t)) below y.firm alone off' own w' y.order)
+    (twin_then _ _ (first_twin v' z k t (track_bytes (track_in v' t)) below y.firm alone off' own w' y.order)
     (λ v'' w'' x m n l g. by_wrote v' w' z k t d fault below y.firm (y.stays.half ∙ none) own v'' w'' x l a m n g))
-    (λ v'' w'' x m n l g. record {
-      order = g.order;
-      same = g.same;
-      plain = g.plain ∙ y.plain;
-      geometry = g.geometry ∙ y.stays.geometry;
-      cylinders = g.cylinders ∙ y.stays.cylinders;
-    }))))
+    (λ v'' w'' x m n l g. record { order = g.order; same = g.same; plain = g.plain ∙ y.plain; size = size_on (size_of y.stays) g.size }))))
   where
     by_wrote : (v' w' : List Track) (z : DeviceStore) (k : Held) (t : ℕ) (d : Did) (fault : Option Side) (below : t < tracks_of z)
         (firm : is_loose z t ≡ false)
@@ -195,11 +168,7 @@ saving_twin v w s h t d fault lt there none o =
         Twins (λ v2 w2 q c e i. Works v' z v2 w2 q c e i) (saved_by contents t (image_in z v' t) d fault a m.fault x m.took)
         (saved_by by_plain t (image_in z v' t) d fault a n.fault (marks_of v'' w'' x) n.took) l
     by_wrote v' w' z k t d fault below firm none own v'' w'' x l a m n g =
-        subst (λ (c : Option Side). Twins (λ v2 w2 q c e i. Works v' z v2 w2 q c e i) (saved_by contents t (image_in z v' t) d fault a m.fault x m.took)
-        (saved_by by_plain t (image_in z v' t) d fault a c (marks_of v'' w'' x) n.took) l) g.fault
-        (subst (λ (c : Took). Twins (λ v2 w2 q c e i. Works v' z v2 w2 q c e i) (saved_by contents t (image_in z v' t) d fault a m.fault x m.took)
-        (saved_by by_plain t (image_in z v' t) d fault a m.fault (marks_of v'' w'' x) c) l) g.took
-        (by_took v' z k t below firm none own d fault v'' w'' x l a m.took m.fault g.plain g.stays g.done g.undone))
+        rw (← g.fault) (rw (← g.took) (by_took v' z k t below firm none own d fault v'' w'' x l a m.took m.fault g.plain g.stays g.done g.undone))
 
 -- or memory is lacking
 pub saved_twin : (v w : List Track) (s : DeviceStore) (h : Held) (t : ℕ) (d : Did) (fault : Option Side) → t < tracks_of s → is_lost s t ≡ false →
@@ -209,9 +178,9 @@ pub saved_twin : (v w : List Track) (s : DeviceStore) (h : Held) (t : ℕ) (d : 
     (image_in s v t) d fault) h
 saved_twin v w s h t d fault lt there none o =
     both_try
-    (twin_then (λ z e. Done z (Some e)) (λ z e. Done z (Some e)) (saving_twin v w s h t d fault lt there none o)
-    (λ v' w' z a b k f. twin_done (record { order = f.order; same = ap Some f.same; plain = f.plain; geometry = f.geometry; cylinders = f.cylinders })))
-    (twin_done (record { order = record { sure = o.sure; told = o.told }; same = refl; plain = refl; geometry = refl; cylinders = refl }))
+    (twin_then _ _ (saving_twin v w s h t d fault lt there none o)
+    (λ v' w' z a b k f. twin_done (record { order = f.order; same = ap Some f.same; plain = f.plain; size = f.size })))
+    (twin_done (record { order = record { sure = o.sure; told = o.told }; same = refl; plain = refl; size = (refl, refl) }))
 
 -- Recovery
 
@@ -240,33 +209,14 @@ recovered_by u y v w s h t g m None None del side fault lt there firm none o pla
       order = record { sure = o.sure; told = o.told };
       same = ap (λ (x : Option Side). Some (did x Nothing)) fault;
       plain = plain;
-      geometry = stays.geometry;
-      cylinders = stays.cylinders;
+      size = size_of stays;
     })
 recovered_by u y v w s h t g m (Some r) (Some true) del side fault lt there firm none o plain stays =
     let gave : image_of contents s t r ≡ Some (image_in s v t) =
     del.1 ∙ ap (λ (x : Track). Some (record { geometry = s.geometry; track = x })) (o.sure.ground.same t lt firm) in
-    both_try
-    (subst (λ (x : Option Image). Twins (λ v' w' z a b k. Works u y v' w' z a b k) (recovered_image contents t s g x)
-    (recovered_image by_plain t (marks_of v w s) m (Some (image_in s v t))) h) (sym gave)
-    (subst (λ (x : Option Side). Twins (λ v' w' z a b k. Works u y v' w' z a b k) (saved contents s t (image_in s v t) (Recovered t) g.fault)
-    (saved by_plain (marks_of v w s) t (image_in s v t) (Recovered t) x) h) fault
-    (twin_weaker (saved_twin v w s h t (Recovered t) g.fault lt (there refl) none o)
-    (λ v' w' z a b k f. record {
-      order = f.order;
-      same = f.same;
-      plain = f.plain ∙ plain;
-      geometry = f.geometry ∙ stays.geometry;
-      cylinders = f.cylinders ∙ stays.cylinders;
-    }))))
-    (twin_done (record {
-      order = record { sure = o.sure; told = o.told };
-      same = refl;
-      plain = plain;
-      geometry = stays.geometry;
-      cylinders =
-          stays.cylinders;
-    }))
+    both_try (rw gave (rw (← fault) (twin_weaker (saved_twin v w s h t (Recovered t) g.fault lt (there refl) none o)
+    (λ v' w' z a b k f. record { order = f.order; same = f.same; plain = f.plain ∙ plain; size = size_on (size_of stays) f.size }))))
+    (twin_done (record { order = record { sure = o.sure; told = o.told }; same = refl; plain = plain; size = size_of stays }))
 recovered_by u y v w s h t g m (Some r) (Some false) del side fault lt there firm none o plain stays = let e : false ≡ true = del.0 in absurd (cc)
 recovered_by u y v w s h t g m None (Some b) del side fault lt there firm none o plain stays = absurd del
 recovered_by u y v w s h t g m (Some r) None del side fault lt there firm none o plain stays = absurd del
@@ -276,8 +226,7 @@ framed_twin : (v w : List Track) (s : DeviceStore) (h : Held) (t : ℕ) (d : Did
     Twins (λ v' w' z a b k. Works v s v' w' z a b k) (saved contents s t f.image d None) (saved by_plain (marks_of v w s) t (image_in s v t) d None) h
 framed_twin v w s h t d f e lt there none o =
     let is = frame_plain v w s h t f (record { sure = o.sure; told = o.told }) lt there (none_off s.half t none) e in
-    subst (λ (i : Image). Twins (λ v' w' z a b k. Works v s v' w' z a b k) (saved contents s t i d None)
-    (saved by_plain (marks_of v w s) t (image_in s v t) d None) h) (sym is) (saved_twin v w s h t d None lt there none o)
+    rw is (saved_twin v w s h t d None lt there none o)
 
 recover_by : (v w : List Track) (s : DeviceStore) (h : Held) (t : ℕ) (f : Option Frame) → frame_at s t ≡ f → t < tracks_of s → is_lost s t ≡ false →
     s.half ≡ None →
@@ -287,8 +236,7 @@ recover_by v w s h t (Some f) e lt there none o = framed_twin v w s h t (Recover
 recover_by v w s h t None e lt there none o =
     let off = none_off s.half t none in
     let firm = unframed_is_firm (track_at contents s t) (track_frame s t e) (o.well.good t lt) in
-    twin_then (λ z g. recovered_bytes contents t z g g.bytes) (λ z g. recovered_bytes by_plain t z g g.bytes)
-    (twin_always (bytes_twin v w s h t o lt off) (level_bytes_keeps_good contents device_is_faithful s t o.well))
+    twin_then _ _ (twin_always (bytes_twin v w s h t o lt off) (level_bytes_keeps_good contents device_is_faithful s t o.well))
     (λ v' w' z g m k x.
     let below : t < tracks_of z = let same = x.1.goes.tracks in omega arith in
     recovered_by v s v' w' z k t g m g.bytes m.bytes x.0.bytes x.0.side x.0.fault below
@@ -299,10 +247,7 @@ recover_by v w s h t None e lt there none o =
 pub recover_twin : (v w : List Track) (s : DeviceStore) (h : Held) (t : ℕ) → t < tracks_of s → is_lost s t ≡ false → s.half ≡ None → InOrder v w s h →
     Twins (λ v' w' z a b k. Works v s v' w' z a b k) (recover contents s t (frame_at s t)) (recover by_plain (marks_of v w s) t (frame_at
     (marks_of v w s) t)) h
-recover_twin v w s h t lt there none o =
-    subst (λ (f : Option Bool). Twins (λ v' w' z a b k. Works v s v' w' z a b k) (recover contents s t (frame_at s t)) (recover by_plain
-    (marks_of v w s) t f) h)
-    (sym (frame_twin v w s t)) (recover_by v w s h t (frame_at s t) refl lt there none o)
+recover_twin v w s h t lt there none o = rw (frame_twin v w s t) (recover_by v w s h t (frame_at s t) refl lt there none o)
 
 destage_by : (v w : List Track) (s : DeviceStore) (h : Held) (t : ℕ) (d : Did) (f : Option Frame) → frame_at s t ≡ f → is_some f ≡ true → t < tracks_of s →
     is_lost s t ≡ false → s.half ≡ None → InOrder v w s h →

@@ -7,13 +7,11 @@ use Rattle.ckd_types.specs.declared.record.Track.{Track}
 use Rattle.ckd_types.specs.Edit.{apply_edit}
 use Rattle.ckd_types.specs.Track.{Fits, track_bytes}
 use Rattle.ckd_types.specs.Volume.{track_in}
-use Rattle.ckd_rules.specs.Facts.{Suits}
 use Rattle.ckd_write.proofs.Fitting.{edited_fits}
 use Rattle.track_image.specs.Image.{Image, edited_image}
 use Rattle.track_cache.specs.declared.frames.Frame.{Frame}
-use Rattle.nv_store.specs.declared.patches.Stored.{Stored}
 use Rattle.device_outside.specs.Both.{both_tell}
-use Rattle.device_outside.specs.Interaction.{Interaction, Done, and_then}
+use Rattle.device_outside.specs.Interaction.{Done}
 use Rattle.device_outside.proofs.BothRules.{on_test}
 use Rattle.device_defs.specs.Contents.{Contents, contents, by_plain}
 use Rattle.device_defs.specs.Effects.{with_edit}
@@ -21,7 +19,7 @@ use Rattle.device_defs.specs.Losses as L
 use Rattle.device_defs.specs.Losses.{settled, by_frame, lost_now, without_patch}
 use Rattle.device_defs.specs.Marks.{MarksStore, marks_of, frame_mark, half_mark}
 use Rattle.device_defs.specs.Second as S
-use Rattle.device_defs.specs.Second.{plainly_written, half_closed, half_image_of, finished, second_done, cut_kept, left_by, second_absent, second_by, second_part}
+use Rattle.device_defs.specs.Second.{plainly_written, half_closed, finished, second_done, cut_kept, second_absent, second_part}
 use Rattle.device_defs.specs.Sound.{DeviceStore, written_on}
 use Rattle.device_defs.specs.Store.{
   Origin,
@@ -40,14 +38,12 @@ use Rattle.device_defs.specs.Store.{
   with_frame,
   with_lost,
 }
-use Rattle.device_defs.specs.Writing.{write_second}
-use Rattle.device_laws.specs.Agrees.{Held, image_in, PatchHas, PatchFits, PatchOf, slot_at}
+use Rattle.device_laws.specs.Agrees.{Held, image_in, PatchHas, PatchOf, slot_at}
 use Rattle.device_laws.specs.PlainWrites.{SuitsTrack, plain_second, OriginSuits}
 use Rattle.device_laws.specs.Twin.{Twins}
 use Rattle.device_laws.proofs.Bools.{neither}
 use Rattle.device_laws.proofs.ContentChanges.{
   Altered,
-  altered_twice,
   altered_frame,
   altered_lost,
   same_slots,
@@ -57,6 +53,8 @@ use Rattle.device_laws.proofs.ContentChanges.{
   right_altered,
   shut,
   opens_write,
+  altered_then,
+  loose_is,
 }
 use Rattle.device_laws.proofs.PlainVolumes.{put_here}
 use Rattle.device_laws.proofs.Sweeps.{is_free, is_alone}
@@ -68,18 +66,18 @@ use Rattle.device_laws.proofs.TrackContents.{
   contents_at,
   FrameHas,
   FrameOf,
-  Keeps,
   Writes,
-  HeldBy,
   IsRight,
   held_of,
-  right_by,
   right_lost,
   keeps_other,
   writes_own,
   not_both,
+  lost_case,
+  HeldBy,
+  Keeps,
 }
-use Rattle.device_laws.proofs.TwinAsks.{Stays, stays_same, stays_by, stays_image, InOrder, Ordered, right_keeps}
+use Rattle.device_laws.proofs.TwinAsks.{Stays, stays_same, stays_by, stays_image, InOrder, Ordered, right_keeps, SameSize, size_of, size_on}
 use Rattle.device_laws.proofs.TwinChanges.{frame_twin, with_frame_twin, without_patch_twin}
 use Rattle.device_laws.proofs.TwinDone.{Closing, put_right, edit_right, write_done_twin}
 use Rattle.device_laws.proofs.TwinSettled.{AllTold, told_altered, told_debts, settled_pair, settled_told, unpatched, altered_unpatched, unpatched_slots}
@@ -91,8 +89,7 @@ pub record Seconds (u : List Track) (s : DeviceStore) (origin : Origin) (t : ℕ
   pub order : Ordered v w z k
   pub same : a ≡ b
   pub plain : v ≡ plain_second origin a u t
-  pub geometry : z.geometry ≡ s.geometry
-  pub cylinders : z.cylinders ≡ s.cylinders
+  pub size : SameSize s z
 
 -- settling a track that isn't loose
 pub settled_ends : (v w : List Track) (z : DeviceStore) (k : Held) (t : ℕ) → t < tracks_of z → Sure v w z k → AllTold z k → is_loose z t ≡ false →
@@ -134,18 +131,17 @@ closed_right hw v w z k is b = record {
     slots = same_slots z (half_closed z) k.slots (closed_slots z) b.ground.slots;
   };
   right = λ q lt ne.
-      subst (λ (c : TrackContents). IsRight z.geometry q None c (image_in z v q) (image_in z w q)) (sym (closed_contents z k q))
-      (right_at q (λ e. ne (ap Some (sym e))) (b.right q lt ne) (contents_at z k q).lost refl);
+      rw (closed_contents z k q) (right_at q (λ e. ne (ap Some (sym e))) (b.right q lt ne));
 }
   where
-    right_at : (q : ℕ) → q ≢ hw.track → IsRight z.geometry q z.half (contents_at z k q) (image_in z v q) (image_in z w q) → (l : Bool) →
-        (contents_at z k q).lost ≡ l → IsRight z.geometry q None (contents_at z k q) (image_in z v q) (image_in z w q)
-    right_at q off r true e = right_lost z.geometry q None (contents_at z k q) (image_in z v q) (image_in z w q) e
-    right_at q off r false e =
-        right_by z.geometry q None (contents_at z k q) (image_in z v q) (image_in z w q)
-        (keeps_other z.geometry q hw (contents_at z k q) (image_in z v q) (image_in z w q) (let other : (hw.track == q) ≡ false = grind arith in other)
-        (held_of z.geometry q (Some hw) (contents_at z k q) (image_in z v q) (image_in z w q) e
-        (subst (λ (n : Option (HalfWrite Image)). IsRight z.geometry q n (contents_at z k q) (image_in z v q) (image_in z w q)) is r)))
+    right_at : (q : ℕ) → q ≢ hw.track → IsRight z.geometry q z.half (contents_at z k q) (image_in z v q) (image_in z w q) →
+        IsRight z.geometry q None (contents_at z k q) (image_in z v q) (image_in z w q)
+    right_at q off =
+        lost_case (HeldBy z.geometry q (contents_at z k q) (image_in z v q) (image_in z w q) z.half)
+        (Keeps z.geometry q (contents_at z k q) (image_in z v q) (image_in z w q)) (contents_at z k q).lost (contents_at z k q).lost (λ e. e)
+        (λ r. keeps_other z.geometry q hw (contents_at z k q) (image_in z v q) (image_in z w q)
+        (let other : (hw.track == q) ≡ false = grind arith in other)
+        (subst (λ (n : Option (HalfWrite Image)). HeldBy z.geometry q (contents_at z k q) (image_in z v q) (image_in z w q) n) is r))
 
 closed_told : (z : DeviceStore) (k : Held) → AllTold z k → AllTold (half_closed z) k
 unfolding T.contents_at
@@ -166,10 +162,6 @@ unfolding L.settled
 settles_lost {F = F} c s t free there off none half =
     ap (λ (o : Option F). if is_some s.lent then s else if is_lost s t then s else if has_level s t then s else by_frame c s t o) none
     ∙ settles_by (is_some s.lent) (is_lost s t) (has_level s t) (half_is s.half t) s (lost_now c s t) free there off half
-
--- the second part of such an image
-abbrev second_part_by : {F P H R : Type 0} (c : Contents F P H R) → Store F P H → ℕ → Origin → R → Image → Interaction R Image (Store F P H) Bool
-second_part_by c s t origin r i = and_then (write_second c s t r) (λ z _. second_by c t i origin z)
 
 module _ (u w0 : List Track) (s : DeviceStore) (h : Held) (hw : HalfWrite Image) (is_half : s.half ≡ Some hw) (lt : hw.track < tracks_of s)
     (there : (contents_at s h hw.track).lost ≡ false) (o : InOrder u w0 s h) (suits : OriginSuits s.geometry (track_in u hw.track) hw.origin) where
@@ -216,17 +208,13 @@ module _ (u w0 : List Track) (s : DeviceStore) (h : Held) (hw : HalfWrite Image)
   abbrev Ends : List Track → List Track → DeviceStore → Bool → Bool → Held → Type 0
   Ends v w z a b k = Seconds u s hw.origin t v w z a b k
 
-  loose_is : (z : DeviceStore) (k : Held) → is_loose z t ≡ (contents_at z k t).loose
-  unfolding T.contents_at
-  loose_is z k = refl
-
   -- behind the write of side B
   module _ (v w : List Track) (z : DeviceStore) (k : Held) (d : Written u s h t r v w z k) where
     below : t < tracks_of z
     below = let same = d.mid.stays.cylinders in omega arith
 
     firm_now : is_loose z t ≡ false
-    firm_now = loose_is z k ∙ d.mid.sided.loose ∙ sym (loose_is s h) ∙ firm
+    firm_now = loose_is z k t ∙ d.mid.sided.loose ∙ sym (loose_is s h t) ∙ firm
 
     but : RightBut (Some t) v w (half_closed z) k
     but = closed_right hw v w z k (d.mid.stays.half ∙ is_half) d.mid.but
@@ -260,16 +248,12 @@ module _ (u w0 : List Track) (s : DeviceStore) (h : Held) (hw : HalfWrite Image)
     finished_plain : (bypass : Bool) → hw.image ≡ image_in s u t → plain_second hw.origin true u t ≡ u →
         Twins Ends (finished contents (half_closed z) t hw.image bypass) (finished by_plain (half_closed (marks_of v w z)) t hw.image bypass) k
     finished_plain bypass same stays =
-        subst (λ (i : Image). Twins Ends (finished contents (half_closed z) t i bypass) (finished by_plain (half_closed (marks_of v w z)) t i bypass) k)
-        (plain_is ∙ sym same)
-        (twin_then (λ y _. Done y true) (λ y _. Done y true)
-        (write_done_twin t v w (track_in v t) (half_closed z) k bypass (closing_plain same))
+        rw (← (plain_is ∙ sym same)) (twin_then _ _ (write_done_twin t v w (track_in v t) (half_closed z) k bypass (closing_plain same))
         (λ v' w' y _ _ n f. twin_done (record {
           order = f.order;
           same = refl;
           plain = f.plain ∙ d.mid.plain ∙ sym stays;
-          geometry = f.stays.geometry ∙ d.mid.stays.geometry;
-          cylinders = f.stays.cylinders ∙ d.mid.stays.cylinders;
+          size = size_on (size_of d.mid.stays) (size_of f.stays);
         })))
 
     -- a command's edit takes effect
@@ -283,8 +267,7 @@ module _ (u w0 : List Track) (s : DeviceStore) (h : Held) (hw : HalfWrite Image)
       fits : Fits z.geometry n
       fits =
           edited_fits z.geometry (track_in v t) e (d.mid.but.ground.plain.fits t below)
-          (subst (λ (g : Geometry). Suits g (track_in v t).records e) (sym d.mid.stays.geometry)
-          (subst (λ (l : List Track). Suits s.geometry (track_in l t).records e) (sym d.mid.plain) suit.suits)) suit.ranges
+          (rw d.mid.stays.geometry (rw d.mid.plain suit.suits)) suit.ranges
 
       edited_contents : (q : ℕ) → contents_at (with_edit (half_closed z) t e) k q ≡ contents_at z k q
       unfolding T.contents_at
@@ -315,17 +298,13 @@ module _ (u w0 : List Track) (s : DeviceStore) (h : Held) (hw : HalfWrite Image)
           Twins Ends (second_done contents (half_closed z) t hw.image (OfCommand bypass e)) (second_done by_plain (half_closed (marks_of v w z)) t hw.image
           (OfCommand bypass e)) k
       edit_twin after =
-          subst (λ (i : Image). Twins Ends (second_done contents (half_closed z) t i (OfCommand bypass e))
-          (second_done by_plain (half_closed (marks_of v w z)) t i (OfCommand bypass e)) k) (sym image_now)
-          (both_tell (λ _.
-          twin_then (λ y _. Done y true) (λ y _. Done y true)
-          (write_done_twin t (set v t n) (set w t n) n (with_edit (half_closed z) t e) k bypass closing_edit)
+          rw image_now (both_tell (λ _.
+          twin_then _ _ (write_done_twin t (set v t n) (set w t n) n (with_edit (half_closed z) t e) k bypass closing_edit)
           (λ v' w' y _ _ m f. twin_done (record {
             order = f.order;
             same = refl;
             plain = f.plain ∙ ap (λ (l : List Track). set l t (apply_edit e (track_in l t))) d.mid.plain ∙ sym after;
-            geometry = f.stays.geometry ∙ d.mid.stays.geometry;
-            cylinders = f.stays.cylinders ∙ d.mid.stays.cylinders;
+            size = size_on (size_of d.mid.stays) (size_of f.stays);
           }))))
 
     done_by : (origin : Origin) → hw.origin ≡ origin → hw.image ≡ written_on (image_in s u t) origin → OriginSuits s.geometry (track_in u t) origin →
@@ -344,16 +323,12 @@ module _ (u w0 : List Track) (s : DeviceStore) (h : Held) (hw : HalfWrite Image)
         FrameHas c.frame (image_in z v t) → PatchHas c.patch (image_in z v t) → Sure v w y k
     absent_sure c y is b stays a no_b frame patch =
         shut t v w y k b
-        (subst (λ (d : TrackContents). IsRight y.geometry t y.half d (image_in y v t) (image_in y w t)) (sym is)
-        (right_keeps y.geometry t y.half c (image_in y v t) (image_in y w t) (ap (λ (m : Option (HalfWrite Image)). half_is m t) stays.half)
+        (rw is (right_keeps y.geometry t y.half c (image_in y v t) (image_in y w t) (ap (λ (m : Option (HalfWrite Image)). half_is m t) stays.half)
         (record {
           frame = λ f l. frame f l ∙ sym (ap (λ (g : Geometry). record { geometry = g; track = track_in v t }) stays.geometry);
           a = λ l. absurd (not_both c.a a l);
           b = λ l. absurd (not_both c.b no_b l);
-          patch =
-              subst (λ (g : Geometry). PatchFits c.patch (record { geometry = g; track = track_in v t }) (record { geometry = g; track = track_in w t }))
-              (sym stays.geometry)
-              (subst (λ (l : Track). PatchFits c.patch (image_in z v t) (record { geometry = z.geometry; track = l })) (sym firm_is) (patch, patch));
+          patch = rw stays.geometry (rw firm_is (patch, patch));
         })))
 
     absent_ends : (y : DeviceStore) (m : MarksStore) → marks_of v w y ≡ m → Sure v w y k → AllTold y k → Stays (half_closed z) y → is_loose y t ≡ false →
@@ -361,13 +336,11 @@ module _ (u w0 : List Track) (s : DeviceStore) (h : Held) (hw : HalfWrite Image)
         Twins Ends (Done (settled contents y t) false) (Done (settled by_plain m t) false) k
     absent_ends y m is sure told stays loose after =
         let f = settled_ends v w y k t (let same = stays.cylinders in let lt' = below in omega arith) sure told loose in
-        subst (λ (n : MarksStore). Twins Ends (Done (settled contents y t) false) (Done (settled by_plain n t) false) k) is
-        (twin_ends f.marks (record {
+        rw (← is) (twin_ends f.marks (record {
           order = f.is.0;
           same = refl;
           plain = f.is.1.0 ∙ d.mid.plain ∙ sym after;
-          geometry = f.is.1.1.geometry ∙ stays.geometry ∙ d.mid.stays.geometry;
-          cylinders = f.is.1.1.cylinders ∙ stays.cylinders ∙ d.mid.stays.cylinders;
+          size = size_on (size_of d.mid.stays) (size_on (size_of stays) (size_of f.is.1.1));
         }))
 
     frame_was : (f : Frame) → (contents_at (half_closed z) k t).frame ≡ Some f → (contents_at s h t).frame ≡ Some f
@@ -384,8 +357,7 @@ module _ (u w0 : List Track) (s : DeviceStore) (h : Held) (hw : HalfWrite Image)
         absent_ends (half_closed z) (half_closed (marks_of v w z)) refl
         (absent_sure (contents_at (half_closed z) k t) (half_closed z) refl but (stays_same (half_closed z)) levels.0 levels.1
         (λ f e. frame f (frame_was f e) ∙ sym plain_is)
-        (subst (λ (o : Option Stored). PatchHas o (image_in z v t)) (sym patch_was)
-        (subst (λ (i : Image). PatchHas (contents_at s h t).patch i) (sym plain_is) patch)))
+        (rw patch_was (subst (λ (i : Image). PatchHas (contents_at s h t).patch i) (sym plain_is) patch)))
         (closed_told z k d.mid.told) (stays_same (half_closed z)) firm_now after
 
     -- the frame of a command that was cut has the new track then, and its patch goes
@@ -400,7 +372,7 @@ module _ (u w0 : List Track) (s : DeviceStore) (h : Held) (hw : HalfWrite Image)
       cut_altered =
           let g = altered_frame (half_closed z) k t below but.ground.sizes (Some fresh) in
           let e = altered_unpatched framed k t below g.sizes in
-          altered_twice g (record { sizes = e.sizes; base = e.base; elsewhere = e.elsewhere; here = e.here ∙ ap unpatched g.here })
+          altered_then unpatched g e
 
       cut_right : RightBut (Some t) v w (without_patch contents framed t) k
       cut_right =
@@ -415,8 +387,8 @@ module _ (u w0 : List Track) (s : DeviceStore) (h : Held) (hw : HalfWrite Image)
 
       loose_cut : is_loose (without_patch contents framed t) t ≡ false
       loose_cut =
-          loose_is (without_patch contents framed t) k ∙ ap (λ (c : TrackContents). c.loose) cut_altered.here
-          ∙ ap (λ (c : TrackContents). c.loose) (closed_contents z k t) ∙ sym (loose_is z k) ∙ firm_now
+          loose_is (without_patch contents framed t) k t ∙ ap (λ (c : TrackContents). c.loose) cut_altered.here
+          ∙ ap (λ (c : TrackContents). c.loose) (closed_contents z k t) ∙ sym (loose_is z k t) ∙ firm_now
 
       cut_ends : plain_second hw.origin false u t ≡ u →
           Twins Ends (Done (settled contents (without_patch contents framed t) t) false)
@@ -437,7 +409,7 @@ module _ (u w0 : List Track) (s : DeviceStore) (h : Held) (hw : HalfWrite Image)
     gone_altered =
         let g = altered_lost (half_closed z) k t below but.ground.sizes in
         let e = altered_unpatched (with_lost (half_closed z) t) k t below g.sizes in
-        altered_twice g (record { sizes = e.sizes; base = e.base; elsewhere = e.elsewhere; here = e.here ∙ ap unpatched g.here })
+        altered_then unpatched g e
 
     gone_order : Ordered v w (lost_now contents (half_closed z) t) k
     gone_order =
@@ -449,8 +421,7 @@ module _ (u w0 : List Track) (s : DeviceStore) (h : Held) (hw : HalfWrite Image)
         (unpatched_slots (half_closed z) k y k t c gone_altered refl refl refl but.ground.slots) (λ ne. absurd (ne refl)) in
         record {
           sure = shut t v w y k b
-              (subst (λ (x : TrackContents). IsRight y.geometry t y.half x (image_in y v t) (image_in y w t)) (sym gone_altered.here)
-              (right_lost y.geometry t y.half c (image_in y v t) (image_in y w t) refl));
+              (rw gone_altered.here (right_lost y.geometry t y.half c (image_in y v t) (image_in y w t) refl));
           told = told_altered (half_closed z) k y k t c (closed_told z k d.mid.told) gone_altered refl;
         }
 
@@ -462,16 +433,13 @@ module _ (u w0 : List Track) (s : DeviceStore) (h : Held) (hw : HalfWrite Image)
         Twins Ends (Done (settled contents (half_closed z) t) false) (Done (settled by_plain (half_closed (marks_of v w z)) t) false) k
     gone_ends free e none after =
         let stays = stays_by (half_closed z) k (lost_now contents (half_closed z) t) k gone_altered.base in
-        subst (λ (x : DeviceStore). Twins Ends (Done x false) (Done (settled by_plain (half_closed (marks_of v w z)) t) false) k)
-        (sym (settles_lost contents (half_closed z) t free lost_mark none e refl))
-        (subst (λ (x : MarksStore). Twins Ends (Done (lost_now contents (half_closed z) t) false) (Done x false) k)
-        (sym (settles_lost by_plain (half_closed (marks_of v w z)) t free lost_mark none (frame_twin v w z t ∙ ap (option_map frame_mark) e) refl))
+        rw (settles_lost contents (half_closed z) t free lost_mark none e refl)
+        (rw (settles_lost by_plain (half_closed (marks_of v w z)) t free lost_mark none (frame_twin v w z t ∙ ap (option_map frame_mark) e) refl)
         (twin_ends (without_patch_twin v w (with_lost (half_closed z) t) t) (record {
           order = gone_order;
           same = refl;
           plain = d.mid.plain ∙ sym after;
-          geometry = stays.geometry ∙ d.mid.stays.geometry;
-          cylinders = stays.cylinders ∙ d.mid.stays.cylinders;
+          size = size_on (size_of d.mid.stays) (size_of stays);
         })))
 
     cut_by : is_some z.lent ≡ false → (o' : Option Frame) → frame_at z t ≡ o' → hw.image ≡ image_in s u t → has_level z t ≡ false →
@@ -487,9 +455,7 @@ module _ (u w0 : List Track) (s : DeviceStore) (h : Held) (hw : HalfWrite Image)
         Twins Ends (second_absent contents (half_closed z) t hw.image origin) (second_absent by_plain (half_closed (marks_of v w z)) t hw.image origin) k
     absent_by free (OfCommand bypass e) is image frame patch none = kept_ends none frame patch (ap (λ (x : Origin). plain_second x false u t) is)
     absent_by free (OfCut bypass) is image frame patch none =
-        subst (λ (g : Option Bool). Twins Ends (Done (settled contents (cut_kept contents (half_closed z) t hw.image (frame_at z t)) t) false)
-        (Done (settled by_plain (cut_kept by_plain (half_closed (marks_of v w z)) t hw.image g) t) false) k) (sym (frame_twin v w z t))
-        (cut_by free (frame_at z t) refl image none (ap (λ (x : Origin). plain_second x false u t) is))
+        rw (frame_twin v w z t) (cut_by free (frame_at z t) refl image none (ap (λ (x : Origin). plain_second x false u t) is))
     absent_by free OfBackground is image frame patch none = kept_ends none frame patch (ap (λ (x : Origin). plain_second x false u t) is)
 
   there_mark : (track_at contents s t).lost ≡ false
@@ -501,10 +467,7 @@ module _ (u w0 : List Track) (s : DeviceStore) (h : Held) (hw : HalfWrite Image)
   unfolding S.second_part
   second_part_twin =
       let image : plainly_written (marks_of u w0 s) t hw.origin ≡ hw.image = plainly_is u w0 s t hw.origin ∙ sym writes.image in
-      subst (λ (i : Image). Twins Ends (second_part_by contents s t hw.origin (track_bytes hw.image.track) hw.image) (second_part_by by_plain
-      (marks_of u w0 s) t hw.origin true i) h) (sym image)
-      (twin_then (λ z _. second_by contents t hw.image hw.origin z) (λ z _. second_by by_plain t hw.image hw.origin z)
-      (twin_always (second_twin u s h t r lt firm (is_alone s o.well.here) u w0 s h begins (is_alone s o.well.here))
+      rw image (twin_then _ _ (twin_always (second_twin u s h t r lt firm (is_alone s o.well.here) u w0 s h begins (is_alone s o.well.here))
       (write_second_keeps_others contents device_is_faithful t s lt there_mark r o.well))
       (λ v w z _ _ k d. on_test (has_level z t)
       (λ _. done_by v w z k d.0 hw.origin refl writes.image suits)

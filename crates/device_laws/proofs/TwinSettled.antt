@@ -1,5 +1,29 @@
 -- Settling leaves contents right, and does on marks what it does on contents.
-use Rattle.std.proofs.Common.{◌≡◌, ◌≢◌, ◌<◌, ℕ, Bool, true, false, List, Option, Some, None, is_some, set, length, refl, sym, ap, subst, ◌∙◌, arith, ◌⊎◌, inl, inr}
+use Rattle.std.proofs.Common.{
+  ◌≡◌,
+  ◌≢◌,
+  ◌<◌,
+  ℕ,
+  Bool,
+  true,
+  false,
+  List,
+  Option,
+  Some,
+  None,
+  is_some,
+  set,
+  length,
+  refl,
+  sym,
+  ap,
+  subst,
+  ◌∙◌,
+  arith,
+  ◌⊎◌,
+  inl,
+  inr,
+}
 use Rattle.std.proofs.lemmas.Bool.{cases_eq}
 use Rattle.std.specs.Prelude.{option_map, if◌then◌else◌}
 use Rattle.ckd_types.specs.declared.record.Track.{Track}
@@ -36,10 +60,8 @@ use Rattle.device_laws.specs.Agrees.{Held, image_in, slot_at, AreSlots, HasSlots
 use Rattle.device_laws.proofs.Bools.{neither}
 use Rattle.device_laws.proofs.ContentChanges as C
 use Rattle.device_laws.proofs.ContentChanges.{
-  Base,
   base_of,
   Altered,
-  altered_twice,
   unaltered,
   altered_frame,
   altered_patch,
@@ -52,18 +74,20 @@ use Rattle.device_laws.proofs.ContentChanges.{
   slot_is,
   by_track,
   unseen_slots,
-  Sits,
   sits_still,
   Being,
   RightOff,
   RightBut,
   off_altered,
+  similar_right,
+  altered_then,
 }
 use Rattle.device_laws.proofs.PlainVolumes.{put_here, put_elsewhere, put_volume}
 use Rattle.device_laws.proofs.TrackContents as T
-use Rattle.device_laws.proofs.TrackContents.{TrackContents, contents_at, FrameHas, IsRight, Fewer, Bare, right_lost, right_fewer, right_bare}
+use Rattle.device_laws.proofs.TrackContents.{TrackContents, contents_at, FrameHas, IsRight, right_lost, right_fewer, right_bare}
 use Rattle.device_laws.proofs.TwinChanges.{frame_twin, owed_twin, half_twin, with_frame_twin, with_owed_twin, without_patch_twin}
 use Rattle.device_laws.proofs.TwinWalks.{Pair, pair_is, pair_if}
+use Rattle.device_laws.proofs.EachTrack.{each_track}
 
 -- What the keeper is still to be told
 
@@ -80,7 +104,11 @@ pub record DebtsOff (exempt : ℕ → Type 0) (z : DeviceStore) (h : Held) : Typ
 
 pub debts_off : (exempt : ℕ → Type 0) (s : DeviceStore) (h : Held) (z : DeviceStore) (k : Held) (t : ℕ) (x : TrackContents) → DebtsOff exempt s h →
     Altered s h z k t x → (x.debt ≡ true → OwesOff exempt s t x) → DebtsOff exempt z k
-debts_off exempt s h z k t x d e here = record { owes = λ q f. go q f (cases_eq q t) }
+debts_off exempt s h z k t x d e here = record {
+  owes = each_track (λ q. (contents_at z k q).debt ≡ true → OwesOff exempt z q (contents_at z k q)) t
+      (λ f. moved t x (contents_at z k t) e.here (here (rw e.here at f)))
+      (λ q ne f. moved q (contents_at s h q) (contents_at z k q) (e.elsewhere q ne) (d.owes q (rw (e.elsewhere q ne) at f)));
+}
   where
     moved : (q : ℕ) (y u : TrackContents) → u ≡ y → OwesOff exempt s q y → OwesOff exempt z q u
     moved q y u is o = subst (OwesOff exempt z q) (sym is) (record {
@@ -91,27 +119,15 @@ debts_off exempt s h z k t x d e here = record { owes = λ q f. go q f (cases_eq
       still = o.still;
     })
 
-    go : (q : ℕ) → (contents_at z k q).debt ≡ true → ((q ≡ t) ⊎ (q ≢ t)) → OwesOff exempt z q (contents_at z k q)
-    go q f (inl at) =
-        subst (λ (p : ℕ). OwesOff exempt z p (contents_at z k p)) (sym at)
-        (moved t x (contents_at z k t) e.here
-        (here (sym (ap (λ (y : TrackContents). y.debt) e.here) ∙ subst (λ (p : ℕ). (contents_at z k p).debt ≡ true) at f)))
-    go q f (inr ne) =
-        moved q (contents_at s h q) (contents_at z k q) (e.elsewhere q ne)
-        (d.owes q (sym (ap (λ (y : TrackContents). y.debt) (e.elsewhere q ne)) ∙ f))
-
 -- nothing is left that the keeper is to be told
 abbrev pub AllTold : DeviceStore → Held → Type 0
 AllTold s h = (q : ℕ) → (contents_at s h q).debt ≡ false
 
 pub told_altered : (s : DeviceStore) (h : Held) (z : DeviceStore) (k : Held) (t : ℕ) (x : TrackContents) → AllTold s h → Altered s h z k t x →
     x.debt ≡ (contents_at s h t).debt → AllTold z k
-told_altered s h z k t x told e same q = go (cases_eq q t)
-  where
-    go : ((q ≡ t) ⊎ (q ≢ t)) → (contents_at z k q).debt ≡ false
-    go (inl at) =
-        subst (λ (p : ℕ). (contents_at z k p).debt ≡ false) (sym at) (ap (λ (y : TrackContents). y.debt) e.here ∙ same ∙ told t)
-    go (inr ne) = ap (λ (y : TrackContents). y.debt) (e.elsewhere q ne) ∙ told q
+told_altered s h z k t x told e same =
+    each_track (λ q. (contents_at z k q).debt ≡ false) t (ap (λ (y : TrackContents). y.debt) e.here ∙ same ∙ told t)
+    (λ q ne. ap (λ (y : TrackContents). y.debt) (e.elsewhere q ne) ∙ told q)
 
 pub told_off : (exempt : ℕ → Type 0) (s : DeviceStore) (h : Held) → AllTold s h → DebtsOff exempt s h
 told_off exempt s h told = record { owes = λ q e. absurd (let f = told q in cc) }
@@ -172,12 +188,7 @@ module _ (s : DeviceStore) (h : Held) (t : ℕ) (lt : t < tracks_of s) (sizes : 
       let g = altered_patch s h t lt sizes None in
       let y = with_patch s t None in
       let k = altered_owed y h t lt g.sizes (record (owed_at y t) { freed = Some p.slot }) in
-      altered_twice g (record {
-        sizes = k.sizes;
-        base = k.base;
-        elsewhere = k.elsewhere;
-        here = k.here ∙ ap (λ (c : TrackContents). record c { freed = Some p.slot; debt = (owed_at s t).firm }) g.here;
-      })
+      altered_then (λ (c : TrackContents). record c { freed = Some p.slot; debt = (owed_at s t).firm }) g k
 
   pub altered_unpatched : Altered s h (without_patch contents s t) h t (unpatched (contents_at s h t))
   unfolding T.contents_at
@@ -196,8 +207,7 @@ module _ (s : DeviceStore) (h : Held) (z : DeviceStore) (k : Held) (t : ℕ) (y 
       slots_by true = ap (slot_in contents) (none ∙ sym is)
       slots_by false = freed
   unpatched_case (Some p) is none freed same x =
-      subst (HasSlots z) (sym same)
-      (moved_slots s z t (slot_is z k true t ∙ ap (slot_of true) e.here ∙ ap (slot_in contents) none)
+      rw same (moved_slots s z t (slot_is z k true t ∙ ap (slot_of true) e.here ∙ ap (slot_in contents) none)
       (slot_is z k false t ∙ ap (slot_of false) e.here ∙ freed ∙ ap (slot_in contents) (sym is) ∙ sym (slot_is s h true t))
       slots_there h.slots x)
 
@@ -228,18 +238,12 @@ module _ (exempt : ℕ → Type 0) (h : Held) (v w : List Track) (s : DeviceStor
       (IsRight s.geometry t s.half x (image_in s v t) (image_in s w t) → IsRight s.geometry t s.half y (image_in s v t) (image_in s w t)) →
       (y.debt ≡ true → OwesOff exempt s t y) → SettlesOff exempt h v s v w z
   changed z y e loose patch freed right debt = record {
-    but = off_altered exempt v w s h z h t y b e (sits_still v w s h t y lt b.ground loose patch)
-        (unseen_slots s h z h (λ kept q. by_track s h z h t y kept e (slots_by kept) q) refl b.ground.slots)
-        (λ ne. right (b.right t lt ne));
+    but = similar_right b e lt (record { loose = loose; patch = patch; freed = freed }) refl (λ _. right);
     debts = debts_off exempt s h z h t y d e debt;
     base = e.base;
     plain = refl;
     own = λ q f. e.elsewhere q (λ at. other (subst exempt at f));
   }
-    where
-      slots_by : (kept : Bool) → slot_of kept y ≡ slot_of kept x
-      slots_by true = ap (slot_in contents) patch
-      slots_by false = freed
 
   -- its clean frame is marked
   module _ (f : Frame) (e : frame_at s t ≡ Some f) where
@@ -255,12 +259,7 @@ module _ (exempt : ℕ → Type 0) (h : Held) (v w : List Track) (s : DeviceStor
         let g = altered_frame s h t lt b.ground.sizes (Some marked) in
         let z = with_frame s t (Some marked) in
         let k = altered_owed z h t lt g.sizes (record (owed_at z t) { modified = true }) in
-        altered_twice g (record {
-          sizes = k.sizes;
-          base = k.base;
-          elsewhere = k.elsewhere;
-          here = k.here ∙ ap (λ (u : TrackContents). record u { freed = (owed_at s t).freed; debt = (owed_at s t).firm }) g.here;
-        })
+        altered_then (λ (u : TrackContents). record u { freed = (owed_at s t).freed; debt = (owed_at s t).firm }) g k
 
     frame_there : x.frame ≡ Some f
     unfolding T.contents_at
@@ -317,29 +316,20 @@ module _ (exempt : ℕ → Type 0) (h : Held) (v w : List Track) (s : DeviceStor
           sizes = b.ground.sizes;
           plain = b.ground.plain;
           firm = put_volume s.geometry s.cylinders w t (track_in v t) b.ground.firm lt (b.ground.plain.homes t lt) (b.ground.plain.fits t lt);
-          same = λ q below e. same_by q below e (cases_eq q t);
+          same = each_track (λ q. q < tracks_of s → is_loose s q ≡ false → track_in firm_now q ≡ track_in v q) t
+              (λ below e. put_here w t (track_in v t) long) (λ q ne below e. put_elsewhere w t (track_in v t) q ne ∙ b.ground.same q below e);
           apart = b.ground.apart;
           patches = b.ground.patches;
           long = b.ground.long;
           slots = b.ground.slots;
         };
-        right = λ q below ne. right_at q below ne (cases_eq q t);
+        right = each_track (λ q. q < tracks_of s → (exempt q → ⊥) →
+            IsRight s.geometry q s.half (contents_at s h q) (image_in s v q) (image_in s firm_now q)) t
+            (λ below ne. right_bare s.geometry t s.half x x (image_in s v t) (image_in s w t) (image_in s firm_now t)
+            (record { lost = λ l. l; frame = λ i k. k; a = (levels off).0; b = (levels off).1 }) (inr (refl, firm_image)) (b.right t lt other))
+            (λ q away below ne.
+            rw (put_elsewhere w t (track_in v t) q away) (b.right q below ne));
       }
-        where
-          same_by : (q : ℕ) → q < tracks_of s → is_loose s q ≡ false → ((q ≡ t) ⊎ (q ≢ t)) → track_in firm_now q ≡ track_in v q
-          same_by q below e (inl at) =
-              subst (λ (p : ℕ). track_in firm_now p ≡ track_in v p) (sym at) (put_here w t (track_in v t) long)
-          same_by q below e (inr ne) = put_elsewhere w t (track_in v t) q ne ∙ b.ground.same q below e
-
-          right_at : (q : ℕ) → q < tracks_of s → (exempt q → ⊥) → ((q ≡ t) ⊎ (q ≢ t)) →
-              IsRight s.geometry q s.half (contents_at s h q) (image_in s v q) (image_in s firm_now q)
-          right_at q below ne (inl at) =
-              subst (λ (p : ℕ). IsRight s.geometry p s.half (contents_at s h p) (image_in s v p) (image_in s firm_now p)) (sym at)
-              (right_bare s.geometry t s.half x x (image_in s v t) (image_in s w t) (image_in s firm_now t)
-              (record { lost = λ l. l; frame = λ i k. k; a = (levels off).0; b = (levels off).1 }) (inr (refl, firm_image)) (b.right t lt other))
-          right_at q below ne (inr away) =
-              subst (λ (p : Track). IsRight s.geometry q s.half (contents_at s h q) (image_in s v q) (record { geometry = s.geometry; track = p }))
-              (sym (put_elsewhere w t (track_in v t) q away)) (b.right q below ne)
 
       abbrev u : TrackContents
       u = record x { loose = false; debt = true }
@@ -400,7 +390,7 @@ module _ (exempt : ℕ → Type 0) (h : Held) (v w : List Track) (s : DeviceStor
       let g = altered_lost s h t lt b.ground.sizes in
       let z = with_lost s t in
       let k = altered_unpatched z h t lt g.sizes in
-      altered_twice g (record { sizes = k.sizes; base = k.base; elsewhere = k.elsewhere; here = k.here ∙ ap unpatched g.here })
+      altered_then unpatched g k
 
   frame_none : frame_at s t ≡ None → x.frame ≡ None
   unfolding T.contents_at
@@ -434,9 +424,7 @@ module _ (exempt : ℕ → Type 0) (h : Held) (v w : List Track) (s : DeviceStor
 
   frame_pair : is_lost s t ≡ false → has_level s t ≡ false → (o : Option Frame) → frame_at s t ≡ o →
       Pair (SettlesOff exempt h v s) (by_frame contents s t o) (by_frame by_plain (marks_of v w s) t (option_map frame_mark o))
-  frame_pair there off None e =
-      subst (λ (c : Bool). Pair (SettlesOff exempt h v s) (if half_is s.half t then s else lost_now contents s t)
-      (if c then marks_of v w s else lost_now by_plain (marks_of v w s) t)) (sym (half_twin v w s t)) (unframed_pair e (half_is s.half t))
+  frame_pair there off None e = rw (half_twin v w s t) (unframed_pair e (half_is s.half t))
   frame_pair there off (Some f) e = framed_choice f e there off (is_loose s t) refl
 
   pub settled_off : Pair (SettlesOff exempt h v s) (settled contents s t) (settled by_plain (marks_of v w s) t)
@@ -444,9 +432,7 @@ module _ (exempt : ℕ → Type 0) (h : Held) (v w : List Track) (s : DeviceStor
   settled_off =
       pair_if (is_some s.lent) (λ _. pair_is stays)
       (λ _. pair_if (is_lost s t) (λ _. pair_is stays)
-      (λ there. pair_if (has_level s t) (λ _. pair_is stays)
-      (λ off. subst (λ (o : Option Bool). Pair (SettlesOff exempt h v s) (by_frame contents s t (frame_at s t)) (by_frame by_plain (marks_of v w s) t o))
-      (sym (frame_twin v w s t)) (frame_pair there off (frame_at s t) refl))))
+      (λ there. pair_if (has_level s t) (λ _. pair_is stays) (λ off. rw (frame_twin v w s t) (frame_pair there off (frame_at s t) refl))))
 
   -- of a track that isn't loose nothing is left to tell
   module _ (told : AllTold s h) (firm : is_loose s t ≡ false) where

@@ -1,15 +1,12 @@
 -- A write that goes through to the volumes: its edit is the plain one where it is done, and all is right, with its twin on marks.
 use Rattle.std.proofs.Common.{◌≡◌, ◌<◌, ℕ, Bool, true, false, List, Option, Some, None, set, refl, sym, ap, subst, ◌∙◌, arith}
-use Rattle.std.specs.Prelude.{if◌then◌else◌}
 use Rattle.ckd_types.specs.declared.geometry.Geometry.{Geometry}
 use Rattle.ckd_types.specs.declared.record.Edit.{Edit}
 use Rattle.ckd_types.specs.declared.record.Track.{Track}
 use Rattle.ckd_types.specs.Edit.{apply_edit}
 use Rattle.ckd_types.specs.Track.{track_bytes}
 use Rattle.ckd_types.specs.Volume.{track_in}
-use Rattle.ckd_rules.specs.Facts.{Suits}
 use Rattle.ckd_write.proofs.Fitting.{edited_fits}
-use Rattle.nv_store.specs.declared.patches.Stored.{Stored}
 use Rattle.track_image.specs.Image.{Image, edited_image}
 use Rattle.device_outside.specs.Both.{both_tell}
 use Rattle.device_outside.specs.Interaction.{Interaction, Done, and_then}
@@ -32,23 +29,23 @@ use Rattle.device_laws.proofs.Bools.{neither}
 use Rattle.device_laws.proofs.PlainVolumes.{put_here}
 use Rattle.device_laws.proofs.Sweeps.{is_alone}
 use Rattle.device_laws.proofs.TrackContents as T
-use Rattle.device_laws.proofs.TrackContents.{TrackContents, contents_at, FrameHas, Keeps, not_both}
+use Rattle.device_laws.proofs.TrackContents.{contents_at, Keeps, not_both}
 use Rattle.device_laws.proofs.TrackMarks as M
 use Rattle.device_laws.proofs.TrackMarks.{track_at, device_is_faithful}
-use Rattle.device_laws.proofs.TwinAsks.{Stays, stays_image, stays_off, InOrder, Ordered, keeps_at}
+use Rattle.device_laws.proofs.TwinAsks.{Stays, stays_image, stays_off, InOrder, Ordered, keeps_at, SameSize, size_of, size_on}
 use Rattle.device_laws.proofs.TwinDone.{Closing, put_right, edit_right, write_done_twin}
 use Rattle.device_laws.proofs.TwinOpened.{Opening, opened_twin, firm_twin}
 use Rattle.device_laws.proofs.TwinSettled.{AllTold}
 use Rattle.device_laws.proofs.TwinWalks.{twin_done, twin_ends, twin_then, twin_always, twin_weaker}
 use Rattle.device_laws.proofs.TwinWrites.{Written, first_twin, second_twin, right_mid, keeps_less, settled_end}
 use Rattle.device_laws.proofs.Writes.{is_taken, firm_first_keeps_good, write_first_keeps_good}
+use Rattle.device_laws.proofs.ContentChanges.{loose_is}
 
 pub record WroteTwin (u : List Track) (s : DeviceStore) (t : ℕ) (e : Edit) (v w : List Track) (z : DeviceStore) (a b : Took) (k : Held) : Type 0 where
   pub order : Ordered v w z k
   pub same : a ≡ b
   pub plain : v ≡ plain_after a u t e
-  pub geometry : z.geometry ≡ s.geometry
-  pub cylinders : z.cylinders ≡ s.cylinders
+  pub size : SameSize s z
 
 -- t is being written with the image i of the edit, over the store y that the write began with
 module _ (u : List Track) (y : DeviceStore) (j : Held) (t : ℕ) (e : Edit) (lt : t < tracks_of y) (firm : is_loose y t ≡ false)
@@ -78,8 +75,7 @@ module _ (u : List Track) (y : DeviceStore) (j : Held) (t : ℕ) (e : Edit) (lt 
       let n = apply_edit e (track_in v t) in
       let home = m.but.ground.plain.homes t below in
       let fits = edited_fits z.geometry (track_in v t) e (m.but.ground.plain.fits t below)
-      (subst (λ (g : Geometry). Suits g (track_in v t).records e) (sym m.stays.geometry)
-      (subst (λ (l : List Track). Suits y.geometry (track_in l t).records e) (sym plain) suits.suits)) suits.ranges in
+      (rw m.stays.geometry (rw plain suits.suits)) suits.ranges in
       record {
         but = edit_right t (set v t n) (set w t n) z k e (put_right t v w z k n below m.but home fits);
         told = told_edit z k m.told;
@@ -108,25 +104,18 @@ module _ (u : List Track) (y : DeviceStore) (j : Held) (t : ℕ) (e : Edit) (lt 
       let n = apply_edit e (track_in v t) in
       let v' = set v t n in
       let w' = set w t n in
-      subst (λ (p : Image). Twins Ends (whole contents z t p e bypass) (whole by_plain (marks_of v w z) t p e bypass) k) (sym (image_now v w z k d plain))
-      (both_tell (λ _.
-      twin_then (λ x _. Done x Whole) (λ x _. Done x Whole)
-      (write_done_twin t v' w' n (with_edit z t e) k bypass (closing v w z k d plain))
+      rw (image_now v w z k d plain) (both_tell (λ _.
+      twin_then _ _ (write_done_twin t v' w' n (with_edit z t e) k bypass (closing v w z k d plain))
       (λ v'' w'' x _ _ l f. twin_done (record {
         order = f.order;
         same = refl;
         plain = f.plain ∙ ap (λ (l : List Track). set l t (apply_edit e (track_in l t))) plain;
-        geometry = f.stays.geometry ∙ d.mid.stays.geometry;
-        cylinders = f.stays.cylinders ∙ d.mid.stays.cylinders;
+        size = size_on (size_of d.mid.stays) (size_of f.stays);
       }))))
 
   levels_off : (z : DeviceStore) (k : Held) → has_level z t ≡ false → ((contents_at z k t).a ≡ false) × ((contents_at z k t).b ≡ false)
   unfolding T.contents_at
   levels_off z k e = neither (level_at z.a t) (level_at z.b t) e
-
-  loose_is : (z : DeviceStore) (k : Held) → is_loose z t ≡ (contents_at z k t).loose
-  unfolding T.contents_at
-  loose_is z k = refl
 
   -- no side has it: it is as it was
   absent_twin : (v w : List Track) (z : DeviceStore) (k : Held) → Written u y j t r v w z k → has_level z t ≡ false →
@@ -134,22 +123,20 @@ module _ (u : List Track) (y : DeviceStore) (j : Held) (t : ℕ) (e : Edit) (lt 
   absent_twin v w z k d none =
       let m = d.mid in
       let levels = levels_off z k none in
-      let loose : (contents_at z k t).loose ≡ false = m.sided.loose ∙ sym (loose_is y j) ∙ firm in
+      let loose : (contents_at z k t).loose ≡ false = m.sided.loose ∙ sym (loose_is y j t) ∙ firm in
       let sure = right_mid u y j t r lt firm alone off own v w z k z (contents_at z k t) m m.but m.stays refl loose
       (keeps_less u y j t r lt firm alone off own (contents_at z k t) m.sided levels.0 (record {
         b = λ l. absurd (not_both
             (contents_at z k t).b levels.1 l);
       })) in
-      let f = settled_end u y j t r lt firm alone off own v w z k sure m.told m.plain m.stays (loose_is z k ∙ loose) in
-      twin_ends f.marks (record { order = f.is.0; same = refl; plain = f.is.1.0; geometry = f.is.1.1.geometry; cylinders = f.is.1.1.cylinders })
+      let f = settled_end u y j t r lt firm alone off own v w z k sure m.told m.plain m.stays (loose_is z k t ∙ loose) in
+      twin_ends f.marks (record { order = f.is.0; same = refl; plain = f.is.1.0; size = size_of f.is.1.1 })
 
   -- the second part in the same event
   at_once_twin : (v w : List Track) (z : DeviceStore) (k : Held) (bypass : Bool) → Written u y j t r v w z k → (z.paired ≡ false → z.b.up ≡ false) →
       Twins Ends (at_once contents z t i e bypass) (at_once by_plain (marks_of v w z) t i e bypass) k
   at_once_twin v w z k bypass d single =
-      twin_then (λ x _. if has_level x t then whole contents x t i e bypass else Done (settled contents x t) Unwritten)
-      (λ x _. if has_level x t then whole by_plain x t i e bypass else Done (settled by_plain x t) Unwritten)
-      (second_twin u y j t r lt firm alone v w z k d single)
+      twin_then _ _ (second_twin u y j t r lt firm alone v w z k d single)
       (λ v' w' x _ _ l f. on_test (has_level x t)
       (λ _. whole_twin v' w' x l bypass f f.mid.plain)
       (λ none. absent_twin v' w' x l f none))
@@ -165,14 +152,12 @@ module _ (u : List Track) (y : DeviceStore) (j : Held) (t : ℕ) (e : Edit) (lt 
         told = m.told;
         below = let same = m.stays.cylinders in omega arith;
         none = none;
-        firm = loose_is z k ∙ m.sided.loose ∙ sym (loose_is y j) ∙ firm;
+        firm = loose_is z k t ∙ m.sided.loose ∙ sym (loose_is y j t) ∙ firm;
         image = ap (edited_image e) (sym image_is);
         a = d.a;
         b = d.b;
         frame = λ f l. own.frame f (sym m.sided.frame ∙ l) ∙ sym image_is;
-        patch =
-            subst (λ (p : Option Stored). PatchHas p (image_in z v t)) (sym m.sided.patch)
-            (subst (λ (n : Image). PatchHas (contents_at y j t).patch n) (sym image_is) own.patch.0);
+        patch = rw m.sided.patch (subst (λ (n : Image). PatchHas (contents_at y j t).patch n) (sym image_is) own.patch.0);
         suits = subst (λ (n : Image). SuitsTrack n.geometry n.track e) (sym image_is) suits;
       }
 
@@ -180,15 +165,8 @@ module _ (u : List Track) (y : DeviceStore) (j : Held) (t : ℕ) (e : Edit) (lt 
       Twins (λ v' w' x a b l. Ends v' w' x a b l)
       (through_by contents t i e bypass true was_loose z Opened) (through_by by_plain t i e bypass true was_loose (marks_of v w z) Opened) k
   opened_half v w z k bypass was_loose d none =
-      twin_then (λ x _. Done x Opened) (λ x _. Done x Opened)
-      (opened_twin t v w i (OfCommand bypass e) z k was_loose (opening v w z k bypass d none))
-      (λ v' w' x _ _ l f. twin_done (record {
-        order = f.order;
-        same = refl;
-        plain = f.plain ∙ d.mid.plain;
-        geometry = f.geometry ∙ d.mid.stays.geometry;
-        cylinders = f.cylinders ∙ d.mid.stays.cylinders;
-      }))
+      twin_then _ _ (opened_twin t v w i (OfCommand bypass e) z k was_loose (opening v w z k bypass d none))
+      (λ v' w' x _ _ l f. twin_done (record { order = f.order; same = refl; plain = f.plain ∙ d.mid.plain; size = size_on (size_of d.mid.stays) f.size }))
 
   by_opening : (v w : List Track) (z : DeviceStore) (k : Held) (bypass opens was_loose : Bool) → Written u y j t r v w z k → z.half ≡ None →
       (z.paired ≡ false → z.b.up ≡ false) →
@@ -200,15 +178,11 @@ module _ (u : List Track) (y : DeviceStore) (j : Held) (t : ℕ) (e : Edit) (lt 
       (is_taken took ≡ true → Written u y j t r v w z k) → (is_taken took ≡ false → Ordered v w z k) → y.half ≡ None → (z.paired ≡ false → z.b.up ≡ false) →
       Twins Ends (through_by contents t i e bypass opens was_loose z took) (through_by by_plain t i e bypass opens was_loose (marks_of v w z) other) k
   by_took v w z k bypass opens was_loose Whole other same plain stays done undone none single =
-      subst (λ (o : Took). Twins Ends (whole contents z t i e bypass) (through_by by_plain t i e bypass opens was_loose (marks_of v w z) o) k) same
-      (whole_twin v w z k bypass (done refl) plain)
+      rw (← same) (whole_twin v w z k bypass (done refl) plain)
   by_took v w z k bypass opens was_loose Opened other same plain stays done undone none single =
-      subst (λ (o : Took). Twins Ends (through_by contents t i e bypass opens was_loose z Opened) (through_by by_plain t i e bypass opens was_loose
-      (marks_of v w z) o) k) same
-      (by_opening v w z k bypass opens was_loose (done refl) (stays.half ∙ none) single)
+      rw (← same) (by_opening v w z k bypass opens was_loose (done refl) (stays.half ∙ none) single)
   by_took v w z k bypass opens was_loose Unwritten other same plain stays done undone none single =
-      subst (λ (o : Took). Twins Ends (Done z Unwritten) (through_by by_plain t i e bypass opens was_loose (marks_of v w z) o) k) same
-      (twin_done (record { order = undone refl; same = refl; plain = plain; geometry = stays.geometry; cylinders = stays.cylinders }))
+      rw (← same) (twin_done (record { order = undone refl; same = refl; plain = plain; size = size_of stays }))
 
 pub none_off : (o : Option (HalfWrite Image)) (t : ℕ) → o ≡ None → half_is o t ≡ false
 none_off None t e = refl
@@ -232,8 +206,7 @@ unfolding E.through
 through_twin v w s h t e bypass opens lt there none suits o =
     let off = none_off s.half t none in
     let i = edited_image e (image_in s v t) in
-    twin_then (written_by contents t e bypass opens i) (written_by by_plain t e bypass opens i)
-    (twin_always (firm_twin v w s h t lt off o) (firm_first_keeps_good contents device_is_faithful s t lt o.well))
+    twin_then _ _ (twin_always (firm_twin v w s h t lt off o) (firm_first_keeps_good contents device_is_faithful s t lt o.well))
     (λ v' w' z a b k f.
     let y = f.0 in
     let well = f.1.goes.well in
@@ -245,8 +218,7 @@ through_twin v w s h t e bypass opens lt there none suits o =
     subst (λ (l : Track). Keeps z.geometry t (contents_at z k t) (image_in z v' t) (record { geometry = z.geometry; track = l })) same_track
     (keeps_at v' w' z k t y.order.sure below there' off') in
     let suits' : SuitsTrack z.geometry (track_in v' t) e =
-    subst (λ (g : Geometry). SuitsTrack g (track_in v' t) e) (sym y.stays.geometry)
-    (subst (λ (l : List Track). SuitsTrack s.geometry (track_in l t) e) (sym y.plain) suits) in
+    rw y.stays.geometry (rw y.plain suits) in
     let alone = is_alone z well.here in
     let image_is : edited_image e (image_in s v t) ≡ edited_image e (image_in z v' t) =
     ap (edited_image e) (sym (stays_image s z v' t y.stays ∙ ap (λ (l : List Track). image_in s l t) y.plain)) in
@@ -255,9 +227,7 @@ through_twin v w s h t e bypass opens lt there none suits o =
     (subst (λ (p : Image). Twins (λ v' w' z a b k. WroteTwin v s t e v' w' z a b k) (written_by contents t e bypass opens p z a)
     (written_by by_plain t e bypass opens p (marks_of v' w' z) a) k) (sym image_is)
     (twin_weaker
-    (twin_then (λ x m. through_by contents t (edited_image e (image_in z v' t)) e bypass opens a x m.took)
-    (λ x m. through_by by_plain t (edited_image e (image_in z v' t)) e bypass opens a x m.took)
-    (twin_always
+    (twin_then _ _ (twin_always
     (first_twin v' z k t (track_bytes (edited_image e (image_in z v' t)).track) below y.firm alone off' own w' y.order)
     (write_first_keeps_good contents device_is_faithful t z below (f.1.lost ∙ mark_lost s t
     ∙ there) (track_bytes (edited_image e (image_in z v' t)).track) well))
@@ -268,6 +238,5 @@ through_twin v w s h t e bypass opens lt there none suits o =
       order = g.order;
       same = g.same;
       plain = g.plain ∙ ap (λ (l : List Track). plain_after m l t e) y.plain;
-      geometry = g.geometry ∙ y.stays.geometry;
-      cylinders = g.cylinders ∙ y.stays.cylinders;
+      size = size_on (size_of y.stays) g.size;
     }))))

@@ -41,7 +41,7 @@ use Rattle.device_defs.specs.Losses.{over}
 use Rattle.device_defs.specs.Marks.{MarksStore, marks_of}
 use Rattle.device_defs.specs.Sound.{DeviceStore}
 use Rattle.device_laws.specs.Agrees.{Held}
-use Rattle.device_laws.specs.Twin.{Claim, Twin, Twins}
+use Rattle.device_laws.specs.Twin.{Claim, Twins}
 use Rattle.device_laws.proofs.Always as A
 use Rattle.device_laws.proofs.Always.{Behind, Always}
 
@@ -128,8 +128,7 @@ module _ {A B : Type 0} {q : Claim A B} {h : Held} where
       (f : DeviceStore → C → Interaction (List ℕ) Image DeviceStore A) (g : MarksStore → D → Interaction Bool Image MarksStore B) →
       Twins p i j h → ((v w : List Track) (s : DeviceStore) (c : C) (d : D) (k : Held) → p v w s c d k → Twins q (f s c) (g (marks_of v w s) d) k) →
       Twins q (and_then i f) (and_then j g) h
-  twin_then f g x w = first_then f g x (λ s c m d k e. subst (λ (n : MarksStore). Both [] true (Twin q) (f s c) (g n d) k) e.marks
-      (w e.plain e.firm s c d k e.is))
+  twin_then f g x w = first_then f g x (λ s c m d k e. rw (← e.marks) (w e.plain e.firm s c d k e.is))
 
   -- what holds of the device's alone, whatever is answered, holds beside it
   pub twin_always : {i : Interaction (List ℕ) Image DeviceStore A} {j : Interaction Bool Image MarksStore B} {p : DeviceStore → A → Type 0} →

@@ -1,29 +1,5 @@
 -- What a device does by itself leaves all right, and its twin on marks finds the same to do.
-use Rattle.std.proofs.Common.{
-  ◌≡◌,
-  ◌<◌,
-  ◌&&◌,
-  ◌||◌,
-  not,
-  zero,
-  suc,
-  ℕ,
-  Bool,
-  true,
-  false,
-  List,
-  [],
-  ◌∷◌,
-  Option,
-  Some,
-  None,
-  is_some,
-  refl,
-  sym,
-  ap,
-  subst,
-  ◌∙◌,
-}
+use Rattle.std.proofs.Common.{◌≡◌, ◌<◌, ◌&&◌, ◌||◌, not, zero, suc, ℕ, Bool, true, false, List, [], ◌∷◌, Option, Some, None, is_some, refl, sym, ap, subst, ◌∙◌}
 use Rattle.std.specs.Prelude.{option_map, if◌then◌else◌}
 use Rattle.ckd_types.specs.declared.record.Track.{Track}
 use Rattle.track_table.specs.Tracks as T
@@ -120,7 +96,7 @@ module _ (v w : List Track) (s : DeviceStore) (h : Held) (none : s.half ≡ None
   order = record { sure = o.sure; told = o.told }
 
   nothing : Twins Ends (Done s (Some Nothing)) (Done (marks_of v w s) (Some Nothing)) h
-  nothing = twin_done (record { order = order; same = refl; plain = refl; geometry = refl; cylinders = refl })
+  nothing = twin_done (record { order = order; same = refl; plain = refl; size = (refl, refl) })
 
   destage_by : (t : Option ℕ) → ((q : ℕ) → t ≡ Some q → (q < tracks_of s) × (is_destaged contents s q ≡ true)) →
       Twins Ends (destage_first contents s t) (destage_first by_plain (marks_of v w s) t) h
@@ -132,9 +108,7 @@ module _ (v w : List Track) (s : DeviceStore) (h : Held) (none : s.half ≡ None
 
   destages : Twins Ends (destage_first contents s (to_destage contents s)) (destage_first by_plain (marks_of v w s) (to_destage by_plain (marks_of v w s))) h
   destages =
-      subst (λ (t : Option ℕ). Twins Ends (destage_first contents s (to_destage contents s)) (destage_first by_plain (marks_of v w s) t) h)
-      (ap (λ (l : Option ℕ). if some_up s then l else None)
-      (least_same (tracks_of s) (is_destaged contents s) (is_destaged by_plain (marks_of v w s)) (λ q. sym (destaged_same v w s q))))
+      rw (← (ap (λ (l : Option ℕ). if some_up s then l else None) (least_same (tracks_of s) (is_destaged contents s) (is_destaged by_plain (marks_of v w s)) (λ q. sym (destaged_same v w s q)))))
       (destage_by (to_destage contents s) (λ q e. found_if (tracks_of s) (is_destaged contents s) (some_up s) q e))
 
   stage_or : (l : List ℕ) → AreBelow (tracks_of s) l →
@@ -149,7 +123,7 @@ module _ (v w : List Track) (s : DeviceStore) (h : Held) (none : s.half ≡ None
         well =
             (queue_goes contents device_is_faithful s ts below.1 o.well).well;
       }))
-      (λ v' w' y a b k f. record { order = f.order; same = f.same; plain = f.plain; geometry = f.geometry; cylinders = f.cylinders })
+      (λ v' w' y a b k f. record { order = f.order; same = f.same; plain = f.plain; size = f.size })
 
   copy_or : (t : Option ℕ) → ((q : ℕ) → t ≡ Some q → q < tracks_of s) →
       Twins Ends (copy_first contents s t) (copy_first by_plain (marks_of v w s) t) h
@@ -166,7 +140,5 @@ module _ (v w : List Track) (s : DeviceStore) (h : Held) (none : s.half ≡ None
   pub work_twin : Twins Ends (work contents s) (work by_plain (marks_of v w s)) h
   unfolding K.work
   work_twin =
-      subst (λ (t : Option ℕ). Twins Ends (recover_first contents s (to_recover contents s)) (recover_first by_plain (marks_of v w s) t) h)
-      (ap (λ (l : Option ℕ). if some_up s then l else None)
-      (least_same (tracks_of s) (waits contents s) (waits by_plain (marks_of v w s)) (λ q. sym (waits_same v w s q))))
+      rw (← (ap (λ (l : Option ℕ). if some_up s then l else None) (least_same (tracks_of s) (waits contents s) (waits by_plain (marks_of v w s)) (λ q. sym (waits_same v w s q)))))
       (recover_or (to_recover contents s) (λ q e. found_if (tracks_of s) (waits contents s) (some_up s) q e))

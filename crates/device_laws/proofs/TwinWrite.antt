@@ -1,5 +1,5 @@
 -- A command's write leaves all right wherever its edit goes, and the plain volume has the edit where it is done; with its twin on marks.
-use Rattle.std.proofs.Common.{◌≡◌, ◌<◌, not, ℕ, Bool, true, false, List, Option, Some, None, is_some, refl, sym, ap, subst, ◌⊎◌, inl, inr}
+use Rattle.std.proofs.Common.{◌≡◌, ◌<◌, not, ℕ, Bool, true, false, List, Option, Some, None, is_some, refl, ap, subst, ◌⊎◌, inl, inr}
 use Rattle.std.specs.Prelude.{if◌then◌else◌}
 use Rattle.ckd_types.specs.declared.record.Edit.{Edit}
 use Rattle.ckd_types.specs.declared.record.Track.{Track}
@@ -33,7 +33,7 @@ use Rattle.device_laws.proofs.Choices.{Fits, choice_fits}
 use Rattle.device_laws.proofs.FailedCall.{IsWell}
 use Rattle.device_laws.proofs.TrackMarks as M
 use Rattle.device_laws.proofs.TrackMarks.{marks, is_good, track_at}
-use Rattle.device_laws.proofs.TwinAsks.{ask_clean, Ordered}
+use Rattle.device_laws.proofs.TwinAsks.{ask_clean, Ordered, SameSize}
 use Rattle.device_laws.proofs.TwinChoices.{Chooses, NewBy, choice_mark, choice_twin, clean_same, slots_order}
 use Rattle.device_laws.proofs.TwinFast.{HasPlace, fast_order, fast_twin_is, provisional_order, provisional_twin_is}
 use Rattle.device_laws.proofs.TwinSlots.{may_free_new, unused_slots}
@@ -63,8 +63,7 @@ pub record HadTwin (u : List Track) (s : DeviceStore) (t : ℕ) (e : Edit) (v w 
   pub order : Ordered v w z k
   pub same : a ≡ b
   pub plain : v ≡ plain_had a u t e
-  pub geometry : z.geometry ≡ s.geometry
-  pub cylinders : z.cylinders ≡ s.cylinders
+  pub size : SameSize s z
 
 module _ (v w : List Track) (s : DeviceStore) (t : ℕ) (e : Edit) (u : Usage) (first : ℕ) (lt : t < tracks_of s) (there : is_lost s t ≡ false)
     (none : s.half ≡ None)
@@ -115,26 +114,19 @@ module _ (v w : List Track) (s : DeviceStore) (t : ℕ) (e : Edit) (u : Usage) (
         order = provisional_order v w s k t e lt there off suits o (unpatched fit);
         same = refl;
         plain = refl;
-        geometry = geometry_by
-            (is_loose s t);
-        cylinders = cylinders_by (is_loose s t);
+        size = size_by (is_loose s t);
       })
     where
-      geometry_by : (b : Bool) → (if b then s else loosened s t).geometry ≡ s.geometry
-      geometry_by true = refl
-      geometry_by false = refl
-
-      cylinders_by : (b : Bool) → (if b then s else loosened s t).cylinders ≡ s.cylinders
-      cylinders_by true = refl
-      cylinders_by false = refl
+      size_by : (b : Bool) → SameSize s (if b then s else loosened s t)
+      size_by true = (refl, refl)
+      size_by false = (refl, refl)
   by_choice (Fast (Some slot)) k o new fit =
       both_tell (λ _. twin_ends (fast_twin_is v w s k t e lt there off suits o (Some slot))
       (record {
         order = fast_order v w s k t e lt there off suits o (Some slot) fit.0 (place_by (patch_at s t) slot) new;
         same = refl;
         plain = refl;
-        geometry = refl;
-        cylinders = refl;
+        size = (refl, refl);
       }))
   by_choice (Fast None) k o new fit =
       both_tell (λ _. twin_ends (fast_twin_is v w s k t e lt there off suits o None)
@@ -142,8 +134,7 @@ module _ (v w : List Track) (s : DeviceStore) (t : ℕ) (e : Edit) (u : Usage) (
         order = fast_order v w s k t e lt there off suits o None fit.0 (place_held (patch_at s t) fit.2) new;
         same = refl;
         plain = refl;
-        geometry = refl;
-        cylinders = refl;
+        size = (refl, refl);
       }))
   by_choice Through k o new fit =
       through_twin v w s k t e (is_bypass u.mode) (not (another_loose s first t)) lt there none suits (record { sure = o.sure; told = o.told; well = well })
@@ -151,17 +142,11 @@ module _ (v w : List Track) (s : DeviceStore) (t : ℕ) (e : Edit) (u : Usage) (
   written_twin : (choice : Choice) (k : Held) → Ordered v w s k → NewBy s choice k.slots → Fits contents s t choice →
       Twins Ends (written contents s u first t old e choice) (written by_plain (marks_of v w s) u first t old e (choice_mark choice)) k
   written_twin choice k o new fit =
-      twin_then (λ z took. Done z (Some took)) (λ z took. Done z (Some took)) (by_choice choice k o new fit)
-      (λ v' w' z a b l f. twin_done (record {
-        order = f.order;
-        same = ap Some f.same;
-        plain = f.plain;
-        geometry = f.geometry;
-        cylinders = f.cylinders;
-      }))
+      twin_then _ _ (by_choice choice k o new fit)
+      (λ v' w' z a b l f. twin_done (record { order = f.order; same = ap Some f.same; plain = f.plain; size = f.size }))
 
   as_it_was : (k : Held) → Ordered v w s k → Twins Ends (Done s None) (Done (marks_of v w s) None) k
-  as_it_was k o = twin_done (record { order = o; same = refl; plain = refl; geometry = refl; cylinders = refl })
+  as_it_was k o = twin_done (record { order = o; same = refl; plain = refl; size = (refl, refl) })
 
   again_twin : (k : Held) → Ordered v w s k → Twins Ends (clean_again contents s t) (clean_again by_plain (marks_of v w s) t) k
   again_twin k o =
@@ -195,20 +180,10 @@ module _ (v w : List Track) (s : DeviceStore) (t : ℕ) (e : Edit) (u : Usage) (
   unfolding E.write
   write_twin h o =
       both_try
-      (twin_then (write_chosen contents u first t old e) (write_chosen by_plain u first t old e)
-      (twin_always (choice_twin v w s u t h o) (choice_fits contents s u t))
+      (twin_then _ _ (twin_always (choice_twin v w s u t h o) (choice_fits contents s u t))
       (λ v' w' z a b k f. at_store v' w' z a b k f.0 f.1.fit))
       (as_it_was h o)
     where
       at_store : (v' w' : List Track) (z : DeviceStore) (a b : Choice) (k : Held) → Chooses v w s v' w' z a b k → Fits contents s t a →
           Twins Ends (write_chosen contents u first t old e z a) (write_chosen by_plain u first t old e (marks_of v' w' z) b) k
-      at_store v' w' z a b k f fit =
-          subst (λ (l : DeviceStore). Twins Ends (write_chosen contents u first t old e l a) (write_chosen by_plain u first t old e
-          (marks_of v' w' l) b) k) (sym f.store)
-          (subst (λ (l : List Track). Twins Ends (write_chosen contents u first t old e s a) (write_chosen by_plain u first t old e
-          (marks_of l w' s) b) k) (sym f.plain)
-          (subst (λ (l : List Track). Twins Ends (write_chosen contents u first t old e s a) (write_chosen by_plain u first t old e
-          (marks_of v l s) b) k) (sym f.firm)
-          (subst (λ (c : Choice). Twins Ends (write_chosen contents u first t old e s a) (write_chosen by_plain u first t old e
-          (marks_of v w s) c) k) (sym f.same)
-          (chosen_twin a k f.order f.new fit))))
+      at_store v' w' z a b k f fit = rw f.store (rw f.plain (rw f.firm (rw f.same (chosen_twin a k f.order f.new fit))))

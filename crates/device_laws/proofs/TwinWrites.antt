@@ -26,7 +26,6 @@ use Rattle.device_defs.specs.Writing.{
   write_side,
   unwritten,
   alone_b,
-  failed_a,
   first_a,
   write_first,
   tried_b,
@@ -39,29 +38,21 @@ use Rattle.device_laws.proofs.ContentChanges as C
 use Rattle.device_laws.proofs.ContentChanges.{
   base_of,
   Altered,
-  altered_twice,
   altered_on_a,
   altered_on_b,
   altered_stale_a,
   altered_stale_b,
-  same_geometry,
-  same_tracks,
-  same_up_a,
   same_up_b,
-  slot_of,
-  by_track,
-  unseen_slots,
-  sits_still,
-  Unseen,
-  unseen_right,
   RightBut,
   Sure,
-  right_altered,
   shut,
   opens_write,
+  similar_right,
+  beside_right,
+  loose_is,
 }
 use Rattle.device_laws.proofs.TrackContents as T
-use Rattle.device_laws.proofs.TrackContents.{TrackContents, contents_at, Keeps, Fewer, keeps_fewer, IsRight, not_both}
+use Rattle.device_laws.proofs.TrackContents.{TrackContents, contents_at, Keeps, keeps_fewer, not_both}
 use Rattle.device_laws.proofs.TwinAsks.{Stays, stays_same, stays_on, stays_by, stays_fell, stays_image, stays_off, Ordered, right_keeps}
 use Rattle.device_laws.proofs.TwinFailed.{fell, Failed, failed_twin}
 use Rattle.device_laws.proofs.TwinSettled.{AllTold, told_altered, told_debts, settled_pair, settled_told}
@@ -87,10 +78,6 @@ sided_on x y z f g = record {
   loose = g.loose ∙ f.loose;
   freed = g.freed ∙ f.freed;
 }
-
-sided_slots : (x y : TrackContents) → Sided x y → (kept : Bool) → slot_of kept y ≡ slot_of kept x
-sided_slots x y e true = ap (λ (o : Option _). slot_of true (record x { patch = o })) e.patch
-sided_slots x y e false = e.freed
 
 fell_a : (p : Bool) (s : DeviceStore) (h : Held) (t : ℕ) →
     contents_at (fell p s A) h t ≡ record (contents_at s h t) { a = if p then false else (contents_at s h t).a }
@@ -160,17 +147,12 @@ module _ (u : List Track) (s : DeviceStore) (h : Held) (t : ℕ) (r : List ℕ) 
     unfolding T.contents_at
     firm_is = firm
 
-    loose_mark : (z : DeviceStore) (k : Held) → is_loose z t ≡ (contents_at z k t).loose
-    unfolding T.contents_at
-    loose_mark z k = refl
-
     -- Steps
 
     mid_counted : (v w : List Track) (z : DeviceStore) (k : Held) (ok : Bool) → Mid v w z k → Mid v w (write_counted z ok) k
     unfolding T.contents_at C.base_of
     mid_counted v w z k ok m = record {
-      but = unseen_right (Some t) v w z k (write_counted z ok) k m.but
-          (record { sizes = record { are = m.but.ground.sizes.are }; base = refl; same = λ q. refl; slots = refl });
+      but = beside_right m.but;
       told = m.told;
       plain = m.plain;
       stays = record { geometry = m.stays.geometry; cylinders = m.stays.cylinders; half = m.stays.half };
@@ -181,8 +163,7 @@ module _ (u : List Track) (s : DeviceStore) (h : Held) (t : ℕ) (r : List ℕ) 
     mid_altered : (v w : List Track) (z : DeviceStore) (k : Held) (y : DeviceStore) (n : Held) (c : TrackContents) → Mid v w z k → Altered z k y n t c →
         Sided (contents_at z k t) c → c.debt ≡ (contents_at z k t).debt → n.slots ≡ k.slots → Mid v w y n
     mid_altered v w z k y n c m e sided debt slots = record {
-      but = right_altered (Some t) v w z k y n t c m.but e (sits_still v w z k t c (below z m.stays) m.but.ground sided.loose sided.patch)
-          (unseen_slots z k y n (λ kept q. by_track z k y n t c kept e (sided_slots (contents_at z k t) c sided kept) q) slots m.but.ground.slots)
+      but = similar_right m.but e (below z m.stays) (record { loose = sided.loose; patch = sided.patch; freed = sided.freed }) slots
           (λ ne. absurd (ne refl));
       told = told_altered z k y n t c m.told e debt;
       plain = m.plain;
@@ -207,12 +188,10 @@ module _ (u : List Track) (s : DeviceStore) (h : Held) (t : ℕ) (r : List ℕ) 
     }
 
     sided_a : (z : DeviceStore) (k : Held) → Sided (contents_at z k t) (contents_at (fell z.paired z A) k t)
-    sided_a z k = subst (Sided (contents_at z k t)) (sym (fell_a z.paired z k t))
-        (record { frame = refl; patch = refl; lost = refl; loose = refl; freed = refl })
+    sided_a z k = rw (fell_a z.paired z k t) (record { frame = refl; patch = refl; lost = refl; loose = refl; freed = refl })
 
     sided_b : (z : DeviceStore) (k : Held) → Sided (contents_at z k t) (contents_at (fell z.paired z B) k t)
-    sided_b z k = subst (Sided (contents_at z k t)) (sym (fell_b z.paired z k t))
-        (record { frame = refl; patch = refl; lost = refl; loose = refl; freed = refl })
+    sided_b z k = rw (fell_b z.paired z k t) (record { frame = refl; patch = refl; lost = refl; loose = refl; freed = refl })
 
     on_b : (v w : List Track) (z : DeviceStore) (k : Held) (m : Mid v w z k) (bytes : List ℕ) → z.b.up ≡ true →
         Altered z k z (with_held k B t bytes) t (record (contents_at z k t) { on_b = bytes })
@@ -364,8 +343,7 @@ module _ (u : List Track) (s : DeviceStore) (h : Held) (t : ℕ) (r : List ℕ) 
       right_mid v w z k y c m but stays is loose keeps =
           shut t v w y k but
           (right_keeps y.geometry t y.half (contents_at y k t) (image_in y v t) (image_in y w t) (stays_off s y t stays off)
-          (subst (λ (d : TrackContents). Keeps y.geometry t d (image_in y v t) (image_in y w t)) is
-          (moved y.geometry stays.geometry (image_in y v t) (image_in y w t) plain_is firm_same)))
+          (rw (← is) (moved y.geometry stays.geometry (image_in y v t) (image_in y w t) plain_is firm_same)))
         where
           plain_is : image_in y v t ≡ image_in s u t
           plain_is = stays_image s y v t stays ∙ ap (λ (l : List Track). image_in s l t) m.plain
@@ -373,11 +351,11 @@ module _ (u : List Track) (s : DeviceStore) (h : Held) (t : ℕ) (r : List ℕ) 
           firm_same : image_in y w t ≡ image_in s u t
           firm_same =
               ap (λ (l : Track). record { geometry = y.geometry; track = l })
-              (but.ground.same t (below y stays) (loose_mark y k ∙ ap (λ (d : TrackContents). d.loose) (sym is) ∙ loose)) ∙ plain_is
+              (but.ground.same t (below y stays) (loose_is y k t ∙ ap (λ (d : TrackContents). d.loose) (sym is) ∙ loose)) ∙ plain_is
 
           moved : (g : Geometry) → g ≡ s.geometry → (p q : Image) → p ≡ image_in s u t → q ≡ image_in s u t → Keeps g t c p q
           moved g e p q f i =
-              subst (λ (l : Geometry). Keeps l t c p q) (sym e)
+              rw e
               (subst (λ (l : Image). Keeps s.geometry t c l q) (sym f) (subst (λ (l : Image). Keeps s.geometry t c (image_in s u t) l) (sym i) keeps))
 
       -- no side took it: a track as before, but for side A
@@ -424,7 +402,7 @@ module _ (u : List Track) (s : DeviceStore) (h : Held) (t : ℕ) (r : List ℕ) 
           by_paired true gone =
               settled_end v w z k
               (right_mid v w z k z (contents_at z k t) m m.but m.stays refl loose_now (keeps_less (contents_at z k t) m.sided (gone refl) b))
-              m.told m.plain m.stays (loose_mark z k ∙ loose_now)
+              m.told m.plain m.stays (loose_is z k t ∙ loose_now)
           by_paired false gone =
               let i = mid_altered v w z k (with_stale z A t true) k (record (contents_at z k t) { a = z.a.up && not true }) m e
               (record { frame = refl; patch = refl; lost = refl; loose = refl; freed = refl }) refl refl in
@@ -433,7 +411,7 @@ module _ (u : List Track) (s : DeviceStore) (h : Held) (t : ℕ) (r : List ℕ) 
               (right_mid v w (with_stale z A t true) k (with_stale z A t true) d i i.but i.stays (sym e.here) loose_now
               (keeps_less d (sided_on x (contents_at z k t) d m.sided (record { frame = refl; patch = refl; lost = refl; loose = refl; freed = refl }))
               (and_not_true z.a.up) (record { b = b.b })))
-              i.told i.plain i.stays (loose_mark (with_stale z A t true) k ∙ ap (λ (y : TrackContents). y.loose) e.here ∙ loose_now)
+              i.told i.plain i.stays (loose_is (with_stale z A t true) k t ∙ ap (λ (y : TrackContents). y.loose) e.here ∙ loose_now)
 
       abbrev pub Firsts : List Track → List Track → DeviceStore → Wrote → Wrote → Held → Type 0
       Firsts v w z a b k = First v w z a b k
@@ -460,9 +438,7 @@ module _ (u : List Track) (s : DeviceStore) (h : Held) (t : ℕ) (r : List ℕ) 
           let n = with_held k B t bytes in
           let e = on_b v w z k m bytes up in
           let i = mid_on_b v w z k m bytes up in
-          twin_then (λ y _. Done (unwritten contents y t) (wrote Unwritten (Some first))) (λ y _. Done (unwritten by_plain y t) (wrote Unwritten
-          (Some first)))
-          (failed_twin (Some t) n v w z B i.but i.told)
+          twin_then _ _ (failed_twin (Some t) n v w z B i.but i.told)
           (λ v' w' y _ _ l f.
           let j = mid_failed v w z n B v' w' y l i (sided_b z n) f in
           let own_is = f.own t refl ∙ fell_b z.paired z n t in
@@ -494,8 +470,7 @@ module _ (u : List Track) (s : DeviceStore) (h : Held) (t : ℕ) (r : List ℕ) 
           let n = with_held h A t bytes in
           let e = on_a w z m bytes up in
           let i = mid_on_a w z m bytes up in
-          twin_then (λ y _. failed_a contents t r (takes_b z) y) (λ y _. failed_a by_plain t true (takes_b z) y)
-          (failed_twin (Some t) n u w z A i.but i.told)
+          twin_then _ _ (failed_twin (Some t) n u w z A i.but i.told)
           (λ v' w' y _ _ l f.
           let j = mid_failed u w z n A v' w' y l i (sided_a z n) f in
           let own_is = f.own t refl ∙ fell_a z.paired z n t in

@@ -6,7 +6,17 @@ use Rattle.ckd_chain.specs.declared.mark.Stage.TheVariants as stages
 use Rattle.ckd_chain.specs.declared.progress.Progress.{Progress}
 use Rattle.ckd_chain.specs.declared.progress.Progress.TheVariants as progresses
 use Rattle.ckd_chain.specs.State.{ChainState}
-use Rattle.ckd_chain.specs.Steps.{chain_opened as opened_chain, stage_of, track_needed, need_of, standing, step_turned as chain_turned, stepped_by, stepped, word_of}
+use Rattle.ckd_chain.specs.Steps.{
+  chain_opened as opened_chain,
+  stage_of,
+  track_needed,
+  need_of,
+  standing,
+  step_turned as chain_turned,
+  stepped_by,
+  stepped,
+  word_of,
+}
 use Rattle.ckd_rules.specs.declared.order.Look.{Look}
 use Rattle.ckd_rules.specs.declared.stance.Stance.{Stance}
 use Rattle.ckd_rules.specs.declared.turned.Turned.{Turned}
@@ -17,7 +27,7 @@ use Rattle.ckd_types.specs.declared.paths.Side.{Side}
 use Rattle.ckd_types.specs.declared.record.Edit.{Edit}
 use Rattle.ckd_types.specs.Parameters.{is_bypass}
 use Rattle.track_image.specs.Image.{Image, edited_image}
-use Rattle.device_outside.specs.Interaction.{Interaction, Done, Try, Ask, Read, Write, Tell, and_then}
+use Rattle.device_outside.specs.Interaction.{Interaction, Done, Try, Ask, Read, Write, Tell}
 use Rattle.device_defs.specs.declared.answers.Choice.{Choice}
 use Rattle.device_defs.specs.declared.answers.Choice.TheVariants.{Provisional, Fast, Through}
 use Rattle.device_defs.specs.declared.answers.Came.{Came}
@@ -40,7 +50,6 @@ use Rattle.device_defs.specs.Image.{
   NoBytes,
   BadTrack,
   level_bytes,
-  read_b,
   filled,
   loads,
   ahead,
@@ -48,19 +57,17 @@ use Rattle.device_defs.specs.Image.{
   delivered,
   missed,
   miss,
-  hit,
   clean_image,
   image_by,
   image,
   image_of,
 }
-use Rattle.device_defs.specs.Losses.{settled}
 use Rattle.device_defs.specs.Memory.{had_by}
 use Rattle.device_defs.specs.Owed.{is_clean}
 use Rattle.device_defs.specs.Outcomes.{Turn, usage_of, wrote_turn}
 use Rattle.device_defs.specs.Store.{OfCommand, Store, tracks_of, level_at, has_level, takes_b, frame_at, is_lost, half_is, with_frame}
 use Rattle.device_defs.specs.Writing as V
-use Rattle.device_defs.specs.Writing.{Wrote, write_counted, firm_first, write_first, write_second, write_done, write_opened}
+use Rattle.device_defs.specs.Writing.{Wrote, write_first, write_done, write_opened}
 use Rattle.device_laws.specs.Unharmed.{some_takes}
 use Rattle.device_laws.proofs.ChainFeeds.{need_is}
 use Rattle.device_laws.proofs.ChainTracks.{begun_stage, need_at}
@@ -82,7 +89,7 @@ use Rattle.device_laws.proofs.Lucky.{
 }
 use Rattle.device_laws.proofs.PlainLooks.{look_stays}
 use Rattle.device_laws.proofs.TrackMarks as M
-use Rattle.device_laws.proofs.TrackMarks.{TrackMarks, marks, is_true, is_good, IsFaithful, frame_mark, track_at}
+use Rattle.device_laws.proofs.TrackMarks.{is_true, is_good, IsFaithful, frame_mark, track_at}
 use Rattle.device_laws.proofs.UnlostParts.{second_lucky, firm_first_off}
 use Rattle.device_laws.proofs.invariants.NoTrackIsLost.{level_of, image_goes, look_goes}
 use Rattle.device_laws.proofs.WholeImage.{Reaches, image_keeps_good}
@@ -179,8 +186,7 @@ module _ {F P H R : Type 0} (c : Contents F P H R) where
       (λ a. lucky_if (level_at s.b t) (λ _. lucky_read (λ r. lucky_done refl)) (λ b. absurd (neither (level_at s.a t) (level_at s.b t) a b level)))
 
   granted_has : (s : Store F P H) (t : ℕ) (i : Image) (given : Bool) → Lucky (λ z a. HasBytes a) (I.granted c s t i given)
-  granted_has s t i given =
-      lucky_if given (λ _. lucky_then (λ z _. Done z (Some (Has i))) (lucky_any (filled c s t i)) (λ z _ _. lucky_done tt)) (λ _. lucky_done tt)
+  granted_has s t i given = lucky_if given (λ _. lucky_then _ (lucky_any (filled c s t i)) (λ z _ _. lucky_done tt)) (λ _. lucky_done tt)
 
   loaded_has : (s : Store F P H) (t : ℕ) (i : Image) (mode : Mode) → Lucky (λ z a. HasBytes a) (loaded c s t i mode)
   loaded_has s t i mode =
@@ -195,7 +201,7 @@ module _ {F P H R : Type 0} (c : Contents F P H R) where
   missed_has u t s g (Some r) e = lucky_tried s _ tt (delivered_has u t g.side s (image_of c s t r))
 
   miss_has : (s : Store F P H) (u : Usage) (t : ℕ) → has_level s t ≡ true → Lucky (λ z a. HasBytes a) (miss c s u t)
-  miss_has s u t level = lucky_then (λ z g. missed c u t z g g.bytes) (level_got s t level) (λ z g e. missed_has u t z g g.bytes e)
+  miss_has s u t level = lucky_then _ (level_got s t level) (λ z g e. missed_has u t z g g.bytes e)
 
   clean_has : (s : Store F P H) (u : Usage) (t : ℕ) (f : F) → has_level s t ≡ true → Lucky (λ z a. HasBytes a) (clean_image c s u t f)
   clean_has s u t f level =
@@ -245,8 +251,7 @@ module _ {F P H R : Type 0} (c : Contents F P H R) where
     once_taken : (s : Store F P H) (t : ℕ) (i : Image) (e : Edit) (bypass : Bool) → has_level s t ≡ true →
         Lucky (λ z (took : Took). IsTaken took) (at_once c s t i e bypass)
     once_taken s t i e bypass level =
-        lucky_then (λ z _. if has_level z t then whole c z t i e bypass else Done (settled c z t) Unwritten)
-        (second_lucky c faithful s t (c.bytes i) level)
+        lucky_then _ (second_lucky c faithful s t (c.bytes i) level)
         (λ z _ g. lucky_if (has_level z t) (λ _. whole_taken z t i e bypass) (λ none. absurd (let both : true ≡ false = sym g.1 ∙ none in cc)))
 
     by_taken : (t : ℕ) (i : Image) (e : Edit) (bypass opens was_loose : Bool) (s : Store F P H) (took : Took) → IsTaken took →
@@ -261,12 +266,10 @@ module _ {F P H R : Type 0} (c : Contents F P H R) where
         some_takes s ≡ true → Lucky (λ z (x : Took). IsTaken x) (through c s t i e bypass opens)
     unfolding E.through
     through_taken s t i e bypass opens lt w there up =
-        lucky_then (λ z b. and_then (write_first c z t (c.bytes i)) (λ y v. through_by c t i e bypass opens b y v.took))
-        (with_always (firm_first_keeps_good c faithful s t lt w) (firm_first_off c faithful s t))
+        lucky_then _ (with_always (firm_first_keeps_good c faithful s t lt w) (firm_first_off c faithful s t))
         (λ z b g.
         let below : t < tracks_of z = let tracks = g.0.goes.tracks in omega arith in
-        lucky_then (λ y v. through_by c t i e bypass opens b y v.took)
-        (with_always (write_first_keeps_good c faithful t z below (g.0.lost ∙ lost_mark s t there) (c.bytes i) g.0.goes.well)
+        lucky_then _ (with_always (write_first_keeps_good c faithful t z below (g.0.lost ∙ lost_mark s t there) (c.bytes i) g.0.goes.well)
         (first_taken z t (c.bytes i) (takes_still s z g.1.up g.1.takes up)))
         (λ y v h. by_taken t i e bypass opens b y v.took h.1 h.0.level))
 
@@ -288,7 +291,7 @@ module _ {F P H R : Type 0} (c : Contents F P H R) where
     written_taken : (s : Store F P H) (u : Usage) (first t : ℕ) (old : Image) (e : Edit) (choice : Choice) → t < tracks_of s → IsWell c s →
         is_lost s t ≡ false → some_takes s ≡ true → Lucky (λ z (x : Option Took). WasTaken x) (written c s u first t old e choice)
     written_taken s u first t old e choice lt w there up =
-        lucky_then (λ z took. Done z (Some took)) (by_choice u first t (edited_image e old) e s choice lt w there up) (λ z took is. lucky_done is)
+        lucky_then _ (by_choice u first t (edited_image e old) e s choice lt w there up) (λ z took is. lucky_done is)
 
     chosen_taken : (u : Usage) (first t : ℕ) (old : Image) (e : Edit) (s : Store F P H) (choice : Choice) → t < tracks_of s → IsWell c s →
         is_lost s t ≡ false → some_takes s ≡ true → Lucky (λ z (x : Option Took). WasTaken x) (write_chosen c u first t old e s choice)
@@ -302,9 +305,8 @@ module _ {F P H R : Type 0} (c : Contents F P H R) where
     unfolding E.write
     write_taken s u first t old e lt w there up =
         lucky_tried s _ tt
-        (lucky_then (write_chosen c u first t old e) (with_always (choice_fits c s u t) (lucky_any (choose c s u t)))
-        (λ z choice k. subst (λ (y : Store F P H). Lucky (λ q (x : Option Took). WasTaken x) (write_chosen c u first t old e y choice)) (sym k.0.same)
-        (chosen_taken u first t old e s choice lt w there up)))
+        (lucky_then _ (with_always (choice_fits c s u t) (lucky_any (choose c s u t)))
+        (λ z choice k. rw k.0.same (chosen_taken u first t old e s choice lt w there up)))
 
     -- From track to track
 
@@ -323,7 +325,7 @@ module _ {F P H R : Type 0} (c : Contents F P H R) where
     went_so u first t s i chain (progresses.Ended e) is lt w there up = lucky_done tt
     went_so u first t s i chain (progresses.Need q) is lt w there up = lucky_done is
     went_so u first t s i chain (progresses.Write q e) is lt w there up =
-        lucky_then (had_by (came_of_write c chain t)) (write_taken s u first t i e lt w there up) (λ z o k. came_so t chain t z o k)
+        lucky_then _ (write_taken s u first t i e lt w there up) (λ z o k. came_so t chain t z o k)
     went_so u first t s i chain (progresses.Local act) is lt w there up = absurd is
 
     pub looked_so : (chain : ChainState) (first t : ℕ) (s : Store F P H) (o : Option Imaged) → HasBytes o → need_of chain ≡ Some t → t < tracks_of s →
@@ -344,7 +346,7 @@ module _ {F P H R : Type 0} (c : Contents F P H R) where
       unfolding N.look
       look_so chain first t s is same lt w none needs there up =
           lucky_if (is_lost s t) (λ lost. absurd (let both : true ≡ false = sym lost ∙ there in cc))
-          (λ _. lucky_then (had_by (looked c chain first t))
+          (λ _. lucky_then _
           (with_always (image_keeps_good c faithful s (usage_of chain) t (subst (Reaches (usage_of chain)) (sym same) (within.reaches chain is)) lt w)
           (lucky_both (image_goes c faithful s (usage_of chain) t w) (image_has s (usage_of chain) t (w.good t lt) there (none_half s t none))))
           (λ z o g. looked_so chain first t z o g.1.1 needs (let tracks = g.0.goes.tracks in omega arith) g.0.goes.well
@@ -367,8 +369,7 @@ module _ {F P H R : Type 0} (c : Contents F P H R) where
       unfolding N.follow
       follow_so zero first chain t s is same lt w none needs room there up = absurd (omega (arith, lt, room))
       follow_so (suc k) first chain t s is same lt w none needs room there up =
-          lucky_then (had_by (goes_on c (follow c k first)))
-          (with_always (look_keeps_good c faithful n Within within chain first t s is same (omega arith) w none)
+          lucky_then _ (with_always (look_keeps_good c faithful n Within within chain first t s is same (omega arith) w none)
           (lucky_both (look_goes c faithful chain first t s w)
           (look_so chain first t s is same (omega arith) w none needs (there t) up)))
           (λ z o g. by_went k first t s z o (follow_so k first) same g.0 g.1.1 room (λ q. ap (λ (l : List Bool). get_or l q false) g.1.0.lost ∙ there q)

@@ -15,13 +15,13 @@ use Rattle.plain_defs.specs.declared.journal.Item.TheVariants as items
 use Rattle.plain_defs.specs.History.{OpenEntry, History, acted, acted_in, checked_in, closed, ended, ended_in, entry_of, resets_of, with_end}
 use Rattle.plain_device.specs.Acted.{settled_act, paths_behind}
 use Rattle.track_image.specs.Image.{Image}
-use Rattle.device_outside.specs.Interaction.{Interaction, Done}
+use Rattle.device_outside.specs.Interaction.{Interaction}
 use Rattle.device_defs.specs.declared.answers.Came.{Came}
 use Rattle.device_defs.specs.declared.answers.Came.TheVariants.{Ends, Checks, HalfOpen}
 use Rattle.device_defs.specs.Command as N
-use Rattle.device_defs.specs.Command.{has_loss, follow, came_out, on_tracks, answered_by, command_at, command_by, command}
+use Rattle.device_defs.specs.Command.{has_loss, came_out, on_tracks, answered_by, command_at, command_by, command}
 use Rattle.device_defs.specs.Contents.{Contents}
-use Rattle.device_defs.specs.Device.{Device, all_acted, with_store, event_begun, event_ended}
+use Rattle.device_defs.specs.Device.{Device, all_acted, with_store, event_begun}
 use Rattle.device_defs.specs.Excused.{is_equipment_check}
 use Rattle.device_defs.specs.Outcomes.{Turn, ends_with, settles, sense_kept, program_over, turned_by}
 use Rattle.device_defs.specs.Owed.{waiting_count, noted_end as event_end}
@@ -130,7 +130,7 @@ module _ {F P H R : Type 0} (c : Contents F P H R) (n : ℕ) where
       at_has : (d : Device F P H) (path : ℕ) (chain : ChainState) (o : Option ℕ) → need_of chain ≡ o → Within chain → tracks_of d.store ≡ m →
           IsWell c d.store → d.store.half ≡ None → IsCalm d.store → Has n d → Holds (command_at c d path chain o)
       at_has d path chain (Some t) needs is same w none calm f =
-          lucky_then (on_tracks c d path chain)
+          lucky_then _
           (follow_so c faithful m Within within (tracks_of d.store) t chain t d.store is same (within.needs chain t is needs) w none needs
           (omega (arith, same)) calm.1 calm.0)
           (λ z o so. on_has d path chain z o so f)
@@ -154,15 +154,14 @@ module _ {F P H R : Type 0} (c : Contents F P H R) (n : ℕ) where
         let m = tracks_of d.store in
         let front = goes_same c d.store (event_begun d).store w (begun_same c faithful d w) in
         lucky_tried d _ f
-        (lucky_then (event_ended c d)
-        (lucky_then (λ s _. command_by c (record (event_begun d) { store = s }) d.history.running d.chain)
+        (lucky_then _ (lucky_then _
         (with_always (hearing_keeps_good c 960 (event_begun d).store front.well) (hear_goes c 960 (event_begun d).store))
         (λ s _ g.
         let well = well_on c d.store (event_begun d).store s front g.0 in
         by_has m (IsWithin m) (within_stays m (whole_cylinders d.store.cylinders)) (record (event_begun d) { store = s }) d.history.running d.chain un
         of_device well.tracks well.well (well.half ∙ none)
         (takes_still c d.store s g.1.up g.1.takes calm.0, λ t. ap (λ (l : List Bool). get_or l t false) g.1.lost ∙ calm.1 t) f))
-        (λ y a h. lucky_then (λ z _. Done (record y { store = z }) a) (lucky_any (event_end c (waiting_count c d.store) y.store)) (λ z _ _. lucky_done h)))
+        (λ y a h. lucky_then _ (lucky_any (event_end c (waiting_count c d.store) y.store)) (λ z _ _. lucky_done h)))
 
     pub command_unchecked : (d : Device F P H) → ((chain : ChainState) → d.chain ≡ Some chain → IsChainOf d.store.cylinders chain) → IsWell c d.store →
         d.store.half ≡ None → IsCalm d.store → RunsUnharmed d.history.running → Has n d → Holds (command c d)

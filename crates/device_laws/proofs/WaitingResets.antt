@@ -19,7 +19,6 @@ use Rattle.std.proofs.Common.{
   not,
   refl,
   arith,
-  sym,
   ap,
   subst,
   ◌∙◌,
@@ -47,8 +46,7 @@ legal-append plans s earlier [] ys h more = subst (λ (l : List Item). IsLegalFr
 legal-append plans s earlier (x ∷ xs) ys h more = (
   item_more plans s earlier x xs ys h.0,
   legal-append plans (replay_item plans s x) (earlier ++ x ∷ []) xs ys h.1
-      (subst (λ (l : List Item). IsLegalFrom plans (replay plans (replay_item plans s x) xs) l ys)
-      (sym (append_assoc earlier (x ∷ []) xs)) more),
+      (rw (append_assoc earlier (x ∷ []) xs) more),
 )
 
 pub used-append : (path : ℕ) (used : Bool) (xs ys : List Item)

@@ -93,9 +93,7 @@ module _ (v w : List Track) (d : WholeDevice) (h : Held) (i : IsInOrder v w d.st
   on_tracks_twin : {p : List Track → Type 0} (u y : List Track) (old : WholeDevice) (path : ℕ) (chain : ChainState) (a b : Option Turn) →
       with_store old d.store ≡ d → a ≡ b → p v →
       WholeTwins (Leaves p) (on_tracks contents old path chain d.store a) (on_tracks by_plain (marks_device u y old) path chain (marks_of v w d.store) b) h
-  on_tracks_twin {p = p} u y old path chain a b e same x =
-      subst (λ (o : Option Turn). WholeTwins (Leaves p) (on_tracks contents old path chain d.store a)
-      (on_tracks by_plain (marks_device u y old) path chain (marks_of v w d.store) o) h) same (by_turn a)
+  on_tracks_twin {p = p} u y old path chain a b e same x = rw (← same) (by_turn a)
     where
       by_turn : (a : Option Turn) → WholeTwins (Leaves p) (on_tracks contents old path chain d.store a)
           (on_tracks by_plain (marks_device u y old) path chain (marks_of v w d.store) a) h
@@ -111,7 +109,7 @@ module _ (tracks : ℕ) (g : Geometry) (looks : ChainState → ℕ → Type 0) (
         WholeTwins (Leaves (BehindCommand v (tracks_of d.store) (Some chain))) (command_at contents d path chain o)
         (command_at by_plain (marks_device v w d) path chain o) h
     by_need path chain (Some t) at =
-        store_then (on_tracks contents d path chain) (on_tracks by_plain (marks_device v w d) path chain)
+        store_then _ _
         (follow_order tracks g looks feeds v (tracks_of d.store) t chain t d.store w h (at t refl) all on none (in_order v w d.store h i))
         (λ v' w' z a b k f.
         on_tracks_twin v' w' (with_store d z) k (is_in_order v' w' z k f.0.order f.1) v w d path chain a b refl f.0.same
@@ -138,7 +136,5 @@ module _ (tracks : ℕ) (g : Geometry) (looks : ChainState → ℕ → Type 0) (
       (λ w' s k o stays.
       let z : WholeDevice = record (event_begun d) { store = s } in
       let same : tracks_of s ≡ tracks = ap (λ (c : ℕ). tracks_of (record d.store { cylinders = c })) stays.cylinders ∙ all in
-      subst (λ (l : ℕ). WholeTwins (Leaves (BehindCommand v l d.chain)) (command_by contents z d.history.running d.chain)
-      (command_by by_plain (marks_device v w' z) d.history.running d.chain) k) same
-      (by_chain v w' z k o same (stays.geometry ∙ on) (stays.half ∙ none) d.history.running d.chain at)))
+      rw (← same) (by_chain v w' z k o same (stays.geometry ∙ on) (stays.half ∙ none) d.history.running d.chain at)))
       (whole_done v w d (record { order = i; same = refl; is = stands v tracks d.chain }))

@@ -21,7 +21,6 @@ use Rattle.device_defs.specs.Image.{
   queued,
   ahead,
   granted,
-  loaded,
   delivered,
   missed,
   miss,
@@ -36,7 +35,7 @@ use Rattle.device_defs.specs.Store.{Store, tracks_of, has_level, frame_at, is_lo
 use Rattle.device_laws.specs.InOrder.{AreBelow}
 use Rattle.device_laws.proofs.Always.{Always, always_done, always_try, always_ask, always_then, always_weaker}
 use Rattle.device_laws.proofs.Changes as C
-use Rattle.device_laws.proofs.Changes.{Changed, rest_of, changed_frame}
+use Rattle.device_laws.proofs.Changes.{rest_of, changed_frame}
 use Rattle.device_laws.proofs.FailedCall.{IsWell, Goes, stays, goes_on, changed_goes}
 use Rattle.device_laws.proofs.Sweeps.{all_queued}
 use Rattle.device_laws.proofs.TrackImage.{Reads, level_bytes_keeps_good, filling_keeps_good}
@@ -175,8 +174,7 @@ module _ {F P H R : Type 0} (c : Contents F P H R) (faithful : IsFaithful c) whe
 
   ready_ahead : (u : Usage) (t : ℕ) (s z : Store F P H) → Reaches u (tracks_of s) → Ready t s z → Ready t s (ahead u z t)
   ready_ahead u t s z lt r =
-      subst (λ (y : Store F P H). Ready t s y) (sym (ahead_only u z t))
-      (with_queue t s z (ahead u z t).queue
+      rw (ahead_only u z t) (with_queue t s z (ahead u z t).queue
       (ahead_below (tracks_of z) u z t (subst (Reaches u) (sym r.goes.tracks) lt) (all_queued z r.goes.well.here)) r)
 
   -- behind the look at a track, which isn't lost where there is an image

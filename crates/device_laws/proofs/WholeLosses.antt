@@ -6,9 +6,9 @@ use Rattle.std.specs.Prelude.{if◌then◌else◌, ◌||◌}
 use Rattle.ckd_types.specs.declared.paths.Side.TheVariants as sides
 use Rattle.loss_model.specs.declared.Loss.{Loss}
 use Rattle.loss_model.specs.declared.Loss.TheVariants as losses
-use Rattle.device_outside.specs.Interaction.{Interaction, Done, Try, Ask, Read, Write, Tell, and_then}
+use Rattle.device_outside.specs.Interaction.{Interaction, Done, Try, Ask, Read, Write, Tell}
 use Rattle.device_defs.specs.Contents.{Contents}
-use Rattle.device_defs.specs.Device.{Device, with_store, event_begun, event_ended}
+use Rattle.device_defs.specs.Device.{Device, event_begun}
 use Rattle.device_defs.specs.Events as E
 use Rattle.device_defs.specs.Events.{with_loss, losing, lose}
 use Rattle.device_defs.specs.Losses as L
@@ -202,10 +202,9 @@ module _ {F P H R : Type 0} (c : Contents F P H R) where
     pub lose_quiet : (d : Device F P H) (loss : Loss) → Quiet (lose c d loss)
     unfolding E.lose
     lose_quiet d loss =
-        quiet_then (event_ended c d)
-        (quiet_then (λ s _. and_then (losing c s loss) (λ y _. Done (with_store (record (event_begun d) { store = s }) y) (tt {0})))
+        quiet_then _ (quiet_then _
         (hear_quiet c 960 (event_begun d).store)
-        (λ s _. quiet_then (λ y _. Done (with_store (record (event_begun d) { store = s }) y) (tt {0})) (losing_quiet c s loss) (λ y _. quiet_done)))
+        (λ s _. quiet_then _ (losing_quiet c s loss) (λ y _. quiet_done)))
         (λ y a. end_quiet c d y a)
 
     lost_event : {p : Store F P H → Type 0} (d : Device F P H) (loss : Loss) → Lucky (λ s (a : Unit {0}). p s) (hear c 960 (event_begun d).store) →
@@ -214,10 +213,9 @@ module _ {F P H R : Type 0} (c : Contents F P H R) where
     unfolding E.lose
     lost_event d loss heard does =
         where_quiet (lose_quiet d loss)
-        (lucky_then (event_ended c d)
-        (lucky_then (λ s _. and_then (losing c s loss) (λ y _. Done (with_store (record (event_begun d) { store = s }) y) (tt {0}))) heard
-        (λ s _ f. lucky_then (λ y _. Done (with_store (record (event_begun d) { store = s }) y) (tt {0})) (does s f) (λ y _ g. lucky_done g)))
-        (λ y a g. lucky_then (λ z _. Done (record y { store = z }) a) (end_goes c faithful (waiting_count c d.store) y.store)
+        (lucky_then _ (lucky_then _ heard
+        (λ s _ f. lucky_then _ (does s f) (λ y _ g. lucky_done g)))
+        (λ y a g. lucky_then _ (end_goes c faithful (waiting_count c d.store) y.store)
         (λ z _ h. lucky_done (steady_on (core_of y.store) (core_of z) h g))))
 
     pub lose_store_steady : (d : Device F P H) → HasFrames c (plates_of d.store) → Steady (core_of d.store) →

@@ -14,10 +14,10 @@ use Rattle.device_outside.proofs.BothRules.{on_test}
 use Rattle.device_defs.specs.Background.{work}
 use Rattle.device_defs.specs.Contents.{contents, by_plain}
 use Rattle.device_defs.specs.Cutting as U
-use Rattle.device_defs.specs.Cutting.{counts_one_by, half_cut, reset_noted, path_cut, reset_by, reset}
+use Rattle.device_defs.specs.Cutting.{counts_one_by, reset_noted, path_cut, reset_by, reset}
 use Rattle.device_defs.specs.Device.{all_reset, with_store, event_begun}
 use Rattle.device_defs.specs.Events as E
-use Rattle.device_defs.specs.Events.{second_turn, second_told, command_ended, second_ended, second_of, second, background, losing, lose}
+use Rattle.device_defs.specs.Events.{second_turn, command_ended, second_ended, second_of, second, background, losing, lose}
 use Rattle.device_defs.specs.Marks.{marks_of, half_mark}
 use Rattle.device_defs.specs.Outcomes.{turned}
 use Rattle.device_defs.specs.Sound.{DeviceStore}
@@ -62,13 +62,9 @@ module _ (v w : List Track) (d : WholeDevice) (h : Held) (i : IsInOrder v w d.st
   by_half : (o : Option (HalfWrite Image)) → d.store.half ≡ o → HalfSuits v d.store →
       WholeTwins (Leaves (BehindSecond v o)) (second_of contents d o) (second_of by_plain (marks_device v w d) (option_map half_mark o)) h
   by_half (Some hw) is suits =
-      store_then (λ s done. second_ended contents (with_store d s) hw.track hw.origin done)
-      (λ s done. second_ended by_plain (with_store (marks_device v w d) s) hw.track hw.origin done)
-      (second_part_is_plain v w d.store h hw i is (suits hw is))
+      store_then _ _ (second_part_is_plain v w d.store h hw i is (suits hw is))
       (λ v' w' s a b k f.
-      subst (λ (c : Bool). WholeTwins (Leaves (BehindSecond v (Some hw))) (second_ended contents (with_store d s) hw.track hw.origin a)
-      (second_ended by_plain (marks_device v' w' (with_store d s)) hw.track hw.origin c) k) f.same
-      (over v' w' (with_store d s) k (BehindSecond v (Some hw)) f.order (a, f.plain) hw.track hw.origin a))
+      rw (← f.same) (over v' w' (with_store d s) k (BehindSecond v (Some hw)) f.order (a, f.plain) hw.track hw.origin a))
   by_half None is suits = whole_done v w d (record { order = i; same = refl; is = (false, refl) })
 
 suits_on : (v : List Track) (s z : DeviceStore) → z.geometry ≡ s.geometry → z.half ≡ s.half → HalfSuits v s → HalfSuits v z
@@ -82,9 +78,7 @@ second_whole v w d h i suits =
     event_twin v w d h (λ z. second_of contents z z.store.half) (λ z. second_of by_plain z z.store.half) i
     (λ w' s k o stays.
     let z : WholeDevice = record (event_begun d) { store = s } in
-    subst (λ (half : Option (HalfWrite Image)). WholeTwins (Leaves (BehindSecond v half)) (second_of contents z s.half)
-    (second_of by_plain (marks_device v w' z) (option_map half_mark s.half)) k) stays.half
-    (by_half v w' z k o s.half refl (suits_on v d.store s stays.geometry stays.half suits)))
+    rw (← stays.half) (by_half v w' z k o s.half refl (suits_on v d.store s stays.geometry stays.half suits)))
 
 -- By itself
 
@@ -96,8 +90,7 @@ background_whole v w d h i none =
     (λ z. and_then (work by_plain z.store) (λ s did. Done (with_store z s) did)) i
     (λ w' s k o stays.
     let z : WholeDevice = record (event_begun d) { store = s } in
-    store_then (λ y did. Done (with_store z y) did) (λ y did. Done (with_store (marks_device v w' z) y) did)
-    (work_is_plain v w' s k o (stays.half ∙ none))
+    store_then _ _ (work_is_plain v w' s k o (stays.half ∙ none))
     (λ v2 w2 y a b l f. whole_done v2 w2 (with_store z y) (record { order = f.order; same = f.same; is = f.plain })))
 
 -- Losses
@@ -110,14 +103,13 @@ module _ (v w : List Track) (d : WholeDevice) (h : Held) (i : IsInOrder v w d.st
 
   by_loss : (loss : Loss) → Lost loss
   by_loss losses.Cache =
-      store_then (λ s _. Done (with_store d s) (tt {0})) (λ s _. Done (with_store (marks_device v w d) s) (tt {0})) (lost_cache_leaves_order v w d.store h i)
+      store_then _ _ (lost_cache_leaves_order v w d.store h i)
       (λ v2 w2 y a b l f. whole_done v2 w2 (with_store d y) (record { order = f.order; same = refl; is = tt }))
   by_loss losses.Store =
-      store_then (λ s _. Done (with_store d s) (tt {0})) (λ s _. Done (with_store (marks_device v w d) s) (tt {0})) (lost_store_leaves_order v w d.store h i)
+      store_then _ _ (lost_store_leaves_order v w d.store h i)
       (λ v2 w2 y a b l f. whole_done v2 w2 (with_store d y) (record { order = f.order; same = refl; is = f.plain }))
   by_loss (losses.Side side) =
-      store_then (λ s _. Done (with_store d s) (tt {0})) (λ s _. Done (with_store (marks_device v w d) s) (tt {0}))
-      (lost_side_leaves_order v w d.store h side i)
+      store_then _ _ (lost_side_leaves_order v w d.store h side i)
       (λ v2 w2 y a b l f. whole_done v2 w2 (with_store d y) (record { order = f.order; same = refl; is = f.plain }))
 
 pub loss_whole : (v w : List Track) (d : WholeDevice) (h : Held) (loss : Loss) → IsInOrder v w d.store h →
@@ -144,20 +136,7 @@ module _ (v w : List Track) (d : WholeDevice) (h : Held) (path : ℕ) (i : IsInO
 
   cut : WholeTwins (Leaves (BehindReset v d.store.half)) (path_cut contents d path) (path_cut by_plain (marks_device v w d) path) h
   cut =
-      subst (λ (more : ℕ). WholeTwins (Leaves (BehindReset v d.store.half)) (path_cut contents d path)
-      (and_then (half_cut by_plain (marks_of v w d.store) (option_map half_mark d.store.half))
-      (λ s _. Done (record (reset_noted by_plain (marks_device v w d) path more) {
-        store = s;
-        chain = None;
-        paths = all_reset (reset_path d.paths path) d.history.waiting;
-      }) (tt {0}))) h) (sym (counts_same d.store.half))
-      (store_then (λ s _. Done (cut_by s) (tt {0}))
-      (λ s _. Done (record (reset_noted by_plain (marks_device v w d) path (counts_one_by d.store.half)) {
-        store = s;
-        chain = None;
-        paths = all_reset (reset_path d.paths path) d.history.waiting;
-      }) (tt {0}))
-      (cut_leaves_order v w d.store h i suits)
+      rw (counts_same d.store.half) (store_then _ _ (cut_leaves_order v w d.store h i suits)
       (λ v2 w2 y a b l f. whole_done v2 w2 (cut_by y) (record { order = f.order; same = refl; is = inr f.plain })))
 
   by_running : (o : Option OpenEntry) → WholeTwins (Leaves (BehindReset v d.store.half)) (reset_by contents d path o) (reset_by by_plain

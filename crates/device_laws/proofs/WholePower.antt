@@ -1,6 +1,5 @@
 -- The loss of power leaves a device in order, whatever its tracks keep and whatever half write is open; with its twin on marks.
-use Rattle.std.proofs.Common.{◌≡◌, ◌≢◌, ◌<◌, ◌==◌, ℕ, Bool, true, false, List, [], Option, Some, None, refl, sym, ap, subst, ◌∙◌, arith, ◌⊎◌, inl, inr}
-use Rattle.std.proofs.lemmas.Bool.{cases_eq}
+use Rattle.std.proofs.Common.{◌≡◌, ◌≢◌, ◌<◌, ◌==◌, ℕ, Bool, true, false, List, [], Option, Some, None, refl, sym, ap, subst, ◌∙◌, arith}
 use Rattle.std.specs.Prelude.{option_map, if◌then◌else◌}
 use Rattle.ckd_types.specs.declared.geometry.Geometry.{Geometry}
 use Rattle.ckd_types.specs.declared.record.Track.{Track}
@@ -35,19 +34,7 @@ use Rattle.device_laws.proofs.ContentChanges.{Altered, ground_altered, same_trac
 use Rattle.device_laws.proofs.FailedCall.{IsWell}
 use Rattle.device_laws.proofs.Powers.{off_keeps}
 use Rattle.device_laws.proofs.TrackContents as T
-use Rattle.device_laws.proofs.TrackContents.{
-  TrackContents,
-  contents_at,
-  Keeps,
-  Writes,
-  IsRight,
-  right_by,
-  right_lost,
-  held_of,
-  keeps_other,
-  writes_own,
-  none_fits,
-}
+use Rattle.device_laws.proofs.TrackContents.{TrackContents, contents_at, Writes, IsRight, right_by, right_lost, held_of, keeps_other, writes_own, none_fits}
 use Rattle.device_laws.proofs.TrackMarks.{device_is_faithful}
 use Rattle.device_laws.proofs.TwinCacheLost.{bare, Swept, swept_pair, begun_with, begins}
 use Rattle.device_laws.proofs.TwinChanges.{without_patch_twin}
@@ -58,6 +45,7 @@ use Rattle.device_laws.proofs.TwinSettled.{AllTold, told_altered, unpatched, alt
 use Rattle.device_laws.proofs.TwinWalks.{Pair, pair_weaker, twin_always}
 use Rattle.device_laws.proofs.WholeParts.{counts_same}
 use Rattle.device_laws.proofs.WholeTwins.{whole_ends, store_then, quiet_twin, begun_order}
+use Rattle.device_laws.proofs.EachTrack.{each_track}
 
 -- A half write that was cut isn't a command's any more
 
@@ -236,17 +224,13 @@ module _ (h : Held) (u w : List Track) (y : DeviceStore) (x : Swept h u y 0 u w 
   background_swept origin = record {
     off = record { ground = closed_ground; right = λ q below ne. absurd (ne (omega arith)) };
     later = λ q below le.
-        subst (λ (k : TrackContents). IsRight g q None (bare k) (image_in y u q) (image_in y u q)) (sym (closed_contents q)) (by_place q below (cases_eq q t));
+        rw (closed_contents q) (each_track (λ p. p < tracks_of y → IsRight g p None (bare (contents_at y h p)) (image_in y u p) (image_in y u p)) t
+        (λ _. background_right origin) (λ p off below. other_right p below off) q below);
     firm = λ q below le. ap (λ (k : TrackContents). k.loose) (closed_contents q) ∙ x.firm q below le;
     told = closed_told;
     base = refl;
     plain = refl;
   }
-    where
-      by_place : (q : ℕ) → q < tracks_of y → ((q ≡ hw.track) ⊎ (q ≢ hw.track)) → IsRight g q None (bare (contents_at y h q)) (image_in y u q) (image_in y u q)
-      by_place q below (inl at) =
-          subst (λ (p : ℕ). IsRight g p None (bare (contents_at y h p)) (image_in y u p) (image_in y u p)) (sym at) (background_right origin)
-      by_place q below (inr off) = other_right q below off
 
   abbrev z : DeviceStore
   z = without_patch contents (half_closed y) hw.track
@@ -268,30 +252,21 @@ module _ (h : Held) (u w : List Track) (y : DeviceStore) (x : Swept h u y 0 u w 
   cut_swept : is_of_command hw.origin ≡ false → Swept h u z 0 u w z
   cut_swept cut = record {
     off = record { ground = cut_ground; right = λ q below ne. absurd (ne (omega arith)) };
-    later = λ q below le. by_place q (still_there q below) (cases_eq q t);
-    firm = λ q below le. firm_by q (still_there q below) (cases_eq q t);
+    later = λ q below le. each_track
+        (λ p. p < tracks_of y → IsRight z.geometry p z.half (bare (contents_at z h p)) (image_in z u p) (image_in z u p)) t
+        (λ _. same_right (half_closed y) h z h z_altered.base u u t (bare (unpatched (contents_at (half_closed y) h t))) (bare (contents_at z h t))
+        (ap bare z_altered.here) (rw (closed_contents t) (cut_right cut)))
+        (λ p off there. same_right (half_closed y) h z h z_altered.base u u p (bare (contents_at (half_closed y) h p)) (bare (contents_at z h p))
+        (ap bare (z_altered.elsewhere p off)) (rw (closed_contents p) (other_right p there off)))
+        q (still_there q below);
+    firm = λ q below le. each_track (λ p. p < tracks_of y → (contents_at z h p).loose ≡ false) t
+        (λ _. ap (λ (k : TrackContents). k.loose) z_altered.here ∙ ap (λ (k : TrackContents). k.loose) (closed_contents t) ∙ x.firm t lt (omega arith))
+        (λ p off there. ap (λ (k : TrackContents). k.loose) (z_altered.elsewhere p off)
+        ∙ ap (λ (k : TrackContents). k.loose) (closed_contents p) ∙ x.firm p there (omega arith)) q (still_there q below);
     told = told_altered (half_closed y) h z h t (unpatched (contents_at (half_closed y) h t)) closed_told z_altered refl;
     base = refl;
     plain = refl;
   }
-    where
-      by_place : (q : ℕ) → q < tracks_of y → ((q ≡ hw.track) ⊎ (q ≢ hw.track)) →
-          IsRight z.geometry q z.half (bare (contents_at z h q)) (image_in z u q) (image_in z u q)
-      by_place q below (inl at) =
-          subst (λ (p : ℕ). IsRight z.geometry p z.half (bare (contents_at z h p)) (image_in z u p) (image_in z u p)) (sym at)
-          (same_right (half_closed y) h z h z_altered.base u u t (bare (unpatched (contents_at (half_closed y) h t))) (bare (contents_at z h t)) (ap bare z_altered.here)
-          (subst (λ (k : TrackContents). IsRight g t None (bare (unpatched k)) i i) (sym (closed_contents t)) (cut_right cut)))
-      by_place q below (inr off) =
-          same_right (half_closed y) h z h z_altered.base u u q (bare (contents_at (half_closed y) h q)) (bare (contents_at z h q)) (ap bare (z_altered.elsewhere q off))
-          (subst (λ (k : TrackContents). IsRight g q None (bare k) (image_in y u q) (image_in y u q)) (sym (closed_contents q)) (other_right q below off))
-
-      firm_by : (q : ℕ) → q < tracks_of y → ((q ≡ hw.track) ⊎ (q ≢ hw.track)) → (contents_at z h q).loose ≡ false
-      firm_by q below (inl at) =
-          subst (λ (p : ℕ). (contents_at z h p).loose ≡ false) (sym at)
-          (ap (λ (k : TrackContents). k.loose) z_altered.here ∙ ap (λ (k : TrackContents). k.loose) (closed_contents t) ∙ x.firm t lt (omega arith))
-      firm_by q below (inr off) =
-          ap (λ (k : TrackContents). k.loose) (z_altered.elsewhere q off) ∙ ap (λ (k : TrackContents). k.loose) (closed_contents q)
-          ∙ x.firm q below (omega arith)
 
 -- what the sweep begins with
 record Begins (h : Held) (u w : List Track) (s y : DeviceStore) : Type 0 where
@@ -370,9 +345,7 @@ module _ (v w : List Track) (s : DeviceStore) (h : Held) (sure : RightBut None v
       (powerless by_plain (marks_of v w s))
   powerless_pair well =
       let n = tracks_of s in
-      subst (λ (m : MarksStore). Pair (λ v' w' z. IsInOrder v' w' z h × (v' ≡ u)) (over n (λ t z. settled contents (without_frame z t) t) y)
-      (over n (λ t z. settled by_plain (without_frame z t) t) m)) begun_marks
-      (pair_weaker (swept_pair h u w y begun.swept n (let same = begun.tracks in omega arith))
+      rw (← begun_marks) (pair_weaker (swept_pair h u w y begun.swept n (let same = begun.tracks in omega arith))
       (λ v' w' x.
       let z = over n (λ t z. settled contents (without_frame z t) t) y in (
         is_in_order v' w' z h
@@ -397,8 +370,7 @@ power_whole v w d h i =
     let order = begun_order v w d.store h i in
     quiet_twin v w d h (λ x. and_then (half_cut contents x.store x.store.half) (λ s _. Done (powered_off contents x s) (tt {0})))
     (λ x. and_then (half_cut by_plain x.store x.store.half) (λ s _. Done (powered_off by_plain x s) (tt {0})))
-    (store_then (λ s _. Done (powered_off contents z s) (tt {0})) (λ s _. Done (powered_off by_plain (marks_device v w z) s) (tt {0}))
-    (twin_always (cut_leaves_order v w z.store h order (λ hw is. (order.opened hw is).suits)) (cut_is z.store z.store.half refl))
+    (store_then _ _ (twin_always (cut_leaves_order v w z.store h order (λ hw is. (order.opened hw is).suits)) (cut_is z.store z.store.half refl))
     (λ v' w' s _ _ k f.
     let l = with_loss s losses.Cache in
     let o = in_order v' w' s k f.0.order in

@@ -1,8 +1,8 @@
 -- A whole device and the device of a run, walked together: how an event begins and ends, and what stands between.
-use Rattle.std.proofs.Common.{◌≡◌, ℕ, Bool, true, List, [], None, refl, sym, ap, subst, ◌∙◌}
+use Rattle.std.proofs.Common.{◌≡◌, ℕ, Bool, true, List, [], refl, sym, ap, subst, ◌∙◌}
 use Rattle.ckd_types.specs.declared.record.Track.{Track}
 use Rattle.track_image.specs.Image.{Image}
-use Rattle.device_outside.specs.Both.{Both, both_done, TellsAll}
+use Rattle.device_outside.specs.Both.{both_done, TellsAll}
 use Rattle.device_outside.specs.Interaction.{Interaction, Done, and_then}
 use Rattle.device_outside.specs.Keeper.{Hearing}
 use Rattle.device_outside.specs.Outside.{Outside, Ran}
@@ -10,7 +10,7 @@ use Rattle.device_outside.specs.Told.{Told}
 use Rattle.device_outside.proofs.BothRules.{first_then}
 use Rattle.device_outside.proofs.Link.{linked}
 use Rattle.device_defs.specs.Contents.{contents, by_plain}
-use Rattle.device_defs.specs.Device.{event_begun, event_ended, quiet_event, event}
+use Rattle.device_defs.specs.Device.{event_begun, quiet_event, event}
 use Rattle.device_defs.specs.Marks.{MarksStore, MarksDevice, marks_of}
 use Rattle.device_defs.specs.Owed.{waiting_count, noted_begin, hear, noted_end}
 use Rattle.device_defs.specs.Sound.{DeviceStore}
@@ -19,13 +19,10 @@ use Rattle.device_laws.specs.InOrder.{IsInOrder}
 use Rattle.device_laws.specs.Twin.{Claim, Twins}
 use Rattle.device_laws.specs.Whole.{WholeDevice, marks_device, WholeClaim, WholeTwin, WholeTwins, Leaves, IsStep}
 use Rattle.device_laws.proofs.Changes as C
-use Rattle.device_laws.proofs.ContentChanges as D
-use Rattle.device_laws.proofs.ContentChanges.{unseen_right}
 use Rattle.device_laws.proofs.FailedCall.{IsWell, same_is_well}
 use Rattle.device_laws.proofs.Notices.{hearing_keeps_good, ending_changes_no_mark}
-use Rattle.device_laws.proofs.TrackContents as T
 use Rattle.device_laws.proofs.TrackMarks as M
-use Rattle.device_laws.proofs.TwinAsks.{Stays, Ordered}
+use Rattle.device_laws.proofs.TwinAsks.{Stays, Ordered, beside_order}
 use Rattle.device_laws.proofs.TwinEvents.{hear_twin, ended_twin, count_twin}
 use Rattle.device_laws.proofs.TwinLaws.{in_order, is_in_order}
 use Rattle.device_laws.proofs.TwinWalks.{twin_always, twin_weaker}
@@ -45,15 +42,13 @@ module _ {A B : Type 0} {q : WholeClaim A B} {h : Held} where
       (f : DeviceStore → C → Interaction (List ℕ) Image WholeDevice A) (g : MarksStore → E → Interaction Bool Image MarksDevice B) → Twins p i j h →
       ((v w : List Track) (s : DeviceStore) (c : C) (e : E) (k : Held) → p v w s c e k → WholeTwins q (f s c) (g (marks_of v w s) e) k) →
       WholeTwins q (and_then i f) (and_then j g) h
-  store_then f g x w = first_then f g x (λ s c m e k is. subst (λ (n : MarksStore). Both [] true (WholeTwin q) (f s c) (g n e) k) is.marks
-      (w is.plain is.firm s c e k is.is))
+  store_then f g x w = first_then f g x (λ s c m e k is. rw (← is.marks) (w is.plain is.firm s c e k is.is))
 
   pub whole_then : {C E : Type 0} {p : WholeClaim C E} {i : Interaction (List ℕ) Image WholeDevice C} {j : Interaction Bool Image MarksDevice E}
       (f : WholeDevice → C → Interaction (List ℕ) Image WholeDevice A) (g : MarksDevice → E → Interaction Bool Image MarksDevice B) → WholeTwins p i j h →
       ((v w : List Track) (d : WholeDevice) (c : C) (e : E) (k : Held) → p v w d c e k → WholeTwins q (f d c) (g (marks_device v w d) e) k) →
       WholeTwins q (and_then i f) (and_then j g) h
-  whole_then f g x w = first_then f g x (λ d c m e k is. subst (λ (n : MarksDevice). Both [] true (WholeTwin q) (f d c) (g n e) k) is.marks
-      (w is.plain is.firm d c e k is.is))
+  whole_then f g x w = first_then f g x (λ d c m e k is. rw (← is.marks) (w is.plain is.firm d c e k is.is))
 
 -- The front of an event and its end
 
@@ -83,12 +78,7 @@ ends before v w s h i =
 
 module _ (v w : List Track) (s : DeviceStore) (h : Held) where
   begun_ordered : Ordered v w s h → Ordered v w (noted_begin s) h
-  unfolding T.contents_at D.base_of
-  begun_ordered o = record {
-    sure = unseen_right None v w s h (noted_begin s) h o.sure
-        (record { sizes = record { are = o.sure.ground.sizes.are }; base = refl; same = λ q. refl; slots = refl });
-    told = o.told;
-  }
+  begun_ordered o = beside_order o
 
   begun_well : IsWell contents s → IsWell contents (noted_begin s)
   unfolding M.track_at C.rest_of
@@ -111,7 +101,7 @@ module _ {A : Type 0} {p : List Track → Type 0} where
       WholeTwins (Leaves p) (and_then (noted_end contents before d.store) (λ z _. Done (record d { store = z }) a))
       (and_then (noted_end by_plain before (marks_of v w d.store)) (λ z _. Done (record (marks_device v w d) { store = z }) b)) h
   ending before v w d a b h x =
-      store_then (λ z _. Done (record d { store = z }) a) (λ z _. Done (record (marks_device v w d) { store = z }) b) (ends before v w d.store h x.order)
+      store_then _ _ (ends before v w d.store h x.order)
       (λ v' w' z _ _ k f. whole_done v' w' (record d { store = z }) (record { order = f.order; same = x.same; is = subst p (sym f.plain) x.is }))
 
   -- an event that takes no notes
@@ -119,12 +109,9 @@ module _ {A : Type 0} {p : List Track → Type 0} where
       (g : MarksDevice → Interaction Bool Image MarksDevice A) → WholeTwins (Leaves p) (f (event_begun d)) (g (event_begun (marks_device v w d))) h →
       WholeTwins (Leaves p) (quiet_event contents d f) (quiet_event by_plain (marks_device v w d) g) h
   quiet_twin v w d h f g x =
-      whole_then (event_ended contents d) (event_ended by_plain (marks_device v w d)) x
+      whole_then _ _ x
       (λ v' w' z a b k o.
-      subst (λ (n : ℕ). WholeTwins (Leaves p)
-      (and_then (noted_end contents (waiting_count contents d.store) z.store) (λ y _. Done (record z { store = y }) a))
-      (and_then (noted_end by_plain n (marks_of v' w' z.store)) (λ y _. Done (record (marks_device v' w' z) { store = y }) b)) k)
-      (sym (count_twin v w d.store)) (ending (waiting_count contents d.store) v' w' z a b k o))
+      rw (count_twin v w d.store) (ending (waiting_count contents d.store) v' w' z a b k o))
 
   -- and one that first takes the notes
   pub event_twin : (v w : List Track) (d : WholeDevice) (h : Held) (f : WholeDevice → Interaction (List ℕ) Image WholeDevice A)
@@ -135,13 +122,9 @@ module _ {A : Type 0} {p : List Track → Type 0} where
   event_twin v w d h f g i body =
       quiet_twin v w d h (λ z. and_then (hear contents 960 z.store) (λ s _. f (record z { store = s })))
       (λ z. and_then (hear by_plain 960 z.store) (λ s _. g (record z { store = s })))
-      (store_then (λ s _. f (record (event_begun d) { store = s })) (λ s _. g (record (event_begun (marks_device v w d)) { store = s }))
-      (hears 960 v w (noted_begin d.store) h (begun_order v w d.store h i))
+      (store_then _ _ (hears 960 v w (noted_begin d.store) h (begun_order v w d.store h i))
       (λ v' w' s _ _ k x.
-      subst (λ (y : List Track). WholeTwins (Leaves p) (f (record (event_begun d) { store = s }))
-      (g (marks_device y w' (record (event_begun d) { store = s }))) k)
-      (sym x.plain)
-      (body w' s k (subst (λ (y : List Track). IsInOrder y w' s k) x.plain x.order)
+      rw x.plain (body w' s k (subst (λ (y : List Track). IsInOrder y w' s k) x.plain x.order)
       (record { geometry = x.stays.geometry; cylinders = x.stays.cylinders; half = x.stays.half }))))
 
 -- The step of a run

@@ -28,10 +28,7 @@ done_by (Some m) h e = absurd (cc)
 
 pub done_without_frame : (x : TrackMarks) → x.lost ≡ false → x.loose ≡ false → x.level ≡ true →
     is_good (record x { frame = None; patched = false }) ≡ true
-done_without_frame x lost loose level =
-    subst (λ (l : Bool). is_good (marks None false l x.loose x.half x.level) ≡ true) (sym lost)
-    (subst (λ (o : Bool). is_good (marks None false false o x.half x.level) ≡ true) (sym loose)
-    (subst (λ (v : Bool). is_good (marks None false false false x.half v) ≡ true) (sym level) (done_by None x.half refl)))
+done_without_frame x lost loose level = rw lost (rw loose (rw level (done_by None x.half refl)))
 
 clean_by : (h : Bool) → is_good (marks (Some false) false false false h true) ≡ true
 clean_by true = refl
@@ -39,10 +36,7 @@ clean_by false = refl
 
 pub done_with_frame : (x : TrackMarks) → x.lost ≡ false → x.loose ≡ false → x.level ≡ true →
     is_good (record x { frame = Some false; patched = false }) ≡ true
-done_with_frame x lost loose level =
-    subst (λ (l : Bool). is_good (marks (Some false) false l x.loose x.half x.level) ≡ true) (sym lost)
-    (subst (λ (o : Bool). is_good (marks (Some false) false false o x.half x.level) ≡ true) (sym loose)
-    (subst (λ (v : Bool). is_good (marks (Some false) false false false x.half v) ≡ true) (sym level) (clean_by x.half)))
+done_with_frame x lost loose level = rw lost (rw loose (rw level (clean_by x.half)))
 
 -- no side has the track: settling makes its marks good, whatever they are
 absent_by : (f : Option Bool) (p h : Bool) → is_good (settled_marks (marks f p false false h false)) ≡ true
@@ -52,20 +46,14 @@ absent_by None p true = refl
 absent_by None p false = refl
 
 pub absent_good : (x : TrackMarks) → x.lost ≡ false → x.loose ≡ false → x.level ≡ false → is_good (settled_marks x) ≡ true
-absent_good x lost loose level =
-    subst (λ (l : Bool). is_good (settled_marks (marks x.frame x.patched l x.loose x.half x.level)) ≡ true) (sym lost)
-    (subst (λ (o : Bool). is_good (settled_marks (marks x.frame x.patched false o x.half x.level)) ≡ true) (sym loose)
-    (subst (λ (v : Bool). is_good (settled_marks (marks x.frame x.patched false false x.half v)) ≡ true) (sym level)
-    (absent_by x.frame x.patched x.half)))
+absent_good x lost loose level = rw lost (rw loose (rw level (absent_by x.frame x.patched x.half)))
 
 -- the track of an open half write need only not be loose
 half_by : (f : Option Bool) (p v : Bool) → is_good (marks f p false false true v) ≡ true
 half_by f p v = refl
 
 pub half_good : (x : TrackMarks) → x.lost ≡ false → x.loose ≡ false → is_good (record x { half = true }) ≡ true
-half_good x lost loose =
-    subst (λ (l : Bool). is_good (marks x.frame x.patched l x.loose true x.level) ≡ true) (sym lost)
-    (subst (λ (o : Bool). is_good (marks x.frame x.patched false o true x.level) ≡ true) (sym loose) (half_by x.frame x.patched x.level))
+half_good x lost loose = rw lost (rw loose (half_by x.frame x.patched x.level))
 
 -- a level track isn't lost, and one that has a frame neither
 level_by : (f : Option Bool) (p l o h v : Bool) → is_good (marks f p l o h v) ≡ true → v ≡ true → l ≡ false
@@ -132,9 +120,7 @@ fast_by true v = refl
 fast_by false v = refl
 
 pub fast_good : (x : TrackMarks) → x.lost ≡ false → x.loose ≡ false → is_good (record x { frame = Some true; patched = true }) ≡ true
-fast_good x lost loose =
-    subst (λ (l : Bool). is_good (marks (Some true) true l x.loose x.half x.level) ≡ true) (sym lost)
-    (subst (λ (o : Bool). is_good (marks (Some true) true false o x.half x.level) ≡ true) (sym loose) (fast_by x.half x.level))
+fast_good x lost loose = rw lost (rw loose (fast_by x.half x.level))
 
 -- a provisional one: on a loose track
 again_by : (f : Option Bool) (p l h v : Bool) → is_good (marks f p l true h v) ≡ true → is_good (marks (Some true) p l true h v) ≡ true

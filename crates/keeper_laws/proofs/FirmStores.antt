@@ -139,10 +139,6 @@ like_then s z y a b =
 pub like_owed : (s : MarksStore) (t : ℕ) (x : Owed) → x.firm ≡ (owed_at s t).firm → Like s (with_owed s t x)
 like_owed s t x e = (refl, refl, refl, refl, refl, refl, length-set s.owed t x, λ u. owed_same s.owed t u x e)
 
-pub like_stale : (s : MarksStore) (side : Side) (t : ℕ) (b : Bool) → Like s (with_stale s side t b)
-like_stale s A t b = like_same s
-like_stale s B t b = like_same s
-
 pub like_everywhere : (s : MarksStore) (t : ℕ) → Like s (stale_everywhere s t)
 like_everywhere s t =
     let z = with_stale s A t true in cond_both s.paired (with_stale z B t true) z (Like s) (λ _. like_same s) (λ _. like_same s)

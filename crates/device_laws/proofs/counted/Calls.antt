@@ -1,5 +1,5 @@
 -- What was seen, as the calls of a device cite it.
-use Rattle.std.proofs.Common.{ℕ, Bool, List, Option, subst}
+use Rattle.std.proofs.Common.{ℕ, Bool, List, Option}
 use Rattle.track_image.specs.Image.{Image}
 use Rattle.device_outside.specs.Keeper.{Hearing}
 use Rattle.device_outside.specs.Outside.{Outside, Ran}
@@ -17,7 +17,7 @@ module _ {K : Type 0} (had : Bool → Type 0) (hears : Hearing Image K) (d : Who
   pub ends_as_seen : {a : Option Stepped} → Ran had hears (command contents d) u e a z → EndsAsSeen had hears d u e a z
   ends_as_seen r =
       λ o chain x running at runs is.
-      command_came had hears d o chain runs running at (subst (λ (b : Option Stepped). Ran had hears (command contents d) u e b z) is r)
+      command_came had hears d o chain runs running at (rw (← is) r)
 
   pub ends_as_kept : {a : SecondEnd} → Ran had hears (second contents d) u e a z → EndsAsKept d e a
   ends_as_kept r = λ o chain h bypass edit half from running at. second_came had hears d o chain h bypass edit half from running at r

@@ -1,5 +1,5 @@
 -- The reads and writes of a command that goes from track to track, and of a whole one; and that a hit reads nothing.
-use Rattle.std.proofs.Common.{◌≡◌, ◌≢◌, ◌≤◌, ℕ, zero, suc, Bool, true, false, not, Option, Some, None, refl, sym, ap, subst, ◌∙◌, arith}
+use Rattle.std.proofs.Common.{◌≡◌, ◌≢◌, ◌≤◌, ℕ, zero, suc, Bool, true, false, not, Option, Some, None, refl, sym, ap, ◌∙◌, arith}
 use Rattle.std.proofs.lemmas.List.{get_or-set_other}
 use Rattle.std.proofs.Math.Nat.{suc-mul}
 use Rattle.std.specs.Prelude.{if◌then◌else◌}
@@ -26,10 +26,8 @@ use Rattle.device_defs.specs.Command.{
   look,
   goes_on,
   follow,
-  came_out,
   on_tracks,
   answered_by,
-  on_paths,
   command_at,
   command_by,
 }
@@ -48,7 +46,7 @@ use Rattle.device_laws.proofs.Always.{Always, always_done, always_ask}
 use Rattle.device_laws.specs.Moved.{sides_up, CommandTransfers, AsksNoMore}
 use Rattle.device_laws.proofs.counted.Counting.{Counts, counts_done, counts_try, counts_then, counts_weaker, counts_if, counts_from}
 use Rattle.device_laws.proofs.counted.ReadCounts.{image_reads}
-use Rattle.device_laws.proofs.counted.WriteCounts.{write_writes}
+use Rattle.device_laws.proofs.counted.Exact.{write_writes}
 
 -- what a look leads to
 abbrev went_to : {F P H : Type 0} → ℕ → ℕ → ℕ → Store F P H → Option Went → Type 0
@@ -71,7 +69,7 @@ module _ {F P H R : Type 0} (c : Contents F P H R) where
       progress_so i next (progresses.Ended e) = counts_done (le, omega arith)
       progress_so i next (progresses.Need q) = counts_done (le, refl, few)
       progress_so i next (progresses.Write q e) =
-          counts_then (had_by (came_of_write c next t)) (counts_from r 0 (write_writes c (usage_of chain) first t i e z))
+          counts_then _ (counts_from r 0 (write_writes c (usage_of chain) first t i e z))
           (λ m w y o h.
           let a = h.more_reads in
           let b = h.more_writes in
@@ -94,9 +92,9 @@ module _ {F P H R : Type 0} (c : Contents F P H R) where
     unfolding N.look
     look_so s few =
         counts_if (is_lost s t) (λ _. counts_done (omega arith, omega arith))
-        (λ _. counts_then (had_by (looked c chain first t)) (image_reads c (usage_of chain) t up s few)
+        (λ _. counts_then _ (image_reads c (usage_of chain) t up s few)
         (λ r w z o h.
-        subst (λ (k : ℕ). Counts To r k (had_by (looked c chain first t) z o)) (sym h.writes) (had_so r h.reads z h.sides o)))
+        rw h.writes (had_so r h.reads z h.sides o)))
 
   -- From track to track
 
@@ -114,8 +112,7 @@ module _ {F P H R : Type 0} (c : Contents F P H R) where
     by_went n later r w z None h = counts_done (one_more n r w h.0 h.1)
     by_went n later r w z (Some (Over turn)) h = counts_done (one_more n r w h.0 h.1)
     by_went n later r w z (Some (On chain q)) h =
-        subst (λ (k : ℕ). Counts (λ r w z (o : Option Turn). CommandTransfers (suc n) up r w) r k (follow c n first chain q z)) (sym h.1)
-        (counts_weaker (counts_from r 0 (later chain q z h.2))
+        rw h.1 (counts_weaker (counts_from r 0 (later chain q z h.2))
         (λ m l y o k.
         let le = h.0 in
         let a = k.more_reads in
@@ -128,8 +125,7 @@ module _ {F P H R : Type 0} (c : Contents F P H R) where
     follow_so : (n : ℕ) → Following n
     unfolding N.follow
     follow_so zero chain t s few = counts_done (record { most_reads = omega arith; most_writes = omega arith })
-    follow_so (suc n) chain t s few =
-        counts_then (had_by (goes_on c (follow c n first))) (look_so chain first t up s few) (λ r w z o h. by_went n (follow_so n) r w z o h)
+    follow_so (suc n) chain t s few = counts_then _ (look_so chain first t up s few) (λ r w z o h. by_went n (follow_so n) r w z o h)
 
   -- The whole command
 
@@ -186,7 +182,7 @@ module _ (chain : ChainState) (first t : ℕ) (f : Frame) (modified : f.modified
   progress_none s next (progresses.Ended e) is = counts_done (refl, tt)
   progress_none s next (progresses.Need q) is = absurd (ends q is)
   progress_none s next (progresses.Write q e) is =
-      counts_then (had_by (came_of_write contents next t)) (write_writes contents (usage_of chain) first t f.image e s)
+      counts_then _ (write_writes contents (usage_of chain) first t f.image e s)
       (λ r w z o h. write_so next r w h.reads z o)
   progress_none s next (progresses.Local act) is = counts_done (refl, tt)
 
@@ -204,8 +200,7 @@ module _ (chain : ChainState) (first t : ℕ) (f : Frame) (modified : f.modified
   framed_none s None e = absurd (cc)
   framed_none s (Some g) e =
       let same : f ≡ g = cc in
-      subst (λ (x : Frame). Counts Hit 0 0 (and_then (image_by contents s (usage_of chain) t (Some x)) (had_by (looked contents chain first t)))) same
-      (hit_none s f.modified modified)
+      rw (← same) (hit_none s f.modified modified)
 
   image_none : (s : DeviceStore) → frame_at s t ≡ Some f →
       Counts Hit 0 0 (and_then (image contents s (usage_of chain) t) (had_by (looked contents chain first t)))
@@ -225,8 +220,7 @@ module _ (chain : ChainState) (first t : ℕ) (f : Frame) (modified : f.modified
   follow_none : (n : ℕ) (s : DeviceStore) → frame_at s t ≡ Some f → Counts (λ r w z (a : Option Turn). r ≡ 0) 0 0 (follow contents n first chain t s)
   unfolding N.follow
   follow_none zero s is = counts_done refl
-  follow_none (suc n) s is =
-      counts_then (had_by (goes_on contents (follow contents n first))) (look_none s is) (λ r w z o h. over_none n r w z o h)
+  follow_none (suc n) s is = counts_then _ (look_none s is) (λ r w z o h. over_none n r w z o h)
 
 -- of a command at a track with a modified frame
 pub hit_so : (d : WholeDevice) (o : OpenEntry) (chain : ChainState) (t : ℕ) (f : Frame) → need_of chain ≡ Some t → frame_at d.store t ≡ Some f →
@@ -242,8 +236,7 @@ hit_so d o chain t f needs is modified ends = counts_if (has_loss o.acts) (λ _.
     by_need None e = absurd (cc)
     by_need (Some q) e =
         let same : t ≡ q = cc in
-        subst (λ (k : ℕ). Counts (λ r w z (a : Option Stepped). r ≡ 0) 0 0 (command_at contents d o.path chain (Some k))) same
-        (counts_then (on_tracks contents d o.path chain) (follow_none chain t t f modified ends (tracks_of d.store) d.store is)
+        rw (← same) (counts_then _ (follow_none chain t t f modified ends (tracks_of d.store) d.store is)
         (λ r w z a h. by_turn z r w h a))
 
 -- Notices leave a modified frame

@@ -23,7 +23,7 @@ use Rattle.device_defs.specs.declared.answers.Came.TheVariants.{Ends, Checks, Ha
 use Rattle.device_defs.specs.declared.answers.Stepped.{Stepped}
 use Rattle.device_defs.specs.declared.counts.Counts.{Counts}
 use Rattle.device_defs.specs.Command as N
-use Rattle.device_defs.specs.Command.{has_loss, follow, came_out, on_tracks, answered_by, on_paths, command_at, command_by, command}
+use Rattle.device_defs.specs.Command.{has_loss, follow, came_out, on_tracks, answered_by, command_at, command_by, command}
 use Rattle.device_defs.specs.Contents.{contents}
 use Rattle.device_defs.specs.Device.{all_acted, with_store, event_begun, event_ended, event}
 use Rattle.device_defs.specs.Outcomes.{Turn, ends_with, settles, checks, sense_kept, program_over, turned_by, again}
@@ -148,9 +148,7 @@ module _ {K : Type 0} (had : Bool → Type 0) (hears : Hearing Image K) where
           let k = came_kept (with_store (heard_by s) s2) o.path turn rest in
           let n = d.store.cylinders in
           let g = d.store.geometry in
-          seen.looked t s v w turn needs quiet
-          (subst (λ (m : ℕ). CameAsSeen had hears (m * 15) g chain s v turn d.store.counts y.store.counts w) cylinders
-          (came_between counts k.2
+          seen.looked t s v w turn needs quiet (rw (← cylinders) (came_between counts k.2
           (follow_so had hears (n * 15) g (LooksAt n g) (chain_feeds n g) (tracks_of s) t chain t s (runs_looks n g chain t runs needs) s2 v w turn first)))
           k.1 (like_kept (with_store (heard_by s) s2) d o.path turn _ _ (record { paths = refl; waiting = still_waiting s2.acts d.history }) k.0)
 
@@ -273,7 +271,7 @@ module _ {K : Type 0} (had : Bool → Type 0) (hears : Hearing Image K) where
     over_counts {y = y} based first rest =
         let body = λ (x : WholeDevice). command_by contents x x.history.running x.chain in
         let front = based_any (front_based contents d body (λ (b : Base). b) (λ x. command_body contents x)) in
-        let quiet = quiet_then (λ z _. Done (record y { store = z }) _) (ended_quiet contents (waiting_count contents d.store) y.store) (λ z _. quiet_done) in
+        let quiet = quiet_then _ (ended_quiet contents (waiting_count contents d.store) y.store) (λ z _. quiet_done) in
         ap (λ (b : Base). b.counts) (quiet_base quiet (based_rest (event_ended contents d) front based first) rest)
 
     by_room : d.history.running ≡ Some o → d.chain ≡ Some chain → (ok : Bool) → {u z : Calls} {e : WholeDevice} {a : Stepped} →

@@ -48,17 +48,7 @@ counts_weaker (counts_read x) g = counts_read (λ got. counts_weaker (x got) g)
 counts_weaker (counts_write x) g = counts_write (λ ok. counts_weaker (x ok) g)
 counts_weaker (counts_tell x) g = counts_tell (λ a. counts_weaker (x a) g)
 
--- with what is known of the numbers alone
-pub counts_moves : {R I S A : Type 0} {q : ℕ → ℕ → S → A → Type 0} (m : ℕ → ℕ → Type 0) {r w : ℕ} {i : Interaction R I S A} → Moves m r w i → Counts q r w i →
-    Counts (λ x y s a. m x y × q x y s a) r w i
-unfolding M.Moves
-counts_moves m x (counts_done y) = counts_done (x, y)
-counts_moves m x (counts_try y) = counts_try (λ ok. counts_moves m (x ok) (y ok))
-counts_moves m x (counts_ask y) = counts_ask (λ a. counts_moves m (x a) (y a))
-counts_moves m x (counts_read y) = counts_read (λ got. counts_moves m (x got) (y got))
-counts_moves m x (counts_write y) = counts_write (λ ok. counts_moves m (x ok) (y ok))
-counts_moves m x (counts_tell y) = counts_tell (λ a. counts_moves m (x a) (y a))
-
+-- what is known of the numbers alone
 pub counts_of : {R I S A : Type 0} (m : ℕ → ℕ → Type 0) (r w : ℕ) (i : Interaction R I S A) → Moves m r w i → Counts (λ x y s a. m x y) r w i
 unfolding M.Moves
 counts_of m r w (Done s a) x = counts_done x
@@ -67,6 +57,15 @@ counts_of m r w (Ask call k) x = counts_ask (λ a. counts_of m r w (k a) (x a))
 counts_of m r w (Read side t k) x = counts_read (λ got. counts_of m (r + 1) w (k got) (x got))
 counts_of m r w (Write side t b k) x = counts_write (λ ok. counts_of m r (w + 1) (k ok) (x ok))
 counts_of m r w (Tell p k) x = counts_tell (λ a. counts_of m r w (k a) (x a))
+
+pub moves_of : {R I S A : Type 0} {m : ℕ → ℕ → Type 0} {r w : ℕ} {i : Interaction R I S A} → Counts (λ x y s a. m x y) r w i → Moves m r w i
+unfolding M.Moves
+moves_of (counts_done x) = x
+moves_of (counts_try x) = λ ok. moves_of (x ok)
+moves_of (counts_ask x) = λ a. moves_of (x a)
+moves_of (counts_read x) = λ got. moves_of (x got)
+moves_of (counts_write x) = λ ok. moves_of (x ok)
+moves_of (counts_tell x) = λ a. moves_of (x a)
 
 -- one that makes none
 pub counts_any : {R I S A : Type 0} {q : ℕ → ℕ → S → A → Type 0} {r w : ℕ} {i : Interaction R I S A} → Quiet i → ((s : S) (a : A) → q r w s a) → Counts q r w i

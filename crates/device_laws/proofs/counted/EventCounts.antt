@@ -1,5 +1,5 @@
 -- The reads and writes of whole events: notices and what is told at the end make none.
-use Rattle.std.proofs.Common.{◌≡◌, ◌≤◌, ◌*◌, ◌==◌, ℕ, Bool, true, false, List, Option, Some, None, refl, sym, ap, subst, ◌∙◌, arith}
+use Rattle.std.proofs.Common.{◌≡◌, ◌≤◌, ◌==◌, ℕ, Bool, true, false, List, Option, Some, None, refl, sym, ap, subst, ◌∙◌, arith}
 use Rattle.ckd_chain.specs.State.{ChainState}
 use Rattle.ckd_chain.specs.Steps.{need_of}
 use Rattle.loss_model.specs.declared.Loss.{Loss}
@@ -66,8 +66,7 @@ module _ {F P H R : Type 0} (c : Contents F P H R) where
     By r w z a = q r w a
 
     over_counts : (d y : Device F P H) (a : A) (r w : ℕ) → q r w a → Counts By r w (event_ended c d y a)
-    over_counts d y a r w h =
-        counts_past (λ z _. Done (record y { store = z }) a) (ended_quiet c (waiting_count c d.store) y.store) (λ z _. counts_done h)
+    over_counts d y a r w h = counts_past _ (ended_quiet c (waiting_count c d.store) y.store) (λ z _. counts_done h)
 
     quiet_counts : (d : Device F P H) (body : Device F P H → Interaction R Image (Device F P H) A) → Counts By 0 0 (body (event_begun d)) →
         Counts By 0 0 (quiet_event c d body)
@@ -77,7 +76,7 @@ module _ {F P H R : Type 0} (c : Contents F P H R) where
         ((s : Store F P H) → Same d.store s → Counts By 0 0 (body (record (event_begun d) { store = s }))) → Counts By 0 0 (event c d body)
     event_counts d body h =
         quiet_counts d (λ z. and_then (hear c 960 z.store) (λ s _. body (record z { store = s })))
-        (counts_first (λ s _. body (record (event_begun d) { store = s })) (hear_quiet c 960 (event_begun d).store)
+        (counts_first _ (hear_quiet c 960 (event_begun d).store)
         (hear_same c 960 (event_begun d).store).holds
         (λ s _ e. h s (record { a = e.a; b = e.b; held = e.held; half = e.half; cylinders = e.cylinders })))
 
@@ -92,11 +91,7 @@ module _ {F P H R : Type 0} (c : Contents F P H R) where
       counts_try (λ ok. counts_if ok
       (λ _. event_counts (λ r w (a : Option Stepped). CommandTransfers n up r w) d (λ z. command_by c z z.history.running z.chain)
       (λ s e.
-      subst (λ (k : ℕ). Counts (λ r w z (a : Option Stepped). CommandTransfers (k * 15) up r w) 0 0
-      (command_by c (record (event_begun d) { store = s }) d.history.running d.chain)) e.cylinders
-      (subst (λ (k : ℕ). Counts (λ r w z (a : Option Stepped). CommandTransfers (tracks_of s) k r w) 0 0
-      (command_by c (record (event_begun d) { store = s }) d.history.running d.chain)) (same_up d.store s e)
-      (command_so c (record (event_begun d) { store = s }) d.history.running d.chain))))
+      rw (← e.cylinders) (rw (← (same_up d.store s e)) (command_so c (record (event_begun d) { store = s }) d.history.running d.chain))))
       (λ _. counts_done (record { most_reads = omega arith; most_writes = omega arith })))
 
   -- The second part of a write
@@ -120,8 +115,7 @@ module _ {F P H R : Type 0} (c : Contents F P H R) where
   second_so d None = counts_done (refl, refl)
   second_so d (Some h) =
       let n = both (takes_b d.store) false in
-      counts_then (λ s done. second_ended c (with_store d s) h.track h.origin done)
-      (counts_of (Within d.store SecondPart) 0 0 (second_part c d.store h) (second_moves c d.store h).moves)
+      counts_then _ (counts_of (Within d.store SecondPart) 0 0 (second_part c d.store h) (second_moves c d.store h).moves)
       (λ r w s done k.
       origin_over (SecondTransfers n) r w (within_second n r w k.most_reads k.least_writes k.most_writes) (with_store d s) h.track h.origin done)
 
@@ -136,8 +130,7 @@ module _ {F P H R : Type 0} (c : Contents F P H R) where
   second_counts d =
       event_counts (λ r w (a : SecondEnd). SecondTransfers (second_writing d.store) r w) d (λ z. second_of c z z.store.half)
       (λ s e.
-      subst (λ (k : ℕ). Counts (λ r w z (a : SecondEnd). SecondTransfers k r w) 0 0 (second_of c (record (event_begun d) { store = s }) s.half))
-      (half_same d.store s e) (second_so (record (event_begun d) { store = s }) s.half))
+      rw (← (half_same d.store s e)) (second_so (record (event_begun d) { store = s }) s.half))
 
   -- What it does by itself
 
@@ -149,8 +142,7 @@ module _ {F P H R : Type 0} (c : Contents F P H R) where
       let n = sides_writing d.store in
       event_counts (λ r w (a : Option Did). WorkTransfers up n a r w) d (λ z. and_then (work c z.store) (λ s did. Done (with_store z s) did))
       (λ s e.
-      counts_then (λ y did. Done (with_store (record (event_begun d) { store = s }) y) did)
-      (work_counts c up n s (same_writing d.store s e) (same_up d.store s e)) (λ r w y a k. counts_done k))
+      counts_then _ (work_counts c up n s (same_writing d.store s e) (same_up d.store s e)) (λ r w y a k. counts_done k))
 
   -- What moves nothing
 
@@ -159,13 +151,13 @@ module _ {F P H R : Type 0} (c : Contents F P H R) where
   lose_counts d loss =
       event_counts (λ r w (a : Unit {0}). NoTransfers r w) d (λ z. and_then (losing c z.store loss) (λ s _. Done (with_store z s) tt))
       (λ s e.
-      counts_past (λ y _. Done (with_store (record (event_begun d) { store = s }) y) tt) (losing_quiet c s loss) (λ y _. counts_done (refl, refl)))
+      counts_past _ (losing_quiet c s loss) (λ y _. counts_done (refl, refl)))
 
   pub power_counts : (d : Device F P H) → Counts (λ r w z (a : Unit {0}). NoTransfers r w) 0 0 (power c d)
   unfolding U.power
   power_counts d =
       quiet_counts (λ r w (a : Unit {0}). NoTransfers r w) d (λ z. and_then (half_cut c z.store z.store.half) (λ s _. Done (powered_off c z s) tt))
-      (counts_past (λ s _. Done (powered_off c (event_begun d) s) tt) (cut_quiet c (event_begun d).store d.store.half) (λ s _. counts_done (refl, refl)))
+      (counts_past _ (cut_quiet c (event_begun d).store d.store.half) (λ s _. counts_done (refl, refl)))
 
   abbrev Still : ℕ → ℕ → Device F P H → Unit {0} → Type 0
   Still r w z a = NoTransfers r w
@@ -194,7 +186,7 @@ module _ {F P H R : Type 0} (c : Contents F P H R) where
 
     imaged : Counts Looks 0 0 (peek_image c s t)
     imaged =
-        counts_then (had_by (λ z i. Done z (Some (peeked i)))) (image_reads c peek_usage t (sides_up s) s (omega arith))
+        counts_then _ (image_reads c peek_usage t (sides_up s) s (omega arith))
         (λ r w z o h. seen_by r w z (h.reads, h.writes) o)
 
     by_half : (o : Option (HalfWrite H)) → Counts Looks 0 0 (peek_half c s t o)
@@ -211,7 +203,7 @@ module _ {F P H R : Type 0} (c : Contents F P H R) where
   peek_counts d t =
       quiet_counts (λ r w (a : Option Peeked). LookTransfers (sides_up d.store) r w) d
       (λ z. and_then (peek_track c z.store t) (λ s found. Done (with_store z s) found))
-      (counts_then (λ s found. Done (with_store (event_begun d) s) found) (track_looks (event_begun d).store t) (λ r w s a h. counts_done h))
+      (counts_then _ (track_looks (event_begun d).store t) (λ r w s a h. counts_done h))
 
 -- A hit
 
@@ -221,8 +213,7 @@ module _ (d : WholeDevice) where
       Counts (λ r w y (a : Option Stepped). r ≡ 0) 0 0 (event contents d (λ y. command_by contents y y.history.running y.chain))
   hit_event o chain t f running at needs is modified ends =
       let b = event_begun d in
-      counts_then (event_ended contents d)
-      (counts_first (λ s _. command_by contents (record b { store = s }) d.history.running d.chain) (hear_quiet contents 960 b.store)
+      counts_then _ (counts_first _ (hear_quiet contents 960 b.store)
       (hear_keeps t f modified 960 b.store is).holds
       (λ s _ kept.
       subst (λ (l : Option ChainState). Counts (λ r w y (a : Option Stepped). r ≡ 0) 0 0 (command_by contents (record b { store = s }) d.history.running l))

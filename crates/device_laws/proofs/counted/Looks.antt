@@ -53,7 +53,7 @@ use Rattle.device_laws.specs.Seen as seen
 use Rattle.device_laws.specs.Seen.{NotCalled, LastOf, ReadFrom, ReadNone, IsMissed, IsHit, Saw, SawNone}
 use Rattle.device_laws.specs.Moved.{Moved, Counted, miss_reads}
 use Rattle.device_laws.proofs.counted.Counting.{ran_moved}
-use Rattle.device_laws.proofs.counted.Exact.{LevelBy, level_exact}
+use Rattle.device_laws.proofs.counted.ReadCounts.{LevelBy, level_exact}
 use Rattle.device_laws.proofs.counted.RanCounts.{counted_from, counted_to, moved_counted, based_rest, quiet_base}
 use Rattle.device_laws.proofs.counted.RanParts.{split, quiet_ran, same_calls}
 use Rattle.device_laws.proofs.PoolWalks.{missed_asks}
@@ -177,7 +177,7 @@ module _ {K : Type 0} (had : Bool → Type 0) (hears : Hearing Image K) where
       module _ (e : DeviceStore) {s : DeviceStore} {u v w z : Calls} (from : IsMissed s usage t u x v) (same : x.counts ≡ s.counts)
           (first : Ran had hears (level_bytes contents x t) v y g w) (quiet : NotCalled w z) (over : e.counts ≡ y.counts) where
         with_bytes : (o : Option (List ℕ)) → g.bytes ≡ o → Ran had hears (level_bytes contents x t) v y (got g.side o g.fault) w
-        with_bytes o is = subst (λ (k : Option (List ℕ)). Ran had hears (level_bytes contents x t) v y (got g.side k g.fault) w) is first
+        with_bytes o is = rw (← is) first
 
         counted_in : {reads : ℕ} → Counted reads 0 x.counts y.counts → Counted reads 0 s.counts e.counts
         counted_in h = counted_from (sym same) (counted_to h over)
@@ -271,8 +271,7 @@ module _ {K : Type 0} (had : Bool → Type 0) (hears : Hearing Image K) where
     framed_quiet s f None e is r = absurd (cc)
     framed_quiet s f (Some g) e is {u = u} {z = z} {a = a} r =
         let same : g ≡ f = cc in
-        subst (λ (x : Frame). NotCalled u z × (a ≡ Some (Has x.image))) same
-        (modified_quiet s g g.modified (ap (λ (x : Frame). x.modified) same ∙ is) r)
+        rw (← same) (modified_quiet s g g.modified (ap (λ (x : Frame). x.modified) same ∙ is) r)
 
     pub modified_is_hit : (s : DeviceStore) (f : Frame) → frame_at s t ≡ Some f → f.modified ≡ true → {u z : Calls} {e : DeviceStore} {a : Option Imaged} →
         Ran had hears (image contents s usage t) u e a z → NotCalled u z × (a ≡ Some (Has f.image))
@@ -312,8 +311,7 @@ module _ {K : Type 0} (had : Bool → Type 0) (hears : Hearing Image K) where
     clean_quiet s f None e clean unpassed p listed told r = absurd (cc)
     clean_quiet s f (Some g) e clean unpassed p listed {u = u} {z = z} {a = a} told r =
         let same : g ≡ f = cc in
-        subst (λ (x : Frame). NotCalled u z × (a ≡ Some (Has x.image))) same
-        (by_mark s g p g.modified (ap (λ (x : Frame). x.modified) same ∙ clean) unpassed listed told r)
+        rw (← same) (by_mark s g p g.modified (ap (λ (x : Frame). x.modified) same ∙ clean) unpassed listed told r)
 
     pub clean_is_hit : (s : DeviceStore) (f : Frame) (p : Pool) → frame_at s t ≡ Some f → f.modified ≡ false → is_bypass usage.mode ≡ false →
         is_listed p.frames s.device t ≡ true → {u z : Calls} {e : DeviceStore} {a : Option Imaged} → u.port.pool ≡ Some p →

@@ -1,5 +1,5 @@
 -- The reads of a track from its level sides, and those of a command's look at it.
-use Rattle.std.proofs.Common.{◌≡◌, ◌≤◌, ℕ, Bool, true, false, Option, Some, None, is_some, refl, sym, subst, arith}
+use Rattle.std.proofs.Common.{◌≡◌, ◌≤◌, ℕ, Bool, true, false, Option, Some, None, is_some, refl, arith, ap, sym, subst}
 use Rattle.std.specs.Prelude.{if◌then◌else◌, ◌&&◌, not}
 use Rattle.ckd_types.specs.declared.parameters.Mode.{Mode}
 use Rattle.ckd_types.specs.declared.paths.Side.{Side}
@@ -16,7 +16,6 @@ use Rattle.device_defs.specs.Image.{
   got,
   Imaged,
   Has,
-  first_faulty_side,
   read_counted,
   ahead,
   loads,
@@ -36,12 +35,12 @@ use Rattle.device_defs.specs.Image.{
   clean_image,
   image_by,
   image,
+  first_faulty_side,
 }
-use Rattle.device_defs.specs.Store.{Store, stale_at, level_at, frame_at, patch_at, with_frame}
-use Rattle.device_defs.specs.Transfers.{Miss, Within, both}
+use Rattle.device_defs.specs.Store.{Store, stale_at, level_at, frame_at, patch_at, with_frame, SideMarks}
+use Rattle.device_defs.specs.Transfers.{Miss, Within, both, one_or_both, Moves}
 use Rattle.device_laws.proofs.QuietParts.{failed_quiet}
-use Rattle.device_laws.proofs.ReadMoves.{level_moves}
-use Rattle.device_laws.specs.Moved.{sides_up}
+use Rattle.device_laws.specs.Moved.{sides_up, miss_reads}
 use Rattle.device_laws.proofs.counted.Counting.{
   Counts,
   counts_done,
@@ -50,11 +49,13 @@ use Rattle.device_laws.proofs.counted.Counting.{
   counts_read,
   counts_then,
   counts_weaker,
-  counts_moves,
   counts_first,
   counts_if,
+  moves_of,
 }
-use Rattle.device_laws.proofs.counted.SidesLeft.{Fewer, fewer_then, ahead_up, failed_fewer}
+use Rattle.device_laws.proofs.counted.SidesLeft.{Fewer, fewer_then, ahead_up, failed_fewer, failed_leaves}
+use Rattle.device_laws.specs.Seen.{ReadFrom, ReadNone, from_a, from_b, after_a, none_level, a_failed, b_failed, both_failed}
+use Rattle.device_laws.proofs.Always.{always_and}
 
 level_by : (x y p q : Bool) → both (x && p) (y && q) ≤ both x y
 level_by true true true true = omega arith
@@ -73,6 +74,11 @@ module _ {F P H : Type 0} where
     level_gave : {side : Side} {bytes : R} → LevelSo s 1 0 (read_counted s true) (got side (Some bytes) None)
     level_none : LevelSo s 0 0 s (got B None None)
     level_failed : {r : ℕ} {z : Store F P H} {last side : Side} {bytes : Option R} → 1 ≤ r → Fewer s z → LevelSo s r 0 z (got last bytes (Some side))
+
+  -- exactly, by the sides that have the track
+  abbrev pub LevelBy : {R : Type 0} → Store F P H → ℕ → ℕ → ℕ → Got R → Option R → Type 0
+  LevelBy s t r w g (Some x) = (r ≡ miss_reads g.fault) × (w ≡ 0) × ReadFrom s t g.side g.fault
+  LevelBy s t r w g None = (w ≡ 0) × ReadNone s t r g.fault
 
   pub record LevelReads {R : Type 0} (s : Store F P H) (r w : ℕ) (z : Store F P H) (g : Got R) : Type 0 where
     pub most : r ≤ sides_up s
@@ -97,54 +103,103 @@ module _ {F P H : Type 0} where
 
 module _ {F P H R : Type 0} (c : Contents F P H R) where
   module _ (s : Store F P H) (t : ℕ) where
-    abbrev So : ℕ → ℕ → Store F P H → Got R → Type 0
-    So r w z g = LevelSo s r w z g
+    pub record Level (r w : ℕ) (z : Store F P H) (g : Got R) : Type 0 where
+      pub within : Within s (Miss t) r w
+      pub so : LevelSo s r w z g
+      pub by : LevelBy s t r w g g.bytes
 
-    second_failed : (z : Store F P H) → Fewer s z → (r : ℕ) → 1 ≤ r → (bytes : Option R) →
-        Counts So r 0 (second_read c (Some A) (read_counted z (is_some bytes)) bytes)
-    second_failed z few r le (Some x) = counts_done (level_failed le (read_again s z true few))
-    second_failed z few r le None =
+    within : (a b : Bool) → level_at s.a t ≡ a → level_at s.b t ≡ b → (r : ℕ) → (one_or_both a b).least ≤ r → r ≤ both a b → Within s (Miss t) r 0
+    within a b e f r low high = record {
+      least_reads = rw e (subst (λ (y : Bool). (one_or_both a y).least ≤ r) (sym f) low);
+      most_reads = subst (λ (x : Bool). r ≤ both x (level_at s.b t)) (sym e) (subst (λ (y : Bool). r ≤ both a y) (sym f) high);
+      least_writes = omega arith;
+      most_writes = omega arith;
+    }
+
+    one_fits : (b : Bool) → 1 ≤ both true b
+    one_fits true = omega arith
+    one_fits false = omega arith
+
+    second_at : (z : Store F P H) → Fewer s z → level_at s.a t ≡ true → level_at s.b t ≡ true → (bytes : Option R) →
+        Counts Level 2 0 (second_read c (Some A) (read_counted z (is_some bytes)) bytes)
+    second_at z few level other (Some x) = counts_done (record {
+      within = within true true level other 2 (omega arith) (omega arith);
+      so = level_failed (omega arith) (read_again s z true few);
+      by = (refl, refl, after_a level other);
+    })
+    second_at z few level other None =
         let y = read_counted z false in
         counts_first (λ x _. Done x (got B None (Some (first_faulty_side (Some A) B)))) (failed_quiet c y B None) (failed_fewer c y B None).holds
-        (λ x _ e. counts_done (level_failed le (fewer_then s z x few (none_up z x e))))
+        (λ x _ e. counts_done (record {
+          within = within true true level other 2 (omega arith) (omega arith);
+          so = level_failed (omega arith) (fewer_then s z x few (none_up z x e));
+          by = (refl, both_failed level other);
+        }))
 
-    after_a : (z : Store F P H) → Fewer s z → (l : Bool) →
-        Counts So 1 0 (if l then read_side c z B t (second_read c (Some A)) else Done z (got B None (Some A)))
-    after_a z few true = counts_read (λ bytes. second_failed z few 2 (omega arith) bytes)
-    after_a z few false = counts_done (level_failed (omega arith) few)
+    behind_a : (z : Store F P H) → Fewer s z → level_at s.a t ≡ true → (l : Bool) → level_at s.b t ≡ l →
+        Counts Level 1 0 (if l then read_side c z B t (second_read c (Some A)) else Done z (got B None (Some A)))
+    behind_a z few level true other = counts_read (λ bytes. second_at z few level other bytes)
+    behind_a z few level false other = counts_done (record {
+      within = within true false level other 1 (omega arith) (omega arith);
+      so = level_failed (omega arith) few;
+      by = (refl, a_failed level other);
+    })
 
-    first_so : (bytes : Option R) → Counts So 1 0 (first_read c t (read_counted s (is_some bytes)) bytes)
-    first_so (Some r) = counts_done level_gave
-    first_so None =
+    first_at : level_at s.a t ≡ true → (bytes : Option R) → Counts Level 1 0 (first_read c t (read_counted s (is_some bytes)) bytes)
+    first_at level (Some r) = counts_done (record {
+      within = within true (level_at s.b t) level refl 1 (omega arith) (one_fits (level_at s.b t));
+      so = level_gave;
+      by = (refl, refl, from_a level);
+    })
+    first_at level None =
         let y = read_counted s false in
-        counts_first (λ z _. read_b c z t (Some A)) (failed_quiet c y A None) (failed_fewer c y A None).holds
-        (λ z _ e. after_a z (none_up s z e) (level_at z.b t))
+        counts_first (λ z _. read_b c z t (Some A)) (failed_quiet c y A None) (always_and (failed_fewer c y A None) (failed_leaves c y None)).holds
+        (λ z _ e. behind_a z (none_up s z e.0) level (level_at z.b t) (ap (λ (m : SideMarks). level_at m t) (sym e.1)))
 
-    only_b : (bytes : Option R) → Counts So 1 0 (second_read c None (read_counted s (is_some bytes)) bytes)
-    only_b (Some r) = counts_done level_gave
-    only_b None =
+    only_at : level_at s.a t ≡ false → level_at s.b t ≡ true → (bytes : Option R) →
+        Counts Level 1 0 (second_read c None (read_counted s (is_some bytes)) bytes)
+    only_at stale level (Some r) = counts_done (record {
+      within = within false true stale level 1 (omega arith) (omega arith);
+      so = level_gave;
+      by = (refl, refl, from_b stale level);
+    })
+    only_at stale level None =
         let y = read_counted s false in
         counts_first (λ z _. Done z (got B None (Some (first_faulty_side None B)))) (failed_quiet c y B None) (failed_fewer c y B None).holds
-        (λ z _ e. counts_done (level_failed (omega arith) (none_up s z e)))
+        (λ z _ e. counts_done (record {
+          within = within false true stale level 1 (omega arith) (omega arith);
+          so = level_failed (omega arith) (none_up s z e);
+          by = (refl, b_failed stale level);
+        }))
 
-    by_b : (l : Bool) → Counts So 0 0 (if l then read_side c s B t (second_read c None) else Done s (got B None None))
-    by_b true = counts_read (λ bytes. only_b bytes)
-    by_b false = counts_done level_none
+    by_b : level_at s.a t ≡ false → (l : Bool) → level_at s.b t ≡ l →
+        Counts Level 0 0 (if l then read_side c s B t (second_read c None) else Done s (got B None None))
+    by_b stale true level = counts_read (λ bytes. only_at stale level bytes)
+    by_b stale false level = counts_done (record {
+      within = within false false stale level 0 (omega arith) (omega arith);
+      so = level_none;
+      by = (refl, none_level stale level);
+    })
 
-    by_a : (l : Bool) → Counts So 0 0 (if l then read_side c s A t (first_read c t) else read_b c s t None)
-    by_a true = counts_read (λ bytes. first_so bytes)
-    by_a false = by_b (level_at s.b t)
+    by_a : (l : Bool) → level_at s.a t ≡ l → Counts Level 0 0 (if l then read_side c s A t (first_read c t) else read_b c s t None)
+    by_a true level = counts_read (λ bytes. first_at level bytes)
+    by_a false level = by_b level (level_at s.b t) refl
 
-    level_so : Counts So 0 0 (level_bytes c s t)
+    pub level_walk : Counts Level 0 0 (level_bytes c s t)
     unfolding I.level_bytes
-    level_so = by_a (level_at s.a t)
+    level_walk = by_a (level_at s.a t) refl
+
+    pub level_exact : Counts (λ r w z g. LevelBy s t r w g g.bytes) 0 0 (level_bytes c s t)
+    level_exact = counts_weaker level_walk (λ r w z g x. x.by)
+
+    pub level_moves : Moves (Within s (Miss t)) 0 0 (level_bytes c s t)
+    level_moves = moves_of (counts_weaker level_walk (λ r w z g x. x.within))
 
     level_most : (r w : ℕ) → Within s (Miss t) r w → r ≤ sides_up s
     level_most r w x = let e = x.most_reads in let f = level_by s.a.up s.b.up (not (stale_at s.a t)) (not (stale_at s.b t)) in omega (arith, e, f)
 
     pub level_reads : Counts (λ r w z g. LevelReads s r w z g) 0 0 (level_bytes c s t)
-    level_reads =
-        counts_weaker (counts_moves (Within s (Miss t)) (level_moves c s t) level_so) (λ r w z g x. record { most = level_most r w x.0; so = x.1 })
+    level_reads = counts_weaker level_walk (λ r w z g x. record { most = level_most r w x.within; so = x.so })
 
   -- A look
 
@@ -184,13 +239,12 @@ module _ {F P H R : Type 0} (c : Contents F P H R) where
 
     miss_so : (s : Store F P H) → sides_up s ≤ up → Counts By 0 0 (miss c s u t)
     miss_so s few =
-        counts_then (λ z g. missed c u t z g g.bytes) (level_reads s t)
+        counts_then _ (level_reads s t)
         (λ r w z g x.
         let f = level_fewer s x.so in
         let e = f.1 in
         let k = x.most in
-        subst (λ (n : ℕ). Counts By r n (missed c u t z g g.bytes)) (sym f.0)
-        (missed_so r (omega (arith, k, few)) z (omega (arith, e, few)) g g.bytes))
+        rw f.0 (missed_so r (omega (arith, k, few)) z (omega (arith, e, few)) g g.bytes))
 
     hit_so : (s : Store F P H) → sides_up s ≤ up → (f : F) → Counts By 0 0 (hit c s t f)
     hit_so s few f = at_once 0 (omega arith) s few _

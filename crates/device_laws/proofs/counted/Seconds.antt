@@ -81,8 +81,7 @@ module _ {K : Type 0} (had : Bool → Type 0) (hears : Hearing Image K) (d : Who
       let x = with_store (heard_by s) z in
       let f = acts_path z.acts d.history o running in
       by_entry x t f.0 f.1.1 (record { paths = refl; waiting = still_waiting z.acts d.history }) ok
-      (subst (λ (k : Option ChainState). Ran had hears (command_ended contents x t (Some f.0) k ok) u y a v) at
-      (subst (λ (l : Option OpenEntry). Ran had hears (command_ended contents x t l d.chain ok) u y a v) f.1.0 r))
+      (subst (λ (k : Option ChainState). Ran had hears (command_ended contents x t (Some f.0) k ok) u y a v) at (rw (← f.1.0) r))
 
   by_half : (s : DeviceStore) (h : HalfWrite Image) (bypass : Bool) (e : Edit) → h.origin ≡ OfCommand bypass e → d.history.running ≡ Some o →
       d.chain ≡ Some chain → (l : Option (HalfWrite Image)) → l ≡ Some h → {u v : Calls} {y : WholeDevice} {a : SecondEnd} →

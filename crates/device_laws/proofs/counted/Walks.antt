@@ -26,7 +26,7 @@ use Rattle.device_defs.specs.declared.counts.Counts.{Counts}
 use Rattle.device_defs.specs.declared.usage.Usage.{Usage}
 use Rattle.device_defs.specs.Choosing.{choose}
 use Rattle.device_defs.specs.Command as N
-use Rattle.device_defs.specs.Command.{Went, Over, On, came_of_write, went_by, went_on, looked, look, goes_on, follow}
+use Rattle.device_defs.specs.Command.{Went, Over, On, came_of_write, went_by, looked, look, goes_on, follow}
 use Rattle.device_defs.specs.Contents.{contents}
 use Rattle.device_defs.specs.Editing as E
 use Rattle.device_defs.specs.Editing.{unchosen, write, write_by, write_chosen, written, is_given}
@@ -45,7 +45,6 @@ use Rattle.device_laws.specs.Seen.{
   NotCalled,
   Look,
   look_at,
-  AreOf,
   EndsAs,
   reads_of,
   asks_write,
@@ -84,7 +83,7 @@ module _ {K : Type 0} (had : Bool → Type 0) (hears : Hearing Image K) where
     by_quiet s Through is = absurd (cc)
 
     written_quiet : (s : DeviceStore) (choice : Choice) → is_in_cache choice ≡ true → Quiet {R = List ℕ} (written contents s usage first t old edit choice)
-    written_quiet s choice is = quiet_then (λ z took. Done z (Some took)) (by_quiet s choice is) (λ z took. quiet_done)
+    written_quiet s choice is = quiet_then _ (by_quiet s choice is) (λ z took. quiet_done)
 
     clean_quiet : (s : DeviceStore) → Quiet {R = List ℕ} (E.clean_again contents s t)
     clean_quiet s = quiet_if (is_clean contents (frame_at s t)) (quiet_ask (λ _. quiet_done)) quiet_done

@@ -1,5 +1,5 @@
 -- The reads and writes of what a device does by itself.
-use Rattle.std.proofs.Common.{◌≡◌, ◌≤◌, ℕ, Bool, true, false, List, [], ◌∷◌, Option, Some, None, is_some, refl, sym, subst, arith}
+use Rattle.std.proofs.Common.{◌≡◌, ◌≤◌, ℕ, Bool, true, false, List, [], ◌∷◌, Option, Some, None, is_some, refl, arith}
 use Rattle.std.specs.Prelude.{◌||◌}
 use Rattle.ckd_types.specs.declared.paths.Side.{Side}
 use Rattle.track_image.specs.Image.{Image}
@@ -8,7 +8,6 @@ use Rattle.device_defs.specs.declared.answers.Did.{Did}
 use Rattle.device_defs.specs.declared.answers.Did.TheVariants.{Nothing, Recovered, Staged, Skipped, Destaged, Fault, BadBytes}
 use Rattle.device_defs.specs.Background as D
 use Rattle.device_defs.specs.Background.{
-  did,
   other,
   copies_to,
   to_copy,
@@ -92,8 +91,7 @@ module _ {F P H R : Type 0} (c : Contents F P H R) where
         (λ r w z o h.
         let le = h.most in
         let most = writing_up s in
-        subst (λ (k : ℕ). WorkTransfers up n o k w) (sym h.reads)
-        (saved_fits d 0 (omega arith) (omega arith) fits (omega (arith, le, most, same, few)) h.by))
+        rw h.reads (saved_fits d 0 (omega arith) (omega arith) fits (omega (arith, le, most, same, few)) h.by))
 
     -- behind one read
     saved_read : (s : Store F P H) → sides_writing s ≡ n → sides_up s ≤ up → 1 ≤ up → (t : ℕ) (i : Image) (d : Did) → Fits d 1 →
@@ -107,9 +105,7 @@ module _ {F P H R : Type 0} (c : Contents F P H R) where
         let f = h.is.reads in
         let is : r ≡ 1 = omega (arith, e, f) in
         let wrote : w ≡ h.writes = let k = h.more_writes in omega (arith, k) in
-        subst (λ (k : ℕ). WorkTransfers up n o k w) (sym is)
-        (subst (λ (k : ℕ). WorkTransfers up n o 1 k) (sym wrote)
-        (saved_fits d 1 (omega arith) one fits (omega (arith, le, most, same, few)) h.is.by)))
+        rw is (rw wrote (saved_fits d 1 (omega arith) one fits (omega (arith, le, most, same, few)) h.is.by)))
 
     -- behind reads of which one failed
     saved_late : (s : Store F P H) → sides_up s ≤ up → (reads : ℕ) → 1 ≤ reads → reads ≤ up → (t : ℕ) (i : Image) (d : Did) (side : Side) →
@@ -123,9 +119,7 @@ module _ {F P H R : Type 0} (c : Contents F P H R) where
         let f = h.is.reads in
         let is : r ≡ reads = omega (arith, e, f) in
         let wrote : w ≡ h.writes = let k = h.more_writes in omega (arith, k) in
-        subst (λ (k : ℕ). WorkTransfers up n o k w) (sym is)
-        (subst (λ (k : ℕ). WorkTransfers up n o reads k) (sym wrote)
-        (faulty_fits d side (sides_writing s) reads one le (omega (arith, less, most, few)) h.is.by)))
+        rw is (rw wrote (faulty_fits d side (sides_writing s) reads one le (omega (arith, less, most, few)) h.is.by)))
 
     -- Recovery
 
@@ -163,19 +157,18 @@ module _ {F P H R : Type 0} (c : Contents F P H R) where
     recover_so : (s : Store F P H) → sides_writing s ≡ n → sides_up s ≡ up → (t : ℕ) (o : Option F) → Counts Ends 0 0 (recover c s t o)
     recover_so s same few t (Some f) = saved_here s same (omega (arith, few)) t (framed_image c s t (Some f)) (Recovered t) (omega arith, refl)
     recover_so s same few t None =
-        counts_then (λ z g. recovered_bytes c t z g g.bytes) (level_reads c s t)
+        counts_then _ (level_reads c s t)
         (λ r w z g h. recovered_so s same few t (let le = h.most in omega (arith, le, few)) h.so)
 
     -- A copy
 
     copied_so : (t : ℕ) (side : Side) → 1 ≤ up → (s : Store F P H) (ok : Bool) → Counts Ends 1 1 (copied c t side s ok)
     copied_so t side one s true = counts_done (record { most_reads = one; most_writes = one; by_answer = (refl, refl) })
-    copied_so t side one s false =
-        counts_past (λ z _. Done z (Some (Fault side))) (failed_quiet c s side None) (λ z _. counts_done (failed_fits side 1 1 (omega arith) one one))
+    copied_so t side one s false = counts_past _ (failed_quiet c s side None) (λ z _. counts_done (failed_fits side 1 1 (omega arith) one one))
 
     copy_read_so : (t : ℕ) (side : Side) → 1 ≤ up → (s : Store F P H) (bytes : Option R) → Counts Ends 1 0 (copy_read c t side s bytes)
     copy_read_so t side one s None =
-        counts_past (λ z _. Done z (Some (Fault (other side)))) (failed_quiet c s (other side) None)
+        counts_past _ (failed_quiet c s (other side) None)
         (λ z _. counts_done (failed_fits (other side) 1 0 (omega arith) one (omega arith)))
     copy_read_so t side one s (Some r) = counts_write (λ ok. copied_so t side one (write_counted s ok) ok)
 
@@ -234,7 +227,7 @@ module _ {F P H R : Type 0} (c : Contents F P H R) where
 
     granted_so : (s : Store F P H) → sides_up s ≡ up → (t : ℕ) (given : Bool) → Counts Ends 0 0 (staging_granted c s t given)
     granted_so s few t true =
-        counts_then (λ z g. staged_bytes c t z g g.bytes) (level_reads c s t)
+        counts_then _ (level_reads c s t)
         (λ r w z g h. staged_so s t (let le = h.most in omega (arith, le, few)) h.so)
     granted_so s few t false = counts_done (skipped t)
 

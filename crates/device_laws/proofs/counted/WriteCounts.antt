@@ -1,17 +1,14 @@
 -- The writes of a track to the sides that take it, by what came of them; and those of a command's write.
-use Rattle.std.proofs.Common.{◌≡◌, ◌≤◌, ℕ, Bool, true, false, Option, Some, None, is_some, refl, sym, subst, ◌∙◌, arith}
+use Rattle.std.proofs.Common.{◌≡◌, ◌≤◌, ℕ, Bool, true, false, Option, Some, None, is_some, refl, sym, ◌∙◌, arith, ap}
 use Rattle.std.specs.Prelude.{if◌then◌else◌, ◌&&◌, not}
 use Rattle.ckd_types.specs.declared.paths.Side.{Side}
 use Rattle.ckd_types.specs.declared.paths.Side.TheVariants.{A, B}
-use Rattle.ckd_types.specs.declared.record.Edit.{Edit}
-use Rattle.ckd_types.specs.Parameters.{is_bypass}
-use Rattle.track_image.specs.Image.{Image, edited_image}
+use Rattle.track_image.specs.Image.{Image}
 use Rattle.device_outside.specs.declared.port.SlotGrant.{SlotGrant}
 use Rattle.device_outside.specs.declared.port.SlotGrant.TheVariants as grants
 use Rattle.device_outside.specs.Interaction.{Done, Tell, and_then}
 use Rattle.device_outside.specs.Keeper.{Firm}
 use Rattle.device_defs.specs.declared.answers.Choice.{Choice}
-use Rattle.device_defs.specs.declared.answers.Choice.TheVariants.{Provisional, Fast, Through}
 use Rattle.device_defs.specs.declared.answers.Did.{Did}
 use Rattle.device_defs.specs.declared.answers.Did.TheVariants.{Nothing, Half, Fault}
 use Rattle.device_defs.specs.declared.answers.Took.{Took}
@@ -19,28 +16,13 @@ use Rattle.device_defs.specs.declared.answers.Took.TheVariants.{Whole, Opened, U
 use Rattle.device_defs.specs.declared.usage.Usage.{Usage}
 use Rattle.device_defs.specs.Background.{saved_by, saving, saved}
 use Rattle.device_defs.specs.Choosing as G
-use Rattle.device_defs.specs.Choosing.{choose, choose_loose, choose_firm, fast_or_through, fast_by, slot_by, may_be_fast}
+use Rattle.device_defs.specs.Choosing.{choose, fast_or_through, fast_by, slot_by, may_be_fast}
 use Rattle.device_defs.specs.Contents.{Contents}
-use Rattle.device_defs.specs.Editing as E
-use Rattle.device_defs.specs.Editing.{
-  whole,
-  at_once,
-  through_by,
-  through,
-  write_by,
-  written,
-  is_given,
-  clean_again,
-  unchosen,
-  write_chosen,
-  write,
-  another_loose,
-}
 use Rattle.device_defs.specs.Effects.{hardened}
 use Rattle.device_defs.specs.Losses.{stale_everywhere, settled, framed_image}
 use Rattle.device_defs.specs.Owed.{is_clean}
-use Rattle.device_defs.specs.Store.{Origin, OfCommand, OfBackground, Store, has_level, takes_b, frame_at, patch_at, is_loose}
-use Rattle.device_defs.specs.Transfers.{FirstPart, Within, both}
+use Rattle.device_defs.specs.Store.{Origin, OfBackground, Store, takes_b, frame_at, patch_at, is_loose}
+use Rattle.device_defs.specs.Transfers.{both, one_or_both, Makes, FirstPart}
 use Rattle.device_defs.specs.Writing as V
 use Rattle.device_defs.specs.Writing.{
   Wrote,
@@ -48,41 +30,32 @@ use Rattle.device_defs.specs.Writing.{
   write_side,
   write_counted,
   alone_b,
-  unwritten,
   failed_a,
   first_a,
   taken_a,
   write_first,
   tried_b,
-  write_second,
   firm_first,
   write_done,
   write_opened,
+  unwritten,
 }
 use Rattle.device_laws.proofs.Always.{Always, always_done, always_tell}
-use Rattle.device_laws.proofs.QuietParts.{Quiet, quiet_done, quiet_ask, quiet_tell, quiet_then, quiet_if, failed_quiet, done_quiet, first_moves}
+use Rattle.device_laws.proofs.QuietParts.{Quiet, quiet_done, quiet_ask, quiet_tell, quiet_if, failed_quiet, done_quiet}
 use Rattle.device_laws.specs.Moved.{sides_up, sides_writing}
 use Rattle.device_laws.proofs.counted.Counting.{
   Counts,
   counts_done,
   counts_try,
   counts_ask,
-  counts_tell,
   counts_write,
   counts_then,
-  counts_weaker,
-  counts_moves,
-  counts_any,
   counts_first,
   counts_past,
   counts_if,
+  moves_of,
+  counts_weaker,
 }
-use Rattle.device_laws.proofs.counted.SidesLeft.{writing_up}
-
-none_writes : (x y : Bool) → x ≡ false → y ≡ false → both x y ≡ 0
-none_writes true y e f = absurd (cc)
-none_writes false true e f = absurd (cc)
-none_writes false false e f = refl
 
 two_up : (x y held : Bool) → x ≡ true → (y && not held) ≡ true → 2 ≤ both x y
 two_up true true held e f = omega arith
@@ -117,9 +90,25 @@ module _ {F P H : Type 0} where
     wrote_late : {w : ℕ} {z : Store F P H} {side : Side} → 1 ≤ w → WroteSo s 0 w z (wrote Whole (Some side))
     wrote_lost : {w : ℕ} {z : Store F P H} {side : Side} → 1 ≤ w → WroteSo s 0 w z (wrote Unwritten (Some side))
 
+  -- each of the n sides that take it was tried; but for side B where it was opened
+  abbrev pub FirstBy : ℕ → ℕ → Store F P H → Took → Type 0
+  FirstBy n w z Whole = w ≡ n
+  FirstBy n w z Opened = (w ≡ 1) × (2 ≡ n) × (takes_b z ≡ true)
+  FirstBy n w z Unwritten = w ≡ n
+
   pub record FirstWrites (s : Store F P H) (r w : ℕ) (z : Store F P H) (x : Wrote) : Type 0 where
-    pub most : w ≤ sides_writing s
+    pub reads : r ≡ 0
+    pub by : FirstBy (sides_writing s) w z x.took
     pub so : WroteSo s r w z x
+
+  first_most : (n w : ℕ) (z : Store F P H) (took : Took) → FirstBy n w z took → w ≤ n
+  first_most n w z Whole h = omega (arith, h)
+  first_most n w z Opened h = let a = h.0 in let b = h.1 in omega (arith, a, b)
+  first_most n w z Unwritten h = omega (arith, h)
+
+  takes_if : (x b : Bool) (s z : Store F P H) → takes_b s ≡ x → takes_b z ≡ x → takes_b (if b then s else z) ≡ x
+  takes_if x true s z e f = e
+  takes_if x false s z e f = f
 
   -- the same sides take what is written
   pub record Writes (n up : ℕ) (z : Store F P H) : Type 0 where
@@ -132,49 +121,80 @@ module _ {F P H : Type 0} where
 
 module _ {F P H R : Type 0} (c : Contents F P H R) where
   module _ (s : Store F P H) (t : ℕ) (r : R) where
-    abbrev So : ℕ → ℕ → Store F P H → Wrote → Type 0
-    So m w z x = WroteSo s m w z x
+    abbrev First : ℕ → ℕ → Store F P H → Wrote → Type 0
+    First m w z x = FirstWrites s m w z x
+
+    of_sides : (a b : Bool) → s.a.up ≡ a → takes_b s ≡ b → both a b ≡ sides_writing s
+    of_sides a b e f = ap (λ (k : Bool). both k b) (sym e) ∙ ap (both s.a.up) (sym f)
 
     -- the last side is tried, behind a failed call or alone
-    late_so : (ok : Bool) (z : Store F P H) → Counts So 0 2 (alone_b c t (Some A) A z ok)
-    late_so true z = counts_done (wrote_late (omega arith))
-    late_so false z =
-        counts_past (λ y _. Done (unwritten c y t) (wrote Unwritten (Some A))) (failed_quiet c z B (Some t)) (λ y _. counts_done (wrote_lost (omega arith)))
+    last_at : (w : ℕ) → w ≡ sides_writing s → 1 ≤ w → (fault : Option Side) (first : Side) →
+        ((z : Store F P H) → WroteSo s 0 w z (wrote Whole fault)) → (ok : Bool) (z : Store F P H) → Counts First 0 w (alone_b c t fault first z ok)
+    last_at w e le fault first so true z = counts_done (record { reads = refl; by = e; so = so _ })
+    last_at w e le fault first so false z =
+        counts_past (λ y _. Done (unwritten c y t) (wrote Unwritten (Some first))) (failed_quiet c z B (Some t))
+        (λ y _. counts_done (record { reads = refl; by = e; so = wrote_lost le }))
 
-    alone_so : (ok : Bool) (z : Store F P H) → Counts So 0 1 (alone_b c t None B z ok)
-    alone_so true z = counts_done wrote_whole
-    alone_so false z =
-        counts_past (λ y _. Done (unwritten c y t) (wrote Unwritten (Some B))) (failed_quiet c z B (Some t)) (λ y _. counts_done (wrote_lost (omega arith)))
+    failed_at : s.a.up ≡ true → (b : Bool) → takes_b s ≡ b → (z : Store F P H) → Counts First 0 1 (failed_a c t r b z)
+    failed_at up true takes z =
+        counts_write (λ ok. last_at 2 (of_sides true true up takes) (omega arith) (Some A) A (λ y. wrote_late (omega arith)) ok (write_counted z ok))
+    failed_at up false takes z = counts_done (record { reads = refl; by = of_sides true false up takes; so = wrote_lost (omega arith) })
 
-    failed_so : (b : Bool) (z : Store F P H) → Counts So 0 1 (failed_a c t r b z)
-    failed_so true z = counts_write (λ ok. late_so ok (write_counted z ok))
-    failed_so false z = counts_done (wrote_lost (omega arith))
-
-    taken_so : s.a.up ≡ true → (b : Bool) → takes_b s ≡ b → Counts {R = R} {I = Image} So 0 1
+    taken_at : s.a.up ≡ true → (b : Bool) → takes_b s ≡ b → Counts {R = R} {I = Image} First 0 1
         (Done (taken_a (write_counted s true) t) (wrote (if b then Opened else Whole) None))
-    taken_so up true takes = counts_done (wrote_opened (two_up s.a.up s.b.up s.held up takes))
-    taken_so up false takes = counts_done wrote_whole
+    taken_at up true takes = counts_done (record {
+      reads = refl;
+      by = (refl, of_sides true true up takes, takes_if (takes_b s) s.b.up _ _ refl refl ∙ takes);
+      so = wrote_opened (two_up s.a.up s.b.up s.held up takes);
+    })
+    taken_at up false takes = counts_done (record { reads = refl; by = of_sides true false up takes; so = wrote_whole })
 
-    first_so : s.a.up ≡ true → (ok : Bool) → Counts So 0 1 (first_a c t r (write_counted s ok) ok)
-    first_so up true = taken_so up (takes_b s) refl
-    first_so up false =
-        let y = write_counted s false in
-        counts_past (λ z _. failed_a c t r (takes_b y) z) (failed_quiet c y A (Some t)) (λ z _. failed_so (takes_b y) z)
+    first_tried : s.a.up ≡ true → (ok : Bool) → Counts First 0 1 (first_a c t r (write_counted s ok) ok)
+    first_tried up true = taken_at up (takes_b s) refl
+    first_tried up false =
+        counts_past (λ z _. failed_a c t r (takes_b s) z) (failed_quiet c (write_counted s false) A (Some t)) (λ z _. failed_at up (takes_b s) refl z)
 
-    by_sides : (a b : Bool) → s.a.up ≡ a → takes_b s ≡ b → Counts So 0 0
+    by_sides : (a b : Bool) → s.a.up ≡ a → takes_b s ≡ b → Counts First 0 0
         (if a then write_side c s A t r (first_a c t r)
         else if b then write_side c s B t r (alone_b c t None B) else Done (settled c s t) (wrote Unwritten None))
-    by_sides true b e f = counts_write (λ ok. first_so e ok)
-    by_sides false true e f = counts_write (λ ok. alone_so ok (write_counted s ok))
-    by_sides false false e f = counts_done (wrote_none (none_writes s.a.up (takes_b s) e f))
+    by_sides true b e f = counts_write (λ ok. first_tried e ok)
+    by_sides false true e f =
+        counts_write (λ ok. last_at 1 (of_sides false true e f) (omega arith) None B (λ y. wrote_whole) ok (write_counted s ok))
+    by_sides false false e f =
+        counts_done (record { reads = refl; by = of_sides false false e f; so = wrote_none (sym (of_sides false false e f)) })
 
-    write_so : Counts So 0 0 (write_first c s t r)
+    pub first_writes : Counts First 0 0 (write_first c s t r)
     unfolding V.write_first
-    write_so = by_sides s.a.up (takes_b s) refl refl
+    first_writes = by_sides s.a.up (takes_b s) refl refl
 
-    pub first_writes : Counts (λ m w z x. FirstWrites s m w z x) 0 0 (write_first c s t r)
-    first_writes =
-        counts_weaker (counts_moves (Within s FirstPart) (first_moves c s t r).moves write_so) (λ m w z x h. record { most = h.0.most_writes; so = h.1 })
+  least_both : (a b : Bool) → (one_or_both a b).least ≤ both a b
+  least_both true b = both_one b
+    where
+      both_one : (b : Bool) → 1 ≤ both true b
+      both_one true = omega arith
+      both_one false = omega arith
+  least_both false true = omega arith
+  least_both false false = omega arith
+
+  least_one : (a b : Bool) → (one_or_both a b).least ≤ 1
+  least_one true b = omega arith
+  least_one false true = omega arith
+  least_one false false = omega arith
+
+  first_least : (s z : Store F P H) (w : ℕ) (took : Took) → FirstBy (sides_writing s) w z took → (one_or_both s.a.up (takes_b s)).least ≤ w
+  first_least s z w Whole h = let least = least_both s.a.up (takes_b s) in omega (arith, h, least)
+  first_least s z w Opened h = let least = least_one s.a.up (takes_b s) in let one = h.0 in omega (arith, one, least)
+  first_least s z w Unwritten h = let least = least_both s.a.up (takes_b s) in omega (arith, h, least)
+
+  pub first_moves : (s : Store F P H) (t : ℕ) (r : R) → Makes s FirstPart (write_first c s t r)
+  first_moves s t r = record {
+    moves = moves_of (counts_weaker (first_writes s t r) (λ m w z x h. rw h.reads (record {
+      least_reads = omega arith;
+      most_reads = omega arith;
+      least_writes = first_least s z w x.took h.by;
+      most_writes = first_most (sides_writing s) w z x.took h.by;
+    })));
+  }
 
   -- before it a loose track becomes firm
 
@@ -230,11 +250,11 @@ module _ {F P H R : Type 0} (c : Contents F P H R) where
 
     saving_so : (s : Store F P H) → sides_writing s ≡ n → (fault : Option Side) → Counts (Ends fault) 0 0 (saving c s t i d fault)
     saving_so s same fault =
-        counts_first (λ z was_loose. and_then (write_first c z t (c.bytes i)) (λ y w. saved_by c t i d fault was_loose w.fault y w.took)) (firm_quiet s t)
+        counts_first _ (firm_quiet s t)
         (firm_writes s t).holds
         (λ z was_loose e.
-        counts_then (λ y w. saved_by c t i d fault was_loose w.fault y w.took) (first_writes z t (c.bytes i))
-        (λ m w y x h. part_so fault was_loose z (e.is ∙ same) (let le = h.most in let k = e.is in omega (arith, le, k, same)) h.so))
+        counts_then _ (first_writes z t (c.bytes i))
+        (λ m w y x h. part_so fault was_loose z (e.is ∙ same) (let le = first_most (sides_writing z) w y x.took h.by in let k = e.is in omega (arith, le, k, same)) h.so))
 
     pub saved_counts : (s : Store F P H) → sides_writing s ≡ n → (fault : Option Side) →
         Counts (λ r w z o. Saved n d fault r w o) 0 0 (saved c s t i d fault)
@@ -275,106 +295,6 @@ module _ {F P H R : Type 0} (c : Contents F P H R) where
         (λ _. counts_if (u.provisional && is_clean c (frame_at s t))
         (λ _. counts_ask (λ listed. counts_if listed (λ _. chosen _) (λ _. through_so))) (λ _. through_so))
 
-  module _ (up t : ℕ) (i : Image) (e : Edit) where
-    abbrev Up : {X : Type 0} → ℕ → ℕ → Store F P H → X → Type 0
-    Up r w z x = Written up r w
-
-    whole_quiet : (s : Store F P H) (bypass : Bool) → Quiet (whole c s t i e bypass)
-    whole_quiet s bypass = quiet_tell (λ _. quiet_then (λ y _. Done y Whole) (done_quiet c _ t i bypass) (λ y _. quiet_done))
-
-    whole_so : (s : Store F P H) (bypass : Bool) (w : ℕ) → w ≤ up → Counts Up 0 w (whole c s t i e bypass)
-    whole_so s bypass w le = counts_any (whole_quiet s bypass) (λ z x. record { reads = refl; writes = le })
-
-    -- the second part in the same event
-    pub tried_quiet : (s : Store F P H) (ok : Bool) → Quiet (tried_b c t s ok)
-    tried_quiet s true = quiet_done
-    tried_quiet s false = failed_quiet c s B (Some t)
-
-    record Twice (r w : ℕ) : Type 0 where
-      reads : r ≡ 0
-      writes : w ≤ 2
-
-    second_if : (s : Store F P H) (r : R) (b : Bool) → Counts (λ m w z x. Twice m w) 0 1 (if b then write_side c s B t r (tried_b c t) else Done s (tt {0}))
-    second_if s r true = counts_write (λ ok. counts_any (tried_quiet (write_counted s ok) ok) (λ z x. record { reads = refl; writes = omega arith }))
-    second_if s r false = counts_done (record { reads = refl; writes = omega arith })
-
-    second_so : (s : Store F P H) (r : R) → Counts (λ m w z x. Twice m w) 0 1 (write_second c s t r)
-    unfolding V.write_second
-    second_so s r = second_if s r (takes_b s)
-
-    once_so : (s : Store F P H) (bypass : Bool) → 2 ≤ up → Counts Up 0 1 (at_once c s t i e bypass)
-    once_so s bypass two =
-        counts_then (λ z _. if has_level z t then whole c z t i e bypass else Done (settled c z t) Unwritten) (second_so s (c.bytes i))
-        (λ m w z _ h.
-        let le = h.writes in
-        counts_if (has_level z t)
-        (λ _. subst (λ (k : ℕ). Counts Up k w (whole c z t i e bypass)) (sym h.reads) (whole_so z bypass w (omega (arith, le, two))))
-        (λ _. counts_done (record { reads = h.reads; writes = omega (arith, le, two) })))
-
-    by_part : (bypass opens was_loose : Bool) (s : Store F P H) → sides_up s ≡ up → {m w : ℕ} {z : Store F P H} {x : Wrote} → w ≤ up → WroteSo s m w z x →
-        Counts Up m w (through_by c t i e bypass opens was_loose z x.took)
-    by_part bypass opens was_loose s same {z = z} le wrote_whole = whole_so z bypass 1 le
-    by_part bypass opens was_loose s same {z = z} le (wrote_opened two) =
-        counts_if opens
-        (λ _. counts_past (λ y _. Done y Opened)
-        (opened_quiet z t i (OfCommand bypass e) was_loose) (λ y _. counts_done (record { reads = refl; writes = le })))
-        (λ _. once_so z bypass (omega (arith, two, same)))
-    by_part bypass opens was_loose s same le (wrote_none none) = counts_done (record { reads = refl; writes = le })
-    by_part bypass opens was_loose s same {w = w} {z = z} le (wrote_late one) = whole_so z bypass w le
-    by_part bypass opens was_loose s same le (wrote_lost one) = counts_done (record { reads = refl; writes = le })
-
-    through_up : (s : Store F P H) → sides_up s ≡ up → (bypass opens : Bool) → Counts Up 0 0 (through c s t i e bypass opens)
-    unfolding E.through
-    through_up s same bypass opens =
-        counts_first (λ z was_loose. and_then (write_first c z t (c.bytes i)) (λ y w. through_by c t i e bypass opens was_loose y w.took)) (firm_quiet s t)
-        (firm_writes s t).holds
-        (λ z was_loose k.
-        counts_then (λ y w. through_by c t i e bypass opens was_loose y w.took) (first_writes z t (c.bytes i))
-        (λ m w y x h.
-        let le = h.most in
-        let most = writing_up z in
-        let sides = k.sides in
-        by_part bypass opens was_loose z (k.sides ∙ same) (omega (arith, le, most, sides, same)) h.so))
-
-    none_written : (s : Store F P H) {X : Type 0} (x : X) → Counts {R = R} {I = Image} Up 0 0 (Done s x)
-    none_written s x = counts_done (record { reads = refl; writes = omega arith })
-
-    written_by : (u : Usage) (first : ℕ) (s : Store F P H) → sides_up s ≡ up → (choice : Choice) → Counts Up 0 0 (write_by c u first t i e s choice)
-    written_by u first s same Provisional = none_written _ _
-    written_by u first s same (Fast slot) = counts_tell (λ _. none_written _ _)
-    written_by u first s same Through = through_up s same (is_bypass u.mode) (not (another_loose s first t))
-
-  module _ (u : Usage) (first t : ℕ) (old : Image) (e : Edit) where
-    abbrev In : ℕ → ℕ → ℕ → Store F P H → Option Took → Type 0
-    In up r w z x = Written up r w
-
-    took_so : (up : ℕ) (s : Store F P H) → sides_up s ≡ up → (choice : Choice) → Counts (In up) 0 0 (written c s u first t old e choice)
-    took_so up s same choice =
-        counts_then (λ z took. Done z (Some took)) (written_by up t (edited_image e old) e u first s same choice) (λ r w z x h. counts_done h)
-
-    clean_so : (up : ℕ) (s : Store F P H) → Counts (In up) 0 0 (clean_again c s t)
-    clean_so up s =
-        counts_if (is_clean c (frame_at s t)) (λ _. counts_ask (λ _. counts_done (record { reads = refl; writes = omega arith })))
-        (λ _. counts_done (record { reads = refl; writes = omega arith }))
-
-    unchosen_so : (up : ℕ) (s : Store F P H) (choice : Choice) → Counts (In up) 0 0 (unchosen c s t choice)
-    unchosen_so up s Provisional = clean_so up s
-    unchosen_so up s (Fast (Some slot)) = counts_ask (λ _. clean_so up s)
-    unchosen_so up s (Fast None) = clean_so up s
-    unchosen_so up s Through = counts_done (record { reads = refl; writes = omega arith })
-
-    given_so : (s : Store F P H) (choice : Choice) → Counts (In (sides_up s)) 0 0 (write_chosen c u first t old e s choice)
-    given_so s choice =
-        counts_if (is_given c s choice)
-        (λ _. counts_tell (λ ok. counts_if ok (λ _. took_so (sides_up s) s refl choice) (λ _. unchosen_so (sides_up s) s choice)))
-        (λ _. took_so (sides_up s) s refl choice)
-
-    pub write_writes : (s : Store F P H) → Counts (In (sides_up s)) 0 0 (write c s u first t old e)
-    unfolding E.write
-    write_writes s = counts_try (λ ok. counts_if ok
-        (λ _. counts_then (write_chosen c u first t old e) (choice_so s u t)
-        (λ r w z choice h.
-        subst (λ (k : ℕ). Counts (In (sides_up s)) k w (write_chosen c u first t old e z choice)) (sym h.reads)
-        (subst (λ (k : ℕ). Counts (In (sides_up s)) 0 k (write_chosen c u first t old e z choice)) (sym h.writes)
-        (subst (λ (y : Store F P H). Counts (In (sides_up s)) 0 0 (write_chosen c u first t old e y choice)) (sym h.same) (given_so s choice)))))
-        (λ _. counts_done (record { reads = refl; writes = omega arith })))
+  pub tried_quiet : (t : ℕ) (s : Store F P H) (ok : Bool) → Quiet (tried_b c t s ok)
+  tried_quiet t s true = quiet_done
+  tried_quiet t s false = failed_quiet c s B (Some t)

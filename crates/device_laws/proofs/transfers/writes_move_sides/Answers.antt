@@ -1,5 +1,6 @@
 use Rattle.device_defs.specs.Contents.{contents, by_plain}
-use Rattle.device_laws.proofs.QuietParts.{first_moves, second_moves}
+use Rattle.device_laws.proofs.QuietParts.{second_moves}
+use Rattle.device_laws.proofs.counted.WriteCounts.{first_moves}
 use Rattle.device_laws.proofs.transfers.writes_move_sides.Goals as goal
 
 pub returns : goal.returns
