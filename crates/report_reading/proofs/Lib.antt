@@ -1,7 +1,7 @@
 mod Found
-mod Cut
+pub mod Cut
 mod NumberAgain
 mod AnswersAgain
-mod LinesAgain
+pub mod LinesAgain
 mod DataPieces
 mod CutWords
