@@ -89,12 +89,7 @@ again (lines.End e) h =
       short_read e.residual h.residual,
       note_read e.note,
     ) refl
-again (lines.Data bytes) h = rw (bytes_read bytes h) refl
-again (lines.Sense sense) h = rw (sized_read 32 sense.bytes h) refl
-again (lines.Half path device track) h = rw (path_read path h.0, device_read device h.1, track_read track h.2) refl
 again (lines.Back device answer) h = rw (device_read device h.0) (ap (λ r. r >>= (λ x. Ok (lines.Back device x))) (back_read answer h.1))
-again (lines.StepIdle device) h = rw (device_read device h) refl
-again (lines.RunIdle device) h = rw (device_read device h) refl
 again (lines.Loose device answer) h = rw (device_read device h.0) (ap (λ r. r >>= (λ x. Ok (lines.Loose device x))) (loose_read answer h.1))
 again (lines.Io reads writes) h =
     rw (long_read reads h.0, long_read writes h.1) (unless_none ((reads == 0) && (writes == 0)) Number (lines.Io reads writes))
@@ -104,16 +99,10 @@ again (lines.Over path device ordinal how) h =
       device_read device h.1,
       short_read ordinal h.2,
     ) (ap (λ r. r >>= (λ x. Ok (lines.Over path device ordinal x))) (over_read how h.3))
-again (lines.Reset path device) h = rw (path_read path h.0, device_read device h.1) refl
 again (lines.Order order a) h = order_again order a h.0 h.1
 again (lines.Device device totals) h = rw (device_read device h.0) (ap (λ r. r >>= (λ x. Ok (lines.Device device x))) (totals_read totals h.1))
-again (lines.Lost device track) h = rw (device_read device h.0, track_read track h.1) refl
-again (lines.Frame device track modified) h = rw (device_read device h.0, track_read track h.1, mark_read modified) refl
-again (lines.Fresh device) h = rw (device_read device h) refl
-again (lines.Left path device programs) h = rw (path_read path h.0, device_read device h.1, short_read programs h.2) refl
-again (lines.Unused events) h = rw (count_read events h) refl
-again lines.Finish h = refl
 again (lines.Sum of n) h = sum_again of n h
+again line h = grind (arith, path_read, device_read, track_read, short_read, count_read, bytes_read, sized_read, mark_read)
 
 key_solid : (key : Keyword) → is_solid (keyword_text key) ≡ true
 key_solid key = grind arith

@@ -12,7 +12,6 @@ use Rattle.plain_defs.specs.History.{History, IsPlain, OpenEntry}
 use Rattle.plain_defs.specs.Journal.{replay}
 use Rattle.plain_defs.specs.PlainState.{PlainState}
 use Rattle.device_defs.specs.declared.answers.Did.{Did as BackDid}
-use Rattle.device_defs.specs.declared.answers.Did.TheVariants as dids
 use Rattle.device_defs.specs.declared.answers.SecondEnd.{SecondEnd}
 use Rattle.device_defs.specs.declared.answers.SecondEnd.TheVariants as seconds
 use Rattle.device_defs.specs.declared.answers.Stepped.{Stepped}
@@ -335,15 +334,7 @@ back_line : (n : ℕ) (d : BackDid) → is_back_line n (lines.Back n (back_answe
 back_line n d = grind (arith, and_from, same_number)
 
 last_is : (d : BackDid) → is_last (back_answer d) ≡ stops d
-last_is dids.Nothing = refl
-last_is (dids.Recovered t) = refl
-last_is (dids.Copied t) = refl
-last_is (dids.Staged t) = refl
-last_is (dids.Skipped t) = refl
-last_is (dids.Destaged t) = refl
-last_is (dids.Half t) = refl
-last_is (dids.Fault side) = refl
-last_is (dids.BadBytes side) = refl
+last_is d = grind arith
 
 record BackSo (num : ℕ) (empty : PlainState) (x y : MarksDevice) (answer : Option BackDid) : Type 0 where
   follows : Follows num empty y

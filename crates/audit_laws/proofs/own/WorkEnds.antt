@@ -44,10 +44,7 @@ pub data IsWork (n : ℕ) : EventLine → Type 0 where
   of_settle : IsWork n (events.Settle n)
 
 pub works : {n : ℕ} {w : EventLine} → IsWork n w → worker_of w ≡ Some n
-works of_step = refl
-works of_run = refl
-works of_back = refl
-works of_settle = refl
+works k = grind arith
 
 -- what is left of the events behind a piece: the line goes on, or is over
 abbrev pub left_by : EventLine → AuditedDevice → Bool → List EventLine → List EventLine
@@ -144,12 +141,7 @@ module _ (xs : List AuditedDevice) (later : List EventLine) (a : AuditedDevice) 
 
     pub end_stands : (w : EventLine) (h : HalfWrite) → MayEnd a.number w h → a.half ≡ h → (e : CommandEnd) →
         in_event (outlines (record { devices = xs; events = w ∷ later; due = Next })) (lines.End (end_line o.path a.number o.ordinal e)) w ≡ true
-    end_stands w h step_ends is e = grind (arith, its_outline, or_left, its_end)
-    end_stands w h run_ends is e = grind (arith, its_outline, or_left, its_end)
-    end_stands w h step_seconds is e = grind (arith, its_outline, second_end e)
-    end_stands w h run_seconds is e = grind (arith, its_outline, second_end e)
-    end_stands w h back_seconds is e = back_fits (end_told e) is (second_end e)
-    end_stands w h settle_seconds is e = back_fits (end_told e) is (second_end e)
+    end_stands w h k is e = grind (arith, its_outline, or_left, its_end, second_end e)
 
     -- A command that ends
 
@@ -176,8 +168,7 @@ module _ (xs : List AuditedDevice) (later : List EventLine) (a : AuditedDevice) 
 
     half_stands : (w : EventLine) → MayEnd a.number w half.Closed → a.half ≡ half.Closed → (track : ℕ) →
         in_event (outlines (record { devices = xs; events = w ∷ later; due = Next })) (lines.Half o.path a.number track) w ≡ true
-    half_stands w step_ends closed track = grind (arith, its_outline, or_right)
-    half_stands w run_ends closed track = grind (arith, its_outline, or_right)
+    half_stands w k closed track = grind (arith, its_outline, or_right)
 
     pub halves_lead : (w : EventLine) (k : MayEnd a.number w half.Closed) → a.half ≡ half.Closed → IsPlain a.plans a.empty a.history → (track : ℕ)
         (acts : List Act) → NoLoss acts → AreActs (state_of a) None acts → (reads writes : ℕ) →
@@ -211,10 +202,7 @@ module _ (xs : List AuditedDevice) (later : List EventLine) (a : AuditedDevice) 
   second_stands : (w : EventLine) → IsWork a.number w → (answer : BackAnswer) → a.half ≡ half.OfBackground →
       is_second_line a.number (lines.Back a.number answer) ≡ true →
       in_event (outlines (record { devices = xs; events = w ∷ later; due = Next })) (lines.Back a.number answer) w ≡ true
-  second_stands w of_step answer is so = grind (arith, its_outline)
-  second_stands w of_run answer is so = grind (arith, its_outline)
-  second_stands w of_back answer is so = back_fits (lines.Back a.number answer) is so
-  second_stands w of_settle answer is so = back_fits (lines.Back a.number answer) is so
+  second_stands w k answer is so = grind (arith, its_outline)
 
   tells_stand : {w : EventLine} {answer : BackAnswer} {h : HalfWrite} → (k : MayTell w answer h) → a.half ≡ h →
       in_event (outlines (record { devices = xs; events = w ∷ later; due = Next })) (lines.Back a.number answer) w ≡ true
