@@ -22,13 +22,13 @@ pub mod StepParts
 pub mod WorkEnds
 pub mod Lossless
 pub mod StepsLeft
+pub mod ActLines
 pub mod PieceLines
 pub mod Pieces
 pub mod PieceEvents
 pub mod WorkLines
 pub mod BackParts
 pub mod LossDevices
-pub mod ActLines
 pub mod LentDevices
 pub mod Ties
 pub mod PairLines

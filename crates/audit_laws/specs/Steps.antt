@@ -16,7 +16,8 @@ use Rattle.report_text.specs.declared.answers.HowOver.TheVariants as how
 use Rattle.report_text.specs.declared.answers.LooseAnswer.TheVariants as loose
 use Rattle.report_text.specs.declared.line.ReportLine.{ReportLine}
 use Rattle.report_text.specs.declared.line.ReportLine.TheVariants as lines
-use Rattle.report_text.specs.Events.{ended_lines, io_lines, line_if}
+use Rattle.report_text.specs.declared.event.Happened.TheVariants as did
+use Rattle.report_text.specs.Events.{ended_lines, in_order, line_if}
 use Rattle.deck_audit.specs.declared.state.Did.{Did}
 use Rattle.deck_audit.specs.declared.state.Did.TheVariants.{CheckEnded, Ended}
 use Rattle.deck_audit.specs.declared.state.Due.TheVariants.{Behind, Next}
@@ -84,7 +85,7 @@ step_done xs later a h = record { devices = with_device xs (record a { history =
 -- the lines of a step with this end
 abbrev pub step_lines : AuditedDevice → OpenEntry → CommandEnd → List Act → ℕ → ℕ → Option ReportLine → List ReportLine
 step_lines a o e acts reads writes over =
-    (ended_lines o.path a.number o.ordinal e ++ map (act_line a.number) acts) ++ (io_lines reads writes ++ line_if over)
+    in_order (did.Ended o.path a.number o.ordinal e) (map (act_line a.number) acts) reads writes (line_if over)
 
 abbrev pub LeadsTowards : AuditState → List ReportLine → AuditState → Type 0
 LeadsTowards s ls t = (u : AuditState) × LeadsBy s ls u × Reaches (worker_number s) u t
@@ -113,6 +114,10 @@ WholeStepLeads xs later a o =
 
 -- The first part of a command's write, and work of the background
 
+-- the lines of such a piece of work, told by this line
+abbrev pub piece_lines : ReportLine → AuditedDevice → List Act → ℕ → ℕ → List ReportLine
+piece_lines line a acts reads writes = in_order (did.First line) (map (act_line a.number) acts) reads writes []
+
 abbrev pub worked_to : List AuditedDevice → List EventLine → AuditedDevice → List Act → HalfWrite → AuditState
 worked_to xs later a acts half = record {
   devices = with_device xs (record a { history = all_acted a.history acts; half = half });
@@ -124,12 +129,12 @@ abbrev pub HalfLeads : List AuditedDevice → List EventLine → AuditedDevice �
 HalfLeads xs later a o =
     IsPlain a.plans a.empty a.history → (track : ℕ) (acts : List Act) → NoLoss acts → AreActs (state_of a) None acts → (reads writes : ℕ) →
     LeadsTowards (before_step xs later a)
-    ((lines.Half o.path a.number track ∷ map (act_line a.number) acts) ++ (io_lines reads writes ++ line_if None)) (worked_to xs later a acts OfCommand)
+    (piece_lines (lines.Half o.path a.number track) a acts reads writes) (worked_to xs later a acts OfCommand)
 
 abbrev pub BackLeads : List AuditedDevice → List EventLine → AuditedDevice → Type 0
 BackLeads xs later a =
     IsPlain a.plans a.empty a.history → (answer : BackAnswer) → may_back (outline_of a) (lines.Back a.number answer) a.half ≡ true →
     (acts : List Act) → NoLoss acts → AreActs (state_of a) None acts → (reads writes : ℕ) →
     LeadsTowards (record { devices = xs; events = Back a.number ∷ later; due = Next })
-    ((lines.Back a.number answer ∷ map (act_line a.number) acts) ++ (io_lines reads writes ++ line_if None))
+    (piece_lines (lines.Back a.number answer) a acts reads writes)
     (worked_to xs later a acts (back_half a answer))

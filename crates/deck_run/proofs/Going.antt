@@ -59,7 +59,7 @@ use Rattle.subsystem_defs.specs.Subsystem.{Mounted, devices_of, mounted_in, numb
 use Rattle.subsystem_laws.specs.WholeStood.{Stood, number_at, IsMounted, is_mounted, AreMountedBy, one_more}
 use Rattle.deck_run.specs.Going.{StepsLeft, LinesLeft}
 use Rattle.deck_run.specs.Recording.{all_lines, lines_when}
-use Rattle.deck_run.proofs.Recorded.{step_lines}
+use Rattle.deck_run.proofs.Recorded.{asked_lines}
 use Rattle.deck_run.proofs.Telling.{all_known, none_tells}
 use Rattle.deck_run.specs.Opening.{is_open_line, are_open_lines}
 use Rattle.deck_run.specs.Standing.{StandsAs, stood_of, all_stood}
@@ -201,7 +201,7 @@ module _ {V : Type 0} {G : Ghosts V} where
   pub step_done : (s z : Subsystem V G) (told more : List ReportLine) (d k : ℕ) (last : runs.Subsystem) (all : List ReportLine) → k < 8193 →
       ((run : runs.Subsystem) → StandsAs s run → true ≡ is_busy (mounted_in run.mounted d)) →
       ((run : runs.Subsystem) → StandsAs s run → StandsAs z (happens run (events.Step d)).behind) →
-      ((run : runs.Subsystem) → StandsAs s run → more ≡ told ++ lines_when run (events.Step d) (work_told d (running_in (devices_of run) d) (did.RunIdle d)
+      ((run : runs.Subsystem) → StandsAs s run → more ≡ told ++ lines_when run (events.Step d) (work_told d (running_in (devices_of run) d) (did.First (told_lines.RunIdle d))
       (happens run (events.Step d)).end)) →
       StepsLeft s told d (8193 - k) last all → StepsLeft z more d (8193 - (k + 1)) last all
   step_done s z told more d k last all within busy goes tells left =
@@ -214,7 +214,7 @@ module _ {V : Type 0} {G : Ghosts V} where
         stands = goes left.now left.stands;
         rest = ap (λ (ts : List Logged). last_behind left.now ts) (sym one) ∙ left.rest;
         lines = further told more (lines_of (logged (Run d) o)) (all_lines (steps n d o.behind)) all
-            (tells left.now left.stands ∙ ap (λ (l : List ReportLine). told ++ l) (sym (step_lines left.now d)))
+            (tells left.now left.stands ∙ ap (λ (l : List ReportLine). told ++ l) (sym (asked_lines left.now (events.Step d) (Run d) tt)))
             (ap (λ (ts : List Logged). told ++ all_lines ts) (sym one) ∙ left.lines);
       }
 
@@ -266,7 +266,7 @@ module _ {V : Type 0} {G : Ghosts V} where
   idle_tells s run d told more idle stands is =
       is
       ∙ ap (λ (l : List ReportLine). told ++ (l ++ []))
-      (sym (none_tells s.devices.items run.mounted (did.RunIdle d) (all_known (all_stood s.devices.items) run.mounted stands.mounted)))
+      (sym (none_tells s.devices.items run.mounted (did.First (told_lines.RunIdle d)) (all_known (all_stood s.devices.items) run.mounted stands.mounted)))
       ∙ ap (λ (ts : List Logged). told ++ all_lines ts) (sym (run_idle run d (sym idle)))
 
   -- Event lines

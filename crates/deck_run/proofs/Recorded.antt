@@ -1,23 +1,22 @@
 -- The lines of an event of a run, by what it did; and what was recorded of it.
 use Rattle.std.proofs.Common.{◌≡◌, ◌∙◌, ◌++◌, ℕ, List, [], ◌∷◌, Option, Some, None, refl, sym, ap}
 use Rattle.std.proofs.lemmas.List.{append-nil}
-use Rattle.ckd_types.specs.declared.paths.Side.{Side}
 use Rattle.plain_defs.specs.declared.journal.Item.{Item}
 use Rattle.device_outside.specs.declared.volume.Volume.{Ghosts}
 use Rattle.device_core.specs.declared.device.Device.{Device}
 use Rattle.device_core.specs.State.{last_end}
 use Rattle.report_text.specs.declared.event.Loosed.{Loosed}
-use Rattle.report_text.specs.declared.answers.BackAnswer.TheVariants as backs
 use Rattle.report_text.specs.declared.answers.OrderAnswer.{OrderAnswer}
 use Rattle.report_text.specs.declared.answers.StartAnswer.{StartAnswer}
 use Rattle.report_text.specs.declared.event.Happened as report
 use Rattle.report_text.specs.declared.event.Happened.TheVariants as did
+use Rattle.report_text.specs.declared.line.ReportLine.TheVariants as lines
 use Rattle.report_text.specs.declared.line.ReportLine.{ReportLine}
 use Rattle.report_text.specs.declared.order.Order.{Order}
-use Rattle.report_text.specs.declared.order.Order.TheVariants as orders
 use Rattle.run_report.specs.declared.told.RunningProgram.{RunningProgram}
 use Rattle.run_report.specs.Answers.{order_answer, start_answer}
 use Rattle.run_report.specs.Events.{lines_of, running_in, work_lines, work_told}
+use Rattle.run_report.specs.Events.{told as told_as}
 use Rattle.run_report.specs.OneDevice.{lines_by}
 use Rattle.subsystem_core.specs.declared.subsystem.Subsystem.{Subsystem}
 use Rattle.subsystem_core.specs.Devices.{device_at}
@@ -29,7 +28,7 @@ use Rattle.subsystem_defs.specs.Beside.{behind_first}
 use Rattle.subsystem_defs.specs.Deeds.{Ends, Becomes, Asks, Each, Repairs, Lends}
 use Rattle.subsystem_defs.specs.Happening as H
 use Rattle.subsystem_defs.specs.Happening.{MarksDeed, Talk, asks, happens, happens_by}
-use Rattle.subsystem_defs.specs.Lines.{Logged, Once, Run, Settle, logged}
+use Rattle.subsystem_defs.specs.Lines.{Asked, Logged, Once, logged}
 use Rattle.subsystem_defs.specs.Subsystem as runs
 use Rattle.subsystem_defs.specs.Subsystem.{Mounted, devices_of, mounted_in}
 use Rattle.deck_run.specs.declared.pass.Passed.{Passed}
@@ -62,72 +61,20 @@ work_lines_by : (s : runs.Subsystem) (e : Event) (h : runs.Subsystem → report.
 work_lines_by s e h =
     ap (λ (z : runs.Subsystem). work_lines (h z) (happens s e).reads (happens s e).writes (devices_of z) (devices_of (happens s e).behind)) (before_is s e)
 
-pub step_lines : (s : runs.Subsystem) (d : ℕ) → lines_of (logged (Run d) (happens s (events.Step d)))
-    ≡ lines_when s (events.Step d) (work_told d (running_in (devices_of s) d) (did.RunIdle d) (happens s (events.Step d)).end)
-step_lines s d =
-    work_lines_by s (events.Step d) (λ (z : runs.Subsystem). work_told d (running_in (devices_of z) d) (did.RunIdle d) (happens s (events.Step d)).end)
+-- a loss of power alone is told device by device
+abbrev pub IsNoPower : Asked → Type 0
+IsNoPower (Once events.Power) = ⊥
+IsNoPower asked = Unit {0}
 
-pub back_lines : (s : runs.Subsystem) (d : ℕ) → lines_of (logged (Settle d) (happens s (events.Back d)))
-    ≡ lines_when s (events.Back d) (work_told d (running_in (devices_of s) d) (did.Back d backs.Nothing) (happens s (events.Back d)).end)
-back_lines s d =
-    work_lines_by s (events.Back d)
-    (λ (z : runs.Subsystem). work_told d (running_in (devices_of z) d) (did.Back d backs.Nothing) (happens s (events.Back d)).end)
+pub asked_lines : (s : runs.Subsystem) (e : Event) (asked : Asked) → IsNoPower asked →
+    lines_of (logged asked (happens s e)) ≡ lines_when s e (told_as (devices_of s) (happens s e).end asked)
+asked_lines s e (Once events.Power) calm = absurd calm
+asked_lines s e asked calm = work_lines_by s e (λ (z : runs.Subsystem). told_as (devices_of z) (happens s e).end asked)
 
 -- one event alone
-
-pub one_step_tells : (s : runs.Subsystem) (d : ℕ) (told more : List ReportLine) → more ≡ told ++ lines_when s (events.Step d)
-    (work_told d (running_in (devices_of s) d) (did.StepIdle d) (happens s (events.Step d)).end) →
-    more ≡ told ++ all_lines (logged (Once (events.Step d)) (happens s (events.Step d)) ∷ [])
-one_step_tells s d told more is =
-    is ∙ ap (λ (l : List ReportLine). told ++ l)
-    (sym (append-nil _ ∙ work_lines_by s (events.Step d)
-    (λ (z : runs.Subsystem). work_told d (running_in (devices_of z) d) (did.StepIdle d) (happens s (events.Step d)).end)))
-
-pub back_tells : (s : runs.Subsystem) (d : ℕ) (told more : List ReportLine) → more ≡ told ++ lines_when s (events.Back d)
-    (work_told d (running_in (devices_of s) d) (did.Back d backs.Nothing) (happens s (events.Back d)).end) →
-    more ≡ told ++ all_lines (logged (Once (events.Back d)) (happens s (events.Back d)) ∷ [])
-back_tells s d told more is =
-    is ∙ ap (λ (l : List ReportLine). told ++ l)
-    (sym (append-nil _ ∙ work_lines_by s (events.Back d)
-    (λ (z : runs.Subsystem). work_told d (running_in (devices_of z) d) (did.Back d backs.Nothing) (happens s (events.Back d)).end)))
-
-pub start_tells : (s : runs.Subsystem) (path d : ℕ) (told more : List ReportLine) → more ≡ told ++ lines_when s (events.Start path d)
-    (did.Started path d (start_answer (happens s (events.Start path d)).end)) →
-    more ≡ told ++ all_lines (logged (Once (events.Start path d)) (happens s (events.Start path d)) ∷ [])
-start_tells s path d told more is =
-    is ∙ ap (λ (l : List ReportLine). told ++ l)
-    (sym (append-nil _ ∙ work_lines_by s (events.Start path d)
-    (λ (z : runs.Subsystem). did.Started path d (start_answer (happens s (events.Start path d)).end))))
-
-pub reset_tells : (s : runs.Subsystem) (path d : ℕ) (told more : List ReportLine) → more ≡ told ++ lines_when s (events.Reset path d) (did.Reset path d) →
-    more ≡ told ++ all_lines (logged (Once (events.Reset path d)) (happens s (events.Reset path d)) ∷ [])
-reset_tells s path d told more is =
-    is ∙ ap (λ (l : List ReportLine). told ++ l)
-    (sym (append-nil _ ∙ work_lines_by s (events.Reset path d) (λ (z : runs.Subsystem). did.Reset path d)))
-
-pub fail_tells : (s : runs.Subsystem) (d : ℕ) (side : Side) (told more : List ReportLine) → more ≡ told ++ lines_when s (events.FailVolume d side)
-    (did.Ordered (orders.FailVolume d side) (order_answer (happens s (events.FailVolume d side)).end)) →
-    more ≡ told ++ all_lines (logged (Once (events.FailVolume d side)) (happens s (events.FailVolume d side)) ∷ [])
-fail_tells s d side told more is =
-    is ∙ ap (λ (l : List ReportLine). told ++ l)
-    (sym (append-nil _ ∙ work_lines_by s (events.FailVolume d side)
-    (λ (z : runs.Subsystem). did.Ordered (orders.FailVolume d side) (order_answer (happens s (events.FailVolume d side)).end))))
-
-pub suspend_tells : (s : runs.Subsystem) (d : ℕ) (told more : List ReportLine) → more ≡ told ++ lines_when s (events.Suspend d)
-    (did.Ordered (orders.Suspend d) (order_answer (happens s (events.Suspend d)).end)) →
-    more ≡ told ++ all_lines (logged (Once (events.Suspend d)) (happens s (events.Suspend d)) ∷ [])
-suspend_tells s d told more is =
-    is ∙ ap (λ (l : List ReportLine). told ++ l)
-    (sym (append-nil _ ∙ work_lines_by s (events.Suspend d)
-    (λ (z : runs.Subsystem). did.Ordered (orders.Suspend d) (order_answer (happens s (events.Suspend d)).end))))
-
-pub resume_tells : (s : runs.Subsystem) (d : ℕ) (told more : List ReportLine) → more ≡ told ++ lines_when s (events.Resume d)
-    (did.Ordered (orders.Resume d) (order_answer (happens s (events.Resume d)).end)) →
-    more ≡ told ++ all_lines (logged (Once (events.Resume d)) (happens s (events.Resume d)) ∷ [])
-resume_tells s d told more is =
-    is ∙ ap (λ (l : List ReportLine). told ++ l)
-    (sym (append-nil _ ∙ work_lines_by s (events.Resume d)
-    (λ (z : runs.Subsystem). did.Ordered (orders.Resume d) (order_answer (happens s (events.Resume d)).end))))
+pub event_tells : (s : runs.Subsystem) (e : Event) → IsNoPower (Once e) → (told more : List ReportLine) →
+    more ≡ told ++ lines_when s e (told_as (devices_of s) (happens s e).end (Once e)) → more ≡ told ++ all_lines (logged (Once e) (happens s e) ∷ [])
+event_tells s e calm told more is = is ∙ ap (λ (l : List ReportLine). told ++ l) (sym (append-nil _ ∙ asked_lines s e (Once e) calm))
 
 -- by its lines
 pub one_tells : (x : Logged) (told more : List ReportLine) → more ≡ told ++ lines_of x → more ≡ told ++ all_lines (x ∷ [])
@@ -153,11 +100,11 @@ module _ {V : Type 0} {G : Ghosts V} (s : Subsystem V G) (run : runs.Subsystem) 
   seen = sees_at s d p.end (happens run e).end y at has.ended
 
   pub start_recorded : (path : ℕ) (a : StartAnswer) (room : List ReportLine) → room ≡ told → a ≡ start_answer (start_end p.end) →
-      more ≡ room ++ lines_by d (did.Started path d a) acts p.calls.reads p.calls.writes items →
-      more ≡ told ++ lines_when run e (did.Started path d (start_answer (happens run e).end))
+      more ≡ room ++ lines_by d (did.First (lines.Start path d a)) acts p.calls.reads p.calls.writes items →
+      more ≡ told ++ lines_when run e (did.First (lines.Start path d (start_answer (happens run e).end)))
   start_recorded path a room same answered is =
-      recorded (did.Started path d a) (roomy (did.Started path d a) room same is)
-      ∙ ap (λ (x : StartAnswer). told ++ lines_when run e (did.Started path d x)) (answered ∙ start_is (last_end y) (happens run e).end p.end seen)
+      recorded (did.First (lines.Start path d a)) (roomy (did.First (lines.Start path d a)) room same is)
+      ∙ ap (λ (x : StartAnswer). told ++ lines_when run e (did.First (lines.Start path d x))) (answered ∙ start_is (last_end y) (happens run e).end p.end seen)
 
   pub order_recorded : (order : Order) (a : OrderAnswer) (room : List ReportLine) → room ≡ told → a ≡ order_answer (order_end p.end) →
       more ≡ room ++ lines_by d (did.Ordered order a) acts p.calls.reads p.calls.writes items →

@@ -5,6 +5,7 @@ use Rattle.std.proofs.lemmas.List.{append-nil}
 use Rattle.device_outside.specs.declared.volume.Volume.{Ghosts}
 use Rattle.report_text.specs.declared.answers.BackAnswer.TheVariants.{Nothing}
 use Rattle.report_text.specs.declared.event.Happened.TheVariants as did
+use Rattle.report_text.specs.declared.line.ReportLine.TheVariants as told_lines
 use Rattle.report_text.specs.declared.line.ReportLine.{ReportLine}
 use Rattle.run_report.specs.Events.{lines_of, running_in, work_told}
 use Rattle.subsystem_core.specs.declared.subsystem.Subsystem.{Subsystem}
@@ -18,7 +19,7 @@ use Rattle.deck_run.specs.Going.{BacksLeft}
 use Rattle.deck_run.specs.Recording.{all_lines, lines_when}
 use Rattle.deck_run.specs.Standing.{StandsAs}
 use Rattle.deck_run.proofs.Going.{IsOver, further, no_further}
-use Rattle.deck_run.proofs.Recorded.{back_lines}
+use Rattle.deck_run.proofs.Recorded.{asked_lines}
 
 backs_one : (n d : ℕ) (s : runs.Subsystem) (b : Bool) → b ≡ is_settled (happens s (events.Back d)).end →
     backs (suc n) d s ≡ logged (Settle d) (happens s (events.Back d)) ∷ (if b then [] else backs n d (happens s (events.Back d)).behind)
@@ -42,7 +43,7 @@ module _ {V : Type 0} {G : Ghosts V} where
     pub back_done : ((run : runs.Subsystem) → StandsAs s run → false ≡ is_settled (happens run (events.Back d)).end) →
         ((run : runs.Subsystem) → StandsAs s run → StandsAs z (happens run (events.Back d)).behind) →
         ((run : runs.Subsystem) → StandsAs s run → more
-        ≡ told ++ lines_when run (events.Back d) (work_told d (running_in (devices_of run) d) (did.Back d Nothing)
+        ≡ told ++ lines_when run (events.Back d) (work_told d (running_in (devices_of run) d) (did.First (told_lines.Back d Nothing))
         (happens run (events.Back d)).end)) →
         BacksLeft s told d (2946 - k) last all → BacksLeft z more d (2946 - (k + 1)) last all
     back_done goes_on goes tells left =
@@ -55,14 +56,14 @@ module _ {V : Type 0} {G : Ghosts V} where
           stands = goes left.now left.stands;
           rest = ap (λ (ts : List Logged). last_behind left.now ts) (sym one) ∙ left.rest;
           lines = further told more (lines_of (logged (Settle d) o)) (all_lines (backs n d o.behind)) all
-              (tells left.now left.stands ∙ ap (λ (l : List ReportLine). told ++ l) (sym (back_lines left.now d)))
+              (tells left.now left.stands ∙ ap (λ (l : List ReportLine). told ++ l) (sym (asked_lines left.now (events.Back d) (Settle d) tt)))
               (ap (λ (ts : List Logged). told ++ all_lines ts) (sym one) ∙ left.lines);
         }
 
     pub back_over : ((run : runs.Subsystem) → StandsAs s run → true ≡ is_settled (happens run (events.Back d)).end) →
         ((run : runs.Subsystem) → StandsAs s run → StandsAs z (happens run (events.Back d)).behind) →
         ((run : runs.Subsystem) → StandsAs s run → more
-        ≡ told ++ lines_when run (events.Back d) (work_told d (running_in (devices_of run) d) (did.Back d Nothing)
+        ≡ told ++ lines_when run (events.Back d) (work_told d (running_in (devices_of run) d) (did.First (told_lines.Back d Nothing))
         (happens run (events.Back d)).end)) →
         BacksLeft s told d (2946 - k) last all → IsOver z more last all
     back_over settled goes tells left =
@@ -72,7 +73,7 @@ module _ {V : Type 0} {G : Ghosts V} where
         ap (λ (m : ℕ). backs m d left.now) (one_fewer k within) ∙ backs_one n d left.now true (settled left.now left.stands) in
         record {
           stands = subst (StandsAs z) (ap (λ (ts : List Logged). last_behind left.now ts) (sym one) ∙ left.rest) (goes left.now left.stands);
-          lines = tells left.now left.stands ∙ ap (λ (l : List ReportLine). told ++ l) (sym (back_lines left.now d))
+          lines = tells left.now left.stands ∙ ap (λ (l : List ReportLine). told ++ l) (sym (asked_lines left.now (events.Back d) (Settle d) tt))
               ∙ ap (λ (l : List ReportLine). told ++ l) (sym (append-nil (lines_of (logged (Settle d) o))))
               ∙ ap (λ (ts : List Logged). told ++ all_lines ts) (sym one) ∙ left.lines;
         }

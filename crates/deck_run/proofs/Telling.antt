@@ -14,7 +14,7 @@ use Rattle.device_core.specs.State.{device_of}
 use Rattle.report_text.specs.declared.event.Happened.{Happened}
 use Rattle.report_text.specs.declared.event.Loosed.{Loosed}
 use Rattle.report_text.specs.declared.line.ReportLine.{ReportLine}
-use Rattle.report_text.specs.Events.{first_lines, io_lines, last_line, line_if, loosed_line, program_over_lines}
+use Rattle.report_text.specs.Events.{first_lines, in_order, last_line, line_if, loosed_line, program_over_lines}
 use Rattle.run_report.specs.declared.told.RunningProgram.{RunningProgram}
 use Rattle.run_report.specs.Beside.{loose_lines, loosed, of_each, over_lines, over_of}
 use Rattle.run_report.specs.Events.{running_by, running_in, running_program, work_lines}
@@ -306,20 +306,15 @@ module _ {V : Type 0} {G : Ghosts V} where
       work_lines h reads writes (map device ms) (map device ks)
       ≡ lines_by n h (loosed_between n x y) reads writes (new_items (device_of x).history (device_of y).history)
   one_tells n x y xs ms ks h reads writes all at now =
-      ap (λ (l : List ReportLine). first_lines h ++ (l ++ (io_lines reads writes
-      ++ (of_each over_lines (map device ms) (map device ks) ++ line_if (last_line h)))))
-      (one_loose n x y xs ms ks all at now)
-      ∙ ap (λ (l : List ReportLine). first_lines h ++ (map loosed_line (loosed_between n x y) ++ (io_lines reads writes
-      ++ (l ++ line_if (last_line h)))))
-      (one_over n x y xs ms ks all at now)
+      ap (λ (l : List ReportLine). in_order h l reads writes (of_each over_lines (map device ms) (map device ks))) (one_loose n x y xs ms ks all at now)
+      ∙ ap (in_order h (map loosed_line (loosed_between n x y)) reads writes) (one_over n x y xs ms ks all at now)
 
   -- where nothing came to a past
   pub none_came : (xs ys : List (Device V G)) (ms ks : List Mounted) (h : Happened) → HavePasts xs ys → AreKnown (all_stood xs) ms →
       AreKnown (all_stood ys) ks → work_lines h 0 0 (map device ms) (map device ks) ≡ first_lines h ++ line_if (last_line h)
   none_came xs ys ms ks h past all now =
-      ap (λ (l : List ReportLine). first_lines h ++ (l ++ (of_each over_lines (map device ms) (map device ks) ++ line_if (last_line h))))
-      (all_loose_none xs ys ms ks past all now)
-      ∙ ap (λ (l : List ReportLine). first_lines h ++ (l ++ line_if (last_line h))) (all_over_none xs ys ms ks past all now)
+      ap (λ (l : List ReportLine). in_order h l 0 0 (of_each over_lines (map device ms) (map device ks))) (all_loose_none xs ys ms ks past all now)
+      ∙ ap (in_order h [] 0 0) (all_over_none xs ys ms ks past all now)
 
   -- where nothing happened
   pub none_tells : (xs : List (Device V G)) (ms : List Mounted) (h : Happened) → AreKnown (all_stood xs) ms →

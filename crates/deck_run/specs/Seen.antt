@@ -7,9 +7,12 @@ use Rattle.device_core.specs.declared.history.Stepped.TheVariants as steps
 use Rattle.device_core.specs.declared.second.SecondStep.{SecondStep}
 use Rattle.device_core.specs.declared.second.SecondStep.TheVariants as parts
 use Rattle.device_core.specs.State.{DefinedDevice, last_end}
+use Rattle.report_text.specs.declared.answers.BackAnswer.{BackAnswer}
 use Rattle.report_text.specs.declared.answers.BackAnswer.TheVariants as back
 use Rattle.report_text.specs.declared.event.Happened.{Happened}
 use Rattle.report_text.specs.declared.event.Happened.TheVariants as did
+use Rattle.report_text.specs.declared.line.ReportLine.{ReportLine}
+use Rattle.report_text.specs.declared.line.ReportLine.TheVariants as lines
 use Rattle.run_report.specs.declared.told.RunningProgram.{RunningProgram}
 use Rattle.run_report.specs.Answers.{back_answer}
 use Rattle.run_report.specs.Events.{half_told}
@@ -67,11 +70,18 @@ is_ended (ends.Stepped s) = step_ended s
 is_ended (ends.Second s) = second_ended s
 is_ended _ = false
 
+-- what the background did
+abbrev pub back_told : ℕ → BackAnswer → Happened
+back_told d answer = did.First (lines.Back d answer)
+
 -- what is told where there was nothing to do, by who asked
+abbrev pub idle_line : ℕ → Asker → ReportLine
+idle_line d askers.Step = lines.StepIdle d
+idle_line d askers.Run = lines.RunIdle d
+idle_line d askers.Back = lines.Back d back.Nothing
+
 abbrev pub idle_told : ℕ → Asker → Happened
-idle_told d askers.Step = did.StepIdle d
-idle_told d askers.Run = did.RunIdle d
-idle_told d askers.Back = did.Back d back.Nothing
+idle_told d asker = did.First (idle_line d asker)
 
 -- what it did, where no command ended
 
@@ -81,11 +91,11 @@ half_seen d running idle (steps.Half t) = half_told d running t
 
 abbrev pub part_seen : ℕ → Happened → SecondStep → Happened
 part_seen d idle parts.Ended = idle
-part_seen d idle (parts.Finished t) = did.Back d (back.Finished t)
-part_seen d idle (parts.Unwritten t) = did.Back d (back.Unwritten t)
+part_seen d idle (parts.Finished t) = back_told d (back.Finished t)
+part_seen d idle (parts.Unwritten t) = back_told d (back.Unwritten t)
 
 abbrev pub work_seen : ℕ → Option RunningProgram → Happened → EventEnd → Happened
 work_seen d running idle (ends.Stepped s) = half_seen d running idle s
 work_seen d running idle (ends.Second s) = part_seen d idle s
-work_seen d running idle (ends.Back x) = did.Back d (back_answer x)
+work_seen d running idle (ends.Back x) = back_told d (back_answer x)
 work_seen d running idle _ = idle

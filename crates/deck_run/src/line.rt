@@ -1,6 +1,7 @@
 ghost use Rattle.std.specs.Prelude.{◌≡◌, ◌++◌, IfOk, OnOk, true};
 ghost use Rattle.report_text.specs.declared.answers.BackAnswer.TheVariants as none;
 ghost use Rattle.report_text.specs.declared.event.Happened.TheVariants as did;
+ghost use Rattle.report_text.specs.declared.line.ReportLine.TheVariants as lines;
 ghost use Rattle.run_report.specs.Answers.{order_answer, start_answer};
 ghost use Rattle.run_report.specs.Events.{running_in, work_told};
 ghost use Rattle.subsystem_core.specs.Devices.{numbers_of};
@@ -73,7 +74,7 @@ fn work<V: Volume>(
     ensures stands { (run : runs.Subsystem) → StandsAs sub.old run → OnOk result (StandsAs sub.new (happens run (Event.Back d)).behind) }
     ensures lines { (run : runs.Subsystem) → StandsAs sub.old run
         → OnOk result (report.new ≡ report.old ++ lines_when run (Event.Back d)
-        (work_told d (running_in (devices_of run) d) (did.Back d none.Nothing) (happens run (Event.Back d)).end)) }
+        (work_told d (running_in (devices_of run) d) (did.First (lines.Back d none.Nothing)) (happens run (Event.Back d)).end)) }
     ensures settled { (run : runs.Subsystem) → StandsAs sub.old run → IfOk result (λ settled. settled ≡ is_settled (happens run (Event.Back d)).end) }
 {
     report.make_room()?;
@@ -96,7 +97,7 @@ fn back<V: Volume>(
     ensures stands { (run : runs.Subsystem) → StandsAs sub.old run → OnOk result (StandsAs sub.new (happens run (Event.Back d)).behind) }
     ensures lines { (run : runs.Subsystem) → StandsAs sub.old run
         → OnOk result (report.new ≡ report.old ++ lines_when run (Event.Back d)
-        (work_told d (running_in (devices_of run) d) (did.Back d none.Nothing) (happens run (Event.Back d)).end)) }
+        (work_told d (running_in (devices_of run) d) (did.First (lines.Back d none.Nothing)) (happens run (Event.Back d)).end)) }
 {
     let _settled = work(alloc, sub, report, d)?;
     Ok(())
@@ -142,13 +143,17 @@ fn start<V: Volume>(
     ensures stands { (run : runs.Subsystem) → StandsAs sub.old run → OnOk result (StandsAs sub.new (happens run (Event.Start path d)).behind) }
     ensures lines { (run : runs.Subsystem) → StandsAs sub.old run
         → OnOk result (report.new ≡ report.old ++ lines_when run (Event.Start path d)
-        (did.Started path d (start_answer (happens run (Event.Start path d)).end))) }
+        (did.First (lines.Start path d (start_answer (happens run (Event.Start path d)).end)))) }
 {
     let _n = path.get();
     report.make_room()?;
     let passed = pass(alloc, sub, d, Event::Start(path, d))?;
     let items = behind_first(sub.device(d).journal(), passed.items);
-    let started = Happened::Started(path, d, start_answer(&start_end(&passed.end)));
+    let started = Happened::First(ReportLine::Start(
+        path,
+        d,
+        start_answer(&start_end(&passed.end)),
+    ));
     record_passed(report, d, started, &passed.acts, items, passed.calls)?;
     Ok(())
 }

@@ -8,7 +8,7 @@ ghost use Rattle.subsystem_core.specs.Ends.{end_seen};
 ghost use Rattle.subsystem_defs.specs.declared.end.EventEnd as defs;
 ghost use Rattle.subsystem_defs.specs.Lines.{stops};
 ghost use Rattle.deck_run.specs.Passing.{lines_passed};
-ghost use Rattle.deck_run.specs.Seen.{half_seen, idle_told, is_ended, part_seen, second_ended, settles, start_end, step_ended, work_seen};
+ghost use Rattle.deck_run.specs.Seen.{back_told, half_seen, idle_line, idle_told, is_ended, part_seen, second_ended, settles, start_end, step_ended, work_seen};
 
 use crate::pass::{Passed, behind_first};
 use ckd_types::{CommandEnd, DeviceNo, NoMemory};
@@ -16,7 +16,7 @@ use device_core::{Device, SecondStep, Stepped};
 use device_defs::Did;
 use device_outside::Volume;
 use plain_defs::Item;
-use report_text::{BackAnswer, Happened, Loosed, RunRecord};
+use report_text::{BackAnswer, Happened, Loosed, ReportLine, RunRecord};
 use run_report::{
     Calls, Gained, RunningProgram, back_answer, half_told, record_ended, record_event,
 };
@@ -31,15 +31,21 @@ pub(crate) enum Asker {
     Back,
 }
 
+fn idle_line(d: DeviceNo, asker: Asker) -> ReportLine
+    ensures { result ≡ idle_line d asker }
+{
+    match asker {
+        Asker::Step => ReportLine::StepIdle(d),
+        Asker::Run => ReportLine::RunIdle(d),
+        Asker::Back => ReportLine::Back(d, BackAnswer::Nothing),
+    }
+}
+
 /// What is told where there was nothing to do.
 fn idle_told(d: DeviceNo, asker: Asker) -> Happened
     ensures { result ≡ idle_told d asker }
 {
-    match asker {
-        Asker::Step => Happened::StepIdle(d),
-        Asker::Run => Happened::RunIdle(d),
-        Asker::Back => Happened::Back(d, BackAnswer::Nothing),
-    }
+    Happened::First(idle_line(d, asker))
 }
 
 /// The end of a start as the definitions have it.
@@ -116,13 +122,20 @@ fn half_seen(
     }
 }
 
+/// What the background did.
+fn back_told(d: DeviceNo, answer: BackAnswer) -> Happened
+    ensures { result ≡ back_told d answer }
+{
+    Happened::First(ReportLine::Back(d, answer))
+}
+
 fn part_seen(d: DeviceNo, idle: Happened, step: &SecondStep) -> Happened
     ensures { result ≡ part_seen d idle step.now }
 {
     match step {
         SecondStep::Ended => idle,
-        SecondStep::Finished(track) => Happened::Back(d, BackAnswer::Finished(*track)),
-        SecondStep::Unwritten(track) => Happened::Back(d, BackAnswer::Unwritten(*track)),
+        SecondStep::Finished(track) => back_told(d, BackAnswer::Finished(*track)),
+        SecondStep::Unwritten(track) => back_told(d, BackAnswer::Unwritten(*track)),
     }
 }
 
@@ -138,7 +151,7 @@ fn work_seen(
     match end {
         EventEnd::Stepped(step) => half_seen(d, running, idle, step),
         EventEnd::Second(step) => part_seen(d, idle, step),
-        EventEnd::Back(did) => Happened::Back(d, back_answer(*did)),
+        EventEnd::Back(did) => back_told(d, back_answer(*did)),
         _ => idle,
     }
 }

@@ -1,13 +1,10 @@
 -- The words that an answer is written with say the answer again, and have no space.
-use Rattle.std.proofs.Common.{◌≡◌, refl, true, Some, Ok, ap}
+use Rattle.std.proofs.Common.{◌≡◌, refl, true, Some, Ok, ap, arith}
 use Rattle.ckd_types.specs.declared.channel.Note.{Note}
-use Rattle.ckd_types.specs.declared.channel.Note.TheVariants.{Plain, IncorrectLength, Limit}
 use Rattle.ckd_types.specs.declared.paths.Owner.{Owner}
 use Rattle.ckd_types.specs.declared.paths.Owner.TheVariants as owners
 use Rattle.ckd_types.specs.declared.paths.Side.{Side}
-use Rattle.ckd_types.specs.declared.paths.Side.TheVariants.{A, B}
 use Rattle.report_text.specs.declared.answers.BackAnswer.{BackAnswer}
-use Rattle.report_text.specs.declared.answers.BackAnswer.TheVariants as back
 use Rattle.report_text.specs.declared.answers.DeviceTotals.{DeviceTotals}
 use Rattle.report_text.specs.declared.answers.DeviceTotals.TheVariants as totals
 use Rattle.report_text.specs.declared.answers.HowOver.{HowOver}
@@ -17,7 +14,6 @@ use Rattle.report_text.specs.declared.answers.LooseAnswer.TheVariants as loose
 use Rattle.report_text.specs.declared.answers.OrderAnswer.{OrderAnswer}
 use Rattle.report_text.specs.declared.answers.OrderAnswer.TheVariants as order_answers
 use Rattle.report_text.specs.declared.answers.OrderRefusal.{OrderRefusal}
-use Rattle.report_text.specs.declared.answers.OrderRefusal.TheVariants as faults
 use Rattle.report_text.specs.declared.answers.StartAnswer.{StartAnswer}
 use Rattle.report_text.specs.declared.answers.StartAnswer.TheVariants as start
 use Rattle.report_reading.specs.Answers.{answer_at, back_at, fault_at, loose_at, over_at, owner_at, start_at, totals_at}
@@ -32,23 +28,17 @@ use Rattle.report_reading.proofs.NumberAgain.{short_read, short_solid, sized_rea
 
 pub side_read : (side : Side) → side_of (keyword_text (side_key side)) ≡ Some side
 unfolding is_key
-side_read A = refl
-side_read B = refl
+side_read side = grind arith
 
 pub side_solid : (side : Side) → is_solid (keyword_text (side_key side)) ≡ true
-side_solid A = refl
-side_solid B = refl
+side_solid side = grind arith
 
 pub note_read : (note : Note) → note_of (keyword_text (note_key note)) ≡ Some note
 unfolding is_key
-note_read Plain = refl
-note_read IncorrectLength = refl
-note_read Limit = refl
+note_read note = grind arith
 
 pub note_solid : (note : Note) → is_solid (keyword_text (note_key note)) ≡ true
-note_solid Plain = refl
-note_solid IncorrectLength = refl
-note_solid Limit = refl
+note_solid note = grind arith
 
 pub owner_read : (x : Owner) → IsOwner x → owner_at (owner_words x) 0 ≡ Ok x
 unfolding is_key
@@ -70,40 +60,14 @@ start_read (start.Reserved owner) h = ap (λ r. r >>= (λ x. Ok (start.Reserved 
 start_read (start.Shut owner) h = ap (λ r. r >>= (λ x. Ok (start.Shut x))) (owner_read owner h)
 
 pub start_solid : (x : StartAnswer) → IsStart x → are_solid (start_words x) ≡ true
-start_solid (start.Accepted n) h = rw (short_solid n h) refl
-start_solid (start.Busy n) h = rw (path_solid n h) refl
-start_solid start.Done h = refl
-start_solid start.Running h = refl
-start_solid (start.Secondary n) h = rw (device_solid n h) refl
-start_solid (start.Reserved owner) h = owner_solid owner h
-start_solid (start.Shut owner) h = owner_solid owner h
+start_solid x h = grind (arith, short_solid, path_solid, device_solid, owner_solid)
 
 pub back_read : (x : BackAnswer) → IsBack x → back_at (back_words x) 0 ≡ Ok x
 unfolding is_key
-back_read back.Nothing h = refl
-back_read (back.Recovered n) h = rw (track_read n h) refl
-back_read (back.Copied n) h = rw (track_read n h) refl
-back_read (back.Staged n) h = rw (track_read n h) refl
-back_read (back.Skipped n) h = rw (track_read n h) refl
-back_read (back.Destaged n) h = rw (track_read n h) refl
-back_read (back.Half n) h = rw (track_read n h) refl
-back_read (back.Finished n) h = rw (track_read n h) refl
-back_read (back.Unwritten n) h = rw (track_read n h) refl
-back_read (back.Fault side) h = rw (side_read side) refl
-back_read (back.BadBytes side) h = rw (side_read side) refl
+back_read x h = grind (arith, track_read, side_read)
 
 pub back_solid : (x : BackAnswer) → IsBack x → are_solid (back_words x) ≡ true
-back_solid back.Nothing h = refl
-back_solid (back.Recovered n) h = rw (track_solid n h) refl
-back_solid (back.Copied n) h = rw (track_solid n h) refl
-back_solid (back.Staged n) h = rw (track_solid n h) refl
-back_solid (back.Skipped n) h = rw (track_solid n h) refl
-back_solid (back.Destaged n) h = rw (track_solid n h) refl
-back_solid (back.Half n) h = rw (track_solid n h) refl
-back_solid (back.Finished n) h = rw (track_solid n h) refl
-back_solid (back.Unwritten n) h = rw (track_solid n h) refl
-back_solid (back.Fault side) h = rw (side_solid side) refl
-back_solid (back.BadBytes side) h = rw (side_solid side) refl
+back_solid x h = grind (arith, track_solid, side_solid)
 
 pub loose_read : (x : LooseAnswer) → IsLoose x → loose_at (loose_words x) 0 ≡ Ok x
 unfolding is_key
@@ -123,40 +87,14 @@ over_read how.Checked h = refl
 over_read (how.Cut n) h = rw (short_read n h) refl
 
 pub over_solid : (x : HowOver) → IsOver x → are_solid (over_words x) ≡ true
-over_solid how.Full h = refl
-over_solid how.Checked h = refl
-over_solid (how.Cut n) h = rw (short_solid n h) refl
+over_solid x h = grind (arith, short_solid)
 
 pub fault_read : (x : OrderRefusal) → IsFault x → fault_at (fault_words x) 0 ≡ Ok x
 unfolding is_key
-fault_read faults.Same h = refl
-fault_read (faults.Lent n) h = rw (device_read n h) refl
-fault_read faults.Paired h = refl
-fault_read faults.Unpaired h = refl
-fault_read (faults.Active n) h = rw (path_read n h) refl
-fault_read faults.Geometry h = refl
-fault_read faults.NoSide h = refl
-fault_read faults.Down h = refl
-fault_read faults.Up h = refl
-fault_read (faults.NotLevel n) h = rw (short_read n h) refl
-fault_read faults.Half h = refl
-fault_read faults.Held h = refl
-fault_read faults.NotHeld h = refl
+fault_read x h = grind (arith, device_read, path_read, short_read)
 
 pub fault_solid : (x : OrderRefusal) → IsFault x → are_solid (fault_words x) ≡ true
-fault_solid faults.Same h = refl
-fault_solid (faults.Lent n) h = rw (device_solid n h) refl
-fault_solid faults.Paired h = refl
-fault_solid faults.Unpaired h = refl
-fault_solid (faults.Active n) h = rw (path_solid n h) refl
-fault_solid faults.Geometry h = refl
-fault_solid faults.NoSide h = refl
-fault_solid faults.Down h = refl
-fault_solid faults.Up h = refl
-fault_solid (faults.NotLevel n) h = rw (short_solid n h) refl
-fault_solid faults.Half h = refl
-fault_solid faults.Held h = refl
-fault_solid faults.NotHeld h = refl
+fault_solid x h = grind (arith, device_solid, path_solid, short_solid)
 
 pub answer_read : (x : OrderAnswer) → IsAnswer x → answer_at (answer_words x) 0 ≡ Ok x
 unfolding is_key
@@ -165,9 +103,7 @@ answer_read (order_answers.Pending n) h = rw (count_read n h) refl
 answer_read (order_answers.Refused fault) h = ap (λ r. r >>= (λ x. Ok (order_answers.Refused x))) (fault_read fault h)
 
 pub answer_solid : (x : OrderAnswer) → IsAnswer x → are_solid (answer_words x) ≡ true
-answer_solid order_answers.Done h = refl
-answer_solid (order_answers.Pending n) h = rw (count_solid n h) refl
-answer_solid (order_answers.Refused fault) h = fault_solid fault h
+answer_solid x h = grind (arith, count_solid, fault_solid)
 
 pub totals_read : (x : DeviceTotals) → IsTotals x → totals_at (totals_words x) 0 ≡ Ok x
 unfolding is_key
@@ -176,6 +112,4 @@ totals_read (totals.Lost n) h = rw (long_read n h) refl
 totals_read (totals.Lent n) h = rw (device_read n h) refl
 
 pub totals_solid : (x : DeviceTotals) → IsTotals x → are_solid (totals_words x) ≡ true
-totals_solid (totals.Calls reads writes lost) h = rw (long_solid reads h.0, long_solid writes h.1, long_solid lost h.2) refl
-totals_solid (totals.Lost n) h = rw (long_solid n h) refl
-totals_solid (totals.Lent n) h = rw (device_solid n h) refl
+totals_solid x h = grind (arith, long_solid, device_solid)

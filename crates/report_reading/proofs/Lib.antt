@@ -1,9 +1,9 @@
 pub mod Feeds
 mod Found
-mod Cut
+pub mod Cut
 mod NumberAgain
 mod AnswersAgain
-mod LinesAgain
+pub mod LinesAgain
 mod DataPieces
 mod EndPieces
 mod CutWords

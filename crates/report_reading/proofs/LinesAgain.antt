@@ -1,9 +1,8 @@
 -- The text of a line is read as that line.
-use Rattle.std.proofs.Common.{◌≡◌, ◌∷◌, [], refl, sym, true, false, Bool, Some, Result, Ok, Err, ap, ◌∙◌, rules}
+use Rattle.std.proofs.Common.{◌≡◌, ◌∷◌, [], refl, sym, true, false, Bool, Some, Result, Ok, Err, ap, ◌∙◌, arith, rules}
 use Rattle.std.specs.Prelude.{List, ℕ, ◌==◌, ◌&&◌, not, if◌then◌else◌}
 use Rattle.std.specs.Str.{bytes_eq}
 use Rattle.report_text.specs.declared.answers.SumOf.{SumOf}
-use Rattle.report_text.specs.declared.answers.SumOf.TheVariants as sums
 use Rattle.report_text.specs.declared.answers.OrderAnswer.{OrderAnswer}
 use Rattle.report_text.specs.declared.answers.OrderAnswer.TheVariants as order_answers
 use Rattle.report_reading.specs.declared.fault.LineFault.{LineFault}
@@ -12,6 +11,7 @@ use Rattle.report_text.specs.declared.line.ReportLine.{ReportLine}
 use Rattle.report_text.specs.declared.line.ReportLine.TheVariants as lines
 use Rattle.report_text.specs.declared.order.Order.{Order}
 use Rattle.report_text.specs.declared.order.Order.TheVariants as orders
+use Rattle.report_text.specs.declared.keyword.Keyword.{Keyword}
 use Rattle.report_text.specs.Keywords.{keyword_text}
 use Rattle.report_text.specs.Lines.{key_of, text_of, words_in_line}
 use Rattle.report_reading.specs.Places.{◌>>=◌, cut_words, is_key, mark_of}
@@ -40,19 +40,14 @@ unless_none false fault line = refl
 abbrev Again : ReportLine → Type 0
 Again line = line_by (keyword_text (key_of line) ∷ words_in_line line) ≡ said line
 
--- neither its keyword nor another word has a space
-record Solid (line : ReportLine) : Type 0 where
+-- neither its keyword nor another word has a space or a line feed
+pub record Solid (line : ReportLine) : Type 0 where
   pub first : is_solid (keyword_text (key_of line)) ≡ true
   pub others : are_solid (words_in_line line) ≡ true
 
 mark_read : (modified : Bool) → mark_of (keyword_text (mark_key modified)) ≡ Some modified
 unfolding is_key
-mark_read true = refl
-mark_read false = refl
-
-mark_solid : (modified : Bool) → is_solid (keyword_text (mark_key modified)) ≡ true
-mark_solid true = refl
-mark_solid false = refl
+mark_read modified = grind arith
 
 order_again : (order : Order) (a : OrderAnswer) → IsOrder order → IsAnswer a → Again (lines.Order order a)
 unfolding is_key
@@ -73,35 +68,12 @@ order_again orders.Power order_answers.Done h g = refl
 order_again orders.Power (order_answers.Pending tracks) h g = refl
 order_again orders.Power (order_answers.Refused fault) h g = refl
 
-order_solid : (order : Order) (a : OrderAnswer) → IsOrder order → IsAnswer a → Solid (lines.Order order a)
-order_solid orders.FailCache a h g = record { first = refl; others = rw (answer_solid a g) refl }
-order_solid orders.FailStore a h g = record { first = refl; others = rw (answer_solid a g) refl }
-order_solid (orders.FailVolume device side) a h g = record { first = refl; others = rw (device_solid device h, side_solid side, answer_solid a g) refl }
-order_solid orders.RepairCache a h g = record { first = refl; others = rw (answer_solid a g) refl }
-order_solid orders.RepairStore a h g = record { first = refl; others = rw (answer_solid a g) refl }
-order_solid (orders.Replace device side) a h g = record { first = refl; others = rw (device_solid device h, side_solid side, answer_solid a g) refl }
-order_solid (orders.Pair first second) a h g = record { first = refl; others = rw (device_solid first h.0, device_solid second h.1, answer_solid a g) refl }
-order_solid (orders.Unpair device) a h g = record { first = refl; others = rw (device_solid device h, answer_solid a g) refl }
-order_solid (orders.Suspend device) a h g = record { first = refl; others = rw (device_solid device h, answer_solid a g) refl }
-order_solid (orders.Resume device) a h g = record { first = refl; others = rw (device_solid device h, answer_solid a g) refl }
-order_solid orders.Power a h g = record { first = refl; others = rw (answer_solid a g) refl }
+order_solid : (order : Order) (a : OrderAnswer) → IsOrder order → IsAnswer a → are_solid (words_in_line (lines.Order order a)) ≡ true
+order_solid order a h g = grind (arith, device_solid, side_solid, answer_solid)
 
 sum_again : (of : SumOf) (n : ℕ) → IsLong n → Again (lines.Sum of n)
 unfolding is_key
-sum_again sums.Programs n h = rw (long_read n h) refl
-sum_again sums.Commands n h = rw (long_read n h) refl
-sum_again sums.Checks n h = rw (long_read n h) refl
-sum_again sums.Reads n h = rw (long_read n h) refl
-sum_again sums.Writes n h = rw (long_read n h) refl
-sum_again sums.Lost n h = rw (long_read n h) refl
-
-sum_solid : (of : SumOf) (n : ℕ) → IsLong n → Solid (lines.Sum of n)
-sum_solid sums.Programs n h = record { first = refl; others = rw (long_solid n h) refl }
-sum_solid sums.Commands n h = record { first = refl; others = rw (long_solid n h) refl }
-sum_solid sums.Checks n h = record { first = refl; others = rw (long_solid n h) refl }
-sum_solid sums.Reads n h = record { first = refl; others = rw (long_solid n h) refl }
-sum_solid sums.Writes n h = record { first = refl; others = rw (long_solid n h) refl }
-sum_solid sums.Lost n h = record { first = refl; others = rw (long_solid n h) refl }
+sum_again of n h = grind (arith, long_read)
 
 again : (line : ReportLine) → IsLine line → Again line
 unfolding is_key
@@ -117,12 +89,7 @@ again (lines.End e) h =
       short_read e.residual h.residual,
       note_read e.note,
     ) refl
-again (lines.Data bytes) h = rw (bytes_read bytes h) refl
-again (lines.Sense sense) h = rw (sized_read 32 sense.bytes h) refl
-again (lines.Half path device track) h = rw (path_read path h.0, device_read device h.1, track_read track h.2) refl
 again (lines.Back device answer) h = rw (device_read device h.0) (ap (λ r. r >>= (λ x. Ok (lines.Back device x))) (back_read answer h.1))
-again (lines.StepIdle device) h = rw (device_read device h) refl
-again (lines.RunIdle device) h = rw (device_read device h) refl
 again (lines.Loose device answer) h = rw (device_read device h.0) (ap (λ r. r >>= (λ x. Ok (lines.Loose device x))) (loose_read answer h.1))
 again (lines.Io reads writes) h =
     rw (long_read reads h.0, long_read writes h.1) (unless_none ((reads == 0) && (writes == 0)) Number (lines.Io reads writes))
@@ -132,52 +99,30 @@ again (lines.Over path device ordinal how) h =
       device_read device h.1,
       short_read ordinal h.2,
     ) (ap (λ r. r >>= (λ x. Ok (lines.Over path device ordinal x))) (over_read how h.3))
-again (lines.Reset path device) h = rw (path_read path h.0, device_read device h.1) refl
 again (lines.Order order a) h = order_again order a h.0 h.1
 again (lines.Device device totals) h = rw (device_read device h.0) (ap (λ r. r >>= (λ x. Ok (lines.Device device x))) (totals_read totals h.1))
-again (lines.Lost device track) h = rw (device_read device h.0, track_read track h.1) refl
-again (lines.Frame device track modified) h = rw (device_read device h.0, track_read track h.1, mark_read modified) refl
-again (lines.Fresh device) h = rw (device_read device h) refl
-again (lines.Left path device programs) h = rw (path_read path h.0, device_read device h.1, short_read programs h.2) refl
-again (lines.Unused events) h = rw (count_read events h) refl
-again lines.Finish h = refl
 again (lines.Sum of n) h = sum_again of n h
+again line h = grind (arith, path_read, device_read, track_read, short_read, count_read, bytes_read, sized_read, mark_read)
 
-solid : (line : ReportLine) → IsLine line → Solid line
-solid (lines.Start path device answer) h = record { first = refl; others = rw (path_solid path h.0, device_solid device h.1, start_solid answer h.2) refl }
-solid (lines.End e) h =
-    record {
-      first = refl;
-      others = rw (
-        path_solid e.path h.path,
-        device_solid e.device h.device,
-        short_solid e.ordinal h.ordinal,
-        short_solid e.index h.index,
-        hex_solid (e.status.0 ∷ []),
-        short_solid e.residual h.residual,
-        note_solid e.note,
-      ) refl;
-    }
-solid (lines.Data bytes) h = record { first = refl; others = rw (hex_solid bytes) refl }
-solid (lines.Sense sense) h = record { first = refl; others = rw (hex_solid sense.bytes) refl }
-solid (lines.Half path device track) h = record { first = refl; others = rw (path_solid path h.0, device_solid device h.1, track_solid track h.2) refl }
-solid (lines.Back device answer) h = record { first = refl; others = rw (device_solid device h.0, back_solid answer h.1) refl }
-solid (lines.StepIdle device) h = record { first = refl; others = rw (device_solid device h) refl }
-solid (lines.RunIdle device) h = record { first = refl; others = rw (device_solid device h) refl }
-solid (lines.Loose device answer) h = record { first = refl; others = rw (device_solid device h.0, loose_solid answer h.1) refl }
-solid (lines.Io reads writes) h = record { first = refl; others = rw (long_solid reads h.0, long_solid writes h.1) refl }
-solid (lines.Over path device ordinal how) h =
-    record { first = refl; others = rw (path_solid path h.0, device_solid device h.1, short_solid ordinal h.2, over_solid how h.3) refl }
-solid (lines.Reset path device) h = record { first = refl; others = rw (path_solid path h.0, device_solid device h.1) refl }
-solid (lines.Order order a) h = order_solid order a h.0 h.1
-solid (lines.Device device totals) h = record { first = refl; others = rw (device_solid device h.0, totals_solid totals h.1) refl }
-solid (lines.Lost device track) h = record { first = refl; others = rw (device_solid device h.0, track_solid track h.1) refl }
-solid (lines.Frame device track modified) h = record { first = refl; others = rw (device_solid device h.0, track_solid track h.1, mark_solid modified) refl }
-solid (lines.Fresh device) h = record { first = refl; others = rw (device_solid device h) refl }
-solid (lines.Left path device programs) h = record { first = refl; others = rw (path_solid path h.0, device_solid device h.1, short_solid programs h.2) refl }
-solid (lines.Unused events) h = record { first = refl; others = rw (count_solid events h) refl }
-solid lines.Finish h = record { first = refl; others = refl }
-solid (lines.Sum of n) h = sum_solid of n h
+key_solid : (key : Keyword) → is_solid (keyword_text key) ≡ true
+key_solid key = grind arith
+
+words_solid : (line : ReportLine) → IsLine line → are_solid (words_in_line line) ≡ true
+words_solid (lines.End e) h =
+    rw (
+      path_solid e.path h.path,
+      device_solid e.device h.device,
+      short_solid e.ordinal h.ordinal,
+      short_solid e.index h.index,
+      hex_solid (e.status.0 ∷ []),
+      short_solid e.residual h.residual,
+      note_solid e.note,
+    ) refl
+words_solid line h =
+    grind (arith, path_solid, device_solid, track_solid, short_solid, count_solid, long_solid, hex_solid, start_solid, back_solid, loose_solid, over_solid, totals_solid, order_solid)
+
+pub solid : (line : ReportLine) → IsLine line → Solid line
+solid line h = record { first = key_solid (key_of line); others = words_solid line h }
 
 same : (bytes : List ℕ) → bytes_eq bytes bytes ≡ true
 same bytes = search rules

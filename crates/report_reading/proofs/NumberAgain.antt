@@ -1,28 +1,23 @@
 -- Numbers and bytes that are written are read again.
-use Rattle.std.proofs.Common.{◌≡◌, ◌≤◌, ◌<◌, ◌^◌, ◌*◌, ◌==◌, ◌∷◌, [], ℕ, zero, suc, List, true, length, get_or, Some, Ok}
+use Rattle.std.proofs.Common.{◌≡◌, ◌≤◌, ◌<◌, ◌^◌, ◌*◌, ◌∷◌, [], ℕ, zero, suc, List, true, length, get_or, Some, Ok}
 use Rattle.std.proofs.Common.{refl, ap, ◌∙◌, arith, rules, ◌⊎◌, inl, inr}
-use Rattle.std.specs.Prelude.{decimal, not}
+use Rattle.std.specs.Prelude.{decimal}
 use Rattle.std.proofs.lemmas.Bool.{and_from, and_parts}
 use Rattle.std.proofs.lemmas.Bool.Decides.{nat_tests}
 use Rattle.std.proofs.lemmas.Fmt.{decimal_nonempty, length-decimal-le, first_decimal, decimal_digit, digits_decimal, digits_value-decimal}
 use Rattle.std.proofs.lemmas.Str.Parse.{IsNumeralModel, numerals_by_fold}
 use Rattle.hex.specs.Hex.{encode_upper, decode_of, decode_sized, IsBytes}
 use Rattle.hex.proofs.HexLemmas.{decode_of-encode_upper, decode_sized-twice, length-encode_with}
-use Rattle.report_text.specs.Numbers.{are_digits, is_digit, value_after, has_form, number_of, within, number_in}
+use Rattle.report_text.specs.Numbers.{are_digits, value_after, has_form, number_of, within, number_in}
 use Rattle.report_reading.specs.Ranges.{IsPath, IsDevice, IsTrack, IsShort, IsCount, IsLong, AreBytes}
 use Rattle.report_reading.proofs.Cut.{is_solid}
 
 own : IsNumeralModel (λ ds. are_digits ds ≡ true) (value_after 0)
 own = numerals_by_fold _ (search rules) value_after (search rules)
 
-digit_solid : (b : ℕ) → is_digit b ≡ true → not (b == 32) ≡ true
-digit_solid b h = grind (arith, nat_tests)
-
 digits_solid : (ds : List ℕ) → are_digits ds ≡ true → is_solid ds ≡ true
 digits_solid [] h = refl
-digits_solid (b ∷ ds) h =
-    let p = and_parts (is_digit b) (are_digits ds) h in
-    and_from (not (b == 32)) (is_solid ds) (digit_solid b p.0) (digits_solid ds p.1)
+digits_solid (b ∷ ds) h = grind (arith, digits_solid ds, and_parts, and_from, nat_tests)
 
 form_of : (ds : List ℕ) → 0 < length ds → length ds ≤ 20 → 48 < get_or ds 0 0 → has_form ds ≡ true
 form_of ds some few first = grind (arith, nat_tests)

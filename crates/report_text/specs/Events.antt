@@ -16,12 +16,8 @@ ended_lines path device ordinal e = (lines.End (end_line path device ordinal e) 
 
 -- what is told first of what happened, and what last
 abbrev pub first_lines : Happened → List ReportLine
-first_lines (happened.Started path device answer) = lines.Start path device answer ∷ []
+first_lines (happened.First line) = line ∷ []
 first_lines (happened.Ended path device ordinal end) = ended_lines path device ordinal end
-first_lines (happened.Half path device track) = lines.Half path device track ∷ []
-first_lines (happened.Back device answer) = lines.Back device answer ∷ []
-first_lines (happened.StepIdle device) = lines.StepIdle device ∷ []
-first_lines (happened.RunIdle device) = lines.RunIdle device ∷ []
 first_lines (happened.Reset path device) = []
 first_lines (happened.Ordered order answer) = []
 
@@ -45,7 +41,9 @@ abbrev pub program_over_lines : Option ProgramOver → List ReportLine
 program_over_lines None = []
 program_over_lines (Some o) = lines.Over o.path o.device o.ordinal o.how ∷ []
 
+-- The order of them all: what is told first, what became of loose tracks, the volume calls, the program that is over, and what is told last
+abbrev pub in_order : Happened → List ReportLine → ℕ → ℕ → List ReportLine → List ReportLine
+in_order h loosed reads writes over = first_lines h ++ (loosed ++ (io_lines reads writes ++ (over ++ line_if (last_line h))))
+
 abbrev pub event_lines : RunEvent → List ReportLine
-event_lines e =
-    first_lines e.happened
-    ++ (map loosed_line e.loosed.now ++ (io_lines e.reads e.writes ++ (program_over_lines e.over ++ line_if (last_line e.happened))))
+event_lines e = in_order e.happened (map loosed_line e.loosed.now) e.reads e.writes (program_over_lines e.over)

@@ -2,21 +2,15 @@ ghost use Rattle.std.specs.Prelude.{◌≡◌, ◌++◌, IsErr, OnErr, OnOk, map
 ghost use Rattle.report_text.specs.Events.{ended_lines, event_lines, first_lines, io_lines, last_line, line_if, loosed_line, program_over_lines};
 ghost use Rattle.report_text.specs.Record.{IsFront};
 
-use crate::{
-    BackAnswer, HowOver, LooseAnswer, Order, OrderAnswer, ReportLine, RunRecord, StartAnswer,
-};
-use ckd_types::{CommandEnd, DeviceNo, NoMemory, PathNo, TrackNo};
+use crate::{HowOver, LooseAnswer, Order, OrderAnswer, ReportLine, RunRecord};
+use ckd_types::{CommandEnd, DeviceNo, NoMemory, PathNo};
 
-/// What an event did, with its path and device; the end of a command has its program's ordinal.
+/// What an event did, as it is told: by the line that stands first, by a command's end, with its path, device and program's
+/// ordinal, or by the line that stands last.
 #[derive(Debug, Drop)]
 pub enum Happened {
-    Started(PathNo, DeviceNo, StartAnswer),
+    First(ReportLine),
     Ended(PathNo, DeviceNo, u16, CommandEnd),
-    /// The first part of a command's write.
-    Half(PathNo, DeviceNo, TrackNo),
-    Back(DeviceNo, BackAnswer),
-    StepIdle(DeviceNo),
-    RunIdle(DeviceNo),
     Reset(PathNo, DeviceNo),
     Ordered(Order, OrderAnswer),
 }
@@ -55,12 +49,7 @@ fn last_line(happened: &Happened) -> Option<ReportLine>
     match happened {
         Happened::Reset(path, device) => Some(ReportLine::Reset(*path, *device)),
         Happened::Ordered(order, answer) => Some(ReportLine::Order(*order, *answer)),
-        Happened::Started(_, _, _)
-        | Happened::Ended(_, _, _, _)
-        | Happened::Half(_, _, _)
-        | Happened::Back(_, _)
-        | Happened::StepIdle(_)
-        | Happened::RunIdle(_) => None,
+        Happened::First(_) | Happened::Ended(_, _, _, _) => None,
     }
 }
 
@@ -88,18 +77,10 @@ impl RunRecord {
         ensures front { OnErr result (IsFront self.old self.new) }
     {
         match happened {
-            Happened::Started(path, device, answer) => {
-                self.push(ReportLine::Start(path, device, answer))
-            }
+            Happened::First(line) => self.push(line),
             Happened::Ended(path, device, ordinal, end) => {
                 self.push_ended(path, device, ordinal, end)
             }
-            Happened::Half(path, device, track) => {
-                self.push(ReportLine::Half(path, device, track))
-            }
-            Happened::Back(device, answer) => self.push(ReportLine::Back(device, answer)),
-            Happened::StepIdle(device) => self.push(ReportLine::StepIdle(device)),
-            Happened::RunIdle(device) => self.push(ReportLine::RunIdle(device)),
             Happened::Reset(_, _) | Happened::Ordered(_, _) => Ok(()),
         }
     }

@@ -7,7 +7,7 @@ use Rattle.device_defs.specs.Device.{Device}
 use Rattle.device_defs.specs.Marks.{MarksDevice}
 use Rattle.report_text.specs.declared.line.ReportLine.{ReportLine}
 use Rattle.report_text.specs.declared.event.Happened.{Happened}
-use Rattle.report_text.specs.Events.{first_lines, io_lines, last_line, line_if, loosed_line, program_over_lines}
+use Rattle.report_text.specs.Events.{in_order, loosed_line, program_over_lines}
 use Rattle.run_report.specs.Beside.{loose_lines, loosed, of_each, over_lines, over_of}
 use Rattle.run_report.specs.OneDevice.{TellsAlone, lines_at}
 use Rattle.subsystem_defs.specs.Beside.{acts_in, behind_first, has_power, new_items, power_told, told_act}
@@ -62,7 +62,7 @@ module _ (f : MarksDevice → MarksDevice → List ReportLine) (quiet : (d : Mar
   of_mounted (m ∷ ms) = by_test (number_of m == n) m ms (of_mounted ms)
 
 lines_told : (h : Happened) (reads writes : ℕ) (before : Option Mounted) (behind : MarksDevice) →
-    first_lines h ++ (told_of loose_lines before behind ++ (io_lines reads writes ++ (told_of over_lines before behind ++ line_if (last_line h))))
+    in_order h (told_of loose_lines before behind) reads writes (told_of over_lines before behind)
     ≡ lines_at h reads writes before behind
 lines_told h reads writes (Some m) behind = refl
 lines_told h reads writes None behind = refl
@@ -70,11 +70,8 @@ lines_told h reads writes None behind = refl
 pub tells_alone : (s : Subsystem) (n : ℕ) (x : Mounted) → TellsAlone s n x
 tells_alone s n x = record {
   tells = λ h reads writes.
-      ap (λ (l : List ReportLine). first_lines h
-      ++ (l ++ (io_lines reads writes ++ (of_each over_lines (devices_of s) (devices_of (with_mounted s n x)) ++ line_if (last_line h)))))
+      ap (λ (l : List ReportLine). in_order h l reads writes (of_each over_lines (devices_of s) (devices_of (with_mounted s n x))))
       (of_mounted loose_lines quiet_loose n x s.mounted)
-      ∙ ap (λ (l : List ReportLine). first_lines h
-      ++ (told_of loose_lines (mounted_in s.mounted n) x.device ++ (io_lines reads writes ++ (l ++ line_if (last_line h)))))
-      (of_mounted over_lines quiet_over n x s.mounted)
+      ∙ ap (in_order h (told_of loose_lines (mounted_in s.mounted n) x.device) reads writes) (of_mounted over_lines quiet_over n x s.mounted)
       ∙ lines_told h reads writes (mounted_in s.mounted n) x.device;
 }

@@ -1,15 +1,13 @@
 -- Devices of which the same is told, over whatever contents, make the same lines.
-use Rattle.std.proofs.Common.{◌≡◌, ◌==◌, ◌∷◌, [], ◌++◌, ◌∙◌, ℕ, List, Bool, true, false, Option, Some, None, refl, ap, if◌then◌else◌}
+use Rattle.std.proofs.Common.{◌≡◌, ◌==◌, ◌∷◌, [], ◌++◌, ◌∙◌, ℕ, List, Bool, true, false, Option, Some, refl, ap, if◌then◌else◌}
 use Rattle.std.specs.Prelude.{option_map}
 use Rattle.plain_defs.specs.History.{OpenEntry}
 use Rattle.device_defs.specs.Device.{Device}
-use Rattle.report_text.specs.declared.answers.BackAnswer.TheVariants as back
 use Rattle.report_text.specs.declared.event.Happened as report
-use Rattle.report_text.specs.declared.event.Happened.TheVariants as did
 use Rattle.report_text.specs.declared.line.ReportLine.{ReportLine}
 use Rattle.report_text.specs.declared.line.ReportLine.TheVariants as lines
 use Rattle.report_text.specs.declared.order.Order.TheVariants as orders
-use Rattle.report_text.specs.Events.{first_lines, io_lines, last_line, line_if}
+use Rattle.report_text.specs.Events.{in_order}
 use Rattle.run_report.specs.declared.told.RunningProgram.{RunningProgram}
 use Rattle.run_report.specs.Answers.{order_answer}
 use Rattle.run_report.specs.Beside.{loose_lines, of_each, over_lines, power_lines}
@@ -19,7 +17,7 @@ use Rattle.subsystem_defs.specs.declared.end.EventEnd.{EventEnd}
 use Rattle.subsystem_defs.specs.declared.event.Event.{Event}
 use Rattle.subsystem_defs.specs.declared.event.Event.TheVariants as events
 use Rattle.subsystem_defs.specs.Deeds.{device_in}
-use Rattle.subsystem_defs.specs.Lines.{Asked, Once, Replace, Unpair, Run, Settle}
+use Rattle.subsystem_defs.specs.Lines.{Asked, Once, Run, Settle}
 
 module _ {F P H G Q I : Type 0} where
   same_over : (b a : Device F P H) (c d : Device G Q I) → IsToldAs b c → IsToldAs a d → over_lines b a ≡ over_lines c d
@@ -61,54 +59,25 @@ module _ {F P H G Q I : Type 0} where
     same_work n idle = ap (λ (r : Option RunningProgram). work_told n r idle end) (same_running before n)
 
     same_once : (e : Event) → once_told bs end e ≡ once_told cs end e
-    same_once (events.Start path d) = refl
-    same_once (events.Step d) = same_work d (did.StepIdle d)
-    same_once (events.Back d) = same_work d (did.Back d back.Nothing)
-    same_once (events.Reset path d) = refl
-    same_once events.FailCache = refl
-    same_once events.FailStore = refl
-    same_once (events.FailVolume d side) = refl
-    same_once events.RepairCache = refl
-    same_once events.RepairStore = refl
-    same_once (events.Pair a b) = refl
-    same_once (events.Suspend a) = refl
-    same_once (events.Resume a) = refl
-    same_once events.Power = refl
+    same_once (events.Step d) = same_work d _
+    same_once (events.Back d) = same_work d _
+    same_once e = refl
 
     same_told : (asked : Asked) → told bs end asked ≡ told cs end asked
     same_told (Once e) = same_once e
-    same_told (Replace d side) = refl
-    same_told (Unpair a) = refl
-    same_told (Run d) = same_work d (did.RunIdle d)
-    same_told (Settle d) = same_work d (did.Back d back.Nothing)
+    same_told (Run d) = same_work d _
+    same_told (Settle d) = same_work d _
+    same_told asked = refl
 
     lines_as : (asked : Asked) → work_lines (told bs end asked) reads writes bs xs ≡ work_lines (told cs end asked) reads writes cs ds
     lines_as asked =
         ap (λ (h : report.Happened). work_lines h reads writes bs xs) (same_told asked)
-        ∙ ap (λ (l : List ReportLine). first_lines (told cs end asked)
-        ++ (l ++ (io_lines reads writes ++ (of_each over_lines bs xs ++ line_if (last_line (told cs end asked))))))
+        ∙ ap (λ (l : List ReportLine). in_order (told cs end asked) l reads writes (of_each over_lines bs xs))
         (same_each loose_lines loose_lines same_loose before behind)
-        ∙ ap (λ (l : List ReportLine). first_lines (told cs end asked)
-        ++ (of_each loose_lines cs ds ++ (io_lines reads writes ++ (l ++ line_if (last_line (told cs end asked))))))
-        (same_each over_lines over_lines same_over before behind)
+        ∙ ap (in_order (told cs end asked) (of_each loose_lines cs ds) reads writes) (same_each over_lines over_lines same_over before behind)
 
     pub same_lines : (asked : Asked) → event_lines asked end reads writes bs xs ≡ event_lines asked end reads writes cs ds
-    same_lines (Once (events.Start path d)) = lines_as (Once (events.Start path d))
-    same_lines (Once (events.Step d)) = lines_as (Once (events.Step d))
-    same_lines (Once (events.Back d)) = lines_as (Once (events.Back d))
-    same_lines (Once (events.Reset path d)) = lines_as (Once (events.Reset path d))
-    same_lines (Once events.FailCache) = lines_as (Once events.FailCache)
-    same_lines (Once events.FailStore) = lines_as (Once events.FailStore)
-    same_lines (Once (events.FailVolume d side)) = lines_as (Once (events.FailVolume d side))
-    same_lines (Once events.RepairCache) = lines_as (Once events.RepairCache)
-    same_lines (Once events.RepairStore) = lines_as (Once events.RepairStore)
-    same_lines (Once (events.Pair a b)) = lines_as (Once (events.Pair a b))
-    same_lines (Once (events.Suspend a)) = lines_as (Once (events.Suspend a))
-    same_lines (Once (events.Resume a)) = lines_as (Once (events.Resume a))
     same_lines (Once events.Power) =
         ap (λ (l : List ReportLine). l ++ lines.Order orders.Power (order_answer end) ∷ [])
         (same_each power_lines power_lines same_power before behind)
-    same_lines (Replace d side) = lines_as (Replace d side)
-    same_lines (Unpair a) = lines_as (Unpair a)
-    same_lines (Run d) = lines_as (Run d)
-    same_lines (Settle d) = lines_as (Settle d)
+    same_lines asked = lines_as asked

@@ -13,7 +13,7 @@ use Rattle.report_text.specs.declared.event.Happened.TheVariants as did
 use Rattle.report_text.specs.declared.line.ReportLine.{ReportLine}
 use Rattle.report_text.specs.declared.line.ReportLine.TheVariants as lines
 use Rattle.report_text.specs.declared.order.Order.TheVariants as orders
-use Rattle.report_text.specs.Events.{first_lines, io_lines, last_line, line_if}
+use Rattle.report_text.specs.Events.{in_order}
 use Rattle.run_report.specs.declared.told.RunningProgram.{RunningProgram}
 use Rattle.run_report.specs.Answers.{start_answer, back_answer, order_answer}
 use Rattle.run_report.specs.Beside.{loose_lines, over_lines, power_lines, of_each}
@@ -31,11 +31,11 @@ use Rattle.subsystem_defs.specs.Subsystem.{devices_of}
 -- a command ends, or writes one side of two, only of a program that runs
 abbrev pub end_told : ℕ → Option RunningProgram → CommandEnd → report.Happened
 end_told d (Some r) e = did.Ended r.path d r.ordinal e
-end_told d None e = did.StepIdle d
+end_told d None e = did.First (lines.StepIdle d)
 
 abbrev pub half_told : ℕ → Option RunningProgram → ℕ → report.Happened
-half_told d (Some r) t = did.Half r.path d t
-half_told d None t = did.StepIdle d
+half_told d (Some r) t = did.First (lines.Half r.path d t)
+half_told d None t = did.First (lines.StepIdle d)
 
 abbrev pub step_told : ℕ → Option RunningProgram → Stepped → report.Happened
 step_told d running (stepped.Ended e) = end_told d running e
@@ -44,14 +44,14 @@ step_told d running (stepped.Half t) = half_told d running t
 -- the second part of a write that no command waits for is told as work of the background, whoever asked for it
 abbrev pub second_reported : ℕ → Option RunningProgram → SecondEnd → report.Happened
 second_reported d running (seconds.Ended e) = end_told d running e
-second_reported d running (seconds.Finished t) = did.Back d (back.Finished t)
-second_reported d running (seconds.Unwritten t) = did.Back d (back.Unwritten t)
+second_reported d running (seconds.Finished t) = did.First (lines.Back d (back.Finished t))
+second_reported d running (seconds.Unwritten t) = did.First (lines.Back d (back.Unwritten t))
 
 -- of a device whose program runs, and what is told where there was nothing to do
 abbrev pub work_told : ℕ → Option RunningProgram → report.Happened → EventEnd → report.Happened
 work_told d running idle (ends.Stepped s) = step_told d running s
 work_told d running idle (ends.Second s) = second_reported d running s
-work_told d running idle (ends.Back x) = did.Back d (back_answer x)
+work_told d running idle (ends.Back x) = did.First (lines.Back d (back_answer x))
 work_told d running idle _ = idle
 
 abbrev pub running_program : OpenEntry → RunningProgram
@@ -67,9 +67,9 @@ module _ {F P H : Type 0} where
   running_in ds n = running_by (device_in ds n)
 
   abbrev pub once_told : List (Device F P H) → EventEnd → Event → report.Happened
-  once_told ds end (events.Start path d) = did.Started path d (start_answer end)
-  once_told ds end (events.Step d) = work_told d (running_in ds d) (did.StepIdle d) end
-  once_told ds end (events.Back d) = work_told d (running_in ds d) (did.Back d back.Nothing) end
+  once_told ds end (events.Start path d) = did.First (lines.Start path d (start_answer end))
+  once_told ds end (events.Step d) = work_told d (running_in ds d) (did.First (lines.StepIdle d)) end
+  once_told ds end (events.Back d) = work_told d (running_in ds d) (did.First (lines.Back d back.Nothing)) end
   once_told ds end (events.Reset path d) = did.Reset path d
   once_told ds end events.FailCache = did.Ordered orders.FailCache (order_answer end)
   once_told ds end events.FailStore = did.Ordered orders.FailStore (order_answer end)
@@ -86,16 +86,14 @@ module _ {F P H : Type 0} where
   told ds end (Once e) = once_told ds end e
   told ds end (Replace d side) = did.Ordered (orders.Replace d side) (order_answer end)
   told ds end (Unpair a) = did.Ordered (orders.Unpair a) (order_answer end)
-  told ds end (Run d) = work_told d (running_in ds d) (did.RunIdle d) end
-  told ds end (Settle d) = work_told d (running_in ds d) (did.Back d back.Nothing) end
+  told ds end (Run d) = work_told d (running_in ds d) (did.First (lines.RunIdle d)) end
+  told ds end (Settle d) = work_told d (running_in ds d) (did.First (lines.Back d back.Nothing)) end
 
   -- Its lines
 
-  -- data of cache fast write before the volume calls, and behind these the program that is over
+  -- of each device what became of its loose tracks, and which of its programs is over
   abbrev pub work_lines : report.Happened → ℕ → ℕ → List (Device F P H) → List (Device F P H) → List ReportLine
-  work_lines h reads writes before behind =
-      first_lines h
-      ++ (of_each loose_lines before behind ++ (io_lines reads writes ++ (of_each over_lines before behind ++ line_if (last_line h))))
+  work_lines h reads writes before behind = in_order h (of_each loose_lines before behind) reads writes (of_each over_lines before behind)
 
   -- a loss of power is told device by device
   abbrev pub all_power_lines : EventEnd → List (Device F P H) → List (Device F P H) → List ReportLine

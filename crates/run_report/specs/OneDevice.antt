@@ -7,16 +7,14 @@ use Rattle.device_defs.specs.Marks.{MarksDevice}
 use Rattle.report_text.specs.declared.event.Happened.{Happened}
 use Rattle.report_text.specs.declared.event.Loosed.{Loosed}
 use Rattle.report_text.specs.declared.line.ReportLine.{ReportLine}
-use Rattle.report_text.specs.Events.{first_lines, io_lines, last_line, line_if, loosed_line, program_over_lines}
+use Rattle.report_text.specs.Events.{in_order, loosed_line, program_over_lines}
 use Rattle.run_report.specs.Beside.{loose_lines, over_lines, over_of}
 use Rattle.run_report.specs.Events.{work_lines}
 use Rattle.subsystem_defs.specs.Subsystem.{Mounted, Subsystem, devices_of, mounted_in, with_mounted}
 
 -- by what it did, the acts that came with it, its volume calls, and the items that came to the journal
 abbrev pub lines_by : ℕ → Happened → List Loosed → ℕ → ℕ → List Item → List ReportLine
-lines_by d h acts reads writes items =
-    first_lines h
-    ++ (map loosed_line acts ++ (io_lines reads writes ++ (program_over_lines (over_of d items) ++ line_if (last_line h))))
+lines_by d h acts reads writes items = in_order h (map loosed_line acts) reads writes (program_over_lines (over_of d items))
 
 -- what a loss of power tells of it
 abbrev pub power_lines_by : ℕ → List Loosed → List Item → List ReportLine
@@ -25,8 +23,7 @@ power_lines_by d acts items = program_over_lines (over_of d items) ++ map loosed
 -- by the device before and behind it
 module _ {F P H : Type 0} where
   abbrev pub device_lines : Happened → ℕ → ℕ → Device F P H → Device F P H → List ReportLine
-  device_lines h reads writes before behind =
-      first_lines h ++ (loose_lines before behind ++ (io_lines reads writes ++ (over_lines before behind ++ line_if (last_line h))))
+  device_lines h reads writes before behind = in_order h (loose_lines before behind) reads writes (over_lines before behind)
 
   -- nothing beside what it did
   pub record TellsNothing (before behind : Device F P H) : Type 0 where
@@ -36,7 +33,7 @@ module _ {F P H : Type 0} where
 -- in a run: a device before, and another one in its place
 abbrev pub lines_at : Happened → ℕ → ℕ → Option Mounted → MarksDevice → List ReportLine
 lines_at h reads writes (Some m) behind = device_lines h reads writes m.device behind
-lines_at h reads writes None behind = first_lines h ++ (io_lines reads writes ++ line_if (last_line h))
+lines_at h reads writes None behind = in_order h [] reads writes []
 
 pub record TellsAlone (s : Subsystem) (n : ℕ) (x : Mounted) : Type 0 where
   pub tells : (h : Happened) (reads writes : ℕ) → work_lines h reads writes (devices_of s) (devices_of (with_mounted s n x))

@@ -2,12 +2,12 @@
 use Rattle.std.proofs.Common.{arith, ◌≡◌, ◌⊎◌, ◌++◌, ℕ, true, false, List, [], ◌∷◌, map, Option, Some, None, refl, sym, ap, ◌∙◌, append_assoc, inl}
 use Rattle.std.proofs.lemmas.List.{append-nil, map-append}
 use Rattle.plain_defs.specs.declared.journal.Act.{Act}
-use Rattle.plain_defs.specs.declared.journal.Act.TheVariants.{Loosen, Harden, CfwLost}
+use Rattle.plain_defs.specs.declared.journal.Act.TheVariants.{CfwLost}
 use Rattle.plain_defs.specs.declared.journal.Item.{Item}
 use Rattle.plain_defs.specs.declared.journal.Item.TheVariants as items
 use Rattle.plain_defs.specs.History.{History, OpenEntry, acted, acted_in, emptied}
 use Rattle.device_defs.specs.Device.{all_acted}
-use Rattle.device_defs.specs.Marks.{MarksDevice}
+use Rattle.device_defs.specs.Marks.{MarksDevice, MarksStore}
 use Rattle.report_text.specs.declared.line.ReportLine.{ReportLine}
 use Rattle.report_text.specs.Events.{loosed_line}
 use Rattle.run_report.specs.Beside.{loose_lines, loosed, of_each, over_lines, over_of}
@@ -17,7 +17,6 @@ use Rattle.run_report.proofs.Quiet.{behind_more}
 use Rattle.subsystem_defs.specs.Beside.{acts_in, has_power, new_items, told_act}
 use Rattle.audit_laws.specs.Steps.{NoLoss, act_line}
 use Rattle.audit_laws.proofs.own.Quiet.{none_loose}
-use Rattle.audit_laws.proofs.own.PieceLines.{acts_no_power}
 
 -- Acts
 
@@ -47,6 +46,16 @@ no_over : (n : ℕ) (acts : List Act) → over_of n (map (λ (a : Act). items.Ac
 no_over n [] = refl
 no_over n (a ∷ acts) = refl
 
+acts_no_power : (acts : List Act) → has_power (map (λ (act : Act). items.Act act) acts) ≡ false
+acts_no_power [] = refl
+acts_no_power (act ∷ acts) = acts_no_power acts
+
+pub told_acts : (n : ℕ) (s z : MarksStore) (acts : List Act) → NoLoss acts →
+    map loosed_line (map (loosed n) (map (told_act s z) acts)) ≡ map (act_line n) acts
+told_acts n s z [] none = refl
+told_acts n s z (CfwLost ∷ acts) none = absurd (let is : true ≡ false = none.0 in cc)
+told_acts n s z (act ∷ acts) none = ap (λ (l : List ReportLine). act_line n act ∷ l) (told_acts n s z acts none.1)
+
 module _ (x y : MarksDevice) (acts : List Act) (is : y.history ≡ all_acted x.history acts) where
   abbrev n : ℕ
   n = x.store.device
@@ -62,13 +71,7 @@ module _ (x y : MarksDevice) (acts : List Act) (is : y.history ≡ all_acted x.h
   acts_told = grind (arith, items_are, acts_no_power, act_items, acts_come, append-nil)
 
   pub acts_lines : NoLoss acts → loose_lines x y ≡ map (act_line x.store.device) acts
-  acts_lines none = acts_told ∙ each acts none where
-    each : (l : List Act) → NoLoss l →
-        map loosed_line (map (loosed x.store.device) (map (told_act x.store y.store) l)) ≡ map (act_line x.store.device) l
-    each [] none = refl
-    each (Loosen t ∷ l) none = ap (λ (k : List ReportLine). act_line x.store.device (Loosen t) ∷ k) (each l none.1)
-    each (Harden t ∷ l) none = ap (λ (k : List ReportLine). act_line x.store.device (Harden t) ∷ k) (each l none.1)
-    each (CfwLost ∷ l) none = absurd (let is : true ≡ false = none.0 in cc)
+  acts_lines none = acts_told ∙ told_acts x.store.device x.store y.store acts none
 
 -- Devices to which nothing came, or an empty volume
 

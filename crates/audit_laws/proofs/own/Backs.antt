@@ -1,5 +1,5 @@
 -- The lines of the first part of a command's write, and of work in the background.
-use Rattle.std.proofs.Common.{[], arith, ◌≡◌, ◌++◌, ℕ, Bool, true, List, ◌∷◌, map, Option, Some, None, refl}
+use Rattle.std.proofs.Common.{[], arith, ◌≡◌, ℕ, Bool, true, List, ◌∷◌, map, Option, Some, None, refl}
 use Rattle.std.specs.Prelude.{Ok}
 use Rattle.deck_plan.specs.declared.event.EventLine.{EventLine}
 use Rattle.plain_defs.specs.declared.journal.Act.{Act}
@@ -7,7 +7,7 @@ use Rattle.plain_defs.specs.History.{IsPlain, OpenEntry}
 use Rattle.plain_defs.specs.Legal.{AreActs}
 use Rattle.device_defs.specs.Device.{all_acted}
 use Rattle.report_text.specs.declared.line.ReportLine.{ReportLine}
-use Rattle.report_text.specs.Events.{io_lines, line_if}
+use Rattle.report_text.specs.declared.event.Happened.TheVariants as told
 use Rattle.deck_audit.specs.declared.state.Did.{Did}
 use Rattle.deck_audit.specs.declared.state.Did.TheVariants.{Halved, Worked}
 use Rattle.deck_audit.specs.declared.state.Due.TheVariants.{Behind, Next}
@@ -17,7 +17,7 @@ use Rattle.deck_audit.specs.Device.{AuditedDevice, device_in, state_of}
 use Rattle.deck_audit.specs.History.{is_legal}
 use Rattle.deck_audit.specs.State.{over_by}
 use Rattle.deck_audit.specs.Verdict.{judged}
-use Rattle.audit_laws.specs.Steps.{LeadsTowards, NoLoss, act_line}
+use Rattle.audit_laws.specs.Steps.{LeadsTowards, NoLoss, act_line, piece_lines}
 use Rattle.audit_laws.proofs.own.Work.{acts_lead, at_work, end_of, piece_leads}
 
 -- A piece of work that ends no command
@@ -31,10 +31,10 @@ module _ (xs : List AuditedDevice) (w : EventLine) (later : List EventLine) (a :
   acted = record a { history = all_acted a.history acts; half = half }
 
   pub work_leads : LeadsTowards (record { devices = xs; events = w ∷ later; due = Next })
-      ((line ∷ map (act_line a.number) acts) ++ (io_lines reads writes ++ line_if None)) (end_of xs w later acted did None)
+      (piece_lines line a acts reads writes) (end_of xs w later acted did None)
   work_leads =
       piece_leads xs w later a.number is_work a has acted refl true did (legal acted) None (no_over acted)
-      (λ l is. absurd (let none_is : None ≡ Some l = is in cc)) (line ∷ map (act_line a.number) acts) reads writes
+      (λ l is. absurd (let none_is : None ≡ Some l = is in cc)) (told.First line) refl (map (act_line a.number) acts) reads writes
       (acts_lead xs w later a.number is_work a has (record a { half = half }) refl did acts plainly none are (line ∷ [])
       (at_work xs w later (record a { half = half }) (Behind true did), first, refl))
 

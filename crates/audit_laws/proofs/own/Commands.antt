@@ -17,7 +17,8 @@ use Rattle.report_text.specs.declared.answers.HowOver.TheVariants as how
 use Rattle.report_text.specs.declared.line.ReportLine.{ReportLine}
 use Rattle.report_text.specs.declared.line.ReportLine.TheVariants as lines
 use Rattle.report_text.specs.Ends.{end_line}
-use Rattle.report_text.specs.Events.{ended_lines, io_lines, line_if}
+use Rattle.report_text.specs.declared.event.Happened.TheVariants as told
+use Rattle.report_text.specs.Events.{ended_lines, in_order, line_if}
 use Rattle.deck_audit.specs.declared.state.Did.{Did}
 use Rattle.deck_audit.specs.declared.state.Did.TheVariants.{CheckEnded, Ended}
 use Rattle.deck_audit.specs.declared.state.Due.TheVariants.{Behind, Next}
@@ -72,12 +73,12 @@ module _ (xs : List AuditedDevice) (w : EventLine) (later : List EventLine) (a :
   fits : (more : Bool) (did : Did) (line : ReportLine) → over_by a did (Some o) ≡ Some line → IsOver line × (is_of_work more (worker_of w) line ≡ false)
   fits more did line is = grind (arith, and_from, same_number)
 
-  all_lead : (acts : List Act) (more : Bool) (did : Did) → is_legal did (acted_to a acts) ≡ true → (firsts : List ReportLine) (reads writes : ℕ) →
-      LeadsBy from firsts (at_work xs w later (acted_to a acts) (Behind more did)) →
-      LeadsTowards from (firsts ++ (io_lines reads writes ++ line_if (over_by a did (Some o)))) (end_of xs w later (acted_to a acts) did (over_by a did (Some o)))
-  all_lead acts more did legal firsts reads writes leads =
+  all_lead : (acts : List Act) (more : Bool) (did : Did) → is_legal did (acted_to a acts) ≡ true → (e : CommandEnd) (ls : List ReportLine) (reads writes : ℕ) →
+      LeadsBy from (ended_lines o.path a.number o.ordinal e ++ ls) (at_work xs w later (acted_to a acts) (Behind more did)) →
+      LeadsTowards from (in_order (told.Ended o.path a.number o.ordinal e) ls reads writes (line_if (over_by a did (Some o)))) (end_of xs w later (acted_to a acts) did (over_by a did (Some o)))
+  all_lead acts more did legal e ls reads writes leads =
       piece_leads xs w later a.number is_work a has (acted_to a acts) refl more did legal (over_by a did (Some o)) (over_is acts did) (fits more did)
-      firsts reads writes leads
+      (told.Ended o.path a.number o.ordinal e) refl ls reads writes leads
 
   module _ (stands : (e : CommandEnd) → in_event (outlines (record { devices = xs; events = w ∷ later; due = Next }))
       (lines.End (end_line o.path a.number o.ordinal e)) w ≡ true)
@@ -111,10 +112,10 @@ module _ (xs : List AuditedDevice) (w : EventLine) (later : List EventLine) (a :
         LeadsTowards from (step_lines a o e acts reads writes (over_if e.over (over_told a o how.Full)))
         (end_of xs w later (acted_to a acts) (Ended e) (over_if e.over (over_told a o how.Full)))
     command_leads reads writes e acts (firmly bs plain none are legal) few =
-        all_lead bs true (Ended e) legal (ended_lines o.path a.number o.ordinal e ++ map (act_line a.number) bs) reads writes
+        all_lead bs true (Ended e) legal e (map (act_line a.number) bs) reads writes
         (plain_acts e bs plain none are few)
     command_leads reads writes e acts (loosely bs t plain none are may legal) few =
-        all_lead (bs ++ Loosen t ∷ []) false (Ended e) legal (ended_lines o.path a.number o.ordinal e ++ map (act_line a.number) (bs ++ Loosen t ∷ []))
+        all_lead (bs ++ Loosen t ∷ []) false (Ended e) legal e (map (act_line a.number) (bs ++ Loosen t ∷ []))
         reads writes (loosens bs t (ended_lines o.path a.number o.ordinal e) e may (plain_acts e bs plain none are few))
 
     -- or with equipment check or data check
@@ -123,6 +124,6 @@ module _ (xs : List AuditedDevice) (w : EventLine) (later : List EventLine) (a :
         (end_of xs w later (acted_to a acts) (CheckEnded e) (Some (over_told a o how.Checked)))
     check_leads reads writes e acts none c few =
         let d = check_end (words_of_open a o) c.plain.index c.sense in
-        rw c.is_so (all_lead acts true (CheckEnded d) refl (ended_lines o.path a.number o.ordinal d ++ map (act_line a.number) acts) reads writes
+        rw c.is_so (all_lead acts true (CheckEnded d) refl d (map (act_line a.number) acts) reads writes
         (acts_lead xs w later a.number is_work a has b refl (CheckEnded d) acts plainly none c.are (ended_lines o.path a.number o.ordinal d)
         (check_lead xs w later a has is_work o running stands makes c.plain c.is_plain (plain_end_is_tidy a o c.plain c.is_plain few) c.sense c.is_check)))

@@ -21,7 +21,7 @@ use Rattle.report_text.specs.declared.line.ReportLine.TheVariants as lines
 use Rattle.deck_audit.specs.declared.state.HalfWrite.TheVariants as half
 use Rattle.deck_audit.specs.declared.state.Outline.{Outline}
 use Rattle.deck_audit.specs.Same.{says}
-use Rattle.deck_audit.specs.Place.{holds, in_event, may_step}
+use Rattle.deck_audit.specs.Place.{holds, in_event, may_step, outline_in}
 use Rattle.deck_audit.specs.Device.{AuditedDevice, is_closed, is_idle, outline_of, runs}
 use Rattle.deck_audit.specs.History.{work_made}
 use Rattle.deck_audit.specs.State.{AuditState, passed}
@@ -51,10 +51,10 @@ use Rattle.audit_laws.proofs.own.WorkEnds.{IsWork, MayEnd, first_judged, left_by
 -- The pieces of work: whose line asks, what it asks for, and what is told where there is nothing to do
 
 pub data Piece (n : ℕ) : EventLine → Asked → Happened → Type 0 where
-  step_piece : Piece n (wanted.Step n) (Once (events.Step n)) (did.StepIdle n)
-  run_piece : Piece n (wanted.Run n) (Run n) (did.RunIdle n)
-  back_piece : Piece n (wanted.Back n) (Once (events.Back n)) (did.Back n back.Nothing)
-  settle_piece : Piece n (wanted.Settle n) (Settle n) (did.Back n back.Nothing)
+  step_piece : Piece n (wanted.Step n) (Once (events.Step n)) (did.First (lines.StepIdle n))
+  run_piece : Piece n (wanted.Run n) (Run n) (did.First (lines.RunIdle n))
+  back_piece : Piece n (wanted.Back n) (Once (events.Back n)) (did.First (lines.Back n back.Nothing))
+  settle_piece : Piece n (wanted.Settle n) (Settle n) (did.First (lines.Back n back.Nothing))
 
 pub piece_works : {n : ℕ} {w : EventLine} {asked : Asked} {idle : Happened} → Piece n w asked idle → IsWork n w
 piece_works step_piece = of_step
@@ -151,16 +151,21 @@ module _ (s : Subsystem) (x : MarksDevice) (at : device_in (devices_of s) x.stor
 
   -- Nothing to do
 
-  idle_leads : (w : EventLine) (line : ReportLine) → IsWork x.store.device w → x.store.half ≡ None →
-      in_event (map outline_of (map audited (devices_of s))) line w ≡ true →
-      ((z : AuditState) → work_made z line (audited x) ≡ Some (passed z)) →
-      (later : List EventLine) → LeadsBy (stand s (w ∷ later)) (line ∷ []) (stand s later)
-  idle_leads w line k whole fits made later =
-      grind (arith, first_judged (map audited (devices_of s)) later (audited x) (found_one (devices_of s) n x at) w k line fits, found_one (devices_of s) n x at)
-
   idle_fits : (line : ReportLine) → says line line ≡ true → x.store.half ≡ None → x.history.running ≡ None →
       may_step (outline_of (audited x)) line line (audited x).half ≡ true
   idle_fits line same whole none = grind arith
+
+  -- a line that says so leads on
+  idle_leads : (w : EventLine) (line : ReportLine) → IsWork x.store.device w → says line line ≡ true →
+      in_event (map outline_of (map audited (devices_of s))) line w
+      ≡ holds (outline_in (map outline_of (map audited (devices_of s))) x.store.device) (λ b. may_step b line line b.half) →
+      ((z : AuditState) → work_made z line (audited x) ≡ Some (passed z)) → x.store.half ≡ None → x.history.running ≡ None →
+      (later : List EventLine) → LeadsBy (stand s (w ∷ later)) (work_lines (did.First line) 0 0 (devices_of s) (devices_of s)) (stand s later)
+  idle_leads w line k same stands made whole none later =
+      let one = outline_one (devices_of s) n x at in
+      let fits = stands ∙ ap (λ (o : Option Outline). holds o (λ b. may_step b line line b.half)) one ∙ idle_fits line same whole none in
+      subst (λ (l : List ReportLine). LeadsBy (stand s (w ∷ later)) l (stand s later)) (sym (quiet_lines (did.First line) (devices_of s)))
+      (grind (arith, first_judged (map audited (devices_of s)) later (audited x) (found_one (devices_of s) n x at) w k line fits, found_one (devices_of s) n x at))
 
   idle_busy : x.store.half ≡ None → x.history.running ≡ None → is_busy (mounted_in s.mounted x.store.device) ≡ false
   idle_busy whole none = grind (arith, mounted_too)
@@ -176,11 +181,7 @@ module _ (s : Subsystem) (x : MarksDevice) (at : device_in (devices_of s) x.stor
     busy = idle_busy whole none ∙ sym (ap not (idle_is whole none));
     goes = λ later. (
       stand s later,
-      subst (λ (l : List ReportLine). LeadsBy (stand s (wanted.Step n ∷ later)) l (stand s later)) (sym (quiet_lines (did.StepIdle n) (devices_of s)))
-          (idle_leads (wanted.Step n) (lines.StepIdle n) of_step whole
-          (ap (λ (k : Option Outline). holds k (λ b. may_step b (lines.StepIdle n) (lines.StepIdle n) b.half)) (outline_one (devices_of s) n x at)
-          ∙ idle_fits (lines.StepIdle n) (same_number n) whole none)
-          (λ z. refl) later),
+      idle_leads (wanted.Step n) (lines.StepIdle n) of_step (same_number n) refl (λ z. refl) whole none later,
       is_there refl,
     );
     enough = λ v found stepwise k is. (let m = mounted_too s.mounted n x at in
@@ -191,12 +192,7 @@ module _ (s : Subsystem) (x : MarksDevice) (at : device_in (devices_of s) x.stor
   pub run_idle_leads : x.store.half ≡ None → x.history.running ≡ None → (later : List EventLine) →
       LeadsBy (stand s (wanted.Run x.store.device ∷ later))
       (event_lines (Run x.store.device) ends.Idle 0 0 (devices_of s) (devices_of s)) (stand s later)
-  run_idle_leads whole none later =
-      subst (λ (l : List ReportLine). LeadsBy (stand s (wanted.Run n ∷ later)) l (stand s later)) (sym (quiet_lines (did.RunIdle n) (devices_of s)))
-      (idle_leads (wanted.Run n) (lines.RunIdle n) of_run whole
-      (ap (λ (k : Option Outline). holds k (λ b. may_step b (lines.RunIdle n) (lines.RunIdle n) b.half)) (outline_one (devices_of s) n x at)
-      ∙ idle_fits (lines.RunIdle n) (same_number n) whole none)
-      (λ z. refl) later)
+  run_idle_leads whole none later = idle_leads (wanted.Run n) (lines.RunIdle n) of_run (same_number n) refl (λ z. refl) whole none later
 
   -- STEP
 
@@ -233,13 +229,13 @@ module _ (s : Subsystem) (x : MarksDevice) (at : device_in (devices_of s) x.stor
         (step_by w asked idle p k none x.store.half refl x.history.running refl)
 
     pub step_line_goes : PieceGoes s x.store.device (wanted.Step x.store.device) (Once (events.Step x.store.device)) (happens s (events.Step x.store.device))
-    step_line_goes = step_goes (wanted.Step n) (Once (events.Step n)) (did.StepIdle n) step_piece step_ends step_idle_goes
+    step_line_goes = step_goes (wanted.Step n) (Once (events.Step n)) (did.First (lines.StepIdle n)) step_piece step_ends step_idle_goes
 
     -- of RUN, while the device is busy
     pub run_step_goes : is_busy (mounted_in s.mounted x.store.device) ≡ true →
         PieceGoes s x.store.device (wanted.Run x.store.device) (Run x.store.device) (happens s (events.Step x.store.device))
     run_step_goes busy =
-        step_goes (wanted.Run n) (Run n) (did.RunIdle n) run_piece run_ends
+        step_goes (wanted.Run n) (Run n) (did.First (lines.RunIdle n)) run_piece run_ends
         (λ whole none. absurd (let both : true ≡ false = sym busy ∙ idle_busy whole none in cc))
 
     -- BACK, and each piece of SETTLE

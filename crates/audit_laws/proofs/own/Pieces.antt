@@ -12,7 +12,6 @@ use Rattle.plain_defs.specs.History.{History, IsPlain, OpenEntry}
 use Rattle.plain_defs.specs.Journal.{replay}
 use Rattle.plain_defs.specs.PlainState.{PlainState}
 use Rattle.device_defs.specs.declared.answers.Did.{Did as BackDid}
-use Rattle.device_defs.specs.declared.answers.Did.TheVariants as dids
 use Rattle.device_defs.specs.declared.answers.SecondEnd.{SecondEnd}
 use Rattle.device_defs.specs.declared.answers.SecondEnd.TheVariants as seconds
 use Rattle.device_defs.specs.declared.answers.Stepped.{Stepped}
@@ -126,14 +125,14 @@ module _ (num : ℕ) (empty : PlainState) (x y : MarksDevice) (f : Follows num e
         let none = none_lost x.history y.history acts (ap acts_in same ∙ ended_acts (all_acted x.history acts) e ∙ all_acts acts x.history) kept in
         let so = ends_so a plainly o running e acts none (subst (λ (l : History). IsPlain x.plans a.empty l) same (plain_behind half.Closed p)) in
         subst (λ (l : List ReportLine). Does w xs later l (audited y) false) (sym (lines_are x y acts (over_if e.over (over_told a o how.Full))
-        (did.Ended o.path x.store.device o.ordinal e) reads writes refl (ended_tells x y acts none o running e same))) (rw
+        (did.Ended o.path x.store.device o.ordinal e) reads writes (ended_tells x y acts none o running e same))) (rw
         (audited_by x y half.Closed now p same) (ends_lead xs later a has o running w h k is plainly reads writes e acts so (few o running e
         (ends_plain a o e acts so))))
     ended_by e now (checked_so acts) same =
         let none = none_lost x.history y.history acts (ap acts_in same ∙ checked_acts (all_acted x.history acts) e ∙ all_acts acts x.history) kept in
         let so = checks_so a plainly acts o running e (subst (λ (l : History). IsPlain x.plans a.empty l) same (plain_behind half.Closed p)) in
         subst (λ (l : List ReportLine). Does w xs later l (audited y) false) (sym (lines_are x y acts (Some (over_told a o how.Checked))
-        (did.Ended o.path x.store.device o.ordinal e) reads writes refl (checked_tells x y acts none o running e same))) (rw
+        (did.Ended o.path x.store.device o.ordinal e) reads writes (checked_tells x y acts none o running e same))) (rw
         (audited_by x y half.Closed now p same) (checks_lead xs later a has o running w h k is plainly reads writes e acts none so
         (few o running so.plain so.is_plain)))
 
@@ -152,11 +151,11 @@ module _ (num : ℕ) (empty : PlainState) (x y : MarksDevice) (f : Follows num e
   halved_by : (o : OpenEntry) → x.history.running ≡ Some o → all_losses y.history ≡ all_losses x.history → (w : EventLine) →
       MayEnd x.store.device w half.Closed → (audited x).half ≡ half.Closed → HasParts x y half.OfCommand → (xs : List AuditedDevice) (later : List EventLine) →
       device_in xs x.store.device ≡ Some (audited x) → (reads writes : ℕ) (track : ℕ) (now : History) → HasActed x.history now → y.history ≡ now →
-      Does w xs later (device_lines (did.Half o.path x.store.device track) reads writes x y) (audited y) false
+      Does w xs later (device_lines (did.First (lines.Half o.path x.store.device track)) reads writes x y) (audited y) false
   halved_by o running kept w k is p xs later has reads writes track now (acted_so acts) same =
       let none = acts_lossless kept acts same in
       subst (λ (l : List ReportLine). Does w xs later l (audited y) false) (sym (lines_are x y acts None
-      (did.Half o.path x.store.device track) reads writes refl (acted_tells x y acts none same))) (rw (audited_by x y half.OfCommand now p same)
+      (did.First (lines.Half o.path x.store.device track)) reads writes (acted_tells x y acts none same))) (rw (audited_by x y half.OfCommand now p same)
       (halves_lead xs later a has o running w k is plainly track acts none (acts_so a plainly acts (subst (λ (l : History). IsPlain x.plans a.empty l) same
       (plain_behind half.OfCommand p))) reads writes))
 
@@ -164,12 +163,12 @@ module _ (num : ℕ) (empty : PlainState) (x y : MarksDevice) (f : Follows num e
       (xs : List AuditedDevice) (later : List EventLine) (has : device_in xs x.store.device ≡ Some (audited x)) →
       MayTell xs later (audited x) has w answer h → (audited x).half ≡ h →
       HasParts x y (back_half (audited x) answer) → (reads writes : ℕ) (now : History) → HasActed x.history now → y.history ≡ now →
-      Does w xs later (device_lines (did.Back x.store.device answer) reads writes x y) (audited y) (is_last answer)
+      Does w xs later (device_lines (did.First (lines.Back x.store.device answer)) reads writes x y) (audited y) (is_last answer)
   told_by kept w answer h xs later has k is p reads writes now (acted_so acts) same =
       let none = acts_lossless kept acts same in
       let last = is_last answer in
       let behind = back_half a answer in
-      subst (λ (l : List ReportLine). Does w xs later l (audited y) last) (sym (lines_are x y acts None (did.Back x.store.device answer) reads writes refl
+      subst (λ (l : List ReportLine). Does w xs later l (audited y) last) (sym (lines_are x y acts None (did.First (lines.Back x.store.device answer)) reads writes
       (acted_tells x y acts none same))) (rw (audited_by x y behind now p same) (tells_lead xs later a has w answer h k is plainly acts none
       (acts_so a plainly acts (subst (λ (l : History). IsPlain x.plans a.empty l) same (plain_behind behind p))) reads writes))
 
@@ -266,7 +265,7 @@ module _ (num : ℕ) (empty : PlainState) (x : MarksDevice) (f : Follows num emp
   -- of the background
   told_comes : (h : store.HalfWrite (Unit {0})) → x.store.half ≡ Some h → half_of h.origin ≡ half.OfBackground →
       (w : EventLine) (idle : Happened) → IsWork x.store.device w → (y : MarksDevice) (answer : SecondEnd) (shown : BackAnswer) →
-      ((r : Option RunningProgram) → work_told x.store.device r idle (ends.Second answer) ≡ did.Back x.store.device shown) →
+      ((r : Option RunningProgram) → work_told x.store.device r idle (ends.Second answer) ≡ did.First (lines.Back x.store.device shown)) →
       is_second_line x.store.device (lines.Back x.store.device shown) ≡ true →
       is_last shown ≡ false → back_half (audited x) shown ≡ half.Closed →
       Follows num empty y → HasParts x y half.Closed → HasActed x.history y.history → all_losses y.history ≡ all_losses x.history →
@@ -335,15 +334,7 @@ back_line : (n : ℕ) (d : BackDid) → is_back_line n (lines.Back n (back_answe
 back_line n d = grind (arith, and_from, same_number)
 
 last_is : (d : BackDid) → is_last (back_answer d) ≡ stops d
-last_is dids.Nothing = refl
-last_is (dids.Recovered t) = refl
-last_is (dids.Copied t) = refl
-last_is (dids.Staged t) = refl
-last_is (dids.Skipped t) = refl
-last_is (dids.Destaged t) = refl
-last_is (dids.Half t) = refl
-last_is (dids.Fault side) = refl
-last_is (dids.BadBytes side) = refl
+last_is d = grind arith
 
 record BackSo (num : ℕ) (empty : PlainState) (x y : MarksDevice) (answer : Option BackDid) : Type 0 where
   follows : Follows num empty y

@@ -1,7 +1,7 @@
 -- The paths and devices that the lines of an event name are in their ranges.
 use Rattle.std.proofs.Common.{◌≤◌, ◌++◌, zero, suc, ℕ, List, [], ◌∷◌, length, map, Option, refl, arith}
 use Rattle.std.specs.Prelude.{All, IfSome}
-use Rattle.std.proofs.lemmas.List.Elements.{All-append, All-cons, All-nil}
+use Rattle.std.proofs.lemmas.List.Elements.{All-append, All-nil}
 use Rattle.ckd_types.specs.declared.channel.CommandEnd.{CommandEnd}
 use Rattle.ckd_types.specs.declared.sense.Sense.{Sense}
 use Rattle.hex.specs.Hex.{IsBytes}
@@ -14,12 +14,11 @@ use Rattle.plain_defs.specs.Legal.{IsLegalFrom, IsLegalItem}
 use Rattle.plain_defs.specs.PlainState.{PlainState}
 use Rattle.device_defs.specs.Marks.{MarksDevice}
 use Rattle.report_text.specs.declared.event.Happened as report
-use Rattle.report_text.specs.declared.event.Happened.TheVariants as did
 use Rattle.report_text.specs.declared.line.ReportLine.{ReportLine}
 use Rattle.report_text.specs.declared.line.ReportLine.TheVariants as lines
 use Rattle.report_text.specs.Ends.{data_lines, end_line, sense_lines}
-use Rattle.report_text.specs.Events.{first_lines, io_lines, last_line, line_if, loosed_line}
-use Rattle.report_reading.specs.Ranges.{AreBytes, IsAnswer, IsBack, IsDevice, IsLine, IsLong, IsOrder, IsOver, IsPath, IsShort, IsStart, IsTrack}
+use Rattle.report_text.specs.Events.{ended_lines, io_lines, loosed_line}
+use Rattle.report_reading.specs.Ranges.{AreBytes, IsDevice, IsLine, IsLong, IsOver, IsPath, IsShort, IsTrack}
 use Rattle.run_report.specs.declared.told.RunningProgram.{RunningProgram}
 use Rattle.run_report.specs.Beside.{how_over, loose_lines, loosed, over_lines}
 use Rattle.run_report.specs.Events.{event_lines, running_by, running_in, told, work_told}
@@ -30,7 +29,8 @@ use Rattle.subsystem_defs.specs.Beside.{acts_in, Hardened, LooseTold, Loosened, 
 use Rattle.subsystem_defs.specs.Deeds.{device_in}
 use Rattle.subsystem_defs.specs.Lines.{Asked, Once}
 use Rattle.subsystem_defs.specs.Promised.{empty_of}
-use Rattle.audit_laws.proofs.own.EachLine.{event_all}
+use Rattle.audit_laws.proofs.own.EachLine.{Tells, event_all}
+use Rattle.audit_laws.proofs.own.EachLine.{one as each_one}
 use Rattle.audit_laws.proofs.own.NamedEvents.{Names}
 use Rattle.audit_laws.proofs.own.RangedActs.{ActOn, each_behind, history_on}
 use Rattle.audit_laws.proofs.own.RangedCommands.{EndIn, EventIn}
@@ -41,20 +41,10 @@ use Rattle.audit_laws.proofs.own.RangedSteps.{WorkIn}
 use Rattle.audit_laws.proofs.own.RangedWork.{track_in_range}
 
 pub one : (line : ReportLine) → IsLine line → All IsLine (line ∷ [])
-one line is = All-cons IsLine line [] is (All-nil IsLine)
+one = each_one IsLine
 
 abbrev HasPath : RunningProgram → Type 0
 HasPath r = IsPath r.path × IsShort r.ordinal
-
-abbrev HasNames : report.Happened → Type 0
-HasNames (did.Started path d a) = IsPath path × IsDevice d × IsStart a
-HasNames (did.Ended path d n e) = IsPath path × IsDevice d × IsShort n × EndIn e
-HasNames (did.Half path d t) = IsPath path × IsDevice d × IsTrack t
-HasNames (did.Back d a) = IsDevice d × IsBack a
-HasNames (did.StepIdle d) = IsDevice d
-HasNames (did.RunIdle d) = IsDevice d
-HasNames (did.Reset path d) = IsPath path × IsDevice d
-HasNames (did.Ordered order a) = IsOrder order × IsAnswer a
 
 -- What an event did
 
@@ -68,25 +58,16 @@ sense_known o i = grind (arith, one)
 end_known : (path d n : ℕ) (e : CommandEnd) → IsPath path → IsDevice d → IsShort n → EndIn e → IsLine (lines.End (end_line path d n e))
 end_known path d n e p k o i = record { path = p; device = k; ordinal = o; index = i.index; status = i.status; residual = i.residual }
 
-first_known : (h : report.Happened) → HasNames h → All IsLine (first_lines h)
-first_known (did.Started path d a) n = one (lines.Start path d a) n
-first_known (did.Ended path d n e) k =
+ended_known : (path d n : ℕ) (e : CommandEnd) → IsPath path → IsDevice d → IsShort n → EndIn e → All IsLine (ended_lines path d n e)
+ended_known path d n e p k o i =
     All-append IsLine (lines.End (end_line path d n e) ∷ []) (data_lines e.sent ++ sense_lines e.sense)
-    (one (lines.End (end_line path d n e)) (end_known path d n e k.0 k.1 k.2 k.3))
-    (All-append IsLine (data_lines e.sent) (sense_lines e.sense) (data_known e.sent k.3.sent) (sense_known e.sense k.3.sense))
-first_known (did.Half path d t) n = one (lines.Half path d t) n
-first_known (did.Back d a) n = one (lines.Back d a) n
-first_known (did.StepIdle d) n = one (lines.StepIdle d) n
-first_known (did.RunIdle d) n = one (lines.RunIdle d) n
-first_known h n = All-nil IsLine
-
-last_known : (h : report.Happened) → HasNames h → All IsLine (line_if (last_line h))
-last_known h n = grind (arith, one)
+    (one (lines.End (end_line path d n e)) (end_known path d n e p k o i))
+    (All-append IsLine (data_lines e.sent) (sense_lines e.sense) (data_known e.sent i.sent) (sense_known e.sense i.sense))
 
 module _ (d : ℕ) (k : IsDevice d) where
-  work_names : (r : Option RunningProgram) → IfSome r HasPath → (idle : report.Happened) → HasNames idle → (end : EventEnd) → EventIn end → WorkIn end →
-      HasNames (work_told d r idle end)
-  work_names r p idle n end i o = grind arith
+  work_names : (r : Option RunningProgram) → IfSome r HasPath → (idle : report.Happened) → Tells IsLine idle → (end : EventEnd) → EventIn end → WorkIn end →
+      Tells IsLine (work_told d r idle end)
+  work_names r p idle n end i o = grind (arith, ended_known)
 
 running_path : (o : Option MarksDevice) → IfSome o Ranged → IfSome (running_by o) HasPath
 running_path o r = grind (arith, few_programs)
@@ -105,7 +86,7 @@ module _ (xs : List MarksDevice) (all : All Ranged xs) where
   path_in : (d : ℕ) → IfSome (running_in xs d) HasPath
   path_in d = running_path (device_in xs d) (device_ranged xs d all)
 
-  told_names : (end : EventEnd) (asked : Asked) → Names asked → Answers asked end → RepairsIn asked end → HasNames (told xs end asked)
+  told_names : (end : EventEnd) (asked : Asked) → Names asked → Answers asked end → RepairsIn asked end → Tells IsLine (told xs end asked)
   told_names end asked n a w = grind (arith, work_names, path_in)
 
 -- Beside it
@@ -170,6 +151,4 @@ module _ (reads writes : ℕ) (few : IsLong reads × IsLong writes) (xs ys : Lis
   pub event_known : (end : EventEnd) (asked : Asked) → Names asked → Answers asked end → RepairsIn asked end →
       All IsLine (event_lines asked end reads writes xs ys)
   event_known end asked n a w =
-      let h = told_names xs before end asked n a w in
-      event_all IsLine Ranged loose_known overs_known xs ys before behind reads writes io_known end asked (first_known (told xs end asked) h)
-      (last_known (told xs end asked) h)
+      event_all IsLine Ranged loose_known overs_known xs ys before behind reads writes io_known end asked (told_names xs before end asked n a w)

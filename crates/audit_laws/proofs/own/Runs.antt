@@ -182,19 +182,7 @@ module _ (s : Subsystem) (numbers : List ℕ) (k : IsBehind numbers s) where
   line_does (events.Run d) has = run_goes_on s k.plain d has (run_is_over s k.plain d has)
   line_does (events.Back d) has = back_goes_on s k.plain k.good d has
   line_does (events.Settle d) has = settle_goes_on s k.plain k.good d has (settle_over s k.good k.sized d has)
-  line_does (events.FailVolume d side) has = ordered_leads numbers s k (events.FailVolume d side) has
-  line_does (events.Start path d) has = still_leads s k.plain (events.Start path d) has
-  line_does (events.Reset path d) has = still_leads s k.plain (events.Reset path d) has
-  line_does events.FailCache has = ordered_leads numbers s k events.FailCache tt
-  line_does events.FailStore has = ordered_leads numbers s k events.FailStore tt
-  line_does events.RepairCache has = still_leads s k.plain events.RepairCache tt
-  line_does events.RepairStore has = still_leads s k.plain events.RepairStore tt
-  line_does (events.Replace d side) has = still_leads s k.plain (events.Replace d side) has
-  line_does (events.Pair a b) has = ordered_leads numbers s k (events.Pair a b) has
-  line_does (events.Unpair a) has = ordered_leads numbers s k (events.Unpair a) has
-  line_does (events.Suspend a) has = still_leads s k.plain (events.Suspend a) has
-  line_does (events.Resume a) has = still_leads s k.plain (events.Resume a) has
-  line_does events.Power has = ordered_leads numbers s k events.Power tt
+  line_does e has = grind (arith, ordered_leads, still_leads)
 
 pub report_leads : (text : List ℕ) (deck : DeckLines) → parsed text ≡ Ok deck → WholeLeads (first_state deck) (report_lines (run_of deck))
 report_leads text deck read =

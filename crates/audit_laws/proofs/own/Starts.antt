@@ -164,8 +164,8 @@ module _ (s : Subsystem) (plain : ArePlain s.mounted) (path n : ℕ) (x : MarksD
       after_start (audited x) path answer ≡ audited x →
       EventLeads s (wanted.Start path n) (Once (events.Start path n)) (quietly s s end)
   ends_lead end answer told is same later =
-      subst (λ (l : List ReportLine). LeadsBy (stand s (wanted.Start path n ∷ later)) l (stand s later)) (sym (quiet_lines (did.Started path n
-      (R.start_answer end)) (devices_of s))) (rw told (one_leads (stand s (wanted.Start path n ∷ later)) (stand s later) (lines.Start path n answer)
+      subst (λ (l : List ReportLine). LeadsBy (stand s (wanted.Start path n ∷ later)) l (stand s later)) (sym (quiet_lines (did.First (lines.Start path n
+      (R.start_answer end))) (devices_of s))) (rw told (one_leads (stand s (wanted.Start path n ∷ later)) (stand s later) (lines.Start path n answer)
       (start_judged later answer is s (ap (with_device (map audited (devices_of s))) same ∙ back_there))))
 
   -- the path runs already
@@ -202,10 +202,10 @@ module _ (s : Subsystem) (plain : ArePlain s.mounted) (path n : ℕ) (x : MarksD
       nothing_told : TellsNothing m.device (start x path)
       nothing_told = rw it_is (start_tells x path (starts_where_idle x path free))
 
-      its_lines : work_lines (did.Started path n (answers.Accepted (S.next_ordinal x path))) 0 0 (devices_of s) (devices_of (with_mounted s n new))
+      its_lines : work_lines (did.First (lines.Start path n (answers.Accepted (S.next_ordinal x path)))) 0 0 (devices_of s) (devices_of (with_mounted s n new))
           ≡ lines.Start path n (answers.Accepted (S.next_ordinal x path)) ∷ []
       its_lines =
-          let h = did.Started path n (answers.Accepted (S.next_ordinal x path)) in
+          let h = did.First (lines.Start path n (answers.Accepted (S.next_ordinal x path))) in
           (tells_alone s n new).tells h 0 0
           ∙ ap (λ (o : Option Mounted). lines_at h 0 0 o (start x path)) there
           ∙ ap (λ (l : List ReportLine). lines.Start path n (answers.Accepted (S.next_ordinal x path)) ∷ (l ++ (over_lines m.device (start x path) ++ [])))

@@ -1,7 +1,8 @@
 -- What the lines of a piece of work make of its device: acts of cache fast write, volume calls, the program that is over.
-use Rattle.std.proofs.Common.{arith, ◌≡◌, ◌==◌, ◌++◌, ℕ, Bool, true, false, not, List, [], ◌∷◌, map, Option, Some, None, refl, sym, ap, ◌∙◌, if◌then◌else◌}
+use Rattle.std.proofs.Common.{arith, ◌≡◌, ◌==◌, ◌++◌, ℕ, Bool, true, false, not, List, [], ◌∷◌, map, Option, Some, None, refl, sym, ap, subst, ◌∙◌, append_assoc, if◌then◌else◌}
 use Rattle.std.specs.Prelude.{Result, ◌||◌, ◌&&◌, Ok, Err}
 use Rattle.std.proofs.lemmas.Bool.{eq-eqb}
+use Rattle.std.proofs.lemmas.List.{append-nil}
 use Rattle.deck_plan.specs.declared.event.EventLine.{EventLine}
 use Rattle.ckd_types.specs.declared.channel.CommandEnd.{CommandEnd}
 use Rattle.plain_defs.specs.declared.journal.Act.{Act}
@@ -14,7 +15,8 @@ use Rattle.device_laws.proofs.HistoryActs.{acted_plain, acted_state, acts_first,
 use Rattle.report_text.specs.declared.answers.LooseAnswer.TheVariants as loose
 use Rattle.report_text.specs.declared.line.ReportLine.{ReportLine}
 use Rattle.report_text.specs.declared.line.ReportLine.TheVariants as lines
-use Rattle.report_text.specs.Events.{io_lines, line_if}
+use Rattle.report_text.specs.declared.event.Happened.{Happened}
+use Rattle.report_text.specs.Events.{first_lines, in_order, io_lines, last_line, line_if}
 use Rattle.deck_audit.specs.declared.state.Did.{Did}
 use Rattle.deck_audit.specs.declared.state.Did.TheVariants.{Ended, Halved}
 use Rattle.deck_audit.specs.declared.state.Due.{Due}
@@ -65,6 +67,11 @@ behind_event xs w later a did =
 abbrev pub end_of : List AuditedDevice → EventLine → List EventLine → AuditedDevice → Did → Option ReportLine → AuditState
 end_of xs w later a did (Some line) = behind_event xs w later (worked a did) Halved
 end_of xs w later a did None = behind_event xs w later (worked a did) did
+
+-- where nothing is told last
+ordered : (h : Happened) → last_line h ≡ None → (acts calls over : List ReportLine) →
+    (first_lines h ++ acts) ++ (calls ++ over) ≡ first_lines h ++ (acts ++ (calls ++ (over ++ line_if (last_line h))))
+ordered h none acts calls over = grind (arith, append-nil, append_assoc)
 
 -- an OVER line of the wanted program
 abbrev pub IsOver : ReportLine → Type 0
@@ -212,8 +219,10 @@ module _ (xs : List AuditedDevice) (w : EventLine) (later : List EventLine) (n :
       tail_leads false reads writes = told_tail (lines.Io reads writes) refl o refl
 
       -- and all lines of the piece of work
-      pub piece_leads : (firsts : List ReportLine) (reads writes : ℕ) → LeadsBy from firsts (at a (Behind more did)) →
-          LeadsTowards from (firsts ++ (io_lines reads writes ++ line_if o)) (end_of xs w later a did o)
-      piece_leads firsts reads writes leads =
+      pub piece_leads : (h : Happened) → last_line h ≡ None → (acts : List ReportLine) (reads writes : ℕ) →
+          LeadsBy from (first_lines h ++ acts) (at a (Behind more did)) →
+          LeadsTowards from (in_order h acts reads writes (line_if o)) (end_of xs w later a did o)
+      piece_leads h none acts reads writes leads =
           let tail = tail_leads ((reads == 0) && (writes == 0)) reads writes in
-          (tail.0, leads_on from (at a (Behind more did)) tail.0 firsts (io_lines reads writes ++ line_if o) leads tail.1, tail.2)
+          let all = leads_on from (at a (Behind more did)) tail.0 (first_lines h ++ acts) (io_lines reads writes ++ line_if o) leads tail.1 in
+          (tail.0, subst (λ (l : List ReportLine). LeadsBy from l tail.0) (ordered h none acts (io_lines reads writes) (line_if o)) all, tail.2)

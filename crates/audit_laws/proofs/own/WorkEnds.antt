@@ -1,5 +1,5 @@
 -- The lines of one piece of work, whichever event line has it.
-use Rattle.std.proofs.Common.{arith, ◌≡◌, ◌==◌, ◌++◌, ℕ, Bool, true, false, List, ◌∷◌, map, Option, Some, None, refl, ap, ◌∙◌, if◌then◌else◌}
+use Rattle.std.proofs.Common.{arith, ◌≡◌, ◌==◌, ℕ, Bool, true, false, List, ◌∷◌, Option, Some, None, refl, ap, ◌∙◌, if◌then◌else◌}
 use Rattle.std.specs.Prelude.{◌&&◌}
 use Rattle.std.proofs.lemmas.Bool.{or_left, or_right, and_from}
 use Rattle.ckd_types.specs.declared.channel.CommandEnd.{CommandEnd}
@@ -15,7 +15,6 @@ use Rattle.report_text.specs.declared.answers.HowOver.TheVariants as how
 use Rattle.report_text.specs.declared.line.ReportLine.{ReportLine}
 use Rattle.report_text.specs.declared.line.ReportLine.TheVariants as lines
 use Rattle.report_text.specs.Ends.{end_line}
-use Rattle.report_text.specs.Events.{io_lines, line_if}
 use Rattle.deck_audit.specs.declared.state.Did.{Did}
 use Rattle.deck_audit.specs.declared.state.Did.TheVariants.{CheckEnded, Ended, Halved, Worked}
 use Rattle.deck_audit.specs.declared.state.Due.TheVariants.{Next}
@@ -27,7 +26,7 @@ use Rattle.deck_audit.specs.Device.{AuditedDevice, device_in, is_idle, open_prog
 use Rattle.deck_audit.specs.History.{back_half, event_made, is_last, work_made}
 use Rattle.deck_audit.specs.State.{AuditState, outlines, worked}
 use Rattle.deck_audit.specs.Verdict.{judged, or_history}
-use Rattle.audit_laws.specs.Steps.{LeadsTowards, NoLoss, act_line, acted_to, over_if, over_told, step_lines}
+use Rattle.audit_laws.specs.Steps.{LeadsTowards, NoLoss, acted_to, over_if, over_told, piece_lines, step_lines}
 use Rattle.audit_laws.proofs.own.Backs.{over_halved, over_worked, work_leads}
 use Rattle.audit_laws.proofs.own.CameOut.{ChecksSo, EndsSo}
 use Rattle.audit_laws.proofs.own.Commands.{check_leads, command_leads}
@@ -45,10 +44,7 @@ pub data IsWork (n : ℕ) : EventLine → Type 0 where
   of_settle : IsWork n (events.Settle n)
 
 pub works : {n : ℕ} {w : EventLine} → IsWork n w → worker_of w ≡ Some n
-works of_step = refl
-works of_run = refl
-works of_back = refl
-works of_settle = refl
+works k = grind arith
 
 -- what is left of the events behind a piece: the line goes on, or is over
 abbrev pub left_by : EventLine → AuditedDevice → Bool → List EventLine → List EventLine
@@ -145,12 +141,7 @@ module _ (xs : List AuditedDevice) (later : List EventLine) (a : AuditedDevice) 
 
     pub end_stands : (w : EventLine) (h : HalfWrite) → MayEnd a.number w h → a.half ≡ h → (e : CommandEnd) →
         in_event (outlines (record { devices = xs; events = w ∷ later; due = Next })) (lines.End (end_line o.path a.number o.ordinal e)) w ≡ true
-    end_stands w h step_ends is e = grind (arith, its_outline, or_left, its_end)
-    end_stands w h run_ends is e = grind (arith, its_outline, or_left, its_end)
-    end_stands w h step_seconds is e = step_fits (lines.StepIdle a.number) (end_told e) is (second_end e)
-    end_stands w h run_seconds is e = step_fits (lines.RunIdle a.number) (end_told e) is (second_end e)
-    end_stands w h back_seconds is e = back_fits (end_told e) is (second_end e)
-    end_stands w h settle_seconds is e = back_fits (end_told e) is (second_end e)
+    end_stands w h k is e = grind (arith, its_outline, or_left, its_end, second_end e)
 
     -- A command that ends
 
@@ -177,13 +168,12 @@ module _ (xs : List AuditedDevice) (later : List EventLine) (a : AuditedDevice) 
 
     half_stands : (w : EventLine) → MayEnd a.number w half.Closed → a.half ≡ half.Closed → (track : ℕ) →
         in_event (outlines (record { devices = xs; events = w ∷ later; due = Next })) (lines.Half o.path a.number track) w ≡ true
-    half_stands w step_ends closed track = grind (arith, its_outline, or_right)
-    half_stands w run_ends closed track = grind (arith, its_outline, or_right)
+    half_stands w k closed track = grind (arith, its_outline, or_right)
 
     pub halves_lead : (w : EventLine) (k : MayEnd a.number w half.Closed) → a.half ≡ half.Closed → IsPlain a.plans a.empty a.history → (track : ℕ)
         (acts : List Act) → NoLoss acts → AreActs (state_of a) None acts → (reads writes : ℕ) →
         LeadsTowards (record { devices = xs; events = w ∷ later; due = Next })
-        ((lines.Half o.path a.number track ∷ map (act_line a.number) acts) ++ (io_lines reads writes ++ line_if None))
+        (piece_lines (lines.Half o.path a.number track) a acts reads writes)
         (behind_piece xs w later (record a { history = all_acted a.history acts; half = half.OfCommand }) false)
     halves_lead w k closed plainly track acts none are reads writes =
         let leads = work_leads xs w later a has (works (ends_work k)) plainly half.OfCommand Halved (λ b. refl) (λ b. over_halved b b.history.running)
@@ -212,10 +202,7 @@ module _ (xs : List AuditedDevice) (later : List EventLine) (a : AuditedDevice) 
   second_stands : (w : EventLine) → IsWork a.number w → (answer : BackAnswer) → a.half ≡ half.OfBackground →
       is_second_line a.number (lines.Back a.number answer) ≡ true →
       in_event (outlines (record { devices = xs; events = w ∷ later; due = Next })) (lines.Back a.number answer) w ≡ true
-  second_stands w of_step answer is so = step_fits (lines.StepIdle a.number) (lines.Back a.number answer) is so
-  second_stands w of_run answer is so = step_fits (lines.RunIdle a.number) (lines.Back a.number answer) is so
-  second_stands w of_back answer is so = back_fits (lines.Back a.number answer) is so
-  second_stands w of_settle answer is so = back_fits (lines.Back a.number answer) is so
+  second_stands w k answer is so = grind (arith, its_outline)
 
   tells_stand : {w : EventLine} {answer : BackAnswer} {h : HalfWrite} → (k : MayTell w answer h) → a.half ≡ h →
       in_event (outlines (record { devices = xs; events = w ∷ later; due = Next })) (lines.Back a.number answer) w ≡ true
@@ -226,7 +213,7 @@ module _ (xs : List AuditedDevice) (later : List EventLine) (a : AuditedDevice) 
   pub tells_lead : (w : EventLine) (answer : BackAnswer) (h : HalfWrite) (k : MayTell w answer h) → a.half ≡ h → IsPlain a.plans a.empty a.history →
       (acts : List Act) → NoLoss acts → AreActs (state_of a) None acts → (reads writes : ℕ) →
       LeadsTowards (record { devices = xs; events = w ∷ later; due = Next })
-      ((lines.Back a.number answer ∷ map (act_line a.number) acts) ++ (io_lines reads writes ++ line_if None))
+      (piece_lines (lines.Back a.number answer) a acts reads writes)
       (behind_piece xs w later (record a { history = all_acted a.history acts; half = back_half a answer }) (is_last answer))
   tells_lead w answer h k is plainly acts none are reads writes =
       let leads = work_leads xs w later a has (works (tells_work k)) plainly (back_half a answer) (Worked (is_last answer)) (λ b. refl) (λ b. over_worked b

@@ -11,6 +11,7 @@ use Rattle.deck_text.specs.Parse.{parsed}
 use Rattle.device_defs.specs.Marks.{MarksDevice}
 use Rattle.report_text.specs.declared.answers.BackAnswer.TheVariants as back
 use Rattle.report_text.specs.declared.event.Happened.TheVariants as did
+use Rattle.report_text.specs.declared.line.ReportLine.TheVariants as lines
 use Rattle.report_text.specs.declared.line.ReportLine.{ReportLine}
 use Rattle.deck_audit.specs.Device.{is_idle}
 use Rattle.deck_audit.specs.State.{AuditState}
@@ -233,13 +234,13 @@ module _ (s : Subsystem) (plain : ArePlain s.mounted) (good : AreSo Good s.mount
   piece_of_back d x at =
       rw (← (number_found s.mounted d x at))
       (back_goes s x (own_place s d x at) (plain_of s plain d x at) (good_of s good d x at) (wanted.Back x.store.device) (Once (events.Back x.store.device))
-      (did.Back x.store.device back.Nothing) back_piece by_back)
+      (did.First (lines.Back x.store.device back.Nothing)) back_piece by_back)
 
   piece_of_settle : (d : ℕ) (x : MarksDevice) → device_in (devices_of s) d ≡ Some x → PieceGoes s d (wanted.Settle d) (Settle d) (happens s (events.Back d))
   piece_of_settle d x at =
       rw (← (number_found s.mounted d x at))
       (back_goes s x (own_place s d x at) (plain_of s plain d x at) (good_of s good d x at) (wanted.Settle x.store.device) (Settle x.store.device)
-      (did.Back x.store.device back.Nothing) settle_piece by_settle)
+      (did.First (lines.Back x.store.device back.Nothing)) settle_piece by_settle)
 
   pub back_goes_on : (d : ℕ) → HasDevice s d → LineGoes s (wanted.Back d)
   back_goes_on d has =

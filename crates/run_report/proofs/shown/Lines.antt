@@ -126,12 +126,8 @@ module _ (n : ℕ) where
       ∙ sym (append_assoc here (overs_of bs ks) (shown_from n own ls))
 
   last_skip : (h : Happened) (own : Bool) → shown_from n own (line_if (last_line h)) ≡ []
-  last_skip (did.Started p d a) own = refl
+  last_skip (did.First line) own = refl
   last_skip (did.Ended p d o e) own = refl
-  last_skip (did.Half p d t) own = refl
-  last_skip (did.Back d a) own = refl
-  last_skip (did.StepIdle d) own = refl
-  last_skip (did.RunIdle d) own = refl
   last_skip (did.Reset p d) own = refl
   last_skip (did.Ordered order a) own = refl
 
@@ -156,7 +152,7 @@ module _ (n : ℕ) where
   -- What an event did, where that is of another device
 
   abbrev pub IsOther : Happened → Type 0
-  IsOther (did.Started p d a) = (d == n) ≡ false
+  IsOther (did.First line) = (own : Bool) → shown_from n own (line ∷ []) ≡ []
   IsOther (did.Ended p d o e) = (d == n) ≡ false
   IsOther _ = ⊤
 
@@ -172,19 +168,15 @@ module _ (n : ℕ) where
   not_first true x f is none = absurd (cc)
   not_first false x f is none = none
 
-  accepted_not : (b c : Bool) (x : ReportLine) → b ≡ false → (if b && c then x ∷ [] else []) ≡ []
+  pub accepted_not : (b c : Bool) (x : ReportLine) → b ≡ false → (if b && c then x ∷ [] else []) ≡ []
   accepted_not true c x is = absurd (cc)
   accepted_not false c x is = refl
 
   pub other_shows : (h : Happened) → IsOther h → (own : Bool) → shown_from n own (first_lines h) ≡ []
-  other_shows (did.Started p d a) is own = accepted_not (d == n) (is_accepted a) (lines.Start p d a) is
+  other_shows (did.First line) is own = is own
   other_shows (did.Ended p d o e) is own =
       not_first (d == n) _ (λ (b : Bool). shown_from n b (data_lines e.sent ++ sense_lines e.sense)) is
       (data_skip e.sent (sense_lines e.sense) ∙ sense_skip e.sense)
-  other_shows (did.Half p d t) is own = refl
-  other_shows (did.Back d a) is own = refl
-  other_shows (did.StepIdle d) is own = refl
-  other_shows (did.RunIdle d) is own = refl
   other_shows (did.Reset p d) is own = refl
   other_shows (did.Ordered order a) is own = refl
 
@@ -209,7 +201,7 @@ module _ (n : ℕ) where
       (own_data e.sent (sense_lines e.sense) ∙ ap (λ (l : List ReportLine). data_lines e.sent ++ l) (own_sense e.sense))
 
   pub started_shown : (path ordinal : ℕ) (own : Bool) → (a : StartAnswer) → is_accepted a ≡ true →
-      shown_from n own (first_lines (did.Started path n a)) ≡ lines.Start path n a ∷ []
+      shown_from n own (first_lines (did.First (lines.Start path n a))) ≡ lines.Start path n a ∷ []
   started_shown path ordinal own a is =
       first_own ((n == n) && is_accepted a) (lines.Start path n a) (λ (b : Bool). []) []
       (ap (λ (b : Bool). b && is_accepted a) (eq-eqb n n refl) ∙ is) refl

@@ -55,7 +55,7 @@ use Rattle.run_report.proofs.shown.Histories.{
   reset_shows,
   power_is_shown,
 }
-use Rattle.run_report.proofs.shown.Lines.{IsOther, other_shows, ended_shown, started_shown}
+use Rattle.run_report.proofs.shown.Lines.{IsOther, accepted_not, other_shows, ended_shown, started_shown}
 use Rattle.run_report.proofs.shown.Places.{devices}
 use Rattle.run_report.proofs.shown.ShownEvents.{says, Silent, Shows, kept, Answered, ShowsDeed}
 use Rattle.subsystem_defs.specs.declared.end.EventEnd.{EventEnd}
@@ -183,11 +183,11 @@ module _ (n : ℕ) (firsts : Firsts) (s : Subsystem) (plain : ArePlainOn firsts 
         (start_shows n x.history path (next_ordinal x path) none) (ap (λ (l : List Item). program_over_lines (over_of n l)) (none_behind x.history.items)))
 
     start_by_shows : (path : ℕ) (o : Option StartFault) → start_fault x path ≡ o →
-        ShowsDeed n s (λ end. did.Started path k (start_answer end)) (start_by {R = Bool} x path o)
+        ShowsDeed n s (λ end. did.First (lines.Start path k (start_answer end))) (start_by {R = Bool} x path o)
     start_by_shows path (Some fault) is =
         λ own. not_shown (k == n) (is_accepted (start_refused fault)) (lines.Start path k (start_refused fault)) (refused fault)
     start_by_shows path None is =
-        let told = λ (end : EventEnd). did.Started path k (start_answer end) in
+        let told = λ (end : EventEnd). did.First (lines.Start path k (start_answer end)) in
         let number = started_number path in (
           λ none. absurd (mounted_too s.mounted k x at (ap (mounted_in s.mounted) (sym (number ∙ number_is)) ∙ none)),
           λ m found. record {
@@ -195,17 +195,18 @@ module _ (n : ℕ) (firsts : Firsts) (s : Subsystem) (plain : ArePlainOn firsts 
             own = λ same. subst (λ (d : MarksDevice). Shows n (told (ends.Started (next_ordinal x path))) d (start x path))
                 (sym (it_is m (ap (mounted_in s.mounted) (sym number) ∙ found)))
                 (λ own. subst (HistoryShows n x.history (start x path).history)
-                (sym (ap (λ (i : ℕ). shown_from n own (first_lines (did.Started path i (answers.Accepted (next_ordinal x path)))))
+                (sym (ap (λ (i : ℕ). shown_from n own (first_lines (did.First (lines.Start path i (answers.Accepted (next_ordinal x path))))))
                 (sym (number ∙ number_is) ∙ same)
                 ∙ started_shown n path (next_ordinal x path) own (answers.Accepted (next_ordinal x path)) refl))
                 (start_is_shown path (starts_where_idle x path is)));
-            other = λ far. other_shows n (told (ends.Started (next_ordinal x path))) (ap (λ (i : ℕ). i == n) (sym (number ∙ number_is)) ∙ far);
+            other = λ far own. accepted_not n (k == n) true (lines.Start path k (answers.Accepted (next_ordinal x path)))
+                (ap (λ (i : ℕ). i == n) (sym (number ∙ number_is)) ∙ far);
           },
         )
 
-    pub start_shown : (path : ℕ) → ShowsDeed n s (λ end. did.Started path k (start_answer end)) (starts {R = Bool} path x)
+    pub start_shown : (path : ℕ) → ShowsDeed n s (λ end. did.First (lines.Start path k (start_answer end))) (starts {R = Bool} path x)
     start_shown path = by_own (is_path_of x.history.running path) where
-      by_own : (b : Bool) → ShowsDeed n s (λ end. did.Started path k (start_answer end)) (if b then Ends ends.Running
+      by_own : (b : Bool) → ShowsDeed n s (λ end. did.First (lines.Start path k (start_answer end))) (if b then Ends ends.Running
           else start_by {R = Bool} x path (start_fault x path))
       by_own true = λ own. not_shown (k == n) false (lines.Start path k answers.Running) refl
       by_own false = start_by_shows path (start_fault x path) refl
@@ -248,11 +249,11 @@ module _ (n : ℕ) (firsts : Firsts) (s : Subsystem) (plain : ArePlainOn firsts 
 
       other_end : (r : Option RunningProgram) (e : CommandEnd) → (k == n) ≡ false → IsOther n (end_told k r e)
       other_end (Some r) e far = far
-      other_end None e far = tt
+      other_end None e far = λ own. refl
 
       other_half : (r : Option RunningProgram) (t : ℕ) → IsOther n (half_told k r t)
-      other_half (Some r) t = tt
-      other_half None t = tt
+      other_half (Some r) t = λ own. refl
+      other_half None t = λ own. refl
 
       other_step : (r : Option RunningProgram) (a : Option Stepped) → (k == n) ≡ false → IsOther n (work_told k r idle (told_end (end_of ends.Stepped a)))
       other_step r (Some (steps.Ended e)) far = other_end r e far
@@ -261,11 +262,11 @@ module _ (n : ℕ) (firsts : Firsts) (s : Subsystem) (plain : ArePlainOn firsts 
 
       other_second : (r : Option RunningProgram) (a : SecondEnd) → (k == n) ≡ false → IsOther n (work_told k r idle (ends.Second a))
       other_second r (seconds.Ended e) far = other_end r e far
-      other_second r (seconds.Finished q) far = tt
-      other_second r (seconds.Unwritten q) far = tt
+      other_second r (seconds.Finished q) far = λ own. refl
+      other_second r (seconds.Unwritten q) far = λ own. refl
 
       other_back : (r : Option RunningProgram) (a : Option Did) → IsOther n (work_told k r idle (told_end (end_of ends.Back a)))
-      other_back r (Some a) = tt
+      other_back r (Some a) = λ own. refl
       other_back r None = idle_other
 
       seconds_shown : (h : HalfWrite (Unit {0})) → x.store.half ≡ Some h → ShowsDeed n s told (seconded by_plain x)

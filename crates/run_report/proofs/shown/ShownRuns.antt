@@ -52,7 +52,6 @@ use Rattle.device_defs.specs.Cutting.{reset}
 use Rattle.device_defs.specs.Events.{lose}
 use Rattle.device_defs.specs.Marks.{MarksDevice}
 use Rattle.device_defs.specs.Orders.{hold_side, resume, replace, split}
-use Rattle.report_text.specs.declared.answers.BackAnswer.TheVariants as back_answers
 use Rattle.report_text.specs.declared.event.Happened as report
 use Rattle.report_text.specs.declared.event.Happened.TheVariants as did
 use Rattle.report_text.specs.declared.line.ReportLine.{ReportLine}
@@ -219,10 +218,10 @@ module _ (n : ℕ) (firsts : Firsts) where
     deed_shown : (e : Event) → ShowsDeed n s (λ end. once_told (devices_of s) end e) (deed by_plain s.pool (devices_of s) e)
     unfolding E.deed
     deed_shown (events.Start path d) =
-        on_found (λ end. did.Started path d (start_answer end)) d (device_in (devices_of s) d) (starts path) refl
+        on_found (λ end. did.First (lines.Start path d (start_answer end))) d (device_in (devices_of s) d) (starts path) refl
         (λ own. never (d == n) (lines.Start path d answers.Running)) (λ x at. start_shown n firsts s plain d x at path)
-    deed_shown (events.Step d) = steps_on (did.StepIdle d) (λ own. refl) tt d (device_in (devices_of s) d) refl
-    deed_shown (events.Back d) = backs_on (did.Back d back_answers.Nothing) (λ own. refl) tt d (device_in (devices_of s) d) refl
+    deed_shown (events.Step d) = steps_on _ (λ own. refl) (λ own. refl) d (device_in (devices_of s) d) refl
+    deed_shown (events.Back d) = backs_on _ (λ own. refl) (λ own. refl) d (device_in (devices_of s) d) refl
     deed_shown (events.Reset path d) =
         on_found (λ end. did.Reset path d) d (device_in (devices_of s) d) (λ x. Asks x (ends_by ends_done (reset by_plain x path))) refl (λ own. refl)
         (λ x at. quiet_reset n firsts s plain d x at (λ end. did.Reset path d) (λ end own. refl) path)
@@ -327,16 +326,16 @@ module _ (n : ℕ) (firsts : Firsts) where
 
     step_seen : (d : ℕ) → Seen s (logged (Run d) (happens s (events.Step d)))
     unfolding E.deed
-    step_seen d = event_seen (Run d) (events.Step d) (steps_on s plain (did.RunIdle d) (λ own. refl) tt d (device_in (devices_of s) d) refl) refl
+    step_seen d = event_seen (Run d) (events.Step d) (steps_on s plain _ (λ own. refl) (λ own. refl) d (device_in (devices_of s) d) refl) refl
 
     back_seen : (d : ℕ) → Seen s (logged (Settle d) (happens s (events.Back d)))
     unfolding E.deed
     back_seen d =
-        event_seen (Settle d) (events.Back d) (backs_on s plain (did.Back d back_answers.Nothing) (λ own. refl) tt d (device_in (devices_of s) d) refl) refl
+        event_seen (Settle d) (events.Back d) (backs_on s plain _ (λ own. refl) (λ own. refl) d (device_in (devices_of s) d) refl) refl
 
     idle_seen : (d : ℕ) → Seen s (logged (Run d) (quietly s s ends.Idle))
     idle_seen d = (
-      shows_event s (Run d) (quietly s s ends.Idle) refl refl (at_same n (devices s.mounted) one (same_kept n (did.RunIdle d) (λ own. refl))),
+      shows_event s (Run d) (quietly s s ends.Idle) refl refl (at_same n (devices s.mounted) one (same_kept n (told (devices_of s) ends.Idle (Run d)) (λ own. refl))),
       at_same n (devices s.mounted) one (λ x. tt),
     )
 

@@ -5,7 +5,7 @@ use Rattle.subsystem_defs.specs.Lines.{Once, Replace, Unpair, logged}
 use Rattle.subsystem_defs.specs.Subsystem.{unfailing}
 use Rattle.deck_run.proofs.Events.{ok_so}
 use Rattle.deck_run.proofs.Pairing.{first_so, second_so}
-use Rattle.deck_run.proofs.Recorded.{back_tells, fail_tells, one_step_tells, one_tells, reset_tells, resume_tells, start_tells, suspend_tells}
+use Rattle.deck_run.proofs.Recorded.{event_tells, one_tells}
 use Rattle.deck_run.proofs.line.do_line.Goals as goal
 
 pub returns-in-Start-clause-stands : goal.returns-in-Start-clause-stands
@@ -16,7 +16,7 @@ pub returns-in-Start-clause-lines : goal.returns-in-Start-clause-lines
 unfolding lines.line_logged
 returns-in-Start-clause-lines g c = λ run all.
     rw c.in-Start.is
-    (ok_so c.start.result _ _ (λ h. start_tells run c.in-Start.path c.in-Start.d c.args.report.now c.start.new.report h) (c.start.ensures.lines run all))
+    (ok_so c.start.result _ _ (λ h. event_tells run (events.Start c.in-Start.path c.in-Start.d) tt c.args.report.now c.start.new.report h) (c.start.ensures.lines run all))
 
 pub returns-in-Step-clause-stands : goal.returns-in-Step-clause-stands
 unfolding lines.line_logged
@@ -25,7 +25,7 @@ returns-in-Step-clause-stands g c = λ run all. rw c.in-Step.is (c.step.ensures.
 pub returns-in-Step-clause-lines : goal.returns-in-Step-clause-lines
 unfolding lines.line_logged
 returns-in-Step-clause-lines g c = λ run all.
-    rw c.in-Step.is (ok_so c.step.result _ _ (λ h. one_step_tells run c.in-Step.d c.args.report.now c.step.new.report h) (c.step.ensures.lines run all))
+    rw c.in-Step.is (ok_so c.step.result _ _ (λ h. event_tells run (events.Step c.in-Step.d) tt c.args.report.now c.step.new.report h) (c.step.ensures.lines run all))
 
 pub returns-in-Run-clause-stands : goal.returns-in-Run-clause-stands
 unfolding lines.line_logged
@@ -42,7 +42,7 @@ returns-in-Back-clause-stands g c = λ run all. rw c.in-Back.is (c.back.ensures.
 pub returns-in-Back-clause-lines : goal.returns-in-Back-clause-lines
 unfolding lines.line_logged
 returns-in-Back-clause-lines g c = λ run all.
-    rw c.in-Back.is (ok_so c.back.result _ _ (λ h. back_tells run c.in-Back.d c.args.report.now c.back.new.report h) (c.back.ensures.lines run all))
+    rw c.in-Back.is (ok_so c.back.result _ _ (λ h. event_tells run (events.Back c.in-Back.d) tt c.args.report.now c.back.new.report h) (c.back.ensures.lines run all))
 
 pub returns-in-Settle-clause-stands : goal.returns-in-Settle-clause-stands
 unfolding lines.line_logged
@@ -60,7 +60,7 @@ pub returns-in-Reset-clause-lines : goal.returns-in-Reset-clause-lines
 unfolding lines.line_logged
 returns-in-Reset-clause-lines g c = λ run all.
     rw c.in-Reset.is
-    (ok_so c.reset.result _ _ (λ h. reset_tells run c.in-Reset.path c.in-Reset.d c.args.report.now c.reset.new.report h) (c.reset.ensures.lines run all))
+    (ok_so c.reset.result _ _ (λ h. event_tells run (events.Reset c.in-Reset.path c.in-Reset.d) tt c.args.report.now c.reset.new.report h) (c.reset.ensures.lines run all))
 
 pub returns-in-Replace-clause-stands : goal.returns-in-Replace-clause-stands
 unfolding lines.line_logged
@@ -81,7 +81,7 @@ pub returns-in-FailVolume-clause-lines : goal.returns-in-FailVolume-clause-lines
 unfolding lines.line_logged
 returns-in-FailVolume-clause-lines g c = λ run all.
     rw c.in-FailVolume.is
-    (ok_so c.order_one.result _ _ (λ h. fail_tells run c.in-FailVolume.d c.in-FailVolume.side c.args.report.now c.order_one.new.report h)
+    (ok_so c.order_one.result _ _ (λ h. event_tells run (events.FailVolume c.in-FailVolume.d c.in-FailVolume.side) tt c.args.report.now c.order_one.new.report h)
     (c.order_one.ensures.lines run all))
 
 pub returns-in-Suspend-clause-stands : goal.returns-in-Suspend-clause-stands
@@ -92,7 +92,7 @@ pub returns-in-Suspend-clause-lines : goal.returns-in-Suspend-clause-lines
 unfolding lines.line_logged
 returns-in-Suspend-clause-lines g c = λ run all.
     rw c.in-Suspend.is
-    (ok_so c.order_one-in-Suspend.result _ _ (λ h. suspend_tells run c.in-Suspend.d c.args.report.now c.order_one-in-Suspend.new.report h)
+    (ok_so c.order_one-in-Suspend.result _ _ (λ h. event_tells run (events.Suspend c.in-Suspend.d) tt c.args.report.now c.order_one-in-Suspend.new.report h)
     (c.order_one-in-Suspend.ensures.lines run all))
 
 pub returns-in-Resume-clause-stands : goal.returns-in-Resume-clause-stands
@@ -103,7 +103,7 @@ pub returns-in-Resume-clause-lines : goal.returns-in-Resume-clause-lines
 unfolding lines.line_logged
 returns-in-Resume-clause-lines g c = λ run all.
     rw c.in-Resume.is
-    (ok_so c.order_one-in-Resume.result _ _ (λ h. resume_tells run c.in-Resume.d c.args.report.now c.order_one-in-Resume.new.report h)
+    (ok_so c.order_one-in-Resume.result _ _ (λ h. event_tells run (events.Resume c.in-Resume.d) tt c.args.report.now c.order_one-in-Resume.new.report h)
     (c.order_one-in-Resume.ensures.lines run all))
 
 pub returns-in-FailCache-clause-stands : goal.returns-in-FailCache-clause-stands
