@@ -32,7 +32,6 @@ use Rattle.std.specs.List.{list_all}
 use Rattle.std.proofs.Math.ListN.{get_or-append}
 use Rattle.std.proofs.lemmas.Bool.{and_parts, and_from, ltb-true, lt-ltb, leb-true, cases_Bool}
 use Rattle.std.proofs.lemmas.List.{append-nil, length-take, get_or-take}
-use Rattle.std.proofs.lemmas.List.Folds.{list_all-append}
 use Rattle.ckd_types.specs.declared.geometry.Geometry.{Geometry}
 use Rattle.ckd_types.specs.declared.record.Record.{Record}
 use Rattle.ckd_types.specs.declared.record.Track.{Track}
