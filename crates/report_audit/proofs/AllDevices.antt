@@ -67,13 +67,10 @@ or_second : (x y : Bool) → (x || y) ≡ false → y ≡ false
 or_second x y is = grind arith
 
 module _ (programs : List PlannedProgram) (n : ℕ) where
-  lent_alike : (k : Kept) (a : AuditedDevice) → IsKept k a → lent_runs n k ≡ runs_lent n a
-  lent_alike k a i = grind (arith, by_program)
-
   pub any_alike : (ks : List Kept) (ds : List AuditedDevice) → AllKept programs ks ds
       → list_any (lent_runs n) ks ≡ list_any (runs_lent n) ds
   any_alike [] [] all = refl
-  any_alike (k ∷ ks) (a ∷ ds) all = grind (arith, any_alike ks ds all.1, lent_alike)
+  any_alike (k ∷ ks) (a ∷ ds) all = grind (arith, any_alike ks ds all.1, by_program)
   any_alike ks ds all = absurd all
 
   back_by : (k : Kept) (a : AuditedDevice) (b : Bool) → IsAt programs Next k a → (b && runs a.history.running) ≡ false
@@ -92,8 +89,7 @@ module _ (programs : List PlannedProgram) (n : ℕ) where
 
   back_at : (k : Kept) (a : AuditedDevice) → IsAt programs Next k a → runs_lent n a ≡ false
       → IsAt programs Next (taken_back n k) (given_back n a)
-  back_at k a is idle = subst (λ (b : Bool). IsAt programs Next (cond b (record k { device = replay.given_back k.device }) k) (given_back n a))
-      (sym (ap (λ (l : Option ℕ). is_lent_to n l) is.kept.follows.lent_is)) (back_by k a (is_lent_to n a.lent) is idle)
+  back_at k a is idle = grind (arith, back_by k a (is_lent_to n a.lent) is idle)
 
   pub all_back : (ks : List Kept) (ds : List AuditedDevice) → AllKept programs ks ds → list_any (runs_lent n) ds ≡ false
       → AllKept programs (map (taken_back n) ks) (map (given_back n) ds)

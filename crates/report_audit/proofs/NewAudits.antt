@@ -13,13 +13,10 @@ use Rattle.deck_audit.specs.Follows.{KeepsPaths}
 use Rattle.deck_audit.specs.Replay.{new_replayed}
 use Rattle.deck_audit.specs.State.{first_state}
 
-new_at : (programs : List PlannedProgram) (line : DeviceLine) → IsAt programs Next (new_kept line) (new_device programs line)
-new_at programs line = grind arith
-
 all_new : (programs : List PlannedProgram) (devices : List DeviceLine)
     → AllKept programs (map new_kept devices) (map (new_device programs) devices)
 all_new programs [] = tt
-all_new programs (line ∷ devices) = (new_at programs line, all_new programs devices)
+all_new programs (line ∷ devices) = grind (arith, all_new programs devices)
 
 pub new_audit : (z : Auditor) → z.devices.items ≡ map new_kept z.deck.devices → z.passed ≡ 0 → z.due ≡ Next
     → z.outlines.items ≡ map kept_outline z.devices.items → IsAuditOf z (first_state z.deck)
