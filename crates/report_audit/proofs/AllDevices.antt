@@ -1,21 +1,20 @@
 -- What a line makes of all devices of an auditor.
-use Rattle.std.proofs.Common.{◌≡◌, ◌<◌, ◌+◌, ◌++◌, ℕ, List, [], ◌∷◌, length, take, drop, Option, Some, None, Bool, true, false, cond, refl, arith, sym, ap}
+use Rattle.std.proofs.Common.{◌≡◌, ◌<◌, ◌+◌, ◌++◌, ℕ, List, [], ◌∷◌, length, take, drop, Option, None, Bool, true, false, cond, refl, arith, sym, ap}
 use Rattle.std.proofs.Common.{subst, ◌∙◌}
 use Rattle.std.specs.Prelude.{◌&&◌, ◌||◌, map, slice_index_or, slice_set}
 use Rattle.std.specs.List.{list_any}
 use Rattle.std.proofs.lemmas.List.{length-append, length-drop, length-map, length-take, get_or_default}
 use Rattle.std.proofs.lemmas.List.Edits.{map_over_more}
 use Rattle.deck_text.specs.declared.line.PlannedProgram.{PlannedProgram}
-use Rattle.plain_defs.specs.declared.journal.Item.TheVariants as items
-use Rattle.plain_defs.specs.History.{History, OpenEntry, emptied, lost_power, lost_power_in}
+use Rattle.plain_defs.specs.History.{History, OpenEntry, emptied, lost_power}
 use Rattle.plain_defs.specs.Legal.{is_started}
-use Rattle.report_audit.specs.Auditor.{AllKept, IsAt, NoneRuns, dark_kept, has_program, lent_runs, taken_back}
+use Rattle.report_audit.specs.Auditor.{AllKept, IsAt, NoneRuns, dark_kept, lent_runs, taken_back}
 use Rattle.deck_audit.specs.declared.kept.Kept.{Kept}
 use Rattle.deck_audit.specs.declared.state.Due.TheVariants.{Next}
 use Rattle.deck_audit.specs.declared.state.HalfWrite.TheVariants.{Closed}
 use Rattle.deck_audit.specs.Device.{AuditedDevice, runs}
 use Rattle.deck_audit.specs.History.{given_back, is_lent_to, runs_lent, without_power}
-use Rattle.deck_audit.specs.Keeping.{IsCounted, IsKept}
+use Rattle.deck_audit.specs.Keeping.{IsCounted}
 use Rattle.deck_audit.specs.Replay as replay
 use Rattle.deck_audit.specs.Replayed.{ReplayedState}
 use Rattle.deck_audit.proofs.Judges.{by_program}

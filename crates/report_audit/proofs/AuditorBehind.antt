@@ -3,23 +3,21 @@ use Rattle.std.proofs.Common.{◌≡◌, ℕ, List, Option, Some, None, Bool, tr
 use Rattle.std.specs.Prelude.{◌&&◌, ◌||◌, not, Result, Err, slice_get}
 use Rattle.deck_plan.specs.declared.event.EventLine.{EventLine}
 use Rattle.report_text.specs.declared.line.ReportLine.{ReportLine}
-use Rattle.report_text.specs.declared.line.ReportLine.TheVariants as lines
 use Rattle.report_audit.specs.Auditor.{IsFor, IsJudged, Makes, OneKept, idle_fault, judged_settled, kept_legal, place_from, placed}
 use Rattle.report_audit.specs.declared.auditor.Auditor.{Auditor}
 use Rattle.deck_audit.specs.declared.kept.Kept.{Kept}
 use Rattle.deck_audit.specs.declared.state.Did.{Did}
-use Rattle.deck_audit.specs.declared.state.Did.TheVariants.{Ended}
 use Rattle.deck_audit.specs.declared.state.Due.{Due}
 use Rattle.deck_audit.specs.declared.state.Due.TheVariants.{Behind}
 use Rattle.deck_audit.specs.declared.status.AuditWhy.{AuditWhy}
 use Rattle.deck_audit.specs.declared.status.AuditWhy.TheVariants.{History, Place}
 use Rattle.deck_audit.specs.declared.task.Task.TheVariants as tasks
 use Rattle.deck_audit.specs.Device.{AuditedDevice, device_in}
-use Rattle.deck_audit.specs.History.{act_of_work, due_made, is_legal, made_in}
+use Rattle.deck_audit.specs.History.{act_of_work, due_made, is_legal}
 use Rattle.deck_audit.specs.Keeping.{DidSo, IsDue, IsKept}
-use Rattle.deck_audit.specs.Place.{first_event, holds, in_due, is_act_of, is_io, is_of_work, worker_of}
-use Rattle.deck_audit.specs.Stands.{in_state, stands_in}
-use Rattle.deck_audit.specs.State.{AuditState, outlines, over_by, settled_by, settled_in, then_of, worker_number}
+use Rattle.deck_audit.specs.Place.{first_event, holds, is_act_of, is_io, is_of_work, worker_of}
+use Rattle.deck_audit.specs.Stands.{in_state}
+use Rattle.deck_audit.specs.State.{AuditState, over_by, settled_by, settled_in, then_of, worker_number}
 use Rattle.deck_audit.specs.Verdict.{judged, or_history}
 use Rattle.report_audit.proofs.Auditors.{at, none_at}
 use Rattle.report_audit.proofs.AuditorLines.{has_one}

@@ -1,7 +1,7 @@
 -- A line that one device judges makes of an auditor what it makes of the audited state.
 use Rattle.std.proofs.Common.{◌≡◌, ◌≤◌, ◌+◌, ℕ, zero, suc, List, [], ◌∷◌, length, drop, Option, Some, None, Bool, true, false, cond, refl, arith, sym, ap}
-use Rattle.std.proofs.Common.{subst, ◌∙◌, inl, inr}
-use Rattle.std.specs.Prelude.{◌&&◌, ◌⊎◌, ⊤, map, nat_lt, slice_get, slice_set}
+use Rattle.std.proofs.Common.{subst, ◌∙◌}
+use Rattle.std.specs.Prelude.{◌⊎◌, ⊤, map, nat_lt, slice_get, slice_set}
 use Rattle.std.proofs.Common.{rules}
 use Rattle.std.proofs.Math.ListN.{drop_of_length-le}
 use Rattle.std.proofs.lemmas.List.{drop-drop, map-set}
@@ -10,12 +10,9 @@ use Rattle.ckd_types.specs.declared.channel.CommandEnd.{CommandEnd}
 use Rattle.ckd_types.specs.Sense.{equipment_sense, data_check_sense}
 use Rattle.deck_plan.specs.declared.event.EventLine.{EventLine}
 use Rattle.deck_plan.specs.Plans.{PlansByPath}
-use Rattle.deck_text.specs.DeckLines.{DeckLines}
-use Rattle.deck_text.specs.Plans.{plans_of}
-use Rattle.report_text.specs.declared.answers.LooseAnswer.TheVariants as loose
 use Rattle.report_text.specs.declared.line.ReportLine.{ReportLine}
 use Rattle.report_text.specs.declared.line.ReportLine.TheVariants as lines
-use Rattle.report_audit.specs.Auditor.{AreKept, ArePowered, Fits, IsAt, IsAuditOf, IsFor, IsJudgedAt, Makes, NoneRuns, OneKept, gone_on, is_quiet}
+use Rattle.report_audit.specs.Auditor.{AreKept, ArePowered, Fits, IsAuditOf, IsFor, IsJudgedAt, Makes, NoneRuns, OneKept, gone_on, is_quiet}
 use Rattle.report_audit.specs.Auditor.{kept_outline, next_place, place_from}
 use Rattle.report_audit.specs.declared.auditor.Auditor.{Auditor}
 use Rattle.deck_audit.specs.declared.kept.Kept.{Kept}
@@ -25,23 +22,20 @@ use Rattle.deck_audit.specs.declared.replayed.Running.{Running}
 use Rattle.deck_audit.specs.declared.state.Did.{Did}
 use Rattle.deck_audit.specs.declared.state.Did.TheVariants.{Ended, CheckEnded, Halved}
 use Rattle.deck_audit.specs.declared.state.Due.{Due}
-use Rattle.deck_audit.specs.declared.state.Due.TheVariants.{Next, SenseOf, Behind, Losses, ResetOf, Powers}
-use Rattle.deck_audit.specs.declared.state.HalfWrite.TheVariants.{Closed}
+use Rattle.deck_audit.specs.declared.state.Due.TheVariants.{Next, Behind}
 use Rattle.deck_audit.specs.declared.state.Outline.{Outline}
-use Rattle.deck_audit.specs.Replay.{ended_next}
 use Rattle.deck_audit.specs.declared.task.Task.{Task}
 use Rattle.deck_audit.specs.declared.task.Task.TheVariants as tasks
-use Rattle.deck_audit.specs.Device.{AuditedDevice, device_in, has_loose, with_device}
-use Rattle.deck_audit.specs.History as history
-use Rattle.deck_audit.specs.History.{behind_end, changed, has_sense, place_of}
-use Rattle.deck_audit.specs.Judging.{check_of, end_due_by, sense_due_by, shows_end}
+use Rattle.deck_audit.specs.Device.{AuditedDevice, device_in, with_device}
+use Rattle.deck_audit.specs.History.{has_sense, place_of}
+use Rattle.deck_audit.specs.Judging.{check_of, end_due_by, sense_due_by}
 use Rattle.deck_audit.specs.Keeping.{Goes, IsDue, Judges, due_of, goes_on}
-use Rattle.deck_audit.specs.Kept.{act_then, cut_then_by, end_then_by, loosen_then, settled_over, then_if, wait_if, with_half, work_then}
+use Rattle.deck_audit.specs.Kept.{act_then, cut_then_by, then_if, wait_if, work_then}
 use Rattle.deck_audit.specs.Place.{IsDueOf}
 use Rattle.deck_audit.specs.Replayed.{ReplayedState}
 use Rattle.deck_audit.specs.Same.{says}
 use Rattle.deck_audit.specs.State.{AuditState, then_of, worker_number}
-use Rattle.deck_audit.specs.Task.{IsReady, next_then, settle_then_by, task_kept, task_made, task_then}
+use Rattle.deck_audit.specs.Task.{next_then, task_kept, task_made, task_then}
 use Rattle.report_audit.proofs.Auditors.{At, all_of_one, at, none_at, none_before, one_of_all, quiet_of, same_length}
 use Rattle.deck_audit.proofs.JudgedTasks.{task_judged}
 

@@ -1,24 +1,19 @@
 -- What a line's place says of the devices of an audited state.
-use Rattle.std.proofs.Common.{[], ◌≡◌, ◌≤◌, ◌+◌, ◌-◌, ℕ, zero, suc, List, ◌∷◌, length, drop, Option, Some, None, Bool, true, false, cond, refl, arith, sym, ap}
-use Rattle.std.proofs.Common.{subst, ◌∙◌, eq-eqb}
-use Rattle.std.specs.Prelude.{◌==◌, ◌&&◌, ◌||◌, not, map, nat_lt, slice_get}
-use Rattle.std.proofs.Common.{rules}
-use Rattle.std.proofs.lemmas.Bool.Decides.{nat_tests}
+use Rattle.std.proofs.Common.{[], ◌≡◌, ◌≤◌, ◌+◌, ℕ, zero, suc, List, ◌∷◌, length, drop, Option, Some, None, Bool, true, false, cond, refl, arith}
+use Rattle.std.specs.Prelude.{◌==◌, ◌&&◌, map}
 use Rattle.std.proofs.lemmas.List.{length-drop}
 use Rattle.deck_plan.specs.declared.event.EventLine.TheVariants as events
 use Rattle.plain_defs.specs.History.{OpenEntry, reset_in_history}
 use Rattle.report_text.specs.declared.answers.DeviceTotals.{DeviceTotals}
 use Rattle.report_text.specs.declared.answers.HowOver.TheVariants as how
 use Rattle.report_text.specs.declared.answers.LooseAnswer.{LooseAnswer}
-use Rattle.report_text.specs.declared.answers.LooseAnswer.TheVariants as loose
 use Rattle.report_text.specs.declared.line.ReportLine.{ReportLine}
 use Rattle.report_text.specs.declared.line.ReportLine.TheVariants as lines
 use Rattle.report_audit.specs.Auditor.{NoneRuns, cut_at, loose_at}
-use Rattle.deck_audit.specs.declared.state.OpenProgram.{OpenProgram}
 use Rattle.deck_audit.specs.declared.state.Outline.{Outline}
 use Rattle.deck_audit.specs.Device.{AuditedDevice, device_in, open_program, outline_of, own_runs}
 use Rattle.deck_audit.specs.History.{place_of, power_cut, power_loss, power_made, reset_made, changed, without_power}
-use Rattle.deck_audit.specs.Place.{holds, in_event, in_power, in_power_of, in_totals, in_totals_of, is_cut, is_lost_of, is_loss_of, may_reset}
+use Rattle.deck_audit.specs.Place.{in_event, in_power, in_power_of, in_totals, in_totals_of, is_loss_of, may_reset}
 use Rattle.deck_audit.specs.State.{AuditState, outlines, passed, then_of}
 use Rattle.report_audit.proofs.AuditorDues.{outline_is}
 

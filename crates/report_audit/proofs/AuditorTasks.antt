@@ -1,17 +1,11 @@
 -- What an auditor makes of lines that concern no device, or all.
-use Rattle.std.proofs.Common.{◌≡◌, ◌≤◌, ◌+◌, ℕ, List, length, drop, Some, None, Bool, true, false, cond, refl, arith, sym, ap, subst, ◌∙◌}
-use Rattle.std.specs.Prelude.{◌==◌, map, nat_lt}
+use Rattle.std.proofs.Common.{◌≡◌, ℕ, List, length, drop, Some, None, Bool, true, false, cond, arith, ap, ◌∙◌}
+use Rattle.std.specs.Prelude.{◌==◌, map}
 use Rattle.std.specs.List.{list_any}
-use Rattle.std.proofs.Common.{rules}
-use Rattle.std.proofs.lemmas.Bool.Decides.{nat_tests}
 use Rattle.std.proofs.lemmas.List.{length-map}
 use Rattle.deck_plan.specs.declared.event.EventLine.{EventLine}
 use Rattle.deck_plan.specs.declared.event.EventLine.TheVariants as events
-use Rattle.deck_text.specs.DeckLines.{DeckLines}
-use Rattle.report_text.specs.declared.answers.LooseAnswer.TheVariants as loose
-use Rattle.report_text.specs.declared.answers.OrderAnswer.TheVariants as order_answers
 use Rattle.report_text.specs.declared.line.ReportLine.{ReportLine}
-use Rattle.report_text.specs.declared.line.ReportLine.TheVariants as lines
 use Rattle.report_audit.specs.Auditor.{AllKept, FitsTotals, IsAuditOf, IsFor, Makes, NoneRuns, cut_at, dark_kept, gone_on, is_quiet, kept_outline, lent_runs}
 use Rattle.report_audit.specs.Auditor.{loose_at, order_told, taken_back, totals_due}
 use Rattle.report_audit.specs.declared.auditor.Auditor.{Auditor}
@@ -19,7 +13,7 @@ use Rattle.report_audit.specs.declared.told.OrderTold.TheVariants as told
 use Rattle.deck_audit.specs.declared.kept.Kept.{Kept}
 use Rattle.deck_audit.specs.declared.kept.Then.TheVariants.{Passed, Wait}
 use Rattle.deck_audit.specs.declared.state.Due.{Due}
-use Rattle.deck_audit.specs.declared.state.Due.TheVariants.{Frames, Nothing, ResetOf, Totals}
+use Rattle.deck_audit.specs.declared.state.Due.TheVariants.{ResetOf, Totals}
 use Rattle.deck_audit.specs.declared.state.Outline.{Outline}
 use Rattle.deck_audit.specs.Device.{AuditedDevice, device_in, outline_of}
 use Rattle.deck_audit.specs.History.{done_order, due_made, given_back, lent_to, order_made, power_made, runs_lent, totals_made, without_power}

@@ -14,7 +14,7 @@ use Rattle.deck_text.specs.Plans.{plans_of}
 use Rattle.report_audit.specs.Auditor.{AllKept, IsAt, IsJudgedAt, NoneRuns, OneKept, due_if, either, is_quiet, place_from}
 use Rattle.deck_audit.specs.declared.kept.Kept.{Kept}
 use Rattle.deck_audit.specs.declared.state.Due.{Due}
-use Rattle.deck_audit.specs.declared.state.Due.TheVariants.{Next, DataOf, SenseOf, Behind}
+use Rattle.deck_audit.specs.declared.state.Due.TheVariants.{Next}
 use Rattle.deck_audit.specs.Device.{AuditedDevice, device_in, with_device}
 use Rattle.deck_audit.specs.History.{place_of}
 use Rattle.deck_audit.specs.declared.kept.Then.{Then}

@@ -10,17 +10,14 @@ use Rattle.deck_text.specs.DeckLines.{DeckLines}
 use Rattle.deck_text.specs.Parse.{parsed}
 use Rattle.deck_text.specs.declared.line.DeckFault.{DeckFault}
 use Rattle.deck_audit.specs.declared.status.AuditStatus.{AuditStatus}
-use Rattle.deck_audit.specs.declared.status.AuditStatus.TheVariants.{No}
 use Rattle.deck_audit.specs.declared.status.AuditWhy.{AuditWhy}
-use Rattle.deck_audit.specs.declared.state.Due.{Due}
-use Rattle.deck_audit.specs.declared.state.Due.TheVariants as dues
 use Rattle.deck_audit.specs.State.{AuditState, first_state}
-use Rattle.deck_audit.specs.Verdict.{at_end, cut_lines, deck_part, ended_line, judged_lines, or_no, report_from}
+use Rattle.deck_audit.specs.Verdict.{cut_lines, ended_line}
 use Rattle.report_audit.proofs.LineLemmas.{whole_rest}
 use Rattle.report_audit.specs.declared.auditor.Auditor.{Auditor}
 use Rattle.report_audit.specs.Auditor.{IsAuditOf, is_nothing}
 use Rattle.report_audit.specs.Lines.{IsOneLine}
-use Rattle.report_audit.specs.Progress.{Progress, Comes, Comes_by, GoesOn, JudgedIn, Reporting, behind, behind_at, deck_behind, fault_answer}
+use Rattle.report_audit.specs.Progress.{Progress, Comes, Comes_by, GoesOn, JudgedIn, behind, behind_at, fault_answer}
 use Rattle.report_audit.specs.Progress.{is_reporting, report_end, some_auditor, status_of}
 use Rattle.report_audit.proofs.Cuts.{cut_ended, cut_last, found_behind, next}
 
