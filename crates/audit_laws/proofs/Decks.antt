@@ -1,19 +1,15 @@
 -- A deck that was read starts programs of one of four paths; before the first line of its report each device's past is empty.
-use Rattle.std.proofs.Common.{arith, ◌≡◌, ℕ, List, [], ◌∷◌, map, Ok, true, refl, subst}
+use Rattle.std.proofs.Common.{arith, ◌≡◌, ℕ, List, [], ◌∷◌, map, Ok, subst}
 use Rattle.std.specs.Prelude.{Result}
 use Rattle.deck_plan.specs.declared.event.EventLine.{EventLine}
 use Rattle.deck_plan.specs.declared.event.EventLine.TheVariants as events
 use Rattle.deck_text.specs.declared.line.DeckWhy.{DeckWhy}
-use Rattle.deck_text.specs.declared.line.DeckWhy.TheVariants.{Words, Number}
 use Rattle.deck_text.specs.declared.line.DeviceLine.{DeviceLine}
 use Rattle.deck_text.specs.declared.line.PlannedProgram.{PlannedProgram}
 use Rattle.deck_text.specs.DeckLines.{DeckLines}
-use Rattle.deck_text.specs.Forms.{needed, then_read, path_and_device, path_of, device_of}
-use Rattle.deck_text.specs.Numbers.{number_in}
+use Rattle.deck_text.specs.Forms.{path_and_device}
 use Rattle.deck_text.specs.Parse.{parsed}
-use Rattle.deck_text.specs.Words.{two_words}
 use Rattle.deck_text.proofs.DeckAgain.{Each, EventOk}
-use Rattle.deck_text.proofs.EventsAgain.{behind_of}
 use Rattle.deck_text.proofs.FormsAgain.{went, needed_is, if_ok, Ranged, number_range}
 use Rattle.deck_text.proofs.Reached.{parsed_good}
 use Rattle.deck_audit.specs.declared.state.Due.{Due}

@@ -1,19 +1,18 @@
 -- An audit's yes and its no, line by line.
-use Rattle.std.proofs.Common.{◌≡◌, ◌↔◌, inl, inr, ◌<◌, ◌≤◌, ◌+◌, ◌∷◌, [], ℕ, zero, suc, List, Option, Some, None, Result, Ok, Err, length, take, drop}
-use Rattle.std.proofs.Common.{refl, sym, ap, subst, ◌∙◌, arith}
+use Rattle.std.proofs.Common.{◌≡◌, ◌↔◌, ◌<◌, ◌≤◌, ◌+◌, ◌∷◌, [], ℕ, zero, suc, List, Option, Result, Ok, Err, length, take, drop}
+use Rattle.std.proofs.Common.{refl, sym, ap, ◌∙◌, arith}
 use Rattle.std.proofs.lemmas.Bool.{cases_lt}
 use Rattle.std.proofs.lemmas.Bool.Decides.{nat_tests}
 use Rattle.deck_text.specs.DeckLines.{DeckLines}
 use Rattle.deck_text.specs.Parse.{parsed}
 use Rattle.deck_text.specs.declared.line.DeckFault.{DeckFault}
-use Rattle.deck_text.specs.declared.line.DeckFault.TheVariants as deck_faults
 use Rattle.deck_text.specs.declared.line.Which.TheVariants.{Size}
 use Rattle.deck_audit.specs.declared.state.Due.{Due}
 use Rattle.deck_audit.specs.declared.state.Due.TheVariants as dues
 use Rattle.deck_audit.specs.declared.status.AuditStatus.{AuditStatus}
 use Rattle.deck_audit.specs.declared.status.AuditStatus.TheVariants.{Yes, No, Limit}
 use Rattle.deck_audit.specs.declared.status.AuditWhy.{AuditWhy}
-use Rattle.deck_audit.specs.declared.status.AuditWhy.TheVariants.{Form, Place}
+use Rattle.deck_audit.specs.declared.status.AuditWhy.TheVariants.{Form}
 use Rattle.deck_audit.specs.State.{AuditState, first_state}
 use Rattle.deck_audit.specs.Verdict.{at_end, cut_lines, deck_judged, deck_part, judged_lines, judged_text, or_no, read_back, read_back_at, report_from}
 use Rattle.audit_laws.specs.FirstFault.{HasFirstFault, HasNoFault, IsBad, IsDeckAndReport, IsFault, IsGood, LeadsTo, report_lines}

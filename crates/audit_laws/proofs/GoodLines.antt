@@ -1,39 +1,29 @@
 -- A line without a fault shows what the audit makes of it.
-use Rattle.std.proofs.Common.{◌≡◌, ◌+◌, ◌∷◌, ℕ, [], List, Option, Some, None, Bool, true, false, cond, length, not}
+use Rattle.std.proofs.Common.{◌≡◌, ℕ, List, Option, Some, None, Bool, true, false, cond, not}
 use Rattle.std.proofs.Common.{refl, arith, sym, ap, map, subst, ◌∙◌, inl, inr}
-use Rattle.std.specs.Prelude.{◌⊎◌, ◌&&◌, ◌==◌}
-use Rattle.std.specs.List.{list_any}
+use Rattle.std.specs.Prelude.{◌⊎◌, ◌&&◌}
 use Rattle.std.proofs.lemmas.Bool.{and_parts, eqb-true}
 use Rattle.ckd_types.specs.declared.channel.CommandEnd.{CommandEnd}
 use Rattle.ckd_types.specs.Sense.{equipment_sense}
 use Rattle.deck_plan.specs.declared.event.EventLine.{EventLine}
 use Rattle.deck_plan.specs.declared.event.EventLine.TheVariants as events
-use Rattle.plain_defs.specs.declared.journal.Act.TheVariants.{Harden, Loosen, CfwLost}
-use Rattle.plain_defs.specs.History.{History, OpenEntry, reset_in_history}
-use Rattle.plain_defs.specs.Loose.{is_loose_there}
-use Rattle.report_text.specs.declared.answers.HowOver.TheVariants as how
-use Rattle.report_text.specs.declared.answers.LooseAnswer.TheVariants as loose
-use Rattle.report_text.specs.declared.answers.OrderAnswer.TheVariants as order_answers
-use Rattle.report_text.specs.declared.answers.StartAnswer.{StartAnswer}
+use Rattle.plain_defs.specs.History.{History, OpenEntry}
 use Rattle.report_text.specs.declared.answers.StartAnswer.TheVariants as start
 use Rattle.report_text.specs.declared.line.ReportLine.{ReportLine}
-use Rattle.report_text.specs.declared.line.ReportLine.TheVariants as lines
 use Rattle.deck_audit.specs.declared.state.Did.{Did}
-use Rattle.deck_audit.specs.declared.state.Did.TheVariants.{Ended, Halved}
 use Rattle.deck_audit.specs.declared.state.Due.{Due}
-use Rattle.deck_audit.specs.declared.state.Due.TheVariants.{Next, DataOf, SenseOf, Behind, OverOf, Losses, ResetOf, Powers, Totals, Frames, Nothing}
+use Rattle.deck_audit.specs.declared.state.Due.TheVariants.{Next, SenseOf, Behind, ResetOf, Powers}
 use Rattle.deck_audit.specs.declared.state.HalfWrite.TheVariants.{Closed}
-use Rattle.deck_audit.specs.Place.{first_event, holds, is_io, is_of_work}
-use Rattle.deck_audit.specs.Same.{says}
-use Rattle.deck_audit.specs.Device.{AuditedDevice, check_end, device_in, has_loose, with_device, is_next_legal, lent_answer, may_loosen, own_runs, plain_end}
-use Rattle.deck_audit.specs.Device.{start_answer, state_of, words_of_open}
+use Rattle.deck_audit.specs.Place.{holds, is_io, is_of_work}
+use Rattle.deck_audit.specs.Device.{AuditedDevice, check_end, device_in, lent_answer, own_runs}
+use Rattle.deck_audit.specs.Device.{start_answer, words_of_open}
 use Rattle.deck_audit.specs.History.{act_made, act_of_work, after_start, back_half, behind_end, behind_made, changed, cut_half, cut_open, done_order, due_made}
 use Rattle.deck_audit.specs.History.{end_made, end_made_by, event_made, given_back, harden_made, is_legal, lent_to, loosen_made, loss_line, loss_made}
 use Rattle.deck_audit.specs.History.{next_made, order_made, place_of, power_cut, power_loss, power_made, reset_made, runs_lent, shown, shows_end}
 use Rattle.deck_audit.specs.History.{start_made, totals_made, without_power, work_made}
 use Rattle.deck_audit.specs.History as made
-use Rattle.deck_audit.specs.State.{AuditState, behind_work, is_event_over, over_by, passed, settled, settled_by, settled_in, then_of, worked, worker, worker_number}
-use Rattle.audit_laws.specs.Shown.{ActShows, AnswerShows, BehindShows, CanAllBePlain, DueShows, EndIs, EndShows, EventShows, NextShows, OrderShows, PowerShows}
+use Rattle.deck_audit.specs.State.{AuditState, passed, settled, then_of, worker, worker_number}
+use Rattle.audit_laws.specs.Shown.{ActShows, BehindShows, CanAllBePlain, DueShows, EndIs, EventShows, NextShows, PowerShows}
 use Rattle.audit_laws.specs.Shown.{ResetShows, ShowsIn, StartShows, WorkShows, cut_as, dark_as, looks_checked}
 use Rattle.audit_laws.proofs.Lines.{if_some, same_some, then_some}
 use Rattle.audit_laws.proofs.ShownWork.{reset_is}

@@ -27,7 +27,6 @@ use Rattle.audit_laws.specs.FirstFault.{LeadsTo}
 use Rattle.audit_laws.specs.Shown.{CanAllBePlain, Shows, ShowsIn, TellsOfPlain, TextShows}
 use Rattle.audit_laws.proofs.GoodLines.{Near, awaits_sense, behind_good, due_good, near_same}
 use Rattle.audit_laws.proofs.Lines.{AreSo, AtWork, IsSoundState, judged_sound, same_some, settled_sound, then_some}
-use Rattle.audit_laws.proofs.Sound.{Sound}
 use Rattle.audit_laws.proofs.SoundPasts.{can_all}
 use Rattle.audit_laws.proofs.Works.{DidSo, Ends}
 

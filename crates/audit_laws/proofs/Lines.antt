@@ -1,7 +1,7 @@
 -- Each line that is judged well keeps every device's past one that a plain device could have.
-use Rattle.std.proofs.Common.{arith, ◌≡◌, ◌≤◌, ℕ, [], ◌∷◌, List, drop, map, length, Option, Some, None, Result}
-use Rattle.std.proofs.Common.{Ok, Err, Bool, true, false, not, cond, refl, sym, ap, subst, ◌∙◌, inl, inr}
-use Rattle.std.specs.Prelude.{◌⊎◌, ◌&&◌, ◌||◌, ◌==◌, ◌+◌, IsSome, ⊤}
+use Rattle.std.proofs.Common.{arith, ◌≡◌, ◌≤◌, ℕ, [], ◌∷◌, List, map, length, Option, Some, None, Result}
+use Rattle.std.proofs.Common.{Ok, Bool, true, false, not, cond, refl, sym, subst, inl, inr}
+use Rattle.std.specs.Prelude.{◌⊎◌, ◌&&◌, ◌==◌, ◌+◌, ⊤}
 use Rattle.std.specs.List.{list_any}
 use Rattle.std.proofs.lemmas.Bool.{and_parts, or_parts}
 use Rattle.ckd_types.specs.declared.channel.CommandEnd.{CommandEnd}
@@ -12,43 +12,38 @@ use Rattle.deck_plan.specs.declared.event.EventLine.TheVariants as events
 use Rattle.deck_text.specs.declared.line.DeviceLine.{DeviceLine}
 use Rattle.deck_text.specs.declared.line.PlannedProgram.{PlannedProgram}
 use Rattle.plain_defs.specs.declared.journal.Act.{Act}
-use Rattle.plain_defs.specs.declared.journal.Act.TheVariants.{Harden, Loosen, CfwLost}
 use Rattle.plain_defs.specs.History.{OpenEntry, acted, reset_in_history}
-use Rattle.plain_defs.specs.Loose.{is_loose_there}
 use Rattle.report_text.specs.declared.answers.HowOver.TheVariants as how
 use Rattle.report_text.specs.declared.answers.LooseAnswer.TheVariants as loose
 use Rattle.report_text.specs.declared.answers.OrderAnswer.TheVariants as order_answers
 use Rattle.report_text.specs.declared.answers.StartAnswer.{StartAnswer}
-use Rattle.report_text.specs.declared.answers.StartAnswer.TheVariants as start
 use Rattle.report_text.specs.declared.line.ReportLine.{ReportLine}
 use Rattle.report_text.specs.declared.line.ReportLine.TheVariants as lines
 use Rattle.deck_audit.specs.declared.state.Did.{Did}
-use Rattle.deck_audit.specs.declared.state.Did.TheVariants.{Ended, CheckEnded, Halved}
+use Rattle.deck_audit.specs.declared.state.Did.TheVariants.{Ended, CheckEnded}
 use Rattle.deck_audit.specs.declared.state.Due.{Due}
 use Rattle.deck_audit.specs.declared.state.Due.TheVariants.{Next, DataOf, SenseOf, Behind, OverOf, Losses, ResetOf, Powers, Totals, Frames, Nothing}
 use Rattle.deck_audit.specs.declared.state.HalfWrite.{HalfWrite}
-use Rattle.deck_audit.specs.declared.state.HalfWrite.TheVariants.{Closed, OfCommand}
+use Rattle.deck_audit.specs.declared.state.HalfWrite.TheVariants.{Closed}
 use Rattle.deck_audit.specs.Place.{first_event, holds, is_io, is_of_work, worker_of}
 use Rattle.deck_audit.specs.Same.{says}
-use Rattle.deck_audit.specs.Device.{AuditedDevice, check_end, device_in, has_loose, is_next_legal, may_loosen}
-use Rattle.deck_audit.specs.Device.{plain_end, start_answer, state_of, with_device, words_of_open}
-use Rattle.deck_audit.specs.History.{act_made, act_of_work, after_start, back_half, behind_end, behind_made, changed, check_made, cut_by, cut_half}
-use Rattle.deck_audit.specs.History.{cut_open, done_order, due_made, end_made, end_made_by, event_made, given_back, harden_made, has_sense, is_legal}
-use Rattle.deck_audit.specs.History.{lent_to, loosen_made, loss_line, loss_made, made, made_in, next_made, order_made, power_cut}
-use Rattle.deck_audit.specs.History.{power_loss, power_made, reset_made, runs_lent, sense_made, shown, shows_end, start_made, totals_made}
+use Rattle.deck_audit.specs.Device.{AuditedDevice, check_end, device_in, has_loose, is_next_legal}
+use Rattle.deck_audit.specs.Device.{start_answer, with_device, words_of_open}
+use Rattle.deck_audit.specs.History.{act_made, act_of_work, after_start, behind_end, behind_made, changed, check_made, cut_by, cut_half}
+use Rattle.deck_audit.specs.History.{done_order, due_made, end_made, event_made, given_back, harden_made, has_sense, is_legal}
+use Rattle.deck_audit.specs.History.{loosen_made, loss_line, made_in, order_made}
+use Rattle.deck_audit.specs.History.{power_loss, power_made, reset_made, runs_lent, sense_made, start_made, totals_made}
 use Rattle.deck_audit.specs.History.{without_power, work_made}
-use Rattle.deck_audit.specs.Stands.{stands}
-use Rattle.deck_audit.specs.State.{AuditState, behind_work, is_event_over, over_by, passed, settled}
+use Rattle.deck_audit.specs.State.{AuditState, over_by, passed, settled}
 use Rattle.deck_audit.specs.State.{settled_by, settled_in, then_of, worked, worker, worker_number}
 use Rattle.report_reading.specs.declared.fault.LineFault.{LineFault}
 use Rattle.report_reading.specs.Reading.{line_of}
-use Rattle.deck_audit.specs.declared.status.AuditWhy.TheVariants.{Place}
-use Rattle.deck_audit.specs.Verdict.{judged_by, or_history}
+use Rattle.deck_audit.specs.Verdict.{judged_by}
 use Rattle.audit_laws.specs.FirstFault.{LeadsTo}
 use Rattle.audit_laws.proofs.Devices.{Becomes, But, Each, but_of_each, but_put, but_told, each_mapped, each_put, each_so, still_of}
 use Rattle.audit_laws.proofs.Sound.{Darkening, Sound, cut_dark, cut_more_dark, cut_more_sound, darkened_sound, given_sound}
 use Rattle.audit_laws.proofs.Sound.{hardened_sound, lost_sound, reset_sound, runs_on, started_sound}
-use Rattle.audit_laws.proofs.Works.{Checks, DidSo, Ends, IsNextCheck, check_is, did_hardened, loosened_sound, worked_sound}
+use Rattle.audit_laws.proofs.Works.{DidSo, Ends, check_is, did_hardened, loosened_sound, worked_sound}
 
 -- What an answer says
 

@@ -1,5 +1,5 @@
 -- What each fault of a first line says.
-use Rattle.std.proofs.Common.{arith, ◌≡◌, ◌∷◌, [], List, ℕ, Option, Some, None, Result, Ok, Err, Bool, true, false, cond, take, drop, refl, inl}
+use Rattle.std.proofs.Common.{arith, ◌≡◌, ◌∷◌, [], List, ℕ, Option, Some, Result, Ok, Err, Bool, false, cond, take, drop, refl, inl}
 use Rattle.deck_text.specs.DeckLines.{DeckLines}
 use Rattle.deck_text.specs.Parse.{parsed}
 use Rattle.report_text.specs.declared.line.ReportLine.{ReportLine}

@@ -1,17 +1,14 @@
 -- What a line shows of plain devices is what the audit makes of it.
-use Rattle.std.proofs.Common.{◌≡◌, ◌∷◌, ℕ, [], List, Option, Some, None, Bool, true, false, cond, length, not}
+use Rattle.std.proofs.Common.{◌≡◌, ℕ, Option, Some, None, Bool, true, false}
 use Rattle.std.proofs.Common.{refl, arith, sym, ap, subst, ◌∙◌, inl, inr}
-use Rattle.std.specs.Prelude.{◌⊎◌, ◌==◌}
-use Rattle.std.proofs.lemmas.Bool.{and_from, eq-eqb, le-leb}
+use Rattle.std.specs.Prelude.{◌⊎◌}
+use Rattle.std.proofs.lemmas.Bool.{and_from, le-leb}
 use Rattle.ckd_types.specs.declared.channel.CommandEnd.{CommandEnd}
 use Rattle.ckd_types.specs.Ccw.{ccw_at}
-use Rattle.ckd_types.specs.Sense.{equipment_sense}
 use Rattle.ckd_rules.specs.Ends.{end_at_word}
-use Rattle.deck_text.specs.declared.line.DeviceLine.{DeviceLine}
-use Rattle.deck_text.specs.declared.line.PlannedProgram.{PlannedProgram}
 use Rattle.plain_defs.specs.Effect.{effect_on}
-use Rattle.plain_defs.specs.History.{OpenEntry, started, state_by}
-use Rattle.plain_defs.specs.Journal.{planned, program_of, replay}
+use Rattle.plain_defs.specs.History.{OpenEntry, started}
+use Rattle.plain_defs.specs.Journal.{program_of, replay}
 use Rattle.plain_defs.specs.Legal.{MayStart}
 use Rattle.plain_defs.specs.PlainState.{is_admitted}
 use Rattle.report_text.specs.declared.answers.StartAnswer.{StartAnswer}
@@ -23,16 +20,15 @@ use Rattle.deck_audit.specs.declared.state.Due.{Due}
 use Rattle.deck_audit.specs.declared.state.Due.TheVariants.{SenseOf}
 use Rattle.deck_audit.specs.declared.state.HalfWrite.TheVariants.{Closed}
 use Rattle.deck_audit.specs.Same.{says}
-use Rattle.deck_audit.specs.Device.{AuditedDevice, check_end, device_in, has_left, held_answer, lent_answer}
-use Rattle.deck_audit.specs.Device.{may_start, next_ordinal, own_runs, part_of_open, plain_end, plain_end_at, running_answer, start_answer}
+use Rattle.deck_audit.specs.Device.{AuditedDevice, device_in}
+use Rattle.deck_audit.specs.Device.{may_start, next_ordinal, part_of_open, plain_end, plain_end_at, start_answer}
 use Rattle.deck_audit.specs.Device.{state_of, with_device, words_of_open}
-use Rattle.deck_audit.specs.History.{after_start, behind_end, changed, end_made, end_made_by}
-use Rattle.deck_audit.specs.History.{shown, shows_end, start_made}
+use Rattle.deck_audit.specs.History.{after_start, changed, end_made}
+use Rattle.deck_audit.specs.History.{start_made}
 use Rattle.deck_audit.specs.State.{AuditState, passed, then_of, worker_number}
 use Rattle.audit_laws.specs.Shown.{AnswerShows, CanBePlain, CanDo, PlainPast, StartShows}
 use Rattle.audit_laws.specs.Shown.{EndIs, looks_checked}
 use Rattle.audit_laws.proofs.Devices.{put_found}
-use Rattle.audit_laws.proofs.Lines.{same_some}
 use Rattle.audit_laws.proofs.ShownPasts.{checked_so, ended_so}
 
 -- The audit's state beside the one that lines tell
@@ -109,10 +105,6 @@ module _ (s u : AuditState) (d : ℕ) (can : CanBePlain u d) (a : AuditedDevice)
         → end_made s line a a.history.running ≡ Some (at (SenseOf p))
     made_checked p is index looks = grind arith
 
-    made_plain : plain_end a o ≡ Some e → looks_checked a o line e ≡ false → shows_end a o line e ≡ true
-        → end_made s line a a.history.running ≡ Some (at (behind_end e e.sent))
-    made_plain is looks told = grind arith
-
     plain_so : CanDo (Ended e) b → plain_end a o ≡ Some e
     plain_so done = ended_so a plain o running done.0 done.1 e done.2
 
@@ -131,7 +123,7 @@ module _ (s u : AuditState) (d : ℕ) (can : CanBePlain u d) (a : AuditedDevice)
       | inl done ↦ follows _ u (made_checked e (plain_so done) refl looks ∙ ap (λ (x : AuditState). Some x) (sym is))
       | inr done ↦ checked_made is looks done
     ]
-    end_by false looks is = grind (arith, follows, made_plain, plain_so, found_then, worker_is)
+    end_by false looks is = grind (arith, follows, plain_so, found_then, worker_is)
 
     pub end_shown : EndIs (changed s b) line a o e (looks_checked a o line e) u → Follows (end_made s line a a.history.running) u
     end_shown is = end_by (looks_checked a o line e) refl is

@@ -1,18 +1,17 @@
 -- What a device's past, where it is a plain device's, shows of the line that was told last.
-use Rattle.std.proofs.Common.{◌≡◌, ◌+◌, ◌∷◌, ◌++◌, ℕ, [], List, Option, Some, None, Bool, true, false, cond, length, not}
-use Rattle.std.proofs.Common.{refl, arith, sym, ap, subst, ◌∙◌, append_assoc, inl, inr}
-use Rattle.std.specs.Prelude.{◌⊎◌, ◌&&◌, ◌||◌, ◌==◌, IfSome}
+use Rattle.std.proofs.Common.{◌≡◌, ◌+◌, ◌∷◌, ◌++◌, ℕ, [], List, Option, Some, None, Bool, true, false, cond, length}
+use Rattle.std.proofs.Common.{refl, arith, sym, ap, subst, ◌∙◌, append_assoc}
+use Rattle.std.specs.Prelude.{◌⊎◌}
 use Rattle.std.proofs.lemmas.Bool.{and_from, cases_lt, eq-eqb}
 use Rattle.std.proofs.lemmas.List.{append-nil}
 use Rattle.ckd_types.specs.declared.channel.CommandEnd.{CommandEnd}
-use Rattle.ckd_types.specs.Parameters.{is_provisional}
 use Rattle.ckd_rules.specs.Walk.{TrackEdit}
 use Rattle.plain_defs.specs.declared.journal.Act.{Act}
 use Rattle.plain_defs.specs.declared.journal.Act.TheVariants.{Loosen, Harden, CfwLost}
 use Rattle.plain_defs.specs.declared.journal.How.TheVariants.{Cut}
 use Rattle.plain_defs.specs.declared.journal.Item.{Item}
 use Rattle.plain_defs.specs.declared.journal.Item.TheVariants as items
-use Rattle.plain_defs.specs.History.{History, OpenEntry, acted, checked, ended, entry_of, open_part, state_by, IsOpen, IsPlain}
+use Rattle.plain_defs.specs.History.{History, OpenEntry, acted, checked, ended, entry_of, open_part, state_by, IsPlain}
 use Rattle.plain_defs.specs.Journal.{replay}
 use Rattle.plain_defs.specs.Legal.{AreActs, IsCheck, IsLegal, IsSomeLoose, MayEdit, edit_at, next_edit, track_of}
 use Rattle.plain_defs.specs.Loose.{act_done, is_loose_in, is_loose_there}
@@ -21,10 +20,10 @@ use Rattle.plain_defs.specs.Program.{Part, with_act}
 use Rattle.deck_audit.specs.declared.state.Did.{Did}
 use Rattle.deck_audit.specs.declared.state.Did.TheVariants.{Ended, CheckEnded, Halved, Worked}
 use Rattle.deck_audit.specs.Device.{AuditedDevice, edit_of, is_edit_legal, is_next_legal, loosens, may_loosen}
-use Rattle.deck_audit.specs.Device.{part_of_open, plain_end, plain_end_at, state_of, words_of_open}
+use Rattle.deck_audit.specs.Device.{part_of_open, plain_end, state_of, words_of_open}
 use Rattle.deck_audit.specs.State.{worked}
 use Rattle.audit_laws.specs.Shown.{NoLoss, PlainPast, all_acted}
-use Rattle.audit_laws.proofs.Converses.{EndsSo, Goes, TookEffect, WasChecked, WasCut, acted_all, checks_so, edits_so, end_before, ends_so, first_act}
+use Rattle.audit_laws.proofs.Converses.{EndsSo, Goes, TookEffect, WasChecked, acted_all, checks_so, edits_so, end_before, ends_so, first_act}
 use Rattle.audit_laws.proofs.Converses.{goes_with, idle_act, next_before, part_acted, run, took_effect, was_checked, was_cut, with_more}
 
 -- Tests
@@ -201,9 +200,5 @@ module _ (a : AuditedDevice) where
       → (e : CommandEnd) × (did ≡ Ended e) × (may_loosen a a.history.running t ≡ true)
   loose_so plain did t p = loose_by plain did t a.history.running refl p
 
-  legal_so_by : (e : CommandEnd) (running : Option OpenEntry) → a.history.running ≡ running → IsPlain a.plans a.empty (ended a.history e)
-      → is_next_legal a a.history.running ≡ true
-  legal_so_by e x1 running p = grind (arith, legal_by, took_effect)
-
   pub legal_so : (e : CommandEnd) → IsPlain a.plans a.empty (ended a.history e) → is_next_legal a a.history.running ≡ true
-  legal_so e p = legal_so_by e a.history.running refl p
+  legal_so e p = grind (arith, legal_by, took_effect)

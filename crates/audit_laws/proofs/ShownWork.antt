@@ -1,41 +1,34 @@
 -- What a SENSE, an act, a cut and an order show of plain devices is what the audit makes of them.
 use Rattle.std.proofs.Common.{◌≡◌, ◌+◌, ◌∷◌, ◌++◌, ℕ, [], List, Option, Some, None, Bool, true, false, cond, length}
-use Rattle.std.proofs.Common.{if◌then◌else◌, refl, arith, sym, ap, subst, ◌∙◌, append_assoc, inl, inr}
+use Rattle.std.proofs.Common.{refl, arith, sym, ap, subst, ◌∙◌, append_assoc}
 use Rattle.std.specs.Prelude.{◌⊎◌, ◌&&◌, ◌==◌, nat_lt}
 use Rattle.std.specs.Str.{bytes_eq}
 use Rattle.std.proofs.lemmas.Bool.{and_from, and_parts, eq-eqb, eqb-true, lt-ltb, ne_eqb}
 use Rattle.ckd_types.specs.declared.channel.CommandEnd.{CommandEnd}
-use Rattle.ckd_types.specs.declared.channel.Note.{Note}
 use Rattle.ckd_types.specs.declared.sense.Sense.{Sense}
-use Rattle.ckd_types.specs.declared.status.UnitStatus.{UnitStatus}
-use Rattle.ckd_types.specs.Ccw.{ccw_at}
 use Rattle.ckd_types.specs.Sense.{equipment_sense, data_check_sense}
 use Rattle.ckd_rules.specs.Ending.{check}
 use Rattle.plain_defs.specs.declared.journal.Act.TheVariants.{Loosen, Harden, CfwLost}
 use Rattle.plain_defs.specs.declared.journal.How.TheVariants.{Cut}
-use Rattle.plain_defs.specs.declared.journal.Item.{Item}
 use Rattle.plain_defs.specs.declared.journal.Item.TheVariants as items
-use Rattle.plain_defs.specs.History.{History, OpenEntry, acted, cut_by, entry_of, IsPlain, put, reset_in, reset_in_history, resets_of}
-use Rattle.plain_defs.specs.Legal.{IsCheck, IsLegal, IsSomeLoose, is_started, is_used}
+use Rattle.plain_defs.specs.History.{History, OpenEntry, acted, entry_of, reset_in_history, resets_of}
+use Rattle.plain_defs.specs.Legal.{IsCheck, IsLegal, IsSomeLoose}
 use Rattle.plain_defs.specs.Loose.{is_loose_there}
 use Rattle.plain_defs.specs.PlainState.{LooseTrack}
-use Rattle.report_text.specs.declared.answers.HowOver.TheVariants as how
-use Rattle.report_text.specs.declared.answers.LooseAnswer.TheVariants as loose
 use Rattle.report_text.specs.declared.line.ReportLine.{ReportLine}
 use Rattle.report_text.specs.declared.line.ReportLine.TheVariants as lines
 use Rattle.deck_audit.specs.declared.state.Did.{Did}
 use Rattle.deck_audit.specs.declared.state.Did.TheVariants.{Ended, CheckEnded, Halved}
 use Rattle.deck_audit.specs.declared.state.Due.{Due}
 use Rattle.deck_audit.specs.declared.state.Due.TheVariants.{Next, Behind, Losses, ResetOf, Powers}
-use Rattle.deck_audit.specs.Place.{holds}
 use Rattle.deck_audit.specs.Same.{says}
-use Rattle.deck_audit.specs.Device.{AuditedDevice, check_end, device_in, has_loose, is_next_legal, may_loosen, state_of, with_device, words_of_open}
+use Rattle.deck_audit.specs.Device.{AuditedDevice, check_end, device_in, has_loose, is_next_legal, state_of, with_device, words_of_open}
 use Rattle.deck_audit.specs.History.{act_made, act_of_work, changed, check_made, cut_half, cut_open, harden_made, has_sense, loosen_made, loss_line, loss_made}
 use Rattle.deck_audit.specs.History.{order_made, place_of, power_cut, power_made, reset_made, sense_made}
 use Rattle.deck_audit.specs.History as made
 use Rattle.deck_audit.specs.State.{AuditState, then_of, worker, worker_number}
 use Rattle.device_laws.proofs.WaitingResets.{started-append}
-use Rattle.audit_laws.specs.Shown.{ActShows, CanBePlain, CanDo, PlainPast, ResetShows, SenseShows, cut_as, dark_as, own_sense}
+use Rattle.audit_laws.specs.Shown.{ActShows, CanBePlain, CanDo, PlainPast, ResetShows, SenseShows, cut_as, dark_as}
 use Rattle.audit_laws.proofs.Devices.{put_found}
 use Rattle.audit_laws.proofs.Lines.{same_some}
 use Rattle.audit_laws.proofs.ShownPasts.{act_so, checked_so, cut_so, ended_so, loose_so}

@@ -1,32 +1,24 @@
 -- What each line makes of a device's past keeps it one that a plain device could have.
-use Rattle.std.proofs.Common.{arith, ◌≡◌, ◌≤◌, ◌+◌, ◌∷◌, ◌++◌, ℕ, [], List, Option, Some, None, Bool, true, false}
-use Rattle.std.proofs.Common.{not, cond, length, refl, sym, ap, subst, ◌∙◌, append_assoc, inl, inr}
-use Rattle.std.specs.Prelude.{◌⊎◌, ◌&&◌, ◌||◌, nat_lt}
-use Rattle.ckd_types.specs.Parameters.{is_provisional}
-use Rattle.ckd_rules.specs.Walk.{TrackEdit}
+use Rattle.std.proofs.Common.{arith, ◌≡◌, ◌≤◌, ℕ, [], List, Option, Some, None, Bool, true, false}
+use Rattle.std.proofs.Common.{not, append_assoc}
+use Rattle.std.specs.Prelude.{◌⊎◌, ◌||◌}
 use Rattle.plain_defs.specs.declared.journal.Act.TheVariants.{Harden, CfwLost}
-use Rattle.plain_defs.specs.declared.journal.How.TheVariants.{Cut}
 use Rattle.plain_defs.specs.declared.journal.Item.{Item}
-use Rattle.plain_defs.specs.declared.journal.Item.TheVariants as items
-use Rattle.plain_defs.specs.History.{History, OpenEntry, acted, emptied, entry_of, lost_power, lost_power_in, reset_in_history, IsPlain}
+use Rattle.plain_defs.specs.History.{History, OpenEntry, acted, emptied, lost_power, reset_in_history, IsPlain}
 use Rattle.plain_defs.specs.Journal.{Plans}
-use Rattle.plain_defs.specs.Legal.{IsSomeLoose, MayEdit, is_started}
+use Rattle.plain_defs.specs.Legal.{MayEdit}
 use Rattle.plain_defs.specs.Loose.{is_loose_there}
-use Rattle.plain_defs.specs.PlainState.{LooseTrack, PlainState}
-use Rattle.plain_defs.specs.Program.{Part}
-use Rattle.report_text.specs.declared.answers.StartAnswer.{StartAnswer}
+use Rattle.plain_defs.specs.PlainState.{PlainState}
 use Rattle.report_text.specs.declared.answers.StartAnswer.TheVariants as start
-use Rattle.deck_audit.specs.Device.{AuditedDevice, edit_of, has_loose, is_edit_legal, is_next_legal, lent_answer}
-use Rattle.deck_audit.specs.Device.{own_runs, part_of_open, running_answer, runs, start_answer, state_of}
-use Rattle.deck_audit.specs.History.{after_start, cut_open, given_back, is_lent_to, runs_lent, without_power}
+use Rattle.deck_audit.specs.Device.{AuditedDevice, edit_of, has_loose, is_next_legal, lent_answer}
+use Rattle.deck_audit.specs.Device.{part_of_open, runs, start_answer, state_of}
+use Rattle.deck_audit.specs.History.{after_start, cut_open, given_back, runs_lent, without_power}
 use Rattle.deck_audit.proofs.StartLaw.{start_plain}
 use Rattle.device_laws.proofs.DueResets.{acted_due, emptied_due, lost_power_due, reset_due, started_due}
 use Rattle.device_laws.proofs.HistoryActs.{acted_plain}
 use Rattle.device_laws.proofs.HistoryCuts.{emptied_plain, idle_power_plain, idle_reset_plain, power_cut_plain, running_reset_plain}
 use Rattle.device_laws.proofs.WaitingResets.{AreDue, started-append}
 use Rattle.audit_laws.proofs.Devices.{Becomes}
-use Rattle.deck_text.specs.declared.line.PlannedProgram.{PlannedProgram}
-use Rattle.deck_text.specs.declared.line.DeviceLine.{DeviceLine}
 
 -- a past that a plain device could have, with the resets that wait as they are due
 pub record IsSound (plans : Plans) (empty : PlainState) (h : History) : Type 0 where

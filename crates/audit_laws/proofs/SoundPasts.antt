@@ -1,7 +1,6 @@
 -- Behind lines without a fault each device can be plain.
-use Rattle.std.proofs.Common.{arith, ◌≡◌, ◌∷◌, ℕ, [], List, Option, Some, None, Bool, true, false, cond, not}
+use Rattle.std.proofs.Common.{arith, ◌≡◌, ◌∷◌, ℕ, [], List, Option, Some, None, Bool, true, false, not}
 use Rattle.std.proofs.Common.{refl, sym, ap, ◌∙◌, inl}
-use Rattle.std.specs.Prelude.{◌==◌}
 use Rattle.std.proofs.lemmas.Bool.{or_left, or_parts}
 use Rattle.ckd_types.specs.declared.channel.CommandEnd.{CommandEnd}
 use Rattle.ckd_types.specs.Parameters.{is_provisional}
@@ -9,20 +8,18 @@ use Rattle.ckd_rules.specs.Walk.{TrackEdit}
 use Rattle.deck_text.specs.declared.line.DeviceLine.{DeviceLine}
 use Rattle.deck_text.specs.declared.line.PlannedProgram.{PlannedProgram}
 use Rattle.plain_defs.specs.declared.journal.Act.TheVariants.{Harden}
-use Rattle.plain_defs.specs.History.{History, OpenEntry, acted}
-use Rattle.plain_defs.specs.Legal.{edit_at, next_edit}
-use Rattle.plain_defs.specs.Loose.{act_done, is_loose_in, is_loose_there, without}
+use Rattle.plain_defs.specs.History.{OpenEntry, acted}
+use Rattle.plain_defs.specs.Loose.{is_loose_in, is_loose_there, without}
 use Rattle.plain_defs.specs.PlainState.{LooseTrack, PlainState}
-use Rattle.plain_defs.specs.Program.{Part, with_act}
 use Rattle.deck_audit.specs.declared.state.Did.{Did}
 use Rattle.deck_audit.specs.declared.state.Did.TheVariants.{Ended, CheckEnded}
 use Rattle.deck_audit.specs.declared.state.Due.{Due}
 use Rattle.deck_audit.specs.declared.state.Due.TheVariants.{DataOf, SenseOf, Behind, Powers}
-use Rattle.deck_audit.specs.Device.{AuditedDevice, device_in, edit_of, is_edit_legal, is_next_legal, part_of_open, state_of, words_of_open}
+use Rattle.deck_audit.specs.Device.{AuditedDevice, device_in, edit_of, is_edit_legal, is_next_legal, part_of_open, state_of}
 use Rattle.deck_audit.specs.State.{AuditState, then_of, worker}
 use Rattle.device_laws.proofs.OpenProgram.{with_one_act}
 use Rattle.audit_laws.specs.Shown.{CanAllBePlain, CanBeAt, CanDo}
-use Rattle.audit_laws.proofs.Devices.{Each, each_found}
+use Rattle.audit_laws.proofs.Devices.{each_found}
 use Rattle.audit_laws.proofs.Lines.{AreSo, AtWork, IsSoundState}
 use Rattle.audit_laws.proofs.ShownPasts.{state_is}
 use Rattle.audit_laws.proofs.Sound.{Darkening, Sound, darkened_sound}

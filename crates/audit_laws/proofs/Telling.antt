@@ -14,21 +14,19 @@ use Rattle.report_text.specs.declared.line.ReportLine.TheVariants as lines
 use Rattle.report_reading.specs.declared.fault.LineFault.{LineFault}
 use Rattle.report_reading.specs.Reading.{line_of}
 use Rattle.deck_audit.specs.declared.state.Did.{Did}
-use Rattle.deck_audit.specs.declared.state.Did.TheVariants.{Ended, CheckEnded}
+use Rattle.deck_audit.specs.declared.state.Did.TheVariants.{Ended}
 use Rattle.deck_audit.specs.declared.state.Due.{Due}
 use Rattle.deck_audit.specs.declared.state.Due.TheVariants.{Next, SenseOf, Behind, Losses, Powers}
 use Rattle.deck_audit.specs.Place.{first_event, holds, is_io, is_of_work, worker_of}
 use Rattle.deck_audit.specs.Device.{AuditedDevice, device_in, with_device}
-use Rattle.deck_audit.specs.History.{act_of_work, due_made, event_made, harden_made, is_legal, loss_made, made, made_in, next_made, order_made, power_cut}
+use Rattle.deck_audit.specs.History.{act_of_work, due_made, event_made, is_legal, loss_made, made, made_in, next_made, order_made, power_cut}
 use Rattle.deck_audit.specs.History.{power_made, reset_made, sense_made, start_made, work_made}
-use Rattle.deck_audit.specs.Stands.{stands}
-use Rattle.deck_audit.specs.State.{AuditState, is_event_over, over_by, passed, settled, settled_by, settled_in, then_of, worked}
+use Rattle.deck_audit.specs.State.{AuditState, over_by, passed, settled, settled_by, settled_in, then_of, worked}
 use Rattle.deck_audit.specs.State.{worker, worker_number}
-use Rattle.deck_audit.specs.declared.status.AuditWhy.{AuditWhy}
-use Rattle.deck_audit.specs.declared.status.AuditWhy.TheVariants.{Place, History}
-use Rattle.deck_audit.specs.Verdict.{judged, judged_by, or_history}
+use Rattle.deck_audit.specs.declared.status.AuditWhy.TheVariants.{History}
+use Rattle.deck_audit.specs.Verdict.{judged, judged_by}
 use Rattle.audit_laws.specs.FirstFault.{LeadsTo}
-use Rattle.audit_laws.specs.Shown.{ActShows, BehindShows, CanAllBePlain, CanBePlain, DueShows, EventShows, NextShows, OrderShows, PlainPast, PowerShows, Shows, ShowsIn}
+use Rattle.audit_laws.specs.Shown.{BehindShows, CanAllBePlain, CanBePlain, DueShows, EventShows, NextShows, OrderShows, PlainPast, PowerShows, Shows, ShowsIn}
 use Rattle.audit_laws.specs.Shown.{TellsOfPlain, TextShows, WorkShows}
 use Rattle.audit_laws.proofs.Devices.{But, Each, each_found, put_found}
 use Rattle.audit_laws.proofs.Lines.{AreSo, AtWork, IsSoundState, judged_sound, no_act, settled_sound}
@@ -194,18 +192,11 @@ module _ (programs : List PlannedProgram) (of : List DeviceLine) where
     at_worker : CanBePlain u (or_zero (worker_number s)) → CanBePlain u so.0
     at_worker can = subst (λ (d : ℕ). CanBePlain u d) (ap or_zero so.1) can
 
-    act_by : CanBePlain u so.0 → (b : Bool) → more ≡ b → (is_of_work b (worker_number s) line && not (is_io line)) ≡ true
-        → But programs Sound (DidSo b did) so.0 of s.devices → (a : AuditedDevice) → worker s ≡ Some a → ActShows s line did a u
-        → act_of_work s line did a ≡ Some u
-    act_by can b is may but a works shows = grind (arith, act_shown, at_work, worker_so, no_act)
-
     behind_by : (act io : Bool) → (is_of_work more (worker_number s) line && not (is_io line)) ≡ act → is_io line ≡ io
         → CanBePlain u (behind_device s line did act io) → BehindShows s line did act io u
         → Follows (cond act (then_of (worker s) (act_of_work s line did)) (cond (not (holds (worker s) (is_legal did))) None
         (cond io (Some (settled s did)) (due_made (settled s did) line (settled s did).due)))) u
-    behind_by true io may reads can shows =
-        follows _ u (found_then (worker s) (act_of_work s line did) shows.0 shows.1
-        ∙ act_by (at_worker can) more refl may so.2 shows.0 shows.1 shows.2)
+    behind_by true io may reads can shows = grind (arith, follows, found_then, act_shown, at_work, worker_so, no_act, at_worker)
     behind_by false true may reads can shows = grind (arith, legal, at_worker, follows)
     behind_by false false may reads can shows = grind (arith, settled_sound programs of s sound.paths so.0 so.1 more did so.2 (legal shows.0 shows.1 (shows.2.0 so.0)), legal shows.0 shows.1 (shows.2.0 so.0), legal, due_shown_made)
 

@@ -1,10 +1,9 @@
 -- A command that comes to its end: the acts behind its END line come before it in the device's past.
-use Rattle.std.proofs.Common.{arith, ◌≡◌, ℕ, List, Option, Some, None, Bool, true, false, not, refl, sym, ap, subst, ◌∙◌}
-use Rattle.std.specs.Prelude.{◌⊎◌, ◌&&◌, ◌==◌, IfSome, IsSome}
+use Rattle.std.proofs.Common.{arith, ◌≡◌, ℕ, Option, Some, None, Bool, true, false, not, refl, ap}
+use Rattle.std.specs.Prelude.{◌⊎◌, ◌&&◌, ◌==◌, IsSome}
 use Rattle.std.proofs.Common.{rules}
 use Rattle.std.proofs.lemmas.Bool.{and_parts}
 use Rattle.std.proofs.lemmas.Bool.Decides.{nat_tests}
-use Rattle.ckd_types.specs.declared.channel.Ccw.{Ccw}
 use Rattle.ckd_types.specs.declared.channel.CommandEnd.{CommandEnd}
 use Rattle.ckd_types.specs.declared.sense.Sense.{Sense}
 use Rattle.ckd_types.specs.Ccw.{ccw_at}
@@ -14,15 +13,15 @@ use Rattle.ckd_rules.specs.Ends.{end_at_word}
 use Rattle.ckd_rules.specs.Walk.{TrackEdit}
 use Rattle.plain_defs.specs.declared.journal.Act.TheVariants.{Harden, Loosen}
 use Rattle.plain_defs.specs.Effect.{effect_on}
-use Rattle.plain_defs.specs.History.{History, OpenEntry, acted, acted_in, checked, checked_in, ended, ended_in, IsOpen}
+use Rattle.plain_defs.specs.History.{OpenEntry, acted, acted_in, ended}
 use Rattle.plain_defs.specs.Journal.{replay}
-use Rattle.plain_defs.specs.Legal.{IsCheck, MayEdit, edit_at, track_of}
+use Rattle.plain_defs.specs.Legal.{IsCheck, track_of}
 use Rattle.plain_defs.specs.Loose.{is_loose_there}
 use Rattle.plain_defs.specs.Program.{Part, with_act}
 use Rattle.deck_audit.specs.declared.state.Did.{Did}
 use Rattle.deck_audit.specs.declared.state.Did.TheVariants.{Ended, CheckEnded, Halved, Worked}
-use Rattle.deck_audit.specs.Device.{AuditedDevice, check_end, edit_of, is_next_legal, loosens, may_loosen}
-use Rattle.deck_audit.specs.Device.{part_of_open, plain_end, plain_end_at, state_of, words_of_open}
+use Rattle.deck_audit.specs.Device.{AuditedDevice, check_end, is_next_legal, loosens, may_loosen}
+use Rattle.deck_audit.specs.Device.{part_of_open, plain_end, state_of, words_of_open}
 use Rattle.deck_audit.specs.History.{is_legal}
 use Rattle.deck_audit.specs.State.{worked}
 use Rattle.device_laws.proofs.DueResets.{acted_due, checked_due, ended_due}
@@ -148,20 +147,11 @@ module _ (a : AuditedDevice) (t : ℕ) (loose : is_loose_there (state_of a) t �
   none_ran x stands is = grind arith
 
   module _ (e : CommandEnd) (ends : Ends e a) where
-    ends_by : (x : OpenEntry) → (acted a.history (Harden t)).running ≡ Some x → (r : Option OpenEntry) → a.history.running ≡ r
-        → plain_end (record a { history = acted a.history (Harden t) }) x ≡ Some e
-    ends_by x is r stands = grind (arith, none_ran, acted_is, end_is_same)
-
     pub ends_hardened : Ends e (record a { history = acted a.history (Harden t) })
-    ends_hardened = grind (arith, hardened_sound, ends_by)
-
-  module _ (e : CommandEnd) (checks : Checks e a) where
-    checks_by : (x : OpenEntry) → (acted a.history (Harden t)).running ≡ Some x → (r : Option OpenEntry) → a.history.running ≡ r
-        → IsNextCheck e (record a { history = acted a.history (Harden t) }) x
-    checks_by x is r stands = grind (arith, none_ran, acted_is, next_is_same)
+    ends_hardened = grind (arith, hardened_sound, none_ran, acted_is, end_is_same)
 
   pub did_hardened : (did : Did) → DidSo true did a → DidSo true did (record a { history = acted a.history (Harden t) })
   did_hardened (Ended e) so = ends_hardened e so
-  did_hardened (CheckEnded e) so = grind (arith, hardened_sound, checks_by)
+  did_hardened (CheckEnded e) so = grind (arith, hardened_sound, none_ran, acted_is, next_is_same)
   did_hardened Halved so = hardened_sound a so t loose
   did_hardened (Worked last) so = hardened_sound a so t loose

@@ -1,21 +1,20 @@
 -- What a line makes of all devices of an auditor.
-use Rattle.std.proofs.Common.{◌≡◌, ◌<◌, ◌+◌, ◌++◌, ℕ, List, [], ◌∷◌, length, take, drop, Option, Some, None, Bool, true, false, cond, refl, arith, sym, ap}
+use Rattle.std.proofs.Common.{◌≡◌, ◌<◌, ◌+◌, ◌++◌, ℕ, List, [], ◌∷◌, length, take, drop, Option, None, Bool, true, false, cond, refl, arith, sym, ap}
 use Rattle.std.proofs.Common.{subst, ◌∙◌}
 use Rattle.std.specs.Prelude.{◌&&◌, ◌||◌, map, slice_index_or, slice_set}
 use Rattle.std.specs.List.{list_any}
 use Rattle.std.proofs.lemmas.List.{length-append, length-drop, length-map, length-take, get_or_default}
 use Rattle.std.proofs.lemmas.List.Edits.{map_over_more}
 use Rattle.deck_text.specs.declared.line.PlannedProgram.{PlannedProgram}
-use Rattle.plain_defs.specs.declared.journal.Item.TheVariants as items
-use Rattle.plain_defs.specs.History.{History, OpenEntry, emptied, lost_power, lost_power_in}
+use Rattle.plain_defs.specs.History.{History, OpenEntry, emptied, lost_power}
 use Rattle.plain_defs.specs.Legal.{is_started}
-use Rattle.report_audit.specs.Auditor.{AllKept, IsAt, NoneRuns, dark_kept, has_program, lent_runs, taken_back}
+use Rattle.report_audit.specs.Auditor.{AllKept, IsAt, NoneRuns, dark_kept, lent_runs, taken_back}
 use Rattle.deck_audit.specs.declared.kept.Kept.{Kept}
 use Rattle.deck_audit.specs.declared.state.Due.TheVariants.{Next}
 use Rattle.deck_audit.specs.declared.state.HalfWrite.TheVariants.{Closed}
 use Rattle.deck_audit.specs.Device.{AuditedDevice, runs}
 use Rattle.deck_audit.specs.History.{given_back, is_lent_to, runs_lent, without_power}
-use Rattle.deck_audit.specs.Keeping.{IsCounted, IsKept}
+use Rattle.deck_audit.specs.Keeping.{IsCounted}
 use Rattle.deck_audit.specs.Replay as replay
 use Rattle.deck_audit.specs.Replayed.{ReplayedState}
 use Rattle.deck_audit.proofs.Judges.{by_program}
@@ -67,13 +66,10 @@ or_second : (x y : Bool) → (x || y) ≡ false → y ≡ false
 or_second x y is = grind arith
 
 module _ (programs : List PlannedProgram) (n : ℕ) where
-  lent_alike : (k : Kept) (a : AuditedDevice) → IsKept k a → lent_runs n k ≡ runs_lent n a
-  lent_alike k a i = grind (arith, by_program)
-
   pub any_alike : (ks : List Kept) (ds : List AuditedDevice) → AllKept programs ks ds
       → list_any (lent_runs n) ks ≡ list_any (runs_lent n) ds
   any_alike [] [] all = refl
-  any_alike (k ∷ ks) (a ∷ ds) all = grind (arith, any_alike ks ds all.1, lent_alike)
+  any_alike (k ∷ ks) (a ∷ ds) all = grind (arith, any_alike ks ds all.1, by_program)
   any_alike ks ds all = absurd all
 
   back_by : (k : Kept) (a : AuditedDevice) (b : Bool) → IsAt programs Next k a → (b && runs a.history.running) ≡ false
@@ -92,8 +88,7 @@ module _ (programs : List PlannedProgram) (n : ℕ) where
 
   back_at : (k : Kept) (a : AuditedDevice) → IsAt programs Next k a → runs_lent n a ≡ false
       → IsAt programs Next (taken_back n k) (given_back n a)
-  back_at k a is idle = subst (λ (b : Bool). IsAt programs Next (cond b (record k { device = replay.given_back k.device }) k) (given_back n a))
-      (sym (ap (λ (l : Option ℕ). is_lent_to n l) is.kept.follows.lent_is)) (back_by k a (is_lent_to n a.lent) is idle)
+  back_at k a is idle = grind (arith, back_by k a (is_lent_to n a.lent) is idle)
 
   pub all_back : (ks : List Kept) (ds : List AuditedDevice) → AllKept programs ks ds → list_any (runs_lent n) ds ≡ false
       → AllKept programs (map (taken_back n) ks) (map (given_back n) ds)

@@ -3,23 +3,21 @@ use Rattle.std.proofs.Common.{◌≡◌, ℕ, List, Option, Some, None, Bool, tr
 use Rattle.std.specs.Prelude.{◌&&◌, ◌||◌, not, Result, Err, slice_get}
 use Rattle.deck_plan.specs.declared.event.EventLine.{EventLine}
 use Rattle.report_text.specs.declared.line.ReportLine.{ReportLine}
-use Rattle.report_text.specs.declared.line.ReportLine.TheVariants as lines
 use Rattle.report_audit.specs.Auditor.{IsFor, IsJudged, Makes, OneKept, idle_fault, judged_settled, kept_legal, place_from, placed}
 use Rattle.report_audit.specs.declared.auditor.Auditor.{Auditor}
 use Rattle.deck_audit.specs.declared.kept.Kept.{Kept}
 use Rattle.deck_audit.specs.declared.state.Did.{Did}
-use Rattle.deck_audit.specs.declared.state.Did.TheVariants.{Ended}
 use Rattle.deck_audit.specs.declared.state.Due.{Due}
 use Rattle.deck_audit.specs.declared.state.Due.TheVariants.{Behind}
 use Rattle.deck_audit.specs.declared.status.AuditWhy.{AuditWhy}
 use Rattle.deck_audit.specs.declared.status.AuditWhy.TheVariants.{History, Place}
 use Rattle.deck_audit.specs.declared.task.Task.TheVariants as tasks
 use Rattle.deck_audit.specs.Device.{AuditedDevice, device_in}
-use Rattle.deck_audit.specs.History.{act_of_work, due_made, is_legal, made_in}
+use Rattle.deck_audit.specs.History.{act_of_work, due_made, is_legal}
 use Rattle.deck_audit.specs.Keeping.{DidSo, IsDue, IsKept}
-use Rattle.deck_audit.specs.Place.{first_event, holds, in_due, is_act_of, is_io, is_of_work, worker_of}
-use Rattle.deck_audit.specs.Stands.{in_state, stands_in}
-use Rattle.deck_audit.specs.State.{AuditState, outlines, over_by, settled_by, settled_in, then_of, worker_number}
+use Rattle.deck_audit.specs.Place.{first_event, holds, is_act_of, is_io, is_of_work, worker_of}
+use Rattle.deck_audit.specs.Stands.{in_state}
+use Rattle.deck_audit.specs.State.{AuditState, over_by, settled_by, settled_in, then_of, worker_number}
 use Rattle.deck_audit.specs.Verdict.{judged, or_history}
 use Rattle.report_audit.proofs.Auditors.{at, none_at}
 use Rattle.report_audit.proofs.AuditorLines.{has_one}
@@ -62,9 +60,6 @@ by_settled : (io act placed legal : Bool) (m n : Option AuditState) (t : AuditSt
     ≡ cond (io || placed) (or_history (cond (not legal) None (cond io (Some t) n))) (Err Place)
 by_settled io act placed legal m n t none = grind arith
 
-act_not_io : (more : Bool) (d : ℕ) (line : ReportLine) → is_act_of more d line ≡ true → is_io line ≡ false
-act_not_io more d line is = grind arith
-
 module _ (s : AuditState) (line : ReportLine) (more : Bool) (did : Did) (due_is : s.due ≡ Behind more did) where
   abbrev by : Option ℕ → Option AuditedDevice → Result AuditState AuditWhy
   by w x = cond (is_of_work more w line || in_state (settled_in s did x) line)
@@ -72,14 +67,11 @@ module _ (s : AuditState) (line : ReportLine) (more : Bool) (did : Did) (due_is 
       (cond (not (holds x (is_legal did))) None
       (cond (is_io line) (Some (settled_in s did x)) (due_made (settled_in s did x) line (settled_in s did x).due))))) (Err Place)
 
-  away : in_state s line ≡ false
-  away = ap (λ (due : Due). in_due (outlines s) s.events line due) due_is
-
   is_by : (w : Option ℕ) → worker_number s ≡ w → judged s line ≡ by w (then_of w (device_in s.devices))
   is_by w worker_is = grind arith
 
   idle_by : (w : Option ℕ) → holds w (λ d. is_act_of more d line) ≡ false → by w None ≡ Err (idle_fault line)
-  idle_by w none = grind (arith, away)
+  idle_by w none = grind arith
 
   module _ (d : ℕ) (worker_is : worker_number s ≡ Some d) where
     pub no_device : is_act_of more d line ≡ false → device_in s.devices d ≡ None → (why : AuditWhy) → why ≡ idle_fault line
@@ -87,7 +79,7 @@ module _ (s : AuditState) (line : ReportLine) (more : Bool) (did : Did) (due_is 
     no_device none absent why is = grind (arith, is_by, idle_by)
 
     act_is : is_act_of more d line ≡ true → judged s line ≡ or_history (then_of (device_in s.devices d) (act_of_work s line did))
-    act_is act = grind (arith, is_by, act_not_io)
+    act_is act = grind (arith, is_by)
 
     pub act_good : is_act_of more d line ≡ true → (y : Auditor) → Makes true y (then_of (device_in s.devices d) (act_of_work s line did))
         → IsJudged None y (judged s line)

@@ -1,10 +1,9 @@
 -- What an auditor keeps where no device changes.
-use Rattle.std.proofs.Common.{arith, ◌≡◌, ℕ, List, [], ◌∷◌, length, drop, Some, None, Bool, true, false, cond, refl, sym, ap, subst, ◌∙◌}
+use Rattle.std.proofs.Common.{arith, ◌≡◌, ℕ, List, [], ◌∷◌, length, Some, None, Bool, true, cond, subst}
 use Rattle.std.proofs.Common.{rules}
 use Rattle.std.specs.Prelude.{◌==◌, Ok, map}
 use Rattle.std.specs.Str.{bytes_eq}
 use Rattle.ckd_types.specs.declared.channel.CommandEnd.{CommandEnd}
-use Rattle.deck_plan.specs.declared.event.EventLine.{EventLine}
 use Rattle.deck_text.specs.declared.line.PlannedProgram.{PlannedProgram}
 use Rattle.report_text.specs.declared.line.ReportLine.{ReportLine}
 use Rattle.report_text.specs.declared.line.ReportLine.TheVariants as lines
@@ -19,7 +18,6 @@ use Rattle.deck_audit.specs.Device.{AuditedDevice, device_in, outline_of}
 use Rattle.deck_audit.specs.History.{due_made}
 use Rattle.deck_audit.specs.Judging.{data_due}
 use Rattle.deck_audit.specs.Keeping.{IsDue}
-use Rattle.deck_audit.specs.Same.{says}
 use Rattle.deck_audit.specs.Place.{IsDueOf, outline_in}
 use Rattle.deck_audit.specs.State.{AuditState, passed, worker_number}
 use Rattle.deck_audit.specs.Verdict.{judged_text}

@@ -1,7 +1,7 @@
 -- A line that one device judges makes of an auditor what it makes of the audited state.
 use Rattle.std.proofs.Common.{◌≡◌, ◌≤◌, ◌+◌, ℕ, zero, suc, List, [], ◌∷◌, length, drop, Option, Some, None, Bool, true, false, cond, refl, arith, sym, ap}
-use Rattle.std.proofs.Common.{subst, ◌∙◌, inl, inr}
-use Rattle.std.specs.Prelude.{◌&&◌, ◌⊎◌, ⊤, map, nat_lt, slice_get, slice_set}
+use Rattle.std.proofs.Common.{subst, ◌∙◌}
+use Rattle.std.specs.Prelude.{◌⊎◌, ⊤, map, nat_lt, slice_get, slice_set}
 use Rattle.std.proofs.Common.{rules}
 use Rattle.std.proofs.Math.ListN.{drop_of_length-le}
 use Rattle.std.proofs.lemmas.List.{drop-drop, map-set}
@@ -10,12 +10,9 @@ use Rattle.ckd_types.specs.declared.channel.CommandEnd.{CommandEnd}
 use Rattle.ckd_types.specs.Sense.{equipment_sense, data_check_sense}
 use Rattle.deck_plan.specs.declared.event.EventLine.{EventLine}
 use Rattle.deck_plan.specs.Plans.{PlansByPath}
-use Rattle.deck_text.specs.DeckLines.{DeckLines}
-use Rattle.deck_text.specs.Plans.{plans_of}
-use Rattle.report_text.specs.declared.answers.LooseAnswer.TheVariants as loose
 use Rattle.report_text.specs.declared.line.ReportLine.{ReportLine}
 use Rattle.report_text.specs.declared.line.ReportLine.TheVariants as lines
-use Rattle.report_audit.specs.Auditor.{AreKept, ArePowered, Fits, IsAt, IsAuditOf, IsFor, IsJudgedAt, Makes, NoneRuns, OneKept, gone_on, is_quiet}
+use Rattle.report_audit.specs.Auditor.{AreKept, ArePowered, Fits, IsAuditOf, IsFor, IsJudgedAt, Makes, NoneRuns, OneKept, gone_on, is_quiet}
 use Rattle.report_audit.specs.Auditor.{kept_outline, next_place, place_from}
 use Rattle.report_audit.specs.declared.auditor.Auditor.{Auditor}
 use Rattle.deck_audit.specs.declared.kept.Kept.{Kept}
@@ -25,23 +22,20 @@ use Rattle.deck_audit.specs.declared.replayed.Running.{Running}
 use Rattle.deck_audit.specs.declared.state.Did.{Did}
 use Rattle.deck_audit.specs.declared.state.Did.TheVariants.{Ended, CheckEnded, Halved}
 use Rattle.deck_audit.specs.declared.state.Due.{Due}
-use Rattle.deck_audit.specs.declared.state.Due.TheVariants.{Next, SenseOf, Behind, Losses, ResetOf, Powers}
-use Rattle.deck_audit.specs.declared.state.HalfWrite.TheVariants.{Closed}
+use Rattle.deck_audit.specs.declared.state.Due.TheVariants.{Next, Behind}
 use Rattle.deck_audit.specs.declared.state.Outline.{Outline}
-use Rattle.deck_audit.specs.Replay.{ended_next}
 use Rattle.deck_audit.specs.declared.task.Task.{Task}
 use Rattle.deck_audit.specs.declared.task.Task.TheVariants as tasks
-use Rattle.deck_audit.specs.Device.{AuditedDevice, device_in, has_loose, with_device}
-use Rattle.deck_audit.specs.History as history
-use Rattle.deck_audit.specs.History.{behind_end, changed, has_sense, place_of}
-use Rattle.deck_audit.specs.Judging.{check_of, end_due_by, sense_due_by, shows_end}
+use Rattle.deck_audit.specs.Device.{AuditedDevice, device_in, with_device}
+use Rattle.deck_audit.specs.History.{has_sense, place_of}
+use Rattle.deck_audit.specs.Judging.{check_of, end_due_by, sense_due_by}
 use Rattle.deck_audit.specs.Keeping.{Goes, IsDue, Judges, due_of, goes_on}
-use Rattle.deck_audit.specs.Kept.{act_then, cut_then_by, end_then_by, loosen_then, settled_over, then_if, wait_if, with_half, work_then}
+use Rattle.deck_audit.specs.Kept.{act_then, cut_then_by, then_if, wait_if, work_then}
 use Rattle.deck_audit.specs.Place.{IsDueOf}
 use Rattle.deck_audit.specs.Replayed.{ReplayedState}
 use Rattle.deck_audit.specs.Same.{says}
 use Rattle.deck_audit.specs.State.{AuditState, then_of, worker_number}
-use Rattle.deck_audit.specs.Task.{IsReady, next_then, settle_then_by, task_kept, task_made, task_then}
+use Rattle.deck_audit.specs.Task.{next_then, task_kept, task_made, task_then}
 use Rattle.report_audit.proofs.Auditors.{At, all_of_one, at, none_at, none_before, one_of_all, quiet_of, same_length}
 use Rattle.deck_audit.proofs.JudgedTasks.{task_judged}
 
@@ -61,12 +55,9 @@ record Plain (w : Bool) (due : Due) : Type 0 where
   told : (n : ℕ) → IsDueOf n due
   powered : (devices : List AuditedDevice) → ArePowered due devices
 
-behind_plain : (e : CommandEnd) (sent : List ℕ) → Plain true (behind_end e sent)
-behind_plain e sent = grind arith
-
 module _ (plans : PlansByPath) (r : ReplayedState) (line : ReportLine) (e : CommandEnd) where
   end_wait : (running : Option Running) → IsWait (λ due. Plain true due) (wait_if (end_due_by plans r line e running))
-  end_wait running = grind (arith, behind_plain)
+  end_wait running = grind arith
 
   sense_by : (o : Running) (b c d : Bool) → IsWait (λ due. Plain true due) (wait_if (cond b (Some (Behind true (Ended e)))
       (cond c (Some (Behind true (CheckEnded (check_of plans o e equipment_sense))))
@@ -79,10 +70,6 @@ module _ (plans : PlansByPath) (r : ReplayedState) (line : ReportLine) (e : Comm
 
 over_wait : (b : Bool) → IsWait (λ due. Plain true due) (Some (cond b Passed (Wait Next)))
 over_wait b = grind arith
-
-settle_wait : (event : Option EventLine) (k : Kept) (did : Did) (over : Option ReportLine)
-    → IsWait (λ due. Plain true due) (Some (settle_then_by event k did over))
-settle_wait event k did over = grind (arith, over_wait)
 
 cut_wait : (P : Due → Type 0) (k : Kept) (n : ℕ) (due : Due) (running : Option Running) → P due → IsWait P (cut_then_by k n due running)
 cut_wait P k n due running is = grind (arith, wait_when)
@@ -99,12 +86,9 @@ record IsDueBehind (s : AuditState) (d : ℕ) (devices : List AuditedDevice) (du
   powered : ArePowered due devices
 
 module _ (s : AuditState) (d : ℕ) (devices : List AuditedDevice) where
-  of_plain : (w : Bool) → (w ≡ true → worker_number s ≡ Some d) → (due : Due) → Plain w due → IsDueBehind s d devices due
-  of_plain w worker due p = grind arith
-
   of_worker : worker_number s ≡ Some d → (next : Option Then) → IsWait (λ due. Plain true due) next
       → IsWait (λ due. IsDueBehind s d devices due) next
-  of_worker worker next is = grind (arith, of_plain)
+  of_worker worker next is = grind arith
 
   module _ (plans : PlansByPath) (k : Kept) (i : ℕ) (line : ReportLine) (place : place_of s.devices d ≡ i) (short : suc i ≤ length devices)
       (cuts : NoneRuns (place_of s.devices d) s.devices → NoneRuns (place_of s.devices d) devices) where
@@ -114,8 +98,7 @@ module _ (s : AuditState) (d : ℕ) (devices : List AuditedDevice) where
     task_wait tasks.Work fits lost = of_worker fits.1 (work_then plans k line) (work_wait plans k line)
     task_wait (tasks.Sense e) fits lost = of_worker fits.1 _ (sense_wait plans k.device line e k.device.running)
     task_wait (tasks.Act did) fits lost = of_worker fits.2 (act_then k line did) (act_wait k line did)
-    task_wait (tasks.Settle event did) fits lost = of_worker fits.2 (Some (settle_then_by event k did (settled_over k did)))
-        (settle_wait event k did (settled_over k did))
+    task_wait (tasks.Settle event did) fits lost = grind (arith, of_worker, over_wait)
     task_wait (tasks.Over event wanted) fits lost = of_worker fits.1 _
         (wait_when (λ due. Plain true due) (says wanted line) (next_then event k Halved) (over_wait _))
     task_wait (tasks.Cut n) fits lost = grind (arith, cut_wait)
@@ -142,21 +125,14 @@ abbrev devices_made : Option AuditState → List AuditedDevice
 devices_made (Some s) = s.devices
 devices_made None = []
 
-goes_devices : (s : AuditState) (b : AuditedDevice) (x : Then) → (goes_on s b x).devices ≡ with_device s.devices b
-goes_devices s b x = grind arith
-
 set_read : (l : List Kept) (i : ℕ) (k b : Kept) → slice_get l i ≡ Some b → slice_get (slice_set l i k) i ≡ Some k
 set_read [] i k b is = absurd (cc)
 set_read (x ∷ l) zero k b is = refl
 set_read (x ∷ l) (suc i) k b is = set_read l i k b is
 
 module _ (z : Auditor) (s : AuditState) (d : ℕ) (task : Task) (f : IsFor z s) (fits : Fits s d task) where
-  one_by : (b : Bool) → is_quiet s.due ≡ b → AreKept z.deck.programs s.due (worker_number s) z.devices.items s.devices b
-      → (is_quiet s.due ≡ true) ⊎ (worker_number s ≡ Some d) → OneKept z.deck.programs s.due d z.devices.items s.devices
-  one_by b quiet all or = grind (arith, one_of_all, some_same)
-
   pub has_one : OneKept z.deck.programs s.due d z.devices.items s.devices
-  has_one = grind (arith, one_by)
+  has_one = grind (arith, one_of_all, some_same)
 
   pub is_absent : place_from 0 z.devices.items d ≡ None → (line : ReportLine) → then_of (device_in s.devices d) (task_made s line task) ≡ None
   is_absent none line = grind (arith, none_at, has_one)
@@ -172,24 +148,15 @@ module _ (z : Auditor) (s : AuditState) (d : ℕ) (task : Task) (f : IsFor z s) 
     abbrev a : AuditedDevice
     a = here.found.a
 
-    same_plans : plans_of z.deck.programs d ≡ here.found.a.plans
-    same_plans = ap (λ (n : ℕ). plans_of z.deck.programs n) (sym here.found.number_is) ∙ sym here.found.fits.plans_are
-
-    unchanged : changed s here.found.a ≡ s
-    unchanged = ap (λ (l : List AuditedDevice). record s { devices = l }) here.found.same
-
     at_place : i ≡ place_of s.devices here.found.a.number
     at_place = sym same_place ∙ sym here.found.place_is ∙ ap (λ (n : ℕ). place_of s.devices n) (sym here.found.number_is)
 
     all_judged : Judges s here.found.a (task_made s line task here.found.a) (task_then here.found.a.plans here.found.k i line task)
         (task_kept here.found.a.plans here.found.k line task)
-    all_judged = grind (arith, task_judged, here, unchanged, at_place, quiet_of)
+    all_judged = grind (arith, task_judged, here, at_place, quiet_of)
 
     same_next : next ≡ task_then here.found.a.plans here.found.k i line task
-    same_next = grind (arith, same_plans, here, some_same, same_place)
-
-    in_device : then_of (device_in s.devices d) (task_made s line task) ≡ task_made s line task here.found.a
-    in_device = ap (λ (x : Option AuditedDevice). then_of x (task_made s line task)) here.found.device_is
+    same_next = grind (arith, here, some_same, same_place)
 
     module _ (x : Then) (next_is : next ≡ Some x) where
       g : Goes s here.found.a (task_made s line task here.found.a) x (task_kept here.found.a.plans here.found.k line task)
@@ -199,16 +166,13 @@ module _ (z : Auditor) (s : AuditState) (d : ℕ) (task : Task) (f : IsFor z s) 
       kept = task_kept here.found.a.plans here.found.k line task
 
       new_here : new ≡ slice_set z.devices.items here.j kept
-      new_here = grind (arith, same_plans, here, some_same, same_place)
+      new_here = grind (arith, here, some_same, same_place)
 
       number_is : g.after.number ≡ d
       number_is = g.number_is ∙ here.found.number_is
 
-      one_new : (due : Due) → IsDue due kept g.after → OneKept z.deck.programs due d new (with_device s.devices g.after)
-      one_new due so = grind (arith, g, new_here, here, number_is)
-
       lost : task ≡ tasks.PowerLoss → with_device s.devices g.after ≡ s.devices
-      lost is = grind (arith, goes_devices, g, here)
+      lost is = grind (arith, g, here)
 
       module _ (y : Auditor) (deck_is : y.deck ≡ z.deck) (items_are : y.devices.items ≡ new) (passed_is : y.passed ≡ z.passed)
           (outlines_so : y.outlines.items ≡ map kept_outline y.devices.items) where
@@ -216,13 +180,11 @@ module _ (z : Auditor) (s : AuditState) (d : ℕ) (task : Task) (f : IsFor z s) 
         events_on = grind arith
 
         one_now : (due : Due) → IsDue due kept g.after → OneKept y.deck.programs due d y.devices.items (with_device s.devices g.after)
-        one_now due so = grind (arith, g, one_new)
+        one_now due so = grind (arith, g, new_here, here, number_is)
 
         kept_by : (due : Due) → IsDue due kept g.after → (b : Bool) → is_quiet due ≡ b → (is_quiet due ≡ true) ⊎ (worker_number s ≡ Some d)
             → AreKept y.deck.programs due (worker_number s) y.devices.items (with_device s.devices g.after) b
-        kept_by due so true quiet or = all_of_one y.deck.programs due quiet d y.devices.items (with_device s.devices g.after) (one_now due so)
-        kept_by due so false busy (inl quiet) = absurd (cc)
-        kept_by due so false busy (inr worker) = (d, worker, one_now due so)
+        kept_by due so b quiet or = grind (arith, all_of_one, g, one_now due so)
 
         audit_by : (n : Then) → IsDue (due_of n) kept g.after → IsWait (λ due. IsDueBehind s d (with_device s.devices g.after) due) (Some n)
             → IsAuditOf (gone_on y n) (goes_on s g.after n)
@@ -239,14 +201,14 @@ module _ (z : Auditor) (s : AuditState) (d : ℕ) (task : Task) (f : IsFor z s) 
         audit_by (Wait due) so wait = grind (arith, events_on, kept_by)
 
         pub goes : Makes true (gone_on y x) (then_of (device_in s.devices d) (task_made s line task))
-        goes = grind (arith, g, in_device, audit_by, same_next, task_wait, here, same_place, same_length, none_before, number_is, lost)
+        goes = grind (arith, g, here, audit_by, same_next, task_wait, same_place, same_length, none_before, number_is, lost)
 
     pub new_outlines : (before after : List Outline) → before ≡ map kept_outline z.devices.items
         → ((k : Kept) → slice_get new i ≡ Some k → after ≡ slice_set before i (kept_outline k)) → after ≡ map kept_outline new
     new_outlines before after is set = grind (arith, set_read, map-set)
 
     pub fails : next ≡ None → then_of (device_in s.devices d) (task_made s line task) ≡ None
-    fails is = grind (arith, in_device, here, same_next, all_judged)
+    fails is = grind (arith, here, same_next, all_judged)
 
     -- the auditor with these devices and outlines goes on
     pub goes_with : (x : Then) → next ≡ Some x → (y w : Auditor) → w ≡ gone_on y x → y.deck ≡ z.deck → y.passed ≡ z.passed → y.devices.items ≡ new

@@ -1,44 +1,32 @@
 -- What a line's place says of the devices of an audited state.
-use Rattle.std.proofs.Common.{[], ◌≡◌, ◌≤◌, ◌+◌, ◌-◌, ℕ, zero, suc, List, ◌∷◌, length, drop, Option, Some, None, Bool, true, false, cond, refl, arith, sym, ap}
-use Rattle.std.proofs.Common.{subst, ◌∙◌, eq-eqb}
-use Rattle.std.specs.Prelude.{◌==◌, ◌&&◌, ◌||◌, not, map, nat_lt, slice_get}
-use Rattle.std.proofs.Common.{rules}
-use Rattle.std.proofs.lemmas.Bool.Decides.{nat_tests}
+use Rattle.std.proofs.Common.{[], ◌≡◌, ◌≤◌, ◌+◌, ℕ, zero, suc, List, ◌∷◌, length, drop, Option, Some, None, Bool, true, false, cond, refl, arith}
+use Rattle.std.specs.Prelude.{◌==◌, ◌&&◌, map}
 use Rattle.std.proofs.lemmas.List.{length-drop}
 use Rattle.deck_plan.specs.declared.event.EventLine.TheVariants as events
 use Rattle.plain_defs.specs.History.{OpenEntry, reset_in_history}
 use Rattle.report_text.specs.declared.answers.DeviceTotals.{DeviceTotals}
 use Rattle.report_text.specs.declared.answers.HowOver.TheVariants as how
 use Rattle.report_text.specs.declared.answers.LooseAnswer.{LooseAnswer}
-use Rattle.report_text.specs.declared.answers.LooseAnswer.TheVariants as loose
 use Rattle.report_text.specs.declared.line.ReportLine.{ReportLine}
 use Rattle.report_text.specs.declared.line.ReportLine.TheVariants as lines
 use Rattle.report_audit.specs.Auditor.{NoneRuns, cut_at, loose_at}
-use Rattle.deck_audit.specs.declared.state.OpenProgram.{OpenProgram}
 use Rattle.deck_audit.specs.declared.state.Outline.{Outline}
 use Rattle.deck_audit.specs.Device.{AuditedDevice, device_in, open_program, outline_of, own_runs}
 use Rattle.deck_audit.specs.History.{place_of, power_cut, power_loss, power_made, reset_made, changed, without_power}
-use Rattle.deck_audit.specs.Place.{holds, in_event, in_power, in_power_of, in_totals, in_totals_of, is_cut, is_lost_of, is_loss_of, may_reset}
+use Rattle.deck_audit.specs.Place.{in_event, in_power, in_power_of, in_totals, in_totals_of, is_loss_of, may_reset}
 use Rattle.deck_audit.specs.State.{AuditState, outlines, passed, then_of}
 use Rattle.report_audit.proofs.AuditorDues.{outline_is}
 
-equal_eqb : (a b : ℕ) → (a == b) ≡ true → (b == a) ≡ true
-equal_eqb a b is = eq-eqb b a (sym (let e : a ≡ b = search (nat_tests, rules, is) in e))
-
 -- A line that tells of no cut
-
-is_no_cut : (d : ℕ) (o : OpenProgram) (line : ReportLine) → cut_at line ≡ None → is_cut d o line ≡ false
-is_no_cut d o line none = grind arith
 
 not_own : (path d : ℕ) (a : Outline) (line : ReportLine) (running : Option OpenEntry) → cut_at line ≡ None
     → may_reset path d a line (open_program running) ≡ true → own_runs running path ≡ false
-not_own path d a line running none may = grind (arith, is_no_cut)
+not_own path d a line running none may = grind arith
 
 -- a RESET that cuts none is of another path than the one whose program runs
 pub reset_fits : (s : AuditState) (path d : ℕ) (line : ReportLine) → cut_at line ≡ None → in_event (outlines s) line (events.Reset path d) ≡ true
     → (a : AuditedDevice) → device_in s.devices d ≡ Some a → own_runs a.history.running path ≡ false
-reset_fits s path d line none may a is = not_own path d (outline_of a) line a.history.running none
-    (subst (λ (x : Option Outline). holds x (λ b. may_reset path d b line b.running) ≡ true) (outline_is s.devices d a is) may)
+reset_fits s path d line none may a is = grind (arith, not_own, outline_is s.devices d a is)
 
 abbrev device_of_cut : Option (ℕ × ℕ) → ℕ
 device_of_cut (Some (d, n)) = d
@@ -59,10 +47,6 @@ none_step : (b : Bool) (n : ℕ) (a : AuditedDevice) (ds : List AuditedDevice) �
     → NoneRuns (cond b 0 (n + 1)) (a ∷ ds)
 none_step b n a ds none go = grind arith
 
-none_more : (b : Bool) (n : ℕ) (a : AuditedDevice) (ds : List AuditedDevice) → a.history.running ≡ None → (b ≡ false → NoneRuns (n + 1) ds)
-    → NoneRuns (cond b 0 (n + 1) + 1) (a ∷ ds)
-none_more b n a ds none go = grind arith
-
 last_of_and : (x y : Bool) → (x && y) ≡ true → y ≡ true
 last_of_and x y is = grind arith
 
@@ -71,7 +55,7 @@ module _ (p e m k : ℕ) where
       → in_power_of (outline_of a) (lines.Over p e m (how.Cut k)) (in_power (lines.Over p e m (how.Cut k)) (map outline_of ds)) (open_program running) ≡ true
       → (in_power (lines.Over p e m (how.Cut k)) (map outline_of ds) ≡ true → NoneRuns (place_of ds e) ds)
       → NoneRuns (cond (a.number == e) 0 (place_of ds e + 1)) (a ∷ ds)
-  cut_step a ds running none is go = grind (arith, none_step, last_of_and, equal_eqb)
+  cut_step a ds running none is go = grind (arith, none_step, last_of_and)
 
   cut_none : (ds : List AuditedDevice) → in_power (lines.Over p e m (how.Cut k)) (map outline_of ds) ≡ true → NoneRuns (place_of ds e) ds
   cut_none [] is = tt
@@ -91,7 +75,7 @@ module _ (e : ℕ) (answer : LooseAnswer) where
       → in_power_of (outline_of a) (lines.Loose e answer) (in_power (lines.Loose e answer) (map outline_of ds)) (open_program running) ≡ true
       → (in_power (lines.Loose e answer) (map outline_of ds) ≡ true → NoneRuns (place_of ds e + 1) ds)
       → NoneRuns (cond (a.number == e) 0 (place_of ds e + 1) + 1) (a ∷ ds)
-  loose_step a ds running none is go = grind (arith, none_more, last_of_and, other_loss)
+  loose_step a ds running none is go = grind (arith, last_of_and, other_loss)
 
   loose_none : (ds : List AuditedDevice) → in_power (lines.Loose e answer) (map outline_of ds) ≡ true → NoneRuns (place_of ds e + 1) ds
   loose_none [] is = tt
@@ -101,7 +85,7 @@ module _ (e : ℕ) (answer : LooseAnswer) where
       → NoneRuns (place_of ds e + 1) ds
   loose_told zero ds none is = loose_none ds is
   loose_told (suc n) [] none is = tt
-  loose_told (suc n) (a ∷ ds) none is = none_more (a.number == e) (place_of ds e) a ds none.0 (λ other. loose_told n ds none.1 is)
+  loose_told (suc n) (a ∷ ds) none is = grind (arith, loose_told n ds none.1 is)
 
 no_loss : (n : ℕ) (line : ReportLine) → loose_at line ≡ None → is_loss_of n line ≡ false
 no_loss n line none = grind arith
@@ -110,7 +94,7 @@ module _ (line : ReportLine) (no_loose : loose_at line ≡ None) (no_cut : cut_a
   done_step : (a : AuditedDevice) (ds : List AuditedDevice) (running : Option OpenEntry) → a.history.running ≡ running
       → in_power_of (outline_of a) line (in_power line (map outline_of ds)) (open_program running) ≡ true
       → (in_power line (map outline_of ds) ≡ true → NoneRuns (length ds) ds) → NoneRuns (length (a ∷ ds)) (a ∷ ds)
-  done_step a ds running none is go = grind (arith, last_of_and, no_loss, is_no_cut)
+  done_step a ds running none is go = grind (arith, last_of_and, no_loss)
 
   done_none : (ds : List AuditedDevice) → in_power line (map outline_of ds) ≡ true → NoneRuns (length ds) ds
   done_none [] is = tt
@@ -150,11 +134,8 @@ loose_made s line d is = grind arith
 no_totals : (s : List Outline) (d : ℕ) (t : DeviceTotals) (left : List Outline) → in_totals_of s (lines.Device d t) left ≡ true → 1 ≤ length left
 no_totals s d t left is = grind arith
 
-no_lost_device : (d : ℕ) (t : DeviceTotals) (x : Option Outline) → holds x (λ a. is_lost_of (lines.Device d t) a a.lent) ≡ false
-no_lost_device d t x = grind arith
-
 and_false : (x y : Bool) → y ≡ false → (x && y) ≡ false
 and_false x y unlike = grind arith
 
 pub totals_left : (s : List Outline) (d : ℕ) (t : DeviceTotals) (k : ℕ) → in_totals s (lines.Device d t) k ≡ true → k + 1 ≤ length s
-totals_left s d t k is = grind (arith, no_totals, and_false, no_lost_device, length-drop)
+totals_left s d t k is = grind (arith, no_totals, and_false, length-drop)

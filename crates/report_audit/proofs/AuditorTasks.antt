@@ -1,17 +1,11 @@
 -- What an auditor makes of lines that concern no device, or all.
-use Rattle.std.proofs.Common.{◌≡◌, ◌≤◌, ◌+◌, ℕ, List, length, drop, Some, None, Bool, true, false, cond, refl, arith, sym, ap, subst, ◌∙◌}
-use Rattle.std.specs.Prelude.{◌==◌, map, nat_lt}
+use Rattle.std.proofs.Common.{◌≡◌, ℕ, List, length, drop, Some, None, Bool, true, false, cond, arith, ap, ◌∙◌}
+use Rattle.std.specs.Prelude.{◌==◌, map}
 use Rattle.std.specs.List.{list_any}
-use Rattle.std.proofs.Common.{rules}
-use Rattle.std.proofs.lemmas.Bool.Decides.{nat_tests}
 use Rattle.std.proofs.lemmas.List.{length-map}
 use Rattle.deck_plan.specs.declared.event.EventLine.{EventLine}
 use Rattle.deck_plan.specs.declared.event.EventLine.TheVariants as events
-use Rattle.deck_text.specs.DeckLines.{DeckLines}
-use Rattle.report_text.specs.declared.answers.LooseAnswer.TheVariants as loose
-use Rattle.report_text.specs.declared.answers.OrderAnswer.TheVariants as order_answers
 use Rattle.report_text.specs.declared.line.ReportLine.{ReportLine}
-use Rattle.report_text.specs.declared.line.ReportLine.TheVariants as lines
 use Rattle.report_audit.specs.Auditor.{AllKept, FitsTotals, IsAuditOf, IsFor, Makes, NoneRuns, cut_at, dark_kept, gone_on, is_quiet, kept_outline, lent_runs}
 use Rattle.report_audit.specs.Auditor.{loose_at, order_told, taken_back, totals_due}
 use Rattle.report_audit.specs.declared.auditor.Auditor.{Auditor}
@@ -19,7 +13,7 @@ use Rattle.report_audit.specs.declared.told.OrderTold.TheVariants as told
 use Rattle.deck_audit.specs.declared.kept.Kept.{Kept}
 use Rattle.deck_audit.specs.declared.kept.Then.TheVariants.{Passed, Wait}
 use Rattle.deck_audit.specs.declared.state.Due.{Due}
-use Rattle.deck_audit.specs.declared.state.Due.TheVariants.{Frames, Nothing, ResetOf, Totals}
+use Rattle.deck_audit.specs.declared.state.Due.TheVariants.{ResetOf, Totals}
 use Rattle.deck_audit.specs.declared.state.Outline.{Outline}
 use Rattle.deck_audit.specs.Device.{AuditedDevice, device_in, outline_of}
 use Rattle.deck_audit.specs.History.{done_order, due_made, given_back, lent_to, order_made, power_made, runs_lent, totals_made, without_power}
@@ -43,8 +37,7 @@ module _ (z : Auditor) (s : AuditState) (f : IsFor z s) (quiet : is_quiet s.due 
   -- The totals
 
   same_count : length z.devices.items ≡ length s.devices
-  same_count = sym (length-map z.devices.items kept_outline) ∙ ap (λ (l : List Outline). length l) (outlines_are z s f)
-      ∙ length-map s.devices outline_of
+  same_count = grind (arith, length-map z.devices.items kept_outline, length-map s.devices outline_of, outlines_are z s f)
 
   pub totals_audit : (n : ℕ) → n ≡ length z.devices.items → (line : ReportLine) (k : ℕ) → FitsTotals s line k
       → IsAuditOf (gone_on z (Wait (totals_due n line k))) (totals_made s line k)
@@ -69,12 +62,7 @@ module _ (z : Auditor) (s : AuditState) (f : IsFor z s) (quiet : is_quiet s.due 
     pub unpair_some : b ≡ false → (y : Auditor) → y.deck ≡ z.deck → y.passed ≡ z.passed
         → y.devices.items ≡ map (taken_back n) z.devices.items → y.outlines.items ≡ map kept_outline y.devices.items
         → Makes true (gone_on y Passed) (done_order s (events.Unpair n))
-    unpair_some idle y deck_is passed_is items_are outlines_so = (
-      passed (record s { devices = map (given_back n) s.devices }),
-      ap (λ (x : Bool). cond x None (Some (passed (record s { devices = map (given_back n) s.devices })))) (lent_is ∙ idle),
-      all_changed y deck_is passed_is (map (taken_back n) z.devices.items) (map (given_back n) s.devices) items_are
-          (all_back z.deck.programs n z.devices.items s.devices (all_here z s f quiet) (lent_is ∙ idle)) outlines_so,
-    )
+    unpair_some idle y deck_is passed_is items_are outlines_so = grind (arith, lent_is, all_changed y deck_is passed_is (map (taken_back n) z.devices.items) (map (given_back n) s.devices) items_are (all_back z.deck.programs n z.devices.items s.devices (all_here z s f quiet) (lent_is ∙ idle)) outlines_so, all_back z.deck.programs n z.devices.items s.devices (all_here z s f quiet) (lent_is ∙ idle), all_here z s f quiet)
 
   -- Orders that change nothing
 
@@ -95,12 +83,7 @@ module _ (z : Auditor) (s : AuditState) (f : IsFor z s) (quiet : is_quiet s.due 
       → in_power line (drop k (outlines s)) ≡ true → (y : Auditor) → y.deck ≡ z.deck → y.passed ≡ z.passed
       → y.devices.items ≡ map dark_kept z.devices.items → y.outlines.items ≡ map kept_outline y.devices.items
       → Makes true (gone_on y Passed) (power_made s line)
-  power_done line k no_loose no_cut none may y deck_is passed_is items_are outlines_so = (
-    passed (record s { devices = map without_power s.devices }),
-    done_made line no_loose no_cut s,
-    all_changed y deck_is passed_is (map dark_kept z.devices.items) (map without_power s.devices) items_are
-        (all_dark z.deck.programs z.devices.items s.devices (all_here z s f quiet) (done_told line no_loose no_cut k s.devices none may)) outlines_so,
-  )
+  power_done line k no_loose no_cut none may y deck_is passed_is items_are outlines_so = grind (arith, done_made line no_loose no_cut s, all_changed y deck_is passed_is (map dark_kept z.devices.items) (map without_power s.devices) items_are (all_dark z.deck.programs z.devices.items s.devices (all_here z s f quiet) (done_told line no_loose no_cut k s.devices none may)) outlines_so, all_dark z.deck.programs z.devices.items s.devices (all_here z s f quiet) (done_told line no_loose no_cut k s.devices none may), all_here z s f quiet, done_told line no_loose no_cut k s.devices none may)
 
 -- What is due says what the line may be
 

@@ -14,7 +14,7 @@ use Rattle.deck_text.specs.Plans.{plans_of}
 use Rattle.report_audit.specs.Auditor.{AllKept, IsAt, IsJudgedAt, NoneRuns, OneKept, due_if, either, is_quiet, place_from}
 use Rattle.deck_audit.specs.declared.kept.Kept.{Kept}
 use Rattle.deck_audit.specs.declared.state.Due.{Due}
-use Rattle.deck_audit.specs.declared.state.Due.TheVariants.{Next, DataOf, SenseOf, Behind}
+use Rattle.deck_audit.specs.declared.state.Due.TheVariants.{Next}
 use Rattle.deck_audit.specs.Device.{AuditedDevice, device_in, with_device}
 use Rattle.deck_audit.specs.History.{place_of}
 use Rattle.deck_audit.specs.declared.kept.Then.{Then}
@@ -27,16 +27,13 @@ pub quiet_of : (k : Kept) (a : AuditedDevice) (due : Due) → is_quiet due ≡ t
 quiet_of k a due quiet is = grind arith
 
 module _ (programs : List PlannedProgram) where
-  to_due : (k : Kept) (a : AuditedDevice) (due : Due) → is_quiet due ≡ true → IsAt programs Next k a → IsAt programs due k a
-  to_due k a due quiet is = grind arith
-
   one_tail : (b : Bool) (P Q : Type 0) → P → Q → either b P Q
   one_tail b P Q p q = grind arith
 
   pub one_of_all : (due : Due) → is_quiet due ≡ true → (d : ℕ) (ks : List Kept) (ds : List AuditedDevice) → AllKept programs ks ds
       → OneKept programs due d ks ds
   one_of_all due quiet d [] [] all = tt
-  one_of_all due quiet d (k ∷ ks) (a ∷ ds) all = grind (arith, one_of_all due quiet d ks ds all.1, to_due, one_tail)
+  one_of_all due quiet d (k ∷ ks) (a ∷ ds) all = grind (arith, one_of_all due quiet d ks ds all.1, one_tail)
   one_of_all due quiet d ks ds all = absurd all
 
   all_head : (due : Due) (quiet : is_quiet due ≡ true) (k : Kept) (a : AuditedDevice) (b : Bool) → IsAt programs (due_if b due) k a

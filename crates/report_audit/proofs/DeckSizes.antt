@@ -1,5 +1,5 @@
 -- A deck's devices have 1 to 64 cylinders.
-use Rattle.std.proofs.Common.{arith, ◌≡◌, ◌∷◌, [], ◌++◌, ℕ, List, Ok, subst}
+use Rattle.std.proofs.Common.{◌≡◌, ◌∷◌, [], ◌++◌, ℕ, List, Ok, subst}
 use Rattle.std.specs.Prelude.{All}
 use Rattle.std.proofs.lemmas.List.Elements.{All-nil, All-cons}
 use Rattle.deck_text.specs.declared.line.DeckWhy.TheVariants.{Words, Number}

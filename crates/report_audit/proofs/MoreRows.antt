@@ -1,5 +1,5 @@
 -- Audits of data of cache fast write, of a pair, and of paths beside each other, computed from the definitions alone.
-use Rattle.std.proofs.Common.{arith, ◌≡◌, ℕ, List, [], ◌∷◌, ◌++◌, refl}
+use Rattle.std.proofs.Common.{◌≡◌, ℕ, List, [], ◌∷◌, ◌++◌, refl}
 use Rattle.std.specs.Prelude.{replicate, map, slice_index}
 use Rattle.std.specs.List.{flat_map}
 use Rattle.ckd_types.specs.declared.channel.Ccw.{Ccw}
@@ -27,7 +27,7 @@ use Rattle.report_text.specs.declared.order.Order.{Order}
 use Rattle.report_text.specs.declared.order.Order.TheVariants as orders
 use Rattle.deck_audit.specs.declared.status.AuditStatus.TheVariants.{Yes, No}
 use Rattle.deck_audit.specs.declared.status.AuditWhy.TheVariants.{Place, History}
-use Rattle.report_audit.proofs.Rows.{audit, audit_all, judged_from, deck_of, word, read_zero, ended, accepted, over, checked, cut, io, tail, run_once}
+use Rattle.report_audit.proofs.Rows.{audit_all, deck_of, word, read_zero, ended, accepted, over, cut, io, tail, run_once}
 
 -- an update of record 0 of track 0, under a mode byte
 abbrev update : ℕ → List Ccw

@@ -1,25 +1,18 @@
 -- An auditor is at first that of no line.
-use Rattle.std.proofs.Common.{arith, ◌≡◌, ℕ, List, [], ◌∷◌, drop, false, refl, sym, ap, subst}
+use Rattle.std.proofs.Common.{arith, ◌≡◌, List, [], ◌∷◌}
 use Rattle.std.specs.Prelude.{map}
 use Rattle.deck_text.specs.declared.line.DeviceLine.{DeviceLine}
 use Rattle.deck_text.specs.declared.line.PlannedProgram.{PlannedProgram}
-use Rattle.plain_defs.specs.History.{no_history}
-use Rattle.report_audit.specs.Auditor.{AllKept, IsAt, IsAuditOf, kept_outline, new_kept}
+use Rattle.report_audit.specs.Auditor.{AllKept, IsAuditOf, kept_outline, new_kept}
 use Rattle.report_audit.specs.declared.auditor.Auditor.{Auditor}
-use Rattle.deck_audit.specs.declared.kept.Kept.{Kept}
 use Rattle.deck_audit.specs.declared.state.Due.TheVariants.{Next}
 use Rattle.deck_audit.specs.Device.{new_device}
-use Rattle.deck_audit.specs.Follows.{KeepsPaths}
-use Rattle.deck_audit.specs.Replay.{new_replayed}
 use Rattle.deck_audit.specs.State.{first_state}
-
-new_at : (programs : List PlannedProgram) (line : DeviceLine) → IsAt programs Next (new_kept line) (new_device programs line)
-new_at programs line = grind arith
 
 all_new : (programs : List PlannedProgram) (devices : List DeviceLine)
     → AllKept programs (map new_kept devices) (map (new_device programs) devices)
 all_new programs [] = tt
-all_new programs (line ∷ devices) = (new_at programs line, all_new programs devices)
+all_new programs (line ∷ devices) = grind (arith, all_new programs devices)
 
 pub new_audit : (z : Auditor) → z.devices.items ≡ map new_kept z.deck.devices → z.passed ≡ 0 → z.due ≡ Next
     → z.outlines.items ≡ map kept_outline z.devices.items → IsAuditOf z (first_state z.deck)

@@ -1,24 +1,18 @@
 -- The outlines that an auditor reads of its devices are those of the audited state.
-use Rattle.std.proofs.Common.{◌≡◌, ◌≤◌, ◌∷◌, [], ℕ, List, Option, Some, None, Bool, true, false, refl, arith, sym, ap, ◌∙◌}
-use Rattle.std.specs.Prelude.{◌==◌, map, nat_lt, length}
+use Rattle.std.proofs.Common.{◌≡◌, ◌≤◌, ◌∷◌, [], ℕ, List, Bool, refl, arith, ap, ◌∙◌}
+use Rattle.std.specs.Prelude.{◌==◌, map}
 use Rattle.deck_text.specs.declared.line.PlannedProgram.{PlannedProgram}
-use Rattle.plain_defs.specs.PlainState.{PlainState}
-use Rattle.report_audit.specs.Auditor.{AllKept, AreKept, IsAt, IsFor, OneKept, due_if, either, is_quiet, kept_outline, told_of}
+use Rattle.report_audit.specs.Auditor.{AllKept, IsAt, IsFor, OneKept, due_if, either, kept_outline, told_of}
 use Rattle.report_audit.specs.declared.auditor.Auditor.{Auditor}
 use Rattle.deck_audit.specs.declared.kept.Kept.{Kept}
 use Rattle.deck_audit.specs.declared.state.Due.{Due}
-use Rattle.deck_audit.specs.declared.state.Due.TheVariants.{Powers, Totals}
-use Rattle.deck_audit.specs.declared.state.HalfWrite.{HalfWrite}
-use Rattle.deck_audit.specs.declared.state.OpenProgram.{OpenProgram}
 use Rattle.deck_audit.specs.declared.state.Outline.{Outline}
 use Rattle.deck_audit.specs.Device as device
 use Rattle.deck_audit.specs.Device.{AuditedDevice, open_program}
 use Rattle.deck_audit.specs.Keeping.{IsKept}
 use Rattle.deck_audit.specs.Place.{IsDueOf}
-use Rattle.deck_audit.specs.Replay as replay
-use Rattle.deck_audit.specs.Replayed.{PendingState}
-use Rattle.deck_audit.specs.State.{AuditState, outlines, worker_number}
-use Rattle.deck_audit.proofs.Judges.{Runs, by_program}
+use Rattle.deck_audit.specs.State.{AuditState, outlines}
+use Rattle.deck_audit.proofs.Judges.{by_program}
 use Rattle.deck_audit.proofs.ReplayedEnds.{ends_as, runs_as}
 
 pub due_of_told : (n : ℕ) (due : Due) → told_of due ≤ n → IsDueOf n due

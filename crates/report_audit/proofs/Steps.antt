@@ -10,25 +10,18 @@ use Rattle.deck_text.specs.DeckLines.{DeckLines}
 use Rattle.deck_text.specs.Parse.{parsed}
 use Rattle.deck_text.specs.declared.line.DeckFault.{DeckFault}
 use Rattle.deck_audit.specs.declared.status.AuditStatus.{AuditStatus}
-use Rattle.deck_audit.specs.declared.status.AuditStatus.TheVariants.{No}
 use Rattle.deck_audit.specs.declared.status.AuditWhy.{AuditWhy}
-use Rattle.deck_audit.specs.declared.state.Due.{Due}
-use Rattle.deck_audit.specs.declared.state.Due.TheVariants as dues
 use Rattle.deck_audit.specs.State.{AuditState, first_state}
-use Rattle.deck_audit.specs.Verdict.{at_end, cut_lines, deck_part, ended_line, judged_lines, or_no, report_from}
+use Rattle.deck_audit.specs.Verdict.{cut_lines, ended_line}
 use Rattle.report_audit.proofs.LineLemmas.{whole_rest}
 use Rattle.report_audit.specs.declared.auditor.Auditor.{Auditor}
 use Rattle.report_audit.specs.Auditor.{IsAuditOf, is_nothing}
 use Rattle.report_audit.specs.Lines.{IsOneLine}
-use Rattle.report_audit.specs.Progress.{Progress, Comes, Comes_by, GoesOn, JudgedIn, Reporting, behind, behind_at, deck_behind, fault_answer}
+use Rattle.report_audit.specs.Progress.{Progress, Comes, Comes_by, GoesOn, JudgedIn, behind, behind_at, fault_answer}
 use Rattle.report_audit.specs.Progress.{is_reporting, report_end, some_auditor, status_of}
 use Rattle.report_audit.proofs.Cuts.{cut_ended, cut_last, found_behind, next}
 
 -- Before REPORT
-
-report_same : (k m i j : ℕ) (r : Result DeckLines DeckFault) (text rest : List ℕ) → k + (i + 2) ≡ m + (j + 2)
-    → drop (i + 1) (cut_lines text) ≡ drop (j + 1) (cut_lines rest) → deck_behind k r text (Some i) ≡ deck_behind m r rest (Some j)
-report_same k m i j r text rest number lines = grind arith
 
 deck_longer : (deck line part : List ℕ) → deck ++ ((line ++ 10 ∷ []) ++ part) ≡ ((deck ++ line) ++ 10 ∷ []) ++ part
 deck_longer deck line part = simp (append_assoc) refl
@@ -45,17 +38,7 @@ drop_longer n line lines = rw (add-one (n + 1)) refl
 
 behind_by : (k : ℕ) (deck line rest : List ℕ) → cut_lines (line ++ 10 ∷ rest) ≡ line ∷ cut_lines rest → (at : Option ℕ)
     → behind_at k deck (line ++ 10 ∷ rest) (option_map next at) ≡ behind_at (k + 1) ((deck ++ line) ++ 10 ∷ []) rest at
-behind_by k deck line rest cut at = grind (arith, text_longer, part_longer, deck_longer, report_same, drop_longer)
-
--- a line of the deck
-pub behind_line : (k : ℕ) (deck line rest : List ℕ) → IsOneLine line → bytes_eq line (codes "REPORT") ≡ false
-    → behind k deck (line ++ 10 ∷ rest) ≡ behind (k + 1) ((deck ++ line) ++ 10 ∷ []) rest
-behind_line k deck line rest one other = grind (arith, cut_ended, found_behind, behind_by)
-
--- its last one, where no line is REPORT
-pub behind_last : (k m : ℕ) (deck line : List ℕ) → IsOneLine line → 0 < length line → bytes_eq line (codes "REPORT") ≡ false
-    → behind k deck line ≡ behind m (deck ++ line) []
-behind_last k m deck line one some other = grind (arith, cut_last, found_behind, append-nil)
+behind_by k deck line rest cut at = grind (arith, text_longer, part_longer, deck_longer, drop_longer)
 
 -- Progress
 
@@ -67,11 +50,11 @@ comes_behind p text answer front deck comes = grind arith
 -- a line of the deck is put behind the others
 pub deck_goes : (p : Progress) (line rest : List ℕ) → p.status ≡ None → p.auditor ≡ None → IsOneLine line → bytes_eq line (codes "REPORT") ≡ false
     → GoesOn p (line ++ 10 ∷ rest) (record p { deck = (p.deck ++ line) ++ codes "\n"; lines = p.lines + 1 }) rest
-deck_goes p line rest front deck one other answer comes = grind (arith, comes_behind, behind_line)
+deck_goes p line rest front deck one other answer comes = grind (arith, comes_behind, cut_ended, found_behind, behind_by)
 
 pub deck_ends : (p : Progress) (line : List ℕ) → p.status ≡ None → p.auditor ≡ None → IsOneLine line → 0 < length line → bytes_eq line (codes "REPORT") ≡ false
     → GoesOn p line (record p { deck = (p.deck ++ line) ++ []; lines = p.lines + 1 }) []
-deck_ends p line front deck one some other answer comes = grind (arith, comes_behind, behind_last, append-nil)
+deck_ends p line front deck one some other answer comes = grind (arith, comes_behind, cut_last, found_behind, append-nil)
 
 -- REPORT: what follows is judged, or the deck's fault is told
 abbrev pub Opens : Progress → Progress → Result DeckLines DeckFault → Type 0
@@ -82,17 +65,12 @@ Opens p q (Err fault) = q.status ≡ Some (fault_answer fault)
 known_comes : (q : Progress) (text : List ℕ) (answer known : AuditStatus) → q.status ≡ Some known → answer ≡ known → Comes q text answer
 known_comes q text answer known is same = subst (λ (s : Option AuditStatus). Comes_by s q.auditor q text answer) (sym is) same
 
-opens_by : (p q : Progress) (r : Result DeckLines DeckFault) (text rest : List ℕ) (answer : AuditStatus) → Opens p q r
-    → drop 1 (cut_lines text) ≡ cut_lines rest
-    → answer ≡ deck_behind p.lines r text (Some 0) → Comes q rest answer
-opens_by p q r text rest answer opens cut is = grind (arith, known_comes)
-
 pub report_opens : (p q : Progress) (rest : List ℕ) → p.status ≡ None → p.auditor ≡ None → Opens p q (parsed p.deck)
     → GoesOn p (codes "REPORT" ++ 10 ∷ rest) q rest
-report_opens p q rest front deck opens answer comes = grind (arith, opens_by, comes_behind, append-nil)
+report_opens p q rest front deck opens answer comes = grind (arith, known_comes, comes_behind, append-nil)
 
 pub report_alone_opens : (p q : Progress) → p.status ≡ None → p.auditor ≡ None → Opens p q (parsed p.deck) → GoesOn p (codes "REPORT") q []
-report_alone_opens p q front deck opens answer comes = grind (arith, opens_by, comes_behind, append-nil)
+report_alone_opens p q front deck opens answer comes = grind (arith, known_comes, comes_behind, append-nil)
 
 -- the auditor of the deck that was read
 pub opens_deck : (p q : Progress) (text : List ℕ) (deck : DeckLines) (auditor : Auditor) → parsed text ≡ Ok deck → text ≡ p.deck → q.status ≡ None
@@ -102,15 +80,10 @@ opens_deck p q text deck auditor parses same front is count held =
 
 -- Behind REPORT
 
-judged_goes : (p q : Progress) (auditor : Auditor) (now : Option Auditor) (why : Option AuditWhy) (line text rest : List ℕ) (answer : AuditStatus)
-    → q.auditor ≡ now → q.lines ≡ p.lines + 1 → q.status ≡ status_of q.lines why → cut_lines text ≡ line ∷ cut_lines rest
-    → JudgedIn (Some auditor) now why line → Reporting p.lines auditor text answer → Comes q rest answer
-judged_goes p q auditor now why line text rest answer is count status cut judging reporting = grind (arith, known_comes)
-
 line_goes : (p q : Progress) (was now : Option Auditor) (why : Option AuditWhy) (line text rest : List ℕ) → some_auditor was ≡ true
     → p.status ≡ None → p.auditor ≡ was → q.auditor ≡ now → q.lines ≡ p.lines + 1 → q.status ≡ status_of q.lines why → cut_lines text ≡ line ∷ cut_lines rest
     → JudgedIn was now why line → GoesOn p text q rest
-line_goes p q was now why line text rest some front was_is is count status cut judging answer comes = grind (arith, judged_goes)
+line_goes p q was now why line text rest some front was_is is count status cut judging answer comes = grind (arith, known_comes)
 
 pub report_goes : (p q : Progress) (why : Option AuditWhy) (line rest : List ℕ) → is_reporting p ≡ true → p.status ≡ None → q.lines ≡ p.lines + 1
     → q.status ≡ status_of q.lines why → IsOneLine line → JudgedIn p.auditor q.auditor why line → GoesOn p (line ++ 10 ∷ rest) q rest
@@ -134,12 +107,9 @@ front_goes p q text rest end none some front count status judging =
 
 -- Where it ends
 
-ends_by : (n : ℕ) (due : Due) → at_end n due ≡ report_end n (is_nothing due)
-ends_by n due = grind arith
-
 pub report_over : (p : Progress) (auditor : Auditor) (finished : Bool) (answer : AuditStatus) → p.status ≡ None → p.auditor ≡ Some auditor
     → ((s : AuditState) → IsAuditOf auditor s → finished ≡ is_nothing s.due) → Comes p [] answer → answer ≡ report_end (p.lines + 1) finished
-report_over p auditor finished answer front is finishes comes = grind (arith, ends_by)
+report_over p auditor finished answer front is finishes comes = grind arith
 
 -- Pieces of a line
 
@@ -152,8 +122,4 @@ cut_at (b ∷ bytes) (suc i) lt is = ap (λ (l : List ℕ). b ∷ l) (cut_at byt
 pub piece_goes : (p q : Progress) (line next piece rest : List ℕ) (i : ℕ) → i < length piece → get_or piece i 0 ≡ 10
     → ((more : List ℕ) → GoesOn p (line ++ (take i piece ++ 10 ∷ more)) q (next ++ more))
     → GoesOn p (line ++ (piece ++ rest)) q (next ++ (take (length piece - (i + 1)) (drop (i + 1) piece) ++ rest))
-piece_goes p q line next piece rest i lt is goes answer comes =
-    let cut : piece ++ rest ≡ take i piece ++ 10 ∷ (drop (suc i) piece ++ rest) =
-    ap (λ (l : List ℕ). l ++ rest) (cut_at piece i lt is) ∙ append_assoc (take i piece) (10 ∷ drop (suc i) piece) rest in
-    subst (λ (l : List ℕ). Comes q (next ++ (l ++ rest)) answer) (whole_rest piece i)
-    (goes (drop (suc i) piece ++ rest) answer (subst (λ (l : List ℕ). Comes p (line ++ l) answer) cut comes))
+piece_goes p q line next piece rest i lt is goes answer comes = grind (arith, cut_at piece i lt is, append_assoc (take i piece) (10 ∷ drop (suc i) piece) rest, whole_rest piece i)

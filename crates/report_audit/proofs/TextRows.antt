@@ -1,5 +1,5 @@
 -- How a text is cut into its deck and its report, and what is told of a text without a report, computed from the definitions.
-use Rattle.std.proofs.Common.{arith, ◌≡◌, ℕ, List, [], ◌∷◌, ◌++◌, Some, None, refl}
+use Rattle.std.proofs.Common.{◌≡◌, ℕ, List, [], ◌∷◌, ◌++◌, Some, None, refl}
 use Rattle.std.specs.Prelude.{codes, map, Ok, Err}
 use Rattle.deck_text.specs.declared.line.DeckFault.TheVariants.{Refused}
 use Rattle.deck_text.specs.declared.line.DeckWhy.TheVariants.{Unfinished}

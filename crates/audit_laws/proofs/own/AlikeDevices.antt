@@ -9,15 +9,13 @@ use Rattle.deck_plan.specs.declared.event.EventLine.{EventLine}
 use Rattle.plain_defs.specs.declared.journal.Item.{Item}
 use Rattle.plain_defs.specs.History.{History, OpenEntry}
 use Rattle.plain_defs.specs.Journal.{Plans, program_of, replay}
-use Rattle.plain_defs.specs.Legal.{edit_at, is_of_path, next_edit}
+use Rattle.plain_defs.specs.Legal.{is_of_path, next_edit}
 use Rattle.plain_defs.specs.PlainState.{PlainState}
-use Rattle.plain_defs.specs.Program.{Part}
 use Rattle.report_text.specs.declared.answers.StartAnswer.TheVariants as start
 use Rattle.deck_audit.specs.declared.state.Did.{Did}
 use Rattle.deck_audit.specs.declared.state.Did.TheVariants.{CheckEnded, Ended}
 use Rattle.deck_audit.specs.declared.state.HalfWrite.{HalfWrite}
-use Rattle.deck_audit.specs.declared.state.OpenProgram.{OpenProgram}
-use Rattle.deck_audit.specs.Device.{AuditedDevice, edit_of, four_paths, free_answer, has_left, has_loose, held_answer, is_edit_legal, loosens, may_loosen, may_start, next_ordinal, part_of_open, plain_end, plain_end_at, start_answer, state_of}
+use Rattle.deck_audit.specs.Device.{AuditedDevice, edit_of, four_paths, free_answer, has_left, has_loose, held_answer, is_edit_legal, loosens, may_loosen, may_start, next_ordinal, part_of_open, plain_end, start_answer, state_of}
 use Rattle.deck_audit.specs.History.{given_back, is_legal, loss_line, runs_lent, without_power}
 use Rattle.deck_audit.specs.State.{is_event_over, over_by, worked}
 use Rattle.audit_laws.proofs.own.Pasts.{Going, IsRead, IsTidy, Past, bare, check_is_read, emptied_alike, end_is_read, going_of, past_of, power_is_read, untold}
@@ -49,25 +47,12 @@ abbrev pub state_in : PlainState → Option Going → PlainState
 state_in s (Some g) = g.part.state
 state_in s None = s
 
-abbrev program_in : Option Going → Option OpenProgram
-program_in (Some g) = Some (record { path = g.path; ordinal = g.ordinal })
-program_in None = None
-
 abbrev one_more : ℕ → ℕ → Item → ℕ
 one_more path n item = n + cond (is_of_path path item) 1 0
 
 count_bare : (path : ℕ) (l : List Item) (n : ℕ) → fold (one_more path) n l ≡ fold (one_more path) n (map bare l)
 count_bare path [] n = refl
 count_bare path (item ∷ l) n = grind (arith, count_bare path l)
-
-end_untold : (path : ℕ) (ccws : List Ccw) (p : Part) (next : Option ℕ) → plain_end_at path ccws p next ≡ plain_end_at path ccws (untold p) next
-end_untold path ccws p next = grind arith
-
-edit_untold : (path : ℕ) (ccws : List Ccw) (p : Part) (next : Option ℕ) → edit_at path ccws p next ≡ edit_at path ccws (untold p) next
-edit_untold path ccws p next = grind arith
-
-legal_untold : (p : Part) (e : Option TrackEdit) → is_edit_legal p e ≡ is_edit_legal (untold p) e
-legal_untold p e = grind arith
 
 abbrev pub words_in : Plans → Going → List Ccw
 words_in plans g = program_of plans g.path g.ordinal

@@ -1,5 +1,5 @@
 -- The devices that an event line of a deck that was read names are among the deck's.
-use Rattle.std.proofs.Common.{arith, ◌≡◌, ℕ, true, List, [], ◌∷◌, map, Option, Ok}
+use Rattle.std.proofs.Common.{arith, ◌≡◌, ℕ, true, List, [], ◌∷◌, map, Ok}
 use Rattle.std.specs.Prelude.{IsSome, Result}
 use Rattle.ckd_types.specs.declared.paths.Side.{Side}
 use Rattle.deck_plan.specs.declared.event.EventLine.{EventLine}
@@ -7,8 +7,8 @@ use Rattle.deck_plan.specs.declared.event.EventLine.TheVariants as events
 use Rattle.deck_text.specs.declared.line.DeckWhy.{DeckWhy}
 use Rattle.deck_text.specs.declared.line.DeviceLine.{DeviceLine}
 use Rattle.deck_text.specs.DeckLines.{DeckLines}
-use Rattle.deck_text.specs.Events.{device_words, fail_by}
-use Rattle.deck_text.specs.Forms.{then_read, is_declared, path_and_device}
+use Rattle.deck_text.specs.Events.{device_words}
+use Rattle.deck_text.specs.Forms.{then_read, is_declared}
 use Rattle.deck_text.specs.Parse.{parsed}
 use Rattle.deck_text.proofs.DeckAgain.{Each, EventOk}
 use Rattle.deck_text.proofs.FormsAgain.{went}
@@ -38,17 +38,8 @@ module _ (devices : List DeviceLine) where
       then_read (device_words devices words) (λ x. Ok (f x)) ≡ Ok (f d) → is_declared devices d ≡ true
   of_device f same words d h = grind (arith, went)
 
-  -- or of a path and a device
-  of_both : (f : ℕ → ℕ → EventLine) → ((p q x y : ℕ) → ◌≡◌ {A = Result EventLine DeckWhy} (Ok (f p x)) (Ok (f q y)) → x ≡ y) → (words : List (List ℕ))
-      (p d : ℕ) → then_read (path_and_device devices words) (λ at. Ok (f at.0 at.1)) ≡ Ok (f p d) → is_declared devices d ≡ true
-  of_both f same words p d h = grind (arith, went)
-
   volume_is : (x y : ℕ) (s t : Side) → ◌≡◌ {A = Result EventLine DeckWhy} (Ok (events.FailVolume x s)) (Ok (events.FailVolume y t)) → x ≡ y
   volume_is x y s t h = cc
-
-  of_volume : (w : Option (List ℕ × List ℕ × List ℕ)) (words : List (List ℕ)) (d : ℕ) (side : Side) →
-      fail_by w devices words ≡ Ok (events.FailVolume d side) → is_declared devices d ≡ true
-  of_volume w words d side h = grind (arith, went)
 
   of_event : (e : EventLine) → EventOk devices e → OfNamed (λ d. is_declared devices d ≡ true) e
   of_event e ok = grind (arith, went)

@@ -7,7 +7,7 @@ use Rattle.ckd_types.specs.Fixed.{Fixed}
 use Rattle.ckd_rules.specs.declared.stance.Stance.{Stance}
 use Rattle.plain_defs.specs.declared.journal.Act.TheVariants.{Harden}
 use Rattle.plain_defs.specs.Acknowledged.{EditTold}
-use Rattle.plain_defs.specs.History.{IsPlain, OpenEntry, acted, acted_in}
+use Rattle.plain_defs.specs.History.{IsPlain, OpenEntry, acted}
 use Rattle.plain_defs.specs.Journal.{Plans, replay}
 use Rattle.plain_defs.specs.Loose.{is_loose_there}
 use Rattle.plain_defs.specs.PlainState.{PlainState}
@@ -15,7 +15,7 @@ use Rattle.plain_defs.specs.Program.{Part}
 use Rattle.deck_audit.specs.declared.state.Did.{Did}
 use Rattle.deck_audit.specs.declared.state.Did.TheVariants.{CheckEnded, Ended, Halved, Worked}
 use Rattle.deck_plan.specs.declared.event.EventLine.{EventLine}
-use Rattle.deck_audit.specs.Device.{AuditedDevice, runs, state_of}
+use Rattle.deck_audit.specs.Device.{AuditedDevice, state_of}
 use Rattle.deck_audit.specs.History.{is_legal}
 use Rattle.deck_audit.specs.State.{is_event_over, over_by, worked}
 use Rattle.audit_laws.proofs.own.AlikeDevices.{Alike, Seen, edit_in, legal_by, seen, state_in}
@@ -63,12 +63,6 @@ module _ (plans : Plans) (k path ordinal : ℕ) (ends : List CommandEnd) (fixed 
   firm_first : (next : Option ℕ) → is_some (next_part plans (at next)).next ≡ true →
       next_part plans (record (at next) { part = firm_part k (at next).part }) ≡ firm_part k (next_part plans (at next))
   firm_first next more = grind (arith, untold, act_by)
-
-  firm_goes_on : (next : Option ℕ) → (firm_part k (at next).part).next ≡ next
-  firm_goes_on next = grind arith
-
-  loose_stays : (next : Option ℕ) → (next_part plans (at next)).state.loose ≡ state.loose
-  loose_stays next = grind arith
 
   legal_firmed : (next : Option ℕ) → legal_by plans (Some (at next)) ≡ true → legal_by plans (Some (record (at next) { part = firm_part k (at next).part })) ≡ true
   legal_firmed next legal = grind (arith, edit_in, fewer_loose, or_right)
@@ -146,10 +140,6 @@ module _ (a : AuditedDevice) where
 
     pub firm_goes : IsTidy a.history → GoesOn (seen a).past.running → GoesOn (seen (firmer k a)).past.running
     firm_goes tidy goes = subst GoesOn (sym (firm_program tidy)) (still_goes a.plans k (seen a).past.running goes)
-
-    -- neither idle nor at work because of it
-    firm_runs : (r : Option OpenEntry) → a.history.running ≡ r → runs (acted_in a.history (Harden k) r).running ≡ runs a.history.running
-    firm_runs r is = grind arith
 
     pub firm_over : (e : Option EventLine) (did : Did) → is_event_over e (firmer k a) did ≡ is_event_over e a did
     firm_over e did = grind arith

@@ -1,14 +1,13 @@
 -- FAIL STORE, which tells nothing of the devices, and FAIL VOLUME, which tells of each track that becomes firm.
-use Rattle.std.proofs.Common.{arith, ◌≡◌, ◌++◌, ℕ, Bool, true, false, not, List, [], ◌∷◌, map, Option, Some, None, refl, sym, ap, subst, ◌∙◌, if◌then◌else◌}
+use Rattle.std.proofs.Common.{arith, ◌≡◌, ◌++◌, ℕ, Bool, true, not, List, [], ◌∷◌, map, Option, Some, refl, sym, ap, subst, ◌∙◌, if◌then◌else◌}
 use Rattle.std.specs.Prelude.{IfSome, Ok, Err}
 use Rattle.ckd_types.specs.declared.paths.Side.{Side}
 use Rattle.deck_plan.specs.declared.event.EventLine.{EventLine}
 use Rattle.deck_plan.specs.declared.event.EventLine.TheVariants as wanted
 use Rattle.loss_model.specs.declared.Loss.TheVariants as losses
 use Rattle.plain_defs.specs.declared.journal.Act.{Act}
-use Rattle.plain_defs.specs.declared.journal.Act.TheVariants.{Loosen, Harden, CfwLost}
-use Rattle.plain_defs.specs.History.{IsPlain, acted}
-use Rattle.plain_defs.specs.Legal.{AreActs}
+use Rattle.plain_defs.specs.declared.journal.Act.TheVariants.{Harden}
+use Rattle.plain_defs.specs.History.{acted}
 use Rattle.plain_defs.specs.Loose.{is_loose_there}
 use Rattle.plain_defs.specs.PlainState.{PlainState}
 use Rattle.device_outside.specs.Interaction.{Done}
@@ -18,7 +17,6 @@ use Rattle.device_defs.specs.Device.{all_acted}
 use Rattle.device_defs.specs.Events.{lose}
 use Rattle.device_defs.specs.Marks.{MarksDevice}
 use Rattle.device_laws.proofs.Had.{Had, had_done, had_then, held}
-use Rattle.device_laws.proofs.HistoryActs.{acted_plain, acted_state, acts_first, acts_rest}
 use Rattle.device_laws.proofs.counted.Counting.{counts_done, counts_then, held_moved}
 use Rattle.device_laws.proofs.counted.EventCounts.{lose_counts}
 use Rattle.report_text.specs.declared.answers.LooseAnswer.TheVariants as loose

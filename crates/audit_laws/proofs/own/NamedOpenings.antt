@@ -7,20 +7,17 @@ use Rattle.ckd_types.specs.declared.channel.Ccw.{Ccw}
 use Rattle.ckd_types.specs.declared.command.Command.{Command}
 use Rattle.ckd_types.specs.declared.command.Control.{Control}
 use Rattle.ckd_types.specs.declared.command.DeviceCommand.{DeviceCommand}
-use Rattle.ckd_types.specs.declared.parameters.Domain.{Domain}
 use Rattle.ckd_types.specs.declared.sense.Sense.{Sense}
 use Rattle.ckd_types.specs.Commands.{command_of}
 use Rattle.ckd_types.specs.Fixed.{Fixed}
 use Rattle.ckd_types.specs.Parameters.{given}
-use Rattle.ckd_rules.specs.declared.order.Look.{Look}
 use Rattle.ckd_rules.specs.declared.order.CommandOrder.{CommandOrder}
-use Rattle.ckd_rules.specs.declared.stance.Place.{Place}
 use Rattle.ckd_rules.specs.declared.stance.Stance.{Stance}
 use Rattle.ckd_types.specs.declared.command.Command.TheVariants as commands
 use Rattle.ckd_rules.specs.declared.order.CommandOrder.TheVariants as orders
 use Rattle.ckd_rules.specs.Checks as C
 use Rattle.ckd_rules.specs.Checks.{device_act}
-use Rattle.ckd_rules.specs.Opening.{locating, look_from, opening_with, opening_of}
+use Rattle.ckd_rules.specs.Opening.{opening_with, opening_of}
 use Rattle.plain_defs.specs.Whole.{GivesBytes}
 use Rattle.report_reading.specs.Ranges.{AreBytes}
 use Rattle.audit_laws.proofs.own.GivenBytes.{IsByte, as_bytes, padded_are, padded_length}
@@ -45,12 +42,6 @@ either_in : (b : Bool) (x y : Result CommandOrder Sense) → ResultIn x → Resu
 either_in b x y h k = grind arith
 
 module _ (s : Stance) (c : Ccw) where
-  look_in : (look : Look) → OpeningIn (look_from s c look).opening
-  look_in look = grind arith
-
-  locating_in : (d : Domain) (o : Option Place) → OpeningIn (locating s c d o).opening
-  locating_in d o = grind arith
-
   opened_in : (r : Result CommandOrder Sense) → ResultIn r → OpeningIn (opening_with s c r).opening
   opened_in r h = grind arith
 

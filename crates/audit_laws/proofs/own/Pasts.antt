@@ -131,11 +131,6 @@ module _ (plans : Plans) (state : PlainState) (o : OpenEntry) (tidy : IsTidyOpen
 
 -- What each change makes of a past
 
--- a program starts
-abbrev pub started_past : ℕ → ℕ → Plans → Past → Past
-started_past path n plans x =
-    record x { running = Some (going_of plans x.state (record { path = path; ordinal = n; ends = []; acts = [] })) }
-
 -- Behind more items, where no program runs
 
 abbrev pub behind_items : Plans → Past → PlainState → Item → List Item → Past

@@ -1,16 +1,14 @@
 -- What a loss of power tells of a device: the program that it cuts, and the loss of its data of cache fast write.
-use Rattle.std.proofs.Common.{◌≡◌, ◌+◌, ◌==◌, ◌++◌, ℕ, Bool, true, false, not, List, [], ◌∷◌, map, length, Option, Some, None, get_or, refl, sym, ap, ◌∙◌, append_assoc, if◌then◌else◌, arith, inl, inr}
-use Rattle.std.specs.Prelude.{◌&&◌, ◌⊎◌}
+use Rattle.std.proofs.Common.{◌≡◌, ◌+◌, ◌++◌, ℕ, Bool, true, false, List, [], ◌∷◌, length, Option, Some, None, get_or, refl, sym, ap, ◌∙◌, append_assoc, if◌then◌else◌, arith, inl, inr}
+use Rattle.std.specs.Prelude.{◌⊎◌}
 use Rattle.std.proofs.lemmas.Bool.{eqb-true, true≢false}
 use Rattle.std.proofs.lemmas.List.{append-nil}
-use Rattle.plain_defs.specs.declared.journal.Act.{Act}
 use Rattle.plain_defs.specs.declared.journal.How.TheVariants.{Cut}
 use Rattle.plain_defs.specs.declared.journal.Item.{Item}
 use Rattle.plain_defs.specs.declared.journal.Item.TheVariants as items
 use Rattle.plain_defs.specs.History.{History, OpenEntry, entry_of, lost_power_in}
 use Rattle.plain_defs.specs.Journal.{program_of, replay}
 use Rattle.plain_defs.specs.Legal.{is_started}
-use Rattle.plain_defs.specs.Loose.{next_number}
 use Rattle.plain_defs.specs.PlainState.{PlainState}
 use Rattle.plain_defs.proofs.JournalLaws.{replay-append}
 use Rattle.device_defs.specs.Cutting.{counts_one_by}
@@ -24,22 +22,21 @@ use Rattle.device_laws.proofs.WaitingResets.{started-append}
 use Rattle.report_text.specs.declared.answers.HowOver.TheVariants as how
 use Rattle.report_text.specs.declared.line.ReportLine.{ReportLine}
 use Rattle.report_text.specs.declared.line.ReportLine.TheVariants as lines
-use Rattle.report_text.specs.Events.{loosed_line, program_over_lines}
+use Rattle.report_text.specs.Events.{program_over_lines}
 use Rattle.deck_audit.specs.declared.state.HalfWrite.TheVariants.{Closed}
 use Rattle.deck_audit.specs.Device as A
 use Rattle.deck_audit.specs.Device.{AuditedDevice, is_next_legal, state_of}
 use Rattle.deck_audit.specs.History.{cut_by_power, loss_line, without_power}
-use Rattle.run_report.specs.Beside.{loose_lines, loosed, over_lines, over_of}
+use Rattle.run_report.specs.Beside.{loose_lines, over_lines, over_of}
 use Rattle.run_report.proofs.ActsCome.{acts_both, same_program}
 use Rattle.run_report.proofs.OneDevice.{none_behind}
 use Rattle.run_report.proofs.Quiet.{behind_more}
-use Rattle.subsystem_defs.specs.Beside.{WentBack, acts_in, behind_first, has_power, loose_count, new_items, power_told, told_act}
+use Rattle.subsystem_defs.specs.Beside.{acts_in, has_power, new_items}
 use Rattle.subsystem_laws.proofs.PlainRuns.{Plainly}
 use Rattle.audit_laws.specs.Standing.{audited}
 use Rattle.audit_laws.proofs.own.CacheLines.{loss_told}
 use Rattle.audit_laws.proofs.own.KnownDevices.{Marked, count_is, has_is, known, none_counted, some_counted}
 use Rattle.audit_laws.proofs.own.LooseOnce.{StandOnce, items_once, part_once}
-use Rattle.audit_laws.proofs.own.LossDevices.{number_behind}
 use Rattle.audit_laws.proofs.own.PowerDevices.{IsOff}
 use Rattle.audit_laws.proofs.own.ResetDevices.{audited_by}
 use Rattle.audit_laws.proofs.own.Resets.{few_more}
@@ -85,46 +82,7 @@ module _ (x y : MarksDevice) (p : Plainly x) (f : Follows p.number p.empty y) (g
   loose_of : (middle : AuditedDevice) → middle.number ≡ x.store.device → Marked middle x.store → acts_in y.history ≡ acts_in x.history →
       (lost : Bool) → has_power (new_items x.history y.history) ≡ lost → (lost ≡ false → has_loose x.store ≡ false) →
       IsKept x y middle ⊎ IsGone x y middle
-  loose_of middle number k acts lost power firm = by_loose (has_loose x.store) refl where
-    told : loose_lines x y ≡ map loosed_line (map (loosed x.store.device) (power_told x.store y.store lost))
-    told =
-        ap (λ (l : List Act). map loosed_line (map (loosed x.store.device)
-        (map (told_act x.store y.store) l ++ power_told x.store y.store (has_power (new_items x.history y.history)))))
-        (ap (λ (l : List Act). behind_first (length (acts_in x.history)) l) acts ∙ none_behind (acts_in x.history))
-        ∙ ap (λ (b : Bool). map loosed_line (map (loosed x.store.device) (power_told x.store y.store b))) power
-
-    never : (b : Bool) → (b && false) ≡ false
-    never true = refl
-    never false = refl
-
-    told_if : (b : Bool) → (lost && not (loose_count x.store == 0)) ≡ b →
-        loose_lines x y ≡ map loosed_line (map (loosed x.store.device)
-        (if b then WentBack (loose_count x.store) y.store.number ∷ [] else []))
-    told_if b is =
-        told ∙ ap (λ (c : Bool). map loosed_line (map (loosed x.store.device)
-        (if c then WentBack (loose_count x.store) y.store.number ∷ [] else []))) is
-
-    must : (b : Bool) → lost ≡ b → has_loose x.store ≡ true → lost ≡ true
-    must true is some = is
-    must false is some = absurd (true≢false (sym some ∙ firm is))
-
-    by_loose : (b : Bool) → has_loose x.store ≡ b → IsKept x y middle ⊎ IsGone x y middle
-    by_loose true some =
-        inr (record {
-          line_is = told_if true
-              (ap (λ (c : Bool). c && not (loose_count x.store == 0)) (must lost refl some)
-              ∙ ap not (some_counted middle x.store k some))
-              ∙ ap (λ (l : ReportLine). l ∷ [])
-              (loss_told (state_of middle).number (loose_count x.store) (length (state_of middle).loose) y.store.number (count_is middle x.store k)
-              (g.data_number ∙ ap (λ (b : Bool). number_behind b x.store.number) some ∙ ap next_number (sym k.number_is)) x.store.device
-              ∙ ap (λ (n : ℕ). loss_line (record middle { number = n })) (sym number));
-          some = sym (has_is middle x.store k) ∙ some;
-        })
-    by_loose false none =
-        inl (record {
-          line_is = told_if false (ap (λ (c : Bool). lost && not c) (none_counted middle x.store k none) ∙ never lost);
-          none = sym (has_is middle x.store k) ∙ none;
-        })
+  loose_of middle number k acts lost power firm = grind (arith, none_behind, firm, some_counted, loss_told, count_is, has_is, none_counted)
 
   as_audited : (k : History) → y.history ≡ k → audited y ≡ record (audited x) { history = k; half = Closed }
   as_audited k is = grind (arith, audited_by)

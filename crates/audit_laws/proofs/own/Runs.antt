@@ -35,7 +35,6 @@ use Rattle.audit_laws.proofs.own.NextLines.{IsCalm, exactly_from, to_the_end, to
 use Rattle.audit_laws.proofs.own.Leading.{leads_on}
 use Rattle.audit_laws.proofs.own.Behind.{AllSo, IsBehind, deck_all_so}
 use Rattle.audit_laws.proofs.own.DeckEvents.{OfNamed}
-use Rattle.audit_laws.proofs.own.Ties.{numbers_in}
 use Rattle.audit_laws.proofs.own.FramesOwned.{frames_are_declared}
 use Rattle.audit_laws.proofs.own.OrderedLines.{ordered_leads}
 use Rattle.audit_laws.proofs.own.RunEnds.{run_is_over}
@@ -178,13 +177,7 @@ run_leads deck does framed =
 
 module _ (s : Subsystem) (numbers : List ℕ) (k : IsBehind numbers s) where
   line_does : (e : EventLine) → OfNamed (HasDevice s) e → LineDoes s e
-  line_does (events.Step d) has = step_goes_on s k.plain d has
-  line_does (events.Run d) has = run_goes_on s k.plain d has (run_is_over s k.plain d has)
-  line_does (events.Back d) has = back_goes_on s k.plain k.good d has
-  line_does (events.Settle d) has = settle_goes_on s k.plain k.good d has (settle_over s k.good k.sized d has)
-  line_does e has = grind (arith, ordered_leads, still_leads)
+  line_does e has = grind (arith, step_goes_on, run_goes_on, run_is_over, back_goes_on, settle_goes_on, settle_over, ordered_leads, still_leads)
 
 pub report_leads : (text : List ℕ) (deck : DeckLines) → parsed text ≡ Ok deck → WholeLeads (first_state deck) (report_lines (run_of deck))
-report_leads text deck read =
-    run_leads deck
-    (deck_all_so text deck read DoesPlainly (λ z e k served has. (line_does z (numbers_in deck) k e has, k.plain))) (frames_are_declared deck)
+report_leads text deck read = grind (arith, run_leads, deck_all_so, line_does, frames_are_declared)

@@ -1,7 +1,6 @@
 -- What the lines of a piece of work make of its device: acts of cache fast write, volume calls, the program that is over.
 use Rattle.std.proofs.Common.{arith, ◌≡◌, ◌==◌, ◌++◌, ℕ, Bool, true, false, not, List, [], ◌∷◌, map, Option, Some, None, refl, sym, ap, subst, ◌∙◌, append_assoc, if◌then◌else◌}
 use Rattle.std.specs.Prelude.{Result, ◌||◌, ◌&&◌, Ok, Err}
-use Rattle.std.proofs.lemmas.Bool.{eq-eqb}
 use Rattle.std.proofs.lemmas.List.{append-nil}
 use Rattle.deck_plan.specs.declared.event.EventLine.{EventLine}
 use Rattle.ckd_types.specs.declared.channel.CommandEnd.{CommandEnd}

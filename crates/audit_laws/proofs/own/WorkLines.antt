@@ -144,11 +144,7 @@ steps_lead : (k : ℕ) (s : Subsystem) → ArePlain s.mounted → (d : ℕ) → 
     LeadsTowards (stand s (wanted.Run d ∷ later)) (flat_map lines_of (steps k d s)) (stand (last_behind s (steps k d s))
     (left_run (last_behind s (steps k d s)) d later))
 unfolding L.steps
-steps_lead zero s plain d busy later = (
-  stand s (wanted.Run d ∷ later),
-  refl,
-  is_there (ap (λ (b : Bool). stand s (if b then wanted.Run d ∷ later else later)) (sym busy)),
-)
+steps_lead zero s plain d busy later = grind arith
 steps_lead (suc k) s plain d busy later =
     let h = happens s (events.Step d) in
     let m = busy_there (mounted_in s.mounted d) busy in
@@ -303,18 +299,14 @@ step_line_leads text deck read d has = step_goes_on (run_of deck).behind (plain_
 
 pub run_line_leads : (text : List ℕ) (deck : DeckLines) → parsed text ≡ Ok deck → (d : ℕ) → HasDevice (run_of deck).behind d →
     LineGoes (run_of deck).behind (wanted.Run d)
-run_line_leads text deck read d has =
-    let plain = plain_behind deck (read_served text deck read) in
-    run_goes_on (run_of deck).behind plain d has (run_is_over (run_of deck).behind plain d has)
+run_line_leads text deck read d has = grind (arith, plain_behind, read_served, run_goes_on, run_is_over)
 
 pub runs_end : (text : List ℕ) (deck : DeckLines) → parsed text ≡ Ok deck → (d : ℕ) → HasDevice (run_of deck).behind d → RunIsOver (run_of deck).behind d
 runs_end text deck read d has = run_is_over (run_of deck).behind (plain_behind deck (read_served text deck read)) d has
 
 pub back_line_leads : (text : List ℕ) (deck : DeckLines) → parsed text ≡ Ok deck → (d : ℕ) → HasDevice (run_of deck).behind d →
     LineGoes (run_of deck).behind (wanted.Back d)
-back_line_leads text deck read d has =
-    let served = read_served text deck read in
-    back_goes_on (run_of deck).behind (plain_behind deck served) (good_behind deck served) d has
+back_line_leads text deck read d has = grind (arith, read_served, back_goes_on, plain_behind, good_behind)
 
 pub settles_end : (text : List ℕ) (deck : DeckLines) → parsed text ≡ Ok deck → (d : ℕ) → HasDevice (run_of deck).behind d → SettleIsOver (run_of deck).behind d
 settles_end text deck read d has =
@@ -322,6 +314,4 @@ settles_end text deck read d has =
 
 pub settle_line_leads : (text : List ℕ) (deck : DeckLines) → parsed text ≡ Ok deck → (d : ℕ) → HasDevice (run_of deck).behind d →
     LineGoes (run_of deck).behind (wanted.Settle d)
-settle_line_leads text deck read d has =
-    let served = read_served text deck read in
-    settle_goes_on (run_of deck).behind (plain_behind deck served) (good_behind deck served) d has (settles_end text deck read d has)
+settle_line_leads text deck read d has = grind (arith, read_served, settle_goes_on, plain_behind, good_behind, settles_end)
