@@ -5,7 +5,6 @@ use Rattle.report_text.specs.declared.event.Happened.{Happened}
 use Rattle.report_text.specs.declared.event.Happened.TheVariants as happened
 use Rattle.report_text.specs.declared.event.Loosed.{Loosed}
 use Rattle.report_text.specs.declared.event.ProgramOver.{ProgramOver}
-use Rattle.report_text.specs.declared.event.RunEvent.{RunEvent}
 use Rattle.report_text.specs.declared.line.ReportLine.{ReportLine}
 use Rattle.report_text.specs.declared.line.ReportLine.TheVariants as lines
 use Rattle.report_text.specs.Ends.{data_lines, end_line, sense_lines}
@@ -44,8 +43,3 @@ io_lines reads writes = if (reads == 0) && (writes == 0) then [] else lines.Io r
 abbrev pub program_over_lines : Option ProgramOver → List ReportLine
 program_over_lines None = []
 program_over_lines (Some o) = lines.Over o.path o.device o.ordinal o.how ∷ []
-
-abbrev pub event_lines : RunEvent → List ReportLine
-event_lines e =
-    first_lines e.happened
-    ++ (map loosed_line e.loosed.now ++ (io_lines e.reads e.writes ++ (program_over_lines e.over ++ line_if (last_line e.happened))))
