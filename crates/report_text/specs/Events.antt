@@ -5,7 +5,6 @@ use Rattle.report_text.specs.declared.event.Happened.{Happened}
 use Rattle.report_text.specs.declared.event.Happened.TheVariants as happened
 use Rattle.report_text.specs.declared.event.Loosed.{Loosed}
 use Rattle.report_text.specs.declared.event.ProgramOver.{ProgramOver}
-use Rattle.report_text.specs.declared.event.RunEvent.{RunEvent}
 use Rattle.report_text.specs.declared.line.ReportLine.{ReportLine}
 use Rattle.report_text.specs.declared.line.ReportLine.TheVariants as lines
 use Rattle.report_text.specs.Ends.{data_lines, end_line, sense_lines}
@@ -44,6 +43,3 @@ program_over_lines (Some o) = lines.Over o.path o.device o.ordinal o.how ∷ []
 -- The order of them all: what is told first, what became of loose tracks, the volume calls, the program that is over, and what is told last
 abbrev pub in_order : Happened → List ReportLine → ℕ → ℕ → List ReportLine → List ReportLine
 in_order h loosed reads writes over = first_lines h ++ (loosed ++ (io_lines reads writes ++ (over ++ line_if (last_line h))))
-
-abbrev pub event_lines : RunEvent → List ReportLine
-event_lines e = in_order e.happened (map loosed_line e.loosed.now) e.reads e.writes (program_over_lines e.over)

@@ -57,7 +57,3 @@ kept_lines (k ∷ ks) bytes others = kept_line k bytes others ∷ kept_lines ks 
 pub record IsSpent (ks : List Kept) (bytes : List ℕ) (others : List ReportLine) : Type 0 where
   pub bytes_are : all_bytes ks ≡ length bytes
   pub others_are : all_others ks ≡ length others
-
--- with what has come since a list goes on
-abbrev pub IsFront : List ReportLine → List ReportLine → Type 0
-IsFront before now = take (length before) now ≡ before

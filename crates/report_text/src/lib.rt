@@ -19,7 +19,7 @@ mod words;
 pub use answers::{
     BackAnswer, DeviceTotals, HowOver, LooseAnswer, OrderAnswer, OrderRefusal, StartAnswer, SumOf,
 };
-pub use event::{Happened, Loosed, ProgramOver, RunEvent};
+pub use event::{Happened, Loosed, ProgramOver};
 pub use keyword::{Keyword, keyword_text};
 pub use line::{EndLine, ReportLine};
 pub use numbers::number_in;

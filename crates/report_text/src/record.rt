@@ -2,7 +2,7 @@ ghost use Rattle.std.specs.Prelude.{◌≡◌, ◌≤◌, ◌-◌, ◌++◌, ◌
 ghost use Rattle.ckd_outside.specs.Causes.{HasCause};
 ghost use Rattle.ckd_outside.specs.Texts.{Puts};
 ghost use Rattle.report_text.specs.Counting.{counts_of, is_accepted, is_check, is_end, is_start};
-ghost use Rattle.report_text.specs.Ends.{data_lines, end_line, lines_text, sense_lines};
+ghost use Rattle.report_text.specs.Ends.{end_line, lines_text};
 ghost use Rattle.report_text.specs.Lines.{line_text};
 ghost use Rattle.report_text.specs.Record.{IsSpent, byte_count, kept_line, kept_lines, other_count, whole_line};
 ghost use Rattle.report_text.specs.declared.line.ReportLine.TheVariants as lines;
@@ -91,34 +91,6 @@ impl RunRecord {
         self.bytes.reserve(MANY_BYTES + SENSE_BYTES)?;
         self.others.reserve(1)?;
         Ok(())
-    }
-
-    /// How many lines there are.
-    pub(crate) fn len(&self) -> usize
-        ensures { result ≡ length self.now }
-    {
-        self.kept.len()
-    }
-
-    /// Without the last line, if there is one.
-    fn pop_line(&mut self)
-        ensures { self.new ≡ take (length self.old - 1) self.old }
-    {
-        let Some(kept) = self.kept.pop() else { return };
-        let bytes = self.bytes.len() - byte_count(&kept);
-        let others = self.others.len() - other_count(&kept);
-        self.bytes.truncate(bytes);
-        self.others.truncate(others);
-    }
-
-    /// The first lines, so many of them.
-    pub(crate) fn cut(&mut self, n: usize)
-        ensures { self.new ≡ take n self.old }
-    {
-        let more = self.len().saturating_sub(n);
-        for _ in 0..more {
-            self.pop_line();
-        }
     }
 
     /// A line whose short form says all.
@@ -225,33 +197,11 @@ impl RunRecord {
         self.push_short(Kept::End(end_line(path, device, ordinal, end)))
     }
 
-    /// Where bytes were sent.
-    pub(crate) fn push_sent(&mut self, sent: Bytes) -> Result<(), NoMemory>
-        ensures did { OnOk result (self.new ≡ self.old ++ data_lines sent) }
-        ensures same { OnErr result (self.new ≡ self.old) }
-    {
-        if sent.is_empty() {
-            return Ok(());
-        }
-        self.push_owned(sent)
-    }
-
     /// What the lines come to.
     pub fn counts(&self) -> LineCounts
         ensures { result ≡ counts_of self.now }
     {
         count_kept(&self.kept, &self.bytes, &self.others)
-    }
-
-    /// Where the end has sense.
-    pub(crate) fn push_any_sense(&mut self, sense: &Option<Sense>) -> Result<(), NoMemory>
-        ensures did { OnOk result (self.new ≡ self.old ++ sense_lines sense.now) }
-        ensures same { OnErr result (self.new ≡ self.old) }
-    {
-        match sense {
-            Some(sense) => self.push_sense(sense),
-            None => Ok(()),
-        }
     }
 }
 

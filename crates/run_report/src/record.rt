@@ -1,4 +1,4 @@
-ghost use Rattle.std.specs.Prelude.{◌≡◌, ◌++◌, ◌∷◌, [], OnOk, map};
+ghost use Rattle.std.specs.Prelude.{◌≡◌, ◌++◌, ◌∷◌, [], IfOk, OnOk, map};
 ghost use Rattle.report_text.specs.declared.line.ReportLine.TheVariants as lines;
 ghost use Rattle.report_text.specs.Ends.{data_lines, sense_lines};
 ghost use Rattle.report_text.specs.Events.{ended_lines, first_lines, io_lines, last_line, line_if, loosed_line, program_over_lines};
@@ -131,38 +131,28 @@ fn record_calls(run: &mut RunRecord, calls: Calls) -> Result<(), NoMemory>
     })
 }
 
-/// What is told first of what happened.
-fn record_happened(run: &mut RunRecord, happened: &Happened) -> Result<(), NoMemory>
-    ensures { OnOk result (run.new ≡ run.old ++ first_lines happened.now) }
+/// Records what is told first of what happened, and answers what is told last.
+fn record_first_of(run: &mut RunRecord, happened: Happened) -> Result<Option<ReportLine>, NoMemory>
+    ensures first { OnOk result (run.new ≡ run.old ++ first_lines happened) }
+    ensures last { IfOk result (λ last. last ≡ last_line happened) }
 {
     match happened {
-        Happened::Started(path, device, answer) => {
-            run.push(ReportLine::Start(*path, *device, *answer))
-        }
+        Happened::First(line) => run.push(line)?,
         Happened::Ended(path, device, ordinal, end) => {
-            record_end(run, *path, *device, *ordinal, end)
+            record_end(run, path, device, ordinal, &end)?
         }
-        Happened::Half(path, device, track) => run.push(ReportLine::Half(*path, *device, *track)),
-        Happened::Back(device, answer) => run.push(ReportLine::Back(*device, *answer)),
-        Happened::StepIdle(device) => run.push(ReportLine::StepIdle(*device)),
-        Happened::RunIdle(device) => run.push(ReportLine::RunIdle(*device)),
-        Happened::Reset(_, _) | Happened::Ordered(_, _) => Ok(()),
+        Happened::Reset(path, device) => return Ok(Some(ReportLine::Reset(path, device))),
+        Happened::Ordered(order, answer) => return Ok(Some(ReportLine::Order(order, answer))),
     }
+    Ok(None)
 }
 
-/// What is told last of it.
-fn record_last(run: &mut RunRecord, happened: &Happened) -> Result<(), NoMemory>
-    ensures { OnOk result (run.new ≡ run.old ++ line_if (last_line happened.now)) }
+fn record_last(run: &mut RunRecord, last: Option<ReportLine>) -> Result<(), NoMemory>
+    ensures { OnOk result (run.new ≡ run.old ++ line_if last) }
 {
-    match happened {
-        Happened::Reset(path, device) => run.push(ReportLine::Reset(*path, *device)),
-        Happened::Ordered(order, answer) => run.push(ReportLine::Order(*order, *answer)),
-        Happened::Started(_, _, _)
-        | Happened::Ended(_, _, _, _)
-        | Happened::Half(_, _, _)
-        | Happened::Back(_, _)
-        | Happened::StepIdle(_)
-        | Happened::RunIdle(_) => Ok(()),
+    match last {
+        Some(line) => run.push(line),
+        None => Ok(()),
     }
 }
 
@@ -176,11 +166,11 @@ pub fn record_event(
 ) -> Result<(), NoMemory>
     ensures { OnOk result (run.new ≡ run.old ++ lines_by device happened gained.now.acts.now calls.reads calls.writes gained.now.items.now) }
 {
-    record_happened(run, &happened)?;
+    let last = record_first_of(run, happened)?;
     record_acts(run, gained.acts)?;
     record_calls(run, calls)?;
     record_over(run, &over_of(device, gained.items))?;
-    record_last(run, &happened)?;
+    record_last(run, last)?;
     Ok(())
 }
 
