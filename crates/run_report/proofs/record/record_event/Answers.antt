@@ -10,6 +10,6 @@ returns c =
       c.over_of.ensures,
       c.in_ok-record_calls.ensures,
       c.in_ok-record_acts.ensures,
-      c.in_ok-record_first_of.ensures.last,
-      c.in_ok-record_first_of.ensures.first,
+      c.in_ok-last.ensures.last,
+      c.in_ok-last.ensures.first,
     ) (simp append_assoc refl)
