@@ -2,9 +2,9 @@ ghost use Rattle.std.specs.Prelude.{◌≡◌, ◌*◌, nat_lt};
 ghost use Rattle.device_core.specs.State.{device_of};
 ghost use Rattle.device_defs.specs.Store.{tracks_of};
 
-use crate::programs::{Kept, write};
-use crate::subsystem::subsystem;
-use ckd_types::{DeviceNo, NoMemory, PathNo, TrackNo};
+use crate::subsystem::{subsystem, word};
+use ckd_ccw::Program;
+use ckd_types::{Ccw, DeviceNo, NoMemory, PathNo, TrackNo};
 use deck_plan::PathPlans;
 use device_core::Device;
 use device_outside::{Keep, MemVolume};
@@ -14,6 +14,12 @@ use std::test::Fail;
 use subsystem_core::Subsystem;
 use subsystem_defs::Event;
 use track_image::TrackImage;
+
+/// Define extent over cylinder 0, where data may be updated.
+const EXTENT: &[u8] = &[0x80, 0xc0, 0x10, 0, 0, 0, 0, 0, 0, 0, 0, 0, 0, 0, 0, 0x0e];
+
+/// Locate record: one write of record 0 of track 0.
+const LOCATE: &[u8] = &[1, 0, 0, 1, 0, 0, 0, 0, 0, 0, 0, 0, 0, 0, 0, 0];
 
 /// What is written.
 const DATA: &[u8] = &[1, 2, 3, 4, 5, 6, 7, 8];
@@ -48,8 +54,12 @@ impl Keep<TrackImage> for CountedTells {
 /// Path 1 has one program: it writes record 0 of track 0.
 fn plans(alloc: Global) -> Result<PathPlans, Fail> {
     let path = PathNo::new(1).ok_or("path")?;
+    let mut words = Vec::new(alloc);
+    words.push(word(alloc, 0x63, Ccw::CHAIN, 16, EXTENT)?)?;
+    words.push(word(alloc, 0x47, Ccw::CHAIN, 16, LOCATE)?)?;
+    words.push(word(alloc, 0x85, 0, 8, DATA)?)?;
     let mut plans = PathPlans::new(alloc);
-    plans.push(path, write(alloc, Kept::Fast, 0, DATA)?)?;
+    plans.push(path, Program::new(words).ok().ok_or("word")?)?;
     Ok(plans)
 }
 

@@ -1,5 +1,5 @@
-use crate::programs::read;
-use ckd_types::{DeviceNo, Geometry, PathNo, TrackNo};
+use ckd_ccw::Program;
+use ckd_types::{Bytes, Ccw, DeviceNo, Geometry, PathNo, TrackNo};
 use deck_plan::PathPlans;
 use device_core::Device;
 use device_outside::MemVolume;
@@ -10,11 +10,41 @@ use std::test::Fail;
 use subsystem_core::Subsystem;
 use subsystem_defs::Event;
 
+/// Define extent over cylinder 0.
+const EXTENT: &[u8] = &[0x40, 0xc0, 0x10, 0, 0, 0, 0, 0, 0, 0, 0, 0, 0, 0, 0, 0x0e];
+
+/// Locate record: one read of record 0 of track 0.
+const LOCATE: &[u8] = &[6, 0, 0, 1, 0, 0, 0, 0, 0, 0, 0, 0, 0, 0, 0, 0];
+
+pub(crate) fn word(
+    alloc: Global,
+    command: u8,
+    flags: u8,
+    count: u16,
+    given: &[u8],
+) -> Result<Ccw, Fail> {
+    Ok(Ccw {
+        command,
+        flags,
+        count,
+        given: Bytes::from_slice(alloc, given)?,
+    })
+}
+
+/// It reads record 0 of track 0.
+fn read(alloc: Global) -> Result<Program, Fail> {
+    let mut words = Vec::new(alloc);
+    words.push(word(alloc, 0x63, Ccw::CHAIN, 16, EXTENT)?)?;
+    words.push(word(alloc, 0x47, Ccw::CHAIN, 16, LOCATE)?)?;
+    words.push(word(alloc, 0x06, 0, 8, &[])?)?;
+    Ok(Program::new(words).ok().ok_or("word")?)
+}
+
 /// Path 1 has one program.
 fn plans(alloc: Global) -> Result<PathPlans, Fail> {
     let path = PathNo::new(1).ok_or("path")?;
     let mut plans = PathPlans::new(alloc);
-    plans.push(path, read(alloc, 0)?)?;
+    plans.push(path, read(alloc)?)?;
     Ok(plans)
 }
 
@@ -126,7 +156,7 @@ fn plan_run_forget(
     if !sub.has_device(d) {
         return Err("device".into());
     }
-    if sub.plan(d, path, read(alloc, 0)?).is_err() {
+    if sub.plan(d, path, read(alloc)?).is_err() {
         return Err("not planned".into());
     }
     let events = [

@@ -1,7 +1,7 @@
 use Rattle.std.proofs.lemmas.List.Elements.{All-push}
 use Rattle.path_workers.specs.Keeping.{IsReady}
-use Rattle.run_trials.specs.Small.{IsSmall}
-use Rattle.run_trials.proofs.runs.devices_of.Goals as goal
+use Rattle.path_trials.specs.Small.{IsSmall}
+use Rattle.path_trials.proofs.runs.devices_of.Goals as goal
 
 pub loop-plan-preserved : goal.loop-plan-preserved
 loop-plan-preserved c =

@@ -1,11 +1,10 @@
 ghost use Rattle.std.specs.Prelude.{All, IfOk};
-ghost use Rattle.run_trials.specs.Small.{IsNew};
+ghost use Rattle.path_trials.specs.Small.{IsNew};
 
 use crate::orders::{Orders, order};
-use crate::programs::{Kept, read, write};
-use crate::runs::{device, devices_of, run};
+use crate::runs::{device, devices_of, run, word};
 use ckd_ccw::Program;
-use ckd_types::{DeviceNo, PathNo, TrackNo};
+use ckd_types::{Ccw, DeviceNo, PathNo, TrackNo};
 use deck_plan::PathPlans;
 use device_core::Device;
 use device_outside::{Gate, MemVolume, NoGate, Port, SlotGrant};
@@ -17,8 +16,59 @@ use std::test::Fail;
 use std::thread::yield_now;
 use subsystem_defs::Event;
 
-/// What is written.
-const DATA: &[u8] = &[1, 2, 3, 4, 5, 6, 7, 8];
+/// How the data of a program that writes are kept: by the second byte of its extent.
+#[derive(Clone, Copy)]
+enum Kept {
+    /// In cache and store.
+    Fast,
+    /// On the volume.
+    Through,
+    /// In the cache alone.
+    Loose,
+}
+
+/// Define extent over cylinder 0, for reads (40) or writes (80).
+fn extent(mask: u8, attributes: u8) -> [u8; 16] {
+    let mut bytes = [0; 16];
+    bytes[0] = mask;
+    bytes[1] = attributes;
+    bytes[2] = 0x10;
+    bytes[15] = 0x0e;
+    bytes
+}
+
+/// Locate record: one read (6) or write (1) of record 0 of a track of cylinder 0.
+fn locate(operation: u8, track: u8) -> [u8; 16] {
+    let mut bytes = [0; 16];
+    bytes[0] = operation;
+    bytes[3] = 1;
+    bytes[7] = track;
+    bytes[11] = track;
+    bytes
+}
+
+/// A program that writes eight bytes to record 0 of a track.
+fn write(alloc: Global, kept: Kept, track: u8) -> Result<Program, Fail> {
+    let attributes = match kept {
+        Kept::Fast => 0xc0,
+        Kept::Through => 0xc1,
+        Kept::Loose => 0xc2,
+    };
+    let mut words = Vec::new(alloc);
+    words.push(word(alloc, 0x63, Ccw::CHAIN, 16, &extent(0x80, attributes))?)?;
+    words.push(word(alloc, 0x47, Ccw::CHAIN, 16, &locate(1, track))?)?;
+    words.push(word(alloc, 0x85, 0, 8, &[1, 2, 3, 4, 5, 6, 7, 8])?)?;
+    Ok(Program::new(words).ok().ok_or("a word is bad")?)
+}
+
+/// A program that reads them.
+fn read(alloc: Global, track: u8) -> Result<Program, Fail> {
+    let mut words = Vec::new(alloc);
+    words.push(word(alloc, 0x63, Ccw::CHAIN, 16, &extent(0x40, 0xc0))?)?;
+    words.push(word(alloc, 0x47, Ccw::CHAIN, 16, &locate(6, track))?)?;
+    words.push(word(alloc, 0x06, 0, 8, &[])?)?;
+    Ok(Program::new(words).ok().ok_or("a word is bad")?)
+}
 
 fn add(plans: &mut PathPlans, path: PathNo, program: Program) -> Result<(), Fail> {
     if plans.len(path) < 65535 {
@@ -30,18 +80,10 @@ fn add(plans: &mut PathPlans, path: PathNo, program: Program) -> Result<(), Fail
 /// One round of a path: a fast write, a read of another track, a write through, and one of the cache alone.
 fn add_round(alloc: Global, plans: &mut PathPlans, path: PathNo, round: u8) -> Result<(), Fail> {
     let track = round % 15;
-    add(plans, path, write(alloc, Kept::Fast, track, DATA)?)?;
+    add(plans, path, write(alloc, Kept::Fast, track)?)?;
     add(plans, path, read(alloc, 14 - track)?)?;
-    add(
-        plans,
-        path,
-        write(alloc, Kept::Through, (track + 5) % 15, DATA)?,
-    )?;
-    add(
-        plans,
-        path,
-        write(alloc, Kept::Loose, (track + 9) % 15, DATA)?,
-    )?;
+    add(plans, path, write(alloc, Kept::Through, (track + 5) % 15)?)?;
+    add(plans, path, write(alloc, Kept::Loose, (track + 9) % 15)?)?;
     add(plans, path, read(alloc, track)?)
 }
 
@@ -184,7 +226,7 @@ fn a_fast_write_gets_a_slot(rt: HostRuntime) -> Result<(), Fail> {
     let alloc = rt.alloc();
     let mut plans = PathPlans::new(alloc);
     let path = PathNo::new(1).ok_or("path")?;
-    add(&mut plans, path, write(alloc, Kept::Fast, 3, DATA)?)?;
+    add(&mut plans, path, write(alloc, Kept::Fast, 3)?)?;
     let mut devices = Vec::new(alloc);
     devices.push(device(alloc, 0, plans, &[1])?)?;
     let ran = run(&rt, alloc, devices, Vec::new(alloc), &NoGate)?;

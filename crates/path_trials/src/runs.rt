@@ -1,11 +1,11 @@
 ghost use Rattle.std.specs.Prelude.{◌≡◌, All, IfOk, false, is_some};
 ghost use Rattle.device_core.specs.State.{device_of};
 ghost use Rattle.path_workers.specs.Keeping.{IsReady};
-ghost use Rattle.run_trials.specs.Small.{IsNew, IsSmall};
+ghost use Rattle.path_trials.specs.Small.{IsNew, IsSmall};
 
 use crate::EmptyVolume;
-use crate::programs::read;
-use ckd_types::{DeviceNo, Geometry, PathNo, TrackNo};
+use ckd_ccw::Program;
+use ckd_types::{Bytes, Ccw, DeviceNo, Geometry, PathNo, TrackNo};
 use deck_plan::PathPlans;
 use device_core::Device;
 use device_outside::{Gate, MemVolume, NoGate};
@@ -16,12 +16,42 @@ use std::sync::Wait;
 use std::test::Fail;
 use std::thread::Threads;
 
+/// Define extent over cylinder 0.
+const EXTENT: &[u8] = &[0x40, 0xc0, 0x10, 0, 0, 0, 0, 0, 0, 0, 0, 0, 0, 0, 0, 0x0e];
+
+/// Locate record: one read of record 0 of track 0.
+const READ_ZERO: &[u8] = &[6, 0, 0, 1, 0, 0, 0, 0, 0, 0, 0, 0, 0, 0, 0, 0];
+
+pub(crate) fn word(
+    alloc: Global,
+    command: u8,
+    flags: u8,
+    count: u16,
+    given: &[u8],
+) -> Result<Ccw, Fail> {
+    Ok(Ccw {
+        command,
+        flags,
+        count,
+        given: Bytes::from_slice(alloc, given)?,
+    })
+}
+
+/// A program that reads eight bytes.
+fn read(alloc: Global) -> Result<Program, Fail> {
+    let mut words = Vec::new(alloc);
+    words.push(word(alloc, 0x63, Ccw::CHAIN, 16, EXTENT)?)?;
+    words.push(word(alloc, 0x47, Ccw::CHAIN, 16, READ_ZERO)?)?;
+    words.push(word(alloc, 0x06, 0, 8, &[])?)?;
+    Ok(Program::new(words).ok().ok_or("a word is bad")?)
+}
+
 /// Plans in which a path has so many programs that read.
 fn add_reads(alloc: Global, plans: &mut PathPlans, path: u8, programs: usize) -> Result<(), Fail> {
     let path = PathNo::new(path).ok_or("path")?;
     for _ in 0..programs {
         if plans.len(path) < 65535 {
-            plans.push(path, read(alloc, 0)?)?;
+            plans.push(path, read(alloc)?)?;
         }
     }
     Ok(())

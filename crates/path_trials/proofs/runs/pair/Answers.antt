@@ -1,7 +1,7 @@
 use Rattle.std.proofs.Common.{◌∙◌, ap}
 use Rattle.device_laws.specs.Whole.{WholeDevice}
 use Rattle.path_workers.specs.Keeping.{are_fresh}
-use Rattle.run_trials.proofs.runs.pair.Goals as goal
+use Rattle.path_trials.proofs.runs.pair.Goals as goal
 
 pub returns-clause-ready : goal.returns-clause-ready
 returns-clause-ready c =

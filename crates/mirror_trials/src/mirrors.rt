@@ -2,8 +2,8 @@ ghost use Rattle.std.specs.Prelude.{◌≡◌, ◌*◌, length, nat_lt};
 ghost use Rattle.device_core.specs.State.{device_of};
 ghost use Rattle.device_defs.specs.Store.{tracks_of};
 
-use crate::programs::{Kept, write};
-use ckd_types::{DeviceNo, Geometry, PathNo, TrackNo};
+use ckd_ccw::Program;
+use ckd_types::{Bytes, Ccw, DeviceNo, Geometry, PathNo, TrackNo};
 use deck_plan::PathPlans;
 use device_core::Device;
 use device_outside::MemVolume;
@@ -15,6 +15,12 @@ use subsystem_core::Subsystem;
 use subsystem_defs::Event;
 use track_looks::{Look, look};
 
+/// Define extent over cylinder 0, where data may be updated.
+const EXTENT: &[u8] = &[0x80, 0xc0, 0x10, 0, 0, 0, 0, 0, 0, 0, 0, 0, 0, 0, 0, 0x0e];
+
+/// Locate record: one write of record 0 of track 0.
+const LOCATE: &[u8] = &[1, 0, 0, 1, 0, 0, 0, 0, 0, 0, 0, 0, 0, 0, 0, 0];
+
 /// What is written first, and then.
 const FIRST: &[u8] = &[0x11, 0x22, 0x33, 0x44, 0x55, 0x66, 0x77, 0x88];
 
@@ -22,6 +28,24 @@ const SECOND: &[u8] = &[0xaa, 0xbb, 0xcc, 0xdd, 0xee, 0xff, 0x00, 0x11];
 
 /// More calls than it takes to copy all tracks twice, with a fault between.
 const MOST_CALLS: u32 = 40;
+
+fn word(alloc: Global, command: u8, flags: u8, count: u16, given: &[u8]) -> Result<Ccw, Fail> {
+    Ok(Ccw {
+        command,
+        flags,
+        count,
+        given: Bytes::from_slice(alloc, given)?,
+    })
+}
+
+/// It writes record 0 of track 0.
+fn program(alloc: Global, data: &[u8]) -> Result<Program, Fail> {
+    let mut words = Vec::new(alloc);
+    words.push(word(alloc, 0x63, Ccw::CHAIN, 16, EXTENT)?)?;
+    words.push(word(alloc, 0x47, Ccw::CHAIN, 16, LOCATE)?)?;
+    words.push(word(alloc, 0x85, 0, 8, data)?)?;
+    Ok(Program::new(words).ok().ok_or("word")?)
+}
 
 /// Devices, of which one has this volume of a cylinder, and on path 1 two programs.
 pub(crate) fn devices_on(
@@ -33,8 +57,8 @@ pub(crate) fn devices_on(
 {
     let path = PathNo::new(1).ok_or("path")?;
     let mut plans = PathPlans::new(alloc);
-    plans.push(path, write(alloc, Kept::Fast, 0, FIRST)?)?;
-    plans.push(path, write(alloc, Kept::Fast, 0, SECOND)?)?;
+    plans.push(path, program(alloc, FIRST)?)?;
+    plans.push(path, program(alloc, SECOND)?)?;
     let Ok(device) = Device::open(alloc, d, Geometry::D3390, 1, volume, plans) else {
         return Err("memory".into());
     };

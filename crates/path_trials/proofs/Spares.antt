@@ -15,8 +15,8 @@ use Rattle.path_workers.proofs.Spares.{new_spare}
 use Rattle.path_threads.specs.declared.orders.Order.{Order}
 use Rattle.path_threads.specs.declared.orders.Order.TheVariants.{Event, Replace}
 use Rattle.path_threads.specs.Places.{IsSpareAmong}
-use Rattle.run_trials.specs.declared.maker.EmptyVolume.{EmptyVolume}
-use Rattle.run_trials.specs.Small.{IsNew, IsSmall, makes_empty}
+use Rattle.path_trials.specs.declared.maker.EmptyVolume.{EmptyVolume}
+use Rattle.path_trials.specs.Small.{IsNew, IsSmall, makes_empty}
 
 module _ {G : Ghosts Disk} (seen : (v : Disk) → G.view v ≡ disk_view v) where
   -- a new volume of as many cylinders

@@ -1,5 +1,5 @@
 ghost use Rattle.std.specs.Prelude.{All, OnOk};
-ghost use Rattle.run_trials.specs.Small.{IsNew};
+ghost use Rattle.path_trials.specs.Small.{IsNew};
 
 use crate::EmptyVolume;
 use crate::runs::{devices_of, pair_of, reads, run};

@@ -1,6 +1,6 @@
 use Rattle.std.proofs.Common.{refl}
-use Rattle.run_trials.proofs.Spares.{all_spare}
-use Rattle.run_trials.proofs.runs.run.Goals as goal
+use Rattle.path_trials.proofs.Spares.{all_spare}
+use Rattle.path_trials.proofs.runs.run.Goals as goal
 
 pub run_paths-requires-clause-spare : goal.run_paths-requires-clause-spare
 run_paths-requires-clause-spare g c =

@@ -6,7 +6,7 @@ use Rattle.device_core.specs.declared.device.Device.{Device}
 use Rattle.device_core.specs.State.{device_of}
 use Rattle.path_threads.specs.declared.orders.Order.{Order}
 use Rattle.path_threads.specs.declared.orders.Order.TheVariants.{Event, Replace}
-use Rattle.run_trials.specs.declared.maker.EmptyVolume.{EmptyVolume}
+use Rattle.path_trials.specs.declared.maker.EmptyVolume.{EmptyVolume}
 
 abbrev pub IsSmall : {V : Type 0} {G : Ghosts V} → Device V G → Type 0
 IsSmall d = (device_of d).store.cylinders ≡ 1
