@@ -8,6 +8,7 @@ import tempfile
 
 HERE = os.path.dirname(os.path.abspath(__file__))
 OURS = os.environ.get("PROGRAM", os.path.join(HERE, "../crates/deck_runner/out/deck_runner"))
+PATHS = os.environ.get("PATHS_PROGRAM", os.path.join(HERE, "../crates/path_runner/out/path_runner"))
 AUDIT = os.environ.get("AUDIT_PROGRAM", os.path.join(HERE, "../crates/audit_runner/out/audit_runner"))
 # A copy or a fill by one instruction (rep movsb) is counted once a byte, whereas a loop of wide ones isn't: so no program uses the first.
 THRESHOLDS = "glibc.cpu.x86_rep_movsb_threshold=1000000000:glibc.cpu.x86_rep_stosb_threshold=1000000000"

@@ -13,7 +13,7 @@ from path_decks import deck_of
 
 replay, *words = sys.argv[1:]
 TOP = os.path.dirname(os.path.dirname(os.path.dirname(os.path.abspath(__file__))))
-PROGRAM = os.path.abspath(os.environ.get("PROGRAM", f"{TOP}/crates/deck_runner/out/deck_runner"))
+PROGRAM = os.path.abspath(os.environ.get("PATHS_PROGRAM", f"{TOP}/crates/path_runner/out/path_runner"))
 LIMIT = float(os.environ.get("LIMIT", "20"))
 KEPT = os.environ.get("KEEP", "/tmp/stress_paths")
 PROCESSORS = sorted(os.sched_getaffinity(0))

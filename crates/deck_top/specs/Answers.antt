@@ -75,7 +75,7 @@ is_run (Some Run) = true
 is_run (Some (Generate seed count)) = true
 
 unfoldable pub usage_text : List ℕ
-usage_text = codes "usage: run, check, paths, generate SEED COUNT\n"
+usage_text = codes "usage: run, check, generate SEED COUNT\n"
 
 -- what a task writes for a deck on volumes that hold these tracks first: the report of its run, its canonical text, or the summary of its run
 abbrev pub output_on : Firsts → Task → DeckLines → List ℕ
@@ -149,9 +149,12 @@ pub record Reads (before after : Option (List ℕ)) (text : List ℕ) : Type 0 w
 abbrev pub IsWritten : Status → Status → List ℕ → Option (List ℕ) → Option (List ℕ) → Type 0
 IsWritten status done text held holds = ((status ≡ done) × Appends held holds text) ⊎ ((status ≡ WriteFault) × AppendsFront held holds text)
 
--- what the answer to words that name no task says
+-- what the answer to words that name no task says: the program's usage
+abbrev pub TellsUsageBy : List ℕ → Status → Option (List ℕ) → Option (List ℕ) → Option (List ℕ) → Option (List ℕ) → Type 0
+TellsUsageBy usage status before after held holds = (after ≡ before) × IsWritten status Usage usage held holds
+
 abbrev pub TellsUsage : Status → Option (List ℕ) → Option (List ℕ) → Option (List ℕ) → Option (List ℕ) → Type 0
-TellsUsage status before after held holds = (after ≡ before) × IsWritten status Usage usage_text held holds
+TellsUsage status before after held holds = TellsUsageBy usage_text status before after held holds
 
 -- What an answer says, by which texts are the output of a task for a deck, and what is so of a deck that ran
 

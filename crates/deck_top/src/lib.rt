@@ -16,4 +16,4 @@ pub use bay::VolumeBay;
 pub use handing::hand_out_all;
 pub use serve::deck_top_on;
 pub use task::Task;
-pub use top::{MOST_READ, Status, code_of, deck_top, words_of, write_usage};
+pub use top::{MOST_READ, Status, code_of, deck_top, words_of};

@@ -69,11 +69,11 @@ pub fn words_of<'a>(arguments: Option<&'a [&'a str]>) -> &'a [&'a str]
 
 /// Writes which words there are.
 #[tactic(auto, unfolding(crate::specs::Answers::usage_text))]
-pub fn write_usage<K: Sink>(sink: &mut K) -> Result<(), Failed>
+pub(crate) fn write_usage<K: Sink>(sink: &mut K) -> Result<(), Failed>
     ensures bytes { Writes (K.held sink.old) (K.held sink.new) result usage_text }
     ensures cause { HasCause (K.faults sink.old) (K.faults sink.new) result }
 {
-    let pieces = [Piece::Text(b"usage: run, check, paths, generate SEED COUNT\n")];
+    let pieces = [Piece::Text(b"usage: run, check, generate SEED COUNT\n")];
     write_line(sink, &pieces)
 }
 

@@ -1,8 +1,8 @@
 -- The usage is no read fault.
 use Rattle.std.proofs.Common.{◌≡◌, ◌⊎◌, inl, inr, ℕ, List, Option}
+use Rattle.path_top.specs.Answers.{TellsUsage}
 use Rattle.deck_top.specs.declared.top.Status.{Status}
 use Rattle.deck_top.specs.declared.top.Status.TheVariants.{ReadFault, WriteFault, Usage}
-use Rattle.deck_top.specs.Answers.{TellsUsage}
 
 usage_read : (status : Status) {X Y Z : Type 0} → ((status ≡ Usage) × X) ⊎ ((status ≡ WriteFault) × Y) → status ≡ ReadFault → Z
 usage_read status (inl u) is = absurd (let e = u.0 in cc)

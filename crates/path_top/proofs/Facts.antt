@@ -10,11 +10,10 @@ use Rattle.deck_text.specs.Parse.{parsed}
 use Rattle.deck_text.specs.Texts.{limit_text, refused_text}
 use Rattle.deck_top.specs.declared.top.Status.{Status}
 use Rattle.deck_top.specs.declared.top.Status.TheVariants.{Reported, DeckRefused, ReadFault, WriteFault, Limit, NoMemory, Usage}
-use Rattle.deck_top.specs.Answers.{TellsUsage}
 use Rattle.deck_top.specs.Facts.{OfDeck, IsRefused}
 use Rattle.deck_top.proofs.Complete.{refused}
 use Rattle.subsystem_defs.specs.Decks.{Firsts}
-use Rattle.path_top.specs.Answers.{IsHistoryText, IsHistoryTextOn, IsTextBy, TellsBy}
+use Rattle.path_top.specs.Answers.{IsHistoryText, IsHistoryTextOn, IsTextBy, TellsBy, TellsUsage}
 use Rattle.path_top.specs.Facts.{WritesFront, WritesHistoryOn}
 
 module _ (IsOf : DeckLines → List ℕ → Type 0) (before after held holds : Option (List ℕ)) where

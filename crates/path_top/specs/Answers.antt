@@ -11,7 +11,7 @@ use Rattle.deck_text.specs.Texts.{limit_text, refused_text}
 use Rattle.deck_run.specs.Opening.{numbers_in}
 use Rattle.deck_top.specs.declared.top.Status.{Status}
 use Rattle.deck_top.specs.declared.top.Status.TheVariants.{Reported, DeckRefused, ReadFault, WriteFault, Limit, NoMemory}
-use Rattle.deck_top.specs.Answers.{Reads, TellsUsage}
+use Rattle.deck_top.specs.Answers.{Reads, TellsUsageBy}
 use Rattle.deck_top.specs.Bays.{BayView, HandsOut}
 use Rattle.device_defs.specs.Pledge.{are_kept}
 use Rattle.report_text.specs.declared.line.ReportLine.{ReportLine}
@@ -25,6 +25,13 @@ use Rattle.path_top.specs.Told.{DeviceTold, history_lines}
 unfoldable pub is_paths : List (List ℕ) → Bool
 is_paths (word ∷ []) = bytes_eq word (codes "paths")
 is_paths _ = false
+
+unfoldable pub usage_text : List ℕ
+usage_text = codes "usage: paths\n"
+
+-- what the answer to other words says
+abbrev pub TellsUsage : Status → Option (List ℕ) → Option (List ℕ) → Option (List ℕ) → Option (List ℕ) → Type 0
+TellsUsage status before after held holds = TellsUsageBy usage_text status before after held holds
 
 -- a text that is a history of a deck, on volumes that held these tracks first
 pub record IsHistoryTextOn (firsts : Firsts) (deck : DeckLines) (text : List ℕ) : Type 0 where

@@ -1,24 +1,27 @@
 //! What the words ask for, over a bay whose volumes may hold something.
 
 ghost use Rattle.std.specs.Prelude.{◌≡◌, ◌≢◌, ◌⊎◌, ◌≤◌, Ok, Some, false, true, map, List, Option, ℕ};
-ghost use Rattle.ckd_outside.specs.Causes.{Rose};
+ghost use Rattle.ckd_outside.specs.Causes.{HasCause, Rose};
+ghost use Rattle.ckd_outside.specs.Texts.{Writes};
 ghost use Rattle.deck_text.specs.DeckLines.{DeckLines};
 ghost use Rattle.deck_text.specs.Parse.{parsed};
 ghost use Rattle.deck_text.specs.Texts.{limit_text, refused_text};
 ghost use Rattle.deck_run.specs.Opening.{WasRead};
-ghost use Rattle.deck_top.specs.Answers.{IsWritten, TellsUsage, WriteFaultHasCause};
+ghost use Rattle.deck_top.specs.Answers.{IsWritten, WriteFaultHasCause};
 ghost use Rattle.deck_top.specs.Bays.{HandsOut};
 ghost use Rattle.deck_top.specs.Facts.{OfDeck};
 ghost use Rattle.subsystem_defs.specs.Decks.{Firsts};
-ghost use Rattle.path_top.specs.Answers.{TellsDeckOn, TellsOn, TellsReadOn, is_paths};
+ghost use Rattle.path_top.specs.Answers.{TellsDeckOn, TellsOn, TellsReadOn, TellsUsage, is_paths, usage_text};
 ghost use Rattle.path_top.specs.Facts.{WritesHistoryOn};
 
 use crate::history::write_history;
 use crate::run::{run_deck, unused_of};
-use ckd_outside::{ReadError, Sink, Source, read_up_to};
+use ckd_outside::{Failed, Piece, ReadError, Sink, Source, read_up_to};
 use deck_run::EmptyVolume;
-use deck_text::{Deck, DeckFault, DeckWhy, Which, read_deck, write_limit, write_refused};
-use deck_top::{MOST_READ, Status, VolumeBay, write_usage};
+use deck_text::{
+    Deck, DeckFault, DeckWhy, Which, read_deck, write_limit, write_line, write_refused,
+};
+use deck_top::{MOST_READ, Status, VolumeBay};
 use device_outside::Gate;
 use std::alloc::Global;
 use std::sync::Wait;
@@ -127,6 +130,16 @@ fn is_paths(words: &[&str]) -> bool
         [word] => word.as_bytes() == b"paths".as_slice(),
         _ => false,
     }
+}
+
+/// Writes which word there is.
+#[tactic(auto, unfolding(crate::specs::Answers::usage_text))]
+fn write_usage<K: Sink>(sink: &mut K) -> Result<(), Failed>
+    ensures bytes { Writes (K.held sink.old) (K.held sink.new) result usage_text }
+    ensures cause { HasCause (K.faults sink.old) (K.faults sink.new) result }
+{
+    let pieces = [Piece::Text(b"usage: paths\n")];
+    write_line(sink, &pieces)
 }
 
 fn usage<K: Sink>(sink: &mut K) -> Status

@@ -3,9 +3,9 @@ ghost use Rattle.ckd_outside.specs.Causes.{Rose};
 ghost use Rattle.deck_text.specs.DeckLines.{DeckLines};
 ghost use Rattle.deck_text.specs.Parse.{parsed};
 ghost use Rattle.deck_text.specs.Texts.{limit_text, refused_text};
-ghost use Rattle.path_top.specs.Answers.{Tells, is_paths};
+ghost use Rattle.path_top.specs.Answers.{Tells, TellsUsage, is_paths};
 ghost use Rattle.path_top.specs.Facts.{WritesFront, WritesHistory};
-ghost use Rattle.deck_top.specs.Answers.{TellsUsage, WriteFaultHasCause};
+ghost use Rattle.deck_top.specs.Answers.{WriteFaultHasCause};
 ghost use Rattle.deck_top.specs.Facts.{IsRefused, OfDeck};
 
 use crate::serve::paths_top_on;
