@@ -57,8 +57,8 @@ use Rattle.subsystem_defs.specs.Lines.{Run, Logged, logged, asked_by, is_busy, m
 use Rattle.subsystem_defs.specs.Subsystem as runs
 use Rattle.subsystem_defs.specs.Subsystem.{Mounted, devices_of, mounted_in, number_of}
 use Rattle.subsystem_laws.specs.WholeStood.{Stood, number_at, IsMounted, is_mounted, AreMountedBy, one_more}
-use Rattle.deck_run.specs.Going.{StepsLeft, LinesLeft}
-use Rattle.deck_run.specs.Recording.{all_lines, lines_when}
+use Rattle.deck_run.specs.Going.{GoesOn, IsRecorded, LinesLeft, StepsLeft}
+use Rattle.deck_run.specs.Recording.{all_lines}
 use Rattle.deck_run.proofs.Recorded.{asked_lines}
 use Rattle.deck_run.proofs.Telling.{all_known, none_tells}
 use Rattle.deck_run.specs.Opening.{is_open_line, are_open_lines}
@@ -200,21 +200,20 @@ module _ {V : Type 0} {G : Ghosts V} where
 
   pub step_done : (s z : Subsystem V G) (told more : List ReportLine) (d k : ℕ) (last : runs.Subsystem) (all : List ReportLine) → k < 8193 →
       ((run : runs.Subsystem) → StandsAs s run → true ≡ is_busy (mounted_in run.mounted d)) →
-      ((run : runs.Subsystem) → StandsAs s run → StandsAs z (happens run (events.Step d)).behind) →
-      ((run : runs.Subsystem) → StandsAs s run → more ≡ told ++ lines_when run (events.Step d) (work_told d (running_in (devices_of run) d) (did.First (told_lines.RunIdle d))
-      (happens run (events.Step d)).end)) →
+      IsRecorded s z told more (events.Step d)
+      (λ (run : runs.Subsystem). work_told d (running_in (devices_of run) d) (did.First (told_lines.RunIdle d)) (happens run (events.Step d)).end) →
       StepsLeft s told d (8193 - k) last all → StepsLeft z more d (8193 - (k + 1)) last all
-  step_done s z told more d k last all within busy goes tells left =
+  step_done s z told more d k last all within busy done left =
       let n = 8193 - (k + 1) in
       let o = happens left.now (events.Step d) in
       let one : steps (8193 - k) d left.now ≡ logged (Run d) o ∷ steps n d o.behind =
       ap (λ (m : ℕ). steps m d left.now) (one_fewer k within) ∙ steps_one n d left.now (sym (busy left.now left.stands)) in
       record {
         now = o.behind;
-        stands = goes left.now left.stands;
+        stands = done.stands left.now left.stands;
         rest = ap (λ (ts : List Logged). last_behind left.now ts) (sym one) ∙ left.rest;
         lines = further told more (lines_of (logged (Run d) o)) (all_lines (steps n d o.behind)) all
-            (tells left.now left.stands ∙ ap (λ (l : List ReportLine). told ++ l) (sym (asked_lines left.now (events.Step d) (Run d) tt)))
+            (done.lines left.now left.stands ∙ ap (λ (l : List ReportLine). told ++ l) (sym (asked_lines left.now (events.Step d) (Run d) tt)))
             (ap (λ (ts : List Logged). told ++ all_lines ts) (sym one) ∙ left.lines);
       }
 
@@ -222,6 +221,10 @@ module _ {V : Type 0} {G : Ghosts V} where
   pub record IsOver (s : Subsystem V G) (told : List ReportLine) (last : runs.Subsystem) (all : List ReportLine) : Type 0 where
     pub stands : StandsAs s last
     pub lines : told ≡ all
+
+  pub over_goes : (s z : Subsystem V G) (told more : List ReportLine) (events : runs.Subsystem → List Logged) →
+      ((run : runs.Subsystem) → StandsAs s run → IsOver z more (last_behind run (events run)) (told ++ all_lines (events run))) → GoesOn s z told more events
+  over_goes s z told more events over = record { stands = λ run all. (over run all).stands; lines = λ run all. (over run all).lines }
 
   pub steps_over : (s : Subsystem V G) (told : List ReportLine) (d n : ℕ) (last : runs.Subsystem) (all : List ReportLine) →
       ((run : runs.Subsystem) → StandsAs s run → false ≡ is_busy (mounted_in run.mounted d)) → StepsLeft s told d n last all → IsOver s told last all
@@ -273,10 +276,9 @@ module _ {V : Type 0} {G : Ghosts V} where
 
   pub line_done : (s z : Subsystem V G) (told more : List ReportLine) (es : List EventLine) (i : ℕ) (e : EventLine) (last : runs.Subsystem)
       (all : List ReportLine) → i < length es → e ≡ get_or es i e →
-      ((run : runs.Subsystem) → StandsAs s run → StandsAs z (last_behind run (line_logged run (asked_by e)))) →
-      ((run : runs.Subsystem) → StandsAs s run → more ≡ told ++ all_lines (line_logged run (asked_by e))) → LinesLeft s told (drop i es) last all →
+      GoesOn s z told more (λ (run : runs.Subsystem). line_logged run (asked_by e)) → LinesLeft s told (drop i es) last all →
       LinesLeft z more (drop (i + 1) es) last all
-  line_done s z told more es i e last all within is goes tells left =
+  line_done s z told more es i e last all within is goes left =
       let next = subst (λ (l : List EventLine). LinesLeft s told l last all) (at_hand es e i within is) left in
       let ts = line_logged next.now (asked_by e) in
       let behind = last_behind next.now ts in
@@ -284,9 +286,9 @@ module _ {V : Type 0} {G : Ghosts V} where
       let one : run_lines (map asked_by (e ∷ drop (suc i) es)) next.now ≡ ts ++ us = lines_one e (drop (suc i) es) next.now in
       let done : LinesLeft z more (drop (suc i) es) last all = record {
         now = behind;
-        stands = goes next.now next.stands;
+        stands = goes.stands next.now next.stands;
         rest = sym (behind_both next.now ts us) ∙ ap (λ (l : List Logged). last_behind next.now l) (sym one) ∙ next.rest;
-        lines = further told more (all_lines ts) (all_lines us) all (tells next.now next.stands)
+        lines = further told more (all_lines ts) (all_lines us) all (goes.lines next.now next.stands)
             (ap (λ (l : List ReportLine). told ++ l) (sym (all_both ts us) ∙ ap all_lines (sym one)) ∙ next.lines);
       } in
       rw add-one done

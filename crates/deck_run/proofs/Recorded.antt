@@ -28,10 +28,12 @@ use Rattle.subsystem_defs.specs.Beside.{behind_first}
 use Rattle.subsystem_defs.specs.Deeds.{Ends, Becomes, Asks, Each, Repairs, Lends}
 use Rattle.subsystem_defs.specs.Happening as H
 use Rattle.subsystem_defs.specs.Happening.{MarksDeed, Talk, asks, happens, happens_by}
-use Rattle.subsystem_defs.specs.Lines.{Asked, Logged, Once, logged}
+use Rattle.subsystem_defs.specs.Lines as L
+use Rattle.subsystem_defs.specs.Lines.{Asked, Logged, Once, line_logged, logged}
 use Rattle.subsystem_defs.specs.Subsystem as runs
 use Rattle.subsystem_defs.specs.Subsystem.{Mounted, devices_of, mounted_in}
 use Rattle.deck_run.specs.declared.pass.Passed.{Passed}
+use Rattle.deck_run.specs.Going.{GoesOn, IsRecorded}
 use Rattle.deck_run.specs.Passing.{HasPassed, lines_passed}
 use Rattle.deck_run.specs.Recording.{all_lines, lines_when}
 use Rattle.deck_run.specs.Seen.{start_end}
@@ -72,9 +74,18 @@ asked_lines s e (Once events.Power) calm = absurd calm
 asked_lines s e asked calm = work_lines_by s e (λ (z : runs.Subsystem). told_as (devices_of z) (happens s e).end asked)
 
 -- one event alone
-pub event_tells : (s : runs.Subsystem) (e : Event) → IsNoPower (Once e) → (told more : List ReportLine) →
+event_tells : (s : runs.Subsystem) (e : Event) → IsNoPower (Once e) → (told more : List ReportLine) →
     more ≡ told ++ lines_when s e (told_as (devices_of s) (happens s e).end (Once e)) → more ≡ told ++ all_lines (logged (Once e) (happens s e) ∷ [])
 event_tells s e calm told more is = is ∙ ap (λ (l : List ReportLine). told ++ l) (sym (append-nil _ ∙ asked_lines s e (Once e) calm))
+
+pub event_goes : {V : Type 0} {G : Ghosts V} (s z : Subsystem V G) (told more : List ReportLine) (e : Event) → IsNoPower (Once e) →
+    IsRecorded s z told more e (λ (run : runs.Subsystem). told_as (devices_of run) (happens run e).end (Once e)) →
+    GoesOn s z told more (λ (run : runs.Subsystem). line_logged run (Once e))
+unfolding L.line_logged
+event_goes s z told more e calm done = record {
+  stands = done.stands;
+  lines = λ run all. event_tells run e calm told more (done.lines run all);
+}
 
 -- by its lines
 pub one_tells : (x : Logged) (told more : List ReportLine) → more ≡ told ++ lines_of x → more ≡ told ++ all_lines (x ∷ [])

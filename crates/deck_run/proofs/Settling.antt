@@ -15,8 +15,8 @@ use Rattle.subsystem_defs.specs.Lines as lines
 use Rattle.subsystem_defs.specs.Lines.{Settle, Logged, logged, backs, is_settled, last_behind}
 use Rattle.subsystem_defs.specs.Subsystem as runs
 use Rattle.subsystem_defs.specs.Subsystem.{devices_of}
-use Rattle.deck_run.specs.Going.{BacksLeft}
-use Rattle.deck_run.specs.Recording.{all_lines, lines_when}
+use Rattle.deck_run.specs.Going.{BacksLeft, IsRecorded}
+use Rattle.deck_run.specs.Recording.{all_lines}
 use Rattle.deck_run.specs.Standing.{StandsAs}
 use Rattle.deck_run.proofs.Going.{IsOver, further, no_further}
 use Rattle.deck_run.proofs.Recorded.{asked_lines}
@@ -41,39 +41,35 @@ module _ {V : Type 0} {G : Ghosts V} where
 
   module _ (s z : Subsystem V G) (told more : List ReportLine) (d k : ℕ) (last : runs.Subsystem) (all : List ReportLine) (within : k < 2946) where
     pub back_done : ((run : runs.Subsystem) → StandsAs s run → false ≡ is_settled (happens run (events.Back d)).end) →
-        ((run : runs.Subsystem) → StandsAs s run → StandsAs z (happens run (events.Back d)).behind) →
-        ((run : runs.Subsystem) → StandsAs s run → more
-        ≡ told ++ lines_when run (events.Back d) (work_told d (running_in (devices_of run) d) (did.First (told_lines.Back d Nothing))
-        (happens run (events.Back d)).end)) →
+        IsRecorded s z told more (events.Back d)
+        (λ (run : runs.Subsystem). work_told d (running_in (devices_of run) d) (did.First (told_lines.Back d Nothing)) (happens run (events.Back d)).end) →
         BacksLeft s told d (2946 - k) last all → BacksLeft z more d (2946 - (k + 1)) last all
-    back_done goes_on goes tells left =
+    back_done goes_on done left =
         let n = 2946 - (k + 1) in
         let o = happens left.now (events.Back d) in
         let one : backs (2946 - k) d left.now ≡ logged (Settle d) o ∷ backs n d o.behind =
         ap (λ (m : ℕ). backs m d left.now) (one_fewer k within) ∙ backs_one n d left.now false (goes_on left.now left.stands) in
         record {
           now = o.behind;
-          stands = goes left.now left.stands;
+          stands = done.stands left.now left.stands;
           rest = ap (λ (ts : List Logged). last_behind left.now ts) (sym one) ∙ left.rest;
           lines = further told more (lines_of (logged (Settle d) o)) (all_lines (backs n d o.behind)) all
-              (tells left.now left.stands ∙ ap (λ (l : List ReportLine). told ++ l) (sym (asked_lines left.now (events.Back d) (Settle d) tt)))
+              (done.lines left.now left.stands ∙ ap (λ (l : List ReportLine). told ++ l) (sym (asked_lines left.now (events.Back d) (Settle d) tt)))
               (ap (λ (ts : List Logged). told ++ all_lines ts) (sym one) ∙ left.lines);
         }
 
     pub back_over : ((run : runs.Subsystem) → StandsAs s run → true ≡ is_settled (happens run (events.Back d)).end) →
-        ((run : runs.Subsystem) → StandsAs s run → StandsAs z (happens run (events.Back d)).behind) →
-        ((run : runs.Subsystem) → StandsAs s run → more
-        ≡ told ++ lines_when run (events.Back d) (work_told d (running_in (devices_of run) d) (did.First (told_lines.Back d Nothing))
-        (happens run (events.Back d)).end)) →
+        IsRecorded s z told more (events.Back d)
+        (λ (run : runs.Subsystem). work_told d (running_in (devices_of run) d) (did.First (told_lines.Back d Nothing)) (happens run (events.Back d)).end) →
         BacksLeft s told d (2946 - k) last all → IsOver z more last all
-    back_over settled goes tells left =
+    back_over settled done left =
         let n = 2946 - (k + 1) in
         let o = happens left.now (events.Back d) in
         let one : backs (2946 - k) d left.now ≡ logged (Settle d) o ∷ [] =
         ap (λ (m : ℕ). backs m d left.now) (one_fewer k within) ∙ backs_one n d left.now true (settled left.now left.stands) in
         record {
-          stands = subst (StandsAs z) (ap (λ (ts : List Logged). last_behind left.now ts) (sym one) ∙ left.rest) (goes left.now left.stands);
-          lines = tells left.now left.stands ∙ ap (λ (l : List ReportLine). told ++ l) (sym (asked_lines left.now (events.Back d) (Settle d) tt))
+          stands = subst (StandsAs z) (ap (λ (ts : List Logged). last_behind left.now ts) (sym one) ∙ left.rest) (done.stands left.now left.stands);
+          lines = done.lines left.now left.stands ∙ ap (λ (l : List ReportLine). told ++ l) (sym (asked_lines left.now (events.Back d) (Settle d) tt))
               ∙ ap (λ (l : List ReportLine). told ++ l) (sym (append-nil (lines_of (logged (Settle d) o))))
               ∙ ap (λ (ts : List Logged). told ++ all_lines ts) (sym one) ∙ left.lines;
         }

@@ -1,4 +1,4 @@
-ghost use Rattle.std.specs.Prelude.{◌≡◌, ◌++◌, IfOk, OnOk, true};
+ghost use Rattle.std.specs.Prelude.{◌≡◌, IfOk, OnOk, true};
 ghost use Rattle.report_text.specs.declared.answers.BackAnswer.TheVariants as none;
 ghost use Rattle.report_text.specs.declared.event.Happened.TheVariants as did;
 ghost use Rattle.report_text.specs.declared.line.ReportLine.TheVariants as lines;
@@ -7,12 +7,12 @@ ghost use Rattle.run_report.specs.Events.{running_in, work_told};
 ghost use Rattle.subsystem_core.specs.Devices.{numbers_of};
 ghost use Rattle.subsystem_core.specs.Frames.{HasDevice, HasSameDevices};
 ghost use Rattle.subsystem_defs.specs.Happening.{happens};
-ghost use Rattle.subsystem_defs.specs.Lines.{asked_by, backs, is_busy, is_settled, last_behind, line_logged, run_logged, steps};
+ghost use Rattle.subsystem_defs.specs.Lines.{asked_by, backs, is_busy, is_settled, line_logged, run_logged, steps};
 ghost use Rattle.subsystem_defs.specs.Subsystem as runs;
 ghost use Rattle.subsystem_defs.specs.Subsystem.{devices_of};
+ghost use Rattle.deck_run.specs.Going.{GoesOn, IsRecorded};
 ghost use Rattle.deck_run.specs.Opening.{is_open_line};
 ghost use Rattle.deck_run.specs.Owning.{AreOwn, IsOpenOn};
-ghost use Rattle.deck_run.specs.Recording.{all_lines, lines_when};
 ghost use Rattle.deck_run.specs.Seen.{idle_told};
 ghost use Rattle.deck_run.specs.Standing.{StandsAs};
 
@@ -49,10 +49,8 @@ fn step<V: Volume>(
     requires own { AreOwn sub.old.devices.items }
     ensures numbers { HasSameDevices sub.old sub.new }
     ensures own { OnOk result (AreOwn sub.new.devices.items) }
-    ensures stands { (run : runs.Subsystem) → StandsAs sub.old run → OnOk result (StandsAs sub.new (happens run (Event.Step d)).behind) }
-    ensures lines { (run : runs.Subsystem) → StandsAs sub.old run
-        → OnOk result (report.new ≡ report.old ++ lines_when run (Event.Step d)
-        (work_told d (running_in (devices_of run) d) (idle_told d asker) (happens run (Event.Step d)).end)) }
+    ensures recorded { OnOk result (IsRecorded sub.old sub.new report.old report.new (Event.Step d)
+        (λ run. work_told d (running_in (devices_of run) d) (idle_told d asker) (happens run (Event.Step d)).end)) }
 {
     report.make_room()?;
     let passed = pass(alloc, sub, d, Event::Step(d))?;
@@ -71,10 +69,8 @@ fn work<V: Volume>(
     requires own { AreOwn sub.old.devices.items }
     ensures numbers { HasSameDevices sub.old sub.new }
     ensures own { OnOk result (AreOwn sub.new.devices.items) }
-    ensures stands { (run : runs.Subsystem) → StandsAs sub.old run → OnOk result (StandsAs sub.new (happens run (Event.Back d)).behind) }
-    ensures lines { (run : runs.Subsystem) → StandsAs sub.old run
-        → OnOk result (report.new ≡ report.old ++ lines_when run (Event.Back d)
-        (work_told d (running_in (devices_of run) d) (did.First (lines.Back d none.Nothing)) (happens run (Event.Back d)).end)) }
+    ensures recorded { OnOk result (IsRecorded sub.old sub.new report.old report.new (Event.Back d)
+        (λ run. work_told d (running_in (devices_of run) d) (did.First (lines.Back d none.Nothing)) (happens run (Event.Back d)).end)) }
     ensures settled { (run : runs.Subsystem) → StandsAs sub.old run → IfOk result (λ settled. settled ≡ is_settled (happens run (Event.Back d)).end) }
 {
     report.make_room()?;
@@ -94,10 +90,8 @@ fn back<V: Volume>(
     requires own { AreOwn sub.old.devices.items }
     ensures numbers { HasSameDevices sub.old sub.new }
     ensures own { OnOk result (AreOwn sub.new.devices.items) }
-    ensures stands { (run : runs.Subsystem) → StandsAs sub.old run → OnOk result (StandsAs sub.new (happens run (Event.Back d)).behind) }
-    ensures lines { (run : runs.Subsystem) → StandsAs sub.old run
-        → OnOk result (report.new ≡ report.old ++ lines_when run (Event.Back d)
-        (work_told d (running_in (devices_of run) d) (did.First (lines.Back d none.Nothing)) (happens run (Event.Back d)).end)) }
+    ensures recorded { OnOk result (IsRecorded sub.old sub.new report.old report.new (Event.Back d)
+        (λ run. work_told d (running_in (devices_of run) d) (did.First (lines.Back d none.Nothing)) (happens run (Event.Back d)).end)) }
 {
     let _settled = work(alloc, sub, report, d)?;
     Ok(())
@@ -114,8 +108,7 @@ fn settle<V: Volume>(
     requires own { AreOwn sub.old.devices.items }
     ensures numbers { HasSameDevices sub.old sub.new }
     ensures own { OnOk result (AreOwn sub.new.devices.items) }
-    ensures stands { (run : runs.Subsystem) → StandsAs sub.old run → OnOk result (StandsAs sub.new (last_behind run (backs 2946 d run))) }
-    ensures lines { (run : runs.Subsystem) → StandsAs sub.old run → OnOk result (report.new ≡ report.old ++ all_lines (backs 2946 d run)) }
+    ensures goes { OnOk result (GoesOn sub.old sub.new report.old report.new (backs 2946 d)) }
 {
     for _turn in 0..MOST_BACKS {
         let settled = match work(alloc, sub, report, d) {
@@ -140,10 +133,8 @@ fn start<V: Volume>(
     requires own { AreOwn sub.old.devices.items }
     ensures numbers { HasSameDevices sub.old sub.new }
     ensures own { OnOk result (AreOwn sub.new.devices.items) }
-    ensures stands { (run : runs.Subsystem) → StandsAs sub.old run → OnOk result (StandsAs sub.new (happens run (Event.Start path d)).behind) }
-    ensures lines { (run : runs.Subsystem) → StandsAs sub.old run
-        → OnOk result (report.new ≡ report.old ++ lines_when run (Event.Start path d)
-        (did.First (lines.Start path d (start_answer (happens run (Event.Start path d)).end)))) }
+    ensures recorded { OnOk result (IsRecorded sub.old sub.new report.old report.new (Event.Start path d)
+        (λ run. did.First (lines.Start path d (start_answer (happens run (Event.Start path d)).end)))) }
 {
     let _n = path.get();
     report.make_room()?;
@@ -169,9 +160,8 @@ fn reset<V: Volume>(
     requires own { AreOwn sub.old.devices.items }
     ensures numbers { HasSameDevices sub.old sub.new }
     ensures own { OnOk result (AreOwn sub.new.devices.items) }
-    ensures stands { (run : runs.Subsystem) → StandsAs sub.old run → OnOk result (StandsAs sub.new (happens run (Event.Reset path d)).behind) }
-    ensures lines { (run : runs.Subsystem) → StandsAs sub.old run
-        → OnOk result (report.new ≡ report.old ++ lines_when run (Event.Reset path d) (did.Reset path d)) }
+    ensures recorded { OnOk result (IsRecorded sub.old sub.new report.old report.new (Event.Reset path d)
+        (λ run. did.Reset path d)) }
 {
     report.make_room()?;
     let passed = pass(alloc, sub, d, Event::Reset(path, d))?;
@@ -195,9 +185,8 @@ fn order_one<V: Volume>(
     requires own { AreOwn sub.old.devices.items }
     ensures numbers { HasSameDevices sub.old sub.new }
     ensures own { OnOk result (AreOwn sub.new.devices.items) }
-    ensures stands { (run : runs.Subsystem) → StandsAs sub.old run → OnOk result (StandsAs sub.new (happens run e).behind) }
-    ensures lines { (run : runs.Subsystem) → StandsAs sub.old run
-        → OnOk result (report.new ≡ report.old ++ lines_when run e (did.Ordered order (order_answer (happens run e).end))) }
+    ensures recorded { OnOk result (IsRecorded sub.old sub.new report.old report.new e
+        (λ run. did.Ordered order (order_answer (happens run e).end))) }
 {
     report.make_room()?;
     let passed = pass(alloc, sub, d, e)?;
@@ -229,8 +218,7 @@ fn steps<V: Volume>(
     requires own { AreOwn sub.old.devices.items }
     ensures numbers { HasSameDevices sub.old sub.new }
     ensures own { OnOk result (AreOwn sub.new.devices.items) }
-    ensures stands { (run : runs.Subsystem) → StandsAs sub.old run → OnOk result (StandsAs sub.new (last_behind run (steps 8193 d run))) }
-    ensures lines { (run : runs.Subsystem) → StandsAs sub.old run → OnOk result (report.new ≡ report.old ++ all_lines (steps 8193 d run)) }
+    ensures goes { OnOk result (GoesOn sub.old sub.new report.old report.new (steps 8193 d)) }
 {
     for _turn in 0..MOST_STEPS {
         if !is_busy(sub, d) {
@@ -255,8 +243,7 @@ fn finish<V: Volume>(
     requires own { AreOwn sub.old.devices.items }
     ensures numbers { HasSameDevices sub.old sub.new }
     ensures own { OnOk result (AreOwn sub.new.devices.items) }
-    ensures stands { (run : runs.Subsystem) → StandsAs sub.old run → OnOk result (StandsAs sub.new (last_behind run (run_logged run d))) }
-    ensures lines { (run : runs.Subsystem) → StandsAs sub.old run → OnOk result (report.new ≡ report.old ++ all_lines (run_logged run d)) }
+    ensures goes { OnOk result (GoesOn sub.old sub.new report.old report.new (λ run. run_logged run d)) }
 {
     if !is_busy(sub, d) {
         report.push(ReportLine::RunIdle(d))?;
@@ -277,8 +264,7 @@ pub(crate) fn do_line<V: EmptyVolume>(
     requires own { AreOwn sub.old.devices.items }
     ensures numbers { HasSameDevices sub.old sub.new }
     ensures own { OnOk result (AreOwn sub.new.devices.items) }
-    ensures stands { (run : runs.Subsystem) → StandsAs sub.old run → OnOk result (StandsAs sub.new (last_behind run (line_logged run (asked_by line)))) }
-    ensures lines { (run : runs.Subsystem) → StandsAs sub.old run → OnOk result (report.new ≡ report.old ++ all_lines (line_logged run (asked_by line))) }
+    ensures goes { OnOk result (GoesOn sub.old sub.new report.old report.new (λ run. line_logged run (asked_by line))) }
 {
     match line {
         EventLine::Start(path, d) => start(alloc, sub, report, path, d),

@@ -1,10 +1,10 @@
 //! Events of all devices, with what their lines tell.
 
 ghost use Rattle.std.specs.Prelude.{◌≡◌, ◌<◌, ◌++◌, get_or, length, map, slice_index_or, IfOk, OnOk};
-ghost use Rattle.run_report.specs.Events.{lines_of};
 ghost use Rattle.subsystem_defs.specs.Happening.{happens};
-ghost use Rattle.subsystem_defs.specs.Lines.{Once, logged};
+ghost use Rattle.subsystem_defs.specs.Lines.{Once, line_logged};
 ghost use Rattle.subsystem_defs.specs.Subsystem as runs;
+ghost use Rattle.deck_run.specs.Going.{GoesOn};
 ghost use Rattle.deck_run.specs.Loosening.{is_quiet};
 ghost use Rattle.deck_run.specs.Owning.{AreOwn};
 ghost use Rattle.deck_run.specs.Standing.{StandsAs};
@@ -150,8 +150,7 @@ pub(crate) fn order_all<V: Volume>(
     requires own { AreOwn sub.old.devices.items }
     ensures numbers { HasSameDevices sub.old sub.new }
     ensures own { OnOk result (AreOwn sub.new.devices.items) }
-    ensures stands { (run : runs.Subsystem) → StandsAs sub.old run → OnOk result (StandsAs sub.new (happens run e).behind) }
-    ensures lines { (run : runs.Subsystem) → StandsAs sub.old run → OnOk result (report.new ≡ report.old ++ lines_of (logged (Once e) (happens run e))) }
+    ensures goes { OnOk result (GoesOn sub.old sub.new report.old report.new (λ run. line_logged run (Once e))) }
 {
     report.make_room()?;
     let stocks = stocks_of(alloc, sub.devices())?;

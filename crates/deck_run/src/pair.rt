@@ -1,16 +1,16 @@
-ghost use Rattle.std.specs.Prelude.{◌≡◌, ◌*◌, ◌++◌, IfOk, IfSome, OnOk};
+ghost use Rattle.std.specs.Prelude.{◌≡◌, ◌*◌, IfOk, IfSome, OnOk};
 ghost use Rattle.device_outside.specs.Both.{SideIs};
 ghost use Rattle.device_outside.specs.Disk.{empty_contents};
 ghost use Rattle.device_core.specs.State.{device_of};
 ghost use Rattle.device_defs.specs.Store.{tracks_of};
 ghost use Rattle.report_text.specs.declared.order.Order.TheVariants as orders;
-ghost use Rattle.run_report.specs.Events.{lines_of};
 ghost use Rattle.subsystem_core.specs.Devices.{device_at};
 ghost use Rattle.subsystem_core.specs.Frames.{HasDevice, HasSameDevices};
 ghost use Rattle.subsystem_defs.specs.Happening.{happens, unpaired};
-ghost use Rattle.subsystem_defs.specs.Lines.{Once, Unpair, logged};
+ghost use Rattle.subsystem_defs.specs.Lines.{Once, Unpair, line_logged, logged};
 ghost use Rattle.subsystem_defs.specs.Subsystem as runs;
 ghost use Rattle.subsystem_defs.specs.Subsystem.{unfailing};
+ghost use Rattle.deck_run.specs.Going.{GoesOn};
 ghost use Rattle.deck_run.specs.Ordered.{IsOrdered};
 ghost use Rattle.deck_run.specs.Owning.{AreOwn};
 ghost use Rattle.deck_run.specs.Standing.{StandsAs};
@@ -60,9 +60,7 @@ pub(crate) fn pair<V: Volume>(
     requires own { AreOwn sub.old.devices.items }
     ensures numbers { HasSameDevices sub.old sub.new }
     ensures own { OnOk result (AreOwn sub.new.devices.items) }
-    ensures stands { (run : runs.Subsystem) → StandsAs sub.old run → OnOk result (StandsAs sub.new (happens run (Event.Pair a b)).behind) }
-    ensures lines { (run : runs.Subsystem) → StandsAs sub.old run
-        → OnOk result (report.new ≡ report.old ++ lines_of (logged (Once (Event.Pair a b)) (happens run (Event.Pair a b)))) }
+    ensures goes { OnOk result (GoesOn sub.old sub.new report.old report.new (λ run. line_logged run (Once (Event.Pair a b)))) }
 {
     report.make_room()?;
     let end = join(sub, a, b)?;
@@ -99,9 +97,7 @@ pub(crate) fn unpair<V: EmptyVolume>(
     requires own { AreOwn sub.old.devices.items }
     ensures numbers { HasSameDevices sub.old sub.new }
     ensures own { OnOk result (AreOwn sub.new.devices.items) }
-    ensures stands { (run : runs.Subsystem) → StandsAs sub.old run → OnOk result (StandsAs sub.new (unpaired run a unfailing).behind) }
-    ensures lines { (run : runs.Subsystem) → StandsAs sub.old run
-        → OnOk result (report.new ≡ report.old ++ lines_of (logged (Unpair a) (unpaired run a unfailing))) }
+    ensures goes { OnOk result (GoesOn sub.old sub.new report.old report.new (λ run. line_logged run (Unpair a))) }
 {
     report.make_room()?;
     let cylinders = sub.device(a).cylinders();

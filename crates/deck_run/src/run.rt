@@ -2,7 +2,7 @@ ghost use Rattle.std.specs.Prelude.{◌≡◌, ◌≤◌, ◌+◌, ◌++◌, ◌
 ghost use Rattle.report_text.specs.declared.line.ReportLine.TheVariants as lines;
 ghost use Rattle.run_report.specs.Report.{lines_of_run, report_lines};
 ghost use Rattle.subsystem_defs.specs.Decks.{Firsts, run_of, run_on};
-ghost use Rattle.subsystem_defs.specs.Lines.{asked_by, last_behind, run_lines};
+ghost use Rattle.subsystem_defs.specs.Lines.{asked_by, run_lines};
 ghost use Rattle.subsystem_defs.specs.Subsystem as runs;
 ghost use Rattle.subsystem_core.specs.Devices.{numbers_of};
 ghost use Rattle.subsystem_core.specs.Frames.{HasSameDevices};
@@ -11,9 +11,9 @@ ghost use Rattle.subsystem_laws.specs.Served.{IsServedDeck};
 ghost use Rattle.subsystem_laws.specs.SlotsApart.{AreApart};
 ghost use Rattle.subsystem_laws.specs.Transfers.{MovesByTable};
 ghost use Rattle.deck_run.specs.Fronts.{front_of, front_on};
+ghost use Rattle.deck_run.specs.Going.{GoesOn};
 ghost use Rattle.deck_run.specs.Opening.{AllHold, HaveTracks, WasRead, are_open_lines, numbers_in};
 ghost use Rattle.deck_run.specs.Owning.{AreOwn};
-ghost use Rattle.deck_run.specs.Recording.{all_lines};
 ghost use Rattle.deck_run.specs.Sides.{AreAccounted, all_sides};
 ghost use Rattle.deck_run.specs.Standing.{StandsAs, all_stood};
 
@@ -54,10 +54,7 @@ fn do_lines<V: EmptyVolume>(
     requires own { AreOwn sub.old.devices.items }
     ensures numbers { HasSameDevices sub.old sub.new }
     ensures own { OnOk result (AreOwn sub.new.devices.items) }
-    ensures stands { (run : runs.Subsystem) → StandsAs sub.old run
-        → OnOk result (StandsAs sub.new (last_behind run (run_lines (map asked_by lines.now) run))) }
-    ensures lines { (run : runs.Subsystem) → StandsAs sub.old run
-        → OnOk result (report.new ≡ report.old ++ all_lines (run_lines (map asked_by lines.now) run)) }
+    ensures goes { OnOk result (GoesOn sub.old sub.new report.old report.new (run_lines (map asked_by lines.now))) }
 {
     for line in lines {
         match do_line(alloc, sub, report, *line) {

@@ -1,7 +1,4 @@
 use Rattle.deck_run.proofs.line.back.Goals as goal
 
-pub returns-clause-stands : goal.returns-clause-stands
-returns-clause-stands g c = λ run all. c.in_ok-_settled.ensures.stands run all
-
-pub returns-clause-lines : goal.returns-clause-lines
-returns-clause-lines g c = λ run all. c.in_ok-_settled.ensures.lines run all
+pub returns-clause-recorded : goal.returns-clause-recorded
+returns-clause-recorded g c = c.in_ok-_settled.ensures.recorded

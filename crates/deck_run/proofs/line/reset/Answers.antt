@@ -4,13 +4,13 @@ use Rattle.subsystem_defs.specs.Beside.{behind_first}
 use Rattle.deck_run.proofs.Recorded.{reset_recorded}
 use Rattle.deck_run.proofs.line.reset.Goals as goal
 
-pub returns-clause-stands : goal.returns-clause-stands
-returns-clause-stands g c = λ run all. (c.in_ok-passed.ensures.passed run all).stands
-
-pub returns-clause-lines : goal.returns-clause-lines
-returns-clause-lines g c = λ run all.
-    reset_recorded c.pass.new.sub run (events.Reset c.args.path c.args.d) c.args.d c.in_ok-passed.passed (c.in_ok-passed.ensures.passed run all)
-    c.device.result.now c.device.ensures c.behind_first-items.result.now
-    (c.behind_first-items.ensures ∙ ap (behind_first c.in_ok-passed.passed.items) c.journal.ensures) c.deref.result.now c.deref.ensures.value
-    c.args.report.now c.record_passed.new.report
-    c.args.path c.make_room.new.self c.in_ok-make_room.ensures c.in_ok-record_passed.ensures
+pub returns-clause-recorded : goal.returns-clause-recorded
+returns-clause-recorded g c = record {
+  stands = λ run all. (c.in_ok-passed.ensures.passed run all).stands;
+  lines = λ run all.
+      reset_recorded c.pass.new.sub run (events.Reset c.args.path c.args.d) c.args.d c.in_ok-passed.passed (c.in_ok-passed.ensures.passed run all)
+      c.device.result.now c.device.ensures c.behind_first-items.result.now
+      (c.behind_first-items.ensures ∙ ap (behind_first c.in_ok-passed.passed.items) c.journal.ensures) c.deref.result.now c.deref.ensures.value
+      c.args.report.now c.record_passed.new.report
+      c.args.path c.make_room.new.self c.in_ok-make_room.ensures c.in_ok-record_passed.ensures;
+}

@@ -2,7 +2,7 @@ use Rattle.std.proofs.Common.{◌∙◌, ◌++◌, map, refl}
 use Rattle.subsystem_core.specs.Devices.{numbers_of}
 use Rattle.subsystem_defs.specs.Lines.{asked_by, last_behind, run_lines}
 use Rattle.deck_run.specs.Recording.{all_lines}
-use Rattle.deck_run.proofs.Going.{line_open_at, line_done, lines_over}
+use Rattle.deck_run.proofs.Going.{line_open_at, line_done, lines_over, over_goes}
 use Rattle.deck_run.proofs.run.do_lines.Goals as goal
 
 pub loop-line-init : goal.loop-line-init
@@ -31,7 +31,7 @@ loop-line-preserved g c = record {
   left = λ run all.
       line_done c.loop-line.sub c.do_line.new.sub c.loop-line.report c.do_line.new.report c.args.lines.now c.loop-line.line-index c.line-item.result
       (last_behind run (run_lines (map asked_by c.args.lines.now) run)) (c.args.report.now ++ all_lines (run_lines (map asked_by c.args.lines.now) run))
-      c.loop-line-test.true c.line-item.is c.in-Ok.ensures.stands c.in-Ok.ensures.lines (c.loop-line.invariant.left run all);
+      c.loop-line-test.true c.line-item.is c.in-Ok.ensures.goes (c.loop-line.invariant.left run all);
 }
 
 pub returns-clause-numbers : goal.returns-clause-numbers
@@ -40,12 +40,7 @@ returns-clause-numbers g c = c.loop-line.invariant.numbers
 pub returns-clause-own : goal.returns-clause-own
 returns-clause-own g c = c.loop-line.invariant.own
 
-pub returns-clause-stands : goal.returns-clause-stands
-returns-clause-stands g c = λ run all.
-    (lines_over c.loop-line.sub c.loop-line.report c.args.lines.now c.loop-line.line-index (last_behind run (run_lines (map asked_by c.args.lines.now) run))
-    (c.args.report.now ++ all_lines (run_lines (map asked_by c.args.lines.now) run)) c.loop-line-test.false (c.loop-line.invariant.left run all)).stands
-
-pub returns-clause-lines : goal.returns-clause-lines
-returns-clause-lines g c = λ run all.
-    (lines_over c.loop-line.sub c.loop-line.report c.args.lines.now c.loop-line.line-index (last_behind run (run_lines (map asked_by c.args.lines.now) run))
-    (c.args.report.now ++ all_lines (run_lines (map asked_by c.args.lines.now) run)) c.loop-line-test.false (c.loop-line.invariant.left run all)).lines
+pub returns-clause-goes : goal.returns-clause-goes
+returns-clause-goes g c = over_goes _ _ _ _ _ (λ run all.
+    lines_over c.loop-line.sub c.loop-line.report c.args.lines.now c.loop-line.line-index (last_behind run (run_lines (map asked_by c.args.lines.now) run))
+    (c.args.report.now ++ all_lines (run_lines (map asked_by c.args.lines.now) run)) c.loop-line-test.false (c.loop-line.invariant.left run all))

@@ -26,12 +26,12 @@ pub returns-clause-stands : goal.returns-clause-stands
 unfolding decks.run_asked_on
 returns-clause-stands g c = λ firsts all.
     subst (λ (es : List EventLine). StandsAs c.do_lines.new.sub (last_behind (opened_on firsts c.args.deck.now) (run_lines (map asked_by es) (opened_on firsts c.args.deck.now))))
-    c.front.ensures (c.in_ok-do_lines.ensures.stands (opened_on firsts c.args.deck.now) (c.in_ok-sub.ensures.stands firsts all))
+    c.front.ensures (c.in_ok-do_lines.ensures.goes.stands (opened_on firsts c.args.deck.now) (c.in_ok-sub.ensures.stands firsts all))
 
 pub returns-clause-lines : goal.returns-clause-lines
 unfolding decks.run_asked_on
 returns-clause-lines g c = λ firsts all.
-    c.in_ok-do_lines.ensures.lines (opened_on firsts c.args.deck.now) (c.in_ok-sub.ensures.stands firsts all)
+    c.in_ok-do_lines.ensures.goes.lines (opened_on firsts c.args.deck.now) (c.in_ok-sub.ensures.stands firsts all)
     ∙ ap (λ (l : List ReportLine). l ++ all_lines (run_lines (map asked_by c.front.result.now) (opened_on firsts c.args.deck.now))) c.new-report.ensures
     ∙ ap (λ (es : List EventLine). all_lines (run_lines (map asked_by es) (opened_on firsts c.args.deck.now))) c.front.ensures
 
