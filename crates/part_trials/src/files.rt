@@ -20,17 +20,24 @@ fn empty_file(alloc: Global) -> Result<Vec<u8>, Fail> {
     Ok(file)
 }
 
+fn saved(alloc: Global, volume: &FileVolume) -> Result<MemSink, Fail> {
+    let mut sink = MemSink::new(alloc, 100_000, 7000, &[])?;
+    save(volume, &mut sink).or(Err("sink"))?;
+    Ok(sink)
+}
+
+fn loaded(alloc: Global, bytes: &[u8]) -> Result<FileVolume, Fail> {
+    let mut source = MemSource::new(alloc, bytes, 5000, &[])?;
+    Ok(load(alloc, &mut source).or(Err("load"))?)
+}
+
 /// Saves a volume, loads it and saves it again.
 fn expect_loaded(rt: &impl Abort, alloc: Global, volume: &FileVolume) -> Result<(), Fail> {
-    let mut saved = MemSink::new(alloc, 100_000, 7000, &[])?;
-    save(volume, &mut saved).or(Err("sink"))?;
-    let mut source = MemSource::new(alloc, saved.bytes(), 5000, &[])?;
-    let loaded = load(alloc, &mut source).or(Err("load"))?;
-    assert_eq!(rt; loaded.geometry(), volume.geometry());
-    assert_eq!(rt; loaded.cylinders(), volume.cylinders());
-    let mut again = MemSink::new(alloc, 100_000, 7000, &[])?;
-    save(&loaded, &mut again).or(Err("sink"))?;
-    assert_eq!(rt; again.bytes(), saved.bytes());
+    let file = saved(alloc, volume)?;
+    let again = loaded(alloc, file.bytes())?;
+    assert_eq!(rt; again.geometry(), volume.geometry());
+    assert_eq!(rt; again.cylinders(), volume.cylinders());
+    assert_eq!(rt; saved(alloc, &again)?.bytes(), file.bytes());
     Ok(())
 }
 

@@ -5,14 +5,19 @@ use std::alloc::Global;
 use std::process::Abort;
 use std::test::Fail;
 
-/// An image of an empty 3390 of one cylinder, open as a volume. Opening makes two calls, so that the first read is call 3.
+/// The image of an empty 3390 of one cylinder.
+fn empty_image(alloc: Global) -> Result<MemFile, Fail> {
+    let mut file = MemFile::new(alloc, &[], &[])?;
+    create(alloc, &mut file, Geometry::D3390, 1).or(Err("create"))?;
+    Ok(file)
+}
+
+/// That image, open as a volume. Opening makes two calls, so that the first read is call 3.
 fn open(alloc: Global, fail: &[u32]) -> Result<DiskImage<MemFile>, Fail> {
-    let mut made = MemFile::new(alloc, &[], &[])?;
-    create(alloc, &mut made, Geometry::D3390, 1).or(Err("create"))?;
-    let mut file = MemFile::new(alloc, made.bytes(), fail)?;
+    let image = empty_image(alloc)?;
+    let mut file = MemFile::new(alloc, image.bytes(), fail)?;
     let layout = open_image(alloc, &mut file).or(Err("open"))?;
-    let image = DiskImage::new(alloc, file, layout)?;
-    Ok(image)
+    Ok(DiskImage::new(alloc, file, layout)?)
 }
 
 /// Reads a track of the first cylinder, if that goes well.
