@@ -1,3 +1,5 @@
+ghost use Rattle.std.specs.Prelude.{◌≡◌, ℕ, List, true};
+ghost use Rattle.subsystem_core.specs.Places.{may_come};
 ghost use Rattle.ckd_c.specs.Calls.{Asks, AsksOnSide, Comes, EventCame, Runs, Silent, TellsDid, TellsOrdinal};
 
 use crate::code::{Code, number_of};
@@ -153,17 +155,25 @@ pub extern "C" fn ckd_c_resume(alloc: Global, subsystem: &mut CkdSubsystem, devi
     number_of(code)
 }
 
+/// An event of all devices.
+fn event_of_all(alloc: Global, subsystem: &mut CkdSubsystem, e: Event) -> u32
+    requires { (numbers : List ℕ) → may_come numbers e ≡ true }
+    ensures { Comes (EventCame e Silent) subsystem.old.place.value subsystem.new.place.value result }
+{
+    let Some(mut opened) = take(subsystem, alloc) else {
+        return number_of(Code::Closed);
+    };
+    let code = opened.ask(e);
+    put(subsystem, opened);
+    number_of(code)
+}
+
 /// The cache is lost, with what stands in it alone.
 #[unsafe(no_mangle)]
 pub extern "C" fn ckd_c_lose_cache(alloc: Global, subsystem: &mut CkdSubsystem) -> u32
     ensures { Comes (EventCame Event.FailCache Silent) subsystem.old.place.value subsystem.new.place.value result }
 {
-    let Some(mut opened) = take(subsystem, alloc) else {
-        return number_of(Code::Closed);
-    };
-    let code = opened.ask(Event::FailCache);
-    put(subsystem, opened);
-    number_of(code)
+    event_of_all(alloc, subsystem, Event::FailCache)
 }
 
 /// The nonvolatile store is lost.
@@ -171,12 +181,7 @@ pub extern "C" fn ckd_c_lose_cache(alloc: Global, subsystem: &mut CkdSubsystem) 
 pub extern "C" fn ckd_c_lose_store(alloc: Global, subsystem: &mut CkdSubsystem) -> u32
     ensures { Comes (EventCame Event.FailStore Silent) subsystem.old.place.value subsystem.new.place.value result }
 {
-    let Some(mut opened) = take(subsystem, alloc) else {
-        return number_of(Code::Closed);
-    };
-    let code = opened.ask(Event::FailStore);
-    put(subsystem, opened);
-    number_of(code)
+    event_of_all(alloc, subsystem, Event::FailStore)
 }
 
 /// Power is lost: the cache is empty, and the programs that ran are cut.
@@ -184,12 +189,7 @@ pub extern "C" fn ckd_c_lose_store(alloc: Global, subsystem: &mut CkdSubsystem) 
 pub extern "C" fn ckd_c_lose_power(alloc: Global, subsystem: &mut CkdSubsystem) -> u32
     ensures { Comes (EventCame Event.Power Silent) subsystem.old.place.value subsystem.new.place.value result }
 {
-    let Some(mut opened) = take(subsystem, alloc) else {
-        return number_of(Code::Closed);
-    };
-    let code = opened.ask(Event::Power);
-    put(subsystem, opened);
-    number_of(code)
+    event_of_all(alloc, subsystem, Event::Power)
 }
 
 /// The cache is up again. `CKD_WAITS`: first the background is to recover the tracks that wait.
@@ -197,12 +197,7 @@ pub extern "C" fn ckd_c_lose_power(alloc: Global, subsystem: &mut CkdSubsystem) 
 pub extern "C" fn ckd_c_repair_cache(alloc: Global, subsystem: &mut CkdSubsystem) -> u32
     ensures { Comes (EventCame Event.RepairCache Silent) subsystem.old.place.value subsystem.new.place.value result }
 {
-    let Some(mut opened) = take(subsystem, alloc) else {
-        return number_of(Code::Closed);
-    };
-    let code = opened.ask(Event::RepairCache);
-    put(subsystem, opened);
-    number_of(code)
+    event_of_all(alloc, subsystem, Event::RepairCache)
 }
 
 /// The nonvolatile store is up again. `CKD_WAITS`: first the background is to recover the tracks that wait.
@@ -210,10 +205,5 @@ pub extern "C" fn ckd_c_repair_cache(alloc: Global, subsystem: &mut CkdSubsystem
 pub extern "C" fn ckd_c_repair_store(alloc: Global, subsystem: &mut CkdSubsystem) -> u32
     ensures { Comes (EventCame Event.RepairStore Silent) subsystem.old.place.value subsystem.new.place.value result }
 {
-    let Some(mut opened) = take(subsystem, alloc) else {
-        return number_of(Code::Closed);
-    };
-    let code = opened.ask(Event::RepairStore);
-    put(subsystem, opened);
-    number_of(code)
+    event_of_all(alloc, subsystem, Event::RepairStore)
 }
